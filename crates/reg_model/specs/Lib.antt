@@ -1,0 +1,6 @@
+pub mod Interval
+pub mod State
+pub mod History
+pub mod Query
+pub mod Receipt
+pub mod Current

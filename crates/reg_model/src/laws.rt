@@ -1,0 +1,1 @@
+//! Laws about the definitions: each is the contract of a function that does nothing.

@@ -1,0 +1,172 @@
+//! A registry for one thread, over plain lists.
+
+ghost use Rattle.std.specs.Prelude.{◌≡◌, ℕ, ◌+◌, ◌^◌, ◌<◌, ◌↔◌, ◌==◌, not, [], IsTrue, IfOk, IfSome, OnErr, MatchOption};
+ghost use Rattle.reg_model.specs.State.{opening, at_base, IsFree, AreDisjoint, IsLowestOverlap};
+ghost use Rattle.reg_model.specs.History.{without};
+ghost use Rattle.reg_model.specs.Query.{member_at};
+ghost use Rattle.reg_model.specs.Current.{Step, IsDoneOrOverlap};
+ghost use Rattle.reg_model.specs.Receipt.{IsPlace};
+ghost use Rattle.reg_model.specs.declared.answer.Receipt.TheVariants as receipt;
+ghost use Rattle.reg_model.specs.declared.answer.Half.TheVariants as half;
+
+use crate::answer::{Found, Inserted, NoMemory, Place, Removed};
+use crate::span::{Member, Span};
+use std::alloc::Global;
+use std::marker::Model;
+
+/// The registered and the fixed members, each in a list without order, and a count of the updates.
+///
+/// A call costs a walk over a list: this is what the shared registry is measured against, not what serves threads.
+#[derive(Drop)]
+pub struct PlainRegistry {
+    registered: Vec<Member>,
+    fixed: Vec<Member>,
+    loads: u32,
+    updates: u32,
+}
+
+impl Model for PlainRegistry {
+    ghost use Rattle.std.specs.Prelude.{[]};
+    ghost use Rattle.reg_model.specs.Current.{Current};
+
+    ghost Value = { Current };
+
+    ghost view = { λ r. record { state = record { registered = r.registered.items; loaded = []; fixed = r.fixed.items; loads = r.loads }; updates = r.updates } };
+}
+
+impl PlainRegistry {
+    /// A registry with these fixed members, of which at most `loads` others may be loaded at a time. It takes no memory.
+    pub fn new(alloc: Global, fixed: Vec<Member>, loads: u32) -> Self
+        requires { AreDisjoint fixed.items }
+        ensures { result ≡ record { state = opening fixed.items loads; updates = 0 } }
+    {
+        PlainRegistry {
+            registered: Vec::new(alloc),
+            fixed,
+            loads,
+            updates: 0,
+        }
+    }
+
+    /// How many updates were accepted.
+    pub fn updates(&self) -> u32
+        ensures { result ≡ self.now.updates }
+    {
+        self.updates
+    }
+
+    /// Registers a member where no registered one overlaps it. The overlapping member with the least first address is named.
+    pub fn register(&mut self, member: Member) -> Result<Inserted, NoMemory>
+        requires { self.old.updates < 2 ^ 26 }
+        ensures step { IfOk result (λ answer. Step self.old (receipt.Register member answer) self.new) }
+        ensures answers { IfOk result IsDoneOrOverlap }
+        ensures err { OnErr result (self.new ≡ self.old) }
+    {
+        let stamp = self.updates;
+        if let Some(member) = lowest_overlap(&self.registered, &member.span) {
+            return Ok(Inserted::Overlap { member, stamp });
+        }
+        self.registered.push(member)?;
+        self.updates = stamp + 1;
+        Ok(Inserted::Done { number: stamp + 1 })
+    }
+
+    /// Removes the registered member with this first address.
+    pub fn deregister(&mut self, base: u64) -> Removed
+        requires { self.old.updates < 2 ^ 26 }
+        ensures step { Step self.old (receipt.Deregister base result) self.new }
+    {
+        let stamp = self.updates;
+        match with_base(&self.registered, base) {
+            None => Removed::NotFound { stamp },
+            Some(member) => {
+                remove_base(&mut self.registered, base);
+                self.updates = stamp + 1;
+                Removed::Done {
+                    number: stamp + 1,
+                    member,
+                }
+            }
+        }
+    }
+
+    /// The registered member that contains the address, or else the fixed or loaded one.
+    pub fn find(&self, pc: u64) -> Place
+        ensures registered { Step self.now (receipt.Query half.Registered pc result.registered) self.now }
+        ensures loaded { IfSome result.loaded (λ found. Step self.now (receipt.Query half.Loaded pc found) self.now) }
+        ensures halves { IsPlace result }
+    {
+        let stamp = self.updates;
+        match containing(&self.registered, pc) {
+            Some(member) => Place {
+                registered: Found::Hit { member, stamp },
+                loaded: None,
+            },
+            None => Place {
+                registered: Found::Miss { stamp },
+                loaded: Some(match containing(&self.fixed, pc) {
+                    Some(member) => Found::Hit { member, stamp },
+                    None => Found::Miss { stamp },
+                }),
+            },
+        }
+    }
+}
+
+/// The member that contains the address.
+fn containing(members: &[Member], pc: u64) -> Option<Member>
+    ensures { result ≡ member_at pc members.now }
+{
+    for member in members {
+        if member.span.contains(pc) {
+            return Some(*member);
+        }
+    }
+    None
+}
+
+/// The member with this first address.
+fn with_base(members: &[Member], base: u64) -> Option<Member>
+    ensures { result ≡ at_base base members.now }
+{
+    for member in members {
+        if member.span.first() == base {
+            return Some(*member);
+        }
+    }
+    None
+}
+
+/// Removes the members with this first address; of disjoint members that is one at most.
+fn remove_base(members: &mut Vec<Member>, base: u64)
+    ensures { members.new.items ≡ without base members.old.items }
+{
+    members.retain(
+        |member: &Member| -> bool
+            ensures { result ≡ not (member.now.span.first == base) }
+        { member.span.first() != base },
+    );
+}
+
+/// Of the members that overlap the span, the one with the least first address.
+fn lowest_overlap(members: &[Member], span: &Span) -> Option<Member>
+    ensures { MatchOption result (IsFree span.now members.now) (IsLowestOverlap span.now members.now) }
+{
+    let mut lowest = None;
+    for member in members {
+        if member.span.overlaps(span) && begins_below(member, &lowest) {
+            lowest = Some(*member);
+        }
+    }
+    lowest
+}
+
+/// Whether the member begins below the lowest one so far.
+fn begins_below(member: &Member, lowest: &Option<Member>) -> bool
+    ensures { IsTrue result ↔ IfSome lowest.now (λ best. member.now.span.first < best.span.first) }
+{
+    match lowest {
+        None => true,
+        Some(best) => member.span.first() < best.span.first(),
+    }
+}
