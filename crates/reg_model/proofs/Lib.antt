@@ -1,2 +1,4 @@
 pub mod Spans
 pub mod Members
+pub mod Histories
+pub mod Receipts

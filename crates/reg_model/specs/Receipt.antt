@@ -1,5 +1,6 @@
 -- Receipts: what an answer says of a history.
 use Rattle.std.specs.Prelude.{◌≡◌, ℕ, ◌-◌, ◌<◌, ◌≤◌, List, [], ◌∷◌, length, max, Option, Some, None, IsNone, slice_get, IfSome, MatchOption}
+use Rattle.std.specs.Option.{option_to_list}
 use Rattle.reg_model.specs.State.{State, objects, at_base, IsFree, IsLowestOverlap}
 use Rattle.reg_model.specs.History.{state_at}
 use Rattle.reg_model.specs.Query.{query}
@@ -52,6 +53,10 @@ accepted (Deregister base (removed.Done number m)) = Some (update.Deregister bas
 accepted (Load m (loading.Done number)) = Some (update.Load m)
 accepted (Unload base (removed.Done number m)) = Some (update.Unload base)
 accepted _ = None
+
+-- the updates that the receipt adds to a history: the one that was accepted, or none
+abbrev pub made : Receipt → List Update
+made r = option_to_list (accepted r)
 
 -- how many updates were made before the answer: the one that it accepts is not among them
 abbrev pub made_before : Receipt → ℕ
