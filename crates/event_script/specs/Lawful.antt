@@ -1,0 +1,84 @@
+-- Lawful journals: what the answers to a script's events may be.
+use Rattle.std.specs.Prelude.{◌≡◌, ℕ, ◌+◌, ◌≤◌, zero, suc, List, [], ◌∷◌, ◌++◌, length, map, Bool, ◌&&◌, ◌==◌, nat_le, is_some, Option, All, count_by, unwrap_or, slice_get, if◌then◌else◌}
+use Rattle.std.specs.List.{AllZip, find, flat_map}
+use Rattle.std.specs.Option.{option_and_then, option_to_list}
+use Rattle.reg_model.specs.Interval.{Interval}
+use Rattle.reg_model.specs.State.{State, opening}
+use Rattle.reg_model.specs.History.{IsHistory}
+use Rattle.reg_model.specs.Receipt.{moment, accepted, AllHold, AreInOrder, IsPlace, receipts_of_place}
+use Rattle.reg_model.specs.declared.span.Member.{Member}
+use Rattle.reg_model.specs.declared.answer.Update.{Update}
+use Rattle.reg_model.specs.declared.answer.Receipt.{Receipt}
+use Rattle.reg_model.specs.declared.answer.Receipt.TheVariants as receipt
+use Rattle.event_script.specs.ScriptData.{ScriptData}
+use Rattle.event_script.specs.JournalData.{JournalData}
+use Rattle.event_script.specs.declared.script.Event.{Event}
+use Rattle.event_script.specs.declared.script.Event.TheVariants as event
+use Rattle.event_script.specs.declared.journal.Answer.{Answer}
+use Rattle.event_script.specs.declared.journal.Answer.TheVariants.{Register, Deregister, Find}
+
+-- the member that an event means by the number of an image
+abbrev pub member_of : List Interval → ℕ → Member
+member_of images image = record { span = unwrap_or (slice_get images image) (record { first = 0; last = 0 }); payload = image }
+
+-- the answer is of the event's kind, with its image, base or address
+abbrev pub AnswersEvent : Event → Answer → Type 0
+AnswersEvent (event.Register image) (Register asked answer) = asked ≡ image
+AnswersEvent (event.Deregister base) (Deregister asked answer) = asked ≡ base
+AnswersEvent (event.Find pc) (Find asked place) = (asked ≡ pc) × IsPlace place
+AnswersEvent _ _ = ⊥
+
+-- the receipts of an event: that of its update, or those of its place
+abbrev pub receipts_of : List Interval → Answer → List Receipt
+receipts_of images (Register image answer) = receipt.Register (member_of images image) answer ∷ []
+receipts_of images (Deregister base answer) = receipt.Deregister base answer ∷ []
+receipts_of images (Find pc place) = receipts_of_place pc place
+
+-- the receipts of each thread, by round
+abbrev pub thread_receipts : List Interval → JournalData → List (List (List Receipt))
+thread_receipts images journal = map (λ round. map (λ answers. flat_map (receipts_of images) answers) round) journal.rounds
+
+-- all of them, in order of round and thread
+abbrev pub in_one : List (List (List Receipt)) → List Receipt
+in_one rounds = flat_map (λ round. flat_map (λ receipts. receipts) round) rounds
+
+-- whether it is the receipt of the accepted update with this number
+abbrev pub has_number : ℕ → Receipt → Bool
+has_number number r = is_some (accepted r) && (moment r == number)
+
+-- the numbers from 1 to n stand on one receipt each, and no other number stands on one
+abbrev pub AreNumbered : ℕ → List Receipt → Type 0
+AreNumbered n receipts = (number : ℕ) → count_by (has_number number) receipts ≡ (if (nat_le 1 number && nat_le number n) then 1 else 0)
+
+-- the first n updates by their numbers
+abbrev pub history_of : List Receipt → ℕ → List Update
+history_of receipts zero = []
+history_of receipts (suc n) = history_of receipts n ++ option_to_list (option_and_then accepted (find (has_number (suc n)) receipts))
+
+-- Each receipt holds, and stamps and numbers rise along each thread. A round's callers are the first one, and one for each
+-- thread so far.
+abbrev pub RoundsHold : State → List Update → ℕ → ℕ → List (List (List Receipt)) → Type 0
+RoundsHold start history nodes callers [] = Unit {0}
+RoundsHold start history nodes callers (round ∷ rounds) =
+    All (λ receipts. AllHold start history nodes (callers + length round) 0 receipts × AreInOrder 0 receipts) round
+    × RoundsHold start history nodes (callers + length round) rounds
+
+-- each stamp and number is between the updates of the rounds before, and those with this round's
+abbrev pub AreInRounds : ℕ → List (List (List Receipt)) → Type 0
+AreInRounds done [] = Unit {0}
+AreInRounds done (round ∷ rounds) =
+    let receipts = flat_map (λ receipts. receipts) round in
+    let later = done + count_by (λ r. is_some (accepted r)) receipts in
+    All (λ r. (done ≤ moment r) × (moment r ≤ later)) receipts × AreInRounds later rounds
+
+-- what the registry of a script is at first
+abbrev pub start_of : ScriptData → State
+start_of script = opening [] script.loads
+
+-- A journal of the script may be this. Its history is read off its own numbers.
+pub record IsLawful (script : ScriptData) (journal : JournalData) : Type 0 where
+  pub answered : AllZip (AllZip (AllZip AnswersEvent)) script.rounds journal.rounds
+  pub numbered : AreNumbered journal.updates (in_one (thread_receipts script.images journal))
+  pub history : IsHistory (start_of script) (history_of (in_one (thread_receipts script.images journal)) journal.updates)
+  pub receipts : RoundsHold (start_of script) (history_of (in_one (thread_receipts script.images journal)) journal.updates) script.nodes 1 (thread_receipts script.images journal)
+  pub rounds : AreInRounds 0 (thread_receipts script.images journal)

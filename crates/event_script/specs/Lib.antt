@@ -1,0 +1,5 @@
+pub mod ScriptData
+pub mod Spelling
+pub mod JournalData
+pub mod Lawful
+pub mod Text

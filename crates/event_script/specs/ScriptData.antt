@@ -1,0 +1,36 @@
+-- Scripts as plain data, and their limits.
+use Rattle.std.specs.Prelude.{◌≡◌, ℕ, ◌^◌, ◌<◌, ◌≤◌, List, length, All}
+use Rattle.reg_model.specs.Interval.{Interval, IsSpan}
+use Rattle.event_script.specs.declared.script.Event.{Event}
+use Rattle.event_script.specs.declared.script.Event.TheVariants.{Register, Deregister, Find}
+
+-- what a contract sees of a script: by round and thread, the events
+pub record ScriptData : Type 0 where
+  pub nodes : ℕ
+  pub loads : ℕ
+  pub images : List Interval
+  pub rounds : List (List (List Event))
+
+-- The event names an image that there is; addresses have 64 bits.
+abbrev pub IsEvent : ℕ → Event → Type 0
+IsEvent images (Register image) = image < images
+IsEvent images (Deregister base) = base < 2 ^ 64
+IsEvent images (Find pc) = pc < 2 ^ 64
+
+abbrev pub IsThread : ℕ → List Event → Type 0
+IsThread images events = (length events ≤ 4096) × All (IsEvent images) events
+
+abbrev pub IsRound : ℕ → List (List Event) → Type 0
+IsRound images threads = (length threads ≤ 16) × All (IsThread images) threads
+
+-- each number and each count is within its limit, each image is a span, and each event is one of these images'
+pub record IsRunnable (s : ScriptData) : Type 0 where
+  pub nodes : (4 ≤ s.nodes) × (s.nodes ≤ 16384)
+  pub loads : (1 ≤ s.loads) × (s.loads ≤ 1024)
+  pub images : (length s.images ≤ 4096) × All IsSpan s.images
+  pub rounds : (length s.rounds ≤ 64) × All (IsRound (length s.images)) s.rounds
+
+-- What can be run today: one round of one thread at the most. It goes when threads come.
+pub record IsBuilt (s : ScriptData) : Type 0 where
+  pub rounds : length s.rounds ≤ 1
+  pub threads : All (λ threads. length threads ≤ 1) s.rounds

@@ -1,0 +1,70 @@
+-- The grammar of scripts: which bytes spell which script.
+use Rattle.std.specs.Prelude.{◌≡◌, ℕ, ◌+◌, ◌-◌, ◌^◌, ◌<◌, List, [], ◌∷◌, ◌++◌, length, Bool, false, All, codes}
+use Rattle.std.specs.List.{flat_map}
+use Rattle.std.specs.Fmt.{decimal, digits}
+use Rattle.reg_model.specs.Interval.{Interval}
+use Rattle.event_script.specs.ScriptData.{ScriptData, IsRunnable, IsBuilt}
+use Rattle.event_script.specs.declared.script.Event.{Event}
+use Rattle.event_script.specs.declared.script.Event.TheVariants.{Register, Deregister, Find}
+
+-- a number in lower-case hexadecimal digits, without leading zeros
+abbrev pub hex : ℕ → List ℕ
+hex n = digits 16 false n
+
+-- a line is its fields, one space between each two
+abbrev pub Line : Type 0
+Line = List (List ℕ)
+
+-- its bytes, the line feed (10) at its end included
+abbrev pub spelling_of : Line → List ℕ
+spelling_of [] = 10 ∷ []
+spelling_of (field ∷ []) = field ++ 10 ∷ []
+spelling_of (field ∷ fields) = field ++ 32 ∷ spelling_of fields
+
+-- Number, base, size, and the address of the image's section, whose bytes are none, a dash.
+abbrev pub image_line : ℕ → Interval → ℕ → Line
+image_line number span section = codes "image" ∷ decimal number ∷ hex span.first ∷ hex (span.last + 1 - span.first) ∷ hex section ∷ codes "-" ∷ []
+
+-- a line for each image, numbered upwards; sections has the address of each one's section
+abbrev pub image_lines : ℕ → List Interval → List ℕ → List Line
+image_lines number [] sections = []
+image_lines number (span ∷ images) [] = []
+image_lines number (span ∷ images) (section ∷ sections) = image_line number span section ∷ image_lines (number + 1) images sections
+
+abbrev pub event_line : Event → Line
+event_line (Register image) = codes "register" ∷ decimal image ∷ []
+event_line (Deregister base) = codes "deregister" ∷ hex base ∷ []
+event_line (Find pc) = codes "find" ∷ hex pc ∷ []
+
+abbrev pub event_lines : List Event → List Line
+event_lines [] = []
+event_lines (event ∷ events) = event_line event ∷ event_lines events
+
+abbrev pub thread_lines : List (List Event) → List Line
+thread_lines [] = []
+thread_lines (events ∷ threads) = (codes "thread" ∷ []) ∷ event_lines events ++ thread_lines threads
+
+abbrev pub round_lines : List (List (List Event)) → List Line
+round_lines [] = []
+round_lines (threads ∷ rounds) = (codes "round" ∷ []) ∷ thread_lines threads ++ round_lines rounds
+
+-- the lines of a script
+abbrev pub script_lines : ScriptData → List ℕ → List Line
+script_lines s sections =
+    (codes "frames" ∷ codes "1" ∷ [])
+    ∷ (codes "nodes" ∷ decimal s.nodes ∷ [])
+    ∷ (codes "loads" ∷ decimal s.loads ∷ [])
+    ∷ (image_lines 0 s.images sections ++ round_lines s.rounds ++ (codes "end" ∷ []) ∷ [])
+
+-- The bytes spell the script, with the addresses of the images' empty sections, which a script does not keep.
+pub record Spells (bytes : List ℕ) (s : ScriptData) : Type 0 where
+  pub sections : List ℕ
+  pub each : length sections ≡ length s.images
+  pub addresses : All (λ section. section < 2 ^ 64) sections
+  pub text : bytes ≡ flat_map spelling_of (script_lines s sections)
+
+-- the bytes are those of a script that can be run
+pub record IsScript (bytes : List ℕ) (s : ScriptData) : Type 0 where
+  pub spelled : Spells bytes s
+  pub runnable : IsRunnable s
+  pub built : IsBuilt s

@@ -1,0 +1,80 @@
+-- The text of a journal.
+use Rattle.std.specs.Prelude.{ℕ, ◌+◌, List, [], ◌∷◌, ◌++◌, Option, Some, None, codes}
+use Rattle.std.specs.List.{flat_map}
+use Rattle.std.specs.Fmt.{decimal}
+use Rattle.reg_model.specs.Receipt.{IsPlace}
+use Rattle.reg_model.specs.declared.answer.Found.{Found}
+use Rattle.reg_model.specs.declared.answer.Found.TheVariants.{Hit, Miss}
+use Rattle.reg_model.specs.declared.answer.Place.{Place}
+use Rattle.reg_model.specs.declared.answer.Inserted.{Inserted}
+use Rattle.reg_model.specs.declared.answer.Inserted.TheVariants as inserted
+use Rattle.reg_model.specs.declared.answer.Removed.{Removed}
+use Rattle.reg_model.specs.declared.answer.Removed.TheVariants as removed
+use Rattle.event_script.specs.Spelling.{hex}
+use Rattle.event_script.specs.JournalData.{JournalData}
+use Rattle.event_script.specs.declared.journal.Answer.{Answer}
+use Rattle.event_script.specs.declared.journal.Answer.TheVariants.{Register, Deregister, Find}
+
+abbrev pub inserted_text : Inserted → List ℕ
+inserted_text (inserted.Done number) = codes "done " ++ decimal number
+inserted_text (inserted.Overlap member stamp) = codes "overlap " ++ hex member.span.first ++ codes " " ++ decimal member.payload ++ codes " at " ++ decimal stamp
+inserted_text (inserted.Full stamp) = codes "full at " ++ decimal stamp
+inserted_text inserted.Spent = []
+
+abbrev pub removed_text : Removed → List ℕ
+removed_text (removed.Done number member) = codes "done " ++ decimal number ++ codes " image " ++ decimal member.payload
+removed_text (removed.NotFound stamp) = codes "absent at " ++ decimal stamp
+removed_text removed.Spent = []
+
+-- an image, or none, and the stamp
+abbrev pub found_text : Found → List ℕ
+found_text (Hit member stamp) = decimal member.payload ++ codes " at " ++ decimal stamp
+found_text (Miss stamp) = codes "none at " ++ decimal stamp
+
+abbrev pub loaded_text : Option Found → List ℕ
+loaded_text None = []
+loaded_text (Some found) = codes " loaded " ++ found_text found
+
+-- where an address was found; the loader's half stands only where the registered one has none
+abbrev pub place_text : Place → List ℕ
+place_text place = codes "registered " ++ found_text place.registered ++ loaded_text place.loaded
+
+-- what the lines of an event say behind its number
+abbrev pub answer_lines : Answer → List (List ℕ)
+answer_lines (Register image answer) = (codes "register " ++ decimal image ++ codes " " ++ inserted_text answer) ∷ []
+answer_lines (Deregister base answer) = (codes "deregister " ++ hex base ++ codes " " ++ removed_text answer) ∷ []
+answer_lines (Find pc place) = (codes "find " ++ hex pc ++ codes " " ++ place_text place) ∷ []
+
+-- an event's number: round, thread and event, each from 1
+abbrev pub event_number : ℕ → ℕ → ℕ → List ℕ
+event_number round thread event = decimal round ++ codes "." ++ decimal thread ++ codes "." ++ decimal event
+
+-- the lines of an event, each behind its number
+abbrev pub answer_text : ℕ → ℕ → ℕ → Answer → List ℕ
+answer_text round thread event answer = flat_map (λ line. event_number round thread event ++ codes " " ++ line ++ codes "\n") (answer_lines answer)
+
+abbrev pub thread_text : ℕ → ℕ → ℕ → List Answer → List ℕ
+thread_text round thread event [] = []
+thread_text round thread event (answer ∷ answers) = answer_text round thread event answer ++ thread_text round thread (event + 1) answers
+
+abbrev pub round_text : ℕ → ℕ → List (List Answer) → List ℕ
+round_text round thread [] = []
+round_text round thread (answers ∷ threads) = thread_text round thread 1 answers ++ round_text round (thread + 1) threads
+
+abbrev pub rounds_text : ℕ → List (List (List Answer)) → List ℕ
+rounds_text round [] = []
+rounds_text round (threads ∷ rounds) = round_text round 1 threads ++ rounds_text (round + 1) rounds
+
+-- the last line has the number of updates
+abbrev pub updates_text : ℕ → List ℕ
+updates_text updates = codes "updates " ++ decimal updates ++ codes "\n"
+
+abbrev pub journal_text : JournalData → List ℕ
+journal_text journal = rounds_text 1 journal.rounds ++ updates_text journal.updates
+
+-- a registration or a removal was answered with more than that the allowance is spent, and a place has its halves
+abbrev pub IsPrintable : Answer → Type 0
+IsPrintable (Register image inserted.Spent) = ⊥
+IsPrintable (Deregister base removed.Spent) = ⊥
+IsPrintable (Find pc place) = IsPlace place
+IsPrintable _ = Unit {0}

@@ -1,0 +1,30 @@
+//! What came of a script.
+
+ghost use Rattle.std.specs.Prelude.{◌≡◌, ℕ, List};
+
+use reg_model::{Inserted, Place, Removed};
+use std::marker::Model;
+
+/// An event with its answer.
+#[derive(Clone, Copy, Debug, PartialEq, Eq)]
+pub enum Answer {
+    Register { image: u32, answer: Inserted },
+    Deregister { base: u64, answer: Removed },
+    Find { pc: u64, place: Place },
+}
+
+/// The answers by round, thread and event, and the number of updates that were accepted.
+#[derive(Drop)]
+pub struct Journal {
+    pub rounds: Vec<Vec<Vec<Answer>>>,
+    pub updates: u32,
+}
+
+impl Model for Journal {
+    ghost use Rattle.std.specs.Prelude.{map};
+    ghost use Rattle.event_script.specs.JournalData.{JournalData};
+
+    ghost Value = { JournalData };
+
+    ghost view = { λ j. record { rounds = map (λ round. map (λ thread. thread.items) round.items) j.rounds.items; updates = j.updates } };
+}

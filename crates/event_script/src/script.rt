@@ -1,0 +1,69 @@
+//! What a script says: the images, and the events of each thread.
+
+ghost use Rattle.std.specs.Prelude.{◌≡◌, ℕ, List};
+
+use reg_model::Span;
+use std::marker::Model;
+
+/// What a thread asks of the registry, or does to it.
+#[derive(Clone, Copy, Debug, PartialEq, Eq)]
+pub enum Event {
+    /// Registers an image, by its number.
+    Register { image: u32 },
+    /// Removes what is registered at a first address.
+    Deregister { base: u64 },
+    /// Asks what contains an address.
+    Find { pc: u64 },
+}
+
+/// The events of one thread, in order.
+#[derive(Drop)]
+pub struct Thread {
+    pub events: Vec<Event>,
+}
+
+impl Model for Thread {
+    ghost use Rattle.std.specs.Prelude.{List};
+    ghost use Rattle.event_script.specs.declared.script.Event.{Event};
+
+    ghost Value = { List Event };
+
+    ghost view = { λ thread. thread.events.items };
+}
+
+/// The threads that run side by side, and end before the next round begins.
+#[derive(Drop)]
+pub struct Round {
+    pub threads: Vec<Thread>,
+}
+
+impl Model for Round {
+    ghost use Rattle.std.specs.Prelude.{List};
+    ghost use Rattle.event_script.specs.declared.script.Event.{Event};
+
+    ghost Value = { List (List Event) };
+
+    ghost view = { λ round. round.threads.items };
+}
+
+/// A script, all of whose numbers are within their limits and all of whose events name an image that there is.
+#[derive(Drop)]
+pub struct Script {
+    /// The number of nodes of the tree of registered ranges.
+    pub nodes: u32,
+    /// The greatest number of loaded images.
+    pub loads: u32,
+    /// The span of each image, by its number.
+    pub images: Vec<Span>,
+    pub rounds: Vec<Round>,
+}
+
+impl Model for Script {
+    ghost use Rattle.event_script.specs.ScriptData.{ScriptData, IsRunnable};
+
+    ghost Value = { ScriptData };
+
+    ghost view = { λ s. record { nodes = s.nodes; loads = s.loads; images = s.images.items; rounds = s.rounds.items } };
+
+    ghost invariant = { λ s. IsRunnable (record { nodes = s.nodes; loads = s.loads; images = s.images.items; rounds = s.rounds.items }) };
+}
