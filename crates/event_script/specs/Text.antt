@@ -53,24 +53,23 @@ event_number round thread event = decimal round ++ codes "." ++ decimal thread +
 abbrev pub answer_text : ℕ → ℕ → ℕ → Answer → List ℕ
 answer_text round thread event answer = flat_map (λ line. event_number round thread event ++ codes " " ++ line ++ codes "\n") (answer_lines answer)
 
-abbrev pub thread_text : ℕ → ℕ → ℕ → List Answer → List ℕ
-thread_text round thread event [] = []
-thread_text round thread event (answer ∷ answers) = answer_text round thread event answer ++ thread_text round thread (event + 1) answers
+-- a text for each item, which are numbered upwards, one behind another
+abbrev pub numbered : {X : Type 0} → (ℕ → X → List ℕ) → ℕ → List X → List ℕ
+numbered text number [] = []
+numbered text number (x ∷ xs) = text number x ++ numbered text (number + 1) xs
 
-abbrev pub round_text : ℕ → ℕ → List (List Answer) → List ℕ
-round_text round thread [] = []
-round_text round thread (answers ∷ threads) = thread_text round thread 1 answers ++ round_text round (thread + 1) threads
+abbrev pub thread_text : ℕ → ℕ → List Answer → List ℕ
+thread_text round thread answers = numbered (answer_text round thread) 1 answers
 
-abbrev pub rounds_text : ℕ → List (List (List Answer)) → List ℕ
-rounds_text round [] = []
-rounds_text round (threads ∷ rounds) = round_text round 1 threads ++ rounds_text (round + 1) rounds
+abbrev pub round_text : ℕ → List (List Answer) → List ℕ
+round_text round threads = numbered (thread_text round) 1 threads
 
 -- the last line has the number of updates
 abbrev pub updates_text : ℕ → List ℕ
 updates_text updates = codes "updates " ++ decimal updates ++ codes "\n"
 
 abbrev pub journal_text : JournalData → List ℕ
-journal_text journal = rounds_text 1 journal.rounds ++ updates_text journal.updates
+journal_text journal = numbered round_text 1 journal.rounds ++ updates_text journal.updates
 
 -- a registration or a removal was answered with more than that the allowance is spent, and a place has its halves
 abbrev pub IsPrintable : Answer → Type 0

@@ -14,6 +14,6 @@ mod reader;
 mod script;
 
 pub use journal::{Answer, Journal};
-pub use print::{print_answer, print_journal};
+pub use print::{print_answer, print_journal, print_updates};
 pub use reader::{ScriptFault, read};
 pub use script::{Event, Round, Script, Thread};

@@ -1,7 +1,7 @@
 //! The text of a journal.
 
 ghost use Rattle.std.specs.Prelude.{◌≡◌, ℕ, IfOk, All};
-ghost use Rattle.event_script.specs.Text.{IsPrintable, answer_text, journal_text};
+ghost use Rattle.event_script.specs.Text.{IsPrintable, answer_text, updates_text, journal_text};
 
 use crate::journal::{Answer, Journal};
 use reg_model::NoMemory;
@@ -13,6 +13,14 @@ pub fn print_answer(alloc: Global, round: u32, thread: u32, event: u32, answer: 
     ensures text { IfOk result (λ text. text.items ≡ answer_text round thread event answer.now) }
 {
     Err(NoMemory)
+}
+
+/// The last line of a journal, with the number of its updates.
+pub fn print_updates(alloc: Global, updates: u32) -> Result<Vec<u8>, NoMemory>
+    ensures text { IfOk result (λ text. text.items ≡ updates_text updates) }
+{
+    let line = format!(in alloc; "updates {updates}\n")?;
+    Ok(line.into_bytes())
 }
 
 /// The whole text of a journal.

@@ -1,0 +1,41 @@
+-- How runs end.
+use Rattle.std.proofs.Common.{◌≡◌, ◌⊎◌, ℕ, ◌≤◌, List, length, Option, Some, None, IfSome, refl, sym, subst, inl, inr, arith}
+use Rattle.event_script.specs.ScriptData.{ScriptData}
+use Rattle.event_script.specs.Spelling.{IsScript}
+use Rattle.run_engine.specs.Ports.{Rose, Gains, GainsPart}
+use Rattle.run_engine.specs.Outcome.{AreTaken, IsDue, Writes, WritesPart, Change, Ends, Concludes, limit}
+use Rattle.run_engine.specs.declared.status.Status.{Status}
+use Rattle.run_engine.specs.declared.status.Status.TheVariants.{Done, Usage, Script, ReadFault, WriteFault, NoMemory, TooLong}
+
+-- the text that is due with a status was written
+pub ends_written : (words : List (List ℕ)) (input : Option (List ℕ)) (change : Change) (text : List ℕ) (status : Status) → IsDue words input status text → Gains change.held change.held_after text → Ends words input change status
+ends_written words input change text Done due gains = (text, due, gains)
+ends_written words input change text Usage due gains = (text, due, gains)
+ends_written words input change text Script due gains = (text, due, gains)
+ends_written words input change text TooLong due gains = (text, due, gains)
+ends_written words input change text ReadFault due gains = absurd due
+ends_written words input change text WriteFault due gains = absurd due
+ends_written words input change text NoMemory due gains = absurd due
+
+pub ends_concluded : (words : List (List ℕ)) (input : Option (List ℕ)) (change : Change) (line : List ℕ) (status end : Status) → IsDue words input status line → Concludes line status change end → Ends words input change end
+ends_concluded words input change line status end due (inl (is, gains)) = rw is (ends_written words input change line status due gains)
+ends_concluded words input change line status end due (inr (inl (is, rose, part))) = rw is (rose, inr (status, line, due, part))
+ends_concluded words input change line status end due (inr (inr (is, part))) = rw is (inr (status, line, due, part))
+
+-- A status that has been told is no other one.
+pub ends_at : (words : List (List ℕ)) (input : Option (List ℕ)) (change : Change) (end status : Status) → Ends words input change end → end ≡ status → Ends words input change status
+ends_at words input change end status ends is = (let P : Status → Type 0 = Ends words input change in subst P is ends)
+
+-- a script that can be read and written is run
+complete_with : (words : List (List ℕ)) (bytes : List ℕ) (change : Change) (end : Status) → Ends words (Some bytes) change end → AreTaken words → length bytes ≤ limit → (script : ScriptData) → IsScript bytes script → ¬ Rose change.reads change.reads_after → ¬ Rose change.writes change.writes_after → (end ≡ Done) ⊎ (end ≡ NoMemory)
+complete_with words bytes change Done ends taken short script spelled reads writes = inl refl
+complete_with words bytes change NoMemory ends taken short script spelled reads writes = inr refl
+complete_with words bytes change Usage (text, due, gains) taken short script spelled reads writes = absurd (due.0 taken)
+complete_with words bytes change TooLong (text, due, gains) taken short script spelled reads writes = absurd (let long = due.1 in omega arith)
+complete_with words bytes change Script (text, due, gains) taken short script spelled reads writes = absurd (due.1.1 script spelled)
+complete_with words bytes change ReadFault ends taken short script spelled reads writes = absurd (reads ends.1)
+complete_with words bytes change WriteFault ends taken short script spelled reads writes = absurd (writes ends.0)
+
+pub ends_complete : (words : List (List ℕ)) (input : Option (List ℕ)) (change : Change) (end : Status) → Ends words input change end → AreTaken words → IfSome input (λ bytes. length bytes ≤ limit → (script : ScriptData) → IsScript bytes script → ¬ Rose change.reads change.reads_after → ¬ Rose change.writes change.writes_after → (end ≡ Done) ⊎ (end ≡ NoMemory))
+ends_complete words None change end ends taken = tt
+ends_complete words (Some bytes) change end ends taken = complete_with words bytes change end ends taken

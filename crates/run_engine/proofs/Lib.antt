@@ -1,0 +1,10 @@
+pub mod Bytes
+pub mod Pieces
+pub mod Numbered
+pub mod JournalTexts
+pub mod Lists
+pub mod Walks
+pub mod Numbers
+pub mod Lawfulness
+pub mod Endings
+pub mod Words

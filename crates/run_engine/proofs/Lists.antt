@@ -1,0 +1,51 @@
+-- Lists beside lists.
+use Rattle.std.proofs.Common.{◌≡◌, List, [], ◌∷◌, ◌++◌, length, map, refl, ap, arith}
+use Rattle.std.specs.List.{All, AllZip, AllByRecursion, flat_map}
+use Rattle.std.proofs.lemmas.List.Elements.{All-cons, All-head, All-tail}
+
+pub AllZip-more : {A B : Type 0} (R : A → B → Type 0) (xs : List A) (ys : List B) (a : A) (b : B) → AllZip R xs ys → R a b → AllZip R (xs ++ a ∷ []) (ys ++ b ∷ [])
+AllZip-more R [] [] a b front last = (last, tt)
+AllZip-more R (x ∷ xs) (y ∷ ys) a b front last = (front.0, AllZip-more R xs ys a b front.1 last)
+AllZip-more R [] (y ∷ ys) a b front last = absurd front
+AllZip-more R (x ∷ xs) [] a b front last = absurd front
+
+pub AllZip-map : {A B C : Type 0} (R : A → C → Type 0) (f : B → C) (xs : List A) (ys : List B) → AllZip (λ x y. R x (f y)) xs ys → AllZip R xs (map f ys)
+AllZip-map R f [] [] all = tt
+AllZip-map R f (x ∷ xs) (y ∷ ys) all = (all.0, AllZip-map R f xs ys all.1)
+AllZip-map R f [] (y ∷ ys) all = absurd all
+AllZip-map R f (x ∷ xs) [] all = absurd all
+
+pub AllZip-weaker : {A B : Type 0} (P R : A → B → Type 0) (weaker : (a : A) (b : B) → P a b → R a b) (xs : List A) (ys : List B) → AllZip P xs ys → AllZip R xs ys
+AllZip-weaker P R weaker [] [] all = tt
+AllZip-weaker P R weaker (x ∷ xs) (y ∷ ys) all = (weaker x y all.0, AllZip-weaker P R weaker xs ys all.1)
+AllZip-weaker P R weaker [] (y ∷ ys) all = absurd all
+AllZip-weaker P R weaker (x ∷ xs) [] all = absurd all
+
+pub flat_map-map : {A B C : Type 0} (f : B → List C) (g : A → B) (xs : List A) → flat_map f (map g xs) ≡ flat_map (λ x. f (g x)) xs
+flat_map-map f g [] = refl
+flat_map-map f g (x ∷ xs) = ap (λ rest. f (g x) ++ rest) (flat_map-map f g xs)
+
+pub flat_map-same : {A B : Type 0} (f g : A → List B) → ((x : A) → f x ≡ g x) → (xs : List A) → flat_map f xs ≡ flat_map g xs
+flat_map-same f g same [] = refl
+flat_map-same f g same (x ∷ xs) = rw (same x, flat_map-same f g same xs) refl
+
+pub AllByRecursion-parts : {A : Type 0} (P : A → Type 0) (xs ys : List A) → AllByRecursion P (xs ++ ys) → AllByRecursion P xs × AllByRecursion P ys
+AllByRecursion-parts P [] ys all = (tt, all)
+AllByRecursion-parts P (x ∷ xs) ys all = (let parts = AllByRecursion-parts P xs ys all.1 in ((all.0, parts.0), parts.1))
+
+pub All-unmap : {A B : Type 0} (P : B → Type 0) (f : A → B) (xs : List A) → All P (map f xs) → All (λ x. P (f x)) xs
+All-unmap P f [] all = λ k d within. absurd (omega arith)
+All-unmap P f (x ∷ xs) all = All-cons (λ y. P (f y)) x xs (All-head P (f x) (map f xs) all) (All-unmap P f xs (All-tail P (f x) (map f xs) all))
+
+pub AllZip-length : {A B : Type 0} (R : A → B → Type 0) (xs : List A) (ys : List B) → AllZip R xs ys → length xs ≡ length ys
+AllZip-length R [] [] all = refl
+AllZip-length R (x ∷ xs) (y ∷ ys) all = (let rest = AllZip-length R xs ys all.1 in omega arith)
+AllZip-length R [] (y ∷ ys) all = absurd all
+AllZip-length R (x ∷ xs) [] all = absurd all
+
+-- what holds of each, of the items beside them
+pub AllZip-beside : {A B : Type 0} (R : A → B → Type 0) (P : A → Type 0) (Q : B → Type 0) → ((x : A) (y : B) → R x y → P x → Q y) → (xs : List A) (ys : List B) → AllZip R xs ys → All P xs → All Q ys
+AllZip-beside R P Q from [] [] all each = λ k d within. absurd (omega arith)
+AllZip-beside R P Q from (x ∷ xs) (y ∷ ys) all each = All-cons Q y ys (from x y all.0 (All-head P x xs each)) (AllZip-beside R P Q from xs ys all.1 (All-tail P x xs each))
+AllZip-beside R P Q from [] (y ∷ ys) all each = absurd all
+AllZip-beside R P Q from (x ∷ xs) [] all each = absurd all

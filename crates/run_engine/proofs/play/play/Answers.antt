@@ -1,0 +1,25 @@
+use Rattle.std.proofs.Common.{◌≡◌, ap, sym, ◌∙◌, subst, List, length}
+use Rattle.std.specs.List.{flat_map}
+use Rattle.reg_model.specs.State.{opening}
+use Rattle.reg_model.specs.Current.{Current}
+use Rattle.reg_model.specs.declared.answer.Receipt.{Receipt}
+use Rattle.event_script.specs.Lawful.{receipts_of}
+use Rattle.run_engine.specs.Walk.{Walks}
+use Rattle.run_engine.proofs.Lawfulness.{lawful_play, printable_play, counted_play}
+use Rattle.run_engine.proofs.play.play.Goals as goal
+
+pub returns-clause-lawful : goal.returns-clause-lawful
+returns-clause-lawful g c =
+    let loads = c.script.inside.loads in
+    let first = c.new-registry.ensures ∙ ap (λ fixed. record { state = opening fixed loads; updates = 0 }) c.new.ensures.items in
+    rw (← c.script.view_is) (lawful_play (λ thread. thread.items) (λ round. round.items) _ c.in_ok-rounds.rounds.items c.updates-updates.result c.play_rounds.new.registry
+      (rw (← c.deref-2.ensures.value) c.in_ok-rounds.ensures.answered)
+      c.updates-updates.ensures
+      (rw (← c.deref.ensures.value, ← first) c.in_ok-rounds.ensures.walks))
+
+pub returns-clause-printable : goal.returns-clause-printable
+returns-clause-printable g c = printable_play (λ thread. thread.items) (λ round. round.items) c.in_ok-rounds.rounds.items c.in_ok-rounds.ensures.printable
+
+pub returns-clause-counted : goal.returns-clause-counted
+returns-clause-counted g c =
+    counted_play (λ thread. thread.items) (λ round. round.items) (length c.script.inside.images.items) c.script.inside.rounds.items c.in_ok-rounds.rounds.items c.script.invariant.rounds (rw (← c.deref-2.ensures.value) c.in_ok-rounds.ensures.answered)

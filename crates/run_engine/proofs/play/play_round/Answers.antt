@@ -1,0 +1,31 @@
+use Rattle.std.proofs.Common.{◌≡◌, ◌+◌, ◌*◌, ◌≤◌, ◌++◌, ◌∷◌, [], List, length, take, ap, sym, ◌∙◌, subst, arith}
+use Rattle.std.specs.List.{All, AllZip, flat_map}
+use Rattle.std.proofs.lemmas.List.{take_more}
+use Rattle.std.proofs.lemmas.List.Elements.{All-push, All-get_or}
+use Rattle.event_script.specs.ScriptData.{IsThread}
+use Rattle.event_script.specs.Lawful.{AnswersEvent, receipts_of}
+use Rattle.event_script.specs.Text.{IsPrintable}
+use Rattle.event_script.specs.declared.script.Event.{Event}
+use Rattle.run_engine.proofs.Lists.{AllZip-more}
+use Rattle.run_engine.proofs.Walks.{Walks-push}
+use Rattle.run_engine.proofs.play.play_round.Goals as goal
+
+pub loop-index-preserved : goal.loop-index-preserved
+loop-index-preserved g c =
+    let threads = c.args.threads.now in
+    let answers = c.loop-index.answers.items in
+    let played = c.in_ok-played.played in
+    let before = c.loop-index.invariant in
+    let item = c.index-threads-index.result in
+    let passed = take c.loop-index.index threads in
+    let grown : take (c.loop-index.index + 1) threads ≡ passed ++ item ∷ [] = take_more threads c.loop-index.index item c.loop-index-test.true ∙ ap (λ events. passed ++ events ∷ []) (sym c.index-threads-index.is) in
+    let events : c.deref.result.now ≡ item = c.deref.ensures.value ∙ c.thread.view_is in
+    let P : List Event → Type 0 = λ events. length events ≤ 4096 in
+    let few : length item ≤ 4096 = subst P (sym c.index-threads-index.is) (All-get_or (IsThread (length c.args.images.now)) threads c.loop-index.index item c.loop-index-test.true c.requires.round.1).0 in
+    let count : length c.deref.result.now ≡ length item = ap length events in
+    rw c.in_ok-push.ensures.items (record {
+      answered = rw grown (AllZip-more (λ events thread. AllZip AnswersEvent events thread.items) passed answers item played before.answered (rw (← events) c.in_ok-played.ensures.answered));
+      walks = Walks-push (λ thread. flat_map (receipts_of c.args.images.now) thread.items) _ _ _ answers played before.walks c.in_ok-played.ensures.walks;
+      printable = All-push (λ thread. All IsPrintable thread.items) answers played before.printable c.in_ok-played.ensures.printable;
+      room = (let room = before.room in let more = c.in_ok-played.ensures.room in omega arith)
+    })

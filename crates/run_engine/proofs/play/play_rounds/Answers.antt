@@ -1,0 +1,31 @@
+use Rattle.std.proofs.Common.{◌≡◌, ◌+◌, ◌*◌, ◌≤◌, ◌++◌, ◌∷◌, [], List, length, take, ap, sym, ◌∙◌, subst, arith}
+use Rattle.std.specs.List.{All, AllZip, flat_map}
+use Rattle.std.proofs.lemmas.List.{take_more}
+use Rattle.std.proofs.lemmas.List.Elements.{All-push, All-get_or}
+use Rattle.event_script.specs.ScriptData.{IsRound}
+use Rattle.event_script.specs.Lawful.{AnswersEvent, receipts_of}
+use Rattle.event_script.specs.Text.{IsPrintable}
+use Rattle.event_script.specs.declared.script.Event.{Event}
+use Rattle.run_engine.proofs.Lists.{AllZip-more}
+use Rattle.run_engine.proofs.Walks.{Walks-push}
+use Rattle.run_engine.proofs.play.play_rounds.Goals as goal
+
+pub loop-index-preserved : goal.loop-index-preserved
+loop-index-preserved g c =
+    let rounds = c.args.rounds.now in
+    let answers = c.loop-index.answers.items in
+    let played = c.in_ok-played.played in
+    let before = c.loop-index.invariant in
+    let item = c.index-rounds-index.result in
+    let passed = take c.loop-index.index rounds in
+    let grown : take (c.loop-index.index + 1) rounds ≡ passed ++ item ∷ [] = take_more rounds c.loop-index.index item c.loop-index-test.true ∙ ap (λ threads. passed ++ threads ∷ []) (sym c.index-rounds-index.is) in
+    let threads : c.deref.result.now ≡ item = c.deref.ensures.value ∙ c.round.view_is in
+    let P : List (List Event) → Type 0 = λ threads. length threads ≤ 16 in
+    let few : length item ≤ 16 = subst P (sym c.index-rounds-index.is) (All-get_or (IsRound (length c.args.images.now)) rounds c.loop-index.index item c.loop-index-test.true c.requires.rounds.1).0 in
+    let count : length c.deref.result.now ≡ length item = ap length threads in
+    rw c.in_ok-push.ensures.items (record {
+      answered = rw grown (AllZip-more (λ threads round. AllZip (λ events thread. AllZip AnswersEvent events thread.items) threads round.items) passed answers item played before.answered (rw (← threads) c.in_ok-played.ensures.answered));
+      walks = Walks-push (λ round. flat_map (λ thread. flat_map (receipts_of c.args.images.now) thread.items) round.items) _ _ _ answers played before.walks c.in_ok-played.ensures.walks;
+      printable = All-push (λ round. All (λ thread. All IsPrintable thread.items) round.items) answers played before.printable c.in_ok-played.ensures.printable;
+      room = (let room = before.room in let more = c.in_ok-played.ensures.room in omega arith)
+    })

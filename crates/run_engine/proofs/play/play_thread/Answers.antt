@@ -1,0 +1,21 @@
+use Rattle.std.proofs.Common.{◌+◌, ◌≤◌, arith}
+use Rattle.std.proofs.lemmas.List.{take_more}
+use Rattle.std.proofs.lemmas.List.Elements.{All-push}
+use Rattle.event_script.specs.Lawful.{AnswersEvent, receipts_of}
+use Rattle.event_script.specs.Text.{IsPrintable}
+use Rattle.event_script.specs.declared.script.Event.TheVariants.{Register}
+use Rattle.run_engine.proofs.Lists.{AllZip-more}
+use Rattle.run_engine.proofs.Walks.{Walks-push}
+use Rattle.run_engine.proofs.play.play_thread.Goals as goal
+
+pub loop-index-preserved : goal.loop-index-preserved
+loop-index-preserved g c =
+    let answers = c.loop-index.answers.items in
+    let answer = c.in_ok-answer.answer in
+    let before = c.loop-index.invariant in
+    rw c.in_ok-push.ensures.items (record {
+      answered = rw (take_more c.args.events.now c.loop-index.index (Register 0) c.loop-index-test.true) (AllZip-more AnswersEvent _ answers _ answer before.answered c.in_ok-answer.ensures.answered);
+      walks = Walks-push (receipts_of c.args.images.now) _ _ _ answers answer before.walks c.in_ok-answer.ensures.walks;
+      printable = All-push IsPrintable answers answer before.printable c.in_ok-answer.ensures.printable;
+      room = (let room = before.room in let more = c.in_ok-answer.ensures.room in omega arith)
+    })

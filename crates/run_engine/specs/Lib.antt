@@ -1,0 +1,6 @@
+pub mod Ports
+pub mod Devices
+pub mod Statuses
+pub mod Outcome
+pub mod Walk
+pub mod Counts

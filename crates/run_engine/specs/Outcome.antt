@@ -1,0 +1,78 @@
+-- What a run writes, and when it ends how.
+use Rattle.std.specs.Prelude.{◌≡◌, ◌⊎◌, ℕ, ◌<◌, ◌≤◌, List, [], ◌∷◌, length, Option, IfSome, codes}
+use Rattle.event_script.specs.ScriptData.{ScriptData}
+use Rattle.event_script.specs.Spelling.{IsScript}
+use Rattle.event_script.specs.JournalData.{JournalData}
+use Rattle.event_script.specs.Lawful.{IsLawful}
+use Rattle.event_script.specs.Text.{journal_text}
+use Rattle.run_engine.specs.Ports.{Rose, Gains, GainsPart}
+use Rattle.run_engine.specs.declared.status.Status.{Status}
+use Rattle.run_engine.specs.declared.status.Status.TheVariants.{Done, Usage, Script, ReadFault, WriteFault, NoMemory, TooLong}
+
+-- the words, each as its bytes, are the one word that is taken
+abbrev pub AreTaken : List (List ℕ) → Type 0
+AreTaken words = words ≡ codes "run" ∷ []
+
+abbrev pub usage_line : List ℕ
+usage_line = codes "usage: unwind_main run | unwind_main gen N\n"
+
+abbrev pub too_long_line : List ℕ
+too_long_line = codes "script too long\n"
+
+abbrev pub refused_line : List ℕ
+refused_line = codes "script refused\n"
+
+-- the greatest length of a script, in bytes
+abbrev pub limit : ℕ
+limit = 8388608
+
+-- The text is that of a lawful journal of a script, the one that the source's bytes spell, where it tells them.
+pub record IsAnswer (input : Option (List ℕ)) (text : List ℕ) : Type 0 where
+  pub script : ScriptData
+  pub journal : JournalData
+  pub spelled : IfSome input (λ bytes. (length bytes ≤ limit) × IsScript bytes script)
+  pub lawful : IsLawful script journal
+  pub text_is : text ≡ journal_text journal
+
+-- What is due to be written with a status, from these words and the bytes of the source.
+abbrev pub IsDue : List (List ℕ) → Option (List ℕ) → Status → List ℕ → Type 0
+IsDue words input Done text = AreTaken words × IsAnswer input text
+IsDue words input Usage text = (¬ AreTaken words) × (text ≡ usage_line)
+IsDue words input TooLong text = AreTaken words × IfSome input (λ bytes. limit < length bytes) × (text ≡ too_long_line)
+IsDue words input Script text =
+    AreTaken words × IfSome input (λ bytes. (length bytes ≤ limit) × ((script : ScriptData) → ¬ IsScript bytes script)) × (text ≡ refused_line)
+IsDue words input _ text = ⊥
+
+-- the text that is due with this status was written
+abbrev pub Writes : List (List ℕ) → Option (List ℕ) → Status → Option (List ℕ) → Option (List ℕ) → Type 0
+Writes words input status old new = (text : List ℕ) × IsDue words input status text × Gains old new text
+
+-- a front of a text that was due with some status was written, or nothing
+abbrev pub WritesPart : List (List ℕ) → Option (List ℕ) → Option (List ℕ) → Option (List ℕ) → Type 0
+WritesPart words input old new = (new ≡ old) ⊎ ((status : Status) × (text : List ℕ) × IsDue words input status text × GainsPart old new text)
+
+-- the counts of faults and what the sink holds, before a run and after it
+pub record Change : Type 0 where
+  pub reads : ℕ
+  pub reads_after : ℕ
+  pub writes : ℕ
+  pub writes_after : ℕ
+  pub held : Option (List ℕ)
+  pub held_after : Option (List ℕ)
+
+-- how a run with these words and this input may end
+abbrev pub Ends : List (List ℕ) → Option (List ℕ) → Change → Status → Type 0
+Ends words input change Done = Writes words input Done change.held change.held_after
+Ends words input change Usage = Writes words input Usage change.held change.held_after
+Ends words input change Script = Writes words input Script change.held change.held_after
+Ends words input change TooLong = Writes words input TooLong change.held change.held_after
+Ends words input change ReadFault = AreTaken words × Rose change.reads change.reads_after × (change.held_after ≡ change.held)
+Ends words input change WriteFault = Rose change.writes change.writes_after × WritesPart words input change.held change.held_after
+Ends words input change NoMemory = WritesPart words input change.held change.held_after
+
+-- how writing the line that is due with a status may end
+abbrev pub Concludes : List ℕ → Status → Change → Status → Type 0
+Concludes line status change end =
+    ((end ≡ status) × Gains change.held change.held_after line)
+    ⊎ (((end ≡ WriteFault) × Rose change.writes change.writes_after × GainsPart change.held change.held_after line)
+    ⊎ ((end ≡ NoMemory) × GainsPart change.held change.held_after line))

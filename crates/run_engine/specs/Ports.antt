@@ -1,0 +1,18 @@
+-- What sources hand out, what sinks take, and when a count of faults rose.
+use Rattle.std.specs.Prelude.{◌≡◌, ◌⊎◌, ℕ, ◌-◌, ◌^◌, ◌<◌, List, ◌++◌, Option, Some, None, MatchOption}
+
+-- a count rose, or stands at its last value
+abbrev pub Rose : ℕ → ℕ → Type 0
+Rose old new = (old < new) ⊎ (new ≡ 2 ^ 64 - 1)
+
+-- a source that tells its bytes handed out these
+abbrev pub Hands : Option (List ℕ) → Option (List ℕ) → List ℕ → Type 0
+Hands old new bytes = MatchOption old (Unit {0}) (λ had. MatchOption new ⊥ (λ left. had ≡ bytes ++ left))
+
+-- a sink that tells its bytes gained these
+abbrev pub Gains : Option (List ℕ) → Option (List ℕ) → List ℕ → Type 0
+Gains old new bytes = MatchOption old (Unit {0}) (λ held. new ≡ Some (held ++ bytes))
+
+-- a sink gained a front of these bytes, or all of them
+abbrev pub GainsPart : Option (List ℕ) → Option (List ℕ) → List ℕ → Type 0
+GainsPart old new bytes = (front : List ℕ) × (rest : List ℕ) × (bytes ≡ front ++ rest) × Gains old new front

@@ -1,0 +1,50 @@
+//! Where bytes come from and where they go, with their faults counted.
+
+ghost use Rattle.std.specs.Prelude.{◌≡◌, ℕ, ◌<◌, ◌≤◌, ◌++◌, List, [], Option, length, take, IfOk, IfSome, OnErr, IsErr, Err, option_map};
+ghost use Rattle.run_engine.specs.Ports.{Rose, Hands, Gains};
+
+/// A read failed.
+#[derive(Clone, Copy, Debug, PartialEq, Eq)]
+pub struct Failed;
+
+/// A write failed, or wanted memory.
+#[derive(Clone, Copy, Debug, PartialEq, Eq)]
+pub enum SinkFault {
+    Failed,
+    NoMemory,
+}
+
+/// Where a script comes from.
+pub trait Source {
+    /// The bytes that are left, where the source tells them.
+    ghost remaining: { Self → Option (List ℕ) };
+
+    /// How many reads have failed. It stands still at its last value, 2^64 - 1.
+    ghost faults: { Self → ℕ };
+
+    /// Reads some bytes to the front of the buffer. None for a buffer that has room is the end.
+    fn read(&mut self, buffer: &mut [u8]) -> Result<usize, Failed>
+        ensures count { IfOk result (λ count. count ≤ length buffer.old) }
+        ensures bytes { IfOk result (λ count. Hands (remaining self.old) (remaining self.new) (take count buffer.new)) }
+        ensures end { IfOk result (λ count. count ≡ 0 → 0 < length buffer.old → IfSome (remaining self.old) (λ bytes. bytes ≡ [])) }
+        ensures err { IsErr result → Rose (faults self.old) (faults self.new) }
+        ensures counted { faults self.old ≤ faults self.new };
+}
+
+/// Where a journal goes.
+pub trait Sink {
+    /// The bytes that it holds, where it tells them.
+    ghost written: { Self → Option (List ℕ) };
+
+    /// How many writes have failed. It stands still at its last value, 2^64 - 1.
+    ghost faults: { Self → ℕ };
+
+    /// Takes a front of the piece, and of a piece that is not empty at least one byte. An `Err` takes nothing.
+    fn write(&mut self, piece: &[u8]) -> Result<usize, SinkFault>
+        ensures count { IfOk result (λ count. count ≤ length piece.now) }
+        ensures some { IfOk result (λ count. 0 < length piece.now → 0 < count) }
+        ensures bytes { IfOk result (λ count. Gains (written self.old) (written self.new) (take count piece.now)) }
+        ensures err { OnErr result (written self.new ≡ written self.old) }
+        ensures failed { result ≡ Err SinkFault.Failed → Rose (faults self.old) (faults self.new) }
+        ensures counted { faults self.old ≤ faults self.new };
+}

@@ -1,0 +1,124 @@
+//! From the words of the command line to a status.
+
+ghost use Rattle.std.specs.Prelude.{◌≡◌, ◌⊎◌, ℕ, ◌≤◌, ◌↔◌, length, map, IsTrue, IfSome};
+ghost use Rattle.event_script.specs.ScriptData.{ScriptData};
+ghost use Rattle.event_script.specs.Spelling.{IsScript};
+ghost use Rattle.std.specs.String.{string_bytes};
+ghost use Rattle.run_engine.specs.Ports.{Rose};
+ghost use Rattle.run_engine.specs.Outcome.{AreTaken, Writes, WritesPart, Ends, Concludes, limit};
+
+use crate::gate::Gate;
+use crate::play::play;
+use crate::ports::{Sink, SinkFault, Source};
+use crate::reading::{LIMIT, TakeFault, take_all};
+use crate::status::Status;
+use crate::writing::{write_journal, write_piece};
+use event_script::{ScriptFault, read};
+use std::alloc::Global;
+use std::sync::Wait;
+
+/// Takes the words of the command line, reads a script from the source, plays it, and writes its journal to the sink.
+///
+/// Each status but ReadFault has a text that is due with it: for Done the journal's, else one line that says why. Where
+/// the text can't be written, the status is WriteFault. Memory may be wanted at any time.
+pub fn run<R: Wait, S: Source, K: Sink, G: Gate + Sync>(
+    rt: &R,
+    alloc: Global,
+    words: &[String],
+    source: &mut S,
+    sink: &mut K,
+    gate: &G,
+) -> Status
+    // The journal theorem: the text of one lawful journal of the script that was read.
+    ensures done { result ≡ Status.Done → Writes (map string_bytes words.now) (S.remaining source.old) Status.Done (K.written sink.old) (K.written sink.new) }
+    ensures usage { result ≡ Status.Usage → Writes (map string_bytes words.now) (S.remaining source.old) Status.Usage (K.written sink.old) (K.written sink.new) }
+    ensures too_long { result ≡ Status.TooLong → Writes (map string_bytes words.now) (S.remaining source.old) Status.TooLong (K.written sink.old) (K.written sink.new) }
+    ensures script { result ≡ Status.Script → Writes (map string_bytes words.now) (S.remaining source.old) Status.Script (K.written sink.old) (K.written sink.new) }
+
+    // Faults come only where a count rose in this call, and leave nothing, or a front of what was due.
+    ensures read_fault { result ≡ Status.ReadFault → AreTaken (map string_bytes words.now) × Rose (S.faults source.old) (S.faults source.new) × (K.written sink.new ≡ K.written sink.old) }
+    ensures write_fault { result ≡ Status.WriteFault → Rose (K.faults sink.old) (K.faults sink.new) × WritesPart (map string_bytes words.now) (S.remaining source.old) (K.written sink.old) (K.written sink.new) }
+    ensures no_memory { result ≡ Status.NoMemory → WritesPart (map string_bytes words.now) (S.remaining source.old) (K.written sink.old) (K.written sink.new) }
+
+    // A script that can be read and written is run, unless memory is wanted.
+    ensures complete {
+        AreTaken (map string_bytes words.now) → IfSome (S.remaining source.old) (λ bytes. length bytes ≤ limit → (script : ScriptData) → IsScript bytes script
+        → ¬ Rose (S.faults source.old) (S.faults source.new) → ¬ Rose (K.faults sink.old) (K.faults sink.new)
+        → (result ≡ Status.Done) ⊎ (result ≡ Status.NoMemory))
+    }
+{
+    end_of(rt, alloc, words, source, sink, gate)
+}
+
+/// The run, with one clause for each status.
+fn end_of<R: Wait, S: Source, K: Sink, G: Gate + Sync>(
+    rt: &R,
+    alloc: Global,
+    words: &[String],
+    source: &mut S,
+    sink: &mut K,
+    gate: &G,
+) -> Status
+    ensures {
+        Ends (map string_bytes words.now) (S.remaining source.old)
+            (record {
+                reads = S.faults source.old; reads_after = S.faults source.new;
+                writes = K.faults sink.old; writes_after = K.faults sink.new;
+                held = K.written sink.old; held_after = K.written sink.new
+            }) result
+    }
+{
+    if !are_taken(words) {
+        return conclude(sink, b"usage: unwind_main run | unwind_main gen N\n", Status::Usage);
+    }
+    let bytes = match take_all(alloc, source) {
+        Ok(bytes) => bytes,
+        Err(TakeFault::Failed) => return Status::ReadFault,
+        Err(TakeFault::NoMemory) => return Status::NoMemory,
+    };
+    if bytes.len() > LIMIT {
+        return conclude(sink, b"script too long\n", Status::TooLong);
+    }
+    let script = match read(alloc, &bytes) {
+        Ok(script) => script,
+        Err(ScriptFault::Refused) => return conclude(sink, b"script refused\n", Status::Script),
+        Err(ScriptFault::NoMemory) => return Status::NoMemory,
+    };
+    let journal = match play(rt, alloc, gate, &script) {
+        Ok(journal) => journal,
+        Err(_) => return Status::NoMemory,
+    };
+    match write_journal(alloc, sink, &journal) {
+        Ok(()) => Status::Done,
+        Err(SinkFault::Failed) => Status::WriteFault,
+        Err(SinkFault::NoMemory) => Status::NoMemory,
+    }
+}
+
+/// Whether the words are the one word `run`.
+fn are_taken(words: &[String]) -> bool
+    ensures { IsTrue result ↔ AreTaken (map string_bytes words.now) }
+{
+    match words {
+        [word] => word.as_bytes() == b"run".as_slice(),
+        _ => false,
+    }
+}
+
+/// Writes the line that is due with a status.
+fn conclude<K: Sink>(sink: &mut K, line: &[u8], status: Status) -> Status
+    ensures {
+        Concludes line.now status
+            (record {
+                reads = 0; reads_after = 0;
+                writes = K.faults sink.old; writes_after = K.faults sink.new;
+                held = K.written sink.old; held_after = K.written sink.new
+            }) result
+    }
+{
+    match write_piece(sink, line) {
+        Ok(()) => status,
+        Err(SinkFault::Failed) => Status::WriteFault,
+        Err(SinkFault::NoMemory) => Status::NoMemory,
+    }
+}

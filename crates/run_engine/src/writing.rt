@@ -1,0 +1,139 @@
+//! Writes a journal, a piece for each line.
+
+ghost use Rattle.std.specs.Prelude.{◌≡◌, ℕ, ◌^◌, ◌<◌, ◌≤◌, length, map, All, OnOk, OnErr, Err};
+ghost use Rattle.event_script.specs.Text.{IsPrintable, numbered, answer_text, thread_text, round_text, journal_text};
+ghost use Rattle.run_engine.specs.Ports.{Rose, Gains, GainsPart};
+ghost use Rattle.run_engine.specs.Counts.{HasCounts};
+
+use crate::play::ThreadNumber;
+use crate::ports::{Sink, SinkFault};
+use event_script::{Answer, Journal, print_answer, print_updates};
+use std::alloc::Global;
+
+/// Writes a piece: what the sink leaves of it is offered again.
+pub fn write_piece<K: Sink>(sink: &mut K, piece: &[u8]) -> Result<(), SinkFault>
+    ensures ok { OnOk result (Gains (K.written sink.old) (K.written sink.new) piece.now) }
+    ensures err { OnErr result (GainsPart (K.written sink.old) (K.written sink.new) piece.now) }
+    ensures failed { result ≡ Err SinkFault.Failed → Rose (K.faults sink.old) (K.faults sink.new) }
+    ensures counted { K.faults sink.old ≤ K.faults sink.new }
+{
+    let mut at = 0;
+    while at < piece.len() {
+        match sink.write(&piece[at..]) {
+            Ok(count) => at += count,
+            Err(fault) => return Err(fault),
+        }
+    }
+    Ok(())
+}
+
+/// Writes the lines of an event, which has this number in its thread.
+fn write_answer<K: Sink>(
+    alloc: Global,
+    sink: &mut K,
+    number: ThreadNumber,
+    event: u32,
+    answer: &Answer,
+) -> Result<(), SinkFault>
+    requires { IsPrintable answer.now }
+    ensures ok { OnOk result (Gains (K.written sink.old) (K.written sink.new) (answer_text number.round number.thread event answer.now)) }
+    ensures err { OnErr result (GainsPart (K.written sink.old) (K.written sink.new) (answer_text number.round number.thread event answer.now)) }
+    ensures failed { result ≡ Err SinkFault.Failed → Rose (K.faults sink.old) (K.faults sink.new) }
+    ensures counted { K.faults sink.old ≤ K.faults sink.new }
+{
+    match print_answer(alloc, number.round, number.thread, event, answer) {
+        Ok(text) => write_piece(sink, &text),
+        Err(_) => Err(SinkFault::NoMemory),
+    }
+}
+
+/// Writes the answers of a thread.
+fn write_thread<K: Sink>(
+    alloc: Global,
+    sink: &mut K,
+    number: ThreadNumber,
+    answers: &[Answer],
+) -> Result<(), SinkFault>
+    requires printable { All IsPrintable answers.now }
+    requires few { length answers.now < 2 ^ 32 }
+    ensures ok { OnOk result (Gains (K.written sink.old) (K.written sink.new) (thread_text number.round number.thread answers.now)) }
+    ensures err { OnErr result (GainsPart (K.written sink.old) (K.written sink.new) (thread_text number.round number.thread answers.now)) }
+    ensures failed { result ≡ Err SinkFault.Failed → Rose (K.faults sink.old) (K.faults sink.new) }
+    ensures counted { K.faults sink.old ≤ K.faults sink.new }
+{
+    for (index, answer) in answers.iter().enumerate() {
+        match write_answer(alloc, sink, number, index as u32 + 1, answer) {
+            Ok(()) => {}
+            Err(fault) => return Err(fault),
+        }
+    }
+    Ok(())
+}
+
+/// Writes the answers of a round.
+fn write_round<K: Sink>(
+    alloc: Global,
+    sink: &mut K,
+    round: u32,
+    threads: &[Vec<Answer>],
+) -> Result<(), SinkFault>
+    requires printable { All (λ answers. All IsPrintable answers.items) threads.now }
+    requires few { (length threads.now < 2 ^ 32) × All (λ answers. length answers.items < 2 ^ 32) threads.now }
+    ensures ok { OnOk result (Gains (K.written sink.old) (K.written sink.new) (numbered (λ thread answers. thread_text round thread answers.items) 1 threads.now)) }
+    ensures err { OnErr result (GainsPart (K.written sink.old) (K.written sink.new) (numbered (λ thread answers. thread_text round thread answers.items) 1 threads.now)) }
+    ensures failed { result ≡ Err SinkFault.Failed → Rose (K.faults sink.old) (K.faults sink.new) }
+    ensures counted { K.faults sink.old ≤ K.faults sink.new }
+{
+    for (index, answers) in threads.iter().enumerate() {
+        let number = ThreadNumber {
+            round,
+            thread: index as u32 + 1,
+        };
+        match write_thread(alloc, sink, number, answers) {
+            Ok(()) => {}
+            Err(fault) => return Err(fault),
+        }
+    }
+    Ok(())
+}
+
+/// Writes the answers of all rounds.
+fn write_rounds<K: Sink>(
+    alloc: Global,
+    sink: &mut K,
+    rounds: &[Vec<Vec<Answer>>],
+) -> Result<(), SinkFault>
+    requires printable { All (λ threads. All (λ answers. All IsPrintable answers.items) threads.items) rounds.now }
+    requires few { (length rounds.now < 2 ^ 32) × All (λ threads. (length threads.items < 2 ^ 32) × All (λ answers. length answers.items < 2 ^ 32) threads.items) rounds.now }
+    ensures ok { OnOk result (Gains (K.written sink.old) (K.written sink.new) (numbered (λ round threads. numbered (λ thread answers. thread_text round thread answers.items) 1 threads.items) 1 rounds.now)) }
+    ensures err { OnErr result (GainsPart (K.written sink.old) (K.written sink.new) (numbered (λ round threads. numbered (λ thread answers. thread_text round thread answers.items) 1 threads.items) 1 rounds.now)) }
+    ensures failed { result ≡ Err SinkFault.Failed → Rose (K.faults sink.old) (K.faults sink.new) }
+    ensures counted { K.faults sink.old ≤ K.faults sink.new }
+{
+    for (index, threads) in rounds.iter().enumerate() {
+        match write_round(alloc, sink, index as u32 + 1, threads) {
+            Ok(()) => {}
+            Err(fault) => return Err(fault),
+        }
+    }
+    Ok(())
+}
+
+/// Writes a journal, and at its end the number of updates.
+pub fn write_journal<K: Sink>(alloc: Global, sink: &mut K, journal: &Journal) -> Result<(), SinkFault>
+    requires printable { All (All (All IsPrintable)) journal.now.rounds }
+    requires few { HasCounts journal.now.rounds }
+    ensures ok { OnOk result (Gains (K.written sink.old) (K.written sink.new) (journal_text journal.now)) }
+    ensures err { OnErr result (GainsPart (K.written sink.old) (K.written sink.new) (journal_text journal.now)) }
+    ensures failed { result ≡ Err SinkFault.Failed → Rose (K.faults sink.old) (K.faults sink.new) }
+{
+    match write_rounds(alloc, sink, &journal.rounds) {
+        Ok(()) => {}
+        Err(fault) => return Err(fault),
+    }
+    let last = match print_updates(alloc, journal.updates) {
+        Ok(last) => last,
+        Err(_) => return Err(SinkFault::NoMemory),
+    };
+    write_piece(sink, &last)
+}
