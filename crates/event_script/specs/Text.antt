@@ -39,11 +39,15 @@ loaded_text (Some found) = codes " loaded " ++ found_text found
 abbrev pub place_text : Place → List ℕ
 place_text place = codes "registered " ++ found_text place.registered ++ loaded_text place.loaded
 
--- what the lines of an event say behind its number
+-- what the line of an event says behind its number
+abbrev pub answer_line : Answer → List ℕ
+answer_line (Register image answer) = codes "register " ++ decimal image ++ codes " " ++ inserted_text answer
+answer_line (Deregister base answer) = codes "deregister " ++ hex base ++ codes " " ++ removed_text answer
+answer_line (Find pc place) = codes "find " ++ hex pc ++ codes " " ++ place_text place
+
+-- the lines of an event; there is one of each event that is built
 abbrev pub answer_lines : Answer → List (List ℕ)
-answer_lines (Register image answer) = (codes "register " ++ decimal image ++ codes " " ++ inserted_text answer) ∷ []
-answer_lines (Deregister base answer) = (codes "deregister " ++ hex base ++ codes " " ++ removed_text answer) ∷ []
-answer_lines (Find pc place) = (codes "find " ++ hex pc ++ codes " " ++ place_text place) ∷ []
+answer_lines answer = answer_line answer ∷ []
 
 -- an event's number: round, thread and event, each from 1
 abbrev pub event_number : ℕ → ℕ → ℕ → List ℕ

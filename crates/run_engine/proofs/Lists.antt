@@ -33,10 +33,6 @@ pub AllByRecursion-parts : {A : Type 0} (P : A → Type 0) (xs ys : List A) → 
 AllByRecursion-parts P [] ys all = (tt, all)
 AllByRecursion-parts P (x ∷ xs) ys all = (let parts = AllByRecursion-parts P xs ys all.1 in ((all.0, parts.0), parts.1))
 
-pub All-unmap : {A B : Type 0} (P : B → Type 0) (f : A → B) (xs : List A) → All P (map f xs) → All (λ x. P (f x)) xs
-All-unmap P f [] all = λ k d within. absurd (omega arith)
-All-unmap P f (x ∷ xs) all = All-cons (λ y. P (f y)) x xs (All-head P (f x) (map f xs) all) (All-unmap P f xs (All-tail P (f x) (map f xs) all))
-
 pub AllZip-length : {A B : Type 0} (R : A → B → Type 0) (xs : List A) (ys : List B) → AllZip R xs ys → length xs ≡ length ys
 AllZip-length R [] [] all = refl
 AllZip-length R (x ∷ xs) (y ∷ ys) all = (let rest = AllZip-length R xs ys all.1 in omega arith)

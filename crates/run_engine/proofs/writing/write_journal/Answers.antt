@@ -2,7 +2,9 @@ use Rattle.std.proofs.Common.{◌≡◌, ◌++◌, List, ℕ, Result, OnOk, OnEr
 use Rattle.std.proofs.lemmas.Result.{on_ok_weaker, on_err_weaker}
 use Rattle.event_script.specs.Text.{updates_text}
 use Rattle.run_engine.specs.Ports.{Gains, GainsPart}
-use Rattle.run_engine.proofs.JournalTexts.{rounds_text_is, printable_is, counts_is}
+use Rattle.event_script.proofs.Numbered.{rounds_text_is}
+use Rattle.event_script.proofs.Answered.{printable_is}
+use Rattle.run_engine.proofs.JournalTexts.{counts_is}
 use Rattle.run_engine.proofs.Pieces.{Gains-more, GainsPart-more, GainsPart-wider, GainsPart-all}
 use Rattle.run_engine.proofs.writing.write_journal.Goals as goal
 
