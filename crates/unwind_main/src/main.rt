@@ -1,0 +1,32 @@
+//! The program: standard input, standard output and the words of the command line, handed to the engine.
+#![tactic(auto)]
+
+mod standard;
+
+use run_engine::{NoGate, Status, run};
+use standard::{StandardInput, StandardOutput};
+use std::env;
+use std::io::ErrorKind;
+use std::process::ExitCode;
+
+fn main(rt: HostRuntime) -> ExitCode {
+    let mut words = Vec::new(rt.alloc());
+    match env::args(&rt) {
+        Ok(args) => {
+            for word in args.skip(1) {
+                if words.push(word).is_err() {
+                    return ExitCode::from(Status::NoMemory.code());
+                }
+            }
+        }
+        Err(error) if error.kind() == ErrorKind::OutOfMemory => {
+            return ExitCode::from(Status::NoMemory.code());
+        }
+        // Words that are not text are no words that are taken.
+        Err(_) => {}
+    }
+    let mut source = StandardInput::new(rt.reader());
+    let mut sink = StandardOutput::new(&rt);
+    let status = run(&rt, rt.alloc(), &words, &mut source, &mut sink, &NoGate);
+    ExitCode::from(status.code())
+}
