@@ -1,0 +1,7 @@
+pub mod Pieces
+pub mod Numbers
+pub mod Lines
+pub mod Joined
+pub mod Steps
+pub mod Sound
+pub mod Complete
