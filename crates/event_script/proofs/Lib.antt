@@ -1,3 +1,10 @@
 pub mod Texts
 pub mod Numbered
 pub mod Answered
+pub mod Pieces
+pub mod Numbers
+pub mod Lines
+pub mod Joined
+pub mod Steps
+pub mod Sound
+pub mod Complete

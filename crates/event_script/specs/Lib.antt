@@ -1,5 +1,7 @@
 pub mod ScriptData
 pub mod Spelling
+pub mod Fields
+pub mod Reading
 pub mod JournalData
 pub mod Lawful
 pub mod Text

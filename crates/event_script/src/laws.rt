@@ -1,1 +1,11 @@
 //! Laws of the definitions. Each is the contract of a function that does nothing.
+
+ghost use Rattle.std.specs.Prelude.{◌≡◌, ℕ, List};
+ghost use Rattle.event_script.specs.ScriptData.{ScriptData};
+ghost use Rattle.event_script.specs.Spelling.{IsScript};
+
+/// Bytes spell one script at the most.
+pub fn bytes_spell_one_script()
+    ensures { (bytes : List ℕ) (s t : ScriptData) → IsScript bytes s → IsScript bytes t → s ≡ t }
+{
+}

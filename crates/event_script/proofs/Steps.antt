@@ -1,0 +1,127 @@
+-- What a good line says: its fields, and what it adds.
+use Rattle.std.proofs.Common.{◌≡◌, ℕ, ◌+◌, ◌-◌, ◌^◌, ◌<◌, ◌≤◌, Bool, true, false, cond, ◌&&◌, eqb, ltb, leb, List, [], ◌∷◌, ◌++◌, length, Option, Some, None, Result, Ok, Err, refl, sym, ap, ap₂, subst, ◌∙◌, eqb-true, ltb-true, leb-true, arith}
+use Rattle.std.specs.Prelude.{codes}
+use Rattle.std.specs.List.{find}
+use Rattle.std.specs.Option.{ok_or}
+use Rattle.std.specs.Str.{bytes_eq}
+use Rattle.std.specs.Fmt.{decimal}
+use Rattle.std.proofs.lemmas.Bool.{and_parts}
+use Rattle.std.proofs.lemmas.Slice.Eq.{bytes_eq-Decides}
+use Rattle.event_script.specs.declared.reader.fault.Reason.{Reason}
+use Rattle.event_script.specs.declared.reader.fault.Reason.TheVariants as reason
+use Rattle.event_script.specs.declared.reader.kinds.Kind.{Kind}
+use Rattle.event_script.specs.declared.reader.images.ImageFields.{ImageFields}
+use Rattle.event_script.specs.Spelling.{Line, hex}
+use Rattle.event_script.specs.Fields.{decimal_in, hex_in}
+use Rattle.event_script.specs.Reading.{◌>>=◌, Known, only, five, has_any, one_decimal, one_hex, image_fields, kind_of, kinds, word_of}
+use Rattle.event_script.proofs.Numbers.{number_is}
+
+pub bind_ok : {A B : Type 0} (r : Result A Reason) (f : A → Result B Reason) (y : B) → (r >>= f) ≡ Ok y → (x : A) × (r ≡ Ok x) × (f x ≡ Ok y)
+bind_ok (Ok x) f y e = (x, refl, e)
+bind_ok (Err d) f y e = absurd cc
+
+-- tests that did not fail
+pub guard_last : {A : Type 0} (b : Bool) (d : Reason) (x y : A) → cond b (Ok x) (Err d) ≡ Ok y → (b ≡ true) × (x ≡ y)
+guard_last true d x y e = (refl, cc)
+guard_last false d x y e = absurd cc
+
+pub guard_then : {A : Type 0} (b : Bool) (d : Reason) (r : Result A Reason) (y : A) → cond b r (Err d) ≡ Ok y → (b ≡ true) × (r ≡ Ok y)
+guard_then true d r y e = (refl, e)
+guard_then false d r y e = absurd cc
+
+pub guard_else : {A : Type 0} (b : Bool) (d : Reason) (r : Result A Reason) (y : A) → cond b (Err d) r ≡ Ok y → (b ≡ false) × (r ≡ Ok y)
+guard_else true d r y e = absurd cc
+guard_else false d r y e = (refl, e)
+
+abbrev done : {A : Type 0} → A → Result A Reason
+done x = Ok x
+
+pub ok_is : {A : Type 0} (x y : A) → done x ≡ done y → x ≡ y
+ok_is x y e = cc
+
+some_from : {A : Type 0} (o : Option A) (d : Reason) (x : A) → ok_or o d ≡ Ok x → o ≡ Some x
+some_from None d x e = absurd cc
+some_from (Some y) d x e = ap Some (ok_is y x e)
+
+only_is : (fields : Line) (field : List ℕ) → only fields ≡ Some field → fields ≡ field ∷ []
+only_is [] field e = absurd cc
+only_is (first ∷ []) field e = let same : first ≡ field = cc in ap (λ (x : List ℕ). x ∷ []) same
+only_is (first ∷ next ∷ fields) field e = absurd cc
+
+pub no_fields : (fields : Line) → has_any fields ≡ false → fields ≡ []
+no_fields [] e = refl
+no_fields (field ∷ fields) e = absurd cc
+
+pub decimal_is : (field : List ℕ) (n : ℕ) → decimal_in field ≡ Some n → (n < 2 ^ 32) × (field ≡ decimal n)
+decimal_is field n e = number_is 10 (2 ^ 32) n field e
+
+pub hex_is : (field : List ℕ) (n : ℕ) → hex_in field ≡ Some n → (n < 2 ^ 64) × (field ≡ hex n)
+hex_is field n e = number_is 16 (2 ^ 64) n field e
+
+pub one_decimal_is : (fields : Line) (n : ℕ) → one_decimal fields ≡ Ok n → (n < 2 ^ 32) × (fields ≡ decimal n ∷ [])
+one_decimal_is fields n e =
+    let a = bind_ok (ok_or (only fields) reason.Fields) (λ field. ok_or (decimal_in field) reason.Spelling) n e in
+    let d = decimal_is a.0 n (some_from (decimal_in a.0) reason.Spelling n a.2) in
+    (d.0, only_is fields a.0 (some_from (only fields) reason.Fields a.0 a.1) ∙ ap (λ (x : List ℕ). x ∷ []) d.1)
+
+pub one_hex_is : (fields : Line) (n : ℕ) → one_hex fields ≡ Ok n → (n < 2 ^ 64) × (fields ≡ hex n ∷ [])
+one_hex_is fields n e =
+    let a = bind_ok (ok_or (only fields) reason.Fields) (λ field. ok_or (hex_in field) reason.Spelling) n e in
+    let d = hex_is a.0 n (some_from (hex_in a.0) reason.Spelling n a.2) in
+    (d.0, only_is fields a.0 (some_from (only fields) reason.Fields a.0 a.1) ∙ ap (λ (x : List ℕ). x ∷ []) d.1)
+
+five_is : (fields : Line) (f : List ℕ × List ℕ × List ℕ × List ℕ × List ℕ) → five fields ≡ Some f → fields ≡ f.0 ∷ f.1 ∷ f.2 ∷ f.3 ∷ f.4 ∷ []
+five_is [] f e = absurd cc
+five_is (a ∷ []) f e = absurd cc
+five_is (a ∷ b ∷ []) f e = absurd cc
+five_is (a ∷ b ∷ c ∷ []) f e = absurd cc
+five_is (a ∷ b ∷ c ∷ d ∷ []) f e = absurd cc
+five_is (a ∷ b ∷ c ∷ d ∷ x ∷ []) f e =
+    let same : (a, b, c, d, x) ≡ f = cc in
+    ap (λ (g : List ℕ × List ℕ × List ℕ × List ℕ × List ℕ). g.0 ∷ g.1 ∷ g.2 ∷ g.3 ∷ g.4 ∷ []) same
+five_is (a ∷ b ∷ c ∷ d ∷ x ∷ y ∷ fields) f e = absurd cc
+
+five_same : (fields : Line) (a b c d e f g h i j : List ℕ) → fields ≡ a ∷ b ∷ c ∷ d ∷ e ∷ [] → a ≡ f → b ≡ g → c ≡ h → d ≡ i → e ≡ j → fields ≡ f ∷ g ∷ h ∷ i ∷ j ∷ []
+five_same fields a b c d e f g h i j is p q r s t = cc
+
+-- an image's fields are spelled so
+pub record AreImageFields (fields : Line) (image : ImageFields) : Type 0 where
+  pub is : fields ≡ decimal image.number ∷ hex image.base ∷ hex image.size ∷ hex image.section ∷ codes "-" ∷ []
+  pub number : image.number < 2 ^ 32
+  pub base : image.base < 2 ^ 64
+  pub size : image.size < 2 ^ 64
+  pub section : image.section < 2 ^ 64
+
+same_image : (fields : Line) (x y : ImageFields) → AreImageFields fields x → x ≡ y → AreImageFields fields y
+same_image fields x y are e = subst (AreImageFields fields) e are
+
+pub image_fields_are : (fields : Line) (image : ImageFields) → image_fields fields ≡ Ok image → AreImageFields fields image
+image_fields_are fields image e =
+    let f = bind_ok (ok_or (five fields) reason.Fields) _ image e in
+    let n = bind_ok (ok_or (decimal_in f.0.0) reason.Spelling) _ image f.2 in
+    let b = bind_ok (ok_or (hex_in f.0.1) reason.Spelling) _ image n.2 in
+    let s = bind_ok (ok_or (hex_in f.0.2) reason.Spelling) _ image b.2 in
+    let a = bind_ok (ok_or (hex_in f.0.3) reason.Spelling) _ image s.2 in
+    let g = guard_last (bytes_eq f.0.4 (codes "-")) reason.Spelling (record { number = n.0; base = b.0; size = s.0; section = a.0 }) image a.2 in
+    let number = decimal_is f.0.0 n.0 (some_from (decimal_in f.0.0) reason.Spelling n.0 n.1) in
+    let base = hex_is f.0.1 b.0 (some_from (hex_in f.0.1) reason.Spelling b.0 b.1) in
+    let size = hex_is f.0.2 s.0 (some_from (hex_in f.0.2) reason.Spelling s.0 s.1) in
+    let section = hex_is f.0.3 a.0 (some_from (hex_in f.0.3) reason.Spelling a.0 a.1) in
+    let dash : f.0.4 ≡ codes "-" = (bytes_eq-Decides f.0.4 (codes "-")).0 g.0 in
+    let parts = five_is fields f.0 (some_from (five fields) reason.Fields f.0 f.1) in
+    same_image fields (record { number = n.0; base = b.0; size = s.0; section = a.0 }) image
+      (record { is = five_same fields _ _ _ _ _ _ _ _ _ _ parts number.1 base.1 size.1 section.1 dash; number = number.0; base = base.0; size = size.0; section = section.0 }) g.1
+
+-- ---- the kind of a line
+
+found_word : (word : List ℕ) (all : List Kind) (k : Kind) → find (λ x. bytes_eq word (word_of x)) all ≡ Some k → word ≡ word_of k
+found_word word [] k e = absurd cc
+found_word word (first ∷ all) k e = by (bytes_eq word (word_of first)) refl e (found_word word all k)
+  where
+    by : (t : Bool) → bytes_eq word (word_of first) ≡ t → cond t (Some first) (find (λ x. bytes_eq word (word_of x)) all) ≡ Some k → (find (λ x. bytes_eq word (word_of x)) all ≡ Some k → word ≡ word_of k) → word ≡ word_of k
+    by true same e later = let first_is : first ≡ k = cc in (bytes_eq-Decides word (word_of first)).0 same ∙ ap word_of first_is
+    by false same e later = later e
+
+pub kind_word : (word : List ℕ) (k : Kind) → ok_or (kind_of word) reason.Word ≡ Ok k → word ≡ word_of k
+unfolding kind_of
+kind_word word k e = found_word word kinds k (some_from (kind_of word) reason.Word k e)

@@ -1,0 +1,16 @@
+use Rattle.std.proofs.Common.{ℕ, length, ◌≡◌, ◌≢◌, ◌<◌, ◌≤◌, get_or}
+use Rattle.event_script.specs.Fields.{pieces}
+use Rattle.event_script.specs.Reading.{outcome, after_lines}
+use Rattle.event_script.proofs.reader.known_of.Given as goal
+
+-- what is left is read as all of it is; the next line ends at end
+abbrev pub invariant-loop-end : goal.invariant-loop-end
+invariant-loop-end l = record {
+  so_far : after_lines l.draft (pieces 10 l.rest) ≡ outcome l.fn.bytes;
+  within : l.end ≤ length l.rest;
+  before : (k : ℕ) → k < l.end → get_or l.rest k 0 ≢ 10;
+  found : l.end < length l.rest → get_or l.rest l.end 0 ≡ 10;
+}
+
+abbrev pub decreases-loop-end : goal.decreases-loop-end
+decreases-loop-end l = length l.rest

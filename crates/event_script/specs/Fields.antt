@@ -1,0 +1,41 @@
+-- Texts in pieces: the lines of a text, the fields of a line.
+use Rattle.std.specs.Prelude.{ℕ, ◌^◌, List, [], ◌∷◌, Bool, false, ◌&&◌, ◌==◌, nat_lt, nat_le, Option, Some, None, if◌then◌else◌}
+use Rattle.std.specs.List.{list_all}
+use Rattle.std.specs.Str.{bytes_eq}
+use Rattle.std.specs.Str.Parse.{digits_value}
+use Rattle.std.specs.Fmt.{digits}
+
+abbrev pub with_first : ℕ → List (List ℕ) → List (List ℕ)
+with_first b [] = (b ∷ []) ∷ []
+with_first b (piece ∷ others) = (b ∷ piece) ∷ others
+
+-- What stands between the separators: one piece more than there are separators. Of a text in lines the last piece is
+-- what follows the last line.
+abbrev pub pieces : ℕ → List ℕ → List (List ℕ)
+pieces separator [] = [] ∷ []
+pieces separator (b ∷ bytes) = if b == separator then [] ∷ pieces separator bytes else with_first b (pieces separator bytes)
+
+-- the pieces that follow another, if any; what is left begins with the separator before them
+abbrev pub pieces_behind : ℕ → List ℕ → List (List ℕ)
+pieces_behind separator [] = []
+pieces_behind separator (b ∷ bytes) = pieces separator bytes
+
+-- the fields that follow another, with a space (32) before each
+abbrev pub fields_behind : List ℕ → List (List ℕ)
+fields_behind rest = pieces_behind 32 rest
+
+-- no byte but those from the space to the tilde
+abbrev pub is_printable : List ℕ → Bool
+is_printable line = list_all (λ b. nat_le 32 b && nat_le b 126) line
+
+-- the number below the limit whose digits, lower case and without leading zeros, the field is
+unfoldable pub number_in : ℕ → ℕ → List ℕ → Option ℕ
+number_in base limit field = let n = digits_value base field in if nat_lt n limit && bytes_eq field (digits base false n) then Some n else None
+
+-- a decimal number below 2^32
+abbrev pub decimal_in : List ℕ → Option ℕ
+decimal_in field = number_in 10 (2 ^ 32) field
+
+-- a hexadecimal number below 2^64
+abbrev pub hex_in : List ℕ → Option ℕ
+hex_in field = number_in 16 (2 ^ 64) field

@@ -1,0 +1,272 @@
+-- Which scripts are read: each line is good or bad in what the lines before it make known.
+use Rattle.std.specs.Prelude.{◌≡◌, ℕ, ◌+◌, ◌-◌, ◌^◌, List, [], ◌∷◌, ◌++◌, length, Bool, true, false, ◌&&◌, ◌==◌, nat_lt, nat_le, Option, Some, None, Result, Ok, Err, codes, if◌then◌else◌}
+use Rattle.std.specs.List.{find}
+use Rattle.std.specs.Option.{ok_or}
+use Rattle.std.specs.Str.{bytes_eq}
+use Rattle.reg_model.specs.Interval.{Interval}
+use Rattle.event_script.specs.ScriptData.{ScriptData}
+use Rattle.event_script.specs.Fields.{pieces, is_printable, decimal_in, hex_in}
+use Rattle.event_script.specs.declared.script.Event.{Event}
+use Rattle.event_script.specs.declared.script.Event.TheVariants as event
+use Rattle.event_script.specs.declared.reader.fault.Reason.{Reason}
+use Rattle.event_script.specs.declared.reader.fault.Reason.TheVariants as reason
+use Rattle.event_script.specs.declared.reader.fault.LineFault.{LineFault}
+use Rattle.event_script.specs.declared.reader.fault.LineFault.TheVariants as fault
+use Rattle.event_script.specs.declared.reader.kinds.Stage.{Stage}
+use Rattle.event_script.specs.declared.reader.kinds.Stage.TheVariants as stage
+use Rattle.event_script.specs.declared.reader.kinds.Kind.{Kind}
+use Rattle.event_script.specs.declared.reader.kinds.Kind.TheVariants as kind
+use Rattle.event_script.specs.declared.reader.images.ImageFields.{ImageFields}
+
+infixl 10 ◌>>=◌
+abbrev pub ◌>>=◌ : {A B : Type 0} → Result A Reason → (A → Result B Reason) → Result B Reason
+(Ok x) >>= f = f x
+(Err e) >>= f = Err e
+
+-- What a reader returned is what the lines give, unless memory ran out.
+abbrev pub Fails : {A : Type 0} → LineFault → Result A Reason → Type 0
+Fails fault.NoMemory given = Unit {0}
+Fails (fault.Bad reason) given = given ≡ Err reason
+
+abbrev pub Gives : {A : Type 0} → Result A LineFault → Result A Reason → Type 0
+Gives (Ok x) given = given ≡ Ok x
+Gives (Err e) given = Fails e given
+
+-- ---- kinds of lines
+
+-- the word that a line of the kind begins with
+abbrev pub word_of : Kind → List ℕ
+word_of kind.Version = codes "frames"
+word_of kind.Nodes = codes "nodes"
+word_of kind.Loads = codes "loads"
+word_of kind.Image = codes "image"
+word_of kind.Fixed = codes "fixed"
+word_of kind.Snapshot = codes "snapshot"
+word_of kind.Round = codes "round"
+word_of kind.Thread = codes "thread"
+word_of kind.Register = codes "register"
+word_of kind.Deregister = codes "deregister"
+word_of kind.Load = codes "load"
+word_of kind.Unload = codes "unload"
+word_of kind.Find = codes "find"
+word_of kind.Unwind = codes "unwind"
+word_of kind.End = codes "end"
+
+abbrev pub kinds : List Kind
+kinds = kind.Find ∷ kind.Register ∷ kind.Deregister ∷ kind.Load ∷ kind.Unload ∷ kind.Unwind ∷ kind.Thread ∷ kind.Round ∷ kind.Image ∷ kind.Fixed ∷ kind.Snapshot ∷ kind.Version ∷ kind.Nodes ∷ kind.Loads ∷ kind.End ∷ []
+
+unfoldable pub kind_of : List ℕ → Option Kind
+kind_of word = find (λ kind. bytes_eq word (word_of kind)) kinds
+
+-- which lines may come next
+abbrev pub may_come : Stage → Kind → Bool
+may_come stage.Version kind.Version = true
+may_come stage.Nodes kind.Nodes = true
+may_come stage.Loads kind.Loads = true
+may_come stage.Images kind.Image = true
+may_come stage.Images kind.Fixed = true
+may_come stage.Images kind.Snapshot = true
+may_come stage.Images kind.Round = true
+may_come stage.Images kind.End = true
+may_come stage.Round kind.Round = true
+may_come stage.Round kind.Thread = true
+may_come stage.Round kind.End = true
+may_come stage.Thread kind.Round = true
+may_come stage.Thread kind.Thread = true
+may_come stage.Thread kind.End = true
+may_come stage.Thread kind.Register = true
+may_come stage.Thread kind.Deregister = true
+may_come stage.Thread kind.Load = true
+may_come stage.Thread kind.Unload = true
+may_come stage.Thread kind.Find = true
+may_come stage.Thread kind.Unwind = true
+may_come _ _ = false
+
+-- Lines that can't be run today: those of fixed images, of the loader and of backtraces, a second round, a second thread.
+abbrev pub is_unbuilt : Stage → Kind → Bool
+is_unbuilt _ kind.Fixed = true
+is_unbuilt _ kind.Snapshot = true
+is_unbuilt _ kind.Load = true
+is_unbuilt _ kind.Unload = true
+is_unbuilt _ kind.Unwind = true
+is_unbuilt stage.Round kind.Round = true
+is_unbuilt stage.Thread kind.Round = true
+is_unbuilt stage.Thread kind.Thread = true
+is_unbuilt _ _ = false
+
+-- ---- what is known
+
+-- What the lines so far make known: which lines may come, the numbers, the images, the rounds that are over, the threads that
+-- are over of the round that goes on, and the events of the thread that goes on.
+pub record Known : Type 0 where
+  pub stage : Stage
+  pub nodes : ℕ
+  pub loads : ℕ
+  pub images : List Interval
+  pub rounds : List (List (List Event))
+  pub threads : List (List Event)
+  pub events : List Event
+
+-- before the first line
+abbrev pub nothing_known : Known
+nothing_known = record { stage = stage.Version; nodes = 0; loads = 0; images = []; rounds = []; threads = []; events = [] }
+
+-- the threads of the round, with the one that goes on
+abbrev pub threads_at : Stage → List (List Event) → List Event → List (List Event)
+threads_at stage.Thread threads events = threads ++ events ∷ []
+threads_at _ threads events = threads
+
+-- the rounds, with the one that goes on
+abbrev pub rounds_at : Stage → List (List (List Event)) → List (List Event) → List Event → List (List (List Event))
+rounds_at stage.Round rounds threads events = rounds ++ threads ∷ []
+rounds_at stage.Thread rounds threads events = rounds ++ (threads ++ events ∷ []) ∷ []
+rounds_at _ rounds threads events = rounds
+
+-- ---- the fields of a line
+
+abbrev pub has_any : List (List ℕ) → Bool
+has_any [] = false
+has_any (field ∷ fields) = true
+
+abbrev pub only : List (List ℕ) → Option (List ℕ)
+only (field ∷ []) = Some field
+only _ = None
+
+abbrev pub one_decimal : List (List ℕ) → Result ℕ Reason
+one_decimal fields = do
+  field ← ok_or (only fields) reason.Fields
+  ok_or (decimal_in field) reason.Spelling
+
+abbrev pub one_hex : List (List ℕ) → Result ℕ Reason
+one_hex fields = do
+  field ← ok_or (only fields) reason.Fields
+  ok_or (hex_in field) reason.Spelling
+
+-- ---- what is known after a line of each kind, or why it is bad
+
+abbrev pub version_line : Known → List (List ℕ) → Result Known Reason
+version_line known fields = do
+  version ← one_decimal fields
+  if version == 1 then Ok (record known { stage = stage.Nodes }) else Err reason.Limit
+
+abbrev pub nodes_line : Known → List (List ℕ) → Result Known Reason
+nodes_line known fields = do
+  nodes ← one_decimal fields
+  if nat_le 4 nodes && nat_le nodes 16384 then Ok (record known { stage = stage.Loads; nodes = nodes }) else Err reason.Limit
+
+abbrev pub loads_line : Known → List (List ℕ) → Result Known Reason
+loads_line known fields = do
+  loads ← one_decimal fields
+  if nat_le 1 loads && nat_le loads 1024 then Ok (record known { stage = stage.Images; loads = loads }) else Err reason.Limit
+
+abbrev pub five : List (List ℕ) → Option (List ℕ × List ℕ × List ℕ × List ℕ × List ℕ)
+five (number ∷ base ∷ size ∷ section ∷ bytes ∷ []) = Some (number, base, size, section, bytes)
+five _ = None
+
+-- the fields of an image; its section's bytes are none, a dash
+abbrev pub image_fields : List (List ℕ) → Result ImageFields Reason
+image_fields fields = do
+  image ← ok_or (five fields) reason.Fields
+  number ← ok_or (decimal_in image.0) reason.Spelling
+  base ← ok_or (hex_in image.1) reason.Spelling
+  size ← ok_or (hex_in image.2) reason.Spelling
+  section ← ok_or (hex_in image.3) reason.Spelling
+  if bytes_eq image.4 (codes "-") then Ok (record { number = number; base = base; size = size; section = section }) else Err reason.Spelling
+
+abbrev pub image_line_of : Known → ImageFields → Result Known Reason
+image_line_of known image =
+    if image.number == length known.images then
+    (if nat_lt (length known.images) 4096 then
+    (if nat_lt 0 image.size && nat_le (image.base + image.size) (2 ^ 64 - 1) then
+    Ok (record known { images = known.images ++ record { first = image.base; last = image.base + image.size - 1 } ∷ [] })
+    else Err reason.Span)
+    else Err reason.Limit)
+    else Err reason.Order
+
+abbrev pub image_line : Known → List (List ℕ) → Result Known Reason
+image_line known fields = image_fields fields >>= λ image. image_line_of known image
+
+abbrev pub round_line : Known → List (List ℕ) → Result Known Reason
+round_line known fields =
+    let rounds = rounds_at known.stage known.rounds known.threads known.events in
+    if has_any fields then Err reason.Fields
+    else (if nat_lt (length rounds) 64 then Ok (record known { stage = stage.Round; rounds = rounds; threads = []; events = [] }) else Err reason.Limit)
+
+abbrev pub thread_line : Known → List (List ℕ) → Result Known Reason
+thread_line known fields =
+    let threads = threads_at known.stage known.threads known.events in
+    if has_any fields then Err reason.Fields
+    else (if nat_lt (length threads) 16 then Ok (record known { stage = stage.Thread; threads = threads; events = [] }) else Err reason.Limit)
+
+-- one more event, of which a thread has at most 4,096
+abbrev pub with_event : Known → Event → Known
+with_event known event = record known { events = known.events ++ event ∷ [] }
+
+abbrev pub register_line : Known → List (List ℕ) → Result Known Reason
+register_line known fields = do
+  image ← one_decimal fields
+  if nat_lt (length known.events) 4096 then (if nat_lt image (length known.images) then Ok (with_event known (event.Register image)) else Err reason.Name) else Err reason.Limit
+
+abbrev pub deregister_line : Known → List (List ℕ) → Result Known Reason
+deregister_line known fields = do
+  base ← one_hex fields
+  if nat_lt (length known.events) 4096 then Ok (with_event known (event.Deregister base)) else Err reason.Limit
+
+abbrev pub find_line : Known → List (List ℕ) → Result Known Reason
+find_line known fields = do
+  pc ← one_hex fields
+  if nat_lt (length known.events) 4096 then Ok (with_event known (event.Find pc)) else Err reason.Limit
+
+abbrev pub end_line : Known → List (List ℕ) → Result Known Reason
+end_line known fields =
+    if has_any fields then Err reason.Fields
+    else Ok (record known { stage = stage.Ended; rounds = rounds_at known.stage known.rounds known.threads known.events; threads = []; events = [] })
+
+-- ---- lines
+
+unfoldable pub line_of : Known → Kind → List (List ℕ) → Result Known Reason
+line_of known kind.Version fields = version_line known fields
+line_of known kind.Nodes fields = nodes_line known fields
+line_of known kind.Loads fields = loads_line known fields
+line_of known kind.Image fields = image_line known fields
+line_of known kind.Round fields = round_line known fields
+line_of known kind.Thread fields = thread_line known fields
+line_of known kind.Register fields = register_line known fields
+line_of known kind.Deregister fields = deregister_line known fields
+line_of known kind.Find fields = find_line known fields
+line_of known kind.End fields = end_line known fields
+line_of known _ fields = Err reason.Unbuilt
+
+unfoldable pub by_word : Known → List (List ℕ) → Result Known Reason
+by_word known [] = Err reason.Word
+by_word known (word ∷ fields) = do
+  kind ← ok_or (kind_of word) reason.Word
+  if may_come known.stage kind then (if is_unbuilt known.stage kind then Err reason.Unbuilt else line_of known kind fields) else Err reason.Word
+
+abbrev pub is_ended : Stage → Bool
+is_ended stage.Ended = true
+is_ended _ = false
+
+-- what is known after a line, which stands here without its line feed
+unfoldable pub after_line : Known → List ℕ → Result Known Reason
+after_line known line =
+    if is_ended known.stage then Err reason.After
+    else (if is_printable line then by_word known (pieces 32 line) else Err reason.Byte)
+
+abbrev pub script_of : Known → ScriptData
+script_of known = record { nodes = known.nodes; loads = known.loads; images = known.images; rounds = known.rounds }
+
+-- where no line feed comes any more
+unfoldable pub at_end : Known → List ℕ → Result Known Reason
+at_end known [] = if is_ended known.stage then Ok known else Err reason.Missing
+at_end known (b ∷ bytes) = if is_ended known.stage then Err reason.After else Err reason.Unended
+
+-- what is known in the end, or the reason of the first bad line
+unfoldable pub after_lines : Known → List (List ℕ) → Result Known Reason
+after_lines known [] = at_end known []
+after_lines known (rest ∷ []) = at_end known rest
+after_lines known (line ∷ next ∷ others) = after_line known line >>= λ after. after_lines after (next ∷ others)
+
+-- the script that the bytes are, or the reason why they are none
+abbrev pub outcome : List ℕ → Result Known Reason
+outcome bytes = after_lines nothing_known (pieces 10 bytes)

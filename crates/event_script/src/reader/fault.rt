@@ -1,0 +1,66 @@
+//! Why bytes are no script.
+
+ghost use Rattle.std.specs.Prelude.{◌≡◌};
+ghost use Rattle.event_script.specs.declared.reader.fault.LineFault.TheVariants.{Bad, NoMemory};
+
+use std::alloc::AllocFailed;
+
+/// Why a line is bad: the first of these reasons that holds.
+#[derive(Clone, Copy, Debug, PartialEq, Eq)]
+pub enum Reason {
+    /// The input ends where a line must come.
+    Missing,
+    /// Bytes come after the `end` line.
+    After,
+    /// The line has no line feed.
+    Unended,
+    /// A byte that is no printable ASCII character stands in it.
+    Byte,
+    /// Its first field can't start a line here.
+    Word,
+    /// Its form can't be run yet.
+    Unbuilt,
+    /// The number of fields is wrong.
+    Fields,
+    /// A field isn't spelled as its kind.
+    Spelling,
+    /// The image's number isn't the next.
+    Order,
+    /// A number, or a count with this line, is outside its limit.
+    Limit,
+    /// The size is 0, or the span reaches past the greatest address.
+    Span,
+    /// It names an image that the script hasn't.
+    Name,
+}
+
+/// Why reading ends before the bytes do.
+#[derive(Clone, Copy, Debug, PartialEq, Eq)]
+pub enum LineFault {
+    Bad { reason: Reason },
+    NoMemory,
+}
+
+impl From<Reason> for LineFault {
+    ghost from_gives = { λ reason fault. fault ≡ Bad reason };
+
+    fn from(reason: Reason) -> LineFault {
+        LineFault::Bad { reason }
+    }
+}
+
+impl From<reg_model::NoMemory> for LineFault {
+    ghost from_gives = { λ _ fault. fault ≡ NoMemory };
+
+    fn from(_error: reg_model::NoMemory) -> LineFault {
+        LineFault::NoMemory
+    }
+}
+
+impl<T: Drop> From<AllocFailed<T>> for LineFault {
+    ghost from_gives = { λ _ fault. fault ≡ NoMemory };
+
+    fn from(_error: AllocFailed<T>) -> LineFault {
+        LineFault::NoMemory
+    }
+}

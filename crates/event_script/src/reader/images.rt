@@ -1,0 +1,55 @@
+//! The fields of lines that have numbers.
+
+ghost use Rattle.std.specs.Prelude.{◌≡◌};
+ghost use Rattle.event_script.specs.Fields.{fields_behind};
+ghost use Rattle.event_script.specs.Reading.{one_decimal, one_hex, image_fields};
+
+use crate::reader::fault::Reason;
+use crate::reader::fields::{five_fields, only_field};
+use crate::reader::numbers::{decimal_in, hex_in};
+
+/// The fields of an image whose section is empty.
+#[derive(Clone, Copy, Debug, PartialEq, Eq)]
+pub struct ImageFields {
+    pub number: u32,
+    pub base: u64,
+    pub size: u64,
+    /// The address of the section.
+    pub section: u64,
+}
+
+/// The one field that follows, a decimal number.
+pub fn one_decimal(rest: &[u8]) -> Result<u32, Reason>
+    ensures { result ≡ one_decimal (fields_behind rest.now) }
+{
+    let field = only_field(rest).ok_or(Reason::Fields)?;
+    decimal_in(field).ok_or(Reason::Spelling)
+}
+
+/// The one field that follows, a hexadecimal number.
+pub fn one_hex(rest: &[u8]) -> Result<u64, Reason>
+    ensures { result ≡ one_hex (fields_behind rest.now) }
+{
+    let field = only_field(rest).ok_or(Reason::Fields)?;
+    hex_in(field).ok_or(Reason::Spelling)
+}
+
+/// The fields of an image.
+pub fn image_fields(rest: &[u8]) -> Result<ImageFields, Reason>
+    ensures { result ≡ image_fields (fields_behind rest.now) }
+{
+    let (number, base, size, section, bytes) = five_fields(rest).ok_or(Reason::Fields)?;
+    let number = decimal_in(number).ok_or(Reason::Spelling)?;
+    let base = hex_in(base).ok_or(Reason::Spelling)?;
+    let size = hex_in(size).ok_or(Reason::Spelling)?;
+    let section = hex_in(section).ok_or(Reason::Spelling)?;
+    if bytes != b"-".as_slice() {
+        return Err(Reason::Spelling);
+    }
+    Ok(ImageFields {
+        number,
+        base,
+        size,
+        section,
+    })
+}

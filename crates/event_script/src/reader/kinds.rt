@@ -1,0 +1,119 @@
+//! The kinds of lines, and which may come when.
+
+ghost use Rattle.std.specs.Prelude.{◌≡◌};
+ghost use Rattle.event_script.specs.Reading.{kind_of, may_come, is_unbuilt};
+
+/// How far a script has come: which lines may come next.
+#[derive(Clone, Copy, Debug, PartialEq, Eq)]
+pub enum Stage {
+    /// The first line.
+    Version,
+    Nodes,
+    Loads,
+    /// Images, and then rounds.
+    Images,
+    /// A round has begun, and no thread in it.
+    Round,
+    /// A thread has begun.
+    Thread,
+    /// After the `end` line.
+    Ended,
+}
+
+/// What a line says, by its first word.
+#[derive(Clone, Copy, Debug, PartialEq, Eq)]
+pub enum Kind {
+    Version,
+    Nodes,
+    Loads,
+    Image,
+    Fixed,
+    Snapshot,
+    Round,
+    Thread,
+    Register,
+    Deregister,
+    Load,
+    Unload,
+    Find,
+    Unwind,
+    End,
+}
+
+/// The kind of line that the word begins.
+#[tactic(auto, unfolding(crate::specs::Reading::kind_of))]
+pub fn kind_of(word: &[u8]) -> Option<Kind>
+    ensures { result ≡ kind_of word.now }
+{
+    if word == b"find".as_slice() {
+        Some(Kind::Find)
+    } else if word == b"register".as_slice() {
+        Some(Kind::Register)
+    } else if word == b"deregister".as_slice() {
+        Some(Kind::Deregister)
+    } else if word == b"load".as_slice() {
+        Some(Kind::Load)
+    } else if word == b"unload".as_slice() {
+        Some(Kind::Unload)
+    } else if word == b"unwind".as_slice() {
+        Some(Kind::Unwind)
+    } else if word == b"thread".as_slice() {
+        Some(Kind::Thread)
+    } else if word == b"round".as_slice() {
+        Some(Kind::Round)
+    } else if word == b"image".as_slice() {
+        Some(Kind::Image)
+    } else if word == b"fixed".as_slice() {
+        Some(Kind::Fixed)
+    } else if word == b"snapshot".as_slice() {
+        Some(Kind::Snapshot)
+    } else if word == b"frames".as_slice() {
+        Some(Kind::Version)
+    } else if word == b"nodes".as_slice() {
+        Some(Kind::Nodes)
+    } else if word == b"loads".as_slice() {
+        Some(Kind::Loads)
+    } else if word == b"end".as_slice() {
+        Some(Kind::End)
+    } else {
+        None
+    }
+}
+
+/// Whether a line of the kind may come.
+pub fn may_come(stage: Stage, kind: Kind) -> bool
+    ensures { result ≡ may_come stage kind }
+{
+    match stage {
+        Stage::Version => matches!(kind, Kind::Version),
+        Stage::Nodes => matches!(kind, Kind::Nodes),
+        Stage::Loads => matches!(kind, Kind::Loads),
+        Stage::Images => matches!(kind, Kind::Image | Kind::Fixed | Kind::Snapshot | Kind::Round | Kind::End),
+        Stage::Round => matches!(kind, Kind::Round | Kind::Thread | Kind::End),
+        Stage::Thread => matches!(
+            kind,
+            Kind::Round
+                | Kind::Thread
+                | Kind::End
+                | Kind::Register
+                | Kind::Deregister
+                | Kind::Load
+                | Kind::Unload
+                | Kind::Find
+                | Kind::Unwind
+        ),
+        Stage::Ended => false,
+    }
+}
+
+/// Whether lines of the kind can't be run today.
+pub fn is_unbuilt(stage: Stage, kind: Kind) -> bool
+    ensures { result ≡ is_unbuilt stage kind }
+{
+    match kind {
+        Kind::Fixed | Kind::Snapshot | Kind::Load | Kind::Unload | Kind::Unwind => true,
+        Kind::Round => matches!(stage, Stage::Round | Stage::Thread),
+        Kind::Thread => matches!(stage, Stage::Thread),
+        _ => false,
+    }
+}

@@ -1,0 +1,54 @@
+//! Numbers in fields.
+
+ghost use Rattle.std.specs.Prelude.{◌≡◌, ℕ, ◌+◌, ◌^◌, ◌<◌, ◌≤◌, false, MatchOption};
+ghost use Rattle.std.specs.Fmt.{digit_glyph};
+ghost use Rattle.event_script.specs.Fields.{number_in, decimal_in, hex_in};
+
+/// The value of a digit, in lower case.
+fn digit_of(byte: u8) -> Option<u64>
+    ensures { MatchOption result ((d : ℕ) → d < 16 → ¬ (byte ≡ digit_glyph false d)) (λ d. (d < 16) × (byte ≡ digit_glyph false d)) }
+{
+    match byte {
+        b'0'..=b'9' => Some((byte - b'0') as u64),
+        b'a'..=b'f' => Some((byte - b'a') as u64 + 10),
+        _ => None,
+    }
+}
+
+/// The number whose digits in the base the field is, where it has at most so many.
+fn number_of(base: u64, most: usize, field: &[u8]) -> Option<u64>
+    requires base { (2 ≤ base) × (base ≤ 16) }
+    requires most { (0 < most) × (most ≤ 64) × (base ^ most ≤ 2 ^ 64) }
+    ensures { result ≡ number_in base (base ^ most) field.now }
+{
+    if field.is_empty() || field.len() > most {
+        return None;
+    }
+    if field.len() > 1 && field[0] == b'0' {
+        return None;
+    }
+    let mut number = 0;
+    for byte in field {
+        let digit = digit_of(*byte)?;
+        if digit >= base {
+            return None;
+        }
+        number = number * base + digit;
+    }
+    Some(number)
+}
+
+/// A decimal number below 2^32.
+pub fn decimal_in(field: &[u8]) -> Option<u32>
+    ensures { result ≡ decimal_in field.now }
+{
+    let number = number_of(10, 10, field)?;
+    if number <= u32::MAX as u64 { Some(number as u32) } else { None }
+}
+
+/// A hexadecimal number below 2^64.
+pub fn hex_in(field: &[u8]) -> Option<u64>
+    ensures { result ≡ hex_in field.now }
+{
+    number_of(16, 16, field)
+}
