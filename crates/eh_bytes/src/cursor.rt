@@ -56,6 +56,13 @@ impl<'a> Cursor<'a> {
         self.rest.len()
     }
 
+    /// The bytes that are left.
+    pub fn rest(&self) -> &'a [u8]
+        ensures { result.now ≡ self.now.bytes }
+    {
+        self.rest
+    }
+
     /// The next bytes, as a part of the section's.
     pub fn take(&mut self, count: usize) -> Result<&'a [u8], ByteFault>
         ensures { Reads (λ part. part.now) (bytes_at count) self.old result self.new }
@@ -246,8 +253,9 @@ fn text_length(bytes: &[u8]) -> Option<usize>
     None
 }
 
-/// The encodings that are read.
-fn is_pointer(encoding: u8) -> bool
+/// Whether a pointer in this encoding is read: a known format, as read or with the field's address
+/// added.
+pub fn is_pointer(encoding: u8) -> bool
     ensures { result ≡ is_pointer encoding }
 {
     let format = encoding % 16;

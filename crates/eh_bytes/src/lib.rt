@@ -9,7 +9,7 @@ mod cursor;
 mod fault;
 mod leb;
 
-pub use cursor::Cursor;
+pub use cursor::{Cursor, is_pointer};
 pub use fault::ByteFault;
 
 #[cfg(test)]
