@@ -1,0 +1,6 @@
+pub mod Shapes
+pub mod Nodes
+pub mod Numbers
+pub mod Trees
+pub mod Lawful
+pub mod LocalChange
