@@ -3,6 +3,7 @@ use Rattle.std.specs.Prelude.{◌≤◌, take}
 use Rattle.tree_shape.specs.Shapes.{Shape, Body, Pairs, Entries, Link}
 use Rattle.tree_shape.specs.declared.node.Content.{Content}
 use Rattle.tree_shape.specs.declared.node.Content.TheVariants.{Inner, Leaf, Free}
+use Rattle.tree_shape.specs.declared.node.Frame.{Frame}
 use Rattle.tree_shape.specs.declared.node.Node.TheInside.{Inside}
 
 -- the first `count` pairs or entries
@@ -19,3 +20,7 @@ abbrev pub IsCounted : Content → Type 0
 IsCounted (Inner count pairs) = count ≤ 15
 IsCounted (Leaf count entries) = count ≤ 10
 IsCounted (Free next) = Unit {0}
+
+-- the node of this level and these fences that holds this
+abbrev pub framed : Frame → Body → Shape
+framed frame body = record { level = frame.level; low = frame.low; high = frame.high; body = body }

@@ -1,5 +1,5 @@
 -- What contracts see of a node: its level, its two fences, and what it holds as a list.
-use Rattle.std.specs.Prelude.{◌≡◌, ℕ, ◌+◌, ◌≤◌, List, [], ◌∷◌}
+use Rattle.std.specs.Prelude.{◌≡◌, ℕ, ◌+◌, ◌≤◌, List, [], ◌∷◌, nat_le, nat_lt, if◌then◌else◌}
 use Rattle.reg_model.specs.declared.span.Member.{Member}
 use Rattle.tree_shape.specs.declared.pair.Pair.{Pair}
 
@@ -34,7 +34,7 @@ entries_in (Link next) = []
 abbrev pub entries_of : Shape → List Member
 entries_of s = entries_in s.body
 
--- a leaf, an inner node, and the least that they are to hold
+-- a leaf, and an inner node
 abbrev pub IsLeaf : Shape → Type 0
 IsLeaf s = s.body ≡ Entries (entries_of s)
 
@@ -53,3 +53,28 @@ EntriesWithin low high (m ∷ entries) =
 abbrev pub Cut : ℕ → ℕ → List Pair → Type 0
 Cut low high [] = low ≡ high + 1
 Cut low high (p ∷ pairs) = (low ≤ p.separator) × Cut (p.separator + 1) high pairs
+
+-- What every call may take for granted of a node: a leaf's entries ascend, are disjoint and lie inside its fences; an inner
+-- node's separators ascend, and the last is its high fence.
+abbrev pub InOrderAs : Shape → Body → Type 0
+InOrderAs s (Entries entries) = EntriesWithin s.low s.high entries
+InOrderAs s (Pairs pairs) = Cut 0 s.high pairs
+InOrderAs s (Link next) = Unit {0}
+
+abbrev pub InOrder : Shape → Type 0
+InOrder s = InOrderAs s s.body
+
+-- nodes of one level, of which the second begins where the first ends
+pub record AreNeighbours (left right : Shape) : Type 0 where
+  pub level : left.level ≡ right.level
+  pub fence : left.high + 1 ≡ right.low
+
+-- the place of the first pair whose separator is at least the address, or the number of pairs
+abbrev pub slot_for : ℕ → List Pair → ℕ
+slot_for pc [] = 0
+slot_for pc (p ∷ pairs) = if nat_le pc p.separator then 0 else (slot_for pc pairs + 1)
+
+-- how many entries stand before the first that begins above the address
+abbrev pub place_for : ℕ → List Member → ℕ
+place_for pc [] = 0
+place_for pc (m ∷ entries) = if nat_lt pc m.span.first then 0 else (place_for pc entries + 1)

@@ -1,0 +1,4 @@
+mod Rows
+mod Slots
+mod Orders
+mod Parts
