@@ -1,4 +1,9 @@
-mod Rows
-mod Slots
-mod Orders
-mod Parts
+pub mod Rows
+pub mod Slots
+pub mod Orders
+pub mod Parts
+pub mod Times
+pub mod Reach
+pub mod Living
+pub mod Leads
+pub mod Local

@@ -4,6 +4,7 @@
 mod edits;
 mod find;
 mod join;
+pub mod laws;
 mod node;
 mod pair;
 mod row;
