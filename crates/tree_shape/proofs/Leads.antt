@@ -7,7 +7,7 @@ use Rattle.tree_shape.specs.declared.pair.Pair.{Pair}
 use Rattle.tree_shape.specs.Numbers.{times}
 use Rattle.tree_shape.specs.Shapes.{Shape, Body, Pairs, Entries, Link, pairs_of, pairs_in, entries_of, entries_in, EntriesWithin, Cut}
 use Rattle.tree_shape.specs.Trees.{Contents, Branch, branches_from, branches, nodes_under, child_for, leaf_under}
-use Rattle.tree_shape.specs.Lawful.{IsLawful, IsOrderedAs}
+use Rattle.tree_shape.specs.Lawful.{IsTree, IsOrderedAs}
 use Rattle.tree_shape.proofs.Times.{In, times_cases, times_flat_map}
 use Rattle.tree_shape.proofs.Reach.{branch_level}
 use Rattle.tree_shape.proofs.Living.{own_branches, own_at, live_node, root_live, child_live, child_fits}
@@ -96,29 +96,29 @@ inner_above s (Entries entries) ordered level = absurd (omega arith)
 inner_above s (Link next) ordered level = absurd ordered
 
 -- The leaf of an entry is the one that each of its addresses leads to, and lies inside the fences of each node on the way.
-pub leads : (f : Contents) (live : ℕ → Bool) → IsLawful f live → (pc level n : ℕ) → IsTrue (live n) → (f n).level ≡ level →
+pub leads : (f : Contents) (live : ℕ → Bool) → IsTree f live → (pc level n : ℕ) → IsTrue (live n) → (f n).level ≡ level →
     (x : ℕ) → 0 < times x (nodes_under f level n) → (m : Member) → In m (entries_of (f x)) → m.span.first ≤ pc → pc ≤ m.span.last →
     (leaf_under f pc level n ≡ x) × ((f n).low ≤ pc) × (pc ≤ (f n).high)
-leads f live lawful pc zero n alive at x there m held above below = elim (times_cases x n [] there) [
+leads f live tree pc zero n alive at x there m held above below = elim (times_cases x n [] there) [
   | inl e ↦
       let held' : In m (entries_of (f n)) = subst (λ z. In m (entries_of (f z))) e held in
-      let says = leaf_says (f n) (f n).body (lawful.ordered n alive) m held' in
+      let says = leaf_says (f n) (f n).body (tree.ordered n alive) m held' in
       let inside = entry_inside (f n).low (f n).high (entries_of (f n)) m says.1 held' in
       (sym e, omega arith, omega arith)
   | inr none ↦ absurd (omega arith)
 ]
-leads f live lawful pc (suc level) n alive at x there m held above below =
+leads f live tree pc (suc level) n alive at x there m held above below =
     elim (times_cases x n (flat_map (λ (b : Branch). nodes_under f level b.child) (branches level (f n))) there) [
       | inl e ↦
-          let says = leaf_says (f n) (f n).body (lawful.ordered n alive) m (subst (λ z. In m (entries_of (f z))) e held) in
+          let says = leaf_says (f n) (f n).body (tree.ordered n alive) m (subst (λ z. In m (entries_of (f z))) e held) in
           absurd (omega arith)
       | inr later ↦
           let found = times_flat_map (λ (b : Branch). nodes_under f level b.child) (branches level (f n)) x later in
           let own : In found.0 (own_branches f n) = subst (λ bs. In found.0 bs) (sym (own_at f n level at)) found.1.0 in
-          let fits = child_fits f live lawful n alive found.0 own in
-          let deeper = leads f live lawful pc level found.0.child (child_live f live lawful n alive found.0 own)
+          let fits = child_fits f live tree n alive found.0 own in
+          let deeper = leads f live tree pc level found.0.child (child_live f live tree n alive found.0 own)
           (fits.level ∙ branch_level level (f n).low (pairs_of (f n)) found.0 found.1.0) x found.1.1 m held above below in
-          let cut = inner_above (f n) (f n).body (lawful.ordered n alive) (omega arith) in
+          let cut = inner_above (f n) (f n).body (tree.ordered n alive) (omega arith) in
           let inside = branch_inside level (f n).low (f n).high (pairs_of (f n)) found.0 cut found.1.0 in
           let low = fits.low in
           let high = fits.high in
@@ -127,27 +127,27 @@ leads f live lawful pc (suc level) n alive at x there m held above below =
     ]
 
 -- The leaf that an address between the fences leads to is reached, and has level 0.
-pub leads_to : (f : Contents) (live : ℕ → Bool) → IsLawful f live → (pc level n : ℕ) → IsTrue (live n) → (f n).level ≡ level → (f n).low ≤ pc → pc ≤ (f n).high →
+pub leads_to : (f : Contents) (live : ℕ → Bool) → IsTree f live → (pc level n : ℕ) → IsTrue (live n) → (f n).level ≡ level → (f n).low ≤ pc → pc ≤ (f n).high →
     IsTrue (live (leaf_under f pc level n)) × ((f (leaf_under f pc level n)).level ≡ 0)
-leads_to f live lawful pc zero n alive at above below = (alive, at)
-leads_to f live lawful pc (suc level) n alive at above below =
-    let cut = inner_above (f n) (f n).body (lawful.ordered n alive) (omega arith) in
+leads_to f live tree pc zero n alive at above below = (alive, at)
+leads_to f live tree pc (suc level) n alive at above below =
+    let cut = inner_above (f n) (f n).body (tree.ordered n alive) (omega arith) in
     let found = some_branch pc level (f n).low (f n).high (pairs_of (f n)) cut above below in
     let child = child_for_branch pc level (f n).low (f n).high (pairs_of (f n)) found.0 cut found.1.0 found.1.1.0 found.1.1.1 in
     let own : In found.0 (own_branches f n) = subst (λ bs. In found.0 bs) (sym (own_at f n level at)) found.1.0 in
-    let fits = child_fits f live lawful n alive found.0 own in
+    let fits = child_fits f live tree n alive found.0 own in
     let low = fits.low in
     let high = fits.high in
     let start = found.1.1 in
     subst (λ c. IsTrue (live (leaf_under f pc level c)) × ((f (leaf_under f pc level c)).level ≡ 0)) (sym child)
-    (leads_to f live lawful pc level found.0.child (child_live f live lawful n alive found.0 own)
+    (leads_to f live tree pc level found.0.child (child_live f live tree n alive found.0 own)
     (fits.level ∙ branch_level level (f n).low (pairs_of (f n)) found.0 found.1.0) (omega (arith, start.0)) (omega (arith, start.1)))
 
 -- An entry stands in one leaf only.
-pub one_leaf : (f : Contents) (live : ℕ → Bool) → IsLawful f live → (x y : ℕ) → IsTrue (live x) → IsTrue (live y) → (m : Member) →
+pub one_leaf : (f : Contents) (live : ℕ → Bool) → IsTree f live → (x y : ℕ) → IsTrue (live x) → IsTrue (live y) → (m : Member) →
     In m (entries_of (f x)) → In m (entries_of (f y)) → x ≡ y
-one_leaf f live lawful x y alive also m held also_held =
-    let ordered = entry_ordered (f x).low (f x).high (entries_of (f x)) m (leaf_says (f x) (f x).body (lawful.ordered x alive) m held).1 held in
-    let to_x = leads f live lawful m.span.first (f 0).level 0 (root_live f live lawful) refl x (live_node f live lawful x alive) m held (omega arith) ordered in
-    let to_y = leads f live lawful m.span.first (f 0).level 0 (root_live f live lawful) refl y (live_node f live lawful y also) m also_held (omega arith) ordered in
+one_leaf f live tree x y alive also m held also_held =
+    let ordered = entry_ordered (f x).low (f x).high (entries_of (f x)) m (leaf_says (f x) (f x).body (tree.ordered x alive) m held).1 held in
+    let to_x = leads f live tree m.span.first (f 0).level 0 (root_live f live tree) refl x (live_node f live tree x alive) m held (omega arith) ordered in
+    let to_y = leads f live tree m.span.first (f 0).level 0 (root_live f live tree) refl y (live_node f live tree y also) m also_held (omega arith) ordered in
     sym to_x.0 ∙ to_y.0

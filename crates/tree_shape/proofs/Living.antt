@@ -1,4 +1,4 @@
--- What a lawful tree says of its live nodes: their children are live, and each has one parent at most.
+-- What a tree tree says of its live nodes: their children are live, and each has one parent at most.
 use Rattle.std.proofs.Common.{◌≡◌, ℕ, zero, suc, ◌+◌, ◌-◌, ◌<◌, ◌≤◌, List, [], ◌∷◌, ◌++◌, map, refl, ap, sym, ◌∙◌, subst, arith, Bool, true, false, IsTrue, eqb, inl, inr, ◌⊎◌}
 use Rattle.std.specs.List.{flat_map}
 use Rattle.std.proofs.lemmas.Bool.{cases_eq, cases_Bool}
@@ -7,7 +7,7 @@ use Rattle.tree_shape.specs.declared.pair.Pair.{Pair}
 use Rattle.tree_shape.specs.Numbers.{times, once}
 use Rattle.tree_shape.specs.Shapes.{Shape, Body, Pairs, Entries, Link, pairs_of, pairs_in}
 use Rattle.tree_shape.specs.Trees.{Contents, Branch, branches_from, branches, nodes_under, nodes, within, leaving}
-use Rattle.tree_shape.specs.Lawful.{IsLawful, IsOrdered, IsOrderedAs, Fits}
+use Rattle.tree_shape.specs.Lawful.{IsTree, IsOrdered, IsOrderedAs, Fits}
 use Rattle.tree_shape.proofs.Times.{In, all_at, once_same, once_true, once_from, once_most, times-append, times_head, times_cases, times_flat_map, times_flat_map_from, times_under, times_two, in_flat_map, in_flat_map_from}
 use Rattle.tree_shape.proofs.Reach.{children, branch_level, branch_child, onward, outward, onward_in, onward_from, outward_in, outward_inside, outward_outside, within_under, within_top, under_top, under_within}
 
@@ -135,104 +135,104 @@ parents_of_pairs f x level low (p ∷ pairs) each =
       times-append x (flat_map (children f) (nodes_under f level p.child)) (flat_map (children f) tail),
     )
 
--- the nodes of a lawful tree are its live nodes
-pub live_node : (f : Contents) (live : ℕ → Bool) → IsLawful f live → (n : ℕ) → IsTrue (live n) → 0 < times n (nodes f)
-live_node f live lawful n alive = omega (arith, lawful.reached n, once_from (live n) alive)
+-- the nodes of a tree tree are its live nodes
+pub live_node : (f : Contents) (live : ℕ → Bool) → IsTree f live → (n : ℕ) → IsTrue (live n) → 0 < times n (nodes f)
+live_node f live tree n alive = omega (arith, tree.reached n, once_from (live n) alive)
 
-pub node_live : (f : Contents) (live : ℕ → Bool) → IsLawful f live → (n : ℕ) → 0 < times n (nodes f) → IsTrue (live n)
-node_live f live lawful n there = once_true (live n) (omega (arith, lawful.reached n))
+pub node_live : (f : Contents) (live : ℕ → Bool) → IsTree f live → (n : ℕ) → 0 < times n (nodes f) → IsTrue (live n)
+node_live f live tree n there = once_true (live n) (omega (arith, tree.reached n))
 
-pub one_way : (f : Contents) (live : ℕ → Bool) → IsLawful f live → (n : ℕ) → times n (nodes f) ≤ 1
-one_way f live lawful n = omega (arith, lawful.reached n, once_most (live n))
+pub one_way : (f : Contents) (live : ℕ → Bool) → IsTree f live → (n : ℕ) → times n (nodes f) ≤ 1
+one_way f live tree n = omega (arith, tree.reached n, once_most (live n))
 
-pub root_live : (f : Contents) (live : ℕ → Bool) → IsLawful f live → IsTrue (live 0)
-root_live f live lawful = node_live f live lawful 0 (under_top f (f 0).level 0)
+pub root_live : (f : Contents) (live : ℕ → Bool) → IsTree f live → IsTrue (live 0)
+root_live f live tree = node_live f live tree 0 (under_top f (f 0).level 0)
 
-pub sound_whole : (f : Contents) (live : ℕ → Bool) → IsLawful f live → Sound (λ _. true) f (f 0).level 0
-sound_whole f live lawful =
+pub sound_whole : (f : Contents) (live : ℕ → Bool) → IsTree f live → Sound (λ _. true) f (f 0).level 0
+sound_whole f live tree =
     let alive : (x : ℕ) → 0 < times x (within (λ _. true) f (f 0).level 0) → IsTrue (live x) =
-    λ x there. node_live f live lawful x (omega (arith, within_under (λ _. true) f x (f 0).level 0)) in
+    λ x there. node_live f live tree x (omega (arith, within_under (λ _. true) f x (f 0).level 0)) in
     record {
-      ordered = λ x there. lawful.ordered x (alive x there);
-      fitting = λ x there b own inside. all_at (Fits f) (own_branches f x) b (lawful.fitting x (alive x there)) own;
+      ordered = λ x there. tree.ordered x (alive x there);
+      fitting = λ x there b own inside. all_at (Fits f) (own_branches f x) b (tree.fitting x (alive x there)) own;
     }
 
 -- a child of a live node is live, and is as its parent names it
-pub child_live : (f : Contents) (live : ℕ → Bool) → IsLawful f live → (n : ℕ) → IsTrue (live n) → (b : Branch) → In b (own_branches f n) → IsTrue (live b.child)
-child_live f live lawful n alive b own =
-    let there : 0 < times n (within (λ _. true) f (f 0).level 0) = subst (λ l. 0 < times n l) (under_within f (f 0).level 0) (live_node f live lawful n alive) in
-    elim (goes_on (λ _. true) f (f 0).level 0 (sound_whole f live lawful) refl n there b own) [
-      | inl on ↦ node_live f live lawful b.child (omega (arith, on.1, within_under (λ _. true) f b.child (f 0).level 0))
+pub child_live : (f : Contents) (live : ℕ → Bool) → IsTree f live → (n : ℕ) → IsTrue (live n) → (b : Branch) → In b (own_branches f n) → IsTrue (live b.child)
+child_live f live tree n alive b own =
+    let there : 0 < times n (within (λ _. true) f (f 0).level 0) = subst (λ l. 0 < times n l) (under_within f (f 0).level 0) (live_node f live tree n alive) in
+    elim (goes_on (λ _. true) f (f 0).level 0 (sound_whole f live tree) refl n there b own) [
+      | inl on ↦ node_live f live tree b.child (omega (arith, on.1, within_under (λ _. true) f b.child (f 0).level 0))
       | inr out ↦ absurd (cc (out.0))
     ]
 
-pub child_fits : (f : Contents) (live : ℕ → Bool) → IsLawful f live → (n : ℕ) → IsTrue (live n) → (b : Branch) → In b (own_branches f n) → Fits f b
-child_fits f live lawful n alive b own = all_at (Fits f) (own_branches f n) b (lawful.fitting n alive) own
+pub child_fits : (f : Contents) (live : ℕ → Bool) → IsTree f live → (n : ℕ) → IsTrue (live n) → (b : Branch) → In b (own_branches f n) → Fits f b
+child_fits f live tree n alive b own = all_at (Fits f) (own_branches f n) b (tree.fitting n alive) own
 
 -- what a live node reaches is live
-pub live_within : (f : Contents) (live : ℕ → Bool) → IsLawful f live → (set : ℕ → Bool) (level n : ℕ) → IsTrue (live n) → (f n).level ≡ level →
+pub live_within : (f : Contents) (live : ℕ → Bool) → IsTree f live → (set : ℕ → Bool) (level n : ℕ) → IsTrue (live n) → (f n).level ≡ level →
     (x : ℕ) → 0 < times x (within set f level n) → IsTrue (live x)
-live_within f live lawful set zero n alive at x there = elim (times_cases x n [] there) [
+live_within f live tree set zero n alive at x there = elim (times_cases x n [] there) [
   | inl e ↦ subst (λ z. IsTrue (live z)) (sym e) alive
   | inr none ↦ absurd (omega arith)
 ]
-live_within f live lawful set (suc level) n alive at x there = elim (times_cases x n (flat_map (onward set f level) (branches level (f n))) there) [
+live_within f live tree set (suc level) n alive at x there = elim (times_cases x n (flat_map (onward set f level) (branches level (f n))) there) [
   | inl e ↦ subst (λ z. IsTrue (live z)) (sym e) alive
   | inr later ↦
       let found = times_flat_map (onward set f level) (branches level (f n)) x later in
       let step = onward_in set f x level found.0 found.1.1 in
       let own : In found.0 (own_branches f n) = subst (λ bs. In found.0 bs) (sym (own_at f n level at)) found.1.0 in
-      let fits = child_fits f live lawful n alive found.0 own in
-      live_within f live lawful set level found.0.child (child_live f live lawful n alive found.0 own)
+      let fits = child_fits f live tree n alive found.0 own in
+      live_within f live tree set level found.0.child (child_live f live tree n alive found.0 own)
       (fits.level ∙ branch_level level (f n).low (pairs_of (f n)) found.0 found.1.0) x step.1
 ]
 
-pub live_under : (f : Contents) (live : ℕ → Bool) → IsLawful f live → (level n : ℕ) → IsTrue (live n) → (f n).level ≡ level →
+pub live_under : (f : Contents) (live : ℕ → Bool) → IsTree f live → (level n : ℕ) → IsTrue (live n) → (f n).level ≡ level →
     (x : ℕ) → 0 < times x (nodes_under f level n) → IsTrue (live x)
-live_under f live lawful level n alive at x there =
-    live_within f live lawful (λ _. true) level n alive at x (subst (λ l. 0 < times x l) (under_within f level n) there)
+live_under f live tree level n alive at x there =
+    live_within f live tree (λ _. true) level n alive at x (subst (λ l. 0 < times x l) (under_within f level n) there)
 
 -- so what lies below a live node is sound
-pub sound_at : (f : Contents) (live : ℕ → Bool) → IsLawful f live → (set : ℕ → Bool) (level n : ℕ) → IsTrue (live n) → (f n).level ≡ level → Sound set f level n
-sound_at f live lawful set level n alive at = record {
-  ordered = λ x there. lawful.ordered x (live_within f live lawful set level n alive at x there);
-  fitting = λ x there b own inside. child_fits f live lawful x (live_within f live lawful set level n alive at x there) b own;
+pub sound_at : (f : Contents) (live : ℕ → Bool) → IsTree f live → (set : ℕ → Bool) (level n : ℕ) → IsTrue (live n) → (f n).level ≡ level → Sound set f level n
+sound_at f live tree set level n alive at = record {
+  ordered = λ x there. tree.ordered x (live_within f live tree set level n alive at x there);
+  fitting = λ x there b own inside. child_fits f live tree x (live_within f live tree set level n alive at x there) b own;
 }
 
 -- each node below a live one, but it, is a child of exactly one of them
-pub parents : (f : Contents) (live : ℕ → Bool) → IsLawful f live → (x level n : ℕ) → IsTrue (live n) → (f n).level ≡ level →
+pub parents : (f : Contents) (live : ℕ → Bool) → IsTree f live → (x level n : ℕ) → IsTrue (live n) → (f n).level ≡ level →
     times x (nodes_under f level n) ≡ once (eqb x n) + times x (flat_map (children f) (nodes_under f level n))
-parents f live lawful x zero n alive at =
-    let none : children f n ≡ [] = ap (map (λ (p : Pair). p.child)) (leaf_has_none (f n) (f n).body (lawful.ordered n alive) at) in
+parents f live tree x zero n alive at =
+    let none : children f n ≡ [] = ap (map (λ (p : Pair). p.child)) (leaf_has_none (f n) (f n).body (tree.ordered n alive) at) in
     let brought : times x (children f n ++ []) ≡ 0 = ap (λ l. times x (l ++ [])) none in
     omega arith
-parents f live lawful x (suc level) n alive at =
+parents f live tree x (suc level) n alive at =
     let each : (b : Branch) → In b (branches level (f n)) → times x (nodes_under f level b.child) ≡ once (eqb x b.child) + times x (flat_map (children f) (nodes_under f level b.child)) =
     λ b there.
     let own : In b (own_branches f n) = subst (λ bs. In b bs) (sym (own_at f n level at)) there in
-    let fits = child_fits f live lawful n alive b own in
-    parents f live lawful x level b.child (child_live f live lawful n alive b own) (fits.level ∙ branch_level level (f n).low (pairs_of (f n)) b there) in
+    let fits = child_fits f live tree n alive b own in
+    parents f live tree x level b.child (child_live f live tree n alive b own) (fits.level ∙ branch_level level (f n).low (pairs_of (f n)) b there) in
     let sum = parents_of_pairs f x level (f n).low (pairs_of (f n)) each in
     let split = times-append x (children f n) (flat_map (children f) (flat_map (λ (b : Branch). nodes_under f level b.child) (branches level (f n)))) in
     omega arith
 
 -- the root is no child
-pub root_no_child : (f : Contents) (live : ℕ → Bool) → IsLawful f live → (n : ℕ) → IsTrue (live n) → 0 < times 0 (children f n) → ⊥
-root_no_child f live lawful n alive there =
-    let sum = parents f live lawful 0 (f 0).level 0 (root_live f live lawful) refl in
-    let brought = times_under (children f) (nodes f) n 0 (live_node f live lawful n alive) in
-    omega (arith, one_way f live lawful 0, once_same 0)
+pub root_no_child : (f : Contents) (live : ℕ → Bool) → IsTree f live → (n : ℕ) → IsTrue (live n) → 0 < times 0 (children f n) → ⊥
+root_no_child f live tree n alive there =
+    let sum = parents f live tree 0 (f 0).level 0 (root_live f live tree) refl in
+    let brought = times_under (children f) (nodes f) n 0 (live_node f live tree n alive) in
+    omega (arith, one_way f live tree 0, once_same 0)
 
 -- no node is a child of two
-pub one_parent : (f : Contents) (live : ℕ → Bool) → IsLawful f live → (x y n : ℕ) → IsTrue (live x) → IsTrue (live y) →
+pub one_parent : (f : Contents) (live : ℕ → Bool) → IsTree f live → (x y n : ℕ) → IsTrue (live x) → IsTrue (live y) →
     0 < times n (children f x) → 0 < times n (children f y) → x ≡ y
-one_parent f live lawful x y n alive also there at =
+one_parent f live tree x y n alive also there at =
     elim (cases_eq x y) [
       | inl e ↦ e
       | inr other ↦
-          let sum = parents f live lawful n (f 0).level 0 (root_live f live lawful) refl in
-          let two = times_two (children f) (nodes f) x y n (live_node f live lawful x alive) (live_node f live lawful y also) other in
-          absurd (omega (arith, one_way f live lawful n))
+          let sum = parents f live tree n (f 0).level 0 (root_live f live tree) refl in
+          let two = times_two (children f) (nodes f) x y n (live_node f live tree x alive) (live_node f live tree y also) other in
+          absurd (omega (arith, one_way f live tree n))
     ]
 
 -- a child by a branch is a child

@@ -7,7 +7,7 @@ use Rattle.reg_model.specs.declared.span.Member.{Member}
 use Rattle.tree_shape.specs.Numbers.{times, once, is_among}
 use Rattle.tree_shape.specs.Shapes.{entries_of}
 use Rattle.tree_shape.specs.Trees.{Contents, Branch, branches, nodes_under, nodes, within, leaving, HasEntry}
-use Rattle.tree_shape.specs.Lawful.{IsLawful, IsOrdered, IsFilled, Fits}
+use Rattle.tree_shape.specs.Lawful.{IsTree, IsOrdered, IsFilled, Fits}
 use Rattle.tree_shape.specs.LocalChange.{IsLocalChange, either, live_after}
 use Rattle.tree_shape.proofs.Times.{In, all_at, all_from, all_times, times-append, times_flat_map_from, flat_map_same}
 use Rattle.tree_shape.proofs.Reach.{children, below, within_set, within_under, within_parent, within_top, under_top, reached_parts, same_within, same_under}
@@ -41,15 +41,15 @@ record Around (f : Contents) (top : ℕ) : Type 0 where
   child : branch.child ≡ top
   level : branch.level ≡ (f top).level
 
-around : (f : Contents) (live : ℕ → Bool) → IsLawful f live → (top : ℕ) → IsTrue (live top) → top ≢ 0 → Around f top
-around f live lawful top alive other =
-    let sound = sound_at f live lawful (all_but top) (f 0).level 0 (root_live f live lawful) refl in
+around : (f : Contents) (live : ℕ → Bool) → IsTree f live → (top : ℕ) → IsTrue (live top) → top ≢ 0 → Around f top
+around f live tree top alive other =
+    let sound = sound_at f live tree (all_but top) (f 0).level 0 (root_live f live tree) refl in
     let each : (b : Branch) → In b (leaving (all_but top) f (f 0).level 0) → (b.child ≡ top) × (b.level ≡ (f top).level) =
     λ b there.
     let from = leaves_from (all_but top) f (f 0).level 0 sound refl b there in
     let child = all_but-false top b.child from.0 in
-    let parent = live_within f live lawful (all_but top) (f 0).level 0 (root_live f live lawful) refl from.1.0 from.1.1.0 in
-    (child, sym (child_fits f live lawful from.1.0 parent b from.1.1.1).level ∙ ap (λ n. (f n).level) child) in
+    let parent = live_within f live tree (all_but top) (f 0).level 0 (root_live f live tree) refl from.1.0 from.1.1.0 in
+    (child, sym (child_fits f live tree from.1.0 parent b from.1.1.1).level ∙ ap (λ n. (f n).level) child) in
     let parts = reached_parts (all_but top) f top (f 0).level 0 in
     let absent : times top (within (all_but top) f (f 0).level 0) ≡ 0 =
     elim (cases_eq (times top (within (all_but top) f (f 0).level 0)) 0) [
@@ -59,7 +59,7 @@ around f live lawful top alive other =
         | inr set ↦ absurd (all_but-true top top set refl)
       ]
     ] in
-    let once' : times top (nodes f) ≡ 1 = omega (arith, live_node f live lawful top alive, one_way f live lawful top) in
+    let once' : times top (nodes f) ≡ 1 = omega (arith, live_node f live tree top alive, one_way f live tree top) in
     let one = one_branch f top (f top).level (leaving (all_but top) f (f 0).level 0) each (omega arith) in
     record { branch = one.0; exits = one.1.0; child = one.1.1.0; level = one.1.1.1 }
 
@@ -79,7 +79,7 @@ record Rest (f g : Contents) (top : ℕ) (touched : ℕ → Bool) : Type 0 where
   old : (x : ℕ) → times x (nodes f) ≡ times x others + times x (nodes_under f (f top).level top)
   new : (x : ℕ) → times x (nodes g) ≡ times x others + times x (nodes_under g (g top).level top)
 
-module _ (f : Contents) (live : ℕ → Bool) (top : ℕ) (group fresh : ℕ → Bool) (g : Contents) (lawful : IsLawful f live) (change : IsLocalChange f live top group fresh g) where
+module _ (f : Contents) (live : ℕ → Bool) (top : ℕ) (group fresh : ℕ → Bool) (g : Contents) (tree : IsTree f live) (change : IsLocalChange f live top group fresh g) where
   group_touched : (x : ℕ) → IsTrue (group x) → IsTrue (either group fresh x)
   group_touched x inside = or_left (group x) (fresh x) inside
 
@@ -87,7 +87,7 @@ module _ (f : Contents) (live : ℕ → Bool) (top : ℕ) (group fresh : ℕ →
   top_touched = group_touched top change.top_grouped
 
   group_live : (x : ℕ) → IsTrue (group x) → IsTrue (live x)
-  group_live x inside = live_within f live lawful group (f top).level top change.top_live refl x (change.grouped x inside)
+  group_live x inside = live_within f live tree group (f top).level top change.top_live refl x (change.grouped x inside)
 
   -- a live node that is touched is in the group
   touched_group : (x : ℕ) → IsTrue (either group fresh x) → IsTrue (live x) → IsTrue (group x)
@@ -104,7 +104,7 @@ module _ (f : Contents) (live : ℕ → Bool) (top : ℕ) (group fresh : ℕ →
   under_most x = elim (cases_eq top 0) [
     | inl e ↦ let same : times x (nodes_under f (f top).level top) ≡ times x (nodes f) = ap (λ n. times x (nodes_under f (f n).level n)) e in omega arith
     | inr other ↦
-        let place = around f live lawful top change.top_live other in
+        let place = around f live tree top change.top_live other in
         omega (arith, around_parts f top (f top).level place.branch place.exits place.child place.level x)
   ]
 
@@ -113,9 +113,9 @@ module _ (f : Contents) (live : ℕ → Bool) (top : ℕ) (group fresh : ℕ →
   rest_apart x there = elim (cases_Bool (either group fresh x)) [
     | inl touched ↦
         let parts = reached_parts group f x (f top).level top in
-        let alive = live_under f live lawful (f top).level top change.top_live refl x (omega arith) in
+        let alive = live_under f live tree (f top).level top change.top_live refl x (omega arith) in
         let inside = change.grouped x (touched_group x touched alive) in
-        absurd (omega (arith, under_most x, one_way f live lawful x))
+        absurd (omega (arith, under_most x, one_way f live tree x))
     | inr untouched ↦ untouched
   ]
 
@@ -137,11 +137,11 @@ module _ (f : Contents) (live : ℕ → Bool) (top : ℕ) (group fresh : ℕ →
   around_apart : top ≢ 0 → (x : ℕ) → 0 < times x (within (all_but top) f (f 0).level 0) → either group fresh x ≡ false
   around_apart other x there = elim (cases_Bool (either group fresh x)) [
     | inl touched ↦
-        let alive = live_within f live lawful (all_but top) (f 0).level 0 (root_live f live lawful) refl x there in
+        let alive = live_within f live tree (all_but top) (f 0).level 0 (root_live f live tree) refl x there in
         let inside = change.grouped x (touched_group x touched alive) in
-        let place = around f live lawful top change.top_live other in
+        let place = around f live tree top change.top_live other in
         let parts = around_parts f top (f top).level place.branch place.exits place.child place.level x in
-        absurd (omega (arith, within_under group f x (f top).level top, one_way f live lawful x))
+        absurd (omega (arith, within_under group f x (f top).level top, one_way f live tree x))
     | inr untouched ↦ untouched
   ]
 
@@ -154,7 +154,7 @@ module _ (f : Contents) (live : ℕ → Bool) (top : ℕ) (group fresh : ℕ →
       new = λ x. (let same : times x (nodes g) ≡ times x (nodes_under g (g top).level top) = ap (λ n. times x (nodes_under g (g n).level n)) (sym e) in omega arith);
     }
     | inr other ↦
-        let place = around f live lawful top change.top_live other in
+        let place = around f live tree top change.top_live other in
         let agree : (x : ℕ) → 0 < times x (within (all_but top) f (f 0).level 0) → g x ≡ f x = λ x there. untouched_stays x (around_apart other x there) in
         let root : (g 0).level ≡ (f 0).level = ap (λ s. s.level) (agree 0 (within_top (all_but top) f (f 0).level 0)) in
         let same = same_within (all_but top) f g (f 0).level 0 agree in
@@ -213,7 +213,7 @@ module _ (f : Contents) (live : ℕ → Bool) (top : ℕ) (group fresh : ℕ →
               ]
             ] in
             let count : times x (nodes g) ≡ times x (nodes f) = omega arith in
-            count ∙ lawful.reached x ∙ ap once (sym (cond-false (either group fresh x) (is_among (within (either group fresh) g (g top).level top) x) (live x) untouched))
+            count ∙ tree.reached x ∙ ap once (sym (cond-false (either group fresh x) (is_among (within (either group fresh) g (g top).level top) x) (live x) untouched))
       ]
 
   -- a new live node is touched and reached, or was live and is what it was
@@ -239,13 +239,7 @@ module _ (f : Contents) (live : ℕ → Bool) (top : ℕ) (group fresh : ℕ →
   ordered_after : (x : ℕ) → IsTrue (live_after live top group fresh g x) → IsOrdered (g x)
   ordered_after x alive = elim (live_cases x alive) [
     | inl now ↦ all_times (λ n. IsOrdered (g n)) (within (either group fresh) g (g top).level top) x change.ordered now.1
-    | inr was ↦ subst IsOrdered (sym was.stays) (lawful.ordered x was.alive)
-  ]
-
-  filled_after : (x : ℕ) → IsTrue (live_after live top group fresh g x) → IsFilled x (g x)
-  filled_after x alive = elim (live_cases x alive) [
-    | inl now ↦ all_times (λ n. IsFilled n (g n)) (within (either group fresh) g (g top).level top) x change.filled now.1
-    | inr was ↦ subst (IsFilled x) (sym was.stays) (lawful.filled x was.alive)
+    | inr was ↦ subst IsOrdered (sym was.stays) (tree.ordered x was.alive)
   ]
 
   -- what the top now reaches is sound
@@ -270,15 +264,15 @@ module _ (f : Contents) (live : ℕ → Bool) (top : ℕ) (group fresh : ℕ →
   -- the children of an untouched node are untouched, or the top
   fits_outside : (x : ℕ) → WasLive x → (b : Branch) → In b (own_branches f x) → Fits g b
   fits_outside x was b own =
-      let fits = child_fits f live lawful x was.alive b own in
-      let alive = child_live f live lawful x was.alive b own in
+      let fits = child_fits f live tree x was.alive b own in
+      let alive = child_live f live tree x was.alive b own in
       elim (cases_Bool (either group fresh b.child)) [
         | inr untouched ↦ fits_still b untouched fits
         | inl touched ↦
             let inside = touched_group b.child touched alive in
             elim (cases_eq b.child top) [
               | inl e ↦
-                  let not_root : top ≢ 0 = λ z. root_no_child f live lawful x was.alive (subst (λ n. 0 < times n (children f x)) (e ∙ z) (own_child f x b own)) in
+                  let not_root : top ≢ 0 = λ z. root_no_child f live tree x was.alive (subst (λ n. 0 < times n (children f x)) (e ∙ z) (own_child f x b own)) in
                   record {
                     level = ap (λ n. (g n).level) e ∙ change.level not_root ∙ ap (λ n. (f n).level) (sym e) ∙ fits.level;
                     low = ap (λ n. (g n).low) e ∙ change.low ∙ ap (λ n. (f n).low) (sym e) ∙ fits.low;
@@ -286,8 +280,8 @@ module _ (f : Contents) (live : ℕ → Bool) (top : ℕ) (group fresh : ℕ →
                   }
               | inr other ↦
                   let parent = within_parent group f b.child (f top).level top (change.grouped b.child inside) other in
-                  let parent_live = live_within f live lawful group (f top).level top change.top_live refl parent.0 parent.1.0 in
-                  let same = one_parent f live lawful x parent.0 b.child was.alive parent_live (own_child f x b own) parent.1.1 in
+                  let parent_live = live_within f live tree group (f top).level top change.top_live refl parent.0 parent.1.0 in
+                  let same = one_parent f live tree x parent.0 b.child was.alive parent_live (own_child f x b own) parent.1.1 in
                   let parent_touched : IsTrue (either group fresh parent.0) = elim (within_set group f parent.0 (f top).level top parent.1.0) [
                     | inl e ↦ subst (λ n. IsTrue (either group fresh n)) (sym e) top_touched
                     | inr set ↦ group_touched parent.0 set
@@ -302,9 +296,9 @@ module _ (f : Contents) (live : ℕ → Bool) (top : ℕ) (group fresh : ℕ →
       | inl on ↦ sound_new.fitting x now.1 b own on.0
       | inr out ↦
           let left : In b (leaving group f (f top).level top) = subst (λ bs. In b bs) change.exits out.1 in
-          let from = leaves_from group f (f top).level top (sound_at f live lawful group (f top).level top change.top_live refl) refl b left in
-          let parent = live_within f live lawful group (f top).level top change.top_live refl from.1.0 from.1.1.0 in
-          fits_still b out.0 (child_fits f live lawful from.1.0 parent b from.1.1.1)
+          let from = leaves_from group f (f top).level top (sound_at f live tree group (f top).level top change.top_live refl) refl b left in
+          let parent = live_within f live tree group (f top).level top change.top_live refl from.1.0 from.1.1.0 in
+          fits_still b out.0 (child_fits f live tree from.1.0 parent b from.1.1.1)
     ])
     | inr was ↦ subst (λ s. AllByRecursion (Fits g) (branches (s.level - 1) s)) (sym was.stays) (all_from (Fits g) (own_branches f x) (fits_outside x was))
   ]
@@ -312,23 +306,30 @@ module _ (f : Contents) (live : ℕ → Bool) (top : ℕ) (group fresh : ℕ →
   -- the fences and the height of the root
   root_after : ((g 0).low ≡ (f 0).low) × ((g 0).high ≡ (f 0).high) × ((g 0).level ≤ 12)
   root_after = elim (cases_eq top 0) [
-    | inl e ↦ subst (λ n. ((g n).low ≡ (f n).low) × ((g n).high ≡ (f n).high) × ((g n).level ≤ 12)) e (change.low, change.high, change.height)
+    | inl e ↦ subst (λ n. ((g n).low ≡ (f n).low) × ((g n).high ≡ (f n).high) × ((g n).level ≤ 12)) e (change.low, change.high, change.height e)
     | inr other ↦
         let same = untouched_stays 0 (around_apart other 0 (within_top (all_but top) f (f 0).level 0)) in
-        let height = lawful.height in
+        let height = tree.height in
         (ap (λ s. s.low) same, ap (λ s. s.high) same, subst (λ s. s.level ≤ 12) (sym same) height)
   ]
 
-  pub lawful_after : IsLawful g (live_after live top group fresh g)
-  lawful_after = record {
-    root_low = root_after.0 ∙ lawful.root_low;
-    root_high = root_after.1 ∙ lawful.root_high;
+  pub tree_after : IsTree g (live_after live top group fresh g)
+  tree_after = record {
+    root_low = root_after.0 ∙ tree.root_low;
+    root_high = root_after.1 ∙ tree.root_high;
     height = root_after.2;
     reached = reached_after;
     ordered = ordered_after;
-    fitting = fitting_after;
-    filled = filled_after;
+    fitting = fitting_after
   }
+
+  -- where the nodes that the top now reaches are filled, all are
+  pub filled_after : ((n : ℕ) → IsTrue (live n) → IsFilled n (f n)) → AllByRecursion (λ n. IsFilled n (g n)) (within (either group fresh) g (g top).level top) →
+      (x : ℕ) → IsTrue (live_after live top group fresh g x) → IsFilled x (g x)
+  filled_after before now x alive = elim (live_cases x alive) [
+      inl here ↦ all_times (λ n. IsFilled n (g n)) (within (either group fresh) g (g top).level top) x now here.1
+    | inr was ↦ subst (IsFilled x) (sym was.stays) (before x was.alive)
+    ]
 
   -- the entries
   entries_now : (m : Member) → HasEntry g (live_after live top group fresh g) m →
@@ -340,7 +341,7 @@ module _ (f : Contents) (live : ℕ → Bool) (top : ℕ) (group fresh : ℕ →
         inl (
           (x, (was.alive, before)),
           λ other.
-              let same = one_leaf f live lawful x other.0 was.alive (group_live other.0 other.1.0) m (contains_in (entries_of (f x)) m before) (contains_in (entries_of (f other.0)) m other.1.1) in
+              let same = one_leaf f live tree x other.0 was.alive (group_live other.0 other.1.0) m (contains_in (entries_of (f x)) m before) (contains_in (entries_of (f other.0)) m other.1.1) in
               both_ways (either group fresh x) was.untouched (subst (λ n. IsTrue (either group fresh n)) (sym same) (group_touched other.0 other.1.0)),
         )
   ]

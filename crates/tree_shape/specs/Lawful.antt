@@ -38,8 +38,8 @@ pub record Fits (f : Contents) (b : Branch) : Type 0 where
   pub low : (f b.child).low ≡ b.low
   pub high : (f b.child).high ≡ b.high
 
--- Contents are a lawful tree whose nodes are those that the test `live` passes.
-pub record IsLawful (f : Contents) (live : ℕ → Bool) : Type 0 where
+-- Contents are a tree whose nodes are those that the test `live` passes.
+pub record IsTree (f : Contents) (live : ℕ → Bool) : Type 0 where
   -- Node 0 is the root: its fences hold every address, so that each lookup begins inside them.
   pub root_low : (f 0).low ≡ 0
   pub root_high : (f 0).high ≡ 2 ^ 64 - 1
@@ -52,5 +52,9 @@ pub record IsLawful (f : Contents) (live : ℕ → Bool) : Type 0 where
   pub ordered : (n : ℕ) → IsTrue (live n) → IsOrdered (f n)
   -- Without this an address inside a node's fences could lead to a child whose fences don't hold it.
   pub fitting : (n : ℕ) → IsTrue (live n) → AllByRecursion (Fits f) (branches ((f n).level - 1) (f n))
+
+-- They are a lawful tree.
+pub record IsLawful (f : Contents) (live : ℕ → Bool) : Type 0 where
+  pub tree : IsTree f live
   -- Without least fillings a tree of few entries could use up all nodes; above the greatest a node has no room.
   pub filled : (n : ℕ) → IsTrue (live n) → IsFilled n (f n)

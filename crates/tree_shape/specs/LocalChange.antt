@@ -4,7 +4,7 @@ use Rattle.std.specs.List.{AllByRecursion}
 use Rattle.reg_model.specs.declared.span.Member.{Member}
 use Rattle.tree_shape.specs.Numbers.{times, is_among}
 use Rattle.tree_shape.specs.Trees.{Contents, branches, within, leaving, HasEntry}
-use Rattle.tree_shape.specs.Lawful.{IsOrdered, IsFilled, Fits, IsLawful}
+use Rattle.tree_shape.specs.Lawful.{IsOrdered, Fits}
 
 -- in the group, or fresh
 abbrev pub either : (ℕ → Bool) → (ℕ → Bool) → ℕ → Bool
@@ -23,10 +23,9 @@ pub record IsLocalChange (f : Contents) (live : ℕ → Bool) (top : ℕ) (group
   pub low : (g top).low ≡ (f top).low
   pub high : (g top).high ≡ (f top).high
   pub level : top ≢ 0 → (g top).level ≡ (f top).level
-  pub height : (g top).level ≤ 12
-  -- Each node with new contents that the top now reaches is lawful by itself.
+  pub height : top ≡ 0 → (g top).level ≤ 12
+  -- Each node with new contents that the top now reaches is in order by itself.
   pub ordered : AllByRecursion (λ n. IsOrdered (g n)) (within (either group fresh) g (g top).level top)
-  pub filled : AllByRecursion (λ n. IsFilled n (g n)) (within (either group fresh) g (g top).level top)
   -- Each is reached by one way, with the level and the fences that its parent gives.
   pub reached_once : (n : ℕ) → times n (within (either group fresh) g (g top).level top) ≤ 1
   pub fitting : AllByRecursion (λ n. AllByRecursion (λ b. IsTrue (either group fresh b.child) → Fits g b) (branches ((g n).level - 1) (g n)))
@@ -39,13 +38,9 @@ abbrev pub live_after : (ℕ → Bool) → ℕ → (ℕ → Bool) → (ℕ → B
 live_after live top group fresh g n =
     if either group fresh n then is_among (within (either group fresh) g (g top).level top) n else live n
 
--- The law: such a change keeps the tree lawful. Its entries are the old ones without those of the group's leaves, and
--- those of the leaves that the top now reaches by ways inside the group and the fresh nodes.
-abbrev pub LocalChangeLaw : Type 0
-LocalChangeLaw =
-    (f : Contents) (live : ℕ → Bool) (top : ℕ) (group fresh : ℕ → Bool) (g : Contents) →
-    IsLawful f live →
-    IsLocalChange f live top group fresh g →
-    IsLawful g (live_after live top group fresh g) ×
-    ((m : Member) → HasEntry g (live_after live top group fresh g) m ↔
-    ((HasEntry f live m × ¬ HasEntry f group m) ⊎ HasEntry g (is_among (within (either group fresh) g (g top).level top)) m))
+-- The entries that such a change leaves: the old ones without those of the group's leaves, and those of the leaves that the
+-- top now reaches by ways inside the group and the fresh nodes.
+abbrev pub ChangesEntries : Contents → (ℕ → Bool) → ℕ → (ℕ → Bool) → (ℕ → Bool) → Contents → Type 0
+ChangesEntries f live top group fresh g =
+    (m : Member) → HasEntry g (live_after live top group fresh g) m ↔
+     ((HasEntry f live m × ¬ HasEntry f group m) ⊎ HasEntry g (is_among (within (either group fresh) g (g top).level top)) m)
