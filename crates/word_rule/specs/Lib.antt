@@ -6,3 +6,9 @@ pub mod Known
 pub mod Key
 pub mod Tells
 pub mod Own
+pub mod Spelling
+pub mod Held
+pub mod Exchange
+pub mod Sights
+pub mod Steps
+pub mod Table

@@ -42,7 +42,7 @@ longer a b = if nat_lt (length a) (length b) then b else a
 abbrev pub first_log : Terms → Log
 first_log t = record {
   terms = t; past = []; allowance = 67108864; credit = 1152921508901814272;
-  own = []; joined = []; loads = []; stores = []; writes = 0; held = []; loader = None; out = []; sights = []; copies = None;
+  own = []; joined = []; loads = []; stores = []; writes = 0; held = []; loader = None; out = []; head = None; sights = []; copies = None;
   made = 0; kin = newborn []; spent = false
 }
 
@@ -51,7 +51,7 @@ first_log t = record {
 abbrev pub child_log : ℕ → ℕ → Log → Log
 child_log allowance credit v = record {
   terms = v.terms; past = v.past; allowance = allowance; credit = credit;
-  own = []; joined = []; loads = []; stores = []; writes = 0; held = []; loader = None; out = []; sights = []; copies = None;
+  own = []; joined = []; loads = []; stores = []; writes = 0; held = []; loader = None; out = []; head = None; sights = []; copies = None;
   made = 0; kin = newborn (child_name v.kin); spent = false
 }
 
@@ -87,6 +87,6 @@ after_learn v note = record v { past = longer v.past note.past; kin = after_kin 
 abbrev pub spent_log : Log
 spent_log = record {
   terms = record { nodes = 0; loads = 0; payloads = 0; fixed = [] }; past = []; allowance = 0; credit = 0;
-  own = []; joined = []; loads = []; stores = []; writes = 0; held = []; loader = None; out = []; sights = []; copies = None;
+  own = []; joined = []; loads = []; stores = []; writes = 0; held = []; loader = None; out = []; head = None; sights = []; copies = None;
   made = 0; kin = record { name = []; born = 0; missing = []; foreign = []; members = []; given = [] }; spent = true
 }

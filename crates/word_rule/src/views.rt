@@ -126,6 +126,8 @@ pub struct Log {
     pub held: LinkedList<Holding>,
     pub loader: Option<LoaderHolding>,
     pub out: LinkedList<u64>,
+    /// The free head, as it last loaded or stored it under the root's lock.
+    pub head: Option<u64>,
     pub sights: LinkedList<Sight>,
     pub copies: Option<CopySight>,
     /// How many callers it, or one joined into it, split off.
