@@ -7,6 +7,8 @@ mod making;
 mod opening;
 mod rule;
 mod seats;
+#[cfg(test)]
+mod tests;
 mod views;
 mod words;
 

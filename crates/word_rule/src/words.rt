@@ -26,6 +26,7 @@ const VERSION: u64 = 4;
 const LOADER_WORD: usize = 2;
 
 /// The shared words, under one rule. Threads share them by `&`, and step on them each with a `Caller` of its own.
+#[derive(Drop)]
 pub struct Words {
     pub(crate) table: Table<(), Log, Snapshot<Made>, Law, Global>,
     pub(crate) made: Made,
