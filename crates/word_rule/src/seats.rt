@@ -58,12 +58,9 @@ impl Words {
         ensures err { OnErr result (me.new ≡ me.old) }
     {
         let kin = me.kin.birth(alloc)?;
+        let seen = me.seen;
         let seat = self.table.shared.split_seat::<Notes>(&mut me.seat);
-        Ok(Note {
-            seat,
-            seen: me.seen,
-            kin,
-        })
+        Ok(Note { seat, seen, kin })
     }
 
     // A load of the clock, by one into which another was joined: so it knows what it has now.
@@ -120,14 +117,22 @@ impl Words {
         ensures err { IfErr result (λ kept. (kept ≡ note) × (me.new ≡ me.old)) }
     {
         let _ = alloc;
-        let Note { seat, seen, kin } = note;
+        let Note {
+            seat,
+            seen: noted,
+            kin,
+        } = note;
         if let Err(kin) = me.kin.take_in(kin) {
-            return Err(Note { seat, seen, kin });
+            return Err(Note {
+                seat,
+                seen: noted,
+                kin,
+            });
         }
         self.table
             .shared
             .join_seat::<Learns>(&mut me.seat, seat);
-        me.seen = me.seen.max(seen);
+        me.seen = me.seen.max(noted);
         Ok(())
     }
 }
