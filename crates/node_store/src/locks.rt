@@ -1,0 +1,92 @@
+//! Taking and letting go of a version lock.
+//!
+//! Bit 0 of the word says that it is locked, bit 1 that threads sleep on it. Who finds it locked tries again for a while,
+//! then sets bit 1 and sleeps while the word stays as it was. Who lets go clears both bits and wakes one sleeper where bit 1
+//! was set; others may sleep on, so one that has slept sets bit 1 again once it has the lock.
+ghost use Rattle.std.specs.Prelude.{◌≡◌, ◌*◌, ◌<◌, ◌%◌, None, IsSome};
+ghost use Rattle.word_rule.specs.Logs.{after_loader_release};
+ghost use Rattle.node_store.specs.Locking.{Tries, Locks};
+
+use crossbeam_utils::Backoff;
+use std::sync::Wait;
+use word_rule::{Ask, Caller, LockId, Words};
+
+// The bits of a version word: locked, and with sleepers.
+const BITS: u64 = 4;
+
+const LOCKED: u64 = 1;
+
+const LOCKED_WITH_SLEEPERS: u64 = 3;
+
+// Sleeps while the word is the one seen, which is locked, and loads it again. Where it has changed, that word.
+fn wait<R: Wait>(rt: &R, words: &Words, me: &mut Caller, lock: LockId, seen: u64) -> u64
+    requires table { me.old.table ≡ words.now.table }
+    requires lock { lock ≡ LockId.Loader }
+    requires locked { seen % 2 ≡ 1 }
+    ensures { Tries me.old me.new }
+{
+    if seen % BITS == LOCKED {
+        if let Err(found) = words.mark_sleeping(me, lock, seen) {
+            return found;
+        }
+    }
+    words.sleep(rt, lock, seen - seen % BITS + LOCKED_WITH_SLEEPERS);
+    words.load_version(me, lock, Ask::Nothing)
+}
+
+// Says that others may sleep on a lock that was taken, unless one of them said so since.
+fn mark_again(words: &Words, me: &mut Caller, lock: LockId, locked: u64)
+    requires table { me.old.table ≡ words.now.table }
+    requires lock { lock ≡ LockId.Loader }
+    requires locked { locked % 2 ≡ 1 }
+    ensures { Tries me.old me.new }
+{
+    let _ = words.mark_sleeping(me, lock, locked);
+}
+
+/// Takes a lock, and waits for it where another has it.
+pub fn lock<R: Wait>(rt: &R, words: &Words, me: &mut Caller, lock: LockId)
+    requires table { me.old.table ≡ words.now.table }
+    requires lock { lock ≡ LockId.Loader }
+    requires free { me.old.log.loader ≡ None }
+    ensures { Locks me.old me.new }
+{
+    let backoff = Backoff::new();
+    let mut slept = false;
+    let mut seen = words.load_version(me, lock, Ask::Nothing);
+    for _ in rt.forever() {
+        if seen % 2 == 0 {
+            match words.try_lock(me, lock, seen) {
+                Ok(()) => {
+                    if slept {
+                        mark_again(words, me, lock, seen + LOCKED);
+                    }
+                    return;
+                }
+                Err(found) => seen = found,
+            }
+        } else if backoff.is_completed() {
+            seen = wait(rt, words, me, lock, seen);
+            slept = true;
+        } else {
+            backoff.snooze();
+            seen = words.load_version(me, lock, Ask::Nothing);
+        }
+    }
+    unreachable!()
+}
+
+/// Lets go of a lock with the next version, and wakes one that sleeps on it.
+pub fn unlock<R: Wait>(rt: &R, words: &Words, me: &mut Caller, lock: LockId)
+    requires table { me.old.table ≡ words.now.table }
+    requires lock { lock ≡ LockId.Loader }
+    requires held { IsSome me.old.log.loader }
+    requires surplus { 64 * me.old.left < me.old.log.credit }
+    ensures { me.new ≡ record me.old { log = after_loader_release me.old.log } }
+{
+    let _ = rt;
+    let before = words.release(me, lock);
+    if before % BITS == LOCKED_WITH_SLEEPERS {
+        words.wake(lock);
+    }
+}

@@ -1,0 +1,9 @@
+pub mod Rows
+pub mod Slots
+pub mod Orders
+pub mod Parts
+pub mod Times
+pub mod Reach
+pub mod Living
+pub mod Leads
+pub mod Local

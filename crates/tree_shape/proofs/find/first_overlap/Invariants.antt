@@ -1,0 +1,8 @@
+use Rattle.std.proofs.Common.{take}
+use Rattle.reg_model.specs.State.{IsFree}
+use Rattle.tree_shape.specs.Shapes.{entries_of}
+use Rattle.tree_shape.proofs.find.first_overlap.Given as goal
+
+-- none of the entries so far overlaps
+abbrev pub invariant-loop-entry : goal.invariant-loop-entry
+invariant-loop-entry l = IsFree l.span (take l.entry-index (entries_of l.node))

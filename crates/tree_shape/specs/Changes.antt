@@ -1,0 +1,140 @@
+-- What the changes of nodes make of shapes.
+use Rattle.std.specs.Prelude.{ℕ, zero, suc, ◌+◌, ◌<◌, ◌≤◌, List, [], ◌∷◌, ◌++◌, length, take, drop, nat_lt, if◌then◌else◌}
+use Rattle.std.specs.List.{AllByRecursion}
+use Rattle.reg_model.specs.declared.span.Member.{Member}
+use Rattle.tree_shape.specs.declared.pair.Pair.{Pair}
+use Rattle.tree_shape.specs.Shapes.{Shape, Body, Pairs, Entries, Link}
+
+-- the last address of the last entry, where `start` stands for an empty list
+abbrev pub entries_end : ℕ → List Member → ℕ
+entries_end start [] = start
+entries_end start (m ∷ entries) = entries_end m.span.last entries
+
+-- the last separator, where `start` stands for an empty list
+abbrev pub pairs_end : ℕ → List Pair → ℕ
+pairs_end start [] = start
+pairs_end start (p ∷ pairs) = pairs_end p.separator pairs
+
+-- how many pairs or entries
+abbrev pub size : Body → ℕ
+size (Pairs pairs) = length pairs
+size (Entries entries) = length entries
+size (Link next) = 0
+
+-- the first n pairs or entries, and the others
+abbrev pub first_part : ℕ → Body → Body
+first_part n (Pairs pairs) = Pairs (take n pairs)
+first_part n (Entries entries) = Entries (take n entries)
+first_part n (Link next) = Link next
+
+abbrev pub last_part : ℕ → Body → Body
+last_part n (Pairs pairs) = Pairs (drop n pairs)
+last_part n (Entries entries) = Entries (drop n entries)
+last_part n (Link next) = Link next
+
+-- where what is held ends: at the last address of the last entry, or at the last separator
+abbrev pub end_of : Body → ℕ
+end_of (Pairs pairs) = pairs_end 0 pairs
+end_of (Entries entries) = entries_end 0 entries
+end_of (Link next) = 0
+
+-- The two nodes that a node is cut into: the first has its first n pairs or entries and the fence where these end, the
+-- second has the others and begins after that fence.
+abbrev pub first_half : ℕ → Shape → Shape
+first_half n s = record s { high = end_of (first_part n s.body); body = first_part n s.body }
+
+abbrev pub last_half : ℕ → Shape → Shape
+last_half n s = record s { low = end_of (first_part n s.body) + 1; body = last_part n s.body }
+
+-- the pairs or entries of two nodes of one kind
+abbrev pub both : Body → Body → Body
+both (Pairs left) (Pairs right) = Pairs (left ++ right)
+both (Entries left) (Entries right) = Entries (left ++ right)
+both (Pairs left) (Entries right) = Link 0
+both (Pairs left) (Link next) = Link 0
+both (Entries left) (Pairs right) = Link 0
+both (Entries left) (Link next) = Link 0
+both (Link next) right = Link 0
+
+-- one node in place of two neighbours
+abbrev pub joined : Shape → Shape → Shape
+joined left right = record left { high = right.high; body = both left.body right.body }
+
+-- two nodes of one kind fit into one, or don't
+abbrev pub FitAs : Body → Body → Type 0
+FitAs (Pairs left) (Pairs right) = length left + length right ≤ 15
+FitAs (Entries left) (Entries right) = length left + length right ≤ 10
+FitAs _ _ = ⊥
+
+abbrev pub Fit : Shape → Shape → Type 0
+Fit left right = FitAs left.body right.body
+
+abbrev pub OverfillAs : Body → Body → Type 0
+OverfillAs (Pairs left) (Pairs right) = 15 < length left + length right
+OverfillAs (Entries left) (Entries right) = 10 < length left + length right
+OverfillAs _ _ = ⊥
+
+abbrev pub Overfill : Shape → Shape → Type 0
+Overfill left right = OverfillAs left.body right.body
+
+-- pairs whose last separator is raised
+abbrev pub ends_at : ℕ → List Pair → List Pair
+ends_at fence [] = []
+ends_at fence (p ∷ []) = record p { separator = fence } ∷ []
+ends_at fence (p ∷ q ∷ pairs) = p ∷ ends_at fence (q ∷ pairs)
+
+abbrev pub ends_at_as : ℕ → Body → Body
+ends_at_as fence (Pairs pairs) = Pairs (ends_at fence pairs)
+ends_at_as fence (Entries entries) = Entries entries
+ends_at_as fence (Link next) = Link next
+
+-- the left and the right one of two neighbours between which the fence was moved
+abbrev pub up_to : ℕ → Shape → Shape
+up_to fence s = record s { high = fence; body = ends_at_as fence s.body }
+
+abbrev pub after : ℕ → Shape → Shape
+after fence s = record s { low = fence + 1 }
+
+-- the list where what stands at a slot, and all after it, is changed
+abbrev pub at_slot : (Pair → List Pair → List Pair) → ℕ → List Pair → List Pair
+at_slot change slot [] = []
+at_slot change zero (p ∷ pairs) = change p pairs
+at_slot change (suc slot) (p ∷ pairs) = p ∷ at_slot change slot pairs
+
+-- the pair's child with the new separator, and the new child with the pair's
+abbrev pub divide : ℕ → ℕ → Pair → List Pair → List Pair
+divide separator child p pairs = record p { separator = separator } ∷ record p { child = child } ∷ pairs
+
+-- the pair's child with the separator of the next pair, which goes
+abbrev pub swallow_next : Pair → List Pair → List Pair
+swallow_next p [] = p ∷ []
+swallow_next p (q ∷ pairs) = record p { separator = q.separator } ∷ pairs
+
+-- the pair with another separator
+abbrev pub separate_at : ℕ → Pair → List Pair → List Pair
+separate_at separator p pairs = record p { separator = separator } ∷ pairs
+
+-- the entries with one more, in its place
+abbrev pub with_entry : Member → List Member → List Member
+with_entry m [] = m ∷ []
+with_entry m (e ∷ entries) = if nat_lt m.span.first e.span.first then m ∷ e ∷ entries else (e ∷ with_entry m entries)
+
+-- A new separator before the one at a slot: the pairs have the slot, and it lies below the slot's and above the one before
+-- (or is at least `low` where there is none before).
+abbrev pub FitsBefore : ℕ → ℕ → ℕ → List Pair → Type 0
+FitsBefore separator low slot [] = ⊥
+FitsBefore separator low zero (p ∷ pairs) = (low ≤ separator) × (separator < p.separator)
+FitsBefore separator low (suc slot) (p ∷ pairs) = FitsBefore separator (p.separator + 1) slot pairs
+
+-- Another separator at a slot: the pairs have the slot and the next one, and it lies below the next slot's and above the
+-- one before (or is at least `low` where there is none before).
+abbrev pub FitsAt : ℕ → ℕ → ℕ → List Pair → Type 0
+FitsAt separator low slot [] = ⊥
+FitsAt separator low zero (p ∷ pairs) = FitsBefore separator low 0 pairs
+FitsAt separator low (suc slot) (p ∷ pairs) = FitsAt separator (p.separator + 1) slot pairs
+
+-- all that a node holds lies above the address: its entries, or its separators
+abbrev pub LiesAboveAs : ℕ → Body → Type 0
+LiesAboveAs pc (Pairs pairs) = AllByRecursion (λ p. pc < p.separator) pairs
+LiesAboveAs pc (Entries entries) = AllByRecursion (λ m. pc < m.span.first) entries
+LiesAboveAs pc (Link next) = Unit {0}

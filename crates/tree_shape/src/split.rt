@@ -1,0 +1,105 @@
+//! One node made into two.
+
+ghost use Rattle.std.specs.Prelude.{◌≡◌, ◌+◌, ◌-◌, ◌<◌, ◌≤◌, ◌^◌, [], ◌∷◌, ◌++◌, length, take};
+ghost use Rattle.tree_shape.specs.Shapes.{IsLeaf, IsInner, Pairs, Entries, entries_of, pairs_of, InOrder};
+ghost use Rattle.tree_shape.specs.Nodes.{framed};
+ghost use Rattle.tree_shape.specs.Changes.{first_half, last_half, pairs_end};
+
+use crate::node::{Frame, Node, inner_of, leaf_of};
+use crate::pair::Pair;
+use crate::row::{cut, item};
+use reg_model::Member;
+
+/// The two leaves that a leaf with these entries is cut into.
+pub fn cut_leaf(frame: Frame, first: &[Member], last: &[Member], n: usize) -> (Node, Node)
+    requires some { 0 < n }
+    requires left { n ≤ 10 }
+    requires enough { n ≤ length first.now + length last.now }
+    requires right { length first.now + length last.now ≤ n + 10 }
+    ensures left { result.0 ≡ first_half n (framed frame (Entries (first.now ++ last.now))) }
+    ensures right { result.1 ≡ last_half n (framed frame (Entries (first.now ++ last.now))) }
+{
+    let fence = item(first, last, n - 1).span.last();
+    let (before, after) = cut(first, last, n);
+    let left = Node {
+        level: frame.level,
+        low: frame.low,
+        high: fence,
+        content: leaf_of(before.0, before.1, &[]),
+    };
+    let right = Node {
+        level: frame.level,
+        low: fence + 1,
+        high: frame.high,
+        content: leaf_of(after.0, after.1, &[]),
+    };
+    (left, right)
+}
+
+/// The two inner nodes that an inner node with these pairs is cut into.
+pub fn cut_inner(frame: Frame, first: &[Pair], last: &[Pair], n: usize) -> (Node, Node)
+    requires some { 0 < n }
+    requires left { n ≤ 15 }
+    requires enough { n ≤ length first.now + length last.now }
+    requires right { length first.now + length last.now ≤ n + 15 }
+    requires below_top { pairs_end 0 (take n (first.now ++ last.now)) < 2 ^ 64 - 1 }
+    ensures left { result.0 ≡ first_half n (framed frame (Pairs (first.now ++ last.now))) }
+    ensures right { result.1 ≡ last_half n (framed frame (Pairs (first.now ++ last.now))) }
+{
+    let fence = item(first, last, n - 1).separator;
+    let (before, after) = cut(first, last, n);
+    let left = Node {
+        level: frame.level,
+        low: frame.low,
+        high: fence,
+        content: inner_of(before.0, before.1, &[]),
+    };
+    let right = Node {
+        level: frame.level,
+        low: fence + 1,
+        high: frame.high,
+        content: inner_of(after.0, after.1, &[]),
+    };
+    (left, right)
+}
+
+/// A full leaf's first five and last five entries. The fence between them is the last address of the fifth.
+pub fn split_leaf(node: &Node) -> (Node, Node)
+    requires leaf { IsLeaf node.now }
+    requires full { length (entries_of node.now) ≡ 10 }
+    requires ordered { InOrder node.now }
+    ensures left { result.0 ≡ first_half 5 node.now }
+    ensures right { result.1 ≡ last_half 5 node.now }
+{
+    cut_leaf(node.frame(), node.entries(), &[], 5)
+}
+
+/// A full inner node's first seven and last eight pairs. The fence between them is the seventh separator.
+pub fn split_inner(node: &Node) -> (Node, Node)
+    requires inner { IsInner node.now }
+    requires full { length (pairs_of node.now) ≡ 15 }
+    requires ordered { InOrder node.now }
+    ensures left { result.0 ≡ first_half 7 node.now }
+    ensures right { result.1 ≡ last_half 7 node.now }
+{
+    cut_inner(node.frame(), node.pairs(), &[], 7)
+}
+
+/// The root raised by a level, with one child, and that child, which has what the root had.
+pub fn lift_root(node: &Node, child: u32) -> (Node, Node)
+    requires level { node.now.level < 12 }
+    ensures root { let s = node.now in result.0 ≡ record s { level = s.level + 1; body = Pairs (record { child = child; separator = s.high } ∷ []) } }
+    ensures moved { result.1 ≡ node.now }
+{
+    let all = Pair {
+        child,
+        separator: node.high,
+    };
+    let root = Node {
+        level: node.level + 1,
+        low: node.low,
+        high: node.high,
+        content: inner_of(&[all], &[], &[]),
+    };
+    (root, node.holding(node.content()))
+}

@@ -1,0 +1,83 @@
+-- Numbers of logs added up, and words that a step doesn't touch.
+use Rattle.std.proofs.Common.{◌≡◌, ◌≢◌, ℕ, zero, suc, ◌+◌, ◌*◌, ◌/◌, ◌<◌, ◌≤◌, List, [], ◌∷◌, ◌++◌, length, get_or, set, take, drop, sym, refl, ap, ◌∙◌, arith, get_or-set_other}
+use mathlib.Core.Option.{some, some-injective, some-ne-none}
+use lib.ListN.{get_elem?}
+use Rattle.word_rule.specs.declared.views.Log.{Log}
+use Rattle.word_rule.specs.declared.views.Terms.{Terms}
+use Rattle.word_rule.specs.Places.{LOADER, node_place, node_counters, copy_at, copy_place, copy_words}
+use Rattle.word_rule.specs.Rule.{total}
+
+-- one log changes
+pub total_set : (f : Log → ℕ) (views : List Log) (id : ℕ) (v w : Log) → get_elem? views id ≡ some v → total f (set views id w) + f v ≡ total f views + f w
+total_set f [] id v w at = absurd (some-ne-none v (sym at))
+total_set f (x ∷ views) zero v w at = let e : f x ≡ f v = ap f (some-injective x v at) in omega (arith, e)
+total_set f (x ∷ views) (suc id) v w at = let e = total_set f views id v w at in omega (arith, e)
+
+-- and its number doesn't
+pub total_same : (f : Log → ℕ) (views : List Log) (id : ℕ) (v w : Log) → get_elem? views id ≡ some v → f w ≡ f v → total f (set views id w) ≡ total f views
+total_same f views id v w at e = let s = total_set f views id v w at in omega (arith, s, e)
+
+-- one log more
+pub total_snoc : (f : Log → ℕ) (views : List Log) (w : Log) → total f (views ++ w ∷ []) ≡ total f views + f w
+total_snoc f [] w = omega arith
+total_snoc f (x ∷ views) w = let e = total_snoc f views w in omega (arith, e)
+
+-- one of them is at most all
+pub part_of_total : (f : Log → ℕ) (views : List Log) (id : ℕ) (v : Log) → get_elem? views id ≡ some v → f v ≤ total f views
+part_of_total f [] id v at = absurd (some-ne-none v (sym at))
+part_of_total f (x ∷ views) zero v at = let e : f x ≡ f v = ap f (some-injective x v at) in omega (arith, e)
+part_of_total f (x ∷ views) (suc id) v at = let e = part_of_total f views id v at in omega (arith, e)
+
+-- the versions of nodes stand apart from the loader's lock
+pub node_counters_set : (words : List ℕ) (x n : ℕ) → node_counters (set words LOADER x) n ≡ node_counters words n
+node_counters_set words x zero = refl
+node_counters_set words x (suc n) =
+    let apart : 4 + 36 * n ≢ 2 = (λ e. omega (arith, e)) in
+    let here : get_or (set words 2 x) (4 + 36 * n) 0 ≡ get_or words (4 + 36 * n) 0 = rw get_or-set_other in
+    let rest = node_counters_set words x n in rw (here, rest) refl
+
+drop_set : (words : List ℕ) (i x k : ℕ) → i < k → drop k (set words i x) ≡ drop k words
+drop_set [] i x k h = refl
+drop_set (y ∷ words) i x zero h = absurd (omega arith)
+drop_set (y ∷ words) zero x (suc k) h = refl
+drop_set (y ∷ words) (suc i) x (suc k) h = drop_set words i x k (omega arith)
+
+-- so do the copies
+pub copy_at_set : (t : Terms) (words : List ℕ) (x c : ℕ) → copy_at t (set words LOADER x) c ≡ copy_at t words c
+copy_at_set t words x c = ap (take (copy_words t)) (drop_set words 2 x (copy_place t c) (omega arith))
+
+-- two of them together are at most all
+pub two_of_total : (f : Log → ℕ) (views : List Log) (id j : ℕ) (v u : Log) → get_elem? views id ≡ some v → get_elem? views j ≡ some u → j ≢ id → f v + f u ≤ total f views
+two_of_total f [] id j v u at there ne = absurd (some-ne-none v (sym at))
+two_of_total f (x ∷ views) zero zero v u at there ne = absurd (ne refl)
+two_of_total f (x ∷ views) zero (suc j) v u at there ne = let e : f x ≡ f v = ap f (some-injective x v at) in let p = part_of_total f views j u there in omega (arith, e, p)
+two_of_total f (x ∷ views) (suc id) zero v u at there ne = let e : f x ≡ f u = ap f (some-injective x u there) in let p = part_of_total f views id v at in omega (arith, e, p)
+two_of_total f (x ∷ views) (suc id) (suc j) v u at there ne = let p = two_of_total f views id j v u at there (λ e. ne (ap suc e)) in omega (arith, p)
+
+-- where all others have none, one has all
+pub all_of_total : (f : Log → ℕ) (views : List Log) (id : ℕ) (v : Log) → get_elem? views id ≡ some v → ((j : ℕ) (u : Log) → j ≢ id → get_elem? views j ≡ some u → f u ≡ 0) → total f views ≡ f v
+all_of_total f [] id v at none = absurd (some-ne-none v (sym at))
+all_of_total f (x ∷ views) zero v at none =
+    let e : f x ≡ f v = ap f (some-injective x v at) in let r : total f views ≡ 0 = nothing_left f views (λ j u there. none (suc j) u (λ z. omega (arith, z)) there) in omega (arith, e, r)
+  where
+    nothing_left : (f : Log → ℕ) (views : List Log) → ((j : ℕ) (u : Log) → get_elem? views j ≡ some u → f u ≡ 0) → total f views ≡ 0
+    nothing_left f [] none = refl
+    nothing_left f (y ∷ views) none = let a : f y ≡ 0 = none 0 y refl in let b = nothing_left f views (λ j u there. none (suc j) u there) in omega (arith, a, b)
+all_of_total f (x ∷ views) (suc id) v at none =
+    let e : f x ≡ 0 = none 0 x (λ z. omega (arith, z)) refl in let r = all_of_total f views id v at (λ j u ne there. none (suc j) u (λ z. ne (suc_same j id z)) there) in omega (arith, e, r)
+  where
+    suc_same : (j id : ℕ) → suc j ≡ suc id → j ≡ id
+    suc_same j id z = omega (arith, z)
+
+-- what is more than nought, one of them has
+pub some_of_total : (f : Log → ℕ) (views : List Log) → 0 < total f views → (j : ℕ) × (u : Log) × ((get_elem? views j ≡ some u) × (0 < f u))
+some_of_total f [] h = absurd (omega arith)
+some_of_total f (x ∷ views) h = go (f x) refl (λ more. some_of_total f views more)
+  where
+    go : (n : ℕ) → f x ≡ n → (0 < total f views → (j : ℕ) × (u : Log) × ((get_elem? views j ≡ some u) × (0 < f u))) → (j : ℕ) × (u : Log) × ((get_elem? (x ∷ views) j ≡ some u) × (0 < f u))
+    go zero e rest = let r = rest (omega (arith, h, e)) in (suc r.0, r.1, r.2)
+    go (suc n) e rest = (0, x, (refl, omega (arith, e)))
+
+-- one log changes, and another after it
+pub total_set_two : (f : Log → ℕ) (views : List Log) (id j : ℕ) (v w u z : Log) → get_elem? views id ≡ some v → get_elem? (set views id w) j ≡ some u → total f (set (set views id w) j z) + f v + f u ≡ total f views + f w + f z
+total_set_two f views id j v w u z at there = let a = total_set f views id v w at in let b = total_set f (set views id w) j u z there in omega (arith, a, b)

@@ -1,0 +1,111 @@
+-- When and how the settled contents of the nodes that a caller holds become what their words spell. Nothing is asked of the
+-- rest of the tree.
+use Rattle.std.specs.Prelude.{◌≡◌, ◌≢◌, ℕ, ◌≤◌, ◌<◌, ◌-◌, Bool, true, false, ◌&&◌, not, IsTrue, IsSome, is_some, List, [], ◌∷◌, ◌++◌, length, Option, Some, None, ◌⊎◌, ◌↔◌, map, if◌then◌else◌, Contains}
+use Rattle.std.specs.List.{AllByRecursion, filter}
+use Rattle.reg_model.specs.State.{IsFree}
+use Rattle.reg_model.specs.declared.span.Member.{Member}
+use Rattle.reg_model.specs.declared.answer.Update.{Update}
+use Rattle.reg_model.specs.declared.answer.Update.TheVariants.{Register, Deregister, Load, Unload}
+use Rattle.tree_shape.specs.Shapes.{Shape}
+use Rattle.tree_shape.specs.Trees.{Contents, within, HasEntry}
+use Rattle.tree_shape.specs.Numbers.{is_among}
+use Rattle.tree_shape.specs.Lawful.{IsFilled}
+use Rattle.tree_shape.specs.LocalChange.{either, IsLocalChange}
+use Rattle.word_rule.specs.declared.views.Log.{Log}
+use Rattle.word_rule.specs.declared.views.Holding.{Holding}
+use Rattle.word_rule.specs.declared.views.Mark.{Mark}
+use Rattle.word_rule.specs.Spelling.{spelled}
+use Rattle.word_rule.specs.Held.{held_of, is_listed, words_of, settled_in, now_in, now_of, is_marked, marked_in, mark_of}
+
+-- the words of a held node spell another content than its settled one
+abbrev pub Differs : Holding → Type 0
+Differs h = spelled (words_of h) ≢ Some h.settled
+
+-- whether a held node is out
+abbrev pub is_fresh : List Holding → List ℕ → ℕ → Bool
+is_fresh held out n = is_some (held_of n held) && is_listed n out
+
+-- the contents after the exchange of a group and of the nodes that are out
+abbrev pub exchanged_in : Log → (ℕ → Bool) → Contents
+exchanged_in v group n = if either group (is_fresh v.held v.out) n then now_in v.held n else settled_in v.held n
+
+-- whether the top reaches the node by ways inside the group and the nodes that are out, afterwards
+abbrev pub is_reached : Log → ℕ → (ℕ → Bool) → ℕ → Bool
+is_reached v top group n =
+    is_among (within (either group (is_fresh v.held v.out)) (exchanged_in v group) (exchanged_in v group top).level top) n
+
+-- what becomes of the entries: a release and a store keep them, a commit changes them by its update
+abbrev pub EntriesBecome : Option Update → (Member → Type 0) → (Member → Type 0) → Type 0
+EntriesBecome None before after = (m : Member) → after m ↔ before m
+EntriesBecome (Some (Register added)) before after = (m : Member) → after m ↔ (before m ⊎ (m ≡ added))
+EntriesBecome (Some (Deregister base)) before after = (m : Member) → after m ↔ (before m × (m.span.first ≢ base))
+EntriesBecome (Some (Load m)) before after = ⊥
+EntriesBecome (Some (Unload base)) before after = ⊥
+
+-- the nodes of a list that a test passes
+abbrev pub picked : (ℕ → Bool) → List ℕ → List ℕ
+picked test nodes = filter test nodes
+
+abbrev pub node_of : Holding → ℕ
+node_of h = h.node
+
+-- the nodes out afterwards: those before that the top doesn't reach, and those of the group that it doesn't
+abbrev pub out_after : Log → ℕ → (ℕ → Bool) → List ℕ
+out_after v top group =
+    picked (λ n. not (is_fresh v.held v.out n && is_reached v top group n)) v.out
+    ++ picked (λ n. group n && not (is_reached v top group n)) (map node_of v.held)
+
+-- The exchange of a group of held live nodes under one of them, the top, and of the held nodes that are out is lawful.
+pub record IsLawfulExchange (v : Log) (update : Option Update) (top : ℕ) (group : ℕ → Bool) : Type 0 where
+  -- the words of every held node spell a node
+  pub spell : AllByRecursion (λ h. IsSome (spelled (words_of h))) v.held
+  -- the group is of held live nodes, and has each that differs
+  pub grouped : (n : ℕ) → IsTrue (group n) → IsTrue (marked_in v.held n)
+  pub covers : AllByRecursion (λ h. IsSome h.mark → Differs h → IsTrue (group h.node)) v.held
+  -- what the law of local change asks for, of these nodes alone
+  pub change : IsLocalChange (settled_in v.held) (marked_in v.held) top group (is_fresh v.held v.out) (exchanged_in v group)
+  pub filled : (n : ℕ) → IsTrue (is_reached v top group n) → IsFilled n (exchanged_in v group n)
+  -- the entries of the group's leaves stay as they were, or change by the update
+  pub entries : EntriesBecome update (HasEntry (settled_in v.held) group) (HasEntry (exchanged_in v group) (is_reached v top group))
+  -- each node that leaves the tree had a word stored under its lock
+  pub stored : AllByRecursion (λ h. IsTrue (group h.node) → is_reached v top group h.node ≡ false → h.stored ≡ true) v.held
+  pub room : length (out_after v top group) ≤ 4
+
+-- no held live node differs from its settled content, and no update is made
+abbrev pub IsQuiet : Log → Option Update → Type 0
+IsQuiet v None = AllByRecursion (λ h. IsSome h.mark → spelled (words_of h) ≡ Some h.settled) v.held
+IsQuiet v (Some update) = ⊥
+
+-- A held node's settled content becomes what its words spell, where it is in the group or isn't live. It is marked where
+-- it is reached, and no more where it is of the group and isn't.
+abbrev pub mark_after : Shape → (ℕ → Bool) → (ℕ → Bool) → Holding → Option Mark
+mark_after now group reached h = if reached h.node then Some (mark_of now) else (if group h.node then None else h.mark)
+
+abbrev pub exchange : (ℕ → Bool) → (ℕ → Bool) → Holding → Holding
+exchange group reached h = record h {
+  settled = if group h.node then now_of h (spelled (words_of h)) else (if is_some h.mark then h.settled else now_of h (spelled (words_of h)));
+  mark = mark_after (now_of h (spelled (words_of h))) group reached h
+}
+
+-- the log after the exchange
+abbrev pub after_exchange : Log → ℕ → (ℕ → Bool) → Log
+after_exchange v top group = record v { held = map (exchange group (is_reached v top group)) v.held; out = out_after v top group }
+
+-- the held nodes that aren't live settle to what their words spell, and no others
+abbrev pub nothing_reached : ℕ → Bool
+nothing_reached n = false
+
+abbrev pub settle_free : Log → Log
+settle_free v = record v { held = map (exchange nothing_reached nothing_reached) v.held }
+
+-- some exchange is lawful
+abbrev pub MayExchange : Log → Option Update → Type 0
+MayExchange v update = (top : ℕ) × (group : ℕ → Bool) × IsLawfulExchange v update top group
+
+-- What an exchange makes of a log: where no live node differs only the others settle, else a lawful exchange is made.
+abbrev pub Exchanges : Option Update → Log → Log → Type 0
+Exchanges update v w = (IsQuiet v update × (w ≡ settle_free v)) ⊎ ((top : ℕ) × (group : ℕ → Bool) × (IsLawfulExchange v update top group × (w ≡ after_exchange v top group)))
+
+-- An exchange that is made exactly where it is lawful, as at the release of a node and at a store that makes one free.
+abbrev pub ExchangesWhereLawful : Log → Log → Type 0
+ExchangesWhereLawful v w = Exchanges None v w ⊎ ((¬ IsQuiet v None) × (¬ MayExchange v None) × (w ≡ v))

@@ -1,0 +1,14 @@
+pub mod Names
+pub mod Places
+pub mod Logs
+pub mod Rule
+pub mod Known
+pub mod Key
+pub mod Tells
+pub mod Own
+pub mod Spelling
+pub mod Held
+pub mod Exchange
+pub mod Sights
+pub mod Steps
+pub mod Table

@@ -1,0 +1,77 @@
+-- Where each word of the shared table stands. N is the number of nodes, G that of the segments of one copy.
+use Rattle.std.specs.Prelude.{ℕ, zero, suc, ◌+◌, ◌*◌, ◌/◌, ◌%◌, ◌^◌, ◌==◌, ◌||◌, List, [], ◌∷◌, ◌++◌, slice_index, slice_set, take, drop, replicate, if◌then◌else◌}
+use Rattle.word_rule.specs.declared.views.Terms.{Terms}
+
+-- the clock: publications of the loader in its upper half, accepted updates in its lower half
+abbrev pub CLOCK : ℕ
+CLOCK = 0
+
+-- the first node of the free list, or 0
+abbrev pub HEAD : ℕ
+HEAD = 1
+
+-- the loader's version lock
+abbrev pub LOADER : ℕ
+LOADER = 2
+
+-- the version lock of a node, with which its 36 words begin
+abbrev pub node_place : ℕ → ℕ
+node_place n = 4 + 36 * n
+
+-- the segments of a copy for so many loads, and their words with the two before them
+abbrev pub segments : ℕ → ℕ
+segments loads = (loads + 15) / 16
+
+abbrev pub copy_words : Terms → ℕ
+copy_words t = 2 + 50 * segments t.loads
+
+-- copy 0 or 1
+abbrev pub copy_place : Terms → ℕ → ℕ
+copy_place t c = 4 + 36 * t.nodes + c * copy_words t
+
+-- all words
+abbrev pub word_count : Terms → ℕ
+word_count t = 4 + 36 * t.nodes + 2 * copy_words t
+
+-- how many updates were accepted, and how many of them by the loader
+abbrev pub lower : ℕ → ℕ
+lower clock = clock % 2 ^ 32
+
+abbrev pub upper : ℕ → ℕ
+upper clock = clock / 2 ^ 32
+
+-- the words of copy c
+abbrev pub copy_at : Terms → List ℕ → ℕ → List ℕ
+copy_at t words c = take (copy_words t) (drop (copy_place t c) words)
+
+-- the copy that is not active
+abbrev pub spare : ℕ → ℕ
+spare clock = (upper clock + 1) % 2
+
+-- A node's words at the start: the root is a leaf and the others are free, each linked to the next; all fences are open.
+abbrev pub opening_kind : ℕ → ℕ
+opening_kind n = if n == 0 then 1 else 2
+
+abbrev pub opening_link : ℕ → ℕ → ℕ
+opening_link nodes n = if (n == 0) || (n + 1 == nodes) then 0 else (n + 1)
+
+abbrev pub opening_node : ℕ → ℕ → List ℕ
+opening_node nodes n = slice_set (slice_set (slice_set (replicate 36 0) 1 (opening_kind n)) 4 18446744073709551615) 6 (opening_link nodes n)
+
+-- the words of the nodes below n
+abbrev pub opening_nodes : ℕ → ℕ → List ℕ
+opening_nodes nodes zero = []
+opening_nodes nodes (suc n) = opening_nodes nodes n ++ opening_node nodes n
+
+-- all words at the start: nothing was accepted, node 1 is the first free one, no lock is held, both copies are empty
+abbrev pub opening_words : Terms → List ℕ
+opening_words t = (0 ∷ 1 ∷ 0 ∷ 0 ∷ opening_nodes t.nodes t.nodes) ++ replicate (2 * copy_words t) 0
+
+-- the counters of the version words of the nodes below n, added up
+abbrev pub node_counters : List ℕ → ℕ → ℕ
+node_counters words zero = 0
+node_counters words (suc n) = slice_index words (node_place n) / 4 + node_counters words n
+
+-- the counters of all version words
+abbrev pub counters : Terms → List ℕ → ℕ
+counters t words = slice_index words LOADER / 4 + node_counters words t.nodes

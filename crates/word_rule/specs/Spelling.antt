@@ -1,0 +1,49 @@
+-- What the 36 words of a node spell: word 0 its version, 1 its kind, 2 its level, 3 and 4 its fences, 5 its count, and from 6
+-- on its pairs, its entries, or the next free node.
+use Rattle.std.specs.Prelude.{◌≡◌, ℕ, zero, suc, ◌+◌, ◌-◌, ◌^◌, Bool, ◌&&◌, ◌==◌, nat_lt, nat_le, List, [], ◌∷◌, Option, Some, None, option_map, slice_index, if◌then◌else◌}
+use Rattle.reg_model.specs.declared.span.Member.{Member}
+use Rattle.tree_shape.specs.declared.pair.Pair.{Pair}
+use Rattle.tree_shape.specs.Shapes.{Shape, Body, Pairs, Entries, Link}
+
+-- a number of 32 bits, as nodes, levels and payloads are
+abbrev pub is_short : ℕ → Bool
+is_short n = nat_lt n (2 ^ 32)
+
+abbrev pub pair_at : List ℕ → ℕ → Pair
+pair_at words at = record { child = slice_index words at; separator = slice_index words (at + 1) }
+
+-- so many pairs from a place on
+abbrev pub pairs_at : List ℕ → ℕ → ℕ → Option (List Pair)
+pairs_at words at zero = Some []
+pairs_at words at (suc count) = if is_short (slice_index words at) then option_map (λ pairs. pair_at words at ∷ pairs) (pairs_at words (at + 2) count) else None
+
+abbrev pub member_at : List ℕ → ℕ → Member
+member_at words at = record {
+  span = record { first = slice_index words at; last = slice_index words at + slice_index words (at + 1) - 1 };
+  payload = slice_index words (at + 2)
+}
+
+-- a base and a size with an address above the last one, and a payload
+abbrev pub is_member_at : List ℕ → ℕ → Bool
+is_member_at words at = nat_le 1 (slice_index words (at + 1)) && nat_le (slice_index words at + slice_index words (at + 1)) (2 ^ 64 - 1) && is_short (slice_index words (at + 2))
+
+-- so many entries from a place on
+abbrev pub entries_at : List ℕ → ℕ → ℕ → Option (List Member)
+entries_at words at zero = Some []
+entries_at words at (suc count) = if is_member_at words at then option_map (λ entries. member_at words at ∷ entries) (entries_at words (at + 3) count) else None
+
+abbrev pub body_of_kind : List ℕ → ℕ → ℕ → Option Body
+body_of_kind words kind count =
+    if kind == 0 then (if nat_le count 15 then option_map Pairs (pairs_at words 6 count) else None)
+    else (if kind == 1 then (if nat_le count 10 then option_map Entries (entries_at words 6 count) else None)
+    else (if (kind == 2) && is_short (slice_index words 6) then Some (Link (slice_index words 6)) else None))
+
+-- the node that the words spell, if they spell one
+abbrev pub spelled : List ℕ → Option Shape
+spelled words =
+    if is_short (slice_index words 2)
+    then option_map (λ body. record { level = slice_index words 2; low = slice_index words 3; high = slice_index words 4; body = body }) (body_of_kind words (slice_index words 1) (slice_index words 5))
+    else None
+
+abbrev pub Spells : List ℕ → Shape → Type 0
+Spells words shape = spelled words ≡ Some shape

@@ -1,0 +1,172 @@
+-- What the steps on nodes, on the loader's copies, on the clock and on the free head make of a log, and what they ask for.
+use Rattle.std.specs.Prelude.{◌≡◌, ◌≢◌, ℕ, ◌+◌, ◌-◌, ◌*◌, ◌<◌, ◌≤◌, ◌⊎◌, Bool, true, false, ◌==◌, IsTrue, List, [], ◌∷◌, ◌++◌, length, map, Option, Some, None, IsSome, IfSome, IsSomeAnd, slice_set, slice_index, if◌then◌else◌}
+use Rattle.std.specs.List.{AllByRecursion}
+use Rattle.reg_model.specs.History.{Fits, state_after, after, state_at}
+use Rattle.reg_model.specs.State.{State, at_base, IsFree}
+use Rattle.reg_model.specs.Receipt.{moment, accepted, IsRight}
+use Rattle.reg_model.specs.declared.answer.Update.{Update}
+use Rattle.reg_model.specs.declared.answer.Update.TheVariants as update
+use Rattle.reg_model.specs.declared.answer.Inserted.TheVariants as inserted
+use Rattle.reg_model.specs.declared.answer.Loading.TheVariants as loading
+use Rattle.reg_model.specs.declared.answer.Removed.TheVariants as removed
+use Rattle.reg_model.specs.declared.answer.Receipt.{Receipt}
+use Rattle.reg_model.specs.declared.answer.Receipt.TheVariants as receipt
+use Rattle.tree_shape.specs.Shapes.{Shape, Body, Link, Pairs, Entries, pairs_of}
+use Rattle.tree_shape.specs.Trees.{branches, Branch}
+use Rattle.word_rule.specs.declared.views.Log.{Log}
+use Rattle.word_rule.specs.declared.views.Holding.{Holding}
+use Rattle.word_rule.specs.declared.views.LoaderHolding.{LoaderHolding}
+use Rattle.word_rule.specs.declared.views.Mark.{Mark}
+use Rattle.word_rule.specs.Places.{HEAD, node_place, copy_place, upper, lower}
+use Rattle.word_rule.specs.Spelling.{spelled, Spells}
+use Rattle.word_rule.specs.Held.{held_of, edited, without_lock, is_listed, without_node, words_of, marked_in}
+use Rattle.word_rule.specs.Exchange.{Exchanges, ExchangesWhereLawful, MayExchange, IsQuiet, Differs}
+use Rattle.word_rule.specs.Logs.{after_load}
+use Rattle.word_rule.specs.Rule.{start}
+
+-- one more step that was done
+abbrev pub after_write : Log → Log
+after_write v = record v { writes = v.writes + 1 }
+
+-- The mark of a node at its lock: the root is live, and so is one that the settled content of a held live node names, at
+-- the place that it is given there.
+abbrev pub place_in : ℕ → List Branch → Option Mark
+place_in n [] = None
+place_in n (b ∷ bs) = if b.child == n then Some record { level = b.level; low = b.low; high = b.high } else place_in n bs
+
+abbrev pub place_by : ℕ → Option Mark → Holding → Option Mark
+place_by n None h = None
+place_by n (Some m) h = place_in n (branches (h.settled.level - 1) h.settled)
+
+abbrev pub first_mark : Option Mark → Option Mark → Option Mark
+first_mark None other = other
+first_mark (Some m) other = Some m
+
+abbrev pub place_by_held : ℕ → List Holding → Option Mark
+place_by_held n [] = None
+place_by_held n (h ∷ held) = first_mark (place_by n h.mark h) (place_by_held n held)
+
+abbrev pub mark_at_lock : ℕ → Shape → List Holding → Option Mark
+mark_at_lock n settled held = if n == 0 then Some record { level = settled.level; low = settled.low; high = settled.high } else place_by_held n held
+
+-- A node was locked at a version, while it had this settled content and these words.
+abbrev pub after_node_lock : ℕ → ℕ → Shape → List ℕ → Log → Log
+after_node_lock n version settled words v = record (after_write v) {
+  held = record { node = n; version = version; settled = settled; words = words; stored = false; mark = mark_at_lock n settled v.held } ∷ v.held
+}
+
+-- A node was let go with the next version: its content settled where that is lawful.
+abbrev pub AfterNodeRelease : ℕ → Log → Log → Type 0
+AfterNodeRelease n v w = (u : Log) × (ExchangesWhereLawful v u × (w ≡ record (after_write u) { held = without_lock n u.held; credit = u.credit - 1 }))
+
+-- A release asks that the node's words spell a node, and, where it is live and they spell another content, for a lawful
+-- exchange.
+abbrev pub MayRelease : ℕ → Log → Type 0
+MayRelease n v = IsSomeAnd (held_of n v.held) (λ h. IsSome (spelled (words_of h)) × (IsSome h.mark → Differs h → MayExchange v None))
+
+-- A node under whose lock nothing was stored was let go with the version at which it was locked.
+abbrev pub after_node_release_same : ℕ → Log → Log
+after_node_release_same n v = record (after_write v) { held = without_lock n v.held }
+
+-- a word was stored in a held node, counted from its version word
+abbrev pub store_in : ℕ → ℕ → Holding → Holding
+store_in at value h = record h { words = slice_set h.words (at - 1) value; stored = true }
+
+abbrev pub stored_log : ℕ → ℕ → ℕ → Log → Log
+stored_log n at value v = record (after_write v) { held = edited n (store_in at value) v.held; stores = v.stores ++ n ∷ [] }
+
+-- A word of a held node was stored. Where it made a live node free, the contents settle where that is lawful.
+abbrev pub AfterStore : ℕ → ℕ → ℕ → Log → Log → Type 0
+AfterStore n at value v w =
+    (((at ≡ 1) × (value ≡ 2) × IsTrue (marked_in v.held n)) × ExchangesWhereLawful (stored_log n at value v) w)
+    ⊎ ((¬ ((at ≡ 1) × (value ≡ 2) × IsTrue (marked_in v.held n))) × (w ≡ stored_log n at value v))
+
+-- a store asks that the node is held, and live or out
+abbrev pub MayStore : ℕ → Log → Type 0
+MayStore n v = IsSomeAnd (held_of n v.held) (λ h. IsSome h.mark ⊎ IsTrue (is_listed n v.out))
+
+-- the receipt of an update that was accepted with this number, in the state before it
+abbrev pub IsDone : Update → ℕ → State → Receipt → Type 0
+IsDone (update.Register m) n s r = r ≡ receipt.Register m (inserted.Done n)
+IsDone (update.Load m) n s r = r ≡ receipt.Load m (loading.Done n)
+IsDone (update.Deregister base) n s r = IsSomeAnd (at_base base s.registered) (λ m. r ≡ receipt.Deregister base (removed.Done n m))
+IsDone (update.Unload base) n s r = IsSomeAnd (at_base base s.loaded) (λ m. r ≡ receipt.Unload base (removed.Done n m))
+
+-- An update was accepted: it is the last of the history, which is now seen; one call less is due. The receipt is the one of
+-- its number.
+abbrev pub after_update : Update → List Update → Receipt → Log → Log
+after_update u before r v = record (after_write v) { past = before ++ u ∷ []; allowance = v.allowance - 1; own = v.own ++ r ∷ [] }
+
+-- A commit: the update of the tree was accepted, and the contents settled.
+abbrev pub AfterCommit : Update → Log → Log → Type 0
+AfterCommit u v w = (before : List Update) × (r : Receipt) × (settled : Log) ×
+    (IsDone u (length before + 1) (state_after (start v.terms) before) r × Exchanges (Some u) v settled × (w ≡ after_update u before r settled))
+
+-- a commit asks for a lawful exchange, in which its update changes the entries
+abbrev pub MayCommit : Update → Log → Type 0
+MayCommit u v = MayExchange v (Some u)
+
+-- A word of the copy that is not active was stored, counted in the whole table.
+abbrev pub store_in_copy : ℕ → ℕ → LoaderHolding → LoaderHolding
+store_in_copy at value h = record h { words = slice_set h.words at value; stored = true }
+
+abbrev pub copy_stored : ℕ → ℕ → Option LoaderHolding → Option LoaderHolding
+copy_stored at value None = None
+copy_stored at value (Some h) = Some (store_in_copy at value h)
+
+abbrev pub after_copy_store : ℕ → ℕ → ℕ → Log → Log
+after_copy_store copy at value v = record (after_write v) { loader = copy_stored (at - copy_place v.terms copy) value v.loader }
+
+-- A publication: the update of the loader was accepted, and the words kept with its lock are now those of the other copy.
+abbrev pub other_copy : List ℕ → Option LoaderHolding → Option LoaderHolding
+other_copy words None = None
+other_copy words (Some h) = Some record h { words = words }
+
+abbrev pub AfterPublish : Update → Log → Log → Type 0
+AfterPublish u v w = (before : List Update) × (r : Receipt) × (other : List ℕ) ×
+    (IsDone u (length before + 1) (state_after (start v.terms) before) r × (w ≡ record (after_update u before r v) { loader = other_copy other v.loader }))
+
+-- what a receipt answers
+abbrev pub Answers : Update → Receipt → Type 0
+Answers u (receipt.Register m answer) = u ≡ update.Register m
+Answers u (receipt.Deregister base answer) = u ≡ update.Deregister base
+Answers u (receipt.Load m answer) = u ≡ update.Load m
+Answers u (receipt.Unload base answer) = u ≡ update.Unload base
+Answers u (receipt.Query which pc found) = ⊥
+
+-- the refusal of an update, right in a state, at a stamp
+abbrev pub IsRefusal : Update → State → ℕ → Receipt → Type 0
+IsRefusal u s stamp r = Answers u r × (accepted r ≡ None) × (moment r ≡ stamp) × IsRight s r
+
+-- The free head was loaded.
+abbrev pub after_head_load : ℕ → Log → Log
+after_head_load found v = record (after_load HEAD found v) { head = Some found }
+
+-- The head was stored under the root's lock: it was taken off the free list and is out, or a node that was out was put there.
+abbrev pub after_take : ℕ → ℕ → Log → Log
+after_take taken next v = record (after_write v) { head = Some next; out = taken ∷ v.out }
+
+abbrev pub after_give : ℕ → Log → Log
+after_give n v = record (after_write v) { head = Some n; out = without_node n v.out }
+
+-- what the words of a held node spell: that it is free, and linked to this one
+abbrev pub IsFreeTo : ℕ → ℕ → Log → Type 0
+IsFreeTo n next v = IsSomeAnd (held_of n v.held) (λ h. IsSomeAnd (spelled (words_of h)) (λ s. s.body ≡ Link next))
+
+-- a store of the head takes the first node off the list, which the caller holds, or puts one there that was out
+abbrev pub MayStoreHead : ℕ → Log → Type 0
+MayStoreHead node v =
+    IsSome (held_of 0 v.held) × IsSomeAnd v.head (λ h. (IsFreeTo h node v × (length v.out < 4)) ⊎ (IsFreeTo node h v × IsTrue (is_listed node v.out)))
+
+-- side by side: an exchange at the head takes a node off, or puts one there
+abbrev pub after_pop : ℕ → Log → Log
+after_pop n v = record (after_write v) { out = n ∷ v.out }
+
+abbrev pub after_push : ℕ → Log → Log
+after_push n v = record (after_write v) { out = without_node n v.out }
+
+abbrev pub MayPop : ℕ → ℕ → Log → Type 0
+MayPop n next v = IsFreeTo n next v × (length v.out < 4)
+
+abbrev pub MayPush : ℕ → ℕ → Log → Type 0
+MayPush n next v = IsFreeTo n next v × IsTrue (is_listed n v.out)

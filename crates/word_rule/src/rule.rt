@@ -1,0 +1,134 @@
+//! The rule of the table, and what each step tells.
+
+use crate::views::Log;
+use atomic_table::{Join, Play, Split, TableRule};
+use reg_model::Member;
+use std::marker::{Brand, PhantomData};
+use std::snapshot::Snapshot;
+
+/// With what the words were made, as the code keeps it.
+#[derive(Drop)]
+pub(crate) struct Made {
+    pub(crate) nodes: u32,
+    pub(crate) loads: u32,
+    pub(crate) payloads: u32,
+    pub(crate) fixed: Vec<Member>,
+}
+
+/// What holds between any two steps.
+pub(crate) struct Law;
+
+impl TableRule<(), Log, Snapshot<Made>> for Law {
+    ghost use Rattle.word_rule.specs.Key.{terms_of};
+    ghost use Rattle.word_rule.specs.Logs.{first_log};
+    ghost use Rattle.word_rule.specs.Rule.{Callers};
+
+    ghost holds = { λ key s. Callers (terms_of key.value) s.words s.views };
+
+    ghost first = { λ key. first_log (terms_of key.value) };
+}
+
+pub(crate) struct Looks;
+
+impl Play<(), Log> for Looks {
+    ghost use Rattle.word_rule.specs.Tells.{looks};
+
+    ghost then = { looks };
+}
+
+pub(crate) struct Locks;
+
+impl Play<(), Log> for Locks {
+    ghost use Rattle.word_rule.specs.Tells.{locks};
+
+    ghost then = { locks };
+}
+
+pub(crate) struct Marks;
+
+impl Play<(), Log> for Marks {
+    ghost use Rattle.word_rule.specs.Tells.{marks};
+
+    ghost then = { marks };
+}
+
+pub(crate) struct Releases;
+
+impl Play<(), Log> for Releases {
+    ghost use Rattle.word_rule.specs.Tells.{releases};
+
+    ghost then = { releases };
+}
+
+pub(crate) struct ReleasesSame;
+
+impl Play<(), Log> for ReleasesSame {
+    ghost use Rattle.word_rule.specs.Tells.{releases_same};
+
+    ghost then = { releases_same };
+}
+
+pub(crate) struct Settles;
+
+impl Play<(), Log> for Settles {
+    ghost use Rattle.word_rule.specs.Tells.{settles};
+
+    ghost then = { settles };
+}
+
+/// How much a split gives away, which only the call knows: of so many update calls, these.
+pub(crate) trait Giving {
+    ghost use Rattle.std.specs.Prelude.{ℕ};
+
+    ghost left: { ℕ };
+
+    ghost give: { ℕ };
+}
+
+impl Giving for Brand {
+    ghost left = { 0 };
+
+    ghost give = { 0 };
+}
+
+pub(crate) struct Cut<G> {
+    given: PhantomData<G>,
+}
+
+impl<G: Giving> Split<Log> for Cut<G> {
+    ghost use Rattle.word_rule.specs.Logs.{after_split, split_off};
+
+    ghost left = { after_split G.left G.give };
+
+    ghost right = { split_off G.left G.give };
+}
+
+pub(crate) struct Notes;
+
+impl Split<Log> for Notes {
+    ghost use Rattle.word_rule.specs.Logs.{after_note, note_of};
+
+    ghost left = { after_note };
+
+    ghost right = { note_of };
+}
+
+pub(crate) struct Merges;
+
+impl Join<Log> for Merges {
+    ghost use Rattle.word_rule.specs.Logs.{after_join, spent_log};
+
+    ghost both = { after_join };
+
+    ghost spent = { spent_log };
+}
+
+pub(crate) struct Learns;
+
+impl Join<Log> for Learns {
+    ghost use Rattle.word_rule.specs.Logs.{after_learn, spent_log};
+
+    ghost both = { after_learn };
+
+    ghost spent = { spent_log };
+}

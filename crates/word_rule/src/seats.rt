@@ -1,0 +1,138 @@
+//! Callers and notes that come and go.
+ghost use Rattle.std.specs.Prelude.{◌≡◌, ◌≢◌, ◌+◌, ◌-◌, ◌*◌, ◌^◌, ◌<◌, ◌≤◌, [], length, None, OnErr, IfOk, IfErr, OnOk, false};
+ghost use Rattle.word_rule.specs.Logs.{after_split, split_off, after_note, note_of, after_join, after_learn};
+ghost use Rattle.word_rule.specs.Rule.{IsAlone, IsWhole};
+
+use crate::caller::{Caller, Note};
+use crate::rule::{Cut, Giving, Learns, Merges, Notes, Settles};
+use crate::views::Log;
+use crate::words::Words;
+use atomic_table::Seat;
+use reg_model::NoMemory;
+use std::alloc::Global;
+use std::marker::Brand;
+
+// Where the clock stands.
+const CLOCK_WORD: usize = 0;
+
+impl Words {
+    fn cut<G: Giving>(&self, seat: &mut Seat<(), Log>, left: u32, give: u32) -> Seat<(), Log>
+        requires table { seat.old.table_id ≡ self.now.table }
+        requires about { (G.left ≡ left) × (G.give ≡ give) }
+        requires stands { seat.old.me.0.spent ≡ false }
+        requires room { (give ≤ left) × (left ≤ seat.old.me.0.allowance) × (64 * left ≤ seat.old.me.0.credit) }
+        ensures old { (seat.new.table_id ≡ seat.old.table_id) × (seat.new.id ≡ seat.old.id) × (seat.new.me ≡ (after_split left give seat.old.me.0, seat.old.me.1)) }
+        ensures new { (result.table_id ≡ seat.old.table_id) × (result.me ≡ (split_off left give seat.old.me.0, [])) }
+    {
+        let _ = left;
+        let _ = give;
+        self.table.shared.split_seat::<Cut<G>>(seat)
+    }
+
+    /// Splits off a caller with so many of the update calls.
+    pub fn split(&self, alloc: Global, me: &mut Caller, give: u32) -> Result<Caller, NoMemory>
+        requires table { me.old.table ≡ self.now.table }
+        requires give { give ≤ me.old.left }
+        ensures new { IfOk result (λ other. other ≡ record { table = me.old.table; left = give; log = split_off me.old.left give me.old.log }) }
+        ensures me { OnOk result (me.new ≡ record { table = me.old.table; left = me.old.left - give; log = after_split me.old.left give me.old.log }) }
+        ensures err { OnErr result (me.new ≡ me.old) }
+    {
+        let versions = vec![in alloc; 0u64; me.versions.len()]?;
+        let kin = me.kin.birth(alloc)?;
+        let seat = self.cut::<Brand>(&mut me.seat, me.left, give);
+        me.left -= give;
+        Ok(Caller {
+            seat,
+            left: give,
+            seen: me.seen,
+            versions,
+            kin,
+        })
+    }
+
+    /// Makes a note of what a caller has seen.
+    pub fn note(&self, alloc: Global, me: &mut Caller) -> Result<Note, NoMemory>
+        requires { me.old.table ≡ self.now.table }
+        ensures note { IfOk result (λ note. note ≡ record { table = me.old.table; log = note_of me.old.log }) }
+        ensures me { OnOk result (me.new ≡ record me.old { log = after_note me.old.log }) }
+        ensures err { OnErr result (me.new ≡ me.old) }
+    {
+        let kin = me.kin.birth(alloc)?;
+        let seen = me.seen;
+        let seat = self.table.shared.split_seat::<Notes>(&mut me.seat);
+        Ok(Note { seat, seen, kin })
+    }
+
+    // A load of the clock, by one into which another was joined: so it knows what it has now.
+    fn settle(&self, seat: &mut Seat<(), Log>)
+        requires { seat.old.table_id ≡ self.now.table }
+        ensures same { (seat.new.table_id ≡ seat.old.table_id) × (seat.new.id ≡ seat.old.id) × (seat.new.me ≡ seat.old.me) }
+        ensures allowance { seat.old.me.0.allowance ≤ 2 ^ 26 }
+        ensures whole { seat.old.me.0.spent ≡ false → IsAlone seat.old.me.0.kin → IsWhole seat.old.me.0 }
+    {
+        self.table.shared.load::<Settles>(seat, CLOCK_WORD);
+    }
+
+    /// Joins another caller into this one: its update calls, what it has seen, and its receipts. It comes back where there
+    /// is no memory.
+    pub fn join(&self, alloc: Global, me: &mut Caller, other: Caller) -> Result<(), Caller>
+        requires table { me.old.table ≡ self.now.table }
+        requires other { other.table ≡ self.now.table }
+        requires idle { (other.log.loader ≡ None) × (other.log.held ≡ []) × (other.log.out ≡ []) }
+        ensures ok { OnOk result (me.new ≡ record { table = me.old.table; left = me.old.left + other.left; log = after_join me.old.log other.log }) }
+        ensures whole { OnOk result (IsAlone me.new.log.kin → IsWhole me.new.log) }
+        ensures err { IfErr result (λ kept. (kept ≡ other) × (me.new ≡ me.old)) }
+    {
+        let _ = alloc;
+        let Caller {
+            seat,
+            left,
+            seen,
+            versions,
+            kin,
+        } = other;
+        if let Err(kin) = me.kin.take_in(kin) {
+            return Err(Caller {
+                seat,
+                left,
+                seen,
+                versions,
+                kin,
+            });
+        }
+        self.table
+            .shared
+            .join_seat::<Merges>(&mut me.seat, seat);
+        self.settle(&mut me.seat);
+        me.left += left;
+        me.seen = me.seen.max(seen);
+        Ok(())
+    }
+
+    /// Learns what the maker of a note had seen. The note comes back where there is no memory.
+    pub fn learn(&self, alloc: Global, me: &mut Caller, note: Note) -> Result<(), Note>
+        requires table { me.old.table ≡ self.now.table }
+        requires note { note.table ≡ self.now.table }
+        ensures ok { OnOk result (me.new ≡ record me.old { log = after_learn me.old.log note.log }) }
+        ensures err { IfErr result (λ kept. (kept ≡ note) × (me.new ≡ me.old)) }
+    {
+        let _ = alloc;
+        let Note {
+            seat,
+            seen: noted,
+            kin,
+        } = note;
+        if let Err(kin) = me.kin.take_in(kin) {
+            return Err(Note {
+                seat,
+                seen: noted,
+                kin,
+            });
+        }
+        self.table
+            .shared
+            .join_seat::<Learns>(&mut me.seat, seat);
+        me.seen = me.seen.max(noted);
+        Ok(())
+    }
+}

@@ -1,0 +1,170 @@
+//! The words, and the steps on version locks.
+ghost use Rattle.std.specs.Prelude.{◌≡◌, ◌≢◌, ◌+◌, ◌*◌, ◌%◌, ◌<◌, ℕ, List, IfOk, IfErr, IfSome, IsSome, IsSomeAnd, false};
+ghost use Rattle.word_rule.specs.Logs.{after_load, after_loader_lock, after_mark, after_loader_release, after_loader_release_same};
+ghost use Rattle.word_rule.specs.Places.{LOADER};
+ghost use Rattle.word_rule.specs.Rule.{IsLockedAt};
+
+use crate::caller::Caller;
+use crate::rule::{Law, Locks, Looks, Made, Marks, Releases, ReleasesSame};
+use crate::views::{Ask, LockId, Log};
+use atomic_table::Table;
+use reg_model::Member;
+use std::alloc::Global;
+use std::marker::Model;
+use std::snapshot::Snapshot;
+use std::sync::Wait;
+
+/// The bit of a version word that is set while it is locked, and that which is set while threads sleep on it.
+const LOCKED: u64 = 1;
+
+const SLEEPERS: u64 = 2;
+
+/// What a version rises by, each time that its lock is let go.
+const VERSION: u64 = 4;
+
+/// Where the loader's version lock stands.
+const LOADER_WORD: usize = 2;
+
+/// The shared words, under one rule. Threads share them by `&`, and step on them each with a `Caller` of its own.
+#[derive(Drop)]
+pub struct Words {
+    pub(crate) table: Table<(), Log, Snapshot<Made>, Law, Global>,
+    pub(crate) made: Made,
+}
+
+impl Model for Words {
+    ghost use Rattle.std.specs.Prelude.{◌≡◌};
+    ghost use Rattle.word_rule.specs.Known.{Board};
+
+    ghost Value = { Board };
+
+    ghost use Rattle.word_rule.specs.Key.{terms_of};
+    ghost use Rattle.word_rule.specs.Places.{word_count};
+
+    ghost view = { λ w. record { table = w.table.shared.table_id; terms = terms_of w.made } };
+
+    ghost invariant = { λ w. (w.table.shared.key.value ≡ w.made) × (w.table.shared.table_id.words ≡ word_count (terms_of w.made)) × (w.table.shared.table_id.slots ≡ 0) };
+}
+
+impl Words {
+    /// The number of nodes.
+    pub fn nodes(&self) -> u32
+        ensures { result ≡ self.now.terms.nodes }
+    {
+        self.made.nodes
+    }
+
+    /// The greatest number of loaded objects.
+    pub fn loads(&self) -> u32
+        ensures { result ≡ self.now.terms.loads }
+    {
+        self.made.loads
+    }
+
+    /// The objects that were given for good.
+    pub fn fixed(&self) -> &[Member]
+        ensures { result.now ≡ self.now.terms.fixed }
+    {
+        self.made.fixed.as_slice()
+    }
+
+    /// Loads the version word of a lock.
+    pub fn load_version(&self, me: &mut Caller, lock: LockId, ask: Ask) -> u64
+        requires table { me.old.table ≡ self.now.table }
+        requires lock { lock ≡ LockId.Loader }
+        requires ask { ask ≡ Ask.Nothing }
+        ensures { me.new ≡ record me.old { log = after_load LOADER result me.old.log } }
+    {
+        let _ = lock;
+        let _ = ask;
+        self.table
+            .shared
+            .load::<Looks>(&mut me.seat, LOADER_WORD)
+    }
+
+    /// Takes a lock whose word is still the one seen, which was not locked. Else answers the word found.
+    pub fn try_lock(&self, me: &mut Caller, lock: LockId, seen: u64) -> Result<(), u64>
+        requires table { me.old.table ≡ self.now.table }
+        requires lock { lock ≡ LockId.Loader }
+        requires unlocked { seen % 2 ≡ 0 }
+        ensures ok { IfOk result (λ _. (copy : List ℕ) × (me.new ≡ record me.old { log = after_loader_lock seen copy me.old.log })) }
+        ensures err { IfErr result (λ found. (found ≢ seen) × (me.new ≡ record me.old { log = after_load LOADER found me.old.log })) }
+    {
+        let _ = lock;
+        let found = self.table
+            .shared
+            .compare_exchange::<Locks>(&mut me.seat, LOADER_WORD, seen, seen | LOCKED);
+        if found != seen {
+            return Err(found);
+        }
+        me.versions[0] = seen;
+        Ok(())
+    }
+
+    /// Says that threads sleep on a lock, where its word is still the one seen, which was locked.
+    pub fn mark_sleeping(&self, me: &mut Caller, lock: LockId, seen: u64) -> Result<(), u64>
+        requires table { me.old.table ≡ self.now.table }
+        requires lock { lock ≡ LockId.Loader }
+        requires locked { seen % 2 ≡ 1 }
+        ensures ok { IfOk result (λ _. me.new ≡ record me.old { log = after_mark me.old.log }) }
+        ensures err { IfErr result (λ found. (found ≢ seen) × (me.new ≡ record me.old { log = after_load LOADER found me.old.log })) }
+    {
+        let _ = lock;
+        let found = self.table.shared.compare_exchange::<Marks>(
+            &mut me.seat,
+            LOADER_WORD,
+            seen,
+            seen | (LOCKED + SLEEPERS),
+        );
+        if found == seen { Ok(()) } else { Err(found) }
+    }
+
+    /// Lets go of a lock with the next version, and answers the word before.
+    pub fn release(&self, me: &mut Caller, lock: LockId) -> u64
+        requires table { me.old.table ≡ self.now.table }
+        requires lock { lock ≡ LockId.Loader }
+        requires held { IsSome me.old.log.loader }
+        requires surplus { 64 * me.old.left < me.old.log.credit }
+        ensures log { me.new ≡ record me.old { log = after_loader_release me.old.log } }
+        ensures before { IfSome me.old.log.loader (λ h. IsLockedAt h.version result) }
+    {
+        let _ = lock;
+        let next = me.versions[0] + VERSION;
+        self.table
+            .shared
+            .swap::<Releases>(&mut me.seat, LOADER_WORD, next)
+    }
+
+    /// Lets go of a lock under which nothing was stored, with the version at which it was taken, and answers the word before.
+    pub fn release_same(&self, me: &mut Caller, lock: LockId) -> u64
+        requires table { me.old.table ≡ self.now.table }
+        requires lock { lock ≡ LockId.Loader }
+        requires held { IsSomeAnd me.old.log.loader (λ h. h.stored ≡ false) }
+        ensures log { me.new ≡ record me.old { log = after_loader_release_same me.old.log } }
+        ensures before { IfSome me.old.log.loader (λ h. IsLockedAt h.version result) }
+    {
+        let _ = lock;
+        let same = me.versions[0];
+        self.table
+            .shared
+            .swap::<ReleasesSame>(&mut me.seat, LOADER_WORD, same)
+    }
+
+    /// Sleeps on a lock while its word is the one seen, or for no reason shorter. It tells nothing.
+    pub fn sleep<R: Wait>(&self, rt: &R, lock: LockId, seen: u64)
+        requires { lock ≡ LockId.Loader }
+    {
+        let _ = lock;
+        self.table
+            .shared
+            .park(rt, LOADER_WORD, (seen % (1 << 32)) as u32);
+    }
+
+    /// Wakes one thread that sleeps on a lock, if there is one.
+    pub fn wake(&self, lock: LockId)
+        requires { lock ≡ LockId.Loader }
+    {
+        let _ = lock;
+        self.table.shared.wake_one(LOADER_WORD);
+    }
+}
