@@ -8,7 +8,13 @@ use reg_model::NoMemory;
 use std::alloc::Global;
 
 /// The lines of one event, numbered from 1 in its round and thread.
-pub fn print_answer(alloc: Global, round: u32, thread: u32, event: u32, answer: &Answer) -> Result<Vec<u8>, NoMemory>
+pub fn print_answer(
+    alloc: Global,
+    round: u32,
+    thread: u32,
+    event: u32,
+    answer: &Answer,
+) -> Result<Vec<u8>, NoMemory>
     requires { IsPrintable answer.now }
     ensures text { IfOk result (λ text. text.items ≡ answer_text round thread event answer.now) }
 {
