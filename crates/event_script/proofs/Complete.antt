@@ -1,9 +1,8 @@
 -- What is spelled is read: each line of a script is good after those before it.
-use Rattle.std.proofs.Common.{◌≡◌, ℕ, zero, suc, ◌+◌, ◌-◌, ◌^◌, ◌<◌, ◌≤◌, Bool, true, false, cond, ◌&&◌, eqb, ltb, leb, List, [], ◌∷◌, ◌++◌, length, All, Option, Some, None, Result, Ok, Err, refl, sym, ap, ap₂, subst, ◌∙◌, append_assoc, append-nil, eq-eqb, lt-ltb, le-leb, arith, length-append}
+use Rattle.std.proofs.Common.{◌≡◌, ℕ, ◌+◌, ◌-◌, ◌^◌, ◌<◌, ◌≤◌, true, false, cond, ◌&&◌, eqb, ltb, leb, List, [], ◌∷◌, ◌++◌, length, Option, Some, Result, Ok, Err, refl, sym, ap, subst, ◌∙◌, append_assoc, append-nil, eq-eqb, lt-ltb, le-leb, arith, length-append}
 use Rattle.std.specs.Prelude.{codes}
 use Rattle.std.specs.List.{flat_map, AllByRecursion, list_all}
 use Rattle.std.specs.Option.{ok_or}
-use Rattle.std.specs.Str.{bytes_eq}
 use Rattle.std.specs.Fmt.{decimal}
 use Rattle.std.proofs.lemmas.Bool.{and_from, and_parts, cond-true, cond-false, leb-true}
 use Rattle.std.proofs.lemmas.Fmt.{decimal_digit}
@@ -19,10 +18,10 @@ use Rattle.event_script.specs.declared.reader.kinds.Stage.TheVariants as stage
 use Rattle.event_script.specs.declared.reader.kinds.Kind.{Kind}
 use Rattle.event_script.specs.declared.reader.kinds.Kind.TheVariants as kind
 use Rattle.event_script.specs.declared.reader.images.ImageFields.{ImageFields}
-use Rattle.event_script.specs.ScriptData.{ScriptData, IsEvent, IsThread, IsRound, IsRunnable, IsBuilt}
-use Rattle.event_script.specs.Spelling.{Line, hex, spelling_of, image_line, image_lines, event_line, event_lines, thread_lines, round_lines, script_lines, Spells, IsScript}
-use Rattle.event_script.specs.Fields.{pieces, is_printable, decimal_in, hex_in}
-use Rattle.event_script.specs.Reading.{◌>>=◌, Known, nothing_known, one_decimal, one_hex, image_fields, image_line_of, nodes_line, loads_line, with_event, kind_of, may_come, is_unbuilt, word_of, line_of, by_word, is_ended, after_line, at_end, after_lines, outcome, script_of}
+use Rattle.event_script.specs.ScriptData.{ScriptData, IsEvent, IsThread, IsRound}
+use Rattle.event_script.specs.Spelling.{Line, hex, spelling_of, image_line, image_lines, event_line, event_lines, round_lines, script_lines, IsScript}
+use Rattle.event_script.specs.Fields.{pieces, is_printable}
+use Rattle.event_script.specs.Reading.{◌>>=◌, Known, nothing_known, one_decimal, one_hex, image_fields, image_line_of, with_event, kind_of, may_come, is_unbuilt, word_of, line_of, by_word, is_ended, after_line, at_end, after_lines, outcome, script_of}
 use Rattle.event_script.proofs.Joined.{join, IsVisible, fields_again, printable_again, lines_again}
 use Rattle.event_script.proofs.Lines.{line_first}
 use Rattle.event_script.proofs.Numbers.{decimal_visible, hex_visible, decimal_again, hex_again}
@@ -44,9 +43,9 @@ unfolding after_line
 reads_line known next field fields visible open_still good others =
     let line = join 32 (field ∷ fields) in
     let is : after_line known line ≡ Ok next =
-        cond-false (is_ended known.stage) (Err reason.After) (cond (is_printable line) (by_word known (pieces 32 line)) (Err reason.Byte)) open_still
-        ∙ cond-true (is_printable line) (by_word known (pieces 32 line)) (Err reason.Byte) (printable_again (field ∷ fields) visible)
-        ∙ ap (by_word known) (fields_again field fields visible) ∙ good in
+    cond-false (is_ended known.stage) (Err reason.After) (cond (is_printable line) (by_word known (pieces 32 line)) (Err reason.Byte)) open_still
+    ∙ cond-true (is_printable line) (by_word known (pieces 32 line)) (Err reason.Byte) (printable_again (field ∷ fields) visible)
+    ∙ ap (by_word known) (fields_again field fields visible) ∙ good in
     ap (λ (x : List ℕ). after_lines known (pieces 10 (x ++ others))) (append-nil (spelling_of (field ∷ fields)))
     ∙ ap (after_lines known) (lines_again field fields others visible)
     ∙ line_first known line others
@@ -133,8 +132,8 @@ module _ (nodes loads : ℕ) where
   reads_version =
       let one : codes "1" ≡ decimal 1 = sym (decimal_digit 1 (omega arith)) in
       reads_line nothing_known (record nothing_known { stage = stage.Nodes }) (codes "frames") (codes "1" ∷ []) (word_visible kind.Version, (visible_from_test (codes "1") refl, tt)) refl
-        (by_kind nothing_known kind.Version (codes "1" ∷ []) refl refl
-          ∙ ap (λ (r : Result ℕ Reason). r >>= λ version. cond (eqb version 1) (Ok (record nothing_known { stage = stage.Nodes })) (Err reason.Limit)) (ap (λ (x : List ℕ). one_decimal (x ∷ [])) one ∙ one_decimal_again 1 (omega arith)))
+      (by_kind nothing_known kind.Version (codes "1" ∷ []) refl refl
+      ∙ ap (λ (r : Result ℕ Reason). r >>= λ version. cond (eqb version 1) (Ok (record nothing_known { stage = stage.Nodes })) (Err reason.Limit)) (ap (λ (x : List ℕ). one_decimal (x ∷ [])) one ∙ one_decimal_again 1 (omega arith)))
 
   reads_nodes : 4 ≤ nodes → nodes ≤ 16384 → Reads (record nothing_known { stage = stage.Nodes }) ((codes "nodes" ∷ decimal nodes ∷ []) ∷ []) (record nothing_known { stage = stage.Loads; nodes = nodes })
   unfolding line_of
@@ -142,9 +141,9 @@ module _ (nodes loads : ℕ) where
       let known : Known = record nothing_known { stage = stage.Nodes } in
       let next : Known = record nothing_known { stage = stage.Loads; nodes = nodes } in
       reads_line known next (codes "nodes") (decimal nodes ∷ []) (word_visible kind.Nodes, (decimal_visible nodes (omega arith), tt)) refl
-        (by_kind known kind.Nodes (decimal nodes ∷ []) refl refl
-          ∙ ap (λ (r : Result ℕ Reason). r >>= λ n. cond (leb 4 n && leb n 16384) (Ok (record nothing_known { stage = stage.Loads; nodes = n })) (Err reason.Limit)) (one_decimal_again nodes (omega arith))
-          ∙ cond-true (leb 4 nodes && leb nodes 16384) (Ok next) (Err reason.Limit) (and_from _ _ (le-leb 4 nodes low) (le-leb nodes 16384 high)))
+      (by_kind known kind.Nodes (decimal nodes ∷ []) refl refl
+      ∙ ap (λ (r : Result ℕ Reason). r >>= λ n. cond (leb 4 n && leb n 16384) (Ok (record nothing_known { stage = stage.Loads; nodes = n })) (Err reason.Limit)) (one_decimal_again nodes (omega arith))
+      ∙ cond-true (leb 4 nodes && leb nodes 16384) (Ok next) (Err reason.Limit) (and_from _ _ (le-leb 4 nodes low) (le-leb nodes 16384 high)))
 
   reads_loads : 1 ≤ loads → loads ≤ 1024 → Reads (record nothing_known { stage = stage.Loads; nodes = nodes }) ((codes "loads" ∷ decimal loads ∷ []) ∷ []) (at stage.Images [] [] [] [])
   unfolding line_of
@@ -152,9 +151,9 @@ module _ (nodes loads : ℕ) where
       let known : Known = record nothing_known { stage = stage.Loads; nodes = nodes } in
       let next : Known = at stage.Images [] [] [] [] in
       reads_line known next (codes "loads") (decimal loads ∷ []) (word_visible kind.Loads, (decimal_visible loads (omega arith), tt)) refl
-        (by_kind known kind.Loads (decimal loads ∷ []) refl refl
-          ∙ ap (λ (r : Result ℕ Reason). r >>= λ n. cond (leb 1 n && leb n 1024) (Ok (record known { stage = stage.Images; loads = n })) (Err reason.Limit)) (one_decimal_again loads (omega arith))
-          ∙ cond-true (leb 1 loads && leb loads 1024) (Ok next) (Err reason.Limit) (and_from _ _ (le-leb 1 loads low) (le-leb loads 1024 high)))
+      (by_kind known kind.Loads (decimal loads ∷ []) refl refl
+      ∙ ap (λ (r : Result ℕ Reason). r >>= λ n. cond (leb 1 n && leb n 1024) (Ok (record known { stage = stage.Images; loads = n })) (Err reason.Limit)) (one_decimal_again loads (omega arith))
+      ∙ cond-true (leb 1 loads && leb loads 1024) (Ok next) (Err reason.Limit) (and_from _ _ (le-leb 1 loads low) (le-leb loads 1024 high)))
 
   -- ---- images
 
@@ -183,11 +182,11 @@ module _ (nodes loads : ℕ) where
       let known : Known = at stage.Images front [] [] [] in
       let fields : Line = decimal number ∷ hex span.first ∷ hex (span.last + 1 - span.first) ∷ hex section ∷ codes "-" ∷ [] in
       reads_line known (at stage.Images (front ++ span ∷ []) [] [] []) (codes "image") fields
-        (word_visible kind.Image, (decimal_visible number (omega arith), (hex_visible span.first (omega arith), (hex_visible (span.last + 1 - span.first) (omega arith), (hex_visible section below, (visible_from_test (codes "-") refl, tt)))))) refl
-        (by_kind known kind.Image fields refl refl
-          ∙ ap (λ (r : Result ImageFields Reason). r >>= λ image. image_line_of known image) (image_again number span.first (span.last + 1 - span.first) section (omega arith) (omega arith) (omega arith) below)
-          ∙ ap (λ (n : ℕ). image_line_of known (record { number = n; base = span.first; size = span.last + 1 - span.first; section = section })) same
-          ∙ image_line_good front span section room is below)
+      (word_visible kind.Image, (decimal_visible number (omega arith), (hex_visible span.first (omega arith), (hex_visible (span.last + 1 - span.first) (omega arith), (hex_visible section below, (visible_from_test (codes "-") refl, tt)))))) refl
+      (by_kind known kind.Image fields refl refl
+      ∙ ap (λ (r : Result ImageFields Reason). r >>= λ image. image_line_of known image) (image_again number span.first (span.last + 1 - span.first) section (omega arith) (omega arith) (omega arith) below)
+      ∙ ap (λ (n : ℕ). image_line_of known (record { number = n; base = span.first; size = span.last + 1 - span.first; section = section })) same
+      ∙ image_line_good front span section room is below)
 
   reads_images : (front images : List Interval) (number : ℕ) (sections : List ℕ) → number ≡ length front → length sections ≡ length images → length front + length images ≤ 4096 → AllByRecursion IsSpan images → AllByRecursion (λ a. a < 2 ^ 64) sections
       → Reads (at stage.Images front [] [] []) (image_lines number images sections) (at stage.Images (front ++ images) [] [] [])
@@ -197,7 +196,7 @@ module _ (nodes loads : ℕ) where
       let first = reads_image front number span section same (omega arith) spans.0 below.0 in
       let rest = reads_images (front ++ span ∷ []) images (number + 1) sections (omega (arith, length-append front (span ∷ []))) (omega arith) (omega (arith, length-append front (span ∷ []))) spans.1 below.1 in
       subst (λ (x : List Interval). Reads (at stage.Images front [] [] []) (image_lines number (span ∷ images) (section ∷ sections)) (at stage.Images x [] [] [])) (append_assoc front (span ∷ []) images)
-        (reads_then (at stage.Images front [] [] []) (at stage.Images (front ++ span ∷ []) [] [] []) (at stage.Images ((front ++ span ∷ []) ++ images) [] [] []) (image_line number span section ∷ []) (image_lines (number + 1) images sections) first rest)
+      (reads_then (at stage.Images front [] [] []) (at stage.Images (front ++ span ∷ []) [] [] []) (at stage.Images ((front ++ span ∷ []) ++ images) [] [] []) (image_line number span section ∷ []) (image_lines (number + 1) images sections) first rest)
 
   -- ---- rounds, threads and events
 
@@ -218,26 +217,26 @@ module _ (nodes loads : ℕ) where
         let limit : ltb (length front) 4096 ≡ true = lt-ltb _ _ room in
         let name : ltb image (length images) ≡ true = lt-ltb _ _ named in
         reads_line known next (codes "register") (decimal image ∷ []) (word_visible kind.Register, (decimal_visible image (omega arith), tt)) refl
-          (by_kind known kind.Register (decimal image ∷ []) refl refl
-            ∙ ap (λ (r : Result ℕ Reason). r >>= λ n. cond (ltb (length front) 4096) (cond (ltb n (length images)) (Ok (with_event known (event.Register n))) (Err reason.Name)) (Err reason.Limit)) (one_decimal_again image (omega arith))
-            ∙ cond-true (ltb (length front) 4096) (cond (ltb image (length images)) (Ok next) (Err reason.Name)) (Err reason.Limit) limit
-            ∙ cond-true (ltb image (length images)) (Ok next) (Err reason.Name) name)
+        (by_kind known kind.Register (decimal image ∷ []) refl refl
+        ∙ ap (λ (r : Result ℕ Reason). r >>= λ n. cond (ltb (length front) 4096) (cond (ltb n (length images)) (Ok (with_event known (event.Register n))) (Err reason.Name)) (Err reason.Limit)) (one_decimal_again image (omega arith))
+        ∙ cond-true (ltb (length front) 4096) (cond (ltb image (length images)) (Ok next) (Err reason.Name)) (Err reason.Limit) limit
+        ∙ cond-true (ltb image (length images)) (Ok next) (Err reason.Name) name)
     reads_event front (event.Deregister base) room below =
         let known : Known = at stage.Thread images [] [] front in
         let next : Known = at stage.Thread images [] [] (front ++ event.Deregister base ∷ []) in
         let limit : ltb (length front) 4096 ≡ true = lt-ltb _ _ room in
         reads_line known next (codes "deregister") (hex base ∷ []) (word_visible kind.Deregister, (hex_visible base below, tt)) refl
-          (by_kind known kind.Deregister (hex base ∷ []) refl refl
-            ∙ ap (λ (r : Result ℕ Reason). r >>= λ n. cond (ltb (length front) 4096) (Ok (with_event known (event.Deregister n))) (Err reason.Limit)) (one_hex_again base below)
-            ∙ cond-true (ltb (length front) 4096) (Ok next) (Err reason.Limit) limit)
+        (by_kind known kind.Deregister (hex base ∷ []) refl refl
+        ∙ ap (λ (r : Result ℕ Reason). r >>= λ n. cond (ltb (length front) 4096) (Ok (with_event known (event.Deregister n))) (Err reason.Limit)) (one_hex_again base below)
+        ∙ cond-true (ltb (length front) 4096) (Ok next) (Err reason.Limit) limit)
     reads_event front (event.Find pc) room below =
         let known : Known = at stage.Thread images [] [] front in
         let next : Known = at stage.Thread images [] [] (front ++ event.Find pc ∷ []) in
         let limit : ltb (length front) 4096 ≡ true = lt-ltb _ _ room in
         reads_line known next (codes "find") (hex pc ∷ []) (word_visible kind.Find, (hex_visible pc below, tt)) refl
-          (by_kind known kind.Find (hex pc ∷ []) refl refl
-            ∙ ap (λ (r : Result ℕ Reason). r >>= λ n. cond (ltb (length front) 4096) (Ok (with_event known (event.Find n))) (Err reason.Limit)) (one_hex_again pc below)
-            ∙ cond-true (ltb (length front) 4096) (Ok next) (Err reason.Limit) limit)
+        (by_kind known kind.Find (hex pc ∷ []) refl refl
+        ∙ ap (λ (r : Result ℕ Reason). r >>= λ n. cond (ltb (length front) 4096) (Ok (with_event known (event.Find n))) (Err reason.Limit)) (one_hex_again pc below)
+        ∙ cond-true (ltb (length front) 4096) (Ok next) (Err reason.Limit) limit)
 
     reads_events : (front events : List Event) → length front + length events ≤ 4096 → AllByRecursion (IsEvent (length images)) events → Reads (at stage.Thread images [] [] front) (event_lines events) (at stage.Thread images [] [] (front ++ events))
     reads_events front [] room are = λ others. ap (λ (x : List Event). after_lines (at stage.Thread images [] [] x) (pieces 10 others)) (sym (append-nil front))
@@ -245,7 +244,7 @@ module _ (nodes loads : ℕ) where
         let first = reads_event front e (omega arith) are.0 in
         let rest = reads_events (front ++ e ∷ []) events (omega (arith, length-append front (e ∷ []))) are.1 in
         subst (λ (x : List Event). Reads (at stage.Thread images [] [] front) (event_lines (e ∷ events)) (at stage.Thread images [] [] x)) (append_assoc front (e ∷ []) events)
-          (reads_then (at stage.Thread images [] [] front) (at stage.Thread images [] [] (front ++ e ∷ [])) (at stage.Thread images [] [] ((front ++ e ∷ []) ++ events)) (event_line e ∷ []) (event_lines events) first rest)
+        (reads_then (at stage.Thread images [] [] front) (at stage.Thread images [] [] (front ++ e ∷ [])) (at stage.Thread images [] [] ((front ++ e ∷ []) ++ events)) (event_line e ∷ []) (event_lines events) first rest)
 
     reads_end : (before : Stage) (rounds : List (List (List Event))) (known : Known) → is_ended known.stage ≡ false → may_come known.stage kind.End ≡ true → is_unbuilt known.stage kind.End ≡ false → line_of known kind.End [] ≡ Ok (at stage.Ended images rounds [] []) → Reads known ((codes "end" ∷ []) ∷ []) (at stage.Ended images rounds [] [])
     reads_end before rounds known open_still may built good = reads_line known (at stage.Ended images rounds [] []) (codes "end") [] (word_visible kind.End, tt) open_still (by_kind known kind.End [] may built ∙ good)
@@ -257,7 +256,7 @@ module _ (nodes loads : ℕ) where
     reads_rounds [] one small are = reads_end stage.Images [] (at stage.Images images [] [] []) refl refl refl refl
     reads_rounds ([] ∷ []) one small are =
         reads_then (at stage.Images images [] [] []) (at stage.Round images [] [] []) (at stage.Ended images ([] ∷ []) [] []) ((codes "round" ∷ []) ∷ []) ((codes "end" ∷ []) ∷ []) reads_round
-          (reads_end stage.Round ([] ∷ []) (at stage.Round images [] [] []) refl refl refl refl)
+        (reads_end stage.Round ([] ∷ []) (at stage.Round images [] [] []) refl refl refl refl)
     reads_rounds ((events ∷ []) ∷ []) one small are =
         let thread = recursion_from_All (IsThread (length images)) (events ∷ []) are.0.1 in
         let each = recursion_from_All (IsEvent (length images)) events thread.0.1 in
@@ -267,7 +266,7 @@ module _ (nodes loads : ℕ) where
         let begun = reads_then (at stage.Images images [] [] []) (at stage.Round images [] [] []) (at stage.Thread images [] [] []) ((codes "round" ∷ []) ∷ []) ((codes "thread" ∷ []) ∷ []) reads_round reads_thread in
         let all = reads_then (at stage.Images images [] [] []) (at stage.Thread images [] [] []) (at stage.Ended images ((events ∷ []) ∷ []) [] []) ((codes "round" ∷ []) ∷ (codes "thread" ∷ []) ∷ []) (event_lines events ++ (codes "end" ∷ []) ∷ []) begun inner in
         let same : round_lines ((events ∷ []) ∷ []) ≡ (codes "round" ∷ []) ∷ (codes "thread" ∷ []) ∷ event_lines events =
-            ap (λ (x : List Line). (codes "round" ∷ []) ∷ x) (append-nil ((codes "thread" ∷ []) ∷ (event_lines events ++ []))) ∙ ap (λ (x : List Line). (codes "round" ∷ []) ∷ (codes "thread" ∷ []) ∷ x) (append-nil (event_lines events)) in
+        ap (λ (x : List Line). (codes "round" ∷ []) ∷ x) (append-nil ((codes "thread" ∷ []) ∷ (event_lines events ++ []))) ∙ ap (λ (x : List Line). (codes "round" ∷ []) ∷ (codes "thread" ∷ []) ∷ x) (append-nil (event_lines events)) in
         subst (λ (x : List Line). Reads (at stage.Images images [] [] []) (x ++ (codes "end" ∷ []) ∷ []) (at stage.Ended images ((events ∷ []) ∷ []) [] [])) (sym same) all
     reads_rounds ((events ∷ more ∷ threads) ∷ []) one small are = absurd (omega (arith, small.0))
     reads_rounds (threads ∷ more ∷ rounds) one small are = absurd (omega arith)
@@ -298,7 +297,7 @@ outcome_complete bytes s is =
     let whole = reads_then nothing_known nodes_known last ((codes "frames" ∷ codes "1" ∷ []) ∷ []) ((codes "nodes" ∷ decimal s.nodes ∷ []) ∷ (codes "loads" ∷ decimal s.loads ∷ []) ∷ (image_lines 0 s.images sections ++ (round_lines s.rounds ++ (codes "end" ∷ []) ∷ []))) first from_nodes in
     let head = λ (x : List Line). (codes "frames" ∷ codes "1" ∷ []) ∷ (codes "nodes" ∷ decimal s.nodes ∷ []) ∷ (codes "loads" ∷ decimal s.loads ∷ []) ∷ x in
     let regrouped : script_lines s sections ≡ head (image_lines 0 s.images sections ++ (round_lines s.rounds ++ (codes "end" ∷ []) ∷ [])) =
-        ap head (append_assoc (image_lines 0 s.images sections) (round_lines s.rounds) ((codes "end" ∷ []) ∷ [])) in
+    ap head (append_assoc (image_lines 0 s.images sections) (round_lines s.rounds) ((codes "end" ∷ []) ∷ [])) in
     let text = is.spelled.text ∙ ap (flat_map spelling_of) regrouped ∙ sym (append-nil (flat_map spelling_of (head (image_lines 0 s.images sections ++ (round_lines s.rounds ++ (codes "end" ∷ []) ∷ []))))) in
     (last, ap outcome text ∙ whole [], refl)
 

@@ -1,6 +1,6 @@
 -- Pieces joined again by their separators.
-use Rattle.std.proofs.Common.{◌≡◌, ℕ, ◌<◌, ◌≤◌, ◌≢◌, Bool, true, false, cond, ◌&&◌, eqb, leb, List, [], ◌∷◌, ◌++◌, refl, sym, ap, ap₂, ◌∙◌, append_assoc, append-nil, eq-eqb, ne_eqb, eqb-true, le-leb, arith}
-use Rattle.std.specs.List.{AllByRecursion, list_all}
+use Rattle.std.proofs.Common.{◌≡◌, ℕ, ◌<◌, ◌≤◌, ◌≢◌, Bool, true, false, cond, ◌&&◌, eqb, leb, List, [], ◌∷◌, ◌++◌, refl, sym, ap, ap₂, ◌∙◌, append_assoc, eq-eqb, ne_eqb, eqb-true, le-leb, arith}
+use Rattle.std.specs.List.{AllByRecursion}
 use Rattle.std.proofs.lemmas.Bool.{cond-true, cond-false, and_from}
 use Rattle.std.proofs.lemmas.List.Folds.{list_all-append}
 use Rattle.event_script.specs.Fields.{with_first, pieces, is_printable}
@@ -21,7 +21,7 @@ join_pieces separator [] = refl
 join_pieces separator (b ∷ bytes) = by (eqb b separator) refl (some_pieces separator bytes) (join_pieces separator bytes)
   where
     by : (t : Bool) → eqb b separator ≡ t → ((first : List ℕ) × (others : List (List ℕ)) × (pieces separator bytes ≡ first ∷ others)) → join separator (pieces separator bytes) ≡ bytes
-      → join separator (cond t ([] ∷ pieces separator bytes) (with_first b (pieces separator bytes))) ≡ b ∷ bytes
+        → join separator (cond t ([] ∷ pieces separator bytes) (with_first b (pieces separator bytes))) ≡ b ∷ bytes
     by true same p rest =
         ap (λ (x : List (List ℕ)). join separator ([] ∷ x)) p.2
         ∙ ap₂ (λ (c : ℕ) (x : List ℕ). c ∷ x) (sym (eqb-true b separator same)) (sym (ap (join separator) p.2) ∙ rest)

@@ -1,5 +1,5 @@
 -- The digits of a number, in lower case and without leading zeros, and the number that such digits are of.
-use Rattle.std.proofs.Common.{◌≡◌, ℕ, zero, suc, ◌+◌, ◌-◌, ◌*◌, ◌/◌, ◌%◌, ◌^◌, ◌<◌, ◌≤◌, ◌≢◌, Bool, true, false, cond, not, ◌&&◌, eqb, ltb, List, [], ◌∷◌, ◌++◌, length, get_or, take, drop, Option, Some, None, refl, sym, ap, subst, ◌∙◌, inl, inr, append_assoc, append-nil, ap₂, take_all, length-append, eq-eqb, ne_eqb, lt-ltb, le-ltb, ltb-true, mod-lt, arith}
+use Rattle.std.proofs.Common.{◌≡◌, ℕ, zero, suc, ◌+◌, ◌-◌, ◌*◌, ◌/◌, ◌%◌, ◌^◌, ◌<◌, ◌≤◌, ◌≢◌, Bool, true, false, cond, ◌&&◌, ltb, List, [], ◌∷◌, ◌++◌, length, get_or, take, Option, Some, None, refl, sym, ap, subst, ◌∙◌, inl, inr, append_assoc, append-nil, ap₂, take_all, length-append, eq-eqb, ne_eqb, lt-ltb, le-ltb, ltb-true, mod-lt, arith}
 use Rattle.std.specs.List.{AllByRecursion}
 use Rattle.std.specs.Char.{digit_value}
 use Rattle.std.specs.Fmt.{digit_glyph, digits_onto, digits}
@@ -85,7 +85,6 @@ all_take : (P : ℕ → Type 0) (i : ℕ) (xs : List ℕ) → AllByRecursion P x
 all_take P zero xs p = tt
 all_take P (suc i) [] p = tt
 all_take P (suc i) (x ∷ xs) p = (p.0, all_take P i xs p.1)
-
 
 head_append : (xs ys : List ℕ) → 0 < length xs → get_or (xs ++ ys) 0 0 ≡ get_or xs 0 0
 head_append [] ys some = absurd (omega arith)
@@ -193,10 +192,11 @@ module _ (base : ℕ) (low : 2 ≤ base) (high : base ≤ 16) (field : List ℕ)
   again_step k i acc within =
       let glyph = all_at (IsGlyph base) field i each within in
       let small = glyph_digit base (get_or field i 0) high glyph in
-      let value : digits_value base (take (i + 1) field) ≡ digits_value base (take i field) * base + digit_value (get_or field i 0) = digits_value_more base field i within in
-      (ap (λ (x : ℕ). x / base) value ∙ div-mul-add (digits_value base (take i field)) base (digit_value (get_or field i 0)) small,
-       ap (digit_glyph false) (ap (λ (x : ℕ). x % base) value ∙ mod-mul-add (digits_value base (take i field)) base (digit_value (get_or field i 0)) small) ∙ sym (glyph_back base (get_or field i 0) high glyph),
-       ap (λ (x : List ℕ). x ++ acc) (take_more field i 0 within) ∙ append_assoc (take i field) (get_or field i 0 ∷ []) acc)
+      let value : digits_value base (take (i + 1) field) ≡ digits_value base (take i field) * base + digit_value (get_or field i 0) = digits_value_more base field i within in (
+        ap (λ (x : ℕ). x / base) value ∙ div-mul-add (digits_value base (take i field)) base (digit_value (get_or field i 0)) small,
+        ap (digit_glyph false) (ap (λ (x : ℕ). x % base) value ∙ mod-mul-add (digits_value base (take i field)) base (digit_value (get_or field i 0)) small) ∙ sym (glyph_back base (get_or field i 0) high glyph),
+        ap (λ (x : List ℕ). x ++ acc) (take_more field i 0 within) ∙ append_assoc (take i field) (get_or field i 0 ∷ []) acc,
+      )
 
   again : (k i : ℕ) (acc : List ℕ) → i < length field → i < k → (0 < i → get_or field 0 0 ≢ 48) → Again k i acc
   again zero i acc within fuel lead = absurd (omega arith)
@@ -212,7 +212,7 @@ module _ (base : ℕ) (low : 2 ≤ base) (high : base ≤ 16) (field : List ℕ)
       let pos : 0 < digits_value base front = value_pos base front low high (all_take (IsGlyph base) (suc j) field each) some (λ e. lead (omega arith) (sym head ∙ e)) in
       let rest : Again k j (get_or field (suc j) 0 ∷ acc) = again k j (get_or field (suc j) 0 ∷ acc) (omega arith) (omega arith) (λ _. lead (omega arith)) in
       let rest' : digits_onto k base false (digits_value base front) (get_or field (suc j) 0 ∷ acc) ≡ front ++ (get_or field (suc j) 0 ∷ acc)
-          = subst (λ (x : ℕ). digits_onto k base false (digits_value base (take x field)) (get_or field (suc j) 0 ∷ acc) ≡ take x field ++ (get_or field (suc j) 0 ∷ acc)) same rest in
+      = subst (λ (x : ℕ). digits_onto k base false (digits_value base (take x field)) (get_or field (suc j) 0 ∷ acc) ≡ take x field ++ (get_or field (suc j) 0 ∷ acc)) same rest in
       cond-false _ _ _ (ne_eqb (digits_value base (take (suc j + 1) field) / base) 0 (λ e. omega (arith, pos, s.0, e)))
       ∙ ap₂ (λ (q c : ℕ). digits_onto k base false q (c ∷ acc)) s.0 s.1
       ∙ rest' ∙ sym s.2
@@ -296,9 +296,10 @@ pub digits_more : (base number digit i : ℕ) (field : List ℕ) → base ≤ 16
     → AllByRecursion (IsGlyph base) (take (i + 1) field) × (number * base + digit ≡ digits_value base (take (i + 1) field))
 digits_more base number digit i field high each value within small is =
     let d : digit_value (get_or field i 0) ≡ digit = ap digit_value is ∙ glyph_value digit (omega arith) in
-    let e = digits_value_more base field i within in
-    (subst (AllByRecursion (IsGlyph base)) (sym (take_more field i 0 within)) (all_append (IsGlyph base) (take i field) (get_or field i 0 ∷ []) each ((digit, small, is), tt)),
-     ap₂ (λ (n x : ℕ). n * base + x) value (sym d) ∙ sym e)
+    let e = digits_value_more base field i within in (
+      subst (AllByRecursion (IsGlyph base)) (sym (take_more field i 0 within)) (all_append (IsGlyph base) (take i field) (get_or field i 0 ∷ []) each ((digit, small, is), tt)),
+      ap₂ (λ (n x : ℕ). n * base + x) value (sym d) ∙ sym e,
+    )
 
 pub digits_fit : (base most number digit i : ℕ) (field : List ℕ) → 2 ≤ base → base ≤ 16 → base ^ most ≤ 2 ^ 64 → length field ≤ most → AllByRecursion (IsGlyph base) (take i field) → number ≡ digits_value base (take i field) → i < length field → digit < base → get_or field i 0 ≡ digit_glyph false digit
     → number * base + digit < 2 ^ 64

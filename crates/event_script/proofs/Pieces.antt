@@ -1,5 +1,5 @@
 -- Pieces of a text.
-use Rattle.std.proofs.Common.{◌≡◌, ℕ, zero, suc, ◌+◌, ◌<◌, ◌≤◌, ◌≢◌, Bool, true, false, cond, not, eqb, List, [], ◌∷◌, ◌++◌, length, get_or, take, drop, Option, Some, None, refl, sym, ap, subst, ◌∙◌, eq-eqb, ne_eqb, arith}
+use Rattle.std.proofs.Common.{◌≡◌, ℕ, zero, suc, ◌<◌, ◌≤◌, ◌≢◌, Bool, true, false, cond, not, eqb, List, [], ◌∷◌, length, get_or, take, drop, Some, None, refl, sym, ap, ◌∙◌, eq-eqb, ne_eqb, arith}
 use Rattle.std.proofs.lemmas.Bool.{cond-true, cond-false}
 use Rattle.event_script.specs.Fields.{with_first, pieces, pieces_behind}
 use Rattle.event_script.specs.Reading.{has_any, only, five}
@@ -21,7 +21,7 @@ some_pieces separator [] = ([], [], refl)
 some_pieces separator (b ∷ bytes) = by (eqb b separator) (some_pieces separator bytes)
   where
     by : (t : Bool) → ((first : List ℕ) × (others : List (List ℕ)) × (pieces separator bytes ≡ first ∷ others))
-      → (first : List ℕ) × (others : List (List ℕ)) × (cond t ([] ∷ pieces separator bytes) (with_first b (pieces separator bytes)) ≡ first ∷ others)
+        → (first : List ℕ) × (others : List (List ℕ)) × (cond t ([] ∷ pieces separator bytes) (with_first b (pieces separator bytes)) ≡ first ∷ others)
     by true p = ([], pieces separator bytes, refl)
     by false p = (b ∷ p.0, p.1, ap (with_first b) p.2)
 

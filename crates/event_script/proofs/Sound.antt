@@ -1,5 +1,5 @@
 -- What is read is spelled so: each good line is the spelling of what it adds.
-use Rattle.std.proofs.Common.{◌≡◌, ℕ, zero, suc, ◌+◌, ◌-◌, ◌^◌, ◌<◌, ◌≤◌, Bool, true, false, cond, ◌&&◌, eqb, ltb, leb, List, [], ◌∷◌, ◌++◌, length, All, Result, Ok, Err, refl, sym, ap, ap₂, subst, ◌∙◌, append_assoc, append-nil, eqb-true, ltb-true, leb-true, arith, length-append}
+use Rattle.std.proofs.Common.{◌≡◌, ℕ, ◌+◌, ◌-◌, ◌^◌, ◌<◌, ◌≤◌, Bool, true, false, cond, ◌&&◌, eqb, ltb, leb, List, [], ◌∷◌, ◌++◌, length, All, Ok, Err, refl, sym, ap, ap₂, subst, ◌∙◌, append_assoc, append-nil, eqb-true, ltb-true, leb-true, arith, length-append}
 use Rattle.std.specs.Prelude.{codes}
 use Rattle.std.specs.List.{flat_map}
 use Rattle.std.specs.Option.{ok_or}
@@ -11,17 +11,16 @@ use Rattle.std.proofs.lemmas.List.Elements.{All-push, All-from_recursion}
 use Rattle.reg_model.specs.Interval.{Interval, IsSpan}
 use Rattle.event_script.specs.declared.script.Event.{Event}
 use Rattle.event_script.specs.declared.script.Event.TheVariants as event
-use Rattle.event_script.specs.declared.reader.fault.Reason.{Reason}
 use Rattle.event_script.specs.declared.reader.fault.Reason.TheVariants as reason
 use Rattle.event_script.specs.declared.reader.kinds.Stage.{Stage}
 use Rattle.event_script.specs.declared.reader.kinds.Stage.TheVariants as stage
 use Rattle.event_script.specs.declared.reader.kinds.Kind.{Kind}
 use Rattle.event_script.specs.declared.reader.kinds.Kind.TheVariants as kind
 use Rattle.event_script.specs.declared.reader.images.ImageFields.{ImageFields}
-use Rattle.event_script.specs.ScriptData.{ScriptData, IsEvent, IsThread, IsRound, IsRunnable, IsBuilt}
-use Rattle.event_script.specs.Spelling.{Line, hex, spelling_of, image_line, image_lines, event_line, event_lines, thread_lines, round_lines, script_lines, Spells, IsScript}
+use Rattle.event_script.specs.ScriptData.{IsEvent, IsThread, IsRound}
+use Rattle.event_script.specs.Spelling.{Line, hex, spelling_of, image_line, image_lines, event_line, event_lines, round_lines, IsScript}
 use Rattle.event_script.specs.Fields.{pieces}
-use Rattle.event_script.specs.Reading.{◌>>=◌, Known, nothing_known, has_any, threads_at, rounds_at, one_decimal, one_hex, image_fields, version_line, nodes_line, loads_line, image_line_of, round_line, thread_line, with_event, register_line, deregister_line, find_line, end_line, kind_of, may_come, is_unbuilt, word_of, line_of, by_word, is_ended, after_line, at_end, after_lines, outcome, script_of}
+use Rattle.event_script.specs.Reading.{Known, nothing_known, has_any, rounds_at, one_decimal, one_hex, image_fields, version_line, nodes_line, loads_line, image_line_of, round_line, thread_line, with_event, register_line, deregister_line, find_line, end_line, kind_of, may_come, is_unbuilt, word_of, line_of, by_word, is_ended, after_line, at_end, after_lines, outcome, script_of}
 use Rattle.event_script.specs.Reading.{image_line as image_line_from}
 use Rattle.event_script.proofs.Joined.{join, join_pieces, spelled_pieces}
 use Rattle.event_script.proofs.Steps.{bind_ok, guard_last, guard_then, guard_else, ok_is, no_fields, one_decimal_is, one_hex_is, image_fields_are, kind_word}
@@ -139,7 +138,7 @@ module _ (nodes loads : ℕ) (images : List Interval) (rounds : List (List (List
         new = sections;
         sound = record { each = s.each; addresses = s.addresses; nodes = s.nodes; loads = (leb-true 1 a.0 limits.0, leb-true a.0 1024 limits.1); count = s.count; spans = s.spans; events = s.events; shape = (s.shape.1, s.shape.2, s.shape.3) };
         lines = ap₂ (λ (is : List Interval) (rs : List (List (List Event))). version_text ∷ nodes_text nodes ∷ loads_text a.0 ∷ (image_lines 0 is sections ++ round_lines rs)) s.shape.0 s.shape.1
-          ∙ ap (λ (x : Line). version_text ∷ nodes_text nodes ∷ (codes "loads" ∷ x) ∷ []) (sym (one_decimal_is fields a.0 a.1).1);
+            ∙ ap (λ (x : Line). version_text ∷ nodes_text nodes ∷ (codes "loads" ∷ x) ∷ []) (sym (one_decimal_is fields a.0 a.1).1);
       })
 
 -- ---- images
@@ -261,25 +260,25 @@ thread_push before events e =
 rounds_of_one : (images : ℕ) (rounds : List (List (List Event))) (threads : List (List Event)) (events : List Event) → rounds ≡ [] → threads ≡ [] → IsThread images events → AreRounds images (rounds ++ (threads ++ events ∷ []) ∷ [])
 rounds_of_one images rounds threads events no_rounds no_threads thread =
     subst (AreRounds images) (ap₂ (λ (r : List (List (List Event))) (t : List (List Event)). r ++ (t ++ events ∷ []) ∷ []) (sym no_rounds) (sym no_threads))
-      (record {
-        few = omega arith;
-        small = All-from_recursion (λ threads. length threads ≤ 1) ((events ∷ []) ∷ []) (omega arith, tt);
-        each = All-from_recursion (IsRound images) ((events ∷ []) ∷ []) ((omega arith, All-from_recursion (IsThread images) (events ∷ []) (thread, tt)), tt);
-      })
+    (record {
+      few = omega arith;
+      small = All-from_recursion (λ threads. length threads ≤ 1) ((events ∷ []) ∷ []) (omega arith, tt);
+      each = All-from_recursion (IsRound images) ((events ∷ []) ∷ []) ((omega arith, All-from_recursion (IsThread images) (events ∷ []) (thread, tt)), tt);
+    })
 
 rounds_of_none : (images : ℕ) (rounds : List (List (List Event))) (threads : List (List Event)) → rounds ≡ [] → threads ≡ [] → AreRounds images (rounds ++ threads ∷ [])
 rounds_of_none images rounds threads no_rounds no_threads =
     subst (AreRounds images) (ap₂ (λ (r : List (List (List Event))) (t : List (List Event)). r ++ t ∷ []) (sym no_rounds) (sym no_threads))
-      (record {
-        few = omega arith;
-        small = All-from_recursion (λ threads. length threads ≤ 1) ([] ∷ []) (omega arith, tt);
-        each = All-from_recursion (IsRound images) ([] ∷ []) ((omega arith, All-from_recursion (IsThread images) [] tt), tt);
-      })
+    (record {
+      few = omega arith;
+      small = All-from_recursion (λ threads. length threads ≤ 1) ([] ∷ []) (omega arith, tt);
+      each = All-from_recursion (IsRound images) ([] ∷ []) ((omega arith, All-from_recursion (IsThread images) [] tt), tt);
+    })
 
 no_rounds_at : (images : ℕ) (rounds : List (List (List Event))) → rounds ≡ [] → AreRounds images rounds
 no_rounds_at images rounds none =
     subst (AreRounds images) (sym none)
-      (record { few = omega arith; small = All-from_recursion (λ threads. length threads ≤ 1) [] tt; each = All-from_recursion (IsRound images) [] tt })
+    (record { few = omega arith; small = All-from_recursion (λ threads. length threads ≤ 1) [] tt; each = All-from_recursion (IsRound images) [] tt })
 
 module _ (nodes loads : ℕ) (images : List Interval) (rounds : List (List (List Event))) (threads : List (List Event)) (events : List Event) where
   abbrev as_of : Stage → Known
@@ -296,7 +295,12 @@ module _ (nodes loads : ℕ) (images : List Interval) (rounds : List (List (List
       same_step _ (with_event (as_of stage.Thread) e) next sections line made (record {
         new = sections;
         sound = record {
-          each = s.each; addresses = s.addresses; nodes = s.nodes; loads = s.loads; count = s.count; spans = s.spans;
+          each = s.each;
+          addresses = s.addresses;
+          nodes = s.nodes;
+          loads = s.loads;
+          count = s.count;
+          spans = s.spans;
           events = (omega (arith, length-append events (e ∷ [])), All-push (IsEvent (length images)) events e so_far.1 is);
           shape = s.shape;
         };
@@ -389,7 +393,7 @@ word_sound known next sections (word ∷ fields) s e =
     let may = guard_then (may_come known.stage a.0) reason.Word _ next a.2 in
     let built = guard_else (is_unbuilt known.stage a.0) reason.Unbuilt _ next may.1 in
     subst (λ (w : List ℕ). Step known next sections (w ∷ fields)) (sym (kind_word word a.0 a.1))
-      (kind_sound known.nodes known.loads known.images known.rounds known.threads known.events known.stage a.0 next sections fields may.0 built.0 s built.1)
+    (kind_sound known.nodes known.loads known.images known.rounds known.threads known.events known.stage a.0 next sections fields may.0 built.0 s built.1)
 
 line_sound : (known next : Known) (sections line : List ℕ) → Sound known sections → after_line known line ≡ Ok next → Step known next sections (pieces 32 line)
 unfolding after_line
@@ -429,12 +433,12 @@ lines_sound known next sections (line ∷ more ∷ others) s e =
     let step = line_sound known a.0 sections line s a.1 in
     let rest = lines_sound a.0 next step.new (more ∷ others) step.sound a.2 in
     let shown : text_so_far a.0 step.new ≡ text_so_far known sections ++ (line ++ 10 ∷ []) =
-        ap (flat_map spelling_of) step.lines ∙ flat_map-append spelling_of (lines_so_far known sections) (pieces 32 line ∷ [])
-        ∙ ap (λ (x : List ℕ). text_so_far known sections ++ x) (append-nil (spelling_of (pieces 32 line)) ∙ spelled_pieces line) in
+    ap (flat_map spelling_of) step.lines ∙ flat_map-append spelling_of (lines_so_far known sections) (pieces 32 line ∷ [])
+    ∙ ap (λ (x : List ℕ). text_so_far known sections ++ x) (append-nil (spelling_of (pieces 32 line)) ∙ spelled_pieces line) in
     let regrouped : text_so_far a.0 step.new ++ join 10 (more ∷ others) ≡ text_so_far known sections ++ join 10 (line ∷ more ∷ others) =
-        ap (λ (x : List ℕ). x ++ join 10 (more ∷ others)) shown
-        ∙ append_assoc (text_so_far known sections) (line ++ 10 ∷ []) (join 10 (more ∷ others))
-        ∙ ap (λ (x : List ℕ). text_so_far known sections ++ x) (append_assoc line (10 ∷ []) (join 10 (more ∷ others))) in
+    ap (λ (x : List ℕ). x ++ join 10 (more ∷ others)) shown
+    ∙ append_assoc (text_so_far known sections) (line ++ 10 ∷ []) (join 10 (more ∷ others))
+    ∙ ap (λ (x : List ℕ). text_so_far known sections ++ x) (append_assoc line (10 ∷ []) (join 10 (more ∷ others))) in
     subst (Ended next) regrouped rest
 
 at_first : Sound nothing_known []

@@ -1,11 +1,10 @@
 -- What a good line says: its fields, and what it adds.
-use Rattle.std.proofs.Common.{◌≡◌, ℕ, ◌+◌, ◌-◌, ◌^◌, ◌<◌, ◌≤◌, Bool, true, false, cond, ◌&&◌, eqb, ltb, leb, List, [], ◌∷◌, ◌++◌, length, Option, Some, None, Result, Ok, Err, refl, sym, ap, ap₂, subst, ◌∙◌, eqb-true, ltb-true, leb-true, arith}
+use Rattle.std.proofs.Common.{◌≡◌, ℕ, ◌^◌, ◌<◌, Bool, true, false, cond, List, [], ◌∷◌, Option, Some, None, Result, Ok, Err, refl, ap, subst, ◌∙◌}
 use Rattle.std.specs.Prelude.{codes}
 use Rattle.std.specs.List.{find}
 use Rattle.std.specs.Option.{ok_or}
 use Rattle.std.specs.Str.{bytes_eq}
 use Rattle.std.specs.Fmt.{decimal}
-use Rattle.std.proofs.lemmas.Bool.{and_parts}
 use Rattle.std.proofs.lemmas.Slice.Eq.{bytes_eq-Decides}
 use Rattle.event_script.specs.declared.reader.fault.Reason.{Reason}
 use Rattle.event_script.specs.declared.reader.fault.Reason.TheVariants as reason
@@ -13,7 +12,7 @@ use Rattle.event_script.specs.declared.reader.kinds.Kind.{Kind}
 use Rattle.event_script.specs.declared.reader.images.ImageFields.{ImageFields}
 use Rattle.event_script.specs.Spelling.{Line, hex}
 use Rattle.event_script.specs.Fields.{decimal_in, hex_in}
-use Rattle.event_script.specs.Reading.{◌>>=◌, Known, only, five, has_any, one_decimal, one_hex, image_fields, kind_of, kinds, word_of}
+use Rattle.event_script.specs.Reading.{◌>>=◌, only, five, has_any, one_decimal, one_hex, image_fields, kind_of, kinds, word_of}
 use Rattle.event_script.proofs.Numbers.{number_is}
 
 pub bind_ok : {A B : Type 0} (r : Result A Reason) (f : A → Result B Reason) (y : B) → (r >>= f) ≡ Ok y → (x : A) × (r ≡ Ok x) × (f x ≡ Ok y)
@@ -110,7 +109,7 @@ image_fields_are fields image e =
     let dash : f.0.4 ≡ codes "-" = (bytes_eq-Decides f.0.4 (codes "-")).0 g.0 in
     let parts = five_is fields f.0 (some_from (five fields) reason.Fields f.0 f.1) in
     same_image fields (record { number = n.0; base = b.0; size = s.0; section = a.0 }) image
-      (record { is = five_same fields _ _ _ _ _ _ _ _ _ _ parts number.1 base.1 size.1 section.1 dash; number = number.0; base = base.0; size = size.0; section = section.0 }) g.1
+    (record { is = five_same fields _ _ _ _ _ _ _ _ _ _ parts number.1 base.1 size.1 section.1 dash; number = number.0; base = base.0; size = size.0; section = section.0 }) g.1
 
 -- ---- the kind of a line
 

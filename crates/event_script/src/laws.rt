@@ -7,5 +7,4 @@ ghost use Rattle.event_script.specs.Spelling.{IsScript};
 /// Bytes spell one script at the most.
 pub fn bytes_spell_one_script()
     ensures { (bytes : List ℕ) (s t : ScriptData) → IsScript bytes s → IsScript bytes t → s ≡ t }
-{
-}
+{}

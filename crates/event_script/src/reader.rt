@@ -11,6 +11,8 @@ mod fields;
 mod images;
 mod kinds;
 mod numbers;
+#[cfg(test)]
+mod tests;
 
 use crate::reader::draft::Draft;
 use crate::reader::fault::LineFault;

@@ -37,7 +37,11 @@ impl Model for Draft {
 }
 
 /// The threads of a round, with the one that goes on.
-fn all_threads(stage: Stage, threads: Vec<Thread>, events: Vec<Event>) -> Result<Vec<Thread>, NoMemory>
+fn all_threads(
+    stage: Stage,
+    threads: Vec<Thread>,
+    events: Vec<Event>,
+) -> Result<Vec<Thread>, NoMemory>
     ensures { IfOk result (λ all. all.items ≡ threads_at stage threads.items events.items) }
 {
     let mut threads = threads;
@@ -49,7 +53,12 @@ fn all_threads(stage: Stage, threads: Vec<Thread>, events: Vec<Event>) -> Result
 }
 
 /// The rounds, with the one that goes on.
-fn all_rounds(stage: Stage, rounds: Vec<Round>, threads: Vec<Thread>, events: Vec<Event>) -> Result<Vec<Round>, NoMemory>
+fn all_rounds(
+    stage: Stage,
+    rounds: Vec<Round>,
+    threads: Vec<Thread>,
+    events: Vec<Event>,
+) -> Result<Vec<Round>, NoMemory>
     ensures { IfOk result (λ all. all.items ≡ rounds_at stage rounds.items threads.items events.items) }
 {
     let mut rounds = rounds;
@@ -84,7 +93,9 @@ impl Draft {
     {
         let mut draft = self;
         if one_decimal(rest)? != 1 {
-            return Err(LineFault::Bad { reason: Reason::Limit });
+            return Err(LineFault::Bad {
+                reason: Reason::Limit,
+            });
         }
         draft.stage = Stage::Nodes;
         Ok(draft)
@@ -96,7 +107,9 @@ impl Draft {
         let mut draft = self;
         let nodes = one_decimal(rest)?;
         if nodes < 4 || 16384 < nodes {
-            return Err(LineFault::Bad { reason: Reason::Limit });
+            return Err(LineFault::Bad {
+                reason: Reason::Limit,
+            });
         }
         draft.stage = Stage::Loads;
         draft.nodes = nodes;
@@ -109,7 +122,9 @@ impl Draft {
         let mut draft = self;
         let loads = one_decimal(rest)?;
         if loads < 1 || 1024 < loads {
-            return Err(LineFault::Bad { reason: Reason::Limit });
+            return Err(LineFault::Bad {
+                reason: Reason::Limit,
+            });
         }
         draft.stage = Stage::Images;
         draft.loads = loads;
@@ -122,13 +137,19 @@ impl Draft {
         let mut draft = self;
         let image = image_fields(rest)?;
         if image.number as usize != draft.images.len() {
-            return Err(LineFault::Bad { reason: Reason::Order });
+            return Err(LineFault::Bad {
+                reason: Reason::Order,
+            });
         }
         if draft.images.len() >= 4096 {
-            return Err(LineFault::Bad { reason: Reason::Limit });
+            return Err(LineFault::Bad {
+                reason: Reason::Limit,
+            });
         }
         match Span::new(image.base, image.size) {
-            None => Err(LineFault::Bad { reason: Reason::Span }),
+            None => Err(LineFault::Bad {
+                reason: Reason::Span,
+            }),
             Some(span) => {
                 draft.images.push(span)?;
                 Ok(draft)
@@ -140,12 +161,24 @@ impl Draft {
         ensures { Gives result (round_line self (fields_behind rest.now)) }
     {
         if has_any(rest) {
-            return Err(LineFault::Bad { reason: Reason::Fields });
+            return Err(LineFault::Bad {
+                reason: Reason::Fields,
+            });
         }
-        let Draft { stage, nodes, loads, images, rounds, threads, events } = self;
+        let Draft {
+            stage,
+            nodes,
+            loads,
+            images,
+            rounds,
+            threads,
+            events,
+        } = self;
         let rounds = all_rounds(stage, rounds, threads, events)?;
         if rounds.len() >= 64 {
-            return Err(LineFault::Bad { reason: Reason::Limit });
+            return Err(LineFault::Bad {
+                reason: Reason::Limit,
+            });
         }
         Ok(Draft {
             stage: Stage::Round,
@@ -162,12 +195,24 @@ impl Draft {
         ensures { Gives result (thread_line self (fields_behind rest.now)) }
     {
         if has_any(rest) {
-            return Err(LineFault::Bad { reason: Reason::Fields });
+            return Err(LineFault::Bad {
+                reason: Reason::Fields,
+            });
         }
-        let Draft { stage, nodes, loads, images, rounds, threads, events } = self;
+        let Draft {
+            stage,
+            nodes,
+            loads,
+            images,
+            rounds,
+            threads,
+            events,
+        } = self;
         let threads = all_threads(stage, threads, events)?;
         if threads.len() >= 16 {
-            return Err(LineFault::Bad { reason: Reason::Limit });
+            return Err(LineFault::Bad {
+                reason: Reason::Limit,
+            });
         }
         Ok(Draft {
             stage: Stage::Thread,
@@ -186,10 +231,14 @@ impl Draft {
         let mut draft = self;
         let image = one_decimal(rest)?;
         if draft.events.len() >= 4096 {
-            return Err(LineFault::Bad { reason: Reason::Limit });
+            return Err(LineFault::Bad {
+                reason: Reason::Limit,
+            });
         }
         if image as usize >= draft.images.len() {
-            return Err(LineFault::Bad { reason: Reason::Name });
+            return Err(LineFault::Bad {
+                reason: Reason::Name,
+            });
         }
         draft.events.push(Event::Register { image })?;
         Ok(draft)
@@ -201,7 +250,9 @@ impl Draft {
         let mut draft = self;
         let base = one_hex(rest)?;
         if draft.events.len() >= 4096 {
-            return Err(LineFault::Bad { reason: Reason::Limit });
+            return Err(LineFault::Bad {
+                reason: Reason::Limit,
+            });
         }
         draft.events.push(Event::Deregister { base })?;
         Ok(draft)
@@ -213,7 +264,9 @@ impl Draft {
         let mut draft = self;
         let pc = one_hex(rest)?;
         if draft.events.len() >= 4096 {
-            return Err(LineFault::Bad { reason: Reason::Limit });
+            return Err(LineFault::Bad {
+                reason: Reason::Limit,
+            });
         }
         draft.events.push(Event::Find { pc })?;
         Ok(draft)
@@ -223,9 +276,19 @@ impl Draft {
         ensures { Gives result (end_line self (fields_behind rest.now)) }
     {
         if has_any(rest) {
-            return Err(LineFault::Bad { reason: Reason::Fields });
+            return Err(LineFault::Bad {
+                reason: Reason::Fields,
+            });
         }
-        let Draft { stage, nodes, loads, images, rounds, threads, events } = self;
+        let Draft {
+            stage,
+            nodes,
+            loads,
+            images,
+            rounds,
+            threads,
+            events,
+        } = self;
         let rounds = all_rounds(stage, rounds, threads, events)?;
         Ok(Draft {
             stage: Stage::Ended,
@@ -254,11 +317,21 @@ impl Draft {
             Kind::Deregister => self.deregister(rest),
             Kind::Find => self.find(rest),
             Kind::End => self.end(alloc, rest),
-            Kind::Fixed => Err(LineFault::Bad { reason: Reason::Unbuilt }),
-            Kind::Snapshot => Err(LineFault::Bad { reason: Reason::Unbuilt }),
-            Kind::Load => Err(LineFault::Bad { reason: Reason::Unbuilt }),
-            Kind::Unload => Err(LineFault::Bad { reason: Reason::Unbuilt }),
-            Kind::Unwind => Err(LineFault::Bad { reason: Reason::Unbuilt }),
+            Kind::Fixed => Err(LineFault::Bad {
+                reason: Reason::Unbuilt,
+            }),
+            Kind::Snapshot => Err(LineFault::Bad {
+                reason: Reason::Unbuilt,
+            }),
+            Kind::Load => Err(LineFault::Bad {
+                reason: Reason::Unbuilt,
+            }),
+            Kind::Unload => Err(LineFault::Bad {
+                reason: Reason::Unbuilt,
+            }),
+            Kind::Unwind => Err(LineFault::Bad {
+                reason: Reason::Unbuilt,
+            }),
         }
     }
 
@@ -268,18 +341,26 @@ impl Draft {
         ensures { Gives result (after_line self line.now) }
     {
         if matches!(self.stage, Stage::Ended) {
-            return Err(LineFault::Bad { reason: Reason::After });
+            return Err(LineFault::Bad {
+                reason: Reason::After,
+            });
         }
         if !is_printable(line) {
-            return Err(LineFault::Bad { reason: Reason::Byte });
+            return Err(LineFault::Bad {
+                reason: Reason::Byte,
+            });
         }
         let (word, rest) = first_field(line);
         let kind = kind_of(word).ok_or(Reason::Word)?;
         if !may_come(self.stage, kind) {
-            return Err(LineFault::Bad { reason: Reason::Word });
+            return Err(LineFault::Bad {
+                reason: Reason::Word,
+            });
         }
         if is_unbuilt(self.stage, kind) {
-            return Err(LineFault::Bad { reason: Reason::Unbuilt });
+            return Err(LineFault::Bad {
+                reason: Reason::Unbuilt,
+            });
         }
         self.by_kind(alloc, kind, rest)
     }
@@ -293,12 +374,18 @@ impl Draft {
             if rest.is_empty() {
                 Ok(self)
             } else {
-                Err(LineFault::Bad { reason: Reason::After })
+                Err(LineFault::Bad {
+                    reason: Reason::After,
+                })
             }
         } else if rest.is_empty() {
-            Err(LineFault::Bad { reason: Reason::Missing })
+            Err(LineFault::Bad {
+                reason: Reason::Missing,
+            })
         } else {
-            Err(LineFault::Bad { reason: Reason::Unended })
+            Err(LineFault::Bad {
+                reason: Reason::Unended,
+            })
         }
     }
 }

@@ -88,7 +88,10 @@ pub fn may_come(stage: Stage, kind: Kind) -> bool
         Stage::Version => matches!(kind, Kind::Version),
         Stage::Nodes => matches!(kind, Kind::Nodes),
         Stage::Loads => matches!(kind, Kind::Loads),
-        Stage::Images => matches!(kind, Kind::Image | Kind::Fixed | Kind::Snapshot | Kind::Round | Kind::End),
+        Stage::Images => matches!(
+            kind,
+            Kind::Image | Kind::Fixed | Kind::Snapshot | Kind::Round | Kind::End
+        ),
         Stage::Round => matches!(kind, Kind::Round | Kind::Thread | Kind::End),
         Stage::Thread => matches!(
             kind,

@@ -43,7 +43,11 @@ pub fn decimal_in(field: &[u8]) -> Option<u32>
     ensures { result ≡ decimal_in field.now }
 {
     let number = number_of(10, 10, field)?;
-    if number <= u32::MAX as u64 { Some(number as u32) } else { None }
+    if number <= u32::MAX as u64 {
+        Some(number as u32)
+    } else {
+        None
+    }
 }
 
 /// A hexadecimal number below 2^64.

@@ -1,8 +1,6 @@
-use Rattle.std.proofs.Common.{◌≡◌, Result, Ok, sym, subst, ◌∙◌, arith}
+use Rattle.std.proofs.Common.{sym, subst, ◌∙◌}
 use Rattle.std.proofs.lemmas.Result.{err_from_is_err_and}
-use Rattle.event_script.specs.declared.reader.fault.Reason.{Reason}
-use Rattle.event_script.specs.Fields.{pieces}
-use Rattle.event_script.specs.Reading.{Known, Gives, after_lines, outcome}
+use Rattle.event_script.specs.Reading.{Gives}
 use Rattle.event_script.proofs.Lines.{line_good, line_bad, lines_end}
 use Rattle.event_script.proofs.reader.known_of.Goals as goal
 

@@ -1,4 +1,4 @@
-use Rattle.std.proofs.Common.{ℕ, ◌≡◌, List, ◌∷◌, sym, ◌∙◌, ap₂}
+use Rattle.std.proofs.Common.{ℕ, List, ◌∷◌, sym, ◌∙◌, ap₂}
 use Rattle.event_script.specs.Fields.{pieces_behind}
 use Rattle.event_script.proofs.Pieces.{pieces_cut}
 use Rattle.event_script.proofs.reader.fields.first_field.Goals as goal

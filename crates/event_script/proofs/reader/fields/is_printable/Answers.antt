@@ -1,4 +1,4 @@
-use Rattle.std.proofs.Common.{ℕ, ◌≡◌, leb, ◌&&◌, rules, tests}
+use Rattle.std.proofs.Common.{leb, ◌&&◌, rules, tests}
 use Rattle.std.proofs.lemmas.Iterator.{YieldsList-from_slice}
 use Rattle.std.proofs.lemmas.Iterator.Search.{all_from_yields_List}
 use Rattle.event_script.proofs.reader.fields.is_printable.Goals as goal

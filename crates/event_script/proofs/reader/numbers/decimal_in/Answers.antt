@@ -1,4 +1,4 @@
-use Rattle.std.proofs.Common.{◌≡◌, ◌^◌, ◌<◌, ◌≤◌, sym, ◌∙◌, arith}
+use Rattle.std.proofs.Common.{◌^◌, sym, ◌∙◌, arith}
 use Rattle.event_script.proofs.Numbers.{narrow_some, narrow_over, narrow_none}
 use Rattle.event_script.proofs.reader.numbers.decimal_in.Goals as goal
 

@@ -24,7 +24,7 @@ returns-in_err-digit c = let h = c.in_err-digit.ensures in c.from_residual.ensur
 pub returns-then-digit-base : goal.returns-then-digit-base
 returns-then-digit-base c = let h = c.in_ok-digit.ensures in sym (number_none c.args.base c.args.most c.args.field.now (omega arith) (omega arith) (omega arith) (omega arith)
     (λ number. let g = all_at (IsGlyph c.args.base) c.args.field.now c.loop-byte.byte-index number.each c.loop-byte-test.true in
-      glyph_not c.args.base c.in_ok-digit.digit _ (omega arith) h.0 c.if-digit-base.true h.1 g))
+    glyph_not c.args.base c.in_ok-digit.digit _ (omega arith) h.0 c.if-digit-base.true h.1 g))
 
 pub overflow_mul-number : goal.overflow_mul-number
 overflow_mul-number c = let h = c.in_ok-digit.ensures in let i = c.loop-byte.invariant in
@@ -44,11 +44,11 @@ returns c =
     let i = c.loop-byte.invariant in
     let field = c.args.field.now in
     let whole = take_all c.loop-byte.byte-index field (omega arith) in
-    let some : 0 < length field = elim (cases_eq (length field) 0) [ | inl none ↦ absurd (eqb-false (length field) 0 (sym c.if-is_empty.ensures) none) | inr more ↦ omega arith ] in
+    let some : 0 < length field = elim (cases_eq (length field) 0) [ inl none ↦ absurd (eqb-false (length field) 0 (sym c.if-is_empty.ensures) none) | inr more ↦ omega arith ] in
     let lead : get_or field 0 0 ≡ 48 → length field ≡ 1 = λ e. elim c.else-field-gt1.branch [
       | else-field-gt1-via-then-field-gt1+else-field-eq48 w ↦ absurd (w.if-field-eq48.false e)
       | else-field-gt1-via-else-field-gt1 w ↦ omega arith
     ] in
     ap Some i.value ∙ ap (λ (x : List ℕ). Some (digits_value c.args.base x)) whole
     ∙ sym (number_found c.args.base c.args.most field (omega arith) (omega arith) (omega arith)
-      (record { each = subst (AllByRecursion (IsGlyph c.args.base)) whole i.each; some = some; short = omega arith; lead = lead }))
+    (record { each = subst (AllByRecursion (IsGlyph c.args.base)) whole i.each; some = some; short = omega arith; lead = lead }))
