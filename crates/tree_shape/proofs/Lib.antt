@@ -7,3 +7,9 @@ pub mod Reach
 pub mod Living
 pub mod Leads
 pub mod Local
+pub mod Runs
+pub mod Family
+pub mod Slotted
+pub mod Tests
+pub mod Splits
+pub mod Joins

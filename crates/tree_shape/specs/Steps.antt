@@ -1,0 +1,72 @@
+-- The changes of nodes put into a tree: which contents g come of contents f.
+use Rattle.std.specs.Prelude.{◌≡◌, ◌≢◌, ℕ, suc, ◌+◌, ◌/◌, ◌<◌, ◌≤◌, ◌↔◌, ◌⊎◌, Bool, true, false, List, [], ◌∷◌, length, Some, Contains, IsTrue, ◌==◌, if◌then◌else◌}
+use Rattle.std.specs.List.{slice_get}
+use Rattle.reg_model.specs.declared.span.Member.{Member}
+use Rattle.reg_model.specs.State.{IsFree, at_base}
+use Rattle.reg_model.specs.History.{without}
+use Rattle.tree_shape.specs.declared.pair.Pair.{Pair}
+use Rattle.tree_shape.specs.Shapes.{Shape, Body, Pairs, Entries, Link, pairs_of, entries_of, IsLeaf}
+use Rattle.tree_shape.specs.Changes.{first_half, last_half, joined, at_slot, divide, swallow_next, separate_at, with_entry, first_part, end_of, size, Fit, Overfill}
+use Rattle.tree_shape.specs.Trees.{Contents, HasEntry}
+use Rattle.tree_shape.specs.Lawful.{IsTree, IsLawful, fewest_pairs, fewest_entries}
+
+-- g is a lawful tree with the entries of f
+pub record Keeps (f : Contents) (live : ℕ → Bool) (g : Contents) (live' : ℕ → Bool) : Type 0 where
+  pub lawful : IsLawful g live'
+  pub entries : (m : Member) → HasEntry g live' m ↔ HasEntry f live m
+
+-- the live nodes and one more, or without one
+abbrev pub with_node : ℕ → (ℕ → Bool) → ℕ → Bool
+with_node n live x = if x == n then true else live x
+
+abbrev pub without_node : ℕ → (ℕ → Bool) → ℕ → Bool
+without_node n live x = if x == n then false else live x
+
+-- where a full node is cut: a leaf after 5 entries, an inner node after 7 pairs
+abbrev pub middle : Body → ℕ
+middle (Pairs pairs) = 7
+middle (Entries entries) = 5
+middle (Link next) = 0
+
+-- it holds as much as it can
+abbrev pub IsFull : Body → Type 0
+IsFull (Pairs pairs) = length pairs ≡ 15
+IsFull (Entries entries) = length entries ≡ 10
+IsFull (Link next) = ⊥
+
+-- A child is split, and its parent has a pair more: the child keeps the first half, the node `fresh` gets the last.
+pub record IsSplit (f : Contents) (live : ℕ → Bool) (parent slot : ℕ) (p : Pair) (fresh : ℕ) (g : Contents) : Type 0 where
+  pub live_parent : IsTrue (live parent)
+  pub at : slice_get (pairs_of (f parent)) slot ≡ Some p
+  pub room : length (pairs_of (f parent)) < 15
+  pub full : IsFull (f p.child).body
+  pub free : live fresh ≡ false
+  pub above : let s = f parent in
+      g parent ≡ record s { body = Pairs (at_slot (divide (end_of (first_part (middle (f p.child).body) (f p.child).body)) fresh) slot (pairs_of s)) }
+  pub left : g p.child ≡ first_half (middle (f p.child).body) (f p.child)
+  pub right : g fresh ≡ last_half (middle (f p.child).body) (f p.child)
+  pub others : (n : ℕ) → n ≢ parent → n ≢ p.child → n ≢ fresh → g n ≡ f n
+
+-- Two neighbouring children are joined, and their parent has a pair less: the left one holds both, the right one leaves.
+pub record IsJoin (f : Contents) (live : ℕ → Bool) (parent slot : ℕ) (p q : Pair) (g : Contents) : Type 0 where
+  pub live_parent : IsTrue (live parent)
+  pub at : slice_get (pairs_of (f parent)) slot ≡ Some p
+  pub next : slice_get (pairs_of (f parent)) (slot + 1) ≡ Some q
+  pub spare : fewest_pairs parent < length (pairs_of (f parent))
+  pub fit : Fit (f p.child) (f q.child)
+  pub above : let s = f parent in g parent ≡ record s { body = Pairs (at_slot swallow_next slot (pairs_of s)) }
+  pub left : g p.child ≡ joined (f p.child) (f q.child)
+  pub others : (n : ℕ) → n ≢ parent → n ≢ p.child → n ≢ q.child → g n ≡ f n
+
+-- Two neighbouring children that don't fit into one are given even shares.
+pub record IsShare (f : Contents) (live : ℕ → Bool) (parent slot : ℕ) (p q : Pair) (g : Contents) : Type 0 where
+  pub live_parent : IsTrue (live parent)
+  pub at : slice_get (pairs_of (f parent)) slot ≡ Some p
+  pub next : slice_get (pairs_of (f parent)) (slot + 1) ≡ Some q
+  pub overfill : Overfill (f p.child) (f q.child)
+  pub above : let s = f parent in
+      let both = joined (f p.child) (f q.child) in
+      g parent ≡ record s { body = Pairs (at_slot (separate_at (end_of (first_part ((size (f p.child).body + size (f q.child).body) / 2) both.body))) slot (pairs_of s)) }
+  pub left : g p.child ≡ first_half ((size (f p.child).body + size (f q.child).body) / 2) (joined (f p.child) (f q.child))
+  pub right : g q.child ≡ last_half ((size (f p.child).body + size (f q.child).body) / 2) (joined (f p.child) (f q.child))
+  pub others : (n : ℕ) → n ≢ parent → n ≢ p.child → n ≢ q.child → g n ≡ f n
