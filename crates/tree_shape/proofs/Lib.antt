@@ -13,3 +13,4 @@ pub mod Slotted
 pub mod Tests
 pub mod Splits
 pub mod Joins
+pub mod Leaves

@@ -2,6 +2,7 @@
 use Rattle.std.specs.Prelude.{◌≡◌, ◌≢◌, ℕ, suc, ◌+◌, ◌/◌, ◌<◌, ◌≤◌, ◌↔◌, ◌⊎◌, Bool, true, false, List, [], ◌∷◌, length, Some, Contains, IsTrue, ◌==◌, if◌then◌else◌}
 use Rattle.std.specs.List.{slice_get}
 use Rattle.reg_model.specs.declared.span.Member.{Member}
+use Rattle.reg_model.specs.Interval.{IsSpan}
 use Rattle.reg_model.specs.State.{IsFree, at_base}
 use Rattle.reg_model.specs.History.{without}
 use Rattle.tree_shape.specs.declared.pair.Pair.{Pair}
@@ -70,3 +71,34 @@ pub record IsShare (f : Contents) (live : ℕ → Bool) (parent slot : ℕ) (p q
   pub left : g p.child ≡ first_half ((size (f p.child).body + size (f q.child).body) / 2) (joined (f p.child) (f q.child))
   pub right : g q.child ≡ last_half ((size (f p.child).body + size (f q.child).body) / 2) (joined (f p.child) (f q.child))
   pub others : (n : ℕ) → n ≢ parent → n ≢ p.child → n ≢ q.child → g n ≡ f n
+
+-- A leaf gets one more entry, in its place.
+pub record IsPut (f : Contents) (live : ℕ → Bool) (leaf : ℕ) (member : Member) (g : Contents) : Type 0 where
+  pub live_leaf : IsTrue (live leaf)
+  pub is_leaf : IsLeaf (f leaf)
+  pub room : length (entries_of (f leaf)) < 10
+  pub span : IsSpan member.span
+  pub low : (f leaf).low ≤ member.span.first
+  pub high : member.span.last ≤ (f leaf).high
+  pub free : IsFree member.span (entries_of (f leaf))
+  pub above : let s = f leaf in g leaf ≡ record s { body = Entries (with_entry member (entries_of s)) }
+  pub others : (n : ℕ) → n ≢ leaf → g n ≡ f n
+
+-- The tree is lawful and has exactly one member more.
+pub record Adds (f : Contents) (live : ℕ → Bool) (member : Member) (g : Contents) : Type 0 where
+  pub lawful : IsLawful g live
+  pub entries : (m : Member) → HasEntry g live m ↔ (HasEntry f live m ⊎ (m ≡ member))
+
+-- A leaf loses the entry that begins at an address.
+pub record IsTake (f : Contents) (live : ℕ → Bool) (leaf base : ℕ) (member : Member) (g : Contents) : Type 0 where
+  pub live_leaf : IsTrue (live leaf)
+  pub is_leaf : IsLeaf (f leaf)
+  pub held : at_base base (entries_of (f leaf)) ≡ Some member
+  pub above : let s = f leaf in g leaf ≡ record s { body = Entries (without base (entries_of s)) }
+  pub others : (n : ℕ) → n ≢ leaf → g n ≡ f n
+
+-- The tree has exactly that member less. It is lawful where the leaf is the root or had an entry to spare.
+pub record Takes (f : Contents) (live : ℕ → Bool) (leaf : ℕ) (member : Member) (g : Contents) : Type 0 where
+  pub tree : IsTree g live
+  pub lawful : fewest_entries leaf < length (entries_of (f leaf)) → IsLawful g live
+  pub entries : (m : Member) → HasEntry g live m ↔ (HasEntry f live m × (m ≢ member))
