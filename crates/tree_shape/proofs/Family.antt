@@ -106,6 +106,94 @@ two_levels set f level n front middle back is quiet_front quiet_back inside quie
 abbrev pub family : ℕ → List Branch → ℕ → Bool
 family n middle x = eqb x n || is_among (numbers middle) x
 
+-- A live node, some of its children in a row, and fresh nodes, which aren't live.
+pub record Grouped (f : Contents) (live : ℕ → Bool) (n level : ℕ) (front old back : List Branch) (fresh : ℕ → Bool) : Type 0 where
+  pub alive : IsTrue (live n)
+  pub at : (f n).level ≡ suc level
+  pub before : branches level (f n) ≡ front ++ (old ++ back)
+  pub free : (x : ℕ) → IsTrue (fresh x) → live x ≡ false
+
+module _ (f : Contents) (live : ℕ → Bool) (tree : IsTree f live) (n level : ℕ) (front old back : List Branch) (fresh : ℕ → Bool)
+    (r : Grouped f live n level front old back fresh) where
+  pub own_before : own_branches f n ≡ front ++ (old ++ back)
+  own_before = own_at f n level r.at ∙ r.before
+
+  pub own_of : (b : Branch) → In b (front ++ (old ++ back)) → In b (own_branches f n)
+  own_of b there = subst (λ bs. In b bs) (sym own_before) there
+
+  pub level_of : (b : Branch) → In b (front ++ (old ++ back)) → (f b.child).level ≡ level
+  level_of b there = (child_fits f live tree n r.alive b (own_of b there)).level
+      ∙ branch_level level (f n).low (pairs_of (f n)) b (subst (λ bs. In b bs) (sym r.before) there)
+
+  -- no two of the children are one node
+  pub siblings : (x : ℕ) → times x (numbers front) + (times x (numbers old) + times x (numbers back)) ≤ 1
+  siblings x =
+      let sum = parents f live tree x (f 0).level 0 (root_live f live tree) refl in
+      let brought = times_under (children f) (nodes f) n x (live_node f live tree n r.alive) in
+      let count = numbers_children x level (f n).low (pairs_of (f n)) in
+      let same : times x (numbers (branches level (f n))) ≡ times x (numbers (front ++ (old ++ back))) = ap (λ bs. times x (numbers bs)) r.before in
+      omega (arith, one_way f live tree x, numbers-append x front (old ++ back), numbers-append x old back)
+
+  pub in_old : (b : Branch) → In b old → In b (front ++ (old ++ back))
+  in_old b there = in_right front (old ++ back) b (in_left old back b there)
+
+  pub family_level : (x : ℕ) → IsTrue (family n old x) → level ≤ (f x).level
+  family_level x inside = elim (or_cases (eqb x n) (is_among (numbers old) x) inside) [
+      inl same ↦ let e : (f x).level ≡ (f n).level = ap (λ y. (f y).level) (eqb-true x n same) in omega (arith, r.at)
+    | inr among ↦
+        let found = numbers_in old x (ltb-true 0 (times x (numbers old)) among) in
+        let e : (f found.0.child).level ≡ (f x).level = ap (λ y. (f y).level) found.1.1 in
+        omega (arith, level_of found.0 (in_old found.0 found.1.0))
+    ]
+
+  pub live_of : (b : Branch) → In b (front ++ (old ++ back)) → IsTrue (live b.child)
+  live_of b there = child_live f live tree n r.alive b (own_of b there)
+
+  pub untouched : (x : ℕ) → IsTrue (live x) → family n old x ≡ false → either (family n old) fresh x ≡ false
+  untouched x alive outside = elim (cases_Bool (fresh x)) [
+      inl new' ↦ absurd (both_ways (live x) (r.free x new') alive)
+    | inr known ↦ or_from (family n old x) (fresh x) outside known
+    ]
+
+  -- the other children are outside the family
+  pub outsider : (b : Branch) → In b (front ++ (old ++ back)) → times b.child (numbers old) ≡ 0 → family n old b.child ≡ false
+  outsider b there none = elim (cases_Bool (family n old b.child)) [
+      inr outside ↦ outside
+    | inl inside ↦ elim (or_cases (eqb b.child n) (is_among (numbers old) b.child) inside) [
+        inl same ↦ let e : (f b.child).level ≡ (f n).level = ap (λ y. (f y).level) (eqb-true b.child n same) in absurd (omega (arith, level_of b there, r.at))
+      | inr among ↦ absurd (omega (arith, ltb-true 0 (times b.child (numbers old)) among))
+      ]
+    ]
+
+  pub outside_front : (b : Branch) → In b front → family n old b.child ≡ false
+  outside_front b there = outsider b (in_left front (old ++ back) b there) (omega (arith, siblings b.child, numbers_from front b there))
+
+  pub outside_back : (b : Branch) → In b back → family n old b.child ≡ false
+  outside_back b there = outsider b (in_right front (old ++ back) b (in_right old back b there)) (omega (arith, siblings b.child, numbers_from back b there))
+
+  -- and so are the children's children
+  pub grandchild : (b : Branch) → In b old → (c : Branch) → In c (exits_of f level b.child) → IsTrue (live c.child) × (family n old c.child ≡ false)
+  grandchild b there c below' =
+      let own = own_exit level b.child c (live_of b (in_old b there)) (level_of b (in_old b there)) below' in
+      let alive = child_live f live tree b.child (live_of b (in_old b there)) c own.0 in
+      let fits = child_fits f live tree b.child (live_of b (in_old b there)) c own.0 in
+      let deep : (f c.child).level < level = omega (arith, fits.level, own.1) in
+      (alive, elim (cases_Bool (family n old c.child)) [
+        inr outside ↦ outside
+      | inl inside ↦ absurd (omega (arith, family_level c.child inside))
+      ])
+    where
+      own_exit : (level x : ℕ) (c : Branch) → IsTrue (live x) → (f x).level ≡ level → In c (exits_of f level x) → In c (own_branches f x) × (c.level < level)
+      own_exit zero x c alive at there = absurd there
+      own_exit (suc j) x c alive at there =
+          (subst (λ bs. In c bs) (sym (own_at f x j at)) there, omega (arith, branch_level j (f x).low (pairs_of (f x)) c there))
+
+  pub old_inside : (b : Branch) → In b old → IsTrue (family n old b.child)
+  old_inside b there = or_right (eqb b.child n) (is_among (numbers old) b.child) (lt-ltb 0 (times b.child (numbers old)) (numbers_from old b there))
+
+  pub old_ways : (within (family n old) f (suc level) n ≡ n ∷ numbers old) × (leaving (family n old) f (suc level) n ≡ front ++ (flat_map (λ b. exits_of f level b.child) old ++ back))
+  old_ways = two_levels (family n old) f level n front old back r.before outside_front outside_back old_inside (λ b there c below'. (grandchild b there c below').1)
+
 -- New contents of a node, of some children in a row, and of fresh nodes that become its children in place of these.
 pub record Regroups (f : Contents) (live : ℕ → Bool) (n level : ℕ) (front old new back : List Branch) (fresh : ℕ → Bool) (g : Contents) : Type 0 where
   pub alive : IsTrue (live n)
@@ -127,98 +215,22 @@ pub record Regroups (f : Contents) (live : ℕ → Bool) (n level : ℕ) (front 
 
 module _ (f : Contents) (live : ℕ → Bool) (tree : IsTree f live) (n level : ℕ) (front old new back : List Branch) (fresh : ℕ → Bool) (g : Contents)
     (r : Regroups f live n level front old new back fresh g) where
-  own_before : own_branches f n ≡ front ++ (old ++ back)
-  own_before = own_at f n level r.at ∙ r.before
-
-  own_of : (b : Branch) → In b (front ++ (old ++ back)) → In b (own_branches f n)
-  own_of b there = subst (λ bs. In b bs) (sym own_before) there
-
-  level_of : (b : Branch) → In b (front ++ (old ++ back)) → (f b.child).level ≡ level
-  level_of b there = (child_fits f live tree n r.alive b (own_of b there)).level
-      ∙ branch_level level (f n).low (pairs_of (f n)) b (subst (λ bs. In b bs) (sym r.before) there)
-
-  -- no two of the children are one node
-  siblings : (x : ℕ) → times x (numbers front) + (times x (numbers old) + times x (numbers back)) ≤ 1
-  siblings x =
-      let sum = parents f live tree x (f 0).level 0 (root_live f live tree) refl in
-      let brought = times_under (children f) (nodes f) n x (live_node f live tree n r.alive) in
-      let count = numbers_children x level (f n).low (pairs_of (f n)) in
-      let same : times x (numbers (branches level (f n))) ≡ times x (numbers (front ++ (old ++ back))) = ap (λ bs. times x (numbers bs)) r.before in
-      omega (arith, one_way f live tree x, numbers-append x front (old ++ back), numbers-append x old back)
-
-  in_old : (b : Branch) → In b old → In b (front ++ (old ++ back))
-  in_old b there = in_right front (old ++ back) b (in_left old back b there)
-
-  family_level : (x : ℕ) → IsTrue (family n old x) → level ≤ (f x).level
-  family_level x inside = elim (or_cases (eqb x n) (is_among (numbers old) x) inside) [
-      inl same ↦ let e : (f x).level ≡ (f n).level = ap (λ y. (f y).level) (eqb-true x n same) in omega (arith, r.at)
-    | inr among ↦
-        let found = numbers_in old x (ltb-true 0 (times x (numbers old)) among) in
-        let e : (f found.0.child).level ≡ (f x).level = ap (λ y. (f y).level) found.1.1 in
-        omega (arith, level_of found.0 (in_old found.0 found.1.0))
-    ]
-
-  live_of : (b : Branch) → In b (front ++ (old ++ back)) → IsTrue (live b.child)
-  live_of b there = child_live f live tree n r.alive b (own_of b there)
-
-  untouched : (x : ℕ) → IsTrue (live x) → family n old x ≡ false → either (family n old) fresh x ≡ false
-  untouched x alive outside = elim (cases_Bool (fresh x)) [
-      inl new' ↦ absurd (both_ways (live x) (r.free x new') alive)
-    | inr known ↦ or_from (family n old x) (fresh x) outside known
-    ]
-
-  -- the other children are outside the family
-  outsider : (b : Branch) → In b (front ++ (old ++ back)) → times b.child (numbers old) ≡ 0 → family n old b.child ≡ false
-  outsider b there none = elim (cases_Bool (family n old b.child)) [
-      inr outside ↦ outside
-    | inl inside ↦ elim (or_cases (eqb b.child n) (is_among (numbers old) b.child) inside) [
-        inl same ↦ let e : (f b.child).level ≡ (f n).level = ap (λ y. (f y).level) (eqb-true b.child n same) in absurd (omega (arith, level_of b there, r.at))
-      | inr among ↦ absurd (omega (arith, ltb-true 0 (times b.child (numbers old)) among))
-      ]
-    ]
-
-  outside_front : (b : Branch) → In b front → family n old b.child ≡ false
-  outside_front b there = outsider b (in_left front (old ++ back) b there) (omega (arith, siblings b.child, numbers_from front b there))
-
-  outside_back : (b : Branch) → In b back → family n old b.child ≡ false
-  outside_back b there = outsider b (in_right front (old ++ back) b (in_right old back b there)) (omega (arith, siblings b.child, numbers_from back b there))
-
-  -- and so are the children's children
-  grandchild : (b : Branch) → In b old → (c : Branch) → In c (exits_of f level b.child) → IsTrue (live c.child) × (family n old c.child ≡ false)
-  grandchild b there c below' =
-      let own = own_exit level b.child c (live_of b (in_old b there)) (level_of b (in_old b there)) below' in
-      let alive = child_live f live tree b.child (live_of b (in_old b there)) c own.0 in
-      let fits = child_fits f live tree b.child (live_of b (in_old b there)) c own.0 in
-      let deep : (f c.child).level < level = omega (arith, fits.level, own.1) in
-      (alive, elim (cases_Bool (family n old c.child)) [
-        inr outside ↦ outside
-      | inl inside ↦ absurd (omega (arith, family_level c.child inside))
-      ])
-    where
-      own_exit : (level x : ℕ) (c : Branch) → IsTrue (live x) → (f x).level ≡ level → In c (exits_of f level x) → In c (own_branches f x) × (c.level < level)
-      own_exit zero x c alive at there = absurd there
-      own_exit (suc j) x c alive at there =
-          (subst (λ bs. In c bs) (sym (own_at f x j at)) there, omega (arith, branch_level j (f x).low (pairs_of (f x)) c there))
-
-  old_inside : (b : Branch) → In b old → IsTrue (family n old b.child)
-  old_inside b there = or_right (eqb b.child n) (is_among (numbers old) b.child) (lt-ltb 0 (times b.child (numbers old)) (numbers_from old b there))
-
-  old_ways : (within (family n old) f (suc level) n ≡ n ∷ numbers old) × (leaving (family n old) f (suc level) n ≡ front ++ (flat_map (λ b. exits_of f level b.child) old ++ back))
-  old_ways = two_levels (family n old) f level n front old back r.before outside_front outside_back old_inside (λ b there c below'. (grandchild b there c below').1)
+  side : Grouped f live n level front old back fresh
+  side = record { alive = r.alive; at = r.at; before = r.before; free = r.free }
 
   -- what the new children lead to are the old children's children
   new_exit : (b : Branch) → In b new → (c : Branch) → In c (exits_of g level b.child) → either (family n old) fresh c.child ≡ false
   new_exit b there c below' =
       let all : In c (flat_map (λ (x : Branch). exits_of g level x.child) new) = in_flat_map_from (λ (x : Branch). exits_of g level x.child) new b c there below' in
       let back' = in_flat_map (λ (x : Branch). exits_of f level x.child) old c (subst (λ cs. In c cs) r.children all) in
-      let grand = grandchild back'.0 back'.1.0 c back'.1.1 in
-      untouched c.child grand.0 grand.1
+      let grand = (grandchild f live tree n level front old back fresh side) back'.0 back'.1.0 c back'.1.1 in
+      (untouched f live tree n level front old back fresh side) c.child grand.0 grand.1
 
   quiet_front : (b : Branch) → In b front → either (family n old) fresh b.child ≡ false
-  quiet_front b there = untouched b.child (live_of b (in_left front (old ++ back) b there)) (outside_front b there)
+  quiet_front b there = (untouched f live tree n level front old back fresh side) b.child ((live_of f live tree n level front old back fresh side) b (in_left front (old ++ back) b there)) ((outside_front f live tree n level front old back fresh side) b there)
 
   quiet_back : (b : Branch) → In b back → either (family n old) fresh b.child ≡ false
-  quiet_back b there = untouched b.child (live_of b (in_right front (old ++ back) b (in_right old back b there))) (outside_back b there)
+  quiet_back b there = (untouched f live tree n level front old back fresh side) b.child ((live_of f live tree n level front old back fresh side) b (in_right front (old ++ back) b (in_right old back b there))) ((outside_back f live tree n level front old back fresh side) b there)
 
   pub new_ways : (within (either (family n old) fresh) g (suc level) n ≡ n ∷ numbers new)
       × (leaving (either (family n old) fresh) g (suc level) n ≡ front ++ (flat_map (λ b. exits_of g level b.child) new ++ back))
@@ -261,7 +273,7 @@ module _ (f : Contents) (live : ℕ → Bool) (tree : IsTree f live) (n level : 
   regroups = record {
       top_live = r.alive;
       top_grouped = or_left (eqb n n) (is_among (numbers old) n) (eq-eqb n n refl);
-      grouped = λ x inside. subst (λ l. 0 < times x (within (family n old) f l n)) (sym r.at) (subst (λ l. 0 < times x l) (sym old_ways.0) (in_family x inside));
+      grouped = λ x inside. subst (λ l. 0 < times x (within (family n old) f l n)) (sym r.at) (subst (λ l. 0 < times x l) (sym (old_ways f live tree n level front old back fresh side).0) (in_family x inside));
       fresh_free = free_of;
       others_stay = r.stays;
       low = r.low;
@@ -276,7 +288,7 @@ module _ (f : Contents) (live : ℕ → Bool) (tree : IsTree f live) (n level : 
               (λ c own touched. absurd (both_ways (either (family n old) fresh c.child) (new_child_exit b there c own) touched)));
       exits = ap (λ l. leaving (either (family n old) fresh) g l n) r.still_at ∙ new_ways.1
           ∙ ap (λ bs. front ++ (bs ++ back)) r.children
-          ∙ sym old_ways.1 ∙ ap (λ l. leaving (family n old) f l n) (sym r.at)
+          ∙ sym (old_ways f live tree n level front old back fresh side).1 ∙ ap (λ l. leaving (family n old) f l n) (sym r.at)
     }
     where
       in_family : (x : ℕ) → IsTrue (family n old x) → 0 < times x (n ∷ numbers old)
@@ -317,7 +329,7 @@ module _ (f : Contents) (live : ℕ → Bool) (tree : IsTree f live) (n level : 
               let found = numbers_in new x later in
               let all = in_flat_map_from (λ (b : Branch). entries_of (g b.child)) new found.0 m found.1.0 (subst (λ y. In m (entries_of (g y))) (sym found.1.1) at) in
               let back' = in_flat_map (λ (b : Branch). entries_of (f b.child)) old m (subst (λ es. In m es) same all) in
-              (back'.0.child, (live_of back'.0 (in_old back'.0 back'.1.0), in_contains (entries_of (f back'.0.child)) m back'.1.1))
+              (back'.0.child, ((live_of f live tree n level front old back fresh side) back'.0 ((in_old f live tree n level front old back fresh side) back'.0 back'.1.0), in_contains (entries_of (f back'.0.child)) m back'.1.1))
           ]
       now : HasEntry g (live_after live n (family n old) fresh g) m → HasEntry f live m
       now has = elim (changes.0 has) [ inl kept ↦ kept.0 | inr new' ↦ from_new new' ]
@@ -344,5 +356,5 @@ module _ (f : Contents) (live : ℕ → Bool) (tree : IsTree f live) (n level : 
           family_live y inside = elim (or_cases (eqb y n) (is_among (numbers old) y) inside) [
               inl e ↦ subst (λ z. IsTrue (live z)) (sym (eqb-true y n e)) r.alive
             | inr among ↦ let found = numbers_in old y (ltb-true 0 (times y (numbers old)) among) in
-                subst (λ z. IsTrue (live z)) found.1.1 (live_of found.0 (in_old found.0 found.1.0))
+                subst (λ z. IsTrue (live z)) found.1.1 ((live_of f live tree n level front old back fresh side) found.0 ((in_old f live tree n level front old back fresh side) found.0 found.1.0))
             ]

@@ -119,7 +119,7 @@ join_exits f g zero c d join = refl
 join_exits f g (suc level) c d join = append-nil (branches level (g c)) ∙ sym (join.children level) ∙ ap (λ l. branches level (f c) ++ l) (sym (append-nil (branches level (f d))))
 
 -- a node that is none of three
-none_of : (n c d x : ℕ) (old : List Branch) → numbers old ≡ c ∷ d ∷ [] → either (family n old) (λ _. false) x ≡ false → (x ≢ n) × (x ≢ c) × (x ≢ d)
+pub none_of : (n c d x : ℕ) (old : List Branch) → numbers old ≡ c ∷ d ∷ [] → either (family n old) (λ _. false) x ≡ false → (x ≢ n) × (x ≢ c) × (x ≢ d)
 none_of n c d x old is outside =
     let parts = or_parts (family n old x) false outside in
     let inner = or_parts (eqb x n) (is_among (numbers old) x) parts.0 in
@@ -127,7 +127,7 @@ none_of n c d x old is outside =
     (eqb-false x n inner.0, not_one (c ∷ d ∷ []) x c among' (times_head c (d ∷ [])), not_one (c ∷ d ∷ []) x d among' (second c d []))
 
 -- one of a family of three
-one_of_three : (P : ℕ → Type 0) (n c d : ℕ) → P n → P c → P d → (x : ℕ) → IsTrue (either (λ y. eqb y n || is_among (c ∷ d ∷ []) y) (λ _. false) x) → P x
+pub one_of_three : (P : ℕ → Type 0) (n c d : ℕ) → P n → P c → P d → (x : ℕ) → IsTrue (either (λ y. eqb y n || is_among (c ∷ d ∷ []) y) (λ _. false) x) → P x
 one_of_three P n c d pn pc pd x touched = elim (or_cases (eqb x n || is_among (c ∷ d ∷ []) x) false touched) [
     inr none ↦ absurd (cc (none))
   | inl inside ↦ elim (or_cases (eqb x n) (is_among (c ∷ d ∷ []) x) inside) [
@@ -186,9 +186,10 @@ join_keeps f live lawful n slot p q g join =
         })
       } in
     let leaves : (x : ℕ) → x ≢ q.child → without_node q.child live x ≡ live x = λ x other. cond-false (eqb x q.child) false (live x) (ne_eqb x q.child other) in
-    family_keeps f live lawful n level (branches_from level (f n).low at.front) (one ∷ two ∷ []) (both' ∷ []) (branches_from level (q.separator + 1) at.back) (λ _. false) g (without_node q.child live)
+    family_keeps f live lawful.tree n level (branches_from level (f n).low at.front) (one ∷ two ∷ []) (both' ∷ []) (branches_from level (q.separator + 1) at.back) (λ _. false) g (without_node q.child live)
         regroup
         (append-nil (entries_of (g p.child)) ∙ sym piece.members ∙ ap (λ l. entries_of (f p.child) ++ l) (sym (append-nil (entries_of (f q.child)))))
+        (λ x alive outside. lawful.filled x alive)
         (subst (IsFilled n) (sym join.above) (omega arith, omega arith))
         (one_of (λ b. IsFilled b.child (g b.child)) both'
             (subst (IsFilled p.child) (sym join.left) (joined_filled p.child (f p.child).body (f q.child).body join.fit (lawful.filled p.child at.left.alive))))
@@ -257,10 +258,11 @@ share_keeps f live lawful n slot p q g share =
       } in
     let filled = shares_filled p.child q.child p.child q.child (f p.child).body (f q.child).body at.left.no_root at.no_root share.overfill
         (lawful.filled p.child at.left.alive) (lawful.filled q.child at.alive) in
-    family_keeps f live lawful n level (branches_from level (f n).low at.front) (one ∷ two ∷ []) (one' ∷ two' ∷ []) (branches_from level (q.separator + 1) at.back) (λ _. false) g live
+    family_keeps f live lawful.tree n level (branches_from level (f n).low at.front) (one ∷ two ∷ []) (one' ∷ two' ∷ []) (branches_from level (q.separator + 1) at.back) (λ _. false) g live
         regroup
         (ap (λ l. entries_of (g p.child) ++ l) (append-nil (entries_of (g q.child))) ∙ pieces.members ∙ sym whole.members
           ∙ ap (λ l. entries_of (f p.child) ++ l) (sym (append-nil (entries_of (f q.child)))))
+        (λ x alive outside. lawful.filled x alive)
         (subst (IsFilled n) (sym share.above) (omega arith, omega arith))
         (two_of (λ b. IsFilled b.child (g b.child)) one' two' (subst (IsFilled p.child) (sym share.left) filled.0) (subst (IsFilled q.child) (sym share.right) filled.1))
         (one_of_three (λ x. live x ≡ is_among (n ∷ p.child ∷ q.child ∷ []) x) n p.child q.child

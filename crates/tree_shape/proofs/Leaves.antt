@@ -94,7 +94,7 @@ module _ (f : Contents) (live : ℕ → Bool) (tree : IsTree f live) (n : ℕ) (
 
   rewritten_filled : ((x : ℕ) → IsTrue (live x) → IsFilled x (f x)) → IsFilled n (g n) → (x : ℕ) → IsTrue (live x) → IsFilled x (g x)
   rewritten_filled before now x alive =
-      filled_after f live n (alone n) nothing g tree rewrites before (subst (AllByRecursion (λ y. IsFilled y (g y))) (sym new_alone) (now, tt)) x (same_live x ∙ alive)
+      filled_after f live n (alone n) nothing g tree rewrites (λ y there outside. before y there) (subst (AllByRecursion (λ y. IsFilled y (g y))) (sym new_alone) (now, tt)) x (same_live x ∙ alive)
 
   -- the entries: those of the other leaves, and the new ones of this leaf
   rewritten_now : (m : Member) → HasEntry g live m → (HasEntry f live m × ¬ In m (entries_of (f n))) ⊎ In m entries

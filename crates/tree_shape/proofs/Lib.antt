@@ -14,3 +14,4 @@ pub mod Tests
 pub mod Splits
 pub mod Joins
 pub mod Leaves
+pub mod Roots

@@ -79,16 +79,17 @@ pub entry_same : (g : Contents) (a b : ℕ → Bool) → ((x : ℕ) → a x ≡ 
 entry_same g a b same m (x, (alive, held)) = (x, (sym (same x) ∙ alive, held))
 
 -- A family that is regrouped, with the new children's entries those of the old ones, keeps the tree.
-pub family_keeps : (f : Contents) (live : ℕ → Bool) → IsLawful f live → (n level : ℕ) (front old new back : List Branch) (fresh : ℕ → Bool) (g : Contents) (live' : ℕ → Bool) →
+pub family_keeps : (f : Contents) (live : ℕ → Bool) → IsTree f live → (n level : ℕ) (front old new back : List Branch) (fresh : ℕ → Bool) (g : Contents) (live' : ℕ → Bool) →
     Regroups f live n level front old new back fresh g →
     flat_map (λ (b : Branch). entries_of (g b.child)) new ≡ flat_map (λ (b : Branch). entries_of (f b.child)) old →
+    ((x : ℕ) → IsTrue (live x) → either (family n old) fresh x ≡ false → IsFilled x (f x)) →
     IsFilled n (g n) → ((b : Branch) → In b new → IsFilled b.child (g b.child)) →
     ((x : ℕ) → IsTrue (either (family n old) fresh x) → live' x ≡ is_among (n ∷ numbers new) x) →
     ((x : ℕ) → either (family n old) fresh x ≡ false → live' x ≡ live x) →
     Keeps f live g live'
-family_keeps f live lawful n level front old new back fresh g live' r members filled each inside outside =
-    let change = regroups f live lawful.tree n level front old new back fresh g r in
-    let reached = reached_now f live lawful.tree n level front old new back fresh g r in
+family_keeps f live tree n level front old new back fresh g live' r members before filled each inside outside =
+    let change = regroups f live tree n level front old new back fresh g r in
+    let reached = reached_now f live tree n level front old new back fresh g r in
     let same : (x : ℕ) → live_after live n (family n old) fresh g x ≡ live' x =
         λ x. elim (cases_Bool (either (family n old) fresh x)) [
           inl touched ↦
@@ -99,12 +100,12 @@ family_keeps f live lawful n level front old new back fresh g live' r members fi
         ] in
     let filled_now : AllByRecursion (λ x. IsFilled x (g x)) (within (either (family n old) fresh) g (g n).level n) =
         subst (AllByRecursion (λ x. IsFilled x (g x))) (sym reached) (filled, over new each) in
-    let entries = same_entries f live lawful.tree n level front old new back fresh g r members in
+    let entries = same_entries f live tree n level front old new back fresh g r members in
     let back' : (x : ℕ) → live' x ≡ live_after live n (family n old) fresh g x = λ x. sym (same x) in
     record {
       lawful = record {
-        tree = tree_same g (live_after live n (family n old) fresh g) live' same (tree_after f live n (family n old) fresh g lawful.tree change);
-        filled = λ x alive. filled_after f live n (family n old) fresh g lawful.tree change lawful.filled filled_now x (same x ∙ alive)
+        tree = tree_same g (live_after live n (family n old) fresh g) live' same (tree_after f live n (family n old) fresh g tree change);
+        filled = λ x alive. filled_after f live n (family n old) fresh g tree change before filled_now x (same x ∙ alive)
       };
       entries = λ m. (
         λ has. (entries m).0 (entry_same g live' (live_after live n (family n old) fresh g) back' m has),

@@ -8,7 +8,7 @@ use Rattle.tree_shape.specs.Numbers.{times, once, is_among}
 use Rattle.tree_shape.specs.Shapes.{Shape, Body, Pairs, Entries, Link, entries_of, pairs_of, Cut}
 use Rattle.tree_shape.specs.Changes.{first_half, last_half, at_slot, divide, first_part, end_of, size}
 use Rattle.tree_shape.specs.Trees.{Contents, Branch, branches_from, branches}
-use Rattle.tree_shape.specs.Lawful.{IsTree, IsLawful, IsOrdered, IsFilled, IsFilledAs, Fits}
+use Rattle.tree_shape.specs.Lawful.{IsTree, IsLawful, IsOrdered, IsFilled, Fits, fewest_pairs}
 use Rattle.tree_shape.specs.LocalChange.{either}
 use Rattle.tree_shape.specs.Steps.{Keeps, IsSplit, with_node, middle, IsFull}
 use Rattle.tree_shape.proofs.Times.{In, once_same, once_other, times_head}
@@ -16,7 +16,7 @@ use Rattle.tree_shape.proofs.Living.{root_live}
 use Rattle.tree_shape.proofs.Runs.{next_low, branches-append, cut_parts, cut_join, CutsTo, cuts, next_low-cut}
 use Rattle.tree_shape.proofs.Family.{numbers, family, exits_of, Regroups}
 use Rattle.tree_shape.proofs.Slotted.{Around, around_slot, ordered_pairs, Slotted, slotted, family_keeps}
-use Rattle.tree_shape.proofs.Tests.{among, not_one, only, two_of, once_two, second, third, pairs_filled, full_middle, halves_filled}
+use Rattle.tree_shape.proofs.Tests.{among, not_one, only, two_of, once_two, second, third, full_middle, pairs_filled, halves_filled}
 
 -- the addresses of a slot, cut at a new separator
 pub cut_divided : (low high : ℕ) (front back : List Pair) (p : Pair) (separator child : ℕ) → Cut low high (front ++ p ∷ back) → next_low low front ≤ separator → separator < p.separator →
@@ -29,15 +29,17 @@ pub cut_exits : (f g : Contents) (level c r : ℕ) → CutsTo (f c) (g c) (g r) 
 cut_exits f g zero c r cut = refl
 cut_exits f g (suc level) c r cut = ap (λ l. branches level (g c) ++ l) (append-nil (branches level (g r))) ∙ cut.children level ∙ sym (append-nil (branches level (f c)))
 
-pub split_keeps : (f : Contents) (live : ℕ → Bool) → IsLawful f live → (n slot : ℕ) (p : Pair) (r : ℕ) (g : Contents) → IsSplit f live n slot p r g → Keeps f live g (with_node r live)
-split_keeps f live lawful n slot p r g split =
+-- The law, for a tree whose nodes but the parent are filled, and whose parent has enough pairs with one more.
+pub split_fills : (f : Contents) (live : ℕ → Bool) → IsTree f live → (n slot : ℕ) (p : Pair) (r : ℕ) (g : Contents) → IsSplit f live n slot p r g →
+    ((x : ℕ) → IsTrue (live x) → x ≢ n → IsFilled x (f x)) → fewest_pairs n ≤ suc (length (pairs_of (f n))) → Keeps f live g (with_node r live)
+split_fills f live tree n slot p r g split filled enough =
     let s = f p.child in
     let h = middle s.body in
     let fence = end_of (first_part h s.body) in
     let place = around_slot (pairs_of (f n)) slot p split.at in
-    let at = slotted f live lawful.tree n split.live_parent place.front p place.back place.is in
+    let at = slotted f live tree n split.live_parent place.front p place.back place.is in
     let mid = full_middle s.body split.full in
-    let halves = cuts h s.level s.low s.high s.body (lawful.tree.ordered p.child at.alive) mid.0 mid.1 in
+    let halves = cuts h s.level s.low s.high s.body (tree.ordered p.child at.alive) mid.0 mid.1 in
     let pieces : CutsTo s (g p.child) (g r) = subst (λ x. CutsTo s x (g r)) (sym split.left) (subst (λ x. CutsTo s (first_half h s) x) (sym split.right) halves) in
     let low = next_low (f n).low place.front in
     let old : Branch = record { child = p.child; level = at.level; low = low; high = p.separator } in
@@ -74,17 +76,16 @@ split_keeps f live lawful n slot p r g split =
         top_ordered = subst IsOrdered (sym split.above) (omega arith,
             subst (λ ps. Cut (f n).low (f n).high ps) (sym (place.changed (divide fence r)))
               (cut_divided (f n).low (f n).high place.front place.back p fence r
-                (subst (λ ps. Cut (f n).low (f n).high ps) place.is (ordered_pairs (f n) (f n).body (lawful.tree.ordered n split.live_parent) (omega arith)).1) above below));
+                (subst (λ ps. Cut (f n).low (f n).high ps) place.is (ordered_pairs (f n) (f n).body (tree.ordered n split.live_parent) (omega arith)).1) above below));
         ordered = two_of (λ b. IsOrdered (g b.child)) one two pieces.first_ordered pieces.last_ordered;
         fits = two_of (Fits g) one two
             (record { level = pieces.first_level ∙ fits.level; low = pieces.low ∙ fits.low; high = ap (λ x. x.high) split.left })
             (record { level = pieces.last_level ∙ fits.level; low = ap (λ x. x.low) split.right; high = pieces.high ∙ fits.high })
       } in
-    let before = pairs_filled n (f n).body (lawful.filled n split.live_parent) (omega arith) in
     let count : length (at_slot (divide fence r) slot (pairs_of (f n))) ≡ length place.front + suc (suc (length place.back)) =
         ap length (place.changed (divide fence r)) ∙ length-append place.front (divide fence r p place.back) in
     let room = split.room in
-    let full' = halves_filled p.child r s at.no_root (r_other 0 (root_live f live lawful.tree)) split.full in
+    let full' = halves_filled p.child r s at.no_root (r_other 0 (root_live f live tree)) split.full in
     let touched_live : (x : ℕ) → IsTrue (either (family n (old ∷ [])) (λ y. eqb y r) x) → with_node r live x ≡ is_among (n ∷ p.child ∷ r ∷ []) x =
         λ x touched. elim (cases_Bool (eqb x r)) [
           inl is_r ↦ cond-true (eqb x r) true (live x) is_r ∙ sym (among (n ∷ p.child ∷ r ∷ []) x (subst (λ y. 0 < times y (n ∷ p.child ∷ r ∷ [])) (sym (eqb-true x r is_r)) (third n p.child r [])))
@@ -103,10 +104,18 @@ split_keeps f live lawful n slot p r g split =
                 ] in
             cond-false (eqb x r) true (live x) not_r ∙ known
         ] in
-    family_keeps f live lawful n at.level (branches_from at.level (f n).low place.front) (old ∷ []) (one ∷ two ∷ []) (branches_from at.level (p.separator + 1) place.back) (λ x. eqb x r) g (with_node r live)
+    family_keeps f live tree n at.level (branches_from at.level (f n).low place.front) (old ∷ []) (one ∷ two ∷ []) (branches_from at.level (p.separator + 1) place.back) (λ x. eqb x r) g (with_node r live)
         regroup
         (ap (λ l. entries_of (g p.child) ++ l) (append-nil (entries_of (g r))) ∙ pieces.members ∙ sym (append-nil (entries_of s)))
+        (λ x alive outside. filled x alive (eqb-false x n (or_parts (eqb x n) (is_among (p.child ∷ []) x) (or_parts (family n (old ∷ []) x) (eqb x r) outside).0).0))
         (subst (IsFilled n) (sym split.above) (omega arith, omega arith))
         (two_of (λ b. IsFilled b.child (g b.child)) one two (subst (IsFilled p.child) (sym split.left) full'.0) (subst (IsFilled r) (sym split.right) full'.1))
         touched_live
         (λ x untouched. cond-false (eqb x r) true (live x) (or_parts (family n (old ∷ []) x) (eqb x r) untouched).1)
+
+pub split_keeps : (f : Contents) (live : ℕ → Bool) → IsLawful f live → (n slot : ℕ) (p : Pair) (r : ℕ) (g : Contents) → IsSplit f live n slot p r g → Keeps f live g (with_node r live)
+split_keeps f live lawful n slot p r g split =
+    let place = around_slot (pairs_of (f n)) slot p split.at in
+    let len : length (pairs_of (f n)) ≡ length place.front + suc (length place.back) = ap length place.is ∙ length-append place.front (p ∷ place.back) in
+    let before = pairs_filled n (f n).body (lawful.filled n split.live_parent) (omega arith) in
+    split_fills f live lawful.tree n slot p r g split (λ x alive other. lawful.filled x alive) (omega (arith, before.0))

@@ -9,7 +9,7 @@ use Rattle.tree_shape.specs.declared.pair.Pair.{Pair}
 use Rattle.tree_shape.specs.Shapes.{Shape, Body, Pairs, Entries, Link, pairs_of, entries_of, IsLeaf}
 use Rattle.tree_shape.specs.Changes.{first_half, last_half, joined, at_slot, divide, swallow_next, separate_at, with_entry, first_part, end_of, size, Fit, Overfill}
 use Rattle.tree_shape.specs.Trees.{Contents, HasEntry}
-use Rattle.tree_shape.specs.Lawful.{IsTree, IsLawful, fewest_pairs, fewest_entries}
+use Rattle.tree_shape.specs.Lawful.{IsTree, IsLawful, IsFilled, fewest_pairs, fewest_entries}
 
 -- g is a lawful tree with the entries of f
 pub record Keeps (f : Contents) (live : ℕ → Bool) (g : Contents) (live' : ℕ → Bool) : Type 0 where
@@ -102,3 +102,26 @@ pub record Takes (f : Contents) (live : ℕ → Bool) (leaf : ℕ) (member : Mem
   pub tree : IsTree g live
   pub lawful : fewest_entries leaf < length (entries_of (f leaf)) → IsLawful g live
   pub entries : (m : Member) → HasEntry g live m ↔ (HasEntry f live m × (m ≢ member))
+
+-- The root is lifted: what it had moves to the node `fresh`, its one child.
+pub record IsLift (f : Contents) (live : ℕ → Bool) (fresh : ℕ) (g : Contents) : Type 0 where
+  pub height : (f 0).level < 12
+  pub full : IsFull (f 0).body
+  pub free : live fresh ≡ false
+  pub root : let s = f 0 in g 0 ≡ record s { level = s.level + 1; body = Pairs (record { child = fresh; separator = s.high } ∷ []) }
+  pub moved : g fresh ≡ f 0
+  pub others : (n : ℕ) → n ≢ 0 → n ≢ fresh → g n ≡ f n
+
+-- The tree is lawful but for the root's one pair, and has the entries of f.
+pub record Lifts (f : Contents) (live : ℕ → Bool) (g : Contents) (live' : ℕ → Bool) : Type 0 where
+  pub tree : IsTree g live'
+  pub one_pair : length (pairs_of (g 0)) ≡ 1
+  pub filled : (n : ℕ) → IsTrue (live' n) → n ≢ 0 → IsFilled n (g n)
+  pub entries : (m : Member) → HasEntry g live' m ↔ HasEntry f live m
+
+-- The root takes the place of its only two children, which fit into one.
+pub record IsSink (f : Contents) (live : ℕ → Bool) (p q : Pair) (g : Contents) : Type 0 where
+  pub pairs : pairs_of (f 0) ≡ p ∷ q ∷ []
+  pub fit : Fit (f p.child) (f q.child)
+  pub root : let s = joined (f p.child) (f q.child) in g 0 ≡ record s { low = (f 0).low; high = (f 0).high }
+  pub others : (n : ℕ) → n ≢ 0 → n ≢ p.child → n ≢ q.child → g n ≡ f n

@@ -2,8 +2,11 @@
 
 ghost use Rattle.std.specs.Prelude.{ℕ, Bool};
 ghost use Rattle.std.specs.List.{AllByRecursion};
+ghost use Rattle.reg_model.specs.declared.span.Member.{Member};
+ghost use Rattle.tree_shape.specs.declared.pair.Pair.{Pair};
 ghost use Rattle.tree_shape.specs.Trees.{Contents, within};
 ghost use Rattle.tree_shape.specs.Lawful.{IsTree, IsLawful, IsFilled};
+ghost use Rattle.tree_shape.specs.Steps.{Keeps, IsSplit, IsJoin, IsShare, IsLift, Lifts, IsSink, IsPut, Adds, IsTake, Takes, with_node, without_node};
 ghost use Rattle.tree_shape.specs.LocalChange.{IsLocalChange, ChangesEntries, either, live_after};
 
 /// A change of some nodes that keeps what these nodes say of themselves and of their neighbours keeps the whole tree.
@@ -25,6 +28,74 @@ pub fn local_change()
         → IsLawful f live → IsLocalChange f live top group fresh g
         → AllByRecursion (λ n. IsFilled n (g n)) (within (either group fresh) g (g top).level top)
         → IsLawful g (live_after live top group fresh g)
+    }
+{
+}
+
+/// A child that is split, with its parent's new pair.
+pub fn split()
+    ensures {
+        (f : Contents) (live : ℕ → Bool) (parent slot : ℕ) (p : Pair) (fresh : ℕ) (g : Contents)
+        → IsLawful f live → IsSplit f live parent slot p fresh g → Keeps f live g (with_node fresh live)
+    }
+{
+}
+
+/// Two children that are joined, with their parent's pair less.
+pub fn join()
+    ensures {
+        (f : Contents) (live : ℕ → Bool) (parent slot : ℕ) (p q : Pair) (g : Contents)
+        → IsLawful f live → IsJoin f live parent slot p q g → Keeps f live g (without_node q.child live)
+    }
+{
+}
+
+/// Two children that are given even shares, with their parent's new separator.
+pub fn share()
+    ensures {
+        (f : Contents) (live : ℕ → Bool) (parent slot : ℕ) (p q : Pair) (g : Contents)
+        → IsLawful f live → IsShare f live parent slot p q g → Keeps f live g live
+    }
+{
+}
+
+/// The root that is lifted leaves a tree that is lawful but for its one pair; the split that follows makes it lawful.
+pub fn lift()
+    ensures lifted {
+        (f : Contents) (live : ℕ → Bool) (fresh : ℕ) (g : Contents)
+        → IsLawful f live → IsLift f live fresh g → Lifts f live g (with_node fresh live)
+    }
+    ensures split {
+        (f : Contents) (live : ℕ → Bool) (moved : ℕ) (h : Contents) (p : Pair) (fresh : ℕ) (g : Contents)
+        → IsLawful f live → IsLift f live moved h → IsSplit h (with_node moved live) 0 0 p fresh g
+        → Keeps f live g (with_node fresh (with_node moved live))
+    }
+{
+}
+
+/// The root that takes the place of its only two children.
+pub fn sink()
+    ensures {
+        (f : Contents) (live : ℕ → Bool) (p q : Pair) (g : Contents)
+        → IsLawful f live → IsSink f live p q g → Keeps f live g (without_node p.child (without_node q.child live))
+    }
+{
+}
+
+/// A leaf that gets one more entry adds exactly this member.
+pub fn put()
+    ensures {
+        (f : Contents) (live : ℕ → Bool) (leaf : ℕ) (member : Member) (g : Contents)
+        → IsLawful f live → IsPut f live leaf member g → Adds f live member g
+    }
+{
+}
+
+/// A leaf that loses an entry takes exactly the member that begins at the address.
+pub fn take()
+    ensures {
+        (f : Contents) (live : ℕ → Bool) (leaf base : ℕ) (member : Member) (g : Contents)
+        → IsLawful f live → IsTake f live leaf base member g → Takes f live leaf member g
     }
 {
 }
