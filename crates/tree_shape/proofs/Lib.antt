@@ -15,3 +15,4 @@ pub mod Splits
 pub mod Joins
 pub mod Leaves
 pub mod Roots
+pub mod Wholes

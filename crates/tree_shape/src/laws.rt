@@ -1,13 +1,52 @@
 //! Laws of lawful trees. Each is the contract of a function that does nothing.
 
-ghost use Rattle.std.specs.Prelude.{ℕ, Bool};
+ghost use Rattle.std.specs.Prelude.{◌≡◌, ℕ, ◌*◌, ◌-◌, ◌^◌, ◌<◌, ◌≤◌, ◌↔◌, Bool, Some, Contains, IsTrue, length};
 ghost use Rattle.std.specs.List.{AllByRecursion};
 ghost use Rattle.reg_model.specs.declared.span.Member.{Member};
 ghost use Rattle.tree_shape.specs.declared.pair.Pair.{Pair};
-ghost use Rattle.tree_shape.specs.Trees.{Contents, within};
+ghost use Rattle.reg_model.specs.Interval.{contains};
+ghost use Rattle.reg_model.specs.Query.{member_at};
+ghost use Rattle.tree_shape.specs.Shapes.{IsLeaf, EntriesWithin, entries_of};
+ghost use Rattle.tree_shape.specs.Trees.{Contents, within, nodes, entries, leaf_for, HasEntry};
 ghost use Rattle.tree_shape.specs.Lawful.{IsTree, IsLawful, IsFilled};
 ghost use Rattle.tree_shape.specs.Steps.{Keeps, IsSplit, IsJoin, IsShare, IsLift, Lifts, IsSink, IsPut, Adds, IsTake, Takes, with_node, without_node};
 ghost use Rattle.tree_shape.specs.LocalChange.{IsLocalChange, ChangesEntries, either, live_after};
+
+/// A lookup down the separators comes to a leaf, and finds there exactly what the tree holds.
+pub fn lookup()
+    ensures leaf {
+        (f : Contents) (live : ℕ → Bool) (pc : ℕ) → IsTree f live → pc ≤ 2 ^ 64 - 1
+        → IsTrue (live (leaf_for f pc)) × IsLeaf (f (leaf_for f pc))
+    }
+    ensures found {
+        (f : Contents) (live : ℕ → Bool) (pc : ℕ) (m : Member) → IsTree f live → pc ≤ 2 ^ 64 - 1
+        → (member_at pc (entries_of (f (leaf_for f pc))) ≡ Some m) ↔ (HasEntry f live m × IsTrue (contains m.span pc))
+    }
+{
+}
+
+/// A tree's entries from left to right are those of its live nodes, and ascend.
+pub fn order()
+    ensures entries {
+        (f : Contents) (live : ℕ → Bool) (m : Member) → IsTree f live → Contains (entries f) m ↔ HasEntry f live m
+    }
+    ensures ascending {
+        (f : Contents) (live : ℕ → Bool) → IsTree f live → EntriesWithin 0 (2 ^ 64 - 1) (entries f)
+    }
+{
+}
+
+/// A lawful tree of two nodes or more has at least twice as many entries as nodes, and one whose root has level 12 has more
+/// than 16,384 nodes.
+pub fn fillings()
+    ensures entries {
+        (f : Contents) (live : ℕ → Bool) → IsLawful f live → 2 ≤ length (nodes f) → 2 * length (nodes f) ≤ length (entries f)
+    }
+    ensures height {
+        (f : Contents) (live : ℕ → Bool) → IsLawful f live → (f 0).level ≡ 12 → 16384 < length (nodes f)
+    }
+{
+}
 
 /// A change of some nodes that keeps what these nodes say of themselves and of their neighbours keeps the whole tree.
 /// It changes the tree's entries by those of these nodes. Where the nodes that the top now reaches are filled, it keeps a
