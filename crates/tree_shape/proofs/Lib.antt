@@ -7,3 +7,12 @@ pub mod Reach
 pub mod Living
 pub mod Leads
 pub mod Local
+pub mod Runs
+pub mod Family
+pub mod Slotted
+pub mod Tests
+pub mod Splits
+pub mod Joins
+pub mod Leaves
+pub mod Roots
+pub mod Wholes

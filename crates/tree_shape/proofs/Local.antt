@@ -324,11 +324,11 @@ module _ (f : Contents) (live : ℕ → Bool) (top : ℕ) (group fresh : ℕ →
   }
 
   -- where the nodes that the top now reaches are filled, all are
-  pub filled_after : ((n : ℕ) → IsTrue (live n) → IsFilled n (f n)) → AllByRecursion (λ n. IsFilled n (g n)) (within (either group fresh) g (g top).level top) →
+  pub filled_after : ((n : ℕ) → IsTrue (live n) → either group fresh n ≡ false → IsFilled n (f n)) → AllByRecursion (λ n. IsFilled n (g n)) (within (either group fresh) g (g top).level top) →
       (x : ℕ) → IsTrue (live_after live top group fresh g x) → IsFilled x (g x)
   filled_after before now x alive = elim (live_cases x alive) [
       inl here ↦ all_times (λ n. IsFilled n (g n)) (within (either group fresh) g (g top).level top) x now here.1
-    | inr was ↦ subst (IsFilled x) (sym was.stays) (before x was.alive)
+    | inr was ↦ subst (IsFilled x) (sym was.stays) (before x was.alive was.untouched)
     ]
 
   -- the entries

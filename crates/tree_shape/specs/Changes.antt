@@ -1,6 +1,5 @@
 -- What the changes of nodes make of shapes.
 use Rattle.std.specs.Prelude.{ℕ, zero, suc, ◌+◌, ◌<◌, ◌≤◌, List, [], ◌∷◌, ◌++◌, length, take, drop, nat_lt, if◌then◌else◌}
-use Rattle.std.specs.List.{AllByRecursion}
 use Rattle.reg_model.specs.declared.span.Member.{Member}
 use Rattle.tree_shape.specs.declared.pair.Pair.{Pair}
 use Rattle.tree_shape.specs.Shapes.{Shape, Body, Pairs, Entries, Link}
@@ -118,23 +117,3 @@ separate_at separator p pairs = record p { separator = separator } ∷ pairs
 abbrev pub with_entry : Member → List Member → List Member
 with_entry m [] = m ∷ []
 with_entry m (e ∷ entries) = if nat_lt m.span.first e.span.first then m ∷ e ∷ entries else (e ∷ with_entry m entries)
-
--- A new separator before the one at a slot: the pairs have the slot, and it lies below the slot's and above the one before
--- (or is at least `low` where there is none before).
-abbrev pub FitsBefore : ℕ → ℕ → ℕ → List Pair → Type 0
-FitsBefore separator low slot [] = ⊥
-FitsBefore separator low zero (p ∷ pairs) = (low ≤ separator) × (separator < p.separator)
-FitsBefore separator low (suc slot) (p ∷ pairs) = FitsBefore separator (p.separator + 1) slot pairs
-
--- Another separator at a slot: the pairs have the slot and the next one, and it lies below the next slot's and above the
--- one before (or is at least `low` where there is none before).
-abbrev pub FitsAt : ℕ → ℕ → ℕ → List Pair → Type 0
-FitsAt separator low slot [] = ⊥
-FitsAt separator low zero (p ∷ pairs) = FitsBefore separator low 0 pairs
-FitsAt separator low (suc slot) (p ∷ pairs) = FitsAt separator (p.separator + 1) slot pairs
-
--- all that a node holds lies above the address: its entries, or its separators
-abbrev pub LiesAboveAs : ℕ → Body → Type 0
-LiesAboveAs pc (Pairs pairs) = AllByRecursion (λ p. pc < p.separator) pairs
-LiesAboveAs pc (Entries entries) = AllByRecursion (λ m. pc < m.span.first) entries
-LiesAboveAs pc (Link next) = Unit {0}

@@ -5,3 +5,4 @@ pub mod Trees
 pub mod Changes
 pub mod Lawful
 pub mod LocalChange
+pub mod Steps

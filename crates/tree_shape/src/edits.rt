@@ -1,11 +1,11 @@
 //! Single pairs and entries of a node.
 
 ghost use Rattle.std.specs.Prelude.{◌≡◌, ◌+◌, ◌-◌, ◌<◌, ◌≤◌, ◌++◌, Some, length, take, drop, IsSome};
-ghost use Rattle.reg_model.specs.State.{IsFree, at_base};
+ghost use Rattle.reg_model.specs.State.{at_base};
 ghost use Rattle.reg_model.specs.History.{without};
 ghost use Rattle.tree_shape.specs.Shapes.{Pairs, Entries, IsLeaf, IsInner, InOrder, entries_of, pairs_of, place_for};
 ghost use Rattle.tree_shape.specs.Nodes.{body_of, IsCounted};
-ghost use Rattle.tree_shape.specs.Changes.{at_slot, divide, swallow_next, separate_at, with_entry, FitsBefore, FitsAt};
+ghost use Rattle.tree_shape.specs.Changes.{at_slot, divide, swallow_next, separate_at, with_entry};
 
 use crate::node::{Content, Node, inner_of, leaf_of};
 use crate::pair::Pair;
@@ -26,9 +26,7 @@ fn replaced(pairs: &[Pair], slot: usize, items: &[Pair], rest: usize) -> Content
 pub fn put_pair(node: &Node, slot: usize, separator: u64, child: u32) -> Node
     requires inner { IsInner node.now }
     requires room { length (pairs_of node.now) < 15 }
-    requires ordered { InOrder node.now }
     requires slot { slot < length (pairs_of node.now) }
-    requires between { FitsBefore separator node.now.low slot (pairs_of node.now) }
     ensures { let s = node.now in result ≡ record s { body = Pairs (at_slot (divide separator child) slot (pairs_of s)) } }
 {
     let pairs = node.pairs();
@@ -47,7 +45,6 @@ pub fn put_pair(node: &Node, slot: usize, separator: u64, child: u32) -> Node
 /// Two pairs made into one, with the first one's child and the second one's separator.
 pub fn drop_pair(node: &Node, slot: usize) -> Node
     requires inner { IsInner node.now }
-    requires ordered { InOrder node.now }
     requires next { slot + 1 < length (pairs_of node.now) }
     ensures { let s = node.now in result ≡ record s { body = Pairs (at_slot swallow_next slot (pairs_of s)) } }
 {
@@ -62,9 +59,7 @@ pub fn drop_pair(node: &Node, slot: usize) -> Node
 /// A pair with another separator.
 pub fn set_separator(node: &Node, slot: usize, separator: u64) -> Node
     requires inner { IsInner node.now }
-    requires ordered { InOrder node.now }
-    requires next { slot + 1 < length (pairs_of node.now) }
-    requires between { FitsAt separator node.now.low slot (pairs_of node.now) }
+    requires slot { slot < length (pairs_of node.now) }
     ensures { let s = node.now in result ≡ record s { body = Pairs (at_slot (separate_at separator) slot (pairs_of s)) } }
 {
     let pairs = node.pairs();
@@ -92,10 +87,6 @@ fn place(entries: &[Member], pc: u64) -> usize
 pub fn put_entry(node: &Node, member: &Member) -> Node
     requires leaf { IsLeaf node.now }
     requires room { length (entries_of node.now) < 10 }
-    requires ordered { InOrder node.now }
-    requires low { node.now.low ≤ member.now.span.first }
-    requires high { member.now.span.last ≤ node.now.high }
-    requires free { IsFree member.now.span (entries_of node.now) }
     ensures { let s = node.now in result ≡ record s { body = Entries (with_entry member.now (entries_of s)) } }
 {
     let entries = node.entries();

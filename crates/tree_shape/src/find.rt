@@ -29,8 +29,7 @@ pub fn inner_slot(node: &Node, pc: u64) -> usize
 
 /// The entry that contains the address.
 pub fn leaf_slot(node: &Node, pc: u64) -> Option<Member>
-    requires leaf { IsLeaf node.now }
-    requires ordered { InOrder node.now }
+    requires { IsLeaf node.now }
     ensures { result ≡ find (λ m. contains m.span pc) (entries_of node.now) }
 {
     for entry in node.entries() {

@@ -3,7 +3,7 @@
 ghost use Rattle.std.specs.Prelude.{◌≡◌, ◌+◌, ◌/◌, ◌<◌};
 ghost use Rattle.tree_shape.specs.Shapes.{IsInner, InOrder, AreNeighbours};
 ghost use Rattle.tree_shape.specs.Nodes.{body_of, IsCounted};
-ghost use Rattle.tree_shape.specs.Changes.{both, Fit, Overfill, joined, first_half, last_half, size, ends_at_as, up_to, after, LiesAboveAs};
+ghost use Rattle.tree_shape.specs.Changes.{both, Fit, Overfill, joined, first_half, last_half, size, ends_at_as, up_to, after};
 
 use crate::node::{Content, Frame, Node, inner_of, leaf_of};
 use crate::pair::Pair;
@@ -23,8 +23,7 @@ fn joined_content(left: &Node, right: &Node) -> Content
 
 /// One node in place of two neighbours that fit together.
 pub fn join_pair(left: &Node, right: &Node) -> Node
-    requires neighbours { AreNeighbours left.now right.now }
-    requires fit { Fit left.now right.now }
+    requires { Fit left.now right.now }
     ensures { result ≡ joined left.now right.now }
 {
     Node {
@@ -64,7 +63,7 @@ pub fn even_pair(left: &Node, right: &Node) -> (Node, Node)
 
 /// The root in place of its only two children, which fit together: it takes their level.
 pub fn sink_root(root: &Node, left: &Node, right: &Node) -> Node
-    requires fit { Fit left.now right.now }
+    requires { Fit left.now right.now }
     ensures { let s = joined left.now right.now in result ≡ record s { low = root.now.low; high = root.now.high } }
 {
     Node {
@@ -94,10 +93,7 @@ fn raised_content(node: &Node, fence: u64) -> Content
 
 /// Two neighbours with a higher fence between them. Where the left one is an inner node, its last separator is the fence.
 pub fn move_fence(left: &Node, right: &Node, fence: u64) -> (Node, Node)
-    requires neighbours { AreNeighbours left.now right.now }
-    requires raised { left.now.high < fence }
-    requires below_high { fence < right.now.high }
-    requires below_all { LiesAboveAs fence right.now.body }
+    requires { fence < right.now.high }
     ensures left { result.0 ≡ up_to fence left.now }
     ensures right { result.1 ≡ after fence right.now }
 {

@@ -67,7 +67,6 @@ pub fn cut_inner(frame: Frame, first: &[Pair], last: &[Pair], n: usize) -> (Node
 pub fn split_leaf(node: &Node) -> (Node, Node)
     requires leaf { IsLeaf node.now }
     requires full { length (entries_of node.now) ≡ 10 }
-    requires ordered { InOrder node.now }
     ensures left { result.0 ≡ first_half 5 node.now }
     ensures right { result.1 ≡ last_half 5 node.now }
 {

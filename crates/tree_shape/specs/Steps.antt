@@ -1,0 +1,127 @@
+-- The changes of nodes put into a tree: which contents g come of contents f.
+use Rattle.std.specs.Prelude.{◌≡◌, ◌≢◌, ℕ, suc, ◌+◌, ◌/◌, ◌<◌, ◌≤◌, ◌↔◌, ◌⊎◌, Bool, true, false, List, [], ◌∷◌, length, Some, Contains, IsTrue, ◌==◌, if◌then◌else◌}
+use Rattle.std.specs.List.{slice_get}
+use Rattle.reg_model.specs.declared.span.Member.{Member}
+use Rattle.reg_model.specs.Interval.{IsSpan}
+use Rattle.reg_model.specs.State.{IsFree, at_base}
+use Rattle.reg_model.specs.History.{without}
+use Rattle.tree_shape.specs.declared.pair.Pair.{Pair}
+use Rattle.tree_shape.specs.Shapes.{Shape, Body, Pairs, Entries, Link, pairs_of, entries_of, IsLeaf}
+use Rattle.tree_shape.specs.Changes.{first_half, last_half, joined, at_slot, divide, swallow_next, separate_at, with_entry, first_part, end_of, size, Fit, Overfill}
+use Rattle.tree_shape.specs.Trees.{Contents, HasEntry}
+use Rattle.tree_shape.specs.Lawful.{IsTree, IsLawful, IsFilled, fewest_pairs, fewest_entries}
+
+-- g is a lawful tree with the entries of f
+pub record Keeps (f : Contents) (live : ℕ → Bool) (g : Contents) (live' : ℕ → Bool) : Type 0 where
+  pub lawful : IsLawful g live'
+  pub entries : (m : Member) → HasEntry g live' m ↔ HasEntry f live m
+
+-- the live nodes and one more, or without one
+abbrev pub with_node : ℕ → (ℕ → Bool) → ℕ → Bool
+with_node n live x = if x == n then true else live x
+
+abbrev pub without_node : ℕ → (ℕ → Bool) → ℕ → Bool
+without_node n live x = if x == n then false else live x
+
+-- where a full node is cut: a leaf after 5 entries, an inner node after 7 pairs
+abbrev pub middle : Body → ℕ
+middle (Pairs pairs) = 7
+middle (Entries entries) = 5
+middle (Link next) = 0
+
+-- it holds as much as it can
+abbrev pub IsFull : Body → Type 0
+IsFull (Pairs pairs) = length pairs ≡ 15
+IsFull (Entries entries) = length entries ≡ 10
+IsFull (Link next) = ⊥
+
+-- A child is split, and its parent has a pair more: the child keeps the first half, the node `fresh` gets the last.
+pub record IsSplit (f : Contents) (live : ℕ → Bool) (parent slot : ℕ) (p : Pair) (fresh : ℕ) (g : Contents) : Type 0 where
+  pub live_parent : IsTrue (live parent)
+  pub at : slice_get (pairs_of (f parent)) slot ≡ Some p
+  pub room : length (pairs_of (f parent)) < 15
+  pub full : IsFull (f p.child).body
+  pub free : live fresh ≡ false
+  pub above : let s = f parent in
+      g parent ≡ record s { body = Pairs (at_slot (divide (end_of (first_part (middle (f p.child).body) (f p.child).body)) fresh) slot (pairs_of s)) }
+  pub left : g p.child ≡ first_half (middle (f p.child).body) (f p.child)
+  pub right : g fresh ≡ last_half (middle (f p.child).body) (f p.child)
+  pub others : (n : ℕ) → n ≢ parent → n ≢ p.child → n ≢ fresh → g n ≡ f n
+
+-- Two neighbouring children are joined, and their parent has a pair less: the left one holds both, the right one leaves.
+pub record IsJoin (f : Contents) (live : ℕ → Bool) (parent slot : ℕ) (p q : Pair) (g : Contents) : Type 0 where
+  pub live_parent : IsTrue (live parent)
+  pub at : slice_get (pairs_of (f parent)) slot ≡ Some p
+  pub next : slice_get (pairs_of (f parent)) (slot + 1) ≡ Some q
+  pub spare : fewest_pairs parent < length (pairs_of (f parent))
+  pub fit : Fit (f p.child) (f q.child)
+  pub above : let s = f parent in g parent ≡ record s { body = Pairs (at_slot swallow_next slot (pairs_of s)) }
+  pub left : g p.child ≡ joined (f p.child) (f q.child)
+  pub others : (n : ℕ) → n ≢ parent → n ≢ p.child → n ≢ q.child → g n ≡ f n
+
+-- Two neighbouring children that don't fit into one are given even shares.
+pub record IsShare (f : Contents) (live : ℕ → Bool) (parent slot : ℕ) (p q : Pair) (g : Contents) : Type 0 where
+  pub live_parent : IsTrue (live parent)
+  pub at : slice_get (pairs_of (f parent)) slot ≡ Some p
+  pub next : slice_get (pairs_of (f parent)) (slot + 1) ≡ Some q
+  pub overfill : Overfill (f p.child) (f q.child)
+  pub above : let s = f parent in
+      let both = joined (f p.child) (f q.child) in
+      g parent ≡ record s { body = Pairs (at_slot (separate_at (end_of (first_part ((size (f p.child).body + size (f q.child).body) / 2) both.body))) slot (pairs_of s)) }
+  pub left : g p.child ≡ first_half ((size (f p.child).body + size (f q.child).body) / 2) (joined (f p.child) (f q.child))
+  pub right : g q.child ≡ last_half ((size (f p.child).body + size (f q.child).body) / 2) (joined (f p.child) (f q.child))
+  pub others : (n : ℕ) → n ≢ parent → n ≢ p.child → n ≢ q.child → g n ≡ f n
+
+-- A leaf gets one more entry, in its place.
+pub record IsPut (f : Contents) (live : ℕ → Bool) (leaf : ℕ) (member : Member) (g : Contents) : Type 0 where
+  pub live_leaf : IsTrue (live leaf)
+  pub is_leaf : IsLeaf (f leaf)
+  pub room : length (entries_of (f leaf)) < 10
+  pub span : IsSpan member.span
+  pub low : (f leaf).low ≤ member.span.first
+  pub high : member.span.last ≤ (f leaf).high
+  pub free : IsFree member.span (entries_of (f leaf))
+  pub above : let s = f leaf in g leaf ≡ record s { body = Entries (with_entry member (entries_of s)) }
+  pub others : (n : ℕ) → n ≢ leaf → g n ≡ f n
+
+-- The tree is lawful and has exactly one member more.
+pub record Adds (f : Contents) (live : ℕ → Bool) (member : Member) (g : Contents) : Type 0 where
+  pub lawful : IsLawful g live
+  pub entries : (m : Member) → HasEntry g live m ↔ (HasEntry f live m ⊎ (m ≡ member))
+
+-- A leaf loses the entry that begins at an address.
+pub record IsTake (f : Contents) (live : ℕ → Bool) (leaf base : ℕ) (member : Member) (g : Contents) : Type 0 where
+  pub live_leaf : IsTrue (live leaf)
+  pub is_leaf : IsLeaf (f leaf)
+  pub held : at_base base (entries_of (f leaf)) ≡ Some member
+  pub above : let s = f leaf in g leaf ≡ record s { body = Entries (without base (entries_of s)) }
+  pub others : (n : ℕ) → n ≢ leaf → g n ≡ f n
+
+-- The tree has exactly that member less. It is lawful where the leaf is the root or had an entry to spare.
+pub record Takes (f : Contents) (live : ℕ → Bool) (leaf : ℕ) (member : Member) (g : Contents) : Type 0 where
+  pub tree : IsTree g live
+  pub lawful : fewest_entries leaf < length (entries_of (f leaf)) → IsLawful g live
+  pub entries : (m : Member) → HasEntry g live m ↔ (HasEntry f live m × (m ≢ member))
+
+-- The root is lifted: what it had moves to the node `fresh`, its one child.
+pub record IsLift (f : Contents) (live : ℕ → Bool) (fresh : ℕ) (g : Contents) : Type 0 where
+  pub height : (f 0).level < 12
+  pub full : IsFull (f 0).body
+  pub free : live fresh ≡ false
+  pub root : let s = f 0 in g 0 ≡ record s { level = s.level + 1; body = Pairs (record { child = fresh; separator = s.high } ∷ []) }
+  pub moved : g fresh ≡ f 0
+  pub others : (n : ℕ) → n ≢ 0 → n ≢ fresh → g n ≡ f n
+
+-- The tree is lawful but for the root's one pair, and has the entries of f.
+pub record Lifts (f : Contents) (live : ℕ → Bool) (g : Contents) (live' : ℕ → Bool) : Type 0 where
+  pub tree : IsTree g live'
+  pub one_pair : length (pairs_of (g 0)) ≡ 1
+  pub filled : (n : ℕ) → IsTrue (live' n) → n ≢ 0 → IsFilled n (g n)
+  pub entries : (m : Member) → HasEntry g live' m ↔ HasEntry f live m
+
+-- The root takes the place of its only two children, which fit into one.
+pub record IsSink (f : Contents) (live : ℕ → Bool) (p q : Pair) (g : Contents) : Type 0 where
+  pub pairs : pairs_of (f 0) ≡ p ∷ q ∷ []
+  pub fit : Fit (f p.child) (f q.child)
+  pub root : let s = joined (f p.child) (f q.child) in g 0 ≡ record s { low = (f 0).low; high = (f 0).high }
+  pub others : (n : ℕ) → n ≢ 0 → n ≢ p.child → n ≢ q.child → g n ≡ f n
