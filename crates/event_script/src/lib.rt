@@ -15,5 +15,6 @@ mod script;
 
 pub use journal::{Answer, Journal};
 pub use print::{print_answer, print_journal};
+pub use reader::fault::Reason;
 pub use reader::{ScriptFault, read};
 pub use script::{Event, Round, Script, Thread};
