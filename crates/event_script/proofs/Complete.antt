@@ -1,5 +1,5 @@
 -- What is spelled is read: each line of a script is good after those before it.
-use Rattle.std.proofs.Common.{◌≡◌, ℕ, ◌+◌, ◌-◌, ◌^◌, ◌<◌, ◌≤◌, true, false, cond, ◌&&◌, eqb, ltb, leb, List, [], ◌∷◌, ◌++◌, length, Option, Some, Result, Ok, Err, refl, sym, ap, subst, ◌∙◌, append_assoc, append-nil, eq-eqb, lt-ltb, le-leb, arith, length-append}
+use Rattle.std.proofs.Common.{◌⊎◌, inl, inr, ◌≡◌, ℕ, ◌+◌, ◌-◌, ◌^◌, ◌<◌, ◌≤◌, true, false, cond, ◌&&◌, eqb, ltb, leb, List, [], ◌∷◌, ◌++◌, length, Option, Some, Result, Ok, Err, refl, sym, ap, subst, ◌∙◌, append_assoc, append-nil, eq-eqb, lt-ltb, le-leb, arith, length-append}
 use Rattle.std.specs.Prelude.{codes}
 use Rattle.std.specs.List.{flat_map, AllByRecursion, list_all}
 use Rattle.std.specs.Option.{ok_or}
@@ -21,35 +21,42 @@ use Rattle.event_script.specs.declared.reader.images.ImageFields.{ImageFields}
 use Rattle.event_script.specs.ScriptData.{ScriptData, IsEvent, IsThread, IsRound}
 use Rattle.event_script.specs.Spelling.{Line, hex, spelling_of, image_line, image_lines, event_line, event_lines, round_lines, script_lines, IsScript}
 use Rattle.event_script.specs.Fields.{pieces, is_printable}
-use Rattle.event_script.specs.Reading.{◌>>=◌, Known, nothing_known, one_decimal, one_hex, image_fields, image_line_of, with_event, kind_of, may_come, is_unbuilt, word_of, line_of, by_word, is_ended, after_line, at_end, after_lines, outcome, script_of}
+use Rattle.event_script.specs.Reading.{◌>>=◌, Known, BadLine, IsFirstBad, HasOneAnswer, at_line, nothing_known, one_decimal, one_hex, image_fields, image_line_of, with_event, kind_of, may_come, is_unbuilt, word_of, line_of, by_word, is_ended, after_line, at_end, after_lines, outcome, script_of}
 use Rattle.event_script.proofs.Joined.{join, IsVisible, fields_again, printable_again, lines_again}
 use Rattle.event_script.proofs.Lines.{line_first}
+use Rattle.event_script.proofs.Sound.{outcome_sound}
 use Rattle.event_script.proofs.Numbers.{decimal_visible, hex_visible, decimal_again, hex_again}
 
 -- ---- lines that are read one after another
 
 -- from what is known the lines are read, and what comes next is read in what they make known
 abbrev Reads : Known → List Line → Known → Type 0
-Reads known lines next = (others : List ℕ) → after_lines known (pieces 10 (flat_map spelling_of lines ++ others)) ≡ after_lines next (pieces 10 others)
+Reads known lines next = (number : ℕ) (others : List ℕ) → (later : ℕ) × (after_lines known number (pieces 10 (flat_map spelling_of lines ++ others)) ≡ after_lines next later (pieces 10 others))
 
 reads_then : (first second third : Known) (xs ys : List Line) → Reads first xs second → Reads second ys third → Reads first (xs ++ ys) third
-reads_then first second third xs ys p q others =
-    ap (λ (x : List ℕ). after_lines first (pieces 10 (x ++ others))) (flat_map-append spelling_of xs ys)
-    ∙ ap (λ (x : List ℕ). after_lines first (pieces 10 x)) (append_assoc (flat_map spelling_of xs) (flat_map spelling_of ys) others)
-    ∙ p (flat_map spelling_of ys ++ others) ∙ q others
+reads_then first second third xs ys p q number others =
+    let a = p number (flat_map spelling_of ys ++ others) in
+    let b = q a.0 others in (
+      b.0,
+      ap (λ (x : List ℕ). after_lines first number (pieces 10 (x ++ others))) (flat_map-append spelling_of xs ys)
+          ∙ ap (λ (x : List ℕ). after_lines first number (pieces 10 x)) (append_assoc (flat_map spelling_of xs) (flat_map spelling_of ys) others)
+          ∙ a.1 ∙ b.1,
+    )
 
 reads_line : (known next : Known) (field : List ℕ) (fields : Line) → AllByRecursion IsVisible (field ∷ fields) → is_ended known.stage ≡ false → by_word known (field ∷ fields) ≡ Ok next → Reads known ((field ∷ fields) ∷ []) next
 unfolding after_line
-reads_line known next field fields visible open_still good others =
+reads_line known next field fields visible open_still good number others =
     let line = join 32 (field ∷ fields) in
     let is : after_line known line ≡ Ok next =
     cond-false (is_ended known.stage) (Err reason.After) (cond (is_printable line) (by_word known (pieces 32 line)) (Err reason.Byte)) open_still
     ∙ cond-true (is_printable line) (by_word known (pieces 32 line)) (Err reason.Byte) (printable_again (field ∷ fields) visible)
-    ∙ ap (by_word known) (fields_again field fields visible) ∙ good in
-    ap (λ (x : List ℕ). after_lines known (pieces 10 (x ++ others))) (append-nil (spelling_of (field ∷ fields)))
-    ∙ ap (after_lines known) (lines_again field fields others visible)
-    ∙ line_first known line others
-    ∙ ap (λ (given : Result Known Reason). given >>= λ after. after_lines after (pieces 10 others)) is
+    ∙ ap (by_word known) (fields_again field fields visible) ∙ good in (
+      number + 1,
+      ap (λ (x : List ℕ). after_lines known number (pieces 10 (x ++ others))) (append-nil (spelling_of (field ∷ fields)))
+          ∙ ap (after_lines known number) (lines_again field fields others visible)
+          ∙ line_first known number line others
+          ∙ ap (λ (given : Result Known Reason). at_line number given >>= λ after. after_lines after (number + 1) (pieces 10 others)) is,
+    )
 
 -- ---- words
 
@@ -123,6 +130,9 @@ image_again number base size section a b c d = rw (decimal_again number a, hex_a
 abbrev good : Known → Result Known Reason
 good known = Ok known
 
+abbrev ended_with : Known → Result Known BadLine
+ended_with known = Ok known
+
 module _ (nodes loads : ℕ) where
   abbrev at : Stage → List Interval → List (List (List Event)) → List (List Event) → List Event → Known
   at stage images rounds threads events = record { stage = stage; nodes = nodes; loads = loads; images = images; rounds = rounds; threads = threads; events = events }
@@ -190,7 +200,7 @@ module _ (nodes loads : ℕ) where
 
   reads_images : (front images : List Interval) (number : ℕ) (sections : List ℕ) → number ≡ length front → length sections ≡ length images → length front + length images ≤ 4096 → AllByRecursion IsSpan images → AllByRecursion (λ a. a < 2 ^ 64) sections
       → Reads (at stage.Images front [] [] []) (image_lines number images sections) (at stage.Images (front ++ images) [] [] [])
-  reads_images front [] number sections same each room spans below = λ others. ap (λ (x : List Interval). after_lines (at stage.Images x [] [] []) (pieces 10 others)) (sym (append-nil front))
+  reads_images front [] number sections same each room spans below = λ number others. (number, ap (λ (x : List Interval). after_lines (at stage.Images x [] [] []) number (pieces 10 others)) (sym (append-nil front)))
   reads_images front (span ∷ images) number [] same each room spans below = absurd (omega arith)
   reads_images front (span ∷ images) number (section ∷ sections) same each room spans below =
       let first = reads_image front number span section same (omega arith) spans.0 below.0 in
@@ -239,7 +249,7 @@ module _ (nodes loads : ℕ) where
         ∙ cond-true (ltb (length front) 4096) (Ok next) (Err reason.Limit) limit)
 
     reads_events : (front events : List Event) → length front + length events ≤ 4096 → AllByRecursion (IsEvent (length images)) events → Reads (at stage.Thread images [] [] front) (event_lines events) (at stage.Thread images [] [] (front ++ events))
-    reads_events front [] room are = λ others. ap (λ (x : List Event). after_lines (at stage.Thread images [] [] x) (pieces 10 others)) (sym (append-nil front))
+    reads_events front [] room are = λ number others. (number, ap (λ (x : List Event). after_lines (at stage.Thread images [] [] x) number (pieces 10 others)) (sym (append-nil front)))
     reads_events front (e ∷ events) room are =
         let first = reads_event front e (omega arith) are.0 in
         let rest = reads_events (front ++ e ∷ []) events (omega (arith, length-append front (e ∷ []))) are.1 in
@@ -299,7 +309,7 @@ outcome_complete bytes s is =
     let regrouped : script_lines s sections ≡ head (image_lines 0 s.images sections ++ (round_lines s.rounds ++ (codes "end" ∷ []) ∷ [])) =
     ap head (append_assoc (image_lines 0 s.images sections) (round_lines s.rounds) ((codes "end" ∷ []) ∷ [])) in
     let text = is.spelled.text ∙ ap (flat_map spelling_of) regrouped ∙ sym (append-nil (flat_map spelling_of (head (image_lines 0 s.images sections ++ (round_lines s.rounds ++ (codes "end" ∷ []) ∷ []))))) in
-    (last, ap outcome text ∙ whole [], refl)
+    (last, ap outcome text ∙ (whole 1 []).1, refl)
 
 -- bytes spell one script at the most
 pub one_script : (bytes : List ℕ) (s t : ScriptData) → IsScript bytes s → IsScript bytes t → s ≡ t
@@ -308,12 +318,34 @@ one_script bytes s t p q =
     let b = outcome_complete bytes t q in
     sym a.2 ∙ ap script_of (same a.0 b.0 (sym a.1 ∙ b.1)) ∙ b.2
   where
-    same : (x y : Known) → good x ≡ good y → x ≡ y
+    same : (x y : Known) → ended_with x ≡ ended_with y → x ≡ y
     same x y e = cc
 
--- what is refused is no script
-pub refused : (bytes : List ℕ) (why : Reason) (s : ScriptData) → outcome bytes ≡ Err why → IsScript bytes s → ⊥
-refused bytes why s e p = let a = outcome_complete bytes s p in never (outcome bytes) a.0 why a.1 e
+abbrev failed_with : BadLine → Result Known BadLine
+failed_with bad = Err bad
+
+-- and then have no bad line
+pub never_both : (bytes : List ℕ) (s : ScriptData) (line : ℕ) (why : Reason) → IsScript bytes s → IsFirstBad bytes line why → ⊥
+never_both bytes s line why p e = let a = outcome_complete bytes s p in never (outcome bytes) a.0 (record { line = line; reason = why }) a.1 e
   where
-    never : (o : Result Known Reason) (known : Known) (why : Reason) → o ≡ Ok known → o ≡ Err why → ⊥
-    never o known why e f = cc
+    never : (o : Result Known BadLine) (known : Known) (bad : BadLine) → o ≡ Ok known → o ≡ Err bad → ⊥
+    never o known bad e f = cc
+
+one_fault : (bytes : List ℕ) (line other : ℕ) (why because : Reason) → IsFirstBad bytes line why → IsFirstBad bytes other because → (line ≡ other) × (why ≡ because)
+one_fault bytes line other why because p q =
+    let e = same (record { line = line; reason = why }) (record { line = other; reason = because }) (sym p ∙ q) in (ap (λ (b : BadLine). b.line) e, ap (λ (b : BadLine). b.reason) e)
+  where
+    same : (x y : BadLine) → failed_with x ≡ failed_with y → x ≡ y
+    same x y e = cc
+
+pub one_answer : (bytes : List ℕ) → HasOneAnswer bytes
+one_answer bytes = record {
+  some = by (outcome bytes) refl;
+  one_script = one_script bytes;
+  one_fault = one_fault bytes;
+  never_both = never_both bytes;
+}
+  where
+    by : (o : Result Known BadLine) → outcome bytes ≡ o → ((s : ScriptData) × IsScript bytes s) ⊎ ((line : ℕ) × (why : Reason) × IsFirstBad bytes line why)
+    by (Ok known) e = inl (script_of known, outcome_sound bytes known e)
+    by (Err bad) e = inr (bad.line, bad.reason, e)

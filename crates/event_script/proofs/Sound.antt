@@ -1,5 +1,5 @@
 -- What is read is spelled so: each good line is the spelling of what it adds.
-use Rattle.std.proofs.Common.{◌≡◌, ℕ, ◌+◌, ◌-◌, ◌^◌, ◌<◌, ◌≤◌, Bool, true, false, cond, ◌&&◌, eqb, ltb, leb, List, [], ◌∷◌, ◌++◌, length, All, Ok, Err, refl, sym, ap, ap₂, subst, ◌∙◌, append_assoc, append-nil, eqb-true, ltb-true, leb-true, arith, length-append}
+use Rattle.std.proofs.Common.{◌≡◌, ℕ, ◌+◌, ◌-◌, ◌^◌, ◌<◌, ◌≤◌, Bool, true, false, cond, ◌&&◌, eqb, ltb, leb, List, [], ◌∷◌, ◌++◌, length, All, Result, Ok, Err, refl, sym, ap, ap₂, subst, ◌∙◌, append_assoc, append-nil, eqb-true, ltb-true, leb-true, arith, length-append}
 use Rattle.std.specs.Prelude.{codes}
 use Rattle.std.specs.List.{flat_map}
 use Rattle.std.specs.Option.{ok_or}
@@ -11,6 +11,7 @@ use Rattle.std.proofs.lemmas.List.Elements.{All-push, All-from_recursion}
 use Rattle.reg_model.specs.Interval.{Interval, IsSpan}
 use Rattle.event_script.specs.declared.script.Event.{Event}
 use Rattle.event_script.specs.declared.script.Event.TheVariants as event
+use Rattle.event_script.specs.declared.reader.fault.Reason.{Reason}
 use Rattle.event_script.specs.declared.reader.fault.Reason.TheVariants as reason
 use Rattle.event_script.specs.declared.reader.kinds.Stage.{Stage}
 use Rattle.event_script.specs.declared.reader.kinds.Stage.TheVariants as stage
@@ -20,7 +21,7 @@ use Rattle.event_script.specs.declared.reader.images.ImageFields.{ImageFields}
 use Rattle.event_script.specs.ScriptData.{IsEvent, IsThread, IsRound}
 use Rattle.event_script.specs.Spelling.{Line, hex, spelling_of, image_line, image_lines, event_line, event_lines, round_lines, IsScript}
 use Rattle.event_script.specs.Fields.{pieces}
-use Rattle.event_script.specs.Reading.{Known, nothing_known, has_any, rounds_at, one_decimal, one_hex, image_fields, version_line, nodes_line, loads_line, image_line_of, round_line, thread_line, with_event, register_line, deregister_line, find_line, end_line, kind_of, may_come, is_unbuilt, word_of, line_of, by_word, is_ended, after_line, at_end, after_lines, outcome, script_of}
+use Rattle.event_script.specs.Reading.{Known, BadLine, at_line, nothing_known, has_any, rounds_at, one_decimal, one_hex, image_fields, version_line, nodes_line, loads_line, image_line_of, round_line, thread_line, with_event, register_line, deregister_line, find_line, end_line, kind_of, may_come, is_unbuilt, word_of, line_of, by_word, is_ended, after_line, at_end, after_lines, outcome, script_of}
 use Rattle.event_script.specs.Reading.{image_line as image_line_from}
 use Rattle.event_script.proofs.Joined.{join, join_pieces, spelled_pieces}
 use Rattle.event_script.proofs.Steps.{bind_ok, guard_last, guard_then, guard_else, ok_is, no_fields, one_decimal_is, one_hex_is, image_fields_are, kind_word}
@@ -395,7 +396,7 @@ word_sound known next sections (word ∷ fields) s e =
     subst (λ (w : List ℕ). Step known next sections (w ∷ fields)) (sym (kind_word word a.0 a.1))
     (kind_sound known.nodes known.loads known.images known.rounds known.threads known.events known.stage a.0 next sections fields may.0 built.0 s built.1)
 
-line_sound : (known next : Known) (sections line : List ℕ) → Sound known sections → after_line known line ≡ Ok next → Step known next sections (pieces 32 line)
+pub line_sound : (known next : Known) (sections line : List ℕ) → Sound known sections → after_line known line ≡ Ok next → Step known next sections (pieces 32 line)
 unfolding after_line
 line_sound known next sections line s e =
     let open_still = guard_else (is_ended known.stage) reason.After _ next e in
@@ -424,14 +425,24 @@ end_sound known next sections (b ∷ rest) s e = absurd (never (is_ended known.s
     never true e = absurd cc
     never false e = absurd cc
 
-lines_sound : (known next : Known) (sections : List ℕ) (lines : List (List ℕ)) → Sound known sections → after_lines known lines ≡ Ok next → Ended next (text_so_far known sections ++ join 10 lines)
+abbrev numbered : Known → Result Known BadLine
+numbered known = Ok known
+
+pub numbered_ok : (number : ℕ) (given : Result Known Reason) (next : Known) → at_line number given ≡ Ok next → given ≡ Ok next
+numbered_ok number (Ok known) next e = ap Ok (known_is known next e)
+  where
+    known_is : (known next : Known) → numbered known ≡ numbered next → known ≡ next
+    known_is known next e = cc
+numbered_ok number (Err why) next e = absurd cc
+
+lines_sound : (known next : Known) (number : ℕ) (sections : List ℕ) (lines : List (List ℕ)) → Sound known sections → after_lines known number lines ≡ Ok next → Ended next (text_so_far known sections ++ join 10 lines)
 unfolding after_lines
-lines_sound known next sections [] s e = end_sound known next sections [] s e
-lines_sound known next sections (rest ∷ []) s e = end_sound known next sections rest s e
-lines_sound known next sections (line ∷ more ∷ others) s e =
-    let a = bind_ok (after_line known line) (λ after. after_lines after (more ∷ others)) next e in
-    let step = line_sound known a.0 sections line s a.1 in
-    let rest = lines_sound a.0 next step.new (more ∷ others) step.sound a.2 in
+lines_sound known next number sections [] s e = end_sound known next sections [] s (numbered_ok number (at_end known []) next e)
+lines_sound known next number sections (rest ∷ []) s e = end_sound known next sections rest s (numbered_ok number (at_end known rest) next e)
+lines_sound known next number sections (line ∷ more ∷ others) s e =
+    let a = bind_ok (at_line number (after_line known line)) (λ after. after_lines after (number + 1) (more ∷ others)) next e in
+    let step = line_sound known a.0 sections line s (numbered_ok number (after_line known line) a.0 a.1) in
+    let rest = lines_sound a.0 next (number + 1) step.new (more ∷ others) step.sound a.2 in
     let shown : text_so_far a.0 step.new ≡ text_so_far known sections ++ (line ++ 10 ∷ []) =
     ap (flat_map spelling_of) step.lines ∙ flat_map-append spelling_of (lines_so_far known sections) (pieces 32 line ∷ [])
     ∙ ap (λ (x : List ℕ). text_so_far known sections ++ x) (append-nil (spelling_of (pieces 32 line)) ∙ spelled_pieces line) in
@@ -441,7 +452,7 @@ lines_sound known next sections (line ∷ more ∷ others) s e =
     ∙ ap (λ (x : List ℕ). text_so_far known sections ++ x) (append_assoc line (10 ∷ []) (join 10 (more ∷ others))) in
     subst (Ended next) regrouped rest
 
-at_first : Sound nothing_known []
+pub at_first : Sound nothing_known []
 at_first = record {
   each = refl;
   addresses = All-from_recursion (λ section. section < 2 ^ 64) [] tt;
@@ -475,4 +486,47 @@ script_from known text e = by known.stage refl e.is_last
 -- what is read is a script
 pub outcome_sound : (bytes : List ℕ) (known : Known) → outcome bytes ≡ Ok known → IsScript bytes (script_of known)
 outcome_sound bytes known e =
-    script_from known bytes (subst (Ended known) (join_pieces 10 bytes) (lines_sound nothing_known known [] (pieces 10 bytes) at_first e))
+    script_from known bytes (subst (Ended known) (join_pieces 10 bytes) (lines_sound nothing_known known 1 [] (pieces 10 bytes) at_first e))
+
+-- ---- how many lines there are
+
+images_count : (number : ℕ) (images : List Interval) (sections : List ℕ) → length (image_lines number images sections) ≤ length images
+images_count number [] sections = omega arith
+images_count number (span ∷ images) [] = omega arith
+images_count number (span ∷ images) (section ∷ sections) = omega (arith, images_count (number + 1) images sections)
+
+events_count : (events : List Event) → length (event_lines events) ≡ length events
+events_count [] = refl
+events_count (e ∷ events) = omega (arith, events_count events)
+
+middle_count : (images : List Interval) (sections : List ℕ) (lines rounds : List Line) (most : ℕ) → length images ≤ 4096 → lines ≡ rounds → length rounds ≤ most → length (image_lines 0 images sections ++ lines) ≤ 4096 + most
+middle_count images sections lines rounds most few is small = omega (arith, length-append (image_lines 0 images sections) lines, images_count 0 images sections, ap length is)
+
+-- before a good line there are few lines
+pub few_lines : (known next : Known) (sections line : List ℕ) → Sound known sections → after_line known line ≡ Ok next → length (lines_so_far known sections) ≤ 8200
+unfolding after_line
+few_lines known next sections line s e =
+    let open_still = guard_else (is_ended known.stage) reason.After _ next e in
+    by known.stage known.images known.rounds known.threads known.events s.count s.events s.shape open_still.0
+  where
+    by : (at : Stage) (images : List Interval) (rounds : List (List (List Event))) (threads : List (List Event)) (events : List Event) → length images ≤ 4096 → IsThread (length images) events
+        → ShapeAt at (record { stage = at; nodes = known.nodes; loads = known.loads; images = images; rounds = rounds; threads = threads; events = events }) → is_ended at ≡ false
+        → length (lines_at at (record { stage = at; nodes = known.nodes; loads = known.loads; images = images; rounds = rounds; threads = threads; events = events }) sections) ≤ 8200
+    by stage.Version images rounds threads events few are shape going = omega arith
+    by stage.Nodes images rounds threads events few are shape going = omega arith
+    by stage.Loads images rounds threads events few are shape going = omega arith
+    by stage.Images images rounds threads events few are shape going = omega (arith, middle_count images sections (round_lines rounds) [] 0 few (ap round_lines shape.0) (omega arith))
+    by stage.Round images rounds threads events few are shape going =
+        omega (arith, middle_count images sections (round_lines (rounds ++ threads ∷ [])) ((codes "round" ∷ []) ∷ []) 1 few (ap₂ (λ (r : List (List (List Event))) (t : List (List Event)). round_lines (r ++ t ∷ [])) shape.0 shape.1) (omega arith))
+    by stage.Thread images rounds threads events few are shape going =
+        let is : round_lines (rounds ++ (threads ++ events ∷ []) ∷ []) ≡ (codes "round" ∷ []) ∷ (codes "thread" ∷ []) ∷ event_lines events =
+        ap₂ (λ (r : List (List (List Event))) (t : List (List Event)). round_lines (r ++ (t ++ events ∷ []) ∷ [])) shape.0 shape.1 ∙ one_thread events in
+        omega (arith, middle_count images sections (round_lines (rounds ++ (threads ++ events ∷ []) ∷ [])) ((codes "round" ∷ []) ∷ (codes "thread" ∷ []) ∷ event_lines events) 4098 few is (omega (arith, events_count events, are.0)))
+    by stage.Ended images rounds threads events few are shape going = absurd cc
+
+-- a good line is one more line
+pub one_more_line : (known next : Known) (sections line : List ℕ) (number : ℕ) → Sound known sections → number ≡ length (lines_so_far known sections) + 1 → after_line known line ≡ Ok next
+    → (new : List ℕ) × Sound next new × (number + 1 ≡ length (lines_so_far next new) + 1)
+one_more_line known next sections line number s counted e =
+    let step = line_sound known next sections line s e in
+    (step.new, step.sound, omega (arith, ap length step.lines, length-append (lines_so_far known sections) (pieces 32 line ∷ [])))

@@ -15,7 +15,7 @@ use Rattle.event_script.specs.Fields.{decimal_in, hex_in}
 use Rattle.event_script.specs.Reading.{◌>>=◌, only, five, has_any, one_decimal, one_hex, image_fields, kind_of, kinds, word_of}
 use Rattle.event_script.proofs.Numbers.{number_is}
 
-pub bind_ok : {A B : Type 0} (r : Result A Reason) (f : A → Result B Reason) (y : B) → (r >>= f) ≡ Ok y → (x : A) × (r ≡ Ok x) × (f x ≡ Ok y)
+pub bind_ok : {A B E : Type 0} (r : Result A E) (f : A → Result B E) (y : B) → (r >>= f) ≡ Ok y → (x : A) × (r ≡ Ok x) × (f x ≡ Ok y)
 bind_ok (Ok x) f y e = (x, refl, e)
 bind_ok (Err d) f y e = absurd cc
 

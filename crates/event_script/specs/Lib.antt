@@ -2,6 +2,8 @@ pub mod ScriptData
 pub mod Spelling
 pub mod Fields
 pub mod Reading
+pub mod Fault
+pub mod FaultText
 pub mod JournalData
 pub mod Lawful
 pub mod Text

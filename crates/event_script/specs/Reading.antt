@@ -1,10 +1,11 @@
 -- Which scripts are read: each line is good or bad in what the lines before it make known.
-use Rattle.std.specs.Prelude.{◌≡◌, ℕ, ◌+◌, ◌-◌, ◌^◌, List, [], ◌∷◌, ◌++◌, length, Bool, true, false, ◌&&◌, ◌==◌, nat_lt, nat_le, Option, Some, None, Result, Ok, Err, codes, if◌then◌else◌}
+use Rattle.std.specs.Prelude.{◌≡◌, ◌⊎◌, ℕ, ◌+◌, ◌-◌, ◌^◌, List, [], ◌∷◌, ◌++◌, length, Bool, true, false, ◌&&◌, ◌==◌, nat_lt, nat_le, Option, Some, None, Result, Ok, Err, codes, if◌then◌else◌}
 use Rattle.std.specs.List.{find}
 use Rattle.std.specs.Option.{ok_or}
 use Rattle.std.specs.Str.{bytes_eq}
 use Rattle.reg_model.specs.Interval.{Interval}
 use Rattle.event_script.specs.ScriptData.{ScriptData}
+use Rattle.event_script.specs.Spelling.{IsScript}
 use Rattle.event_script.specs.Fields.{pieces, is_printable, decimal_in, hex_in}
 use Rattle.event_script.specs.declared.script.Event.{Event}
 use Rattle.event_script.specs.declared.script.Event.TheVariants as event
@@ -19,7 +20,7 @@ use Rattle.event_script.specs.declared.reader.kinds.Kind.TheVariants as kind
 use Rattle.event_script.specs.declared.reader.images.ImageFields.{ImageFields}
 
 infixl 10 ◌>>=◌
-abbrev pub ◌>>=◌ : {A B : Type 0} → Result A Reason → (A → Result B Reason) → Result B Reason
+abbrev pub ◌>>=◌ : {A B E : Type 0} → Result A E → (A → Result B E) → Result B E
 (Ok x) >>= f = f x
 (Err e) >>= f = Err e
 
@@ -261,12 +262,32 @@ unfoldable pub at_end : Known → List ℕ → Result Known Reason
 at_end known [] = if is_ended known.stage then Ok known else Err reason.Missing
 at_end known (b ∷ bytes) = if is_ended known.stage then Err reason.After else Err reason.Unended
 
--- what is known in the end, or the reason of the first bad line
-unfoldable pub after_lines : Known → List (List ℕ) → Result Known Reason
-after_lines known [] = at_end known []
-after_lines known (rest ∷ []) = at_end known rest
-after_lines known (line ∷ next ∷ others) = after_line known line >>= λ after. after_lines after (next ∷ others)
+-- a bad line, numbered from 1, and the first reason that holds of it
+pub record BadLine : Type 0 where
+  pub line : ℕ
+  pub reason : Reason
 
--- the script that the bytes are, or the reason why they are none
-abbrev pub outcome : List ℕ → Result Known Reason
-outcome bytes = after_lines nothing_known (pieces 10 bytes)
+abbrev pub at_line : ℕ → Result Known Reason → Result Known BadLine
+at_line number (Ok known) = Ok known
+at_line number (Err reason) = Err (record { line = number; reason = reason })
+
+-- what is known in the end, or the first bad line; the first of these lines has the number
+unfoldable pub after_lines : Known → ℕ → List (List ℕ) → Result Known BadLine
+after_lines known number [] = at_line number (at_end known [])
+after_lines known number (rest ∷ []) = at_line number (at_end known rest)
+after_lines known number (line ∷ next ∷ others) = at_line number (after_line known line) >>= λ after. after_lines after (number + 1) (next ∷ others)
+
+-- what the bytes make known, or their first bad line
+abbrev pub outcome : List ℕ → Result Known BadLine
+outcome bytes = after_lines nothing_known 1 (pieces 10 bytes)
+
+-- The line is the first bad one of the bytes, and the reason is the first that holds of it.
+abbrev pub IsFirstBad : List ℕ → ℕ → Reason → Type 0
+IsFirstBad bytes line reason = outcome bytes ≡ Err (record { line = line; reason = reason })
+
+-- Bytes spell one script, or have one first bad line with one reason, and never both.
+pub record HasOneAnswer (bytes : List ℕ) : Type 0 where
+  pub some : ((s : ScriptData) × IsScript bytes s) ⊎ ((line : ℕ) × (reason : Reason) × IsFirstBad bytes line reason)
+  pub one_script : (s t : ScriptData) → IsScript bytes s → IsScript bytes t → s ≡ t
+  pub one_fault : (line other : ℕ) (reason why : Reason) → IsFirstBad bytes line reason → IsFirstBad bytes other why → (line ≡ other) × (reason ≡ why)
+  pub never_both : (s : ScriptData) (line : ℕ) (reason : Reason) → IsScript bytes s → IsFirstBad bytes line reason → ⊥

@@ -3,8 +3,14 @@
 ghost use Rattle.std.specs.Prelude.{◌≡◌, ℕ, List};
 ghost use Rattle.event_script.specs.ScriptData.{ScriptData};
 ghost use Rattle.event_script.specs.Spelling.{IsScript};
+ghost use Rattle.event_script.specs.Reading.{HasOneAnswer};
 
 /// Bytes spell one script at the most.
 pub fn bytes_spell_one_script()
     ensures { (bytes : List ℕ) (s t : ScriptData) → IsScript bytes s → IsScript bytes t → s ≡ t }
+{}
+
+/// Bytes spell one script, or have one first bad line with one reason, and never both.
+pub fn bytes_have_one_answer()
+    ensures { (bytes : List ℕ) → HasOneAnswer bytes }
 {}

@@ -7,13 +7,16 @@
 //! proved above.
 #![tactic(auto)]
 
+mod fault_text;
 mod journal;
 pub mod laws;
 mod print;
 mod reader;
 mod script;
 
+pub use fault_text::print_fault;
 pub use journal::{Answer, Journal};
 pub use print::{print_answer, print_journal, print_updates};
+pub use reader::fault::Reason;
 pub use reader::{ScriptFault, read};
 pub use script::{Event, Round, Script, Thread};

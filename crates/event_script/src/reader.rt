@@ -1,12 +1,13 @@
 //! The reader of scripts.
 
-ghost use Rattle.std.specs.Prelude.{◌≡◌, ℕ, Err, IfOk};
-ghost use Rattle.event_script.specs.ScriptData.{ScriptData};
+ghost use Rattle.std.specs.Prelude.{◌≡◌, Result, IfOk, IfErr};
 ghost use Rattle.event_script.specs.Spelling.{IsScript};
-ghost use Rattle.event_script.specs.Reading.{Gives, outcome};
+ghost use Rattle.event_script.specs.declared.reader.fault.Reason.{Reason};
+ghost use Rattle.event_script.specs.Reading.{Known, Gives, at_line, outcome};
+ghost use Rattle.event_script.specs.Fault.{Tells, GivesLines};
 
 mod draft;
-mod fault;
+pub mod fault;
 mod fields;
 mod images;
 mod kinds;
@@ -15,7 +16,7 @@ mod numbers;
 mod tests;
 
 use crate::reader::draft::Draft;
-use crate::reader::fault::LineFault;
+use crate::reader::fault::{LineFault, Reason};
 use crate::reader::fields::place_of;
 use crate::script::Script;
 use std::alloc::Global;
@@ -23,50 +24,58 @@ use std::alloc::Global;
 /// Why bytes are not read as a script.
 #[derive(Clone, Copy, Debug, PartialEq, Eq)]
 pub enum ScriptFault {
-    /// They spell none that can be run today.
-    Refused,
+    /// The first bad line, numbered from 1, and the first reason that holds of it.
+    Bad { line: u32, reason: Reason },
     NoMemory,
 }
 
+/// What a line gave, under its number.
+fn numbered(given: Result<Draft, LineFault>, line: u32) -> Result<Draft, ScriptFault>
+    ensures { (told : Result Known Reason) → Gives given told → GivesLines result (at_line line told) }
+{
+    match given {
+        Ok(draft) => Ok(draft),
+        Err(LineFault::Bad { reason }) => Err(ScriptFault::Bad { line, reason }),
+        Err(LineFault::NoMemory) => Err(ScriptFault::NoMemory),
+    }
+}
+
 /// What the lines make known, up to the first bad one.
-fn known_of(alloc: Global, bytes: &[u8]) -> Result<Draft, LineFault>
-    ensures { Gives result (outcome bytes.now) }
+fn known_of(alloc: Global, bytes: &[u8]) -> Result<Draft, ScriptFault>
+    ensures { GivesLines result (outcome bytes.now) }
 {
     let mut draft = Draft::new(alloc);
     let mut rest = bytes;
+    let mut line = 1;
     let mut end = place_of(rest, b'\n');
     while end < rest.len() {
-        let (line, _) = rest.split_at(end);
+        let (text, _) = rest.split_at(end);
         let (_, next) = rest.split_at(end + 1);
-        draft = draft.after(alloc, line)?;
+        draft = numbered(draft.after(alloc, text), line)?;
+        line += 1;
         rest = next;
         end = place_of(rest, b'\n');
     }
-    draft.at_end(rest)
+    numbered(draft.at_end(rest), line)
 }
 
 /// The script that the bytes spell.
 pub fn read(alloc: Global, bytes: &[u8]) -> Result<Script, ScriptFault>
     ensures ok { IfOk result (λ script. IsScript bytes.now script) }
-    ensures refused { result ≡ Err ScriptFault.Refused → (script : ScriptData) → ¬ IsScript bytes.now script }
+    ensures bad { IfErr result (λ fault. Tells bytes.now fault) }
 {
-    match known_of(alloc, bytes) {
-        Ok(draft) => {
-            let Draft {
-                nodes,
-                loads,
-                images,
-                rounds,
-                ..
-            } = draft;
-            Ok(Script {
-                nodes,
-                loads,
-                images,
-                rounds,
-            })
-        }
-        Err(LineFault::Bad { .. }) => Err(ScriptFault::Refused),
-        Err(LineFault::NoMemory) => Err(ScriptFault::NoMemory),
-    }
+    let draft = known_of(alloc, bytes)?;
+    let Draft {
+        nodes,
+        loads,
+        images,
+        rounds,
+        ..
+    } = draft;
+    Ok(Script {
+        nodes,
+        loads,
+        images,
+        rounds,
+    })
 }

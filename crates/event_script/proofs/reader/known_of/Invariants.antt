@@ -1,12 +1,14 @@
-use Rattle.std.proofs.Common.{ℕ, length, ◌≡◌, ◌≢◌, ◌<◌, ◌≤◌, get_or}
+use Rattle.std.proofs.Common.{ℕ, ◌+◌, List, length, ◌≡◌, ◌≢◌, ◌<◌, ◌≤◌, get_or}
 use Rattle.event_script.specs.Fields.{pieces}
 use Rattle.event_script.specs.Reading.{outcome, after_lines}
+use Rattle.event_script.proofs.Sound.{Sound, lines_so_far}
 use Rattle.event_script.proofs.reader.known_of.Given as goal
 
--- what is left is read as all of it is; the next line ends at end
+-- what is left is read as all of it is; the next line ends at end, and its number counts the lines before it
 abbrev pub invariant-loop-end : goal.invariant-loop-end
 invariant-loop-end l = record {
-  so_far : after_lines l.draft (pieces 10 l.rest) ≡ outcome l.fn.bytes;
+  so_far : after_lines l.draft l.line (pieces 10 l.rest) ≡ outcome l.fn.bytes;
+  counted : (sections : List ℕ) × Sound l.draft sections × (l.line ≡ length (lines_so_far l.draft sections) + 1);
   within : l.end ≤ length l.rest;
   before : (k : ℕ) → k < l.end → get_or l.rest k 0 ≢ 10;
   found : l.end < length l.rest → get_or l.rest l.end 0 ≡ 10;
