@@ -2,6 +2,7 @@
 use Rattle.std.proofs.Common.{◌≡◌, ◌⊎◌, ℕ, ◌≤◌, List, length, Option, Some, None, IfSome, refl, sym, subst, inl, inr, arith}
 use Rattle.event_script.specs.ScriptData.{ScriptData}
 use Rattle.event_script.specs.Spelling.{IsScript}
+use Rattle.event_script.proofs.Complete.{one_answer}
 use Rattle.run_engine.specs.Ports.{Rose, Gains, GainsPart}
 use Rattle.run_engine.specs.Outcome.{AreTaken, IsDue, Writes, WritesPart, Change, Ends, Concludes, limit}
 use Rattle.run_engine.specs.declared.status.Status.{Status}
@@ -32,7 +33,8 @@ complete_with words bytes change Done ends taken short script spelled reads writ
 complete_with words bytes change NoMemory ends taken short script spelled reads writes = inr refl
 complete_with words bytes change Usage (text, due, gains) taken short script spelled reads writes = absurd (due.0 taken)
 complete_with words bytes change TooLong (text, due, gains) taken short script spelled reads writes = absurd (let long = due.1 in omega arith)
-complete_with words bytes change Script (text, due, gains) taken short script spelled reads writes = absurd (due.1.1 script spelled)
+complete_with words bytes change Script (text, due, gains) taken short script spelled reads writes =
+    absurd ((one_answer bytes).never_both script due.1.line due.1.reason spelled due.1.first.1)
 complete_with words bytes change ReadFault ends taken short script spelled reads writes = absurd (reads ends.1)
 complete_with words bytes change WriteFault ends taken short script spelled reads writes = absurd (writes ends.0)
 

@@ -2,6 +2,9 @@
 use Rattle.std.specs.Prelude.{◌≡◌, ◌⊎◌, ℕ, ◌<◌, ◌≤◌, List, [], ◌∷◌, length, Option, IfSome, codes}
 use Rattle.event_script.specs.ScriptData.{ScriptData}
 use Rattle.event_script.specs.Spelling.{IsScript}
+use Rattle.event_script.specs.Reading.{IsFirstBad}
+use Rattle.event_script.specs.FaultText.{fault_text}
+use Rattle.event_script.specs.declared.reader.fault.Reason.{Reason}
 use Rattle.event_script.specs.JournalData.{JournalData}
 use Rattle.event_script.specs.Lawful.{IsLawful}
 use Rattle.event_script.specs.Text.{journal_text}
@@ -19,9 +22,6 @@ usage_line = codes "usage: unwind_main run | unwind_main gen N\n"
 abbrev pub too_long_line : List ℕ
 too_long_line = codes "script too long\n"
 
-abbrev pub refused_line : List ℕ
-refused_line = codes "script refused\n"
-
 -- the greatest length of a script, in bytes
 abbrev pub limit : ℕ
 limit = 8388608
@@ -34,13 +34,19 @@ pub record IsAnswer (input : Option (List ℕ)) (text : List ℕ) : Type 0 where
   pub lawful : IsLawful script journal
   pub text_is : text ≡ journal_text journal
 
+-- The text tells of a bad line, the first one of the source's bytes, where it tells them, and of the first reason that holds.
+pub record IsRefusal (input : Option (List ℕ)) (text : List ℕ) : Type 0 where
+  pub line : ℕ
+  pub reason : Reason
+  pub first : IfSome input (λ bytes. (length bytes ≤ limit) × IsFirstBad bytes line reason)
+  pub text_is : text ≡ fault_text line reason
+
 -- What is due to be written with a status, from these words and the bytes of the source.
 abbrev pub IsDue : List (List ℕ) → Option (List ℕ) → Status → List ℕ → Type 0
 IsDue words input Done text = AreTaken words × IsAnswer input text
 IsDue words input Usage text = (¬ AreTaken words) × (text ≡ usage_line)
 IsDue words input TooLong text = AreTaken words × IfSome input (λ bytes. limit < length bytes) × (text ≡ too_long_line)
-IsDue words input Script text =
-    AreTaken words × IfSome input (λ bytes. (length bytes ≤ limit) × ((script : ScriptData) → ¬ IsScript bytes script)) × (text ≡ refused_line)
+IsDue words input Script text = AreTaken words × IsRefusal input text
 IsDue words input _ text = ⊥
 
 -- the text that is due with this status was written

@@ -3,6 +3,7 @@
 ghost use Rattle.std.specs.Prelude.{◌≡◌, ◌⊎◌, ℕ, ◌≤◌, ◌↔◌, length, map, IsTrue, IfSome};
 ghost use Rattle.event_script.specs.ScriptData.{ScriptData};
 ghost use Rattle.event_script.specs.Spelling.{IsScript};
+ghost use Rattle.event_script.specs.FaultText.{fault_text};
 ghost use Rattle.std.specs.String.{string_bytes};
 ghost use Rattle.run_engine.specs.Ports.{Rose};
 ghost use Rattle.run_engine.specs.Outcome.{AreTaken, Writes, WritesPart, Ends, Concludes, limit};
@@ -13,7 +14,7 @@ use crate::ports::{Sink, SinkFault, Source};
 use crate::reading::{LIMIT, TakeFault, take_all};
 use crate::status::Status;
 use crate::writing::{write_journal, write_piece};
-use event_script::{ScriptFault, read};
+use event_script::{Reason, ScriptFault, print_fault, read};
 use std::alloc::Global;
 use std::sync::Wait;
 
@@ -81,7 +82,7 @@ fn end_of<R: Wait, S: Source, K: Sink, G: Gate + Sync>(
     }
     let script = match read(alloc, &bytes) {
         Ok(script) => script,
-        Err(ScriptFault::Refused) => return conclude(sink, b"script refused\n", Status::Script),
+        Err(ScriptFault::Bad { line, reason }) => return refuse(alloc, sink, line, reason),
         Err(ScriptFault::NoMemory) => return Status::NoMemory,
     };
     let journal = match play(rt, alloc, gate, &script) {
@@ -120,5 +121,22 @@ fn conclude<K: Sink>(sink: &mut K, line: &[u8], status: Status) -> Status
         Ok(()) => status,
         Err(SinkFault::Failed) => Status::WriteFault,
         Err(SinkFault::NoMemory) => Status::NoMemory,
+    }
+}
+
+/// Writes the line that tells of a bad line of the script.
+fn refuse<K: Sink>(alloc: Global, sink: &mut K, line: u32, reason: Reason) -> Status
+    ensures {
+        Concludes (fault_text line reason) Status.Script
+            (record {
+                reads = 0; reads_after = 0;
+                writes = K.faults sink.old; writes_after = K.faults sink.new;
+                held = K.written sink.old; held_after = K.written sink.new
+            }) result
+    }
+{
+    match print_fault(alloc, line, reason) {
+        Ok(text) => conclude(sink, &text, Status::Script),
+        Err(_) => Status::NoMemory,
     }
 }

@@ -1,6 +1,6 @@
 use Rattle.std.proofs.Common.{◌≡◌, ◌<◌, ◌≤◌, List, ℕ, length, vec_len, refl, sym, ◌∙◌, inr, arith}
 use Rattle.std.proofs.lemmas.Bool.{false≢true}
-use Rattle.event_script.specs.ScriptData.{ScriptData}
+use Rattle.event_script.specs.Reading.{IsFirstBad}
 use Rattle.event_script.specs.Spelling.{IsScript}
 use Rattle.event_script.specs.Text.{journal_text}
 use Rattle.run_engine.specs.Outcome.{limit}
@@ -20,16 +20,15 @@ returns-then-len-gt-LIMIT g c =
       (c.are_taken.ensures.0 c.if-not-are_taken.false, Hands-longer limit _ _ c.in-Ok.bytes.items c.in-Ok.ensures.handed long, refl)
       c.conclude-then-len-gt-LIMIT.ensures
 
-pub returns-in-Err-Refused : goal.returns-in-Err-Refused
-returns-in-Err-Refused g c =
+pub returns-in-Err-Bad : goal.returns-in-Err-Bad
+returns-in-Err-Bad g c =
     let bytes = c.in-Ok.bytes in
     let short : length bytes.items ≤ limit = (let count = c.len.ensures in let below = c.if-len-gt-LIMIT.false in omega (arith, bytes.ok.0)) in
     let within : vec_len bytes ≤ limit = (let count = c.len.ensures in let below = c.if-len-gt-LIMIT.false in omega arith) in
-    let P : List ℕ → Type 0 = λ had. (length had ≤ limit) × ((script : ScriptData) → ¬ IsScript had script) in
-    let none : (script : ScriptData) → ¬ IsScript bytes.items script = rw (← c.deref.ensures.value) ((rw c.in-Err-Refused.field-0-is at c.in-Err-Refused.ensures.refused) refl) in
+    let P : List ℕ → Type 0 = λ had. (length had ≤ limit) × IsFirstBad had c.in-Err-Bad.line c.in-Err-Bad.reason in
     ends_concluded _ _ _ _ status.Script _
-      (c.are_taken.ensures.0 c.if-not-are_taken.false, IfSome-same _ bytes.items P (c.in-Ok.ensures.all within) (short, none), refl)
-      c.conclude-in-Err-Refused.ensures
+      (c.are_taken.ensures.0 c.if-not-are_taken.false, record { line = c.in-Err-Bad.line; reason = c.in-Err-Bad.reason; first = IfSome-same _ bytes.items P (c.in-Ok.ensures.all within) (short, rw (← c.deref.ensures.value) (rw c.in-Err-Bad.field-0-is at c.in-Err-Bad.ensures.bad)); text_is = refl })
+      c.refuse.ensures
 
 pub returns-in-Err-Failed-write_journal : goal.returns-in-Err-Failed-write_journal
 returns-in-Err-Failed-write_journal g c =
