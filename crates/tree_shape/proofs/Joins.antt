@@ -19,7 +19,7 @@ use Rattle.tree_shape.proofs.Leads.{branch_inside}
 use Rattle.tree_shape.proofs.Runs.{SameKind, next_low, branches-append, JoinsTo, joins, CutsTo, cuts}
 use Rattle.tree_shape.proofs.Family.{numbers, family, exits_of, Regroups}
 use Rattle.tree_shape.proofs.Slotted.{Around, around_slot, some_same, ordered_pairs, Slotted, slotted, family_keeps}
-use Rattle.tree_shape.proofs.Tests.{among, not_among, not_one, only, one_of, two_of, once_two, second, third, pairs_filled, fit_kind, overfill_kind, joined_filled, shares, shares_filled}
+use Rattle.tree_shape.proofs.Halves.{among, not_among, not_one, only, one_of, two_of, once_two, second, third, pairs_filled, fit_kind, overfill_kind, joined_filled, shares, shares_filled}
 
 -- a node is a child of a live node once at most
 pub one_child : (f : Contents) (live : ℕ → Bool) → IsTree f live → (n x : ℕ) → IsTrue (live n) → times x (children f n) ≤ 1
@@ -109,7 +109,7 @@ cut_swallowed : (low high : ℕ) (front back : List Pair) (p q : Pair) → Cut l
 cut_swallowed low high [] back p q cut = (omega (arith, cut.0, cut.1.0), cut.1.1)
 cut_swallowed low high (r ∷ front) back p q cut = (cut.0, cut_swallowed (r.separator + 1) high front back p q cut.1)
 
-cut_separated : (low high : ℕ) (front back : List Pair) (p q : Pair) (fence : ℕ) → Cut low high (front ++ p ∷ q ∷ back) → next_low low front ≤ fence → fence < q.separator →
+pub cut_separated : (low high : ℕ) (front back : List Pair) (p q : Pair) (fence : ℕ) → Cut low high (front ++ p ∷ q ∷ back) → next_low low front ≤ fence → fence < q.separator →
     Cut low high (front ++ separate_at fence p (q ∷ back))
 cut_separated low high [] back p q fence cut above below = (above, (omega arith, cut.1.1))
 cut_separated low high (r ∷ front) back p q fence cut above below = (cut.0, cut_separated (r.separator + 1) high front back p q fence cut.1 above below)

@@ -22,7 +22,7 @@ use Rattle.tree_shape.proofs.Local.{tree_after, filled_after, entries_after}
 use Rattle.tree_shape.proofs.Runs.{entries_lower}
 use Rattle.tree_shape.proofs.Slots.{none_at}
 use Rattle.tree_shape.proofs.Slotted.{tree_same, entry_same, some_same}
-use Rattle.tree_shape.proofs.Tests.{among, only}
+use Rattle.tree_shape.proofs.Halves.{among, only}
 
 -- one node as a test
 abbrev alone : ℕ → ℕ → Bool

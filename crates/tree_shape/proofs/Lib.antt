@@ -10,9 +10,10 @@ pub mod Local
 pub mod Runs
 pub mod Family
 pub mod Slotted
-pub mod Tests
+pub mod Halves
 pub mod Splits
 pub mod Joins
 pub mod Leaves
 pub mod Roots
 pub mod Wholes
+pub mod Fences

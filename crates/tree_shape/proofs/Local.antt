@@ -72,6 +72,15 @@ around_parts f top level branch exits child at x =
     let same : times x (below f branch) ≡ times x (nodes_under f level top) = ap (λ n. times x (nodes_under f branch.level n)) child ∙ ap (λ l. times x (nodes_under f l top)) at in
     omega (arith, times-append x (below f branch) [])
 
+-- what a live node reaches stands in the tree no more often than there
+pub under_live : (f : Contents) (live : ℕ → Bool) → IsTree f live → (n : ℕ) → IsTrue (live n) → (x : ℕ) → times x (nodes_under f (f n).level n) ≤ times x (nodes f)
+under_live f live tree n alive x = elim (cases_eq n 0) [
+    inl e ↦ let same : times x (nodes_under f (f n).level n) ≡ times x (nodes f) = ap (λ m. times x (nodes_under f (f m).level m)) e in omega arith
+  | inr other ↦
+      let place = around f live tree n alive other in
+      omega (arith, around_parts f n (f n).level place.branch place.exits place.child place.level x)
+  ]
+
 -- the rest of the tree: the numbers of the old and of the new one without what the top reaches, none of them touched
 record Rest (f g : Contents) (top : ℕ) (touched : ℕ → Bool) : Type 0 where
   others : List ℕ
@@ -99,14 +108,8 @@ module _ (f : Contents) (live : ℕ → Bool) (top : ℕ) (group fresh : ℕ →
   untouched_stays : (x : ℕ) → either group fresh x ≡ false → g x ≡ f x
   untouched_stays x untouched = change.others_stay x untouched
 
-  -- what the top reaches stands in the tree no more often than there
   under_most : (x : ℕ) → times x (nodes_under f (f top).level top) ≤ times x (nodes f)
-  under_most x = elim (cases_eq top 0) [
-    | inl e ↦ let same : times x (nodes_under f (f top).level top) ≡ times x (nodes f) = ap (λ n. times x (nodes_under f (f n).level n)) e in omega arith
-    | inr other ↦
-        let place = around f live tree top change.top_live other in
-        omega (arith, around_parts f top (f top).level place.branch place.exits place.child place.level x)
-  ]
+  under_most x = under_live f live tree top change.top_live x
 
   -- below the branches that leave the group nothing is touched
   rest_apart : (x : ℕ) → 0 < times x (flat_map (below f) (leaving group f (f top).level top)) → either group fresh x ≡ false

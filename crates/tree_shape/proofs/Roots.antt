@@ -22,7 +22,7 @@ use Rattle.tree_shape.proofs.Family.{numbers, family, alone, two_levels, exits_o
 use Rattle.tree_shape.proofs.Slotted.{ordered_pairs, Slotted, tree_same, entry_same, slotted}
 use Rattle.tree_shape.proofs.Splits.{split_fills}
 use Rattle.tree_shape.proofs.Joins.{Neighbours, neighbours, neighbours_join, none_of, one_of_three}
-use Rattle.tree_shape.proofs.Tests.{among, not_among, only, second, third, fewest_below, fewest_pairs_some, fit_kind}
+use Rattle.tree_shape.proofs.Halves.{among, not_among, only, second, third, fewest_below, fewest_pairs_some, fit_kind}
 
 -- a full node is filled wherever it stands
 full_filled : (n : ℕ) (b : Body) → n ≢ 0 → IsFull b → IsFilledAs n b

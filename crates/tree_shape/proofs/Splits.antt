@@ -16,7 +16,7 @@ use Rattle.tree_shape.proofs.Living.{root_live}
 use Rattle.tree_shape.proofs.Runs.{next_low, branches-append, cut_parts, cut_join, CutsTo, cuts, next_low-cut}
 use Rattle.tree_shape.proofs.Family.{numbers, family, exits_of, Regroups}
 use Rattle.tree_shape.proofs.Slotted.{Around, around_slot, ordered_pairs, Slotted, slotted, family_keeps}
-use Rattle.tree_shape.proofs.Tests.{among, not_one, only, two_of, once_two, second, third, full_middle, pairs_filled, halves_filled}
+use Rattle.tree_shape.proofs.Halves.{among, not_one, only, two_of, once_two, second, third, full_middle, pairs_filled, halves_filled}
 
 -- the addresses of a slot, cut at a new separator
 pub cut_divided : (low high : ℕ) (front back : List Pair) (p : Pair) (separator child : ℕ) → Cut low high (front ++ p ∷ back) → next_low low front ≤ separator → separator < p.separator →

@@ -20,7 +20,7 @@ use Rattle.tree_shape.proofs.Living.{own_branches, own_at, live_node, node_live,
 use Rattle.tree_shape.proofs.Leads.{contains_in, in_contains, entry_inside, entry_ordered, last_below, leaf_at_zero, inner_above, leads, leads_to}
 use Rattle.tree_shape.proofs.Runs.{entries_join}
 use Rattle.tree_shape.proofs.Slotted.{some_same}
-use Rattle.tree_shape.proofs.Tests.{fewest_below, fewest_pairs_some}
+use Rattle.tree_shape.proofs.Halves.{fewest_below, fewest_pairs_some}
 
 -- numbers in a list, by cases
 in_times : (xs : List ℕ) (n : ℕ) → In n xs → 0 < times n xs

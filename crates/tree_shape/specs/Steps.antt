@@ -1,13 +1,14 @@
 -- The changes of nodes put into a tree: which contents g come of contents f.
-use Rattle.std.specs.Prelude.{◌≡◌, ◌≢◌, ℕ, suc, ◌+◌, ◌/◌, ◌<◌, ◌≤◌, ◌↔◌, ◌⊎◌, Bool, true, false, List, [], ◌∷◌, length, Some, Contains, IsTrue, ◌==◌, if◌then◌else◌}
-use Rattle.std.specs.List.{slice_get}
+use Rattle.std.specs.Prelude.{◌≡◌, ◌≢◌, ℕ, zero, suc, ◌+◌, ◌/◌, ◌<◌, ◌≤◌, ◌↔◌, ◌⊎◌, Bool, true, false, List, [], ◌∷◌, length, Some, Contains, IsTrue, ◌==◌, if◌then◌else◌}
+use Rattle.std.specs.List.{AllByRecursion, slice_get}
 use Rattle.reg_model.specs.declared.span.Member.{Member}
 use Rattle.reg_model.specs.Interval.{IsSpan}
 use Rattle.reg_model.specs.State.{IsFree, at_base}
 use Rattle.reg_model.specs.History.{without}
 use Rattle.tree_shape.specs.declared.pair.Pair.{Pair}
 use Rattle.tree_shape.specs.Shapes.{Shape, Body, Pairs, Entries, Link, pairs_of, entries_of, IsLeaf}
-use Rattle.tree_shape.specs.Changes.{first_half, last_half, joined, at_slot, divide, swallow_next, separate_at, with_entry, first_part, end_of, size, Fit, Overfill}
+use Rattle.tree_shape.specs.Changes.{first_half, last_half, joined, at_slot, divide, swallow_next, separate_at, with_entry, first_part, end_of, size, up_to, after, Fit, Overfill}
+use Rattle.tree_shape.specs.Numbers.{times}
 use Rattle.tree_shape.specs.Trees.{Contents, HasEntry}
 use Rattle.tree_shape.specs.Lawful.{IsTree, IsLawful, IsFilled, fewest_pairs, fewest_entries}
 
@@ -125,3 +126,39 @@ pub record IsSink (f : Contents) (live : ℕ → Bool) (p q : Pair) (g : Content
   pub fit : Fit (f p.child) (f q.child)
   pub root : let s = joined (f p.child) (f q.child) in g 0 ≡ record s { low = (f 0).low; high = (f 0).high }
   pub others : (n : ℕ) → n ≢ 0 → n ≢ p.child → n ≢ q.child → g n ≡ f n
+
+-- the child of the last pair and of the first, where `start` stands for no pairs
+abbrev pub last_child : ℕ → List Pair → ℕ
+last_child start [] = start
+last_child start (p ∷ pairs) = last_child p.child pairs
+
+abbrev pub first_child : ℕ → List Pair → ℕ
+first_child start [] = start
+first_child start (p ∷ pairs) = p.child
+
+-- the node n and at each level below it the last node under it, or the first
+abbrev pub last_spine : Contents → ℕ → ℕ → List ℕ
+last_spine f zero n = n ∷ []
+last_spine f (suc level) n = n ∷ last_spine f level (last_child 0 (pairs_of (f n)))
+
+abbrev pub first_spine : Contents → ℕ → ℕ → List ℕ
+first_spine f zero n = n ∷ []
+first_spine f (suc level) n = n ∷ first_spine f level (first_child 0 (pairs_of (f n)))
+
+-- all that a node holds lies above the address: its entries, or its separators
+abbrev pub LiesAbove : ℕ → Body → Type 0
+LiesAbove pc (Pairs pairs) = AllByRecursion (λ p. pc < p.separator) pairs
+LiesAbove pc (Entries entries) = AllByRecursion (λ m. pc < m.span.first) entries
+LiesAbove pc (Link next) = Unit {0}
+
+-- The fence between two neighbouring children is raised, on both spines below them and in the node above them.
+pub record IsFenceMove (f : Contents) (live : ℕ → Bool) (parent slot : ℕ) (p q : Pair) (fence : ℕ) (g : Contents) : Type 0 where
+  pub live_parent : IsTrue (live parent)
+  pub at : slice_get (pairs_of (f parent)) slot ≡ Some p
+  pub next : slice_get (pairs_of (f parent)) (slot + 1) ≡ Some q
+  pub raised : (f p.child).high < fence
+  pub below : AllByRecursion (λ n. (fence < (f n).high) × LiesAbove fence (f n).body) (first_spine f (f q.child).level q.child)
+  pub above : let s = f parent in g parent ≡ record s { body = Pairs (at_slot (separate_at fence) slot (pairs_of s)) }
+  pub left : AllByRecursion (λ n. g n ≡ up_to fence (f n)) (last_spine f (f p.child).level p.child)
+  pub right : AllByRecursion (λ n. g n ≡ after fence (f n)) (first_spine f (f q.child).level q.child)
+  pub others : (n : ℕ) → n ≢ parent → times n (last_spine f (f p.child).level p.child) ≡ 0 → times n (first_spine f (f q.child).level q.child) ≡ 0 → g n ≡ f n

@@ -47,9 +47,9 @@ pub fn first_overlap(node: &Node, span: &Span) -> Option<Member>
     ensures found { IfSome result (IsLowestOverlap span.now (entries_of node.now)) }
     ensures none { IfNone result (IsFree span.now (entries_of node.now)) }
 {
-    for entry in node.entries() {
-        if entry.span.overlaps(span) {
-            return Some(*entry);
+    for first in node.entries() {
+        if first.span.overlaps(span) {
+            return Some(*first);
         }
     }
     None

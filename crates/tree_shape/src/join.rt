@@ -66,8 +66,9 @@ pub fn sink_root(root: &Node, left: &Node, right: &Node) -> Node
     requires { Fit left.now right.now }
     ensures { let s = joined left.now right.now in result ≡ record s { low = root.now.low; high = root.now.high } }
 {
+    let level = left.level;
     Node {
-        level: left.level,
+        level,
         low: root.low,
         high: root.high,
         content: joined_content(left, right),

@@ -9,7 +9,7 @@ ghost use Rattle.reg_model.specs.Query.{member_at};
 ghost use Rattle.tree_shape.specs.Shapes.{IsLeaf, EntriesWithin, entries_of};
 ghost use Rattle.tree_shape.specs.Trees.{Contents, within, nodes, entries, leaf_for, HasEntry};
 ghost use Rattle.tree_shape.specs.Lawful.{IsTree, IsLawful, IsFilled};
-ghost use Rattle.tree_shape.specs.Steps.{Keeps, IsSplit, IsJoin, IsShare, IsLift, Lifts, IsSink, IsPut, Adds, IsTake, Takes, with_node, without_node};
+ghost use Rattle.tree_shape.specs.Steps.{Keeps, IsSplit, IsJoin, IsShare, IsFenceMove, IsLift, Lifts, IsSink, IsPut, Adds, IsTake, Takes, with_node, without_node};
 ghost use Rattle.tree_shape.specs.LocalChange.{IsLocalChange, ChangesEntries, either, live_after};
 
 /// A lookup down the separators comes to a leaf, and finds there exactly what the tree holds.
@@ -94,6 +94,15 @@ pub fn share()
     ensures {
         (f : Contents) (live : ℕ → Bool) (parent slot : ℕ) (p q : Pair) (g : Contents)
         → IsLawful f live → IsShare f live parent slot p q g → Keeps f live g live
+    }
+{
+}
+
+/// A fence that is moved, on both spines and in the node above them.
+pub fn move_fence()
+    ensures {
+        (f : Contents) (live : ℕ → Bool) (parent slot : ℕ) (p q : Pair) (fence : ℕ) (g : Contents)
+        → IsLawful f live → IsFenceMove f live parent slot p q fence g → Keeps f live g live
     }
 {
 }

@@ -14,7 +14,7 @@ use reg_model::Member;
 pub fn cut_leaf(frame: Frame, first: &[Member], last: &[Member], n: usize) -> (Node, Node)
     requires some { 0 < n }
     requires left { n ≤ 10 }
-    requires enough { n ≤ length first.now + length last.now }
+    requires enough { n < length first.now + length last.now }
     requires right { length first.now + length last.now ≤ n + 10 }
     ensures left { result.0 ≡ first_half n (framed frame (Entries (first.now ++ last.now))) }
     ensures right { result.1 ≡ last_half n (framed frame (Entries (first.now ++ last.now))) }
@@ -40,7 +40,7 @@ pub fn cut_leaf(frame: Frame, first: &[Member], last: &[Member], n: usize) -> (N
 pub fn cut_inner(frame: Frame, first: &[Pair], last: &[Pair], n: usize) -> (Node, Node)
     requires some { 0 < n }
     requires left { n ≤ 15 }
-    requires enough { n ≤ length first.now + length last.now }
+    requires enough { n < length first.now + length last.now }
     requires right { length first.now + length last.now ≤ n + 15 }
     requires below_top { pairs_end 0 (take n (first.now ++ last.now)) < 2 ^ 64 - 1 }
     ensures left { result.0 ≡ first_half n (framed frame (Pairs (first.now ++ last.now))) }

@@ -4,5 +4,5 @@ use Rattle.tree_shape.specs.Shapes.{entries_of}
 use Rattle.tree_shape.proofs.find.first_overlap.Given as goal
 
 -- none of the entries so far overlaps
-abbrev pub invariant-loop-entry : goal.invariant-loop-entry
-invariant-loop-entry l = IsFree l.span (take l.entry-index (entries_of l.node))
+abbrev pub invariant-loop-first : goal.invariant-loop-first
+invariant-loop-first l = IsFree l.span (take l.first-index (entries_of l.node))

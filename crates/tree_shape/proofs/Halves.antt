@@ -1,4 +1,4 @@
--- Tests of node numbers, and the children's own laws when a child is cut or two are joined.
+-- Lists of a few nodes, and what halves, shares and joined nodes hold.
 use Rattle.std.proofs.Common.{◌≡◌, ◌≢◌, ℕ, zero, suc, ◌+◌, ◌-◌, ◌/◌, ◌<◌, ◌≤◌, List, [], ◌∷◌, ◌++◌, length, take, drop, refl, ap, sym, ◌∙◌, subst, arith, Bool, true, false, cond, ◌||◌, IsTrue, eqb, ltb, inl, inr, ◌⊎◌}
 use Rattle.std.proofs.lemmas.Bool.{cases_eq, cases_Bool, eq-eqb, eqb-true, eqb-false, ne_eqb, or_left, or_right, or_parts, or_from, lt-ltb, le-ltb, both_ways}
 use Rattle.std.proofs.lemmas.List.{length-take-le, length-drop, length-append}
