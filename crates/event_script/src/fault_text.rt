@@ -2,9 +2,10 @@
 
 ghost use Rattle.std.specs.Prelude.{◌≡◌, ℕ, ◌++◌, IfOk, OnOk};
 ghost use Rattle.std.specs.String.{string_bytes};
-ghost use Rattle.event_script.specs.FaultText.{fault_text, reason_text};
+ghost use Rattle.event_script.specs.FaultText.{fault_text, placed, reason_text, section_text};
 
 use crate::reader::fault::Reason;
+use frame_parse::FrameFault;
 use reg_model::NoMemory;
 use std::alloc::{AllocError, Global};
 use std::fmt::Write;
@@ -38,4 +39,33 @@ fn put_reason(text: &mut String, reason: Reason) -> Result<(), AllocError>
         Reason::Span => text.push_str("span"),
         Reason::Name => text.push_str("name"),
     }
+}
+
+/// Adds the name of a section's refusal, where its record starts, and the place.
+fn put_section(text: &mut String, fault: FrameFault) -> Result<(), AllocError>
+    ensures { OnOk result (string_bytes text.new ≡ string_bytes text.old ++ section_text fault) }
+{
+    match fault {
+        FrameFault::Short { start, at } => put_places(text, "short", start, at),
+        FrameFault::TooWide { start, at } => put_places(text, "wide", start, at),
+        FrameFault::Encoding { start, at, .. } => put_places(text, "encoding", start, at),
+        FrameFault::NoCie { start, at } => put_places(text, "nocie", start, at),
+        FrameFault::Version { start, at, .. } => put_places(text, "version", start, at),
+        FrameFault::Augmentation { start, at } => put_places(text, "augmentation", start, at),
+        FrameFault::Column { start, at, .. } => put_places(text, "column", start, at),
+        FrameFault::Range { start, at } => put_places(text, "range", start, at),
+        FrameFault::Opcode { start, at, .. } => put_places(text, "opcode", start, at),
+        FrameFault::Location { start, at } => put_places(text, "location", start, at),
+        FrameFault::Remember { start, at } => put_places(text, "remember", start, at),
+        FrameFault::Operation { start, at, .. } => put_places(text, "operation", start, at),
+        FrameFault::Depth { start, at } => put_places(text, "depth", start, at),
+        FrameFault::CfaRule { start, at } => put_places(text, "cfarule", start, at),
+        FrameFault::NoMemory => Err(AllocError),
+    }
+}
+
+fn put_places(text: &mut String, name: &str, start: usize, at: usize) -> Result<(), AllocError>
+    ensures { OnOk result (string_bytes text.new ≡ string_bytes text.old ++ placed name.now start at) }
+{
+    write!(text, "section {name} {start} {at}")
 }
