@@ -1,21 +1,21 @@
 -- A node and some of its children: what they reach, and when new contents of theirs are a local change.
-use Rattle.std.proofs.Common.{◌≡◌, ◌≢◌, ℕ, zero, suc, ◌+◌, ◌-◌, ◌<◌, ◌≤◌, ◌↔◌, List, [], ◌∷◌, ◌++◌, map, refl, ap, sym, ◌∙◌, subst, arith, Bool, true, false, cond, ◌||◌, IsTrue, eqb, ltb, inl, inr, ◌⊎◌}
-use Rattle.std.specs.List.{flat_map, AllByRecursion, Contains}
-use Rattle.std.proofs.lemmas.Bool.{cases_eq, cases_Bool, cond-true, cond-false, eq-eqb, eqb-true, or_left, or_right, or_from, or_cases, or_parts, lt-ltb, ltb-true, both_ways}
+use Rattle.std.proofs.Common.{◌≡◌, ◌≢◌, ℕ, zero, suc, ◌+◌, ◌-◌, ◌<◌, ◌≤◌, ◌↔◌, List, [], ◌∷◌, ◌++◌, map, refl, ap, sym, ◌∙◌, subst, arith, Bool, false, cond, ◌||◌, IsTrue, eqb, inl, inr, ◌⊎◌}
+use Rattle.std.specs.List.{flat_map, AllByRecursion}
+use Rattle.std.proofs.lemmas.Bool.{cases_eq, cases_Bool, eq-eqb, eqb-true, or_left, or_right, or_from, or_cases, lt-ltb, ltb-true, both_ways}
 use Rattle.std.proofs.lemmas.List.Concat.{flat_map-append}
 use Rattle.std.proofs.lemmas.List.{append-nil}
 use Rattle.reg_model.specs.declared.span.Member.{Member}
 use Rattle.tree_shape.specs.declared.pair.Pair.{Pair}
 use Rattle.tree_shape.specs.Numbers.{times, once, is_among}
-use Rattle.tree_shape.specs.Shapes.{Shape, entries_of, pairs_of}
-use Rattle.tree_shape.specs.Trees.{Contents, Branch, branches_from, branches, nodes_under, nodes, within, leaving, HasEntry}
-use Rattle.tree_shape.specs.Lawful.{IsTree, IsOrdered, IsFilled, Fits}
+use Rattle.tree_shape.specs.Shapes.{entries_of, pairs_of}
+use Rattle.tree_shape.specs.Trees.{Contents, Branch, branches_from, branches, nodes, within, leaving, HasEntry}
+use Rattle.tree_shape.specs.Lawful.{IsTree, IsOrdered, Fits}
 use Rattle.tree_shape.specs.LocalChange.{IsLocalChange, either, live_after}
-use Rattle.tree_shape.proofs.Times.{In, all_at, all_from, in_append, in_left, in_right, in_flat_map, in_flat_map_from, times-append, times_head, times_cases, times_under, times_flat_map_from, once_same, once_other}
-use Rattle.tree_shape.proofs.Reach.{children, branch_level, onward, outward, onward_from, within_top}
+use Rattle.tree_shape.proofs.Times.{In, all_from, in_append, in_left, in_right, in_flat_map, in_flat_map_from, times_head, times_cases, times_under, once_same, once_other}
+use Rattle.tree_shape.proofs.Reach.{children, branch_level, onward, outward}
 use Rattle.tree_shape.proofs.Living.{own_branches, own_at, no_branches, root_live, child_live, child_fits, live_node, one_way, parents}
 use Rattle.tree_shape.proofs.Leads.{contains_in, in_contains, one_leaf, leaf_says}
-use Rattle.tree_shape.proofs.Local.{tree_after, entries_after}
+use Rattle.tree_shape.proofs.Local.{entries_after}
 
 -- the children's numbers
 abbrev pub numbers : List Branch → List ℕ
@@ -24,16 +24,16 @@ numbers bs = map (λ (b : Branch). b.child) bs
 pub numbers_from : (bs : List Branch) (b : Branch) → In b bs → 0 < times b.child (numbers bs)
 numbers_from [] b there = absurd there
 numbers_from (c ∷ bs) b there = elim there [
-    inl e ↦ subst (λ (x : Branch). 0 < times x.child (c.child ∷ numbers bs)) e (times_head c.child (numbers bs))
+  | inl e ↦ subst (λ (x : Branch). 0 < times x.child (c.child ∷ numbers bs)) e (times_head c.child (numbers bs))
   | inr later ↦ omega (arith, numbers_from bs b later)
-  ]
+]
 
 pub numbers_in : (bs : List Branch) (x : ℕ) → 0 < times x (numbers bs) → (b : Branch) × (In b bs × (b.child ≡ x))
 numbers_in [] x there = absurd (omega arith)
 numbers_in (b ∷ bs) x there = elim (times_cases x b.child (numbers bs) there) [
-    inl e ↦ (b, (inl refl, sym e))
+  | inl e ↦ (b, (inl refl, sym e))
   | inr later ↦ let found = numbers_in bs x later in (found.0, (inr found.1.0, found.1.1))
-  ]
+]
 
 pub numbers-append : (x : ℕ) (bs cs : List Branch) → times x (numbers (bs ++ cs)) ≡ times x (numbers bs) + times x (numbers cs)
 numbers-append x [] cs = omega arith
@@ -74,11 +74,12 @@ chosen : (set : ℕ → Bool) (f : Contents) (level : ℕ) (bs : List Branch) �
 chosen set f level [] inside quiet = (refl, refl)
 chosen set f level (b ∷ bs) inside quiet =
     let rest = chosen set f level bs (λ c there. inside c (inr there)) (λ c there. quiet c (inr there)) in
-    let one = alone set f level b.child (quiet b (inl refl)) in
-    (ap (λ v. cond v (within set f level b.child) [] ++ flat_map (onward set f level) bs) (inside b (inl refl))
-       ∙ ap (λ l. l ++ flat_map (onward set f level) bs) one.0 ∙ ap (λ l. b.child ∷ l) rest.0,
-     ap (λ v. cond v (leaving set f level b.child) (b ∷ []) ++ flat_map (outward set f level) bs) (inside b (inl refl))
-       ∙ ap (λ l. l ++ flat_map (outward set f level) bs) one.1 ∙ ap (λ l. exits_of f level b.child ++ l) rest.1)
+    let one = alone set f level b.child (quiet b (inl refl)) in (
+      ap (λ v. cond v (within set f level b.child) [] ++ flat_map (onward set f level) bs) (inside b (inl refl))
+          ∙ ap (λ l. l ++ flat_map (onward set f level) bs) one.0 ∙ ap (λ l. b.child ∷ l) rest.0,
+      ap (λ v. cond v (leaving set f level b.child) (b ∷ []) ++ flat_map (outward set f level) bs) (inside b (inl refl))
+          ∙ ap (λ l. l ++ flat_map (outward set f level) bs) one.1 ∙ ap (λ l. exits_of f level b.child ++ l) rest.1,
+    )
 
 -- a node of whose children some in a row are in the set
 pub two_levels : (set : ℕ → Bool) (f : Contents) (level n : ℕ) (front middle back : List Branch) → branches level (f n) ≡ front ++ (middle ++ back) →
@@ -86,21 +87,22 @@ pub two_levels : (set : ℕ → Bool) (f : Contents) (level n : ℕ) (front midd
     ((b : Branch) → In b middle → IsTrue (set b.child)) → ((b : Branch) → In b middle → (c : Branch) → In c (exits_of f level b.child) → set c.child ≡ false) →
     (within set f (suc level) n ≡ n ∷ numbers middle) × (leaving set f (suc level) n ≡ front ++ (flat_map (λ b. exits_of f level b.child) middle ++ back))
 two_levels set f level n front middle back is quiet_front quiet_back inside quiet =
-    let some = chosen set f level middle inside quiet in
-    (ap (λ l. n ∷ l) (
-        ap (flat_map (onward set f level)) is
-        ∙ flat_map-append (onward set f level) front (middle ++ back)
-        ∙ ap (λ l. l ++ flat_map (onward set f level) (middle ++ back)) (quiet_onward set f level front quiet_front)
-        ∙ flat_map-append (onward set f level) middle back
-        ∙ ap (λ l. flat_map (onward set f level) middle ++ l) (quiet_onward set f level back quiet_back)
-        ∙ append-nil (flat_map (onward set f level) middle)
-        ∙ some.0),
+    let some = chosen set f level middle inside quiet in (
+      ap (λ l. n ∷ l) (
+          ap (flat_map (onward set f level)) is
+          ∙ flat_map-append (onward set f level) front (middle ++ back)
+          ∙ ap (λ l. l ++ flat_map (onward set f level) (middle ++ back)) (quiet_onward set f level front quiet_front)
+          ∙ flat_map-append (onward set f level) middle back
+          ∙ ap (λ l. flat_map (onward set f level) middle ++ l) (quiet_onward set f level back quiet_back)
+          ∙ append-nil (flat_map (onward set f level) middle)
+          ∙ some.0),
       ap (flat_map (outward set f level)) is
-      ∙ flat_map-append (outward set f level) front (middle ++ back)
-      ∙ ap (λ l. l ++ flat_map (outward set f level) (middle ++ back)) (quiet_outward set f level front quiet_front)
-      ∙ ap (λ l. front ++ l) (flat_map-append (outward set f level) middle back
-        ∙ ap (λ l. flat_map (outward set f level) middle ++ l) (quiet_outward set f level back quiet_back)
-        ∙ ap (λ l. l ++ back) some.1))
+          ∙ flat_map-append (outward set f level) front (middle ++ back)
+          ∙ ap (λ l. l ++ flat_map (outward set f level) (middle ++ back)) (quiet_outward set f level front quiet_front)
+          ∙ ap (λ l. front ++ l) (flat_map-append (outward set f level) middle back
+          ∙ ap (λ l. flat_map (outward set f level) middle ++ l) (quiet_outward set f level back quiet_back)
+          ∙ ap (λ l. l ++ back) some.1),
+    )
 
 -- a node and some of its children, as a test
 abbrev pub family : ℕ → List Branch → ℕ → Bool
@@ -139,31 +141,31 @@ module _ (f : Contents) (live : ℕ → Bool) (tree : IsTree f live) (n level : 
 
   pub family_level : (x : ℕ) → IsTrue (family n old x) → level ≤ (f x).level
   family_level x inside = elim (or_cases (eqb x n) (is_among (numbers old) x) inside) [
-      inl same ↦ let e : (f x).level ≡ (f n).level = ap (λ y. (f y).level) (eqb-true x n same) in omega (arith, r.at)
+    | inl same ↦ let e : (f x).level ≡ (f n).level = ap (λ y. (f y).level) (eqb-true x n same) in omega (arith, r.at)
     | inr among ↦
         let found = numbers_in old x (ltb-true 0 (times x (numbers old)) among) in
         let e : (f found.0.child).level ≡ (f x).level = ap (λ y. (f y).level) found.1.1 in
         omega (arith, level_of found.0 (in_old found.0 found.1.0))
-    ]
+  ]
 
   pub live_of : (b : Branch) → In b (front ++ (old ++ back)) → IsTrue (live b.child)
   live_of b there = child_live f live tree n r.alive b (own_of b there)
 
   pub untouched : (x : ℕ) → IsTrue (live x) → family n old x ≡ false → either (family n old) fresh x ≡ false
   untouched x alive outside = elim (cases_Bool (fresh x)) [
-      inl new' ↦ absurd (both_ways (live x) (r.free x new') alive)
+    | inl new' ↦ absurd (both_ways (live x) (r.free x new') alive)
     | inr known ↦ or_from (family n old x) (fresh x) outside known
-    ]
+  ]
 
   -- the other children are outside the family
   pub outsider : (b : Branch) → In b (front ++ (old ++ back)) → times b.child (numbers old) ≡ 0 → family n old b.child ≡ false
   outsider b there none = elim (cases_Bool (family n old b.child)) [
-      inr outside ↦ outside
+    | inr outside ↦ outside
     | inl inside ↦ elim (or_cases (eqb b.child n) (is_among (numbers old) b.child) inside) [
-        inl same ↦ let e : (f b.child).level ≡ (f n).level = ap (λ y. (f y).level) (eqb-true b.child n same) in absurd (omega (arith, level_of b there, r.at))
+      | inl same ↦ let e : (f b.child).level ≡ (f n).level = ap (λ y. (f y).level) (eqb-true b.child n same) in absurd (omega (arith, level_of b there, r.at))
       | inr among ↦ absurd (omega (arith, ltb-true 0 (times b.child (numbers old)) among))
-      ]
     ]
+  ]
 
   pub outside_front : (b : Branch) → In b front → family n old b.child ≡ false
   outside_front b there = outsider b (in_left front (old ++ back) b there) (omega (arith, siblings b.child, numbers_from front b there))
@@ -177,11 +179,13 @@ module _ (f : Contents) (live : ℕ → Bool) (tree : IsTree f live) (n level : 
       let own = own_exit level b.child c (live_of b (in_old b there)) (level_of b (in_old b there)) below' in
       let alive = child_live f live tree b.child (live_of b (in_old b there)) c own.0 in
       let fits = child_fits f live tree b.child (live_of b (in_old b there)) c own.0 in
-      let deep : (f c.child).level < level = omega (arith, fits.level, own.1) in
-      (alive, elim (cases_Bool (family n old c.child)) [
-        inr outside ↦ outside
-      | inl inside ↦ absurd (omega (arith, family_level c.child inside))
-      ])
+      let deep : (f c.child).level < level = omega (arith, fits.level, own.1) in (
+        alive,
+        elim (cases_Bool (family n old c.child)) [
+          | inr outside ↦ outside
+          | inl inside ↦ absurd (omega (arith, family_level c.child inside))
+        ],
+      )
     where
       own_exit : (level x : ℕ) (c : Branch) → IsTrue (live x) → (f x).level ≡ level → In c (exits_of f level x) → In c (own_branches f x) × (c.level < level)
       own_exit zero x c alive at there = absurd there
@@ -248,21 +252,21 @@ module _ (f : Contents) (live : ℕ → Bool) (tree : IsTree f live) (n level : 
 
   once_now : (x : ℕ) → times x (n ∷ numbers new) ≤ 1
   once_now x = elim (cases_eq x n) [
-      inl e ↦
+    | inl e ↦
         let none : times x (numbers new) ≡ 0 = elim (cases_eq (times x (numbers new)) 0) [
-            inl zero' ↦ zero'
+          | inl zero' ↦ zero'
           | inr some ↦ let found = numbers_in new x (omega arith) in absurd (r.below_top found.0 found.1.0 (found.1.1 ∙ e))
-          ] in
+        ] in
         let one : once (eqb x n) ≡ 1 = ap (λ y. once (eqb x y)) (sym e) ∙ once_same x in
         omega arith
     | inr other ↦ omega (arith, once_other x n other, r.once_each x)
-    ]
+  ]
 
   -- in new contents a new child's branches lead to nodes that aren't touched
   new_child_exit : (b : Branch) → In b new → (c : Branch) → In c (own_branches g b.child) → either (family n old) fresh c.child ≡ false
   new_child_exit b there c own =
       let at : (g b.child).level ≡ level = (r.fits b there).level
-          ∙ branch_level level (g n).low (pairs_of (g n)) b (subst (λ bs. In b bs) (sym r.after) (in_right front (new ++ back) b (in_left new back b there))) in
+      ∙ branch_level level (g n).low (pairs_of (g n)) b (subst (λ bs. In b bs) (sym r.after) (in_right front (new ++ back) b (in_left new back b there))) in
       new_exit b there c (exit_of level b.child c (r.ordered b there) at own)
     where
       exit_of : (level x : ℕ) (c : Branch) → IsOrdered (g x) → (g x).level ≡ level → In c (own_branches g x) → In c (exits_of g level x)
@@ -271,41 +275,43 @@ module _ (f : Contents) (live : ℕ → Bool) (tree : IsTree f live) (n level : 
 
   pub regroups : IsLocalChange f live n (family n old) fresh g
   regroups = record {
-      top_live = r.alive;
-      top_grouped = or_left (eqb n n) (is_among (numbers old) n) (eq-eqb n n refl);
-      grouped = λ x inside. subst (λ l. 0 < times x (within (family n old) f l n)) (sym r.at) (subst (λ l. 0 < times x l) (sym (old_ways f live tree n level front old back fresh side).0) (in_family x inside));
-      fresh_free = free_of;
-      others_stay = r.stays;
-      low = r.low;
-      high = r.high;
-      level = λ other. r.still_at ∙ sym r.at;
-      height = λ root. (let same : (g n).level ≡ (f 0).level = r.still_at ∙ sym r.at ∙ ap (λ y. (f y).level) root in let top = tree.height in omega arith);
-      ordered = all_numbers (λ x. IsOrdered (g x)) r.top_ordered r.ordered;
-      reached_once = λ x. subst (λ l. times x l ≤ 1) (sym reached_now) (once_now x);
-      fitting = all_numbers (λ x. AllByRecursion (λ b. IsTrue (either (family n old) fresh b.child) → Fits g b) (own_branches g x))
-          (all_from (λ b. IsTrue (either (family n old) fresh b.child) → Fits g b) (own_branches g n) top_fits)
-          (λ b there. all_from (λ c. IsTrue (either (family n old) fresh c.child) → Fits g c) (own_branches g b.child)
-              (λ c own touched. absurd (both_ways (either (family n old) fresh c.child) (new_child_exit b there c own) touched)));
-      exits = ap (λ l. leaving (either (family n old) fresh) g l n) r.still_at ∙ new_ways.1
-          ∙ ap (λ bs. front ++ (bs ++ back)) r.children
-          ∙ sym (old_ways f live tree n level front old back fresh side).1 ∙ ap (λ l. leaving (family n old) f l n) (sym r.at)
-    }
+    top_live = r.alive;
+    top_grouped = or_left (eqb n n) (is_among (numbers old) n) (eq-eqb n n refl);
+    grouped = λ x inside. subst (λ l. 0 < times x (within (family n old) f l n)) (sym r.at) (subst (λ l. 0 < times x l) (sym (old_ways f live tree n level front old back fresh side).0) (in_family x inside));
+    fresh_free = free_of;
+    others_stay = r.stays;
+    low = r.low;
+    high = r.high;
+    level = λ other. r.still_at ∙ sym r.at;
+    height = λ root. (let same : (g n).level ≡ (f 0).level = r.still_at ∙ sym r.at ∙ ap (λ y. (f y).level) root in let top = tree.height in omega arith);
+    ordered = all_numbers (λ x. IsOrdered (g x)) r.top_ordered r.ordered;
+    reached_once = λ x. subst (λ l. times x l ≤ 1) (sym reached_now) (once_now x);
+    fitting = all_numbers (λ x. AllByRecursion (λ b. IsTrue (either (family n old) fresh b.child) → Fits g b) (own_branches g x))
+        (all_from (λ b. IsTrue (either (family n old) fresh b.child) → Fits g b) (own_branches g n) top_fits)
+        (λ b there. all_from (λ c. IsTrue (either (family n old) fresh c.child) → Fits g c) (own_branches g b.child)
+        (λ c own touched. absurd (both_ways (either (family n old) fresh c.child) (new_child_exit b there c own) touched)));
+    exits = ap (λ l. leaving (either (family n old) fresh) g l n) r.still_at ∙ new_ways.1
+        ∙ ap (λ bs. front ++ (bs ++ back)) r.children
+        ∙ sym (old_ways f live tree n level front old back fresh side).1 ∙ ap (λ l. leaving (family n old) f l n) (sym r.at);
+  }
     where
       in_family : (x : ℕ) → IsTrue (family n old x) → 0 < times x (n ∷ numbers old)
       in_family x inside = elim (or_cases (eqb x n) (is_among (numbers old) x) inside) [
-          inl same ↦ let e : once (eqb x n) ≡ 1 = ap once same in omega arith
+        | inl same ↦ let e : once (eqb x n) ≡ 1 = ap once same in omega arith
         | inr among ↦ omega (arith, ltb-true 0 (times x (numbers old)) among)
-        ]
+      ]
+
       free_of : (x : ℕ) → IsTrue (fresh x) → live x ≡ false
       free_of x new' = r.free x new'
+
       top_fits : (b : Branch) → In b (own_branches g n) → IsTrue (either (family n old) fresh b.child) → Fits g b
       top_fits b own touched =
           let there : In b (front ++ (new ++ back)) = subst (λ bs. In b bs) (own_at g n level r.still_at ∙ r.after) own in
           elim (in_append front (new ++ back) b there) [
-            inl at ↦ absurd (both_ways (either (family n old) fresh b.child) (quiet_front b at) touched)
-          | inr later ↦ elim (in_append new back b later) [
-              inl at ↦ r.fits b at
-            | inr at ↦ absurd (both_ways (either (family n old) fresh b.child) (quiet_back b at) touched)
+            | inl at ↦ absurd (both_ways (either (family n old) fresh b.child) (quiet_front b at) touched)
+            | inr later ↦ elim (in_append new back b later) [
+              | inl at ↦ r.fits b at
+              | inr at ↦ absurd (both_ways (either (family n old) fresh b.child) (quiet_back b at) touched)
             ]
           ]
 
@@ -316,45 +322,52 @@ module _ (f : Contents) (live : ℕ → Bool) (tree : IsTree f live) (n level : 
     where
       inner_none : (h : Contents) → IsOrdered (h n) → (h n).level ≡ suc level → In m (entries_of (h n)) → ⊥
       inner_none h ordered at held = omega (arith, leaf_says (h n) (h n).body ordered m held)
+
       changes : HasEntry g (live_after live n (family n old) fresh g) m ↔
           ((HasEntry f live m × ¬ HasEntry f (family n old) m) ⊎ HasEntry g (is_among (within (either (family n old) fresh) g (g n).level n)) m)
       changes = entries_after f live n (family n old) fresh g tree regroups m
+
       from_new : HasEntry g (is_among (within (either (family n old) fresh) g (g n).level n)) m → HasEntry f live m
       from_new (x, (among, held)) =
           let there : 0 < times x (n ∷ numbers new) = subst (λ l. 0 < times x l) reached_now (ltb-true 0 (times x (within (either (family n old) fresh) g (g n).level n)) among) in
           let at = contains_in (entries_of (g x)) m held in
           elim (times_cases x n (numbers new) there) [
-            inl e ↦ absurd (inner_none g r.top_ordered r.still_at (subst (λ y. In m (entries_of (g y))) e at))
-          | inr later ↦
-              let found = numbers_in new x later in
-              let all = in_flat_map_from (λ (b : Branch). entries_of (g b.child)) new found.0 m found.1.0 (subst (λ y. In m (entries_of (g y))) (sym found.1.1) at) in
-              let back' = in_flat_map (λ (b : Branch). entries_of (f b.child)) old m (subst (λ es. In m es) same all) in
-              (back'.0.child, ((live_of f live tree n level front old back fresh side) back'.0 ((in_old f live tree n level front old back fresh side) back'.0 back'.1.0), in_contains (entries_of (f back'.0.child)) m back'.1.1))
+            | inl e ↦ absurd (inner_none g r.top_ordered r.still_at (subst (λ y. In m (entries_of (g y))) e at))
+            | inr later ↦
+                let found = numbers_in new x later in
+                let all = in_flat_map_from (λ (b : Branch). entries_of (g b.child)) new found.0 m found.1.0 (subst (λ y. In m (entries_of (g y))) (sym found.1.1) at) in
+                let back' = in_flat_map (λ (b : Branch). entries_of (f b.child)) old m (subst (λ es. In m es) same all) in
+                (back'.0.child, ((live_of f live tree n level front old back fresh side) back'.0 ((in_old f live tree n level front old back fresh side) back'.0 back'.1.0), in_contains (entries_of (f back'.0.child)) m back'.1.1))
           ]
+
       now : HasEntry g (live_after live n (family n old) fresh g) m → HasEntry f live m
       now has = elim (changes.0 has) [ inl kept ↦ kept.0 | inr new' ↦ from_new new' ]
+
       then' : HasEntry f live m → HasEntry g (live_after live n (family n old) fresh g) m
       then' (x, (alive, held)) =
           let at = contains_in (entries_of (f x)) m held in
           elim (cases_Bool (family n old x)) [
-            inl inside ↦ elim (or_cases (eqb x n) (is_among (numbers old) x) inside) [
-                inl e ↦ absurd (inner_none f (tree.ordered n r.alive) r.at (subst (λ y. In m (entries_of (f y))) (eqb-true x n e) at))
+            | inl inside ↦ elim (or_cases (eqb x n) (is_among (numbers old) x) inside) [
+              | inl e ↦ absurd (inner_none f (tree.ordered n r.alive) r.at (subst (λ y. In m (entries_of (f y))) (eqb-true x n e) at))
               | inr among ↦
                   let found = numbers_in old x (ltb-true 0 (times x (numbers old)) among) in
                   let all = in_flat_map_from (λ (b : Branch). entries_of (f b.child)) old found.0 m found.1.0 (subst (λ y. In m (entries_of (f y))) (sym found.1.1) at) in
                   let on = in_flat_map (λ (b : Branch). entries_of (g b.child)) new m (subst (λ es. In m es) (sym same) all) in
                   let reached : 0 < times on.0.child (within (either (family n old) fresh) g (g n).level n) =
-                      subst (λ l. 0 < times on.0.child l) (sym reached_now) (omega (arith, numbers_from new on.0 on.1.0)) in
+                  subst (λ l. 0 < times on.0.child l) (sym reached_now) (omega (arith, numbers_from new on.0 on.1.0)) in
                   changes.1 (inr (on.0.child, (lt-ltb 0 (times on.0.child (within (either (family n old) fresh) g (g n).level n)) reached, in_contains (entries_of (g on.0.child)) m on.1.1)))
-              ]
-          | inr outside ↦ changes.1 (inl ((x, (alive, held)), λ other.
-              let same_leaf = one_leaf f live tree x other.0 alive (family_live other.0 other.1.0) m at (contains_in (entries_of (f other.0)) m other.1.1) in
-              both_ways (family n old x) outside (subst (λ y. IsTrue (family n old y)) (sym same_leaf) other.1.0)))
+            ]
+            | inr outside ↦ changes.1 (inl (
+              (x, (alive, held)),
+              λ other.
+                  let same_leaf = one_leaf f live tree x other.0 alive (family_live other.0 other.1.0) m at (contains_in (entries_of (f other.0)) m other.1.1) in
+                  both_ways (family n old x) outside (subst (λ y. IsTrue (family n old y)) (sym same_leaf) other.1.0),
+            ))
           ]
         where
           family_live : (y : ℕ) → IsTrue (family n old y) → IsTrue (live y)
           family_live y inside = elim (or_cases (eqb y n) (is_among (numbers old) y) inside) [
-              inl e ↦ subst (λ z. IsTrue (live z)) (sym (eqb-true y n e)) r.alive
+            | inl e ↦ subst (λ z. IsTrue (live z)) (sym (eqb-true y n e)) r.alive
             | inr among ↦ let found = numbers_in old y (ltb-true 0 (times y (numbers old)) among) in
                 subst (λ z. IsTrue (live z)) found.1.1 ((live_of f live tree n level front old back fresh side) found.0 ((in_old f live tree n level front old back fresh side) found.0 found.1.0))
-            ]
+          ]

@@ -1,13 +1,13 @@
 -- Lists of a few nodes, and what halves, shares and joined nodes hold.
-use Rattle.std.proofs.Common.{◌≡◌, ◌≢◌, ℕ, zero, suc, ◌+◌, ◌-◌, ◌/◌, ◌<◌, ◌≤◌, List, [], ◌∷◌, ◌++◌, length, take, drop, refl, ap, sym, ◌∙◌, subst, arith, Bool, true, false, cond, ◌||◌, IsTrue, eqb, ltb, inl, inr, ◌⊎◌}
-use Rattle.std.proofs.lemmas.Bool.{cases_eq, cases_Bool, eq-eqb, eqb-true, eqb-false, ne_eqb, or_left, or_right, or_parts, or_from, lt-ltb, le-ltb, both_ways}
+use Rattle.std.proofs.Common.{◌≡◌, ◌≢◌, ℕ, ◌+◌, ◌/◌, ◌<◌, ◌≤◌, List, [], ◌∷◌, ◌++◌, length, ap, sym, ◌∙◌, subst, arith, true, false, cond, eqb, inl, inr}
+use Rattle.std.proofs.lemmas.Bool.{cases_eq, ne_eqb, lt-ltb, le-ltb, both_ways}
 use Rattle.std.proofs.lemmas.List.{length-take-le, length-drop, length-append}
-use Rattle.tree_shape.specs.Numbers.{times, once, is_among}
+use Rattle.tree_shape.specs.Numbers.{times, is_among}
 use Rattle.tree_shape.specs.Shapes.{Shape, Body, Pairs, Entries, Link, pairs_in}
-use Rattle.tree_shape.specs.Changes.{first_half, last_half, joined, both, first_part, last_part, end_of, size, FitAs, OverfillAs, Fit, Overfill}
+use Rattle.tree_shape.specs.Changes.{first_half, last_half, both, first_part, last_part, size, FitAs, OverfillAs}
 use Rattle.tree_shape.specs.Lawful.{IsFilled, IsFilledAs, fewest_pairs, fewest_entries}
 use Rattle.tree_shape.specs.Steps.{middle, IsFull}
-use Rattle.tree_shape.proofs.Times.{In, once_same, once_other, once_most, times_head}
+use Rattle.tree_shape.proofs.Times.{In, once_other, once_most, times_head}
 use Rattle.tree_shape.proofs.Runs.{SameKind}
 
 pub among : (xs : List ℕ) (x : ℕ) → 0 < times x xs → is_among xs x ≡ true
@@ -55,9 +55,9 @@ halves_filled c r s c_below r_below full = halves s.body full
 -- what holds of two holds of each of them
 pub two_of : {X : Type 0} (P : X → Type 0) (x y : X) → P x → P y → (b : X) → In b (x ∷ y ∷ []) → P b
 two_of P x y px py b there = elim there [
-    inl e ↦ subst P e px
+  | inl e ↦ subst P e px
   | inr later ↦ elim later [ inl e ↦ subst P e py | inr none ↦ absurd none ]
-  ]
+]
 
 pub one_of : {X : Type 0} (P : X → Type 0) (x : X) → P x → (b : X) → In b (x ∷ []) → P b
 one_of P x px b there = elim there [ inl e ↦ subst P e px | inr none ↦ absurd none ]
@@ -65,9 +65,9 @@ one_of P x px b there = elim there [ inl e ↦ subst P e px | inr none ↦ absur
 -- two different numbers stand once each
 pub once_two : (x c r : ℕ) → c ≢ r → times x (c ∷ r ∷ []) ≤ 1
 once_two x c r other = elim (cases_eq x c) [
-    inl e ↦ omega (arith, once_most (eqb x c), once_other x r (λ f. other (sym e ∙ f)))
+  | inl e ↦ omega (arith, once_most (eqb x c), once_other x r (λ f. other (sym e ∙ f)))
   | inr not_c ↦ omega (arith, once_other x c not_c, once_most (eqb x r))
-  ]
+]
 
 -- a node of a list of one or two
 pub second : (x y : ℕ) (xs : List ℕ) → 0 < times y (x ∷ y ∷ xs)
@@ -85,9 +85,9 @@ pairs_filled n (Link next) filled some = absurd filled
 -- a list of one number has no other
 pub only : (y x : ℕ) → is_among (y ∷ []) x ≡ true → x ≡ y
 only y x there = elim (cases_eq x y) [
-    inl e ↦ e
+  | inl e ↦ e
   | inr other ↦ absurd (both_ways (is_among (y ∷ []) x) (not_among (y ∷ []) x (omega (arith, once_other x y other))) there)
-  ]
+]
 
 -- two nodes that fit into one, or overfill one, are of one kind
 pub fit_kind : (b c : Body) → FitAs b c → SameKind b c

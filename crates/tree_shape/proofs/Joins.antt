@@ -1,25 +1,24 @@
 -- The laws of joining two children, and of giving them even shares.
-use Rattle.std.proofs.Common.{◌≡◌, ◌≢◌, ℕ, zero, suc, ◌+◌, ◌-◌, ◌/◌, ◌<◌, ◌≤◌, List, [], ◌∷◌, ◌++◌, length, map, refl, ap, sym, ◌∙◌, subst, arith, Bool, true, false, cond, ◌||◌, IsTrue, eqb, ltb, inl, inr, ◌⊎◌, Some}
-use Rattle.std.specs.List.{flat_map, slice_get}
-use Rattle.std.proofs.lemmas.Bool.{cases_eq, cases_Bool, cond-true, cond-false, eq-eqb, eqb-true, eqb-false, ne_eqb, or_left, or_right, or_cases, or_parts, both_ways}
-use Rattle.std.proofs.lemmas.List.{append-nil, append_assoc, length-append, map-append}
+use Rattle.std.proofs.Common.{◌≡◌, ◌≢◌, ℕ, zero, suc, ◌+◌, ◌/◌, ◌<◌, ◌≤◌, List, [], ◌∷◌, ◌++◌, length, map, refl, ap, sym, ◌∙◌, subst, arith, Bool, false, ◌||◌, IsTrue, eqb, inl, inr, Some}
+use Rattle.std.specs.List.{slice_get}
+use Rattle.std.proofs.lemmas.Bool.{cases_eq, cond-true, cond-false, eq-eqb, eqb-true, eqb-false, ne_eqb, or_left, or_right, or_cases, or_parts, both_ways}
+use Rattle.std.proofs.lemmas.List.{append-nil, length-append, map-append}
 use Rattle.std.proofs.Math.Numerals.{add-one}
 use Rattle.tree_shape.specs.declared.pair.Pair.{Pair}
 use Rattle.tree_shape.specs.Numbers.{times, once, is_among}
-use Rattle.tree_shape.specs.Shapes.{Shape, Body, Pairs, Entries, Link, entries_of, pairs_of, Cut}
-use Rattle.tree_shape.specs.Changes.{first_half, last_half, joined, at_slot, swallow_next, separate_at, first_part, end_of, size}
+use Rattle.tree_shape.specs.Shapes.{Shape, entries_of, pairs_of, Cut}
+use Rattle.tree_shape.specs.Changes.{first_half, joined, at_slot, swallow_next, separate_at, first_part, end_of, size}
 use Rattle.tree_shape.specs.Trees.{Contents, Branch, branches_from, branches, nodes}
-use Rattle.tree_shape.specs.Lawful.{IsTree, IsLawful, IsOrdered, IsFilled, IsFilledAs, Fits}
+use Rattle.tree_shape.specs.Lawful.{IsTree, IsLawful, IsOrdered, IsFilled, Fits}
 use Rattle.tree_shape.specs.LocalChange.{either}
 use Rattle.tree_shape.specs.Steps.{Keeps, IsJoin, IsShare, without_node}
 use Rattle.tree_shape.proofs.Times.{In, once_same, once_other, once_most, times-append, times_head, times_under, in_right}
 use Rattle.tree_shape.proofs.Reach.{children}
 use Rattle.tree_shape.proofs.Living.{root_live, own_branches, own_at, child_live, child_fits, live_node, one_way, parents, root_no_child, own_child}
-use Rattle.tree_shape.proofs.Leads.{branch_inside}
 use Rattle.tree_shape.proofs.Runs.{SameKind, next_low, branches-append, JoinsTo, joins, CutsTo, cuts}
 use Rattle.tree_shape.proofs.Family.{numbers, family, exits_of, Regroups}
-use Rattle.tree_shape.proofs.Slotted.{Around, around_slot, some_same, ordered_pairs, Slotted, slotted, family_keeps}
-use Rattle.tree_shape.proofs.Halves.{among, not_among, not_one, only, one_of, two_of, once_two, second, third, pairs_filled, fit_kind, overfill_kind, joined_filled, shares, shares_filled}
+use Rattle.tree_shape.proofs.Slotted.{around_slot, some_same, ordered_pairs, Slotted, slotted, family_keeps}
+use Rattle.tree_shape.proofs.Halves.{among, not_among, not_one, one_of, two_of, once_two, second, third, pairs_filled, fit_kind, overfill_kind, joined_filled, shares, shares_filled}
 
 -- a node is a child of a live node once at most
 pub one_child : (f : Contents) (live : ℕ → Bool) → IsTree f live → (n x : ℕ) → IsTrue (live n) → times x (children f n) ≤ 1
@@ -66,15 +65,15 @@ neighbours f live tree n slot p q alive at next =
     let b : Branch = record { child = q.child; level = left.level; low = p.separator + 1; high = q.separator } in
     let a : Branch = record { child = p.child; level = left.level; low = next_low (f n).low place.front; high = p.separator } in
     let own : In b (own_branches f n) = subst (λ bs. In b bs) (sym (own_at f n left.level left.at ∙ left.before))
-        (in_right (branches_from left.level (f n).low place.front) (a ∷ b ∷ branches_from left.level (q.separator + 1) more.0) b (inr (inl refl))) in
+    (in_right (branches_from left.level (f n).low place.front) (a ∷ b ∷ branches_from left.level (q.separator + 1) more.0) b (inr (inl refl))) in
     let fits = child_fits f live tree n alive b own in
     let cut0 = ordered_pairs (f n) (f n).body (tree.ordered n alive) (omega arith) in
     let cut : Cut (f n).low (f n).high (place.front ++ p ∷ q ∷ more.0) = subst (λ ps. Cut (f n).low (f n).high ps) is cut0.1 in
     let order = cut_at (f n).low (f n).high place.front p q more.0 cut in
     let twice : (x : ℕ) → times x (children f n) ≡ times x (map (λ (r : Pair). r.child) place.front) + (once (eqb x p.child) + (once (eqb x q.child) + times x (map (λ (r : Pair). r.child) more.0))) =
-        λ x. ap (λ ps. times x (map (λ (r : Pair). r.child) ps)) is
-            ∙ ap (times x) (map-append (λ (r : Pair). r.child) place.front (p ∷ q ∷ more.0))
-            ∙ times-append x (map (λ (r : Pair). r.child) place.front) (p.child ∷ q.child ∷ map (λ (r : Pair). r.child) more.0) in
+    λ x. ap (λ ps. times x (map (λ (r : Pair). r.child) ps)) is
+    ∙ ap (times x) (map-append (λ (r : Pair). r.child) place.front (p ∷ q ∷ more.0))
+    ∙ times-append x (map (λ (r : Pair). r.child) place.front) (p.child ∷ q.child ∷ map (λ (r : Pair). r.child) more.0) in
     record {
       front = place.front;
       back = more.0;
@@ -90,7 +89,7 @@ neighbours f live tree n slot p q alive at next =
       cut = (cut0.0, cut);
       left_order = order.0;
       right_order = order.1;
-      count = count
+      count = count;
     }
 
 -- the two nodes as one
@@ -102,8 +101,8 @@ neighbours_join f live tree n slot p q at kind =
     let left = at.left.fits in
     let right = at.fits in
     joins s.level s.low s.high s.body t.level t.low t.high t.body (tree.ordered p.child at.left.alive) (tree.ordered q.child at.alive) kind
-      (right.low ∙ ap (λ x. x + 1) (sym left.high))
-      (omega (arith, left.low, left.high, at.left_order)) (omega (arith, left.high, right.high, at.right_order))
+    (right.low ∙ ap (λ x. x + 1) (sym left.high))
+    (omega (arith, left.low, left.high, at.left_order)) (omega (arith, left.high, right.high, at.right_order))
 
 cut_swallowed : (low high : ℕ) (front back : List Pair) (p q : Pair) → Cut low high (front ++ p ∷ q ∷ back) → Cut low high (front ++ swallow_next p (q ∷ back))
 cut_swallowed low high [] back p q cut = (omega (arith, cut.0, cut.1.0), cut.1.1)
@@ -129,18 +128,18 @@ none_of n c d x old is outside =
 -- one of a family of three
 pub one_of_three : (P : ℕ → Type 0) (n c d : ℕ) → P n → P c → P d → (x : ℕ) → IsTrue (either (λ y. eqb y n || is_among (c ∷ d ∷ []) y) (λ _. false) x) → P x
 one_of_three P n c d pn pc pd x touched = elim (or_cases (eqb x n || is_among (c ∷ d ∷ []) x) false touched) [
-    inr none ↦ absurd (cc (none))
+  | inr none ↦ absurd (cc (none))
   | inl inside ↦ elim (or_cases (eqb x n) (is_among (c ∷ d ∷ []) x) inside) [
-      inl is_n ↦ subst P (sym (eqb-true x n is_n)) pn
+    | inl is_n ↦ subst P (sym (eqb-true x n is_n)) pn
     | inr there ↦ elim (cases_eq x c) [
-        inl e ↦ subst P (sym e) pc
+      | inl e ↦ subst P (sym e) pc
       | inr not_c ↦ elim (cases_eq x d) [
-          inl e ↦ subst P (sym e) pd
+        | inl e ↦ subst P (sym e) pd
         | inr not_d ↦ absurd (both_ways (is_among (c ∷ d ∷ []) x) (not_among (c ∷ d ∷ []) x (omega (arith, once_other x c not_c, once_other x d not_d))) there)
-        ]
       ]
     ]
   ]
+]
 
 pub join_keeps : (f : Contents) (live : ℕ → Bool) → IsLawful f live → (n slot : ℕ) (p q : Pair) (g : Contents) → IsJoin f live n slot p q g → Keeps f live g (without_node q.child live)
 join_keeps f live lawful n slot p q g join =
@@ -156,49 +155,51 @@ join_keeps f live lawful n slot p q g join =
     let piece : JoinsTo (f p.child) (f q.child) (g p.child) = subst (λ x. JoinsTo (f p.child) (f q.child) x) (sym join.left) whole in
     let pairs_now : pairs_of (g n) ≡ at.front ++ swallow_next p (q ∷ at.back) = ap pairs_of join.above ∙ at.changed swallow_next in
     let count : length (at_slot swallow_next slot (pairs_of (f n))) ≡ length at.front + suc (length at.back) =
-        ap length (at.changed swallow_next) ∙ length-append at.front (swallow_next p (q ∷ at.back)) in
+    ap length (at.changed swallow_next) ∙ length-append at.front (swallow_next p (q ∷ at.back)) in
     let count_before = at.count in
     let before = pairs_filled n (f n).body (lawful.filled n join.live_parent) (omega arith) in
     let spare = join.spare in
     let regroup : Regroups f live n level (branches_from level (f n).low at.front) (one ∷ two ∷ []) (both' ∷ []) (branches_from level (q.separator + 1) at.back) (λ _. false) g = record {
-        alive = join.live_parent;
-        at = at.left.at;
-        before = at.left.before;
-        free = λ x none. absurd (cc (none));
-        stays = λ x outside. (let apart = none_of n p.child q.child x (one ∷ two ∷ []) refl outside in join.others x apart.0 apart.1 apart.2);
-        low = ap (λ x. x.low) join.above;
-        high = ap (λ x. x.high) join.above;
-        still_at = ap (λ x. x.level) join.above ∙ at.left.at;
-        after = ap (branches_from level (g n).low) pairs_now ∙ ap (λ l. branches_from level l (at.front ++ swallow_next p (q ∷ at.back))) (ap (λ x. x.low) join.above)
-            ∙ branches-append level (f n).low at.front (swallow_next p (q ∷ at.back));
-        touched = one_of (λ b. IsTrue (either (family n (one ∷ two ∷ [])) (λ _. false) b.child)) both'
-            (or_left (family n (one ∷ two ∷ []) p.child) false (or_right (eqb p.child n) (is_among (p.child ∷ q.child ∷ []) p.child) (among (p.child ∷ q.child ∷ []) p.child (times_head p.child (q.child ∷ [])))));
-        below_top = one_of (λ b. b.child ≢ n) both' at.left.no_parent;
-        once_each = λ x. omega (arith, once_most (eqb x p.child));
-        children = join_exits f g level p.child q.child piece;
-        top_ordered = subst IsOrdered (sym join.above) (at.cut.0,
-            subst (λ ps. Cut (f n).low (f n).high ps) (sym (at.changed swallow_next)) (cut_swallowed (f n).low (f n).high at.front at.back p q at.cut.1));
-        ordered = one_of (λ b. IsOrdered (g b.child)) both' piece.ordered;
-        fits = one_of (Fits g) both' (record {
-          level = ap (λ x. x.level) join.left ∙ left.level;
-          low = ap (λ x. x.low) join.left ∙ left.low;
-          high = ap (λ x. x.high) join.left ∙ right.high
-        })
-      } in
+      alive = join.live_parent;
+      at = at.left.at;
+      before = at.left.before;
+      free = λ x none. absurd (cc (none));
+      stays = λ x outside. (let apart = none_of n p.child q.child x (one ∷ two ∷ []) refl outside in join.others x apart.0 apart.1 apart.2);
+      low = ap (λ x. x.low) join.above;
+      high = ap (λ x. x.high) join.above;
+      still_at = ap (λ x. x.level) join.above ∙ at.left.at;
+      after = ap (branches_from level (g n).low) pairs_now ∙ ap (λ l. branches_from level l (at.front ++ swallow_next p (q ∷ at.back))) (ap (λ x. x.low) join.above)
+          ∙ branches-append level (f n).low at.front (swallow_next p (q ∷ at.back));
+      touched = one_of (λ b. IsTrue (either (family n (one ∷ two ∷ [])) (λ _. false) b.child)) both'
+          (or_left (family n (one ∷ two ∷ []) p.child) false (or_right (eqb p.child n) (is_among (p.child ∷ q.child ∷ []) p.child) (among (p.child ∷ q.child ∷ []) p.child (times_head p.child (q.child ∷ [])))));
+      below_top = one_of (λ b. b.child ≢ n) both' at.left.no_parent;
+      once_each = λ x. omega (arith, once_most (eqb x p.child));
+      children = join_exits f g level p.child q.child piece;
+      top_ordered = subst IsOrdered (sym join.above) (
+        at.cut.0,
+        subst (λ ps. Cut (f n).low (f n).high ps) (sym (at.changed swallow_next)) (cut_swallowed (f n).low (f n).high at.front at.back p q at.cut.1),
+      );
+      ordered = one_of (λ b. IsOrdered (g b.child)) both' piece.ordered;
+      fits = one_of (Fits g) both' (record {
+        level = ap (λ x. x.level) join.left ∙ left.level;
+        low = ap (λ x. x.low) join.left ∙ left.low;
+        high = ap (λ x. x.high) join.left ∙ right.high;
+      });
+    } in
     let leaves : (x : ℕ) → x ≢ q.child → without_node q.child live x ≡ live x = λ x other. cond-false (eqb x q.child) false (live x) (ne_eqb x q.child other) in
     family_keeps f live lawful.tree n level (branches_from level (f n).low at.front) (one ∷ two ∷ []) (both' ∷ []) (branches_from level (q.separator + 1) at.back) (λ _. false) g (without_node q.child live)
-        regroup
-        (append-nil (entries_of (g p.child)) ∙ sym piece.members ∙ ap (λ l. entries_of (f p.child) ++ l) (sym (append-nil (entries_of (f q.child)))))
-        (λ x alive outside. lawful.filled x alive)
-        (subst (IsFilled n) (sym join.above) (omega arith, omega arith))
-        (one_of (λ b. IsFilled b.child (g b.child)) both'
-            (subst (IsFilled p.child) (sym join.left) (joined_filled p.child (f p.child).body (f q.child).body join.fit (lawful.filled p.child at.left.alive))))
-        (one_of_three (λ x. without_node q.child live x ≡ is_among (n ∷ p.child ∷ []) x) n p.child q.child
-            (leaves n (λ e. at.no_parent (sym e)) ∙ join.live_parent ∙ sym (among (n ∷ p.child ∷ []) n (times_head n (p.child ∷ []))))
-            (leaves p.child at.different ∙ at.left.alive ∙ sym (among (n ∷ p.child ∷ []) p.child (second n p.child [])))
-            (cond-true (eqb q.child q.child) false (live q.child) (eq-eqb q.child q.child refl)
-              ∙ sym (not_among (n ∷ p.child ∷ []) q.child (omega (arith, once_other q.child n at.no_parent, once_other q.child p.child (λ e. at.different (sym e)))))))
-        (λ x untouched. leaves x (none_of n p.child q.child x (one ∷ two ∷ []) refl untouched).2)
+    regroup
+    (append-nil (entries_of (g p.child)) ∙ sym piece.members ∙ ap (λ l. entries_of (f p.child) ++ l) (sym (append-nil (entries_of (f q.child)))))
+    (λ x alive outside. lawful.filled x alive)
+    (subst (IsFilled n) (sym join.above) (omega arith, omega arith))
+    (one_of (λ b. IsFilled b.child (g b.child)) both'
+    (subst (IsFilled p.child) (sym join.left) (joined_filled p.child (f p.child).body (f q.child).body join.fit (lawful.filled p.child at.left.alive))))
+    (one_of_three (λ x. without_node q.child live x ≡ is_among (n ∷ p.child ∷ []) x) n p.child q.child
+    (leaves n (λ e. at.no_parent (sym e)) ∙ join.live_parent ∙ sym (among (n ∷ p.child ∷ []) n (times_head n (p.child ∷ []))))
+    (leaves p.child at.different ∙ at.left.alive ∙ sym (among (n ∷ p.child ∷ []) p.child (second n p.child [])))
+    (cond-true (eqb q.child q.child) false (live q.child) (eq-eqb q.child q.child refl)
+    ∙ sym (not_among (n ∷ p.child ∷ []) q.child (omega (arith, once_other q.child n at.no_parent, once_other q.child p.child (λ e. at.different (sym e)))))))
+    (λ x untouched. leaves x (none_of n p.child q.child x (one ∷ two ∷ []) refl untouched).2)
 
 share_exits : (f g : Contents) (level c d : ℕ) (s : Shape) → JoinsTo (f c) (f d) s → CutsTo s (g c) (g d) →
     exits_of g level c ++ (exits_of g level d ++ []) ≡ exits_of f level c ++ (exits_of f level d ++ [])
@@ -229,44 +230,46 @@ share_keeps f live lawful n slot p q g share =
     let below : fence < q.separator = omega (arith, halves.below, right.high) in
     let pairs_now : pairs_of (g n) ≡ at.front ++ separate_at fence p (q ∷ at.back) = ap pairs_of share.above ∙ at.changed (separate_at fence) in
     let count : length (at_slot (separate_at fence) slot (pairs_of (f n))) ≡ length at.front + suc (suc (length at.back)) =
-        ap length (at.changed (separate_at fence)) ∙ length-append at.front (separate_at fence p (q ∷ at.back)) in
+    ap length (at.changed (separate_at fence)) ∙ length-append at.front (separate_at fence p (q ∷ at.back)) in
     let count_before = at.count in
     let before = pairs_filled n (f n).body (lawful.filled n share.live_parent) (omega arith) in
     let regroup : Regroups f live n level (branches_from level (f n).low at.front) (one ∷ two ∷ []) (one' ∷ two' ∷ []) (branches_from level (q.separator + 1) at.back) (λ _. false) g = record {
-        alive = share.live_parent;
-        at = at.left.at;
-        before = at.left.before;
-        free = λ x none. absurd (cc (none));
-        stays = λ x outside. (let apart = none_of n p.child q.child x (one ∷ two ∷ []) refl outside in share.others x apart.0 apart.1 apart.2);
-        low = ap (λ x. x.low) share.above;
-        high = ap (λ x. x.high) share.above;
-        still_at = ap (λ x. x.level) share.above ∙ at.left.at;
-        after = ap (branches_from level (g n).low) pairs_now ∙ ap (λ l. branches_from level l (at.front ++ separate_at fence p (q ∷ at.back))) (ap (λ x. x.low) share.above)
-            ∙ branches-append level (f n).low at.front (separate_at fence p (q ∷ at.back));
-        touched = two_of (λ b. IsTrue (either (family n (one ∷ two ∷ [])) (λ _. false) b.child)) one' two'
-            (or_left (family n (one ∷ two ∷ []) p.child) false (or_right (eqb p.child n) (is_among (p.child ∷ q.child ∷ []) p.child) (among (p.child ∷ q.child ∷ []) p.child (times_head p.child (q.child ∷ [])))))
-            (or_left (family n (one ∷ two ∷ []) q.child) false (or_right (eqb q.child n) (is_among (p.child ∷ q.child ∷ []) q.child) (among (p.child ∷ q.child ∷ []) q.child (second p.child q.child []))));
-        below_top = two_of (λ b. b.child ≢ n) one' two' at.left.no_parent at.no_parent;
-        once_each = λ x. once_two x p.child q.child at.different;
-        children = share_exits f g level p.child q.child s whole pieces;
-        top_ordered = subst IsOrdered (sym share.above) (at.cut.0,
-            subst (λ ps. Cut (f n).low (f n).high ps) (sym (at.changed (separate_at fence))) (cut_separated (f n).low (f n).high at.front at.back p q fence at.cut.1 above below));
-        ordered = two_of (λ b. IsOrdered (g b.child)) one' two' pieces.first_ordered pieces.last_ordered;
-        fits = two_of (Fits g) one' two'
-            (record { level = pieces.first_level ∙ left.level; low = pieces.low ∙ left.low; high = ap (λ x. x.high) share.left })
-            (record { level = pieces.last_level ∙ left.level; low = ap (λ x. x.low) share.right; high = pieces.high ∙ right.high })
-      } in
+      alive = share.live_parent;
+      at = at.left.at;
+      before = at.left.before;
+      free = λ x none. absurd (cc (none));
+      stays = λ x outside. (let apart = none_of n p.child q.child x (one ∷ two ∷ []) refl outside in share.others x apart.0 apart.1 apart.2);
+      low = ap (λ x. x.low) share.above;
+      high = ap (λ x. x.high) share.above;
+      still_at = ap (λ x. x.level) share.above ∙ at.left.at;
+      after = ap (branches_from level (g n).low) pairs_now ∙ ap (λ l. branches_from level l (at.front ++ separate_at fence p (q ∷ at.back))) (ap (λ x. x.low) share.above)
+          ∙ branches-append level (f n).low at.front (separate_at fence p (q ∷ at.back));
+      touched = two_of (λ b. IsTrue (either (family n (one ∷ two ∷ [])) (λ _. false) b.child)) one' two'
+          (or_left (family n (one ∷ two ∷ []) p.child) false (or_right (eqb p.child n) (is_among (p.child ∷ q.child ∷ []) p.child) (among (p.child ∷ q.child ∷ []) p.child (times_head p.child (q.child ∷ [])))))
+          (or_left (family n (one ∷ two ∷ []) q.child) false (or_right (eqb q.child n) (is_among (p.child ∷ q.child ∷ []) q.child) (among (p.child ∷ q.child ∷ []) q.child (second p.child q.child []))));
+      below_top = two_of (λ b. b.child ≢ n) one' two' at.left.no_parent at.no_parent;
+      once_each = λ x. once_two x p.child q.child at.different;
+      children = share_exits f g level p.child q.child s whole pieces;
+      top_ordered = subst IsOrdered (sym share.above) (
+        at.cut.0,
+        subst (λ ps. Cut (f n).low (f n).high ps) (sym (at.changed (separate_at fence))) (cut_separated (f n).low (f n).high at.front at.back p q fence at.cut.1 above below),
+      );
+      ordered = two_of (λ b. IsOrdered (g b.child)) one' two' pieces.first_ordered pieces.last_ordered;
+      fits = two_of (Fits g) one' two'
+          (record { level = pieces.first_level ∙ left.level; low = pieces.low ∙ left.low; high = ap (λ x. x.high) share.left })
+          (record { level = pieces.last_level ∙ left.level; low = ap (λ x. x.low) share.right; high = pieces.high ∙ right.high });
+    } in
     let filled = shares_filled p.child q.child p.child q.child (f p.child).body (f q.child).body at.left.no_root at.no_root share.overfill
-        (lawful.filled p.child at.left.alive) (lawful.filled q.child at.alive) in
+    (lawful.filled p.child at.left.alive) (lawful.filled q.child at.alive) in
     family_keeps f live lawful.tree n level (branches_from level (f n).low at.front) (one ∷ two ∷ []) (one' ∷ two' ∷ []) (branches_from level (q.separator + 1) at.back) (λ _. false) g live
-        regroup
-        (ap (λ l. entries_of (g p.child) ++ l) (append-nil (entries_of (g q.child))) ∙ pieces.members ∙ sym whole.members
-          ∙ ap (λ l. entries_of (f p.child) ++ l) (sym (append-nil (entries_of (f q.child)))))
-        (λ x alive outside. lawful.filled x alive)
-        (subst (IsFilled n) (sym share.above) (omega arith, omega arith))
-        (two_of (λ b. IsFilled b.child (g b.child)) one' two' (subst (IsFilled p.child) (sym share.left) filled.0) (subst (IsFilled q.child) (sym share.right) filled.1))
-        (one_of_three (λ x. live x ≡ is_among (n ∷ p.child ∷ q.child ∷ []) x) n p.child q.child
-            (share.live_parent ∙ sym (among (n ∷ p.child ∷ q.child ∷ []) n (times_head n (p.child ∷ q.child ∷ []))))
-            (at.left.alive ∙ sym (among (n ∷ p.child ∷ q.child ∷ []) p.child (second n p.child (q.child ∷ []))))
-            (at.alive ∙ sym (among (n ∷ p.child ∷ q.child ∷ []) q.child (third n p.child q.child []))))
-        (λ x untouched. refl)
+    regroup
+    (ap (λ l. entries_of (g p.child) ++ l) (append-nil (entries_of (g q.child))) ∙ pieces.members ∙ sym whole.members
+    ∙ ap (λ l. entries_of (f p.child) ++ l) (sym (append-nil (entries_of (f q.child)))))
+    (λ x alive outside. lawful.filled x alive)
+    (subst (IsFilled n) (sym share.above) (omega arith, omega arith))
+    (two_of (λ b. IsFilled b.child (g b.child)) one' two' (subst (IsFilled p.child) (sym share.left) filled.0) (subst (IsFilled q.child) (sym share.right) filled.1))
+    (one_of_three (λ x. live x ≡ is_among (n ∷ p.child ∷ q.child ∷ []) x) n p.child q.child
+    (share.live_parent ∙ sym (among (n ∷ p.child ∷ q.child ∷ []) n (times_head n (p.child ∷ q.child ∷ []))))
+    (at.left.alive ∙ sym (among (n ∷ p.child ∷ q.child ∷ []) p.child (second n p.child (q.child ∷ []))))
+    (at.alive ∙ sym (among (n ∷ p.child ∷ q.child ∷ []) q.child (third n p.child q.child []))))
+    (λ x untouched. refl)

@@ -16,4 +16,5 @@ pub mod Joins
 pub mod Leaves
 pub mod Roots
 pub mod Wholes
+pub mod Spines
 pub mod Fences

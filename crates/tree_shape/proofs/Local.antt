@@ -75,11 +75,11 @@ around_parts f top level branch exits child at x =
 -- what a live node reaches stands in the tree no more often than there
 pub under_live : (f : Contents) (live : ℕ → Bool) → IsTree f live → (n : ℕ) → IsTrue (live n) → (x : ℕ) → times x (nodes_under f (f n).level n) ≤ times x (nodes f)
 under_live f live tree n alive x = elim (cases_eq n 0) [
-    inl e ↦ let same : times x (nodes_under f (f n).level n) ≡ times x (nodes f) = ap (λ m. times x (nodes_under f (f m).level m)) e in omega arith
+  | inl e ↦ let same : times x (nodes_under f (f n).level n) ≡ times x (nodes f) = ap (λ m. times x (nodes_under f (f m).level m)) e in omega arith
   | inr other ↦
       let place = around f live tree n alive other in
       omega (arith, around_parts f n (f n).level place.branch place.exits place.child place.level x)
-  ]
+]
 
 -- the rest of the tree: the numbers of the old and of the new one without what the top reaches, none of them touched
 record Rest (f g : Contents) (top : ℕ) (touched : ℕ → Bool) : Type 0 where
@@ -323,16 +323,16 @@ module _ (f : Contents) (live : ℕ → Bool) (top : ℕ) (group fresh : ℕ →
     height = root_after.2;
     reached = reached_after;
     ordered = ordered_after;
-    fitting = fitting_after
+    fitting = fitting_after;
   }
 
   -- where the nodes that the top now reaches are filled, all are
   pub filled_after : ((n : ℕ) → IsTrue (live n) → either group fresh n ≡ false → IsFilled n (f n)) → AllByRecursion (λ n. IsFilled n (g n)) (within (either group fresh) g (g top).level top) →
       (x : ℕ) → IsTrue (live_after live top group fresh g x) → IsFilled x (g x)
   filled_after before now x alive = elim (live_cases x alive) [
-      inl here ↦ all_times (λ n. IsFilled n (g n)) (within (either group fresh) g (g top).level top) x now here.1
+    | inl here ↦ all_times (λ n. IsFilled n (g n)) (within (either group fresh) g (g top).level top) x now here.1
     | inr was ↦ subst (IsFilled x) (sym was.stays) (before x was.alive was.untouched)
-    ]
+  ]
 
   -- the entries
   entries_now : (m : Member) → HasEntry g (live_after live top group fresh g) m →

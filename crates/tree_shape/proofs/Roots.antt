@@ -1,24 +1,24 @@
 -- The laws of lifting the root and of sinking it.
-use Rattle.std.proofs.Common.{◌≡◌, ◌≢◌, ℕ, zero, suc, ◌+◌, ◌-◌, ◌<◌, ◌≤◌, ◌↔◌, List, [], ◌∷◌, ◌++◌, length, map, refl, ap, sym, ◌∙◌, subst, arith, Bool, true, false, cond, ◌||◌, IsTrue, eqb, ltb, inl, inr, ◌⊎◌, Some}
+use Rattle.std.proofs.Common.{◌≡◌, ◌≢◌, ℕ, zero, suc, ◌+◌, ◌-◌, ◌<◌, ◌≤◌, [], ◌∷◌, ◌++◌, length, map, refl, ap, sym, ◌∙◌, subst, arith, Bool, true, false, IsTrue, eqb, inl, inr}
 use Rattle.std.specs.List.{flat_map, AllByRecursion, Contains, slice_get}
 use Rattle.std.proofs.lemmas.Bool.{cases_eq, cases_Bool, cond-true, cond-false, eq-eqb, eqb-true, eqb-false, ne_eqb, or_left, or_right, or_cases, or_parts, or_from, both_ways}
 use Rattle.std.proofs.lemmas.List.{append-nil, length-append}
 use Rattle.std.proofs.Math.Numerals.{add-one}
 use Rattle.reg_model.specs.declared.span.Member.{Member}
 use Rattle.tree_shape.specs.declared.pair.Pair.{Pair}
-use Rattle.tree_shape.specs.Numbers.{times, once, is_among}
-use Rattle.tree_shape.specs.Shapes.{Shape, Body, Pairs, Entries, Link, entries_of, pairs_of, Cut}
-use Rattle.tree_shape.specs.Changes.{joined, both, size, FitAs}
-use Rattle.tree_shape.specs.Trees.{Contents, Branch, branches_from, branches, within, leaving, HasEntry}
-use Rattle.tree_shape.specs.Lawful.{IsTree, IsLawful, IsOrdered, IsFilled, IsFilledAs, Fits}
+use Rattle.tree_shape.specs.Numbers.{times, is_among}
+use Rattle.tree_shape.specs.Shapes.{Body, Pairs, Entries, Link, entries_of, pairs_of, Cut}
+use Rattle.tree_shape.specs.Changes.{joined, both, FitAs}
+use Rattle.tree_shape.specs.Trees.{Contents, Branch, branches, within, leaving, HasEntry}
+use Rattle.tree_shape.specs.Lawful.{IsLawful, IsOrdered, IsFilled, IsFilledAs, Fits}
 use Rattle.tree_shape.specs.LocalChange.{IsLocalChange, either, live_after}
 use Rattle.tree_shape.specs.Steps.{Keeps, IsLift, Lifts, IsSplit, IsSink, IsFull, with_node, without_node}
-use Rattle.tree_shape.proofs.Times.{In, all_from, in_append, in_flat_map, in_left, in_right, times_head, once_same, once_other, once_most}
-use Rattle.tree_shape.proofs.Living.{own_branches, own_at, no_branches, root_live, root_no_child, child_live, child_fits, own_child}
-use Rattle.tree_shape.proofs.Leads.{contains_in, in_contains, one_leaf, leaf_says}
+use Rattle.tree_shape.proofs.Times.{In, all_from, in_append, in_flat_map, in_left, in_right, times_head, once_other, once_most}
+use Rattle.tree_shape.proofs.Living.{own_branches, own_at, no_branches, root_live, root_no_child, child_live, own_child}
+use Rattle.tree_shape.proofs.Leads.{contains_in, in_contains, leaf_says}
 use Rattle.tree_shape.proofs.Local.{tree_after, filled_after, entries_after}
-use Rattle.tree_shape.proofs.Runs.{SameKind, JoinsTo, next_low}
-use Rattle.tree_shape.proofs.Family.{numbers, family, alone, two_levels, exits_of, Grouped, grandchild, untouched, old_ways, live_of, in_old}
+use Rattle.tree_shape.proofs.Runs.{JoinsTo}
+use Rattle.tree_shape.proofs.Family.{family, alone, two_levels, exits_of, Grouped, grandchild, untouched, old_ways}
 use Rattle.tree_shape.proofs.Slotted.{ordered_pairs, Slotted, tree_same, entry_same, slotted}
 use Rattle.tree_shape.proofs.Splits.{split_fills}
 use Rattle.tree_shape.proofs.Joins.{Neighbours, neighbours, neighbours_join, none_of, one_of_three}
@@ -82,11 +82,11 @@ module _ (f : Contents) (live : ℕ → Bool) (lawful : IsLawful f live) (a : �
       (λ c none. absurd none) (λ c none. absurd none)
       (λ c there. elim there [ inl e ↦ subst (λ (x : Branch). IsTrue (either root_only (λ y. eqb y a) x.child)) e (or_right (root_only a) (eqb a a) (eq-eqb a a refl)) | inr none ↦ absurd none ])
       (λ c there d below'. elim there [
-          inl e ↦
+        | inl e ↦
             let here : In d (exits_of g (f 0).level a) = subst (λ (x : Branch). In d (exits_of g (f 0).level x.child)) (sym e) below' in
             (child_apart d (exit_own f (f 0).level 0 d refl (subst (λ ds. In d ds) moved_exits here))).1
         | inr none ↦ absurd none
-        ])
+      ])
 
   reached_lift : within (either root_only (λ x. eqb x a)) g (g 0).level 0 ≡ 0 ∷ a ∷ []
   reached_lift = ap (λ l. within (either root_only (λ x. eqb x a)) g l 0) root_level ∙ lift_new.0
@@ -99,89 +99,93 @@ module _ (f : Contents) (live : ℕ → Bool) (lawful : IsLawful f live) (a : �
 
   lift_change : IsLocalChange f live 0 root_only (λ x. eqb x a) g
   lift_change = record {
-      top_live = root_live f live lawful.tree;
-      top_grouped = refl;
-      grouped = λ x inside. subst (λ l. 0 < times x l) (sym lift_old.0) (subst (λ y. 0 < times x (y ∷ [])) (eqb-true x 0 inside) (times_head x []));
-      fresh_free = λ x is_a. subst (λ y. live y ≡ false) (sym (eqb-true x a is_a)) lift.free;
-      others_stay = λ x outside. (let parts = or_parts (root_only x) (eqb x a) outside in lift.others x (eqb-false x 0 parts.0) (eqb-false x a parts.1));
-      low = ap (λ s. s.low) lift.root;
-      high = ap (λ s. s.high) lift.root;
-      level = λ other. absurd (other refl);
-      height = λ _. (let top = lift.height in let at = root_level in omega arith);
-      ordered = subst (AllByRecursion (λ x. IsOrdered (g x))) (sym reached_lift) (root_ordered, (moved_ordered, tt));
-      reached_once = λ x. subst (λ l. times x l ≤ 1) (sym reached_lift) (once_pair x);
-      fitting = subst (AllByRecursion (λ x. AllByRecursion (λ c. IsTrue (either root_only (λ y. eqb y a) c.child) → Fits g c) (own_branches g x))) (sym reached_lift)
-          (all_from (λ c. IsTrue (either root_only (λ y. eqb y a) c.child) → Fits g c) (own_branches g 0)
-              (λ c own touched. elim (subst (λ bs. In c bs) (own_at g 0 (f 0).level root_level ∙ root_branches) own) [
-                  inl e ↦ subst (Fits g) e (record { level = ap (λ s. s.level) lift.moved; low = ap (λ s. s.low) lift.moved; high = ap (λ s. s.high) lift.moved })
-                | inr none ↦ absurd none
-                ]),
-           (all_from (λ c. IsTrue (either root_only (λ y. eqb y a) c.child) → Fits g c) (own_branches g a)
-              (λ c own touched.
-                let own' : In c (own_branches f 0) = subst (λ s. In c (branches (s.level - 1) s)) lift.moved own in
-                absurd (both_ways (either root_only (λ y. eqb y a) c.child) (child_apart c own').1 touched)), tt));
-      exits = ap (λ l. leaving (either root_only (λ x. eqb x a)) g l 0) root_level ∙ lift_new.1
-          ∙ append-nil (exits_of g (f 0).level a ++ []) ∙ append-nil (exits_of g (f 0).level a) ∙ moved_exits ∙ sym lift_old.1
-    }
+    top_live = root_live f live lawful.tree;
+    top_grouped = refl;
+    grouped = λ x inside. subst (λ l. 0 < times x l) (sym lift_old.0) (subst (λ y. 0 < times x (y ∷ [])) (eqb-true x 0 inside) (times_head x []));
+    fresh_free = λ x is_a. subst (λ y. live y ≡ false) (sym (eqb-true x a is_a)) lift.free;
+    others_stay = λ x outside. (let parts = or_parts (root_only x) (eqb x a) outside in lift.others x (eqb-false x 0 parts.0) (eqb-false x a parts.1));
+    low = ap (λ s. s.low) lift.root;
+    high = ap (λ s. s.high) lift.root;
+    level = λ other. absurd (other refl);
+    height = λ _. (let top = lift.height in let at = root_level in omega arith);
+    ordered = subst (AllByRecursion (λ x. IsOrdered (g x))) (sym reached_lift) (root_ordered, (moved_ordered, tt));
+    reached_once = λ x. subst (λ l. times x l ≤ 1) (sym reached_lift) (once_pair x);
+    fitting = subst (AllByRecursion (λ x. AllByRecursion (λ c. IsTrue (either root_only (λ y. eqb y a) c.child) → Fits g c) (own_branches g x))) (sym reached_lift) (
+      all_from (λ c. IsTrue (either root_only (λ y. eqb y a) c.child) → Fits g c) (own_branches g 0)
+          (λ c own touched. elim (subst (λ bs. In c bs) (own_at g 0 (f 0).level root_level ∙ root_branches) own) [
+            | inl e ↦ subst (Fits g) e (record { level = ap (λ s. s.level) lift.moved; low = ap (λ s. s.low) lift.moved; high = ap (λ s. s.high) lift.moved })
+            | inr none ↦ absurd none
+          ]),
+      (
+        all_from (λ c. IsTrue (either root_only (λ y. eqb y a) c.child) → Fits g c) (own_branches g a)
+            (λ c own touched.
+            let own' : In c (own_branches f 0) = subst (λ s. In c (branches (s.level - 1) s)) lift.moved own in
+            absurd (both_ways (either root_only (λ y. eqb y a) c.child) (child_apart c own').1 touched)),
+        tt,
+      ),
+    );
+    exits = ap (λ l. leaving (either root_only (λ x. eqb x a)) g l 0) root_level ∙ lift_new.1
+        ∙ append-nil (exits_of g (f 0).level a ++ []) ∙ append-nil (exits_of g (f 0).level a) ∙ moved_exits ∙ sym lift_old.1;
+  }
     where
       once_pair : (x : ℕ) → times x (0 ∷ a ∷ []) ≤ 1
       once_pair x = elim (cases_eq x 0) [
-          inl e ↦ omega (arith, once_most (eqb x 0), once_other x a (λ is_a. a_below (sym is_a ∙ e)))
+        | inl e ↦ omega (arith, once_most (eqb x 0), once_other x a (λ is_a. a_below (sym is_a ∙ e)))
         | inr other ↦ omega (arith, once_other x 0 other, once_most (eqb x a))
-        ]
+      ]
 
   lift_live : (x : ℕ) → live_after live 0 root_only (λ y. eqb y a) g x ≡ with_node a live x
   lift_live x = elim (cases_Bool (either root_only (λ y. eqb y a) x)) [
-      inl touched ↦
+    | inl touched ↦
         cond-true (either root_only (λ y. eqb y a) x) (is_among (within (either root_only (λ y. eqb y a)) g (g 0).level 0) x) (live x) touched
         ∙ ap (λ l. is_among l x) reached_lift
         ∙ elim (or_cases (root_only x) (eqb x a) touched) [
-            inl is_root ↦ subst (λ y. is_among (0 ∷ a ∷ []) y ≡ with_node a live y) (sym (eqb-true x 0 is_root))
-                (among (0 ∷ a ∷ []) 0 (times_head 0 (a ∷ [])) ∙ sym (cond-false (eqb 0 a) true (live 0) (ne_eqb 0 a (λ e. a_below (sym e))) ∙ root_live f live lawful.tree))
+          | inl is_root ↦ subst (λ y. is_among (0 ∷ a ∷ []) y ≡ with_node a live y) (sym (eqb-true x 0 is_root))
+              (among (0 ∷ a ∷ []) 0 (times_head 0 (a ∷ [])) ∙ sym (cond-false (eqb 0 a) true (live 0) (ne_eqb 0 a (λ e. a_below (sym e))) ∙ root_live f live lawful.tree))
           | inr is_a ↦ subst (λ y. is_among (0 ∷ a ∷ []) y ≡ with_node a live y) (sym (eqb-true x a is_a))
-                (among (0 ∷ a ∷ []) a (second 0 a []) ∙ sym (cond-true (eqb a a) true (live a) (eq-eqb a a refl)))
-          ]
+              (among (0 ∷ a ∷ []) a (second 0 a []) ∙ sym (cond-true (eqb a a) true (live a) (eq-eqb a a refl)))
+        ]
     | inr untouched' ↦
         cond-false (either root_only (λ y. eqb y a) x) (is_among (within (either root_only (λ y. eqb y a)) g (g 0).level 0) x) (live x) untouched'
         ∙ sym (cond-false (eqb x a) true (live x) (or_parts (root_only x) (eqb x a) untouched').1)
-    ]
+  ]
 
   lift_now : (m : Member) → HasEntry g (with_node a live) m → HasEntry f live m
   lift_now m has = elim ((entries_after f live 0 root_only (λ y. eqb y a) g lawful.tree lift_change m).0
       (entry_same g (with_node a live) (live_after live 0 root_only (λ y. eqb y a) g) (λ x. sym (lift_live x)) m has)) [
-      inl kept ↦ kept.0
-    | inr (x, (there, held)) ↦ elim (cases_eq x a) [
-        inl e ↦ (0, (root_live f live lawful.tree, subst (λ s. Contains (entries_of s) m) (ap g e ∙ lift.moved) held))
-      | inr other ↦
-          let is_root = only 0 x (among_first x other (ap (λ l. is_among l x) (sym reached_lift) ∙ there)) in
-          absurd (subst (λ s. In m (entries_of s)) (ap g is_root ∙ lift.root) (contains_in (entries_of (g x)) m held))
+        | inl kept ↦ kept.0
+        | inr (x, (there, held)) ↦ elim (cases_eq x a) [
+          | inl e ↦ (0, (root_live f live lawful.tree, subst (λ s. Contains (entries_of s) m) (ap g e ∙ lift.moved) held))
+          | inr other ↦
+              let is_root = only 0 x (among_first x other (ap (λ l. is_among l x) (sym reached_lift) ∙ there)) in
+              absurd (subst (λ s. In m (entries_of s)) (ap g is_root ∙ lift.root) (contains_in (entries_of (g x)) m held))
+        ]
       ]
-    ]
     where
       among_first : (x : ℕ) → x ≢ a → is_among (0 ∷ a ∷ []) x ≡ true → is_among (0 ∷ []) x ≡ true
       among_first x other there = elim (cases_eq x 0) [
-          inl e ↦ subst (λ y. is_among (0 ∷ []) y ≡ true) (sym e) refl
+        | inl e ↦ subst (λ y. is_among (0 ∷ []) y ≡ true) (sym e) refl
         | inr not_root ↦ absurd (both_ways (is_among (0 ∷ a ∷ []) x) (not_among (0 ∷ a ∷ []) x (omega (arith, once_other x 0 not_root, once_other x a other))) there)
-        ]
+      ]
 
   lift_then : (m : Member) → HasEntry f live m → HasEntry g (with_node a live) m
   lift_then m (x, (alive, held)) = elim (cases_eq x 0) [
-      inl e ↦ (a, (cond-true (eqb a a) true (live a) (eq-eqb a a refl), subst (λ s. Contains (entries_of s) m) (ap f e ∙ sym lift.moved) held))
+    | inl e ↦ (a, (cond-true (eqb a a) true (live a) (eq-eqb a a refl), subst (λ s. Contains (entries_of s) m) (ap f e ∙ sym lift.moved) held))
     | inr other ↦
         let not_a : x ≢ a = λ e. a_other x alive (sym e) in
         (x, (cond-false (eqb x a) true (live x) (ne_eqb x a not_a) ∙ alive, subst (λ s. Contains (entries_of s) m) (sym (lift.others x other not_a)) held))
-    ]
+  ]
 
   pub lifts : Lifts f live g (with_node a live)
   lifts = record {
-      tree = tree_same g (live_after live 0 root_only (λ y. eqb y a) g) (with_node a live) lift_live (tree_after f live 0 root_only (λ y. eqb y a) g lawful.tree lift_change);
-      one_pair = ap (λ s. length (pairs_of s)) lift.root;
-      filled = λ x alive other. elim (cases_eq x a) [
-          inl e ↦ subst (λ y. IsFilled y (g y)) (sym e) (subst (IsFilled a) (sym lift.moved) (full_filled a (f 0).body a_below lift.full))
-        | inr not_a ↦ subst (IsFilled x) (sym (lift.others x other not_a)) (lawful.filled x (sym (cond-false (eqb x a) true (live x) (ne_eqb x a not_a)) ∙ alive))
-        ];
-      entries = λ m. (lift_now m, lift_then m)
-    }
+    tree = tree_same g (live_after live 0 root_only (λ y. eqb y a) g) (with_node a live) lift_live (tree_after f live 0 root_only (λ y. eqb y a) g lawful.tree lift_change);
+    one_pair = ap (λ s. length (pairs_of s)) lift.root;
+    filled = λ x alive other. elim (cases_eq x a) [
+      | inl e ↦ subst (λ y. IsFilled y (g y)) (sym e) (subst (IsFilled a) (sym lift.moved) (full_filled a (f 0).body a_below lift.full))
+      | inr not_a ↦ subst (IsFilled x) (sym (lift.others x other not_a)) (lawful.filled x (sym (cond-false (eqb x a) true (live x) (ne_eqb x a not_a)) ∙ alive))
+    ];
+    entries = λ m. (lift_now m, lift_then m);
+  }
 
 -- The split that follows a lift makes the tree lawful.
 pub lift_split_keeps : (f : Contents) (live : ℕ → Bool) → IsLawful f live → (a : ℕ) (h : Contents) → IsLift f live a h → (p : Pair) (r : ℕ) (g : Contents) → IsSplit h (with_node a live) 0 0 p r g →
@@ -191,9 +195,8 @@ lift_split_keeps f live lawful a h lift p r g split =
     let kept = split_fills h (with_node a live) lifted.tree 0 0 p r g split lifted.filled (omega (arith, lifted.one_pair)) in
     record {
       lawful = kept.lawful;
-      entries = λ m. (λ has. (lifted.entries m).0 ((kept.entries m).0 has), λ has. (kept.entries m).1 ((lifted.entries m).1 has))
+      entries = λ m. (λ has. (lifted.entries m).0 ((kept.entries m).0 has), λ has. (kept.entries m).1 ((lifted.entries m).1 has));
     }
-
 
 root_joined : (n : ℕ) (b c : Body) → FitAs b c → IsFilledAs n b → IsFilledAs 0 (both b c)
 root_joined n (Pairs left) (Pairs right) fit filled = let len = length-append left right in (omega (arith, filled.0, fewest_pairs_some n), omega arith)
@@ -226,11 +229,11 @@ module _ (f : Contents) (live : ℕ → Bool) (lawful : IsLawful f live) (p q : 
 
   sink_side : Grouped f live 0 left.level [] (one ∷ two ∷ []) [] (λ _. false)
   sink_side = record {
-      alive = root_live f live lawful.tree;
-      at = left.at;
-      before = left.before;
-      free = λ x none. absurd (cc (none))
-    }
+    alive = root_live f live lawful.tree;
+    at = left.at;
+    before = left.before;
+    free = λ x none. absurd (cc (none));
+  }
 
   joined_now : JoinsTo (f p.child) (f q.child) (joined (f p.child) (f q.child))
   joined_now = neighbours_join f live lawful.tree 0 0 p q at (fit_kind (f p.child).body (f q.child).body sink.fit)
@@ -241,7 +244,7 @@ module _ (f : Contents) (live : ℕ → Bool) (lawful : IsLawful f live) (p q : 
       let low = left.fits.low in
       let ordered = lawful.tree.ordered 0 (root_live f live lawful.tree) in
       let ends = cut_two (f 0).low (f 0).high p q (subst (λ ps. Cut (f 0).low (f 0).high ps) sink.pairs
-          (ordered_pairs (f 0) (f 0).body ordered (omega (arith, ap length sink.pairs))).1) in
+      (ordered_pairs (f 0) (f 0).body ordered (omega (arith, ap length sink.pairs))).1) in
       let high : (f 0).high ≡ (f q.child).high = sym ends.2 ∙ sym at.fits.high in
       let j = joined (f p.child) (f q.child) in
       sink.root ∙ ap (λ (e : ℕ × ℕ). record j { low = e.0; high = e.1 }) (both_same (f 0).low (f p.child).low (f 0).high (f q.child).high (sym low) high)
@@ -281,24 +284,26 @@ module _ (f : Contents) (live : ℕ → Bool) (lawful : IsLawful f live) (p q : 
 
   sink_change : IsLocalChange f live 0 (family 0 (one ∷ two ∷ [])) (λ _. false) g
   sink_change = record {
-      top_live = root_live f live lawful.tree;
-      top_grouped = refl;
-      grouped = λ x inside. subst (λ l. 0 < times x (within (family 0 (one ∷ two ∷ [])) f l 0)) (sym left.at) (subst (λ l. 0 < times x l) (sym sink_old.0) (in_three x inside));
-      fresh_free = λ x none. absurd (cc (none));
-      others_stay = λ x outside. (let apart = none_of 0 p.child q.child x (one ∷ two ∷ []) refl outside in sink.others x apart.0 apart.1 apart.2);
-      low = ap (λ s. s.low) sink.root;
-      high = ap (λ s. s.high) sink.root;
-      level = λ other. absurd (other refl);
-      height = λ _. (let top = lawful.tree.height in let up = left.at in let now = root_level_now in omega arith);
-      ordered = subst (AllByRecursion (λ x. IsOrdered (g x))) (sym reached_sink) (root_ordered_now, tt);
-      reached_once = λ x. subst (λ l. times x l ≤ 1) (sym reached_sink) (omega (arith, once_most (eqb x 0)));
-      fitting = subst (AllByRecursion (λ x. AllByRecursion (λ c. IsTrue (either (family 0 (one ∷ two ∷ [])) (λ _. false) c.child) → Fits g c) (own_branches g x))) (sym reached_sink)
-          (all_from (λ c. IsTrue (either (family 0 (one ∷ two ∷ [])) (λ _. false) c.child) → Fits g c) (own_branches g 0)
-              (λ c own touched. absurd (both_ways (either (family 0 (one ∷ two ∷ [])) (λ _. false) c.child) (exit_apart c (own_exit g left.level 0 c root_ordered_now root_level_now own)) touched)), tt);
-      exits = ap (λ l. leaving (either (family 0 (one ∷ two ∷ [])) (λ _. false)) g l 0) root_level_now ∙ sink_new.1 ∙ exits_now
-          ∙ sym (append-nil (flat_map (λ (b : Branch). exits_of f left.level b.child) (one ∷ two ∷ [])))
-          ∙ sym sink_old.1 ∙ ap (λ l. leaving (family 0 (one ∷ two ∷ [])) f l 0) (sym left.at)
-    }
+    top_live = root_live f live lawful.tree;
+    top_grouped = refl;
+    grouped = λ x inside. subst (λ l. 0 < times x (within (family 0 (one ∷ two ∷ [])) f l 0)) (sym left.at) (subst (λ l. 0 < times x l) (sym sink_old.0) (in_three x inside));
+    fresh_free = λ x none. absurd (cc (none));
+    others_stay = λ x outside. (let apart = none_of 0 p.child q.child x (one ∷ two ∷ []) refl outside in sink.others x apart.0 apart.1 apart.2);
+    low = ap (λ s. s.low) sink.root;
+    high = ap (λ s. s.high) sink.root;
+    level = λ other. absurd (other refl);
+    height = λ _. (let top = lawful.tree.height in let up = left.at in let now = root_level_now in omega arith);
+    ordered = subst (AllByRecursion (λ x. IsOrdered (g x))) (sym reached_sink) (root_ordered_now, tt);
+    reached_once = λ x. subst (λ l. times x l ≤ 1) (sym reached_sink) (omega (arith, once_most (eqb x 0)));
+    fitting = subst (AllByRecursion (λ x. AllByRecursion (λ c. IsTrue (either (family 0 (one ∷ two ∷ [])) (λ _. false) c.child) → Fits g c) (own_branches g x))) (sym reached_sink) (
+      all_from (λ c. IsTrue (either (family 0 (one ∷ two ∷ [])) (λ _. false) c.child) → Fits g c) (own_branches g 0)
+          (λ c own touched. absurd (both_ways (either (family 0 (one ∷ two ∷ [])) (λ _. false) c.child) (exit_apart c (own_exit g left.level 0 c root_ordered_now root_level_now own)) touched)),
+      tt,
+    );
+    exits = ap (λ l. leaving (either (family 0 (one ∷ two ∷ [])) (λ _. false)) g l 0) root_level_now ∙ sink_new.1 ∙ exits_now
+        ∙ sym (append-nil (flat_map (λ (b : Branch). exits_of f left.level b.child) (one ∷ two ∷ [])))
+        ∙ sym sink_old.1 ∙ ap (λ l. leaving (family 0 (one ∷ two ∷ [])) f l 0) (sym left.at);
+  }
     where
       in_three : (x : ℕ) → IsTrue (family 0 (one ∷ two ∷ []) x) → 0 < times x (0 ∷ p.child ∷ q.child ∷ [])
       in_three x inside = one_of_three (λ y. 0 < times y (0 ∷ p.child ∷ q.child ∷ [])) 0 p.child q.child
@@ -311,21 +316,21 @@ module _ (f : Contents) (live : ℕ → Bool) (lawful : IsLawful f live) (p q : 
 
   sink_live : (x : ℕ) → live_after live 0 (family 0 (one ∷ two ∷ [])) (λ _. false) g x ≡ without_node p.child (without_node q.child live) x
   sink_live x = elim (cases_Bool (either (family 0 (one ∷ two ∷ [])) (λ _. false) x)) [
-      inl touched ↦
+    | inl touched ↦
         cond-true (either (family 0 (one ∷ two ∷ [])) (λ _. false) x) (is_among (within (either (family 0 (one ∷ two ∷ [])) (λ _. false)) g (g 0).level 0) x) (live x) touched
         ∙ ap (λ l. is_among l x) reached_sink
         ∙ one_of_three (λ y. is_among (0 ∷ []) y ≡ without_node p.child (without_node q.child live) y) 0 p.child q.child
-            (among (0 ∷ []) 0 (times_head 0 []) ∙ sym (outside_three 0 (λ e. left.no_root (sym e)) (λ e. at.no_root (sym e)) ∙ root_live f live lawful.tree))
-            (not_among (0 ∷ []) p.child (omega (arith, once_other p.child 0 left.no_root)) ∙ sym (cond-true (eqb p.child p.child) false (without_node q.child live p.child) (eq-eqb p.child p.child refl)))
-            (not_among (0 ∷ []) q.child (omega (arith, once_other q.child 0 at.no_root))
-              ∙ sym (cond-false (eqb q.child p.child) false (without_node q.child live q.child) (ne_eqb q.child p.child (λ e. at.different (sym e)))
-                  ∙ cond-true (eqb q.child q.child) false (live q.child) (eq-eqb q.child q.child refl)))
-            x touched
+        (among (0 ∷ []) 0 (times_head 0 []) ∙ sym (outside_three 0 (λ e. left.no_root (sym e)) (λ e. at.no_root (sym e)) ∙ root_live f live lawful.tree))
+        (not_among (0 ∷ []) p.child (omega (arith, once_other p.child 0 left.no_root)) ∙ sym (cond-true (eqb p.child p.child) false (without_node q.child live p.child) (eq-eqb p.child p.child refl)))
+        (not_among (0 ∷ []) q.child (omega (arith, once_other q.child 0 at.no_root))
+        ∙ sym (cond-false (eqb q.child p.child) false (without_node q.child live q.child) (ne_eqb q.child p.child (λ e. at.different (sym e)))
+        ∙ cond-true (eqb q.child q.child) false (live q.child) (eq-eqb q.child q.child refl)))
+        x touched
     | inr untouched' ↦
         let apart = none_of 0 p.child q.child x (one ∷ two ∷ []) refl untouched' in
         cond-false (either (family 0 (one ∷ two ∷ [])) (λ _. false) x) (is_among (within (either (family 0 (one ∷ two ∷ [])) (λ _. false)) g (g 0).level 0) x) (live x) untouched'
         ∙ sym (outside_three x apart.1 apart.2)
-    ]
+  ]
 
   members_now : entries_of (f p.child) ++ entries_of (f q.child) ≡ entries_of (g 0)
   members_now = joined_now.members ∙ ap entries_of (sym new_root)
@@ -333,16 +338,16 @@ module _ (f : Contents) (live : ℕ → Bool) (lawful : IsLawful f live) (p q : 
   sink_now : (m : Member) → HasEntry g (without_node p.child (without_node q.child live)) m → HasEntry f live m
   sink_now m has = elim ((entries_after f live 0 (family 0 (one ∷ two ∷ [])) (λ _. false) g lawful.tree sink_change m).0
       (entry_same g (without_node p.child (without_node q.child live)) (live_after live 0 (family 0 (one ∷ two ∷ [])) (λ _. false) g) (λ x. sym (sink_live x)) m has)) [
-      inl kept ↦ kept.0
-    | inr (x, (there, held)) ↦
-        let is_root = only 0 x (ap (λ l. is_among l x) (sym reached_sink) ∙ there) in
-        let here : In m (entries_of (f p.child) ++ entries_of (f q.child)) =
+        | inl kept ↦ kept.0
+        | inr (x, (there, held)) ↦
+            let is_root = only 0 x (ap (λ l. is_among l x) (sym reached_sink) ∙ there) in
+            let here : In m (entries_of (f p.child) ++ entries_of (f q.child)) =
             subst (λ es. In m es) (sym members_now) (subst (λ y. In m (entries_of (g y))) is_root (contains_in (entries_of (g x)) m held)) in
-        elim (in_append (entries_of (f p.child)) (entries_of (f q.child)) m here) [
-          inl first ↦ (p.child, (left.alive, in_contains (entries_of (f p.child)) m first))
-        | inr last ↦ (q.child, (at.alive, in_contains (entries_of (f q.child)) m last))
-        ]
-    ]
+            elim (in_append (entries_of (f p.child)) (entries_of (f q.child)) m here) [
+              | inl first ↦ (p.child, (left.alive, in_contains (entries_of (f p.child)) m first))
+              | inr last ↦ (q.child, (at.alive, in_contains (entries_of (f q.child)) m last))
+            ]
+      ]
 
   root_has_none : (m : Member) → In m (entries_of (f 0)) → ⊥
   root_has_none m held =
@@ -353,27 +358,27 @@ module _ (f : Contents) (live : ℕ → Bool) (lawful : IsLawful f live) (p q : 
   sink_then m (x, (alive, held)) =
       let here = contains_in (entries_of (f x)) m held in
       let new_holder : In m (entries_of (g 0)) → HasEntry g (without_node p.child (without_node q.child live)) m =
-          λ there. (0, (outside_three 0 (λ e. left.no_root (sym e)) (λ e. at.no_root (sym e)) ∙ root_live f live lawful.tree, in_contains (entries_of (g 0)) m there)) in
+      λ there. (0, (outside_three 0 (λ e. left.no_root (sym e)) (λ e. at.no_root (sym e)) ∙ root_live f live lawful.tree, in_contains (entries_of (g 0)) m there)) in
       elim (cases_eq x p.child) [
-        inl e ↦ new_holder (subst (λ es. In m es) members_now (in_left (entries_of (f p.child)) (entries_of (f q.child)) m (subst (λ y. In m (entries_of (f y))) e here)))
-      | inr not_p ↦ elim (cases_eq x q.child) [
-          inl e ↦ new_holder (subst (λ es. In m es) members_now (in_right (entries_of (f p.child)) (entries_of (f q.child)) m (subst (λ y. In m (entries_of (f y))) e here)))
-        | inr not_q ↦ elim (cases_eq x 0) [
-            inl e ↦ absurd (root_has_none m (subst (λ y. In m (entries_of (f y))) e here))
-          | inr not_root ↦ (x, (outside_three x not_p not_q ∙ alive, subst (λ s. Contains (entries_of s) m) (sym (sink.others x not_root not_p not_q)) held))
+        | inl e ↦ new_holder (subst (λ es. In m es) members_now (in_left (entries_of (f p.child)) (entries_of (f q.child)) m (subst (λ y. In m (entries_of (f y))) e here)))
+        | inr not_p ↦ elim (cases_eq x q.child) [
+          | inl e ↦ new_holder (subst (λ es. In m es) members_now (in_right (entries_of (f p.child)) (entries_of (f q.child)) m (subst (λ y. In m (entries_of (f y))) e here)))
+          | inr not_q ↦ elim (cases_eq x 0) [
+            | inl e ↦ absurd (root_has_none m (subst (λ y. In m (entries_of (f y))) e here))
+            | inr not_root ↦ (x, (outside_three x not_p not_q ∙ alive, subst (λ s. Contains (entries_of s) m) (sym (sink.others x not_root not_p not_q)) held))
           ]
         ]
       ]
 
   pub sink_keeps : Keeps f live g (without_node p.child (without_node q.child live))
   sink_keeps = record {
-      lawful = record {
-        tree = tree_same g (live_after live 0 (family 0 (one ∷ two ∷ [])) (λ _. false) g) (without_node p.child (without_node q.child live)) sink_live
-            (tree_after f live 0 (family 0 (one ∷ two ∷ [])) (λ _. false) g lawful.tree sink_change);
-        filled = λ x alive. filled_after f live 0 (family 0 (one ∷ two ∷ [])) (λ _. false) g lawful.tree sink_change (λ y there outside. lawful.filled y there)
-            (subst (AllByRecursion (λ y. IsFilled y (g y))) (sym reached_sink)
-              (subst (IsFilled 0) (sym new_root) (root_joined p.child (f p.child).body (f q.child).body sink.fit (lawful.filled p.child left.alive)), tt))
-            x (sink_live x ∙ alive)
-      };
-      entries = λ m. (sink_now m, sink_then m)
-    }
+    lawful = record {
+      tree = tree_same g (live_after live 0 (family 0 (one ∷ two ∷ [])) (λ _. false) g) (without_node p.child (without_node q.child live)) sink_live
+          (tree_after f live 0 (family 0 (one ∷ two ∷ [])) (λ _. false) g lawful.tree sink_change);
+      filled = λ x alive. filled_after f live 0 (family 0 (one ∷ two ∷ [])) (λ _. false) g lawful.tree sink_change (λ y there outside. lawful.filled y there)
+          (subst (AllByRecursion (λ y. IsFilled y (g y))) (sym reached_sink)
+          (subst (IsFilled 0) (sym new_root) (root_joined p.child (f p.child).body (f q.child).body sink.fit (lawful.filled p.child left.alive)), tt))
+          x (sink_live x ∙ alive);
+    };
+    entries = λ m. (sink_now m, sink_then m);
+  }

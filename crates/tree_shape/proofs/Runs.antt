@@ -1,11 +1,11 @@
 -- Runs of separators and of entries that are cut in two, or joined.
-use Rattle.std.proofs.Common.{◌≡◌, ℕ, zero, suc, ◌+◌, ◌-◌, ◌<◌, ◌≤◌, List, [], ◌∷◌, ◌++◌, length, take, drop, refl, ap, sym, ◌∙◌, subst, arith}
+use Rattle.std.proofs.Common.{◌≡◌, ℕ, ◌+◌, ◌-◌, ◌<◌, ◌≤◌, List, [], ◌∷◌, ◌++◌, length, take, drop, refl, ap, sym, ◌∙◌, subst, arith}
 use Rattle.std.proofs.lemmas.List.{take-append-drop, length-take-le, length-drop, length-append}
 use Rattle.reg_model.specs.declared.span.Member.{Member}
 use Rattle.tree_shape.specs.declared.pair.Pair.{Pair}
-use Rattle.tree_shape.specs.Shapes.{Shape, Body, Pairs, Entries, Link, pairs_of, entries_of, pairs_in, entries_in, EntriesWithin, Cut}
-use Rattle.tree_shape.specs.Changes.{entries_end, pairs_end, first_half, last_half, joined, both, first_part, last_part, end_of, size}
-use Rattle.tree_shape.specs.Trees.{Branch, branches_from, branches}
+use Rattle.tree_shape.specs.Shapes.{Shape, Body, Pairs, Entries, Link, entries_of, EntriesWithin, Cut}
+use Rattle.tree_shape.specs.Changes.{entries_end, pairs_end, first_half, last_half, joined, size}
+use Rattle.tree_shape.specs.Trees.{branches_from, branches}
 use Rattle.tree_shape.specs.Lawful.{IsOrdered, IsOrderedAs}
 use Rattle.tree_shape.proofs.Slots.{some_left}
 
@@ -87,14 +87,18 @@ cuts n level low high (Pairs pairs) ordered some inside =
     let next : next_low low (take n pairs) ≡ pairs_end 0 (take n pairs) + 1 = next_low-some low (take n pairs) (omega arith) in
     let parts = cut_parts low high (pairs_end 0 (take n pairs)) (take n pairs) (drop n pairs) (subst (λ ps. Cut low high ps) (sym whole) ordered.1) next in
     record {
-      low = refl; fence = refl; high = refl; first_level = refl; last_level = refl;
+      low = refl;
+      fence = refl;
+      high = refl;
+      first_level = refl;
+      last_level = refl;
       first_ordered = (ordered.0, parts.0);
       last_ordered = (ordered.0, parts.1);
       above = some_left low (pairs_end 0 (take n pairs)) (take n pairs) parts.0 (omega arith);
       below = omega (arith, some_left (pairs_end 0 (take n pairs) + 1) high (drop n pairs) parts.1 (omega arith));
       children = λ k. ap (λ l. branches_from k low (take n pairs) ++ branches_from k l (drop n pairs)) (sym next)
           ∙ sym (branches-append k low (take n pairs) (drop n pairs)) ∙ ap (branches_from k low) whole;
-      members = refl
+      members = refl;
     }
 cuts n level low high (Entries entries) ordered some inside =
     let whole = take-append-drop n entries in
@@ -102,13 +106,17 @@ cuts n level low high (Entries entries) ordered some inside =
     let left : length (drop n entries) ≡ length entries - n = length-drop n entries in
     let parts = entries_cut low high (take n entries) (drop n entries) (subst (λ es. EntriesWithin low high es) (sym whole) ordered.1) (omega arith) in
     record {
-      low = refl; fence = refl; high = refl; first_level = refl; last_level = refl;
+      low = refl;
+      fence = refl;
+      high = refl;
+      first_level = refl;
+      last_level = refl;
       first_ordered = (ordered.0, parts.0);
       last_ordered = (ordered.0, parts.1);
       above = parts.2;
       below = omega (arith, entries_below (entries_end 0 (take n entries) + 1) high (drop n entries) parts.1 (omega arith));
       children = λ k. refl;
-      members = whole
+      members = whole;
     }
 cuts n level low high (Link next) ordered some inside = absurd ordered
 
@@ -132,7 +140,7 @@ joins level low high (Pairs left) level' low' high' (Pairs right) first last kin
   ordered = (first.0, cut_join low high' high left right first.1 (subst (λ l. Cut l high' right) fence last.1));
   children = λ k. ap (λ l. branches_from k low left ++ branches_from k l right) (fence ∙ sym (next_low-cut low high left first.1)) ∙ sym (branches-append k low left right);
   members = refl;
-  sizes = sym (length-append left right)
+  sizes = sym (length-append left right);
 }
 joins level low high (Pairs left) level' low' high' (Entries right) first last kind fence order below = absurd kind
 joins level low high (Pairs left) level' low' high' (Link next) first last kind fence order below = absurd kind
@@ -141,7 +149,7 @@ joins level low high (Entries left) level' low' high' (Entries right) first last
   ordered = (first.0, entries_join low high' high left right first.1 (subst (λ l. EntriesWithin l high' right) fence last.1) below order);
   children = λ k. refl;
   members = refl;
-  sizes = sym (length-append left right)
+  sizes = sym (length-append left right);
 }
 joins level low high (Entries left) level' low' high' (Link next) first last kind fence order below = absurd kind
 joins level low high (Link next) level' low' high' c first last kind fence order below = absurd first

@@ -1,19 +1,19 @@
 -- A slot of a live node: the pairs before it and after it, and its child.
-use Rattle.std.proofs.Common.{◌≡◌, ◌≢◌, ℕ, zero, suc, ◌+◌, ◌-◌, ◌<◌, ◌≤◌, ◌↔◌, List, [], ◌∷◌, ◌++◌, length, map, refl, ap, sym, ◌∙◌, subst, arith, Bool, true, false, cond, ◌||◌, IsTrue, eqb, ltb, inl, inr, ◌⊎◌, Some, None}
+use Rattle.std.proofs.Common.{◌≡◌, ◌≢◌, ℕ, zero, suc, ◌+◌, ◌-◌, ◌<◌, List, [], ◌∷◌, ◌++◌, length, map, refl, ap, sym, ◌∙◌, subst, arith, Bool, false, IsTrue, inl, inr, Some}
 use Rattle.std.specs.List.{flat_map, AllByRecursion, slice_get}
 use Rattle.std.specs.Option.{option_map_or}
-use Rattle.std.proofs.lemmas.Bool.{cases_eq, cases_Bool, cond-true, cond-false, eq-eqb, eqb-true, eqb-false, ne_eqb, or_left, or_right, or_parts, lt-ltb, le-ltb, both_ways}
-use Rattle.std.proofs.lemmas.List.{length-append, append-nil}
+use Rattle.std.proofs.lemmas.Bool.{cases_Bool, cond-true, cond-false}
+use Rattle.std.proofs.lemmas.List.{length-append}
 use Rattle.reg_model.specs.declared.span.Member.{Member}
 use Rattle.tree_shape.specs.declared.pair.Pair.{Pair}
 use Rattle.tree_shape.specs.Numbers.{times, once, is_among}
 use Rattle.tree_shape.specs.Shapes.{Shape, Body, Pairs, Entries, Link, entries_of, pairs_of, pairs_in, Cut}
 use Rattle.tree_shape.specs.Changes.{at_slot}
-use Rattle.tree_shape.specs.Trees.{Contents, Branch, branches_from, branches, nodes_under, nodes, within, leaving, HasEntry}
-use Rattle.tree_shape.specs.Lawful.{IsTree, IsLawful, IsOrdered, IsOrderedAs, IsFilled, Fits}
+use Rattle.tree_shape.specs.Trees.{Contents, Branch, branches_from, branches, within, HasEntry}
+use Rattle.tree_shape.specs.Lawful.{IsTree, IsOrderedAs, IsFilled, Fits}
 use Rattle.tree_shape.specs.LocalChange.{either, live_after}
 use Rattle.tree_shape.specs.Steps.{Keeps}
-use Rattle.tree_shape.proofs.Times.{In, times_head, in_right, once_same, once_other}
+use Rattle.tree_shape.proofs.Times.{In, in_right}
 use Rattle.tree_shape.proofs.Living.{own_branches, own_at, child_live, child_fits, root_no_child, own_child}
 use Rattle.tree_shape.proofs.Local.{tree_after, filled_after}
 use Rattle.tree_shape.proofs.Runs.{next_low, branches-append}
@@ -42,7 +42,7 @@ around_slot (q ∷ pairs) (suc slot) p at =
       back = rest.back;
       is = ap (λ ps. q ∷ ps) rest.is;
       changed = λ change. ap (λ ps. q ∷ ps) (rest.changed change);
-      next = rest.next
+      next = rest.next;
     }
 
 -- a node with pairs stands above level 0
@@ -67,13 +67,13 @@ filled_pairs n s filled some = is s.body some
 -- the same nodes are live
 pub tree_same : (g : Contents) (a b : ℕ → Bool) → ((x : ℕ) → a x ≡ b x) → IsTree g a → IsTree g b
 tree_same g a b same tree = record {
-    root_low = tree.root_low;
-    root_high = tree.root_high;
-    height = tree.height;
-    reached = λ x. tree.reached x ∙ ap once (same x);
-    ordered = λ x alive. tree.ordered x (same x ∙ alive);
-    fitting = λ x alive. tree.fitting x (same x ∙ alive)
-  }
+  root_low = tree.root_low;
+  root_high = tree.root_high;
+  height = tree.height;
+  reached = λ x. tree.reached x ∙ ap once (same x);
+  ordered = λ x alive. tree.ordered x (same x ∙ alive);
+  fitting = λ x alive. tree.fitting x (same x ∙ alive);
+}
 
 pub entry_same : (g : Contents) (a b : ℕ → Bool) → ((x : ℕ) → a x ≡ b x) → (m : Member) → HasEntry g a m → HasEntry g b m
 entry_same g a b same m (x, (alive, held)) = (x, (sym (same x) ∙ alive, held))
@@ -91,25 +91,26 @@ family_keeps f live tree n level front old new back fresh g live' r members befo
     let change = regroups f live tree n level front old new back fresh g r in
     let reached = reached_now f live tree n level front old new back fresh g r in
     let same : (x : ℕ) → live_after live n (family n old) fresh g x ≡ live' x =
-        λ x. elim (cases_Bool (either (family n old) fresh x)) [
-          inl touched ↦
-            cond-true (either (family n old) fresh x) (is_among (within (either (family n old) fresh) g (g n).level n) x) (live x) touched
-            ∙ ap (λ l. is_among l x) reached ∙ sym (inside x touched)
-        | inr untouched ↦
-            cond-false (either (family n old) fresh x) (is_among (within (either (family n old) fresh) g (g n).level n) x) (live x) untouched ∙ sym (outside x untouched)
-        ] in
+    λ x. elim (cases_Bool (either (family n old) fresh x)) [
+      | inl touched ↦
+          cond-true (either (family n old) fresh x) (is_among (within (either (family n old) fresh) g (g n).level n) x) (live x) touched
+          ∙ ap (λ l. is_among l x) reached ∙ sym (inside x touched)
+      | inr untouched ↦
+          cond-false (either (family n old) fresh x) (is_among (within (either (family n old) fresh) g (g n).level n) x) (live x) untouched ∙ sym (outside x untouched)
+    ] in
     let filled_now : AllByRecursion (λ x. IsFilled x (g x)) (within (either (family n old) fresh) g (g n).level n) =
-        subst (AllByRecursion (λ x. IsFilled x (g x))) (sym reached) (filled, over new each) in
+    subst (AllByRecursion (λ x. IsFilled x (g x))) (sym reached) (filled, over new each) in
     let entries = same_entries f live tree n level front old new back fresh g r members in
     let back' : (x : ℕ) → live' x ≡ live_after live n (family n old) fresh g x = λ x. sym (same x) in
     record {
       lawful = record {
         tree = tree_same g (live_after live n (family n old) fresh g) live' same (tree_after f live n (family n old) fresh g tree change);
-        filled = λ x alive. filled_after f live n (family n old) fresh g tree change before filled_now x (same x ∙ alive)
+        filled = λ x alive. filled_after f live n (family n old) fresh g tree change before filled_now x (same x ∙ alive);
       };
       entries = λ m. (
         λ has. (entries m).0 (entry_same g live' (live_after live n (family n old) fresh g) back' m has),
-        λ has. entry_same g (live_after live n (family n old) fresh g) live' same m ((entries m).1 has))
+        λ has. entry_same g (live_after live n (family n old) fresh g) live' same m ((entries m).1 has),
+      );
     }
   where
     over : (bs : List Branch) → ((b : Branch) → In b bs → IsFilled b.child (g b.child)) → AllByRecursion (λ x. IsFilled x (g x)) (numbers bs)
@@ -134,7 +135,7 @@ slotted f live tree n alive front p back is =
     let up = above_zero (f n) (f n).body (tree.ordered n alive) (omega arith) in
     let b : Branch = record { child = p.child; level = up.0; low = next_low (f n).low front; high = p.separator } in
     let before : branches up.0 (f n) ≡ branches_from up.0 (f n).low front ++ (b ∷ branches_from up.0 (p.separator + 1) back) =
-        ap (branches_from up.0 (f n).low) is ∙ branches-append up.0 (f n).low front (p ∷ back) in
+    ap (branches_from up.0 (f n).low) is ∙ branches-append up.0 (f n).low front (p ∷ back) in
     let own : In b (own_branches f n) = subst (λ bs. In b bs) (sym (own_at f n up.0 up.1 ∙ before)) (in_right (branches_from up.0 (f n).low front) (b ∷ branches_from up.0 (p.separator + 1) back) b (inl refl)) in
     let fits = child_fits f live tree n alive b own in
     record {
@@ -144,5 +145,5 @@ slotted f live tree n alive front p back is =
       alive = child_live f live tree n alive b own;
       fits = fits;
       no_root = λ e. root_no_child f live tree n alive (subst (λ x. 0 < times x (map (λ (q : Pair). q.child) (pairs_of (f n)))) e (own_child f n b own));
-      no_parent = λ e. (let same : (f p.child).level ≡ (f n).level = ap (λ x. (f x).level) e in let level = fits.level in let at = up.1 in absurd (omega arith))
+      no_parent = λ e. (let same : (f p.child).level ≡ (f n).level = ap (λ x. (f x).level) e in let level = fits.level in let at = up.1 in absurd (omega arith));
     }

@@ -1,7 +1,7 @@
 -- Laws of whole trees: entries in order, lookups, and fillings.
-use Rattle.std.proofs.Common.{◌≡◌, ◌≢◌, ℕ, zero, suc, ◌+◌, ◌-◌, ◌*◌, ◌^◌, ◌<◌, ◌≤◌, ◌↔◌, List, [], ◌∷◌, ◌++◌, length, map, refl, ap, sym, ◌∙◌, subst, arith, Bool, true, false, cond, ◌&&◌, IsTrue, eqb, leb, inl, inr, ◌⊎◌, Some, None}
-use Rattle.std.specs.List.{flat_map, Contains, find}
-use Rattle.std.proofs.lemmas.Bool.{cases_eq, cases_lt, cases_Bool, cond-true, cond-false, and_parts, leb-true}
+use Rattle.std.proofs.Common.{◌≡◌, ◌≢◌, ℕ, zero, suc, ◌+◌, ◌-◌, ◌*◌, ◌^◌, ◌<◌, ◌≤◌, ◌↔◌, List, [], ◌∷◌, ◌++◌, length, map, refl, ap, sym, ◌∙◌, subst, arith, Bool, IsTrue, inl, inr, Some}
+use Rattle.std.specs.List.{flat_map, Contains}
+use Rattle.std.proofs.lemmas.Bool.{cases_Bool, cond-true, cond-false}
 use Rattle.std.proofs.lemmas.List.{append-nil, length-append}
 use Rattle.std.proofs.lemmas.List.Concat.{flat_map-append}
 use Rattle.std.proofs.Math.Nat.{mul-le-mul_right, pow-suc}
@@ -12,12 +12,12 @@ use Rattle.reg_model.proofs.Spans.{contains_bounds}
 use Rattle.tree_shape.specs.declared.pair.Pair.{Pair}
 use Rattle.tree_shape.specs.Numbers.{times}
 use Rattle.tree_shape.specs.Shapes.{Shape, Body, Pairs, Entries, Link, entries_of, entries_in, pairs_of, pairs_in, EntriesWithin, Cut, IsLeaf}
-use Rattle.tree_shape.specs.Trees.{Contents, Branch, branches_from, branches, nodes_under, nodes, entries, leaf_for, leaf_under, HasEntry}
-use Rattle.tree_shape.specs.Lawful.{IsTree, IsLawful, IsOrdered, IsOrderedAs, IsFilled, IsFilledAs, fewest_pairs, fewest_entries}
+use Rattle.tree_shape.specs.Trees.{Contents, Branch, branches_from, branches, nodes_under, nodes, entries, leaf_for, HasEntry}
+use Rattle.tree_shape.specs.Lawful.{IsTree, IsLawful, IsOrderedAs, IsFilledAs, fewest_pairs, fewest_entries}
 use Rattle.tree_shape.proofs.Times.{In, times_head, times_cases, in_flat_map, in_flat_map_from}
 use Rattle.tree_shape.proofs.Reach.{branch_level}
 use Rattle.tree_shape.proofs.Living.{own_branches, own_at, live_node, node_live, root_live, root_no_child, child_live, child_fits, own_child}
-use Rattle.tree_shape.proofs.Leads.{contains_in, in_contains, entry_inside, entry_ordered, last_below, leaf_at_zero, inner_above, leads, leads_to}
+use Rattle.tree_shape.proofs.Leads.{contains_in, in_contains, entry_inside, last_below, leaf_at_zero, inner_above, leads, leads_to}
 use Rattle.tree_shape.proofs.Runs.{entries_join}
 use Rattle.tree_shape.proofs.Slotted.{some_same}
 use Rattle.tree_shape.proofs.Halves.{fewest_below, fewest_pairs_some}
@@ -26,9 +26,9 @@ use Rattle.tree_shape.proofs.Halves.{fewest_below, fewest_pairs_some}
 in_times : (xs : List ℕ) (n : ℕ) → In n xs → 0 < times n xs
 in_times [] n there = absurd there
 in_times (x ∷ xs) n there = elim there [
-    inl e ↦ subst (λ y. 0 < times y (x ∷ xs)) e (times_head x xs)
+  | inl e ↦ subst (λ y. 0 < times y (x ∷ xs)) e (times_head x xs)
   | inr later ↦ omega (arith, in_times xs n later)
-  ]
+]
 
 times_in : (xs : List ℕ) (n : ℕ) → 0 < times n xs → In n xs
 times_in [] n there = absurd (omega arith)
@@ -47,9 +47,9 @@ order_of_pairs f level low high (p ∷ pairs) cut each =
     let rest = order_of_pairs f level (p.separator + 1) high pairs cut.1 (λ b there. each b (inr there)) in
     let top = last_below (p.separator + 1) high pairs cut.1 in
     subst (EntriesWithin low high)
-      (sym (flat_map-append (held_by f) (nodes_under f level p.child) (flat_map (λ (b : Branch). nodes_under f level b.child) (branches_from level (p.separator + 1) pairs))))
-      (entries_join low high p.separator (flat_map (held_by f) (nodes_under f level p.child))
-        (flat_map (held_by f) (flat_map (λ (b : Branch). nodes_under f level b.child) (branches_from level (p.separator + 1) pairs))) first rest (omega arith) (omega (arith, cut.0)))
+    (sym (flat_map-append (held_by f) (nodes_under f level p.child) (flat_map (λ (b : Branch). nodes_under f level b.child) (branches_from level (p.separator + 1) pairs))))
+    (entries_join low high p.separator (flat_map (held_by f) (nodes_under f level p.child))
+    (flat_map (held_by f) (flat_map (λ (b : Branch). nodes_under f level b.child) (branches_from level (p.separator + 1) pairs))) first rest (omega arith) (omega (arith, cut.0)))
 
 inner_holds_none : (s : Shape) (b : Body) → IsOrderedAs s b → 0 < s.level → entries_in b ≡ []
 inner_holds_none s (Pairs pairs) ordered above = refl
@@ -63,51 +63,52 @@ in_order f live tree (suc level) n alive at =
     let none = inner_holds_none (f n) (f n).body (tree.ordered n alive) (omega arith) in
     let cut = inner_above (f n) (f n).body (tree.ordered n alive) (omega arith) in
     subst (λ es. EntriesWithin (f n).low (f n).high (es ++ flat_map (held_by f) (flat_map (λ (b : Branch). nodes_under f level b.child) (branches level (f n))))) (sym none)
-      (order_of_pairs f level (f n).low (f n).high (pairs_of (f n)) cut (λ b there.
-        let own : In b (own_branches f n) = subst (λ bs. In b bs) (sym (own_at f n level at)) there in
-        let fits = child_fits f live tree n alive b own in
-        let below' = in_order f live tree level b.child (child_live f live tree n alive b own) (fits.level ∙ branch_level level (f n).low (pairs_of (f n)) b there) in
-        subst (λ l. EntriesWithin l b.high (flat_map (held_by f) (nodes_under f level b.child))) fits.low
-          (subst (λ h. EntriesWithin (f b.child).low h (flat_map (held_by f) (nodes_under f level b.child))) fits.high below')))
+    (order_of_pairs f level (f n).low (f n).high (pairs_of (f n)) cut (λ b there.
+    let own : In b (own_branches f n) = subst (λ bs. In b bs) (sym (own_at f n level at)) there in
+    let fits = child_fits f live tree n alive b own in
+    let below' = in_order f live tree level b.child (child_live f live tree n alive b own) (fits.level ∙ branch_level level (f n).low (pairs_of (f n)) b there) in
+    subst (λ l. EntriesWithin l b.high (flat_map (held_by f) (nodes_under f level b.child))) fits.low
+    (subst (λ h. EntriesWithin (f b.child).low h (flat_map (held_by f) (nodes_under f level b.child))) fits.high below')))
 
 pub entries_in_order : (f : Contents) (live : ℕ → Bool) → IsTree f live → EntriesWithin 0 (2 ^ 64 - 1) (entries f)
 entries_in_order f live tree =
     subst (λ l. EntriesWithin l (2 ^ 64 - 1) (entries f)) tree.root_low
-      (subst (λ h. EntriesWithin (f 0).low h (entries f)) tree.root_high (in_order f live tree (f 0).level 0 (root_live f live tree) refl))
+    (subst (λ h. EntriesWithin (f 0).low h (entries f)) tree.root_high (in_order f live tree (f 0).level 0 (root_live f live tree) refl))
 
 -- They are the entries of the live nodes.
 pub entries_are : (f : Contents) (live : ℕ → Bool) → IsTree f live → (m : Member) → Contains (entries f) m ↔ HasEntry f live m
 entries_are f live tree m = (
-    λ there.
+  λ there.
       let found = in_flat_map (held_by f) (nodes f) m (contains_in (entries f) m there) in
       (found.0, (node_live f live tree found.0 (in_times (nodes f) found.0 found.1.0), in_contains (entries_of (f found.0)) m found.1.1)),
-    λ has. in_contains (entries f) m (in_flat_map_from (held_by f) (nodes f) has.0 m (times_in (nodes f) has.0 (live_node f live tree has.0 has.1.0)) (contains_in (entries_of (f has.0)) m has.1.1)))
+  λ has. in_contains (entries f) m (in_flat_map_from (held_by f) (nodes f) has.0 m (times_in (nodes f) has.0 (live_node f live tree has.0 has.1.0)) (contains_in (entries_of (f has.0)) m has.1.1)),
+)
 
 -- Lookups.
 found_in : (pc : ℕ) (es : List Member) (m : Member) → member_at pc es ≡ Some m → In m es × IsTrue (contains m.span pc)
 found_in pc [] m at = absurd (cc)
 found_in pc (e ∷ es) m at = elim (cases_Bool (contains e.span pc)) [
-    inl hits ↦
+  | inl hits ↦
       let is : e ≡ m = some_same e m (sym (cond-true (contains e.span pc) (Some e) (member_at pc es) hits) ∙ at) in
       (inl is, subst (λ (x : Member). IsTrue (contains x.span pc)) is hits)
   | inr misses ↦
       let rest = found_in pc es m (sym (cond-false (contains e.span pc) (Some e) (member_at pc es) misses) ∙ at) in
       (inr rest.0, rest.1)
-  ]
+]
 
 found_from : (pc low high : ℕ) (es : List Member) (m : Member) → EntriesWithin low high es → In m es → IsTrue (contains m.span pc) → member_at pc es ≡ Some m
 found_from pc low high [] m within there holds = absurd there
 found_from pc low high (e ∷ es) m within there holds = elim there [
-    inl is ↦ cond-true (contains e.span pc) (Some e) (member_at pc es) (subst (λ (x : Member). IsTrue (contains x.span pc)) (sym is) holds) ∙ ap Some is
+  | inl is ↦ cond-true (contains e.span pc) (Some e) (member_at pc es) (subst (λ (x : Member). IsTrue (contains x.span pc)) (sym is) holds) ∙ ap Some is
   | inr later ↦ elim (cases_Bool (contains e.span pc)) [
-      inl also ↦
+    | inl also ↦
         let at = contains_bounds m.span pc holds in
         let at' = contains_bounds e.span pc also in
         let inside = entry_inside (e.span.last + 1) high es m within.3 later in
         absurd (omega (arith, at.0, at'.1, inside.0))
     | inr misses ↦ cond-false (contains e.span pc) (Some e) (member_at pc es) misses ∙ found_from pc (e.span.last + 1) high es m within.3 later holds
-    ]
   ]
+]
 
 is_leaf_at : (s : Shape) (b : Body) → IsOrderedAs s b → s.level ≡ 0 → b ≡ Entries (entries_in b)
 is_leaf_at s (Pairs pairs) ordered at = absurd (omega arith)
@@ -127,15 +128,16 @@ lookup_finds f live tree pc inside m =
     let low = tree.root_low in
     let high = tree.root_high in
     let to = leads_to f live tree pc (f 0).level 0 (root_live f live tree) refl (omega arith) (omega arith) in
-    let within = leaf_at_zero (f (leaf_for f pc)) (f (leaf_for f pc)).body (tree.ordered (leaf_for f pc) to.0) to.1 in
-    (λ found.
-      let there = found_in pc (entries_of (f (leaf_for f pc))) m found in
-      ((leaf_for f pc, (to.0, in_contains (entries_of (f (leaf_for f pc))) m there.0)), there.1),
-     λ h.
-      let at = contains_in (entries_of (f h.0.0)) m h.0.1.1 in
-      let bounds = contains_bounds m.span pc h.1 in
-      let led = leads f live tree pc (f 0).level 0 (root_live f live tree) refl h.0.0 (live_node f live tree h.0.0 h.0.1.0) m at bounds.0 bounds.1 in
-      found_from pc (f (leaf_for f pc)).low (f (leaf_for f pc)).high (entries_of (f (leaf_for f pc))) m within (subst (λ n. In m (entries_of (f n))) (sym led.0) at) h.1)
+    let within = leaf_at_zero (f (leaf_for f pc)) (f (leaf_for f pc)).body (tree.ordered (leaf_for f pc) to.0) to.1 in (
+      λ found.
+          let there = found_in pc (entries_of (f (leaf_for f pc))) m found in
+          ((leaf_for f pc, (to.0, in_contains (entries_of (f (leaf_for f pc))) m there.0)), there.1),
+      λ h.
+          let at = contains_in (entries_of (f h.0.0)) m h.0.1.1 in
+          let bounds = contains_bounds m.span pc h.1 in
+          let led = leads f live tree pc (f 0).level 0 (root_live f live tree) refl h.0.0 (live_node f live tree h.0.0 h.0.1.0) m at bounds.0 bounds.1 in
+          found_from pc (f (leaf_for f pc)).low (f (leaf_for f pc)).high (entries_of (f (leaf_for f pc))) m within (subst (λ n. In m (entries_of (f n))) (sym led.0) at) h.1,
+    )
 
 -- Fillings.
 branch_count : (level low : ℕ) (pairs : List Pair) → length (branches_from level low pairs) ≡ length pairs
@@ -160,8 +162,12 @@ more_entries f under [] each = omega arith
 more_entries f under (b ∷ bs) each =
     let one = each b (inl refl) in
     let rest = more_entries f under bs (λ c there. each c (inr there)) in
-    omega (arith, length-append (under b) (flat_map under bs), ap length (flat_map-append (held_by f) (under b) (flat_map under bs)),
-      length-append (flat_map (held_by f) (under b)) (flat_map (held_by f) (flat_map under bs)))
+    omega (
+      arith,
+      length-append (under b) (flat_map under bs),
+      ap length (flat_map-append (held_by f) (under b) (flat_map under bs)),
+      length-append (flat_map (held_by f) (under b)) (flat_map (held_by f) (flat_map under bs)),
+    )
 
 many : {X : Type 0} (m : ℕ) (under : X → List ℕ) (bs : List X) → ((b : X) → In b bs → m ≤ length (under b)) → length bs * m ≤ length (flat_map under bs)
 many m under [] each = omega arith
@@ -174,9 +180,11 @@ child_below : (f : Contents) (live : ℕ → Bool) → IsTree f live → (n leve
     IsTrue (live b.child) × ((f b.child).level ≡ level) × (b.child ≢ 0)
 child_below f live tree n level alive at b there =
     let own : In b (own_branches f n) = subst (λ bs. In b bs) (sym (own_at f n level at)) there in
-    let fits = child_fits f live tree n alive b own in
-    (child_live f live tree n alive b own, fits.level ∙ branch_level level (f n).low (pairs_of (f n)) b there,
-      λ e. root_no_child f live tree n alive (subst (λ x. 0 < times x (map (λ (p : Pair). p.child) (pairs_of (f n)))) e (own_child f n b own)))
+    let fits = child_fits f live tree n alive b own in (
+      child_live f live tree n alive b own,
+      fits.level ∙ branch_level level (f n).low (pairs_of (f n)) b there,
+      λ e. root_no_child f live tree n alive (subst (λ x. 0 < times x (map (λ (p : Pair). p.child) (pairs_of (f n)))) e (own_child f n b own)),
+    )
 
 twice_below : (f : Contents) (live : ℕ → Bool) → IsLawful f live → (level n : ℕ) → IsTrue (live n) → (f n).level ≡ level → n ≢ 0 →
     length (nodes_under f level n) + length (nodes_under f level n) + 2 ≤ length (flat_map (held_by f) (nodes_under f level n))
@@ -186,10 +194,16 @@ twice_below f live lawful zero n alive at below =
 twice_below f live lawful (suc level) n alive at below =
     let some = inner_pairs n (f n) (f n).body (lawful.tree.ordered n alive) (lawful.filled n alive) (omega arith) in
     let sums = more_entries f (λ (b : Branch). nodes_under f level b.child) (branches level (f n)) (λ b there.
-        let child = child_below f live lawful.tree n level alive at b there in
-        twice_below f live lawful level b.child child.0 child.1 child.2) in
-    omega (arith, some, fewest_pairs_some n, sums, branch_count level (f n).low (pairs_of (f n)),
-      length-append (entries_of (f n)) (flat_map (held_by f) (flat_map (λ (b : Branch). nodes_under f level b.child) (branches level (f n)))))
+    let child = child_below f live lawful.tree n level alive at b there in
+    twice_below f live lawful level b.child child.0 child.1 child.2) in
+    omega (
+      arith,
+      some,
+      fewest_pairs_some n,
+      sums,
+      branch_count level (f n).low (pairs_of (f n)),
+      length-append (entries_of (f n)) (flat_map (held_by f) (flat_map (λ (b : Branch). nodes_under f level b.child) (branches level (f n)))),
+    )
 
 pub twice_as_many : (f : Contents) (live : ℕ → Bool) → IsLawful f live → 2 ≤ length (nodes f) → 2 * length (nodes f) ≤ length (entries f)
 twice_as_many f live lawful two = at_level (f 0).level refl two
@@ -199,10 +213,15 @@ twice_as_many f live lawful two = at_level (f 0).level refl two
     at_level (suc level) at two =
         let some = inner_pairs 0 (f 0) (f 0).body (lawful.tree.ordered 0 (root_live f live lawful.tree)) (lawful.filled 0 (root_live f live lawful.tree)) (omega arith) in
         let sums = more_entries f (λ (b : Branch). nodes_under f level b.child) (branches level (f 0)) (λ b there.
-            let child = child_below f live lawful.tree 0 level (root_live f live lawful.tree) at b there in
-            twice_below f live lawful level b.child child.0 child.1 child.2) in
-        omega (arith, some, sums, branch_count level (f 0).low (pairs_of (f 0)),
-          length-append (entries_of (f 0)) (flat_map (held_by f) (flat_map (λ (b : Branch). nodes_under f level b.child) (branches level (f 0)))))
+        let child = child_below f live lawful.tree 0 level (root_live f live lawful.tree) at b there in
+        twice_below f live lawful level b.child child.0 child.1 child.2) in
+        omega (
+          arith,
+          some,
+          sums,
+          branch_count level (f 0).low (pairs_of (f 0)),
+          length-append (entries_of (f 0)) (flat_map (held_by f) (flat_map (λ (b : Branch). nodes_under f level b.child) (branches level (f 0)))),
+        )
 
 six_each : (f : Contents) (live : ℕ → Bool) → IsLawful f live → (level n : ℕ) → IsTrue (live n) → (f n).level ≡ level → n ≢ 0 → 6 ^ level ≤ length (nodes_under f level n)
 six_each f live lawful zero n alive at below = omega arith
@@ -210,8 +229,8 @@ six_each f live lawful (suc level) n alive at below =
     let some = inner_pairs n (f n) (f n).body (lawful.tree.ordered n alive) (lawful.filled n alive) (omega arith) in
     let six : 6 ≤ length (branches level (f n)) = omega (arith, some, (fewest_below n below).1, branch_count level (f n).low (pairs_of (f n))) in
     let sums = many (6 ^ level) (λ (b : Branch). nodes_under f level b.child) (branches level (f n)) (λ b there.
-        let child = child_below f live lawful.tree n level alive at b there in
-        six_each f live lawful level b.child child.0 child.1 child.2) in
+    let child = child_below f live lawful.tree n level alive at b there in
+    six_each f live lawful level b.child child.0 child.1 child.2) in
     let product : 6 * 6 ^ level ≤ length (branches level (f n)) * 6 ^ level = mul-le-mul_right (6 ^ level) six in
     omega (arith, product, sums, pow-suc 6 level)
 
@@ -222,8 +241,8 @@ tall_is_large f live lawful at =
     let some = inner_pairs 0 (f 0) (f 0).body (lawful.tree.ordered 0 (root_live f live lawful.tree)) (lawful.filled 0 (root_live f live lawful.tree)) (omega arith) in
     let two : 2 ≤ length (branches level (f 0)) = omega (arith, some, branch_count level (f 0).low (pairs_of (f 0))) in
     let sums = many (6 ^ level) (λ (b : Branch). nodes_under f level b.child) (branches level (f 0)) (λ b there.
-        let child = child_below f live lawful.tree 0 level (root_live f live lawful.tree) up b there in
-        six_each f live lawful level b.child child.0 child.1 child.2) in
+    let child = child_below f live lawful.tree 0 level (root_live f live lawful.tree) up b there in
+    six_each f live lawful level b.child child.0 child.1 child.2) in
     let product : 2 * 6 ^ level ≤ length (branches level (f 0)) * 6 ^ level = mul-le-mul_right (6 ^ level) two in
     let eleven : level ≡ 11 = omega arith in
     let power : 6 ^ level ≡ 362797056 = ap (λ l. 6 ^ l) eleven in

@@ -43,4 +43,4 @@ live_after live top group fresh g n =
 abbrev pub ChangesEntries : Contents → (ℕ → Bool) → ℕ → (ℕ → Bool) → (ℕ → Bool) → Contents → Type 0
 ChangesEntries f live top group fresh g =
     (m : Member) → HasEntry g (live_after live top group fresh g) m ↔
-     ((HasEntry f live m × ¬ HasEntry f group m) ⊎ HasEntry g (is_among (within (either group fresh) g (g top).level top)) m)
+    ((HasEntry f live m × ¬ HasEntry f group m) ⊎ HasEntry g (is_among (within (either group fresh) g (g top).level top)) m)

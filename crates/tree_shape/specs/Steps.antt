@@ -1,12 +1,12 @@
 -- The changes of nodes put into a tree: which contents g come of contents f.
-use Rattle.std.specs.Prelude.{◌≡◌, ◌≢◌, ℕ, zero, suc, ◌+◌, ◌/◌, ◌<◌, ◌≤◌, ◌↔◌, ◌⊎◌, Bool, true, false, List, [], ◌∷◌, length, Some, Contains, IsTrue, ◌==◌, if◌then◌else◌}
+use Rattle.std.specs.Prelude.{◌≡◌, ◌≢◌, ℕ, zero, suc, ◌+◌, ◌/◌, ◌<◌, ◌≤◌, ◌↔◌, ◌⊎◌, Bool, true, false, List, [], ◌∷◌, length, Some, IsTrue, ◌==◌, if◌then◌else◌}
 use Rattle.std.specs.List.{AllByRecursion, slice_get}
 use Rattle.reg_model.specs.declared.span.Member.{Member}
 use Rattle.reg_model.specs.Interval.{IsSpan}
 use Rattle.reg_model.specs.State.{IsFree, at_base}
 use Rattle.reg_model.specs.History.{without}
 use Rattle.tree_shape.specs.declared.pair.Pair.{Pair}
-use Rattle.tree_shape.specs.Shapes.{Shape, Body, Pairs, Entries, Link, pairs_of, entries_of, IsLeaf}
+use Rattle.tree_shape.specs.Shapes.{Body, Pairs, Entries, Link, pairs_of, entries_of, IsLeaf}
 use Rattle.tree_shape.specs.Changes.{first_half, last_half, joined, at_slot, divide, swallow_next, separate_at, with_entry, first_part, end_of, size, up_to, after, Fit, Overfill}
 use Rattle.tree_shape.specs.Numbers.{times}
 use Rattle.tree_shape.specs.Trees.{Contents, HasEntry}

@@ -14,136 +14,88 @@ ghost use Rattle.tree_shape.specs.LocalChange.{IsLocalChange, ChangesEntries, ei
 
 /// A lookup down the separators comes to a leaf, and finds there exactly what the tree holds.
 pub fn lookup()
-    ensures leaf {
-        (f : Contents) (live : ℕ → Bool) (pc : ℕ) → IsTree f live → pc ≤ 2 ^ 64 - 1
-        → IsTrue (live (leaf_for f pc)) × IsLeaf (f (leaf_for f pc))
-    }
-    ensures found {
-        (f : Contents) (live : ℕ → Bool) (pc : ℕ) (m : Member) → IsTree f live → pc ≤ 2 ^ 64 - 1
-        → (member_at pc (entries_of (f (leaf_for f pc))) ≡ Some m) ↔ (HasEntry f live m × IsTrue (contains m.span pc))
-    }
-{
-}
+    ensures leaf { (f : Contents) (live : ℕ → Bool) (pc : ℕ) → IsTree f live → pc ≤ 2 ^ 64 - 1
+        → IsTrue (live (leaf_for f pc)) × IsLeaf (f (leaf_for f pc)) }
+    ensures found { (f : Contents) (live : ℕ → Bool) (pc : ℕ) (m : Member) → IsTree f live → pc ≤ 2 ^ 64 - 1
+        → (member_at pc (entries_of (f (leaf_for f pc))) ≡ Some m) ↔ (HasEntry f live m × IsTrue (contains m.span pc)) }
+{}
 
 /// A tree's entries from left to right are those of its live nodes, and ascend.
 pub fn order()
-    ensures entries {
-        (f : Contents) (live : ℕ → Bool) (m : Member) → IsTree f live → Contains (entries f) m ↔ HasEntry f live m
-    }
-    ensures ascending {
-        (f : Contents) (live : ℕ → Bool) → IsTree f live → EntriesWithin 0 (2 ^ 64 - 1) (entries f)
-    }
-{
-}
+    ensures entries { (f : Contents) (live : ℕ → Bool) (m : Member) → IsTree f live → Contains (entries f) m ↔ HasEntry f live m }
+    ensures ascending { (f : Contents) (live : ℕ → Bool) → IsTree f live → EntriesWithin 0 (2 ^ 64 - 1) (entries f) }
+{}
 
 /// A lawful tree of two nodes or more has at least twice as many entries as nodes, and one whose root has level 12 has more
 /// than 16,384 nodes.
 pub fn fillings()
-    ensures entries {
-        (f : Contents) (live : ℕ → Bool) → IsLawful f live → 2 ≤ length (nodes f) → 2 * length (nodes f) ≤ length (entries f)
-    }
-    ensures height {
-        (f : Contents) (live : ℕ → Bool) → IsLawful f live → (f 0).level ≡ 12 → 16384 < length (nodes f)
-    }
-{
-}
+    ensures entries { (f : Contents) (live : ℕ → Bool) → IsLawful f live → 2 ≤ length (nodes f) → 2 * length (nodes f) ≤ length (entries f) }
+    ensures height { (f : Contents) (live : ℕ → Bool) → IsLawful f live → (f 0).level ≡ 12 → 16384 < length (nodes f) }
+{}
 
 /// A change of some nodes that keeps what these nodes say of themselves and of their neighbours keeps the whole tree.
 /// It changes the tree's entries by those of these nodes. Where the nodes that the top now reaches are filled, it keeps a
 /// lawful tree lawful.
 pub fn local_change()
-    ensures tree {
-        (f : Contents) (live : ℕ → Bool) (top : ℕ) (group fresh : ℕ → Bool) (g : Contents)
+    ensures tree { (f : Contents) (live : ℕ → Bool) (top : ℕ) (group fresh : ℕ → Bool) (g : Contents)
         → IsTree f live → IsLocalChange f live top group fresh g
-        → IsTree g (live_after live top group fresh g)
-    }
-    ensures entries {
-        (f : Contents) (live : ℕ → Bool) (top : ℕ) (group fresh : ℕ → Bool) (g : Contents)
+        → IsTree g (live_after live top group fresh g) }
+    ensures entries { (f : Contents) (live : ℕ → Bool) (top : ℕ) (group fresh : ℕ → Bool) (g : Contents)
         → IsTree f live → IsLocalChange f live top group fresh g
-        → ChangesEntries f live top group fresh g
-    }
-    ensures lawful {
-        (f : Contents) (live : ℕ → Bool) (top : ℕ) (group fresh : ℕ → Bool) (g : Contents)
+        → ChangesEntries f live top group fresh g }
+    ensures lawful { (f : Contents) (live : ℕ → Bool) (top : ℕ) (group fresh : ℕ → Bool) (g : Contents)
         → IsLawful f live → IsLocalChange f live top group fresh g
         → AllByRecursion (λ n. IsFilled n (g n)) (within (either group fresh) g (g top).level top)
-        → IsLawful g (live_after live top group fresh g)
-    }
-{
-}
+        → IsLawful g (live_after live top group fresh g) }
+{}
 
 /// A child that is split, with its parent's new pair.
 pub fn split()
-    ensures {
-        (f : Contents) (live : ℕ → Bool) (parent slot : ℕ) (p : Pair) (fresh : ℕ) (g : Contents)
-        → IsLawful f live → IsSplit f live parent slot p fresh g → Keeps f live g (with_node fresh live)
-    }
-{
-}
+    ensures { (f : Contents) (live : ℕ → Bool) (parent slot : ℕ) (p : Pair) (fresh : ℕ) (g : Contents)
+        → IsLawful f live → IsSplit f live parent slot p fresh g → Keeps f live g (with_node fresh live) }
+{}
 
 /// Two children that are joined, with their parent's pair less.
 pub fn join()
-    ensures {
-        (f : Contents) (live : ℕ → Bool) (parent slot : ℕ) (p q : Pair) (g : Contents)
-        → IsLawful f live → IsJoin f live parent slot p q g → Keeps f live g (without_node q.child live)
-    }
-{
-}
+    ensures { (f : Contents) (live : ℕ → Bool) (parent slot : ℕ) (p q : Pair) (g : Contents)
+        → IsLawful f live → IsJoin f live parent slot p q g → Keeps f live g (without_node q.child live) }
+{}
 
 /// Two children that are given even shares, with their parent's new separator.
 pub fn share()
-    ensures {
-        (f : Contents) (live : ℕ → Bool) (parent slot : ℕ) (p q : Pair) (g : Contents)
-        → IsLawful f live → IsShare f live parent slot p q g → Keeps f live g live
-    }
-{
-}
+    ensures { (f : Contents) (live : ℕ → Bool) (parent slot : ℕ) (p q : Pair) (g : Contents)
+        → IsLawful f live → IsShare f live parent slot p q g → Keeps f live g live }
+{}
 
 /// A fence that is moved, on both spines and in the node above them.
 pub fn move_fence()
-    ensures {
-        (f : Contents) (live : ℕ → Bool) (parent slot : ℕ) (p q : Pair) (fence : ℕ) (g : Contents)
-        → IsLawful f live → IsFenceMove f live parent slot p q fence g → Keeps f live g live
-    }
-{
-}
+    ensures { (f : Contents) (live : ℕ → Bool) (parent slot : ℕ) (p q : Pair) (fence : ℕ) (g : Contents)
+        → IsLawful f live → IsFenceMove f live parent slot p q fence g → Keeps f live g live }
+{}
 
 /// The root that is lifted leaves a tree that is lawful but for its one pair; the split that follows makes it lawful.
 pub fn lift()
-    ensures lifted {
-        (f : Contents) (live : ℕ → Bool) (fresh : ℕ) (g : Contents)
-        → IsLawful f live → IsLift f live fresh g → Lifts f live g (with_node fresh live)
-    }
-    ensures split {
-        (f : Contents) (live : ℕ → Bool) (moved : ℕ) (h : Contents) (p : Pair) (fresh : ℕ) (g : Contents)
+    ensures lifted { (f : Contents) (live : ℕ → Bool) (fresh : ℕ) (g : Contents)
+        → IsLawful f live → IsLift f live fresh g → Lifts f live g (with_node fresh live) }
+    ensures split { (f : Contents) (live : ℕ → Bool) (moved : ℕ) (h : Contents) (p : Pair) (fresh : ℕ) (g : Contents)
         → IsLawful f live → IsLift f live moved h → IsSplit h (with_node moved live) 0 0 p fresh g
-        → Keeps f live g (with_node fresh (with_node moved live))
-    }
-{
-}
+        → Keeps f live g (with_node fresh (with_node moved live)) }
+{}
 
 /// The root that takes the place of its only two children.
 pub fn sink()
-    ensures {
-        (f : Contents) (live : ℕ → Bool) (p q : Pair) (g : Contents)
-        → IsLawful f live → IsSink f live p q g → Keeps f live g (without_node p.child (without_node q.child live))
-    }
-{
-}
+    ensures { (f : Contents) (live : ℕ → Bool) (p q : Pair) (g : Contents)
+        → IsLawful f live → IsSink f live p q g → Keeps f live g (without_node p.child (without_node q.child live)) }
+{}
 
 /// A leaf that gets one more entry adds exactly this member.
 pub fn put()
-    ensures {
-        (f : Contents) (live : ℕ → Bool) (leaf : ℕ) (member : Member) (g : Contents)
-        → IsLawful f live → IsPut f live leaf member g → Adds f live member g
-    }
-{
-}
+    ensures { (f : Contents) (live : ℕ → Bool) (leaf : ℕ) (member : Member) (g : Contents)
+        → IsLawful f live → IsPut f live leaf member g → Adds f live member g }
+{}
 
 /// A leaf that loses an entry takes exactly the member that begins at the address.
 pub fn take()
-    ensures {
-        (f : Contents) (live : ℕ → Bool) (leaf base : ℕ) (member : Member) (g : Contents)
-        → IsLawful f live → IsTake f live leaf base member g → Takes f live leaf member g
-    }
-{
-}
+    ensures { (f : Contents) (live : ℕ → Bool) (leaf base : ℕ) (member : Member) (g : Contents)
+        → IsLawful f live → IsTake f live leaf base member g → Takes f live leaf member g }
+{}

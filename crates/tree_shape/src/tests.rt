@@ -112,7 +112,9 @@ fn leaf(rt: &impl Abort, low: u64, high: u64, bases: &[u64]) -> Node {
 
 #[test]
 fn a_full_leaf_splits_into_five_and_five(rt: HostRuntime) {
-    let bases = [0x1000, 0x1100, 0x1200, 0x1300, 0x1400, 0x1500, 0x1600, 0x1700, 0x1800, 0x1900];
+    let bases = [
+        0x1000, 0x1100, 0x1200, 0x1300, 0x1400, 0x1500, 0x1600, 0x1700, 0x1800, 0x1900,
+    ];
     let node = leaf(&rt, 0, u64::MAX, &bases);
     assert!(rt; is_leaf(&node));
     assert_eq!(rt; node.entries().len(), 10);
@@ -127,7 +129,14 @@ fn a_full_leaf_splits_into_five_and_five(rt: HostRuntime) {
 #[test]
 fn four_and_nine_become_six_and_seven(rt: HostRuntime) {
     let left = leaf(&rt, 0, 0xfff, &[0x100, 0x200, 0x300, 0x400]);
-    let right = leaf(&rt, 0x1000, 0x2000, &[0x1000, 0x1100, 0x1200, 0x1300, 0x1400, 0x1500, 0x1600, 0x1700, 0x1800]);
+    let right = leaf(
+        &rt,
+        0x1000,
+        0x2000,
+        &[
+            0x1000, 0x1100, 0x1200, 0x1300, 0x1400, 0x1500, 0x1600, 0x1700, 0x1800,
+        ],
+    );
     assert!(rt; left.level == right.level && left.high < right.low && left.high + 1 == right.low);
     assert!(rt; overfill(&left, &right));
     assert!(rt; in_order(&left));
@@ -142,7 +151,12 @@ fn four_and_nine_become_six_and_seven(rt: HostRuntime) {
 #[test]
 fn four_and_five_are_joined_to_nine(rt: HostRuntime) {
     let left = leaf(&rt, 0, 0xfff, &[0x100, 0x200, 0x300, 0x400]);
-    let right = leaf(&rt, 0x1000, 0x2000, &[0x1000, 0x1100, 0x1200, 0x1300, 0x1400]);
+    let right = leaf(
+        &rt,
+        0x1000,
+        0x2000,
+        &[0x1000, 0x1100, 0x1200, 0x1300, 0x1400],
+    );
     assert!(rt; fit(&left, &right));
     let node = join_pair(&left, &right);
     assert_eq!(rt; node.entries().len(), 9);
@@ -157,7 +171,10 @@ fn the_other_calls_run_once(rt: HostRuntime) {
     assert!(rt; in_order(&node));
     assert_eq!(rt; leaf_slot(&node, 0x1108), Some(member(&rt, 0x1100, 0x10)));
     assert_eq!(rt; leaf_slot(&node, 0x1110), None);
-    assert_eq!(rt; first_overlap(&node, &member(&rt, 0x1080, 0x200).span), Some(member(&rt, 0x1100, 0x10)));
+    assert_eq!(rt;
+        first_overlap(&node, &member(&rt, 0x1080, 0x200).span),
+        Some(member(&rt, 0x1100, 0x10))
+    );
     assert_eq!(rt; first_overlap(&node, &member(&rt, 0x1010, 0x10).span), None);
     let mut inner = node_of_one(&rt, 1);
     for child in 2u32..16 {
@@ -187,7 +204,13 @@ fn the_other_calls_run_once(rt: HostRuntime) {
     assert_eq!(rt; fewer.pairs().len(), 6);
     let moved = set_separator(&left, 0, 0x1000);
     assert!(rt; moved.pairs().len() == 7);
-    assert_eq!(rt; moved.pairs()[0], Pair { child: 1, separator: 0x1000 });
+    assert_eq!(rt;
+        moved.pairs()[0],
+        Pair {
+            child: 1,
+            separator: 0x1000
+        }
+    );
 }
 
 // An inner node of level 1 over all addresses with one pair.
@@ -226,7 +249,12 @@ fn is_full(node: &Node) -> bool {
 }
 
 // Splits the child at a slot of a node that has room.
-fn split_child(rt: &impl Abort, nodes: &mut Vec<Node>, parent: u32, slot: usize) -> Result<(), Fail> {
+fn split_child(
+    rt: &impl Abort,
+    nodes: &mut Vec<Node>,
+    parent: u32,
+    slot: usize,
+) -> Result<(), Fail> {
     let fresh = nodes.len();
     assert!(rt; fresh < 100);
     let child = child_at(rt, node(rt, nodes.as_slice(), parent), slot);
@@ -286,14 +314,20 @@ fn insert(rt: &impl Abort, nodes: &mut Vec<Node>, member: &Member) -> Result<(),
 fn mend(rt: &impl Abort, nodes: &mut [Node], parent: u32, slot: usize) {
     let above = node(rt, nodes, parent);
     let pairs = above.pairs().len();
-    let first = if slot < pairs && slot + 1 < pairs { slot } else { slot.saturating_sub(1) };
+    let first = if slot < pairs && slot + 1 < pairs {
+        slot
+    } else {
+        slot.saturating_sub(1)
+    };
     assert!(rt; first < 15);
     let left_number = child_at(rt, above, first);
     let right_number = child_at(rt, above, first + 1);
     let left = node(rt, nodes, left_number);
     let right = node(rt, nodes, right_number);
     if !fit(left, right) {
-        assert!(rt; left.level == right.level && left.high < right.low && left.high + 1 == right.low);
+        assert!(rt;
+            left.level == right.level && left.high < right.low && left.high + 1 == right.low
+        );
         assert!(rt; overfill(left, right));
         assert!(rt; in_order(left));
         assert!(rt; in_order(right));
@@ -344,7 +378,13 @@ fn remove(rt: &impl Abort, nodes: &mut [Node], base: u64) -> Member {
 }
 
 // The first addresses of the entries below a node, from left to right.
-fn collect(rt: &impl Abort, nodes: &[Node], number: u32, levels: u32, bases: &mut Vec<u64>) -> Result<(), Fail> {
+fn collect(
+    rt: &impl Abort,
+    nodes: &[Node],
+    number: u32,
+    levels: u32,
+    bases: &mut Vec<u64>,
+) -> Result<(), Fail> {
     let node = node(rt, nodes, number);
     for entry in node.entries() {
         bases.push(entry.span.first())?;

@@ -9,6 +9,6 @@ returns-clause-entries c = entries_after
 
 pub returns-clause-lawful : goal.returns-clause-lawful
 returns-clause-lawful c f live top group fresh g lawful change filled = record {
-    tree = tree_after f live top group fresh g lawful.tree change;
-    filled = filled_after f live top group fresh g lawful.tree change (λ n alive outside. lawful.filled n alive) filled
-  }
+  tree = tree_after f live top group fresh g lawful.tree change;
+  filled = filled_after f live top group fresh g lawful.tree change (λ n alive outside. lawful.filled n alive) filled;
+}
