@@ -16,6 +16,7 @@ use Rattle.word_rule.specs.declared.views.Log.{Log}
 use Rattle.word_rule.specs.declared.views.Terms.{Terms}
 use Rattle.word_rule.specs.Names.{times, once, is_same}
 use Rattle.word_rule.specs.Rule.{total, Callers, LogHolds, KinHolds, Kindred, IsRecord, IsAlone, IsWhole, done_as, dones, dones_of_all, dones_in, numbered, start}
+use Rattle.word_rule.specs.Table.{Table}
 use Rattle.word_rule.specs.Tells.{settles}
 use Rattle.word_rule.proofs.Facts.{part_of_total, all_of_total}
 use Rattle.word_rule.proofs.Names.{same_or, once_same}
@@ -42,7 +43,7 @@ set_first : (words : List ℕ) → set words 0 (get_or words 0 0) ≡ words
 set_first [] = refl
 set_first (x ∷ words) = refl
 
-module _ (t : Terms) (words : List ℕ) (views : List Log) (r : Callers t words views) (id : ℕ) (v : Log) (at : get_elem? views id ≡ some v) (alone : IsAlone v.kin) where
+module _ (t : Terms) (words : List ℕ) (views : List Log) (history : List Update) (r : Callers t words views history) (id : ℕ) (v : Log) (at : get_elem? views id ≡ some v) (alone : IsAlone v.kin) where
   kin_each : (j : ℕ) (u : Log) → get_elem? views j ≡ some u → KinHolds u.kin
   kin_each j u e = (r.each j u e).kin
 
@@ -85,20 +86,20 @@ module _ (t : Terms) (words : List ℕ) (views : List Log) (r : Callers t words 
   made_all : total (λ u. u.made) views ≡ v.made
   made_all = all_of_total (λ u. u.made) views id v at (λ j u far there. (r.kindred.spent j u there (others_spent j u far there)).2)
 
-  own_log : LogHolds t r.history (v.made + 1) v
-  own_log = subst (λ m. LogHolds t r.history (m + 1) v) made_all (r.each id v at)
+  own_log : LogHolds t history (v.made + 1) v
+  own_log = subst (λ m. LogHolds t history (m + 1) v) made_all (r.each id v at)
 
   -- it has seen the whole history
-  pub seen_all : length v.past ≡ length r.history
-  seen_all = go (dec_le (length r.history) (length v.past))
+  pub seen_all : length v.past ≡ length history
+  seen_all = go (dec_le (length history) (length v.past))
     where
-      sum : length v.past + length own_log.begins.0 ≡ length r.history
+      sum : length v.past + length own_log.begins.0 ≡ length history
       sum = sym (length-append v.past own_log.begins.0) ∙ ap length own_log.begins.1
-      go : Dec (length r.history ≤ length v.past) → length v.past ≡ length r.history
+      go : Dec (length history ≤ length v.past) → length v.past ≡ length history
       go (yes h) = let s = sum in omega (arith, s, h)
       go (no h) =
-          let above : length v.past < length r.history = lt_of_not-le h in
-          let n : ℕ = length r.history in
+          let above : length v.past < length history = lt_of_not-le h in
+          let n : ℕ = length history in
           let a = dones_within t v.past (v.made + 1) 0 n v.own above own_log.own.0 in
           let b = dones_all_within t v.past (v.made + 1) n v.joined above own_log.joined in
           let c = dones_all n in let d = r.numbers n in let e = last_number n (omega (arith, above)) in absurd (omega (arith, a, b, c, d, e))
@@ -110,7 +111,7 @@ module _ (t : Terms) (words : List ℕ) (views : List Log) (r : Callers t words 
     joined = subst (λ s. AllByRecursion (IsRecord s v.past (v.made + 1)) v.joined) (sym (own_log.terms stands)) own_log.joined;
   }
 
-pub settles_loads : (t : Terms) (slots id : ℕ) (me : Me (Unit {0}) Log) → Allows (λ (s : State (Unit {0}) Log). Callers t s.words s.views) slots id me 0 (λ n. n) (settles (step slots 0 0 0 none) me)
+pub settles_loads : (t : Terms) (slots id : ℕ) (me : Me (Unit {0}) Log) → Allows (λ (s : State (Unit {0}) Log). Table t s.words s.views) slots id me 0 (λ n. n) (settles (step slots 0 0 0 none) me)
 settles_loads t slots id me s r deep at small =
     let same_views : set s.views id me.0 ≡ s.views = set_again s.views id me.0 at in
     let same_words : set s.words 0 (get_or s.words 0 0) ≡ s.words = set_first s.words in
@@ -119,7 +120,7 @@ settles_loads t slots id me s r deep at small =
       keeps,
       tt,
       rw (same_words, same_views) r,
-      (refl, (let a = part_of_total (λ u. u.allowance) s.views id me.0 at in let o = r.room in omega (arith, a, o)), λ stands alone. whole t s.words s.views r id me.0 at alone stands),
+      (refl, (let a = part_of_total (λ u. u.allowance) s.views id me.0 at in let o = r.callers.room in omega (arith, a, o)), λ stands alone. whole t s.words s.views r.history r.callers id me.0 at alone stands),
     )
 
 first_word : (words : List ℕ) (n : ℕ) → get_elem? words 0 ≡ some n → get_or words 0 0 ≡ n
@@ -127,9 +128,9 @@ first_word [] n e = absurd (some-ne-none n (sym e))
 first_word (x ∷ words) n e = some-injective x n e
 
 -- what is found where one that is alone takes the words apart
-pub closes : (t : Terms) (words : List ℕ) (slots : List (Unit {0})) (id : ℕ) (v : Log) (n : ℕ) → v.spent ≡ false → IsAlone v.kin → Final (Seen (λ (s : State (Unit {0}) Log). Callers t s.words s.views) id v) words slots → get_elem? words 0 ≡ some n
+pub closes : (t : Terms) (words : List ℕ) (slots : List (Unit {0})) (id : ℕ) (v : Log) (n : ℕ) → v.spent ≡ false → IsAlone v.kin → Final (Seen (λ (s : State (Unit {0}) Log). Table t s.words s.views) id v) words slots → get_elem? words 0 ≡ some n
     → (n % 4294967296 ≡ length v.past) × IsWhole v
 closes t words slots id v n stands alone final found =
-    let s = final.0 in let r = final.1.0 in
+    let s = final.0 in let r = final.1.0.callers in let history = final.1.0.history in
     let clock : get_or s.words 0 0 ≡ n = ap (λ w. get_or w 0 0) final.2 ∙ first_word words n found in
-    (ap (λ k. k % 4294967296) (sym clock) ∙ (r.updates ∙ sym (seen_all t s.words s.views r id v final.1.1 alone)), whole t s.words s.views r id v final.1.1 alone stands)
+    (ap (λ k. k % 4294967296) (sym clock) ∙ (r.updates ∙ sym (seen_all t s.words s.views history r id v final.1.1 alone)), whole t s.words s.views history r id v final.1.1 alone stands)

@@ -27,6 +27,8 @@ pub record IsTied (left seen : ℕ) (versions : List ℕ) (kin : Kin) (me : Sat)
 pub record IsNote (u : Log) : Type 0 where
   pub spent : u.spent ≡ false
   pub loader : u.loader ≡ None
+  pub held : u.held ≡ []
+  pub out : u.out ≡ []
   pub own : u.own ≡ []
   pub joined : u.joined ≡ []
   pub allowance : u.allowance ≡ 0

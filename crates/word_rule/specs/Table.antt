@@ -127,9 +127,9 @@ ActiveCopy t words history = (members : List Member) ×
     (Lists (copy_at t words (upper (slice_index words CLOCK) % 2)) members × ((m : Member) → Contains members m ↔ Contains (state_after (start t) history).loaded m)
     × (length members ≡ length (state_after (start t) history).loaded))
 
--- while the upper half of the clock is a sight's guard, the words of that copy are as loaded
+-- A sight of a copy has words of copies alone; while the upper half of the clock is its guard, they are as loaded.
 abbrev pub CopySightHolds : Terms → List ℕ → CopySight → Type 0
-CopySightHolds t words s = (s.guard ≤ upper (slice_index words CLOCK)) × (s.guard ≡ upper (slice_index words CLOCK) → AreLoaded words 0 s.words)
+CopySightHolds t words s = (s.guard ≤ upper (slice_index words CLOCK)) × AllByRecursion (λ w. 4 ≤ w.at) s.words × (s.guard ≡ upper (slice_index words CLOCK) → AreLoaded words 0 s.words)
 
 -- A load of a full node's count by one that held it live, whose words spelled its settled content: at some moment not
 -- before the receipts that the caller had then, ten members were registered.
@@ -157,10 +157,11 @@ pub record Looks (t : Terms) (words : List ℕ) (history : List Update) (shadow 
   -- the head that is kept is the head, while the root's lock is held
   pub head : IsSome (held_of 0 v.held) → IfSome v.head (λ h. slice_index words HEAD ≡ h)
 
--- The whole invariant.
+-- The whole invariant: there is one history, the same for all.
 pub record Table (t : Terms) (words : List ℕ) (views : List Log) : Type 0 where
-  pub callers : Callers t words views
+  pub history : List Update
+  pub callers : Callers t words views history
   pub shadow : Shadow
-  pub nodes : Nodes t words views callers.history shadow
-  pub active : ActiveCopy t words callers.history
-  pub looks : (id : ℕ) (v : Log) → get_elem? views id ≡ some v → Looks t words callers.history shadow v
+  pub nodes : Nodes t words views history shadow
+  pub active : ActiveCopy t words history
+  pub looks : (id : ℕ) (v : Log) → get_elem? views id ≡ some v → Looks t words history shadow v

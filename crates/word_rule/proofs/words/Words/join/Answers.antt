@@ -1,4 +1,4 @@
-use Rattle.std.proofs.Common.{rules, ◌≡◌, ◌<◌, sym, ap, ◌∙◌, subst, arith, None}
+use Rattle.std.proofs.Common.{rules, ◌≡◌, ◌<◌, sym, ap, ◌∙◌, subst, arith, None, []}
 use Rattle.word_rule.proofs.Comings.{joins}
 use Rattle.word_rule.proofs.words.Words.join.Goals as goal
 
@@ -19,4 +19,5 @@ invariant_of-me c = let i = c.me.invariant in record {
 pub join_seat-requires : goal.join_seat-requires
 join_seat-requires c =
     (ap (λ k. k.table) c.me.view_is ∙ (c.requires.table ∙ sym (ap (λ k. k.table) c.self.view_is)), ap (λ k. k.table) c.other.view_is ∙ (c.requires.other ∙ sym (ap (λ k. k.table) c.self.view_is)), c.other.invariant.bare,
-      omega (arith, c.self.invariant.1), joins _ _ _ _ _ c.me.invariant.stands c.other.invariant.stands (subst (λ k. k.log.loader ≡ None) (sym c.other.view_is) c.requires.idle.0))
+      omega (arith, c.self.invariant.1), joins _ _ _ c.me.invariant.stands _ _ c.other.invariant.stands (subst (λ k. k.log.loader ≡ None) (sym c.other.view_is) c.requires.idle.0)
+          (subst (λ k. k.log.held ≡ []) (sym c.other.view_is) c.requires.idle.1) (subst (λ k. k.log.out ≡ []) (sym c.other.view_is) c.requires.idle.2))

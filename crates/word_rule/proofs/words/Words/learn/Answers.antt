@@ -19,4 +19,4 @@ invariant_of-me c = let i = c.me.invariant in record {
 pub join_seat-requires : goal.join_seat-requires
 join_seat-requires c =
     (ap (λ k. k.table) c.me.view_is ∙ (c.requires.table ∙ sym (ap (λ k. k.table) c.self.view_is)), ap (λ k. k.table) c.note.view_is ∙ (c.requires.note ∙ sym (ap (λ k. k.table) c.self.view_is)), c.note.invariant.bare,
-      omega (arith, c.self.invariant.1), learns _ _ _ _ _ c.me.invariant.stands c.note.invariant.note)
+      omega (arith, c.self.invariant.1), learns _ _ _ c.me.invariant.stands _ _ c.note.invariant.note)
