@@ -1,26 +1,24 @@
 -- One that is alone has all that was ever done.
-use Rattle.std.proofs.Common.{◌≡◌, ◌≢◌, ℕ, zero, suc, ◌+◌, ◌-◌, ◌^◌, ◌%◌, ◌<◌, ◌≤◌, ◌⊎◌, ◌&&◌, nat_le, ◌==◌, List, [], ◌∷◌, ◌++◌, length, length-append, set, get_or, ne_eqb, sym, refl, ap, ◌∙◌, subst, inl, inr, ⊎_elim, arith, Option, Some, None, false, true, true≢false, Bool, max, IfSome, le_of_lt, lt_of_not-le}
+use Rattle.std.proofs.Common.{◌≡◌, ◌≢◌, ℕ, zero, suc, ◌+◌, ◌%◌, ◌<◌, ◌≤◌, List, [], ◌∷◌, ◌++◌, length, length-append, set, get_or, ne_eqb, sym, refl, ap, ◌∙◌, subst, ⊎_elim, arith, Option, Some, None, false, true, Bool, max, lt_of_not-le}
 use Rattle.std.specs.List.{AllByRecursion}
 use mathlib.Core.Option.{none, some, some-injective, some-ne-none}
-use mathlib.Core.List.{IsPrefix}
-use native.Mathlib.Decide.{ℕ_discrete, dec_le}
+use native.Mathlib.Decide.{dec_le}
 use lib.ListN.{get_elem?}
-use lib.Seq.{set-get_or}
 use borrow.Author.Tests.{le-leb}
 use Rattle.atomic_table.specs.Table.{State, Me, step, keeps, Allows, Final, Seen}
 use Rattle.atomic_table.proofs.Lists.{set_again}
-use Rattle.reg_model.specs.Receipt.{moment, accepted, AllHold, Holds}
+use Rattle.reg_model.specs.Receipt.{moment, accepted, AllHold}
 use Rattle.reg_model.specs.declared.answer.Update.{Update}
 use Rattle.reg_model.specs.declared.answer.Receipt.{Receipt}
 use Rattle.word_rule.specs.declared.views.Log.{Log}
 use Rattle.word_rule.specs.declared.views.Terms.{Terms}
 use Rattle.word_rule.specs.Names.{times, once, is_same}
-use Rattle.word_rule.specs.Rule.{total, Callers, LogHolds, KinHolds, Kindred, IsRecord, IsAlone, IsWhole, done_as, dones, dones_of_all, dones_in, numbered, start}
+use Rattle.word_rule.specs.Rule.{total, Callers, LogHolds, KinHolds, IsRecord, IsAlone, IsWhole, done_as, dones, dones_of_all, dones_in, numbered, start}
 use Rattle.word_rule.specs.Table.{Table}
 use Rattle.word_rule.specs.Tells.{settles}
 use Rattle.word_rule.proofs.Facts.{part_of_total, all_of_total}
-use Rattle.word_rule.proofs.Names.{same_or, once_same}
-use Rattle.word_rule.proofs.Comings.{one_place, given_by_one, members_once, log_later}
+use Rattle.word_rule.proofs.Names.{same_or}
+use Rattle.word_rule.proofs.Comings.{one_place, given_by_one}
 
 -- numbers are not above what was seen
 dones_within : (t : Terms) (past : List Update) (callers since n : ℕ) (rs : List Receipt) → length past < n → AllHold (start t) past t.nodes callers since rs → dones n rs ≡ 0
@@ -51,17 +49,17 @@ module _ (t : Terms) (words : List ℕ) (views : List Log) (history : List Updat
   has_next : (x : List ℕ) → ((p : List ℕ) → length p < length x → 0 < total (λ u. times p u.kin.members) views → 0 < times p v.kin.members) → 0 < total (λ u. times x u.kin.members) views → 0 < times x v.kin.members
   has_next x shorter more = ⊎_elim
       (λ (e : [] ≡ x). subst (λ y. 0 < times y v.kin.members) e
-          (let b = (kin_each id v at).balanced [] in let f = alone.first in let m : times [] v.kin.missing ≡ 0 = ap (times []) alone.all in omega (arith, b, f, m)))
+      (let b = (kin_each id v at).balanced [] in let f = alone.first in let m : times [] v.kin.missing ≡ 0 = ap (times []) alone.all in omega (arith, b, f, m)))
       (λ (e : is_same [] x ≡ false).
-          let m = r.kindred.members x in let o : once (is_same [] x) ≡ 0 = rw e refl in
-          let g = given_by_one views kin_each r.kindred x (omega (arith, m, o, more)) in
-          let l = length-append g.0 (g.1 ∷ []) in let z : length x ≡ length (g.0 ++ g.1 ∷ []) = ap length g.4.1 in
-          let above = part_of_total (λ u. times g.0 u.kin.members) views g.2 g.3 g.4.0 in
-          let mine : 0 < times g.0 v.kin.members = shorter g.0 (omega (arith, l, z)) (omega (arith, above, g.4.2)) in
-          let here : g.2 ≡ id = one_place views kin_each r.kindred g.0 id g.2 v g.3 at g.4.0 mine g.4.2 in
-          let same : g.3 ≡ v = some-injective g.3 v (sym g.4.0 ∙ (ap (get_elem? views) here ∙ at)) in
-          let gave : 0 < times x v.kin.given = subst (λ u. 0 < times x u.kin.given) same g.4.3 in
-          let b = (kin_each id v at).balanced x in let n : times x v.kin.missing ≡ 0 = ap (times x) alone.all in omega (arith, b, gave, n)) (same_or [] x)
+      let m = r.kindred.members x in let o : once (is_same [] x) ≡ 0 = rw e refl in
+      let g = given_by_one views kin_each r.kindred x (omega (arith, m, o, more)) in
+      let l = length-append g.0 (g.1 ∷ []) in let z : length x ≡ length (g.0 ++ g.1 ∷ []) = ap length g.4.1 in
+      let above = part_of_total (λ u. times g.0 u.kin.members) views g.2 g.3 g.4.0 in
+      let mine : 0 < times g.0 v.kin.members = shorter g.0 (omega (arith, l, z)) (omega (arith, above, g.4.2)) in
+      let here : g.2 ≡ id = one_place views kin_each r.kindred g.0 id g.2 v g.3 at g.4.0 mine g.4.2 in
+      let same : g.3 ≡ v = some-injective g.3 v (sym g.4.0 ∙ (ap (get_elem? views) here ∙ at)) in
+      let gave : 0 < times x v.kin.given = subst (λ u. 0 < times x u.kin.given) same g.4.3 in
+      let b = (kin_each id v at).balanced x in let n : times x v.kin.missing ≡ 0 = ap (times x) alone.all in omega (arith, b, gave, n)) (same_or [] x)
 
   -- and so all of them, by induction on the length
   has_all : (size : ℕ) (x : List ℕ) → length x < size → 0 < total (λ u. times x u.kin.members) views → 0 < times x v.kin.members
@@ -95,6 +93,7 @@ module _ (t : Terms) (words : List ℕ) (views : List Log) (history : List Updat
     where
       sum : length v.past + length own_log.begins.0 ≡ length history
       sum = sym (length-append v.past own_log.begins.0) ∙ ap length own_log.begins.1
+
       go : Dec (length history ≤ length v.past) → length v.past ≡ length history
       go (yes h) = let s = sum in omega (arith, s, h)
       go (no h) =
@@ -114,8 +113,7 @@ module _ (t : Terms) (words : List ℕ) (views : List Log) (history : List Updat
 pub settles_loads : (t : Terms) (slots id : ℕ) (me : Me (Unit {0}) Log) → Allows (λ (s : State (Unit {0}) Log). Table t s.words s.views) slots id me 0 (λ n. n) (settles (step slots 0 0 0 none) me)
 settles_loads t slots id me s r deep at small =
     let same_views : set s.views id me.0 ≡ s.views = set_again s.views id me.0 at in
-    let same_words : set s.words 0 (get_or s.words 0 0) ≡ s.words = set_first s.words in
-    (
+    let same_words : set s.words 0 (get_or s.words 0 0) ≡ s.words = set_first s.words in (
       me.0,
       keeps,
       tt,

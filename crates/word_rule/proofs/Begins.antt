@@ -1,14 +1,14 @@
 -- The rule holds of the opening words.
-use Rattle.std.proofs.Common.{◌≡◌, ◌≢◌, ℕ, zero, suc, ◌+◌, ◌*◌, ◌/◌, ◌%◌, ◌^◌, ◌<◌, ◌≤◌, ◌&&◌, nat_le, List, [], ◌∷◌, ◌++◌, length, length-append, length-set, get_or, set, replicate, sym, refl, ap, ◌∙◌, subst, arith, ◌⊎◌, inl, inr, Option, Some, None, false, true, true≢false, Bool, append_assoc, get_or-append-add, eq-or-lt_of_le}
+use Rattle.std.proofs.Common.{◌≡◌, ℕ, zero, suc, ◌+◌, ◌*◌, ◌<◌, ◌≤◌, [], ◌∷◌, ◌++◌, length, length-append, get_or, replicate, sym, refl, ◌∙◌, subst, arith, ◌⊎◌, inl, inr, None, false, true, true≢false, get_or-append-add, eq-or-lt_of_le}
 use mathlib.Core.Option.{some, some-injective, some-ne-none}
-use lib.ListN.{get_elem?, length-replicate, get_or-append, get_or-replicate}
+use lib.ListN.{get_elem?, length-replicate, get_or-append}
 use borrow.Author.Tests.{le-leb, lt-leb}
 use Rattle.word_rule.specs.declared.views.Log.{Log}
 use Rattle.word_rule.specs.declared.views.Terms.{Terms}
-use Rattle.word_rule.specs.Names.{once, times, is_same, newborn}
-use Rattle.word_rule.specs.Places.{word_count, copy_words, segments, opening_kind, opening_link, opening_node, opening_nodes, opening_words, node_counters, counters}
+use Rattle.word_rule.specs.Names.{times}
+use Rattle.word_rule.specs.Places.{word_count, copy_words, opening_node, opening_nodes, opening_words, node_counters}
 use Rattle.word_rule.specs.Logs.{first_log}
-use Rattle.word_rule.specs.Rule.{total, Callers, LogHolds, Kindred, AreTerms, AtLoader, numbered, dones_in}
+use Rattle.word_rule.specs.Rule.{total, Callers, LogHolds, AreTerms, AtLoader, numbered}
 use Rattle.word_rule.proofs.Names.{newborn_holds}
 
 opening_node_length : (nodes n : ℕ) → length (opening_node nodes n) ≡ 36
@@ -27,6 +27,7 @@ opening_version nodes (suc m) n h = go (eq-or-lt_of_le h) (opening_version nodes
   where
     len : length (opening_nodes nodes m) ≡ 36 * m
     len = opening_nodes_length nodes m
+
     go : (suc n ≡ suc m) ⊎ (suc n < suc m) → (n < m → get_or (opening_nodes nodes m) (36 * n) 0 ≡ 0) → get_or (opening_nodes nodes m ++ opening_node nodes m) (36 * n) 0 ≡ 0
     go (inl e) before = let l = len in let at : 36 * n ≡ length (opening_nodes nodes m) + 0 = omega (arith, e, l) in rw at (get_or-append-add (opening_nodes nodes m) (opening_node nodes m) 0 0)
     go (inr less) before = let l = len in let room : 36 * n < length (opening_nodes nodes m) = omega (arith, less, l) in get_or-append (opening_nodes nodes m) (opening_node nodes m) 0 (36 * n) room ∙ before (omega (arith, less))
@@ -37,7 +38,7 @@ opening_counters t (suc n) h =
     let len = opening_nodes_length t.nodes t.nodes in
     let room : 36 * n < length (opening_nodes t.nodes t.nodes) = omega (arith, len, h) in
     let here : get_or (opening_words t) (4 + 36 * n) 0 ≡ 0 =
-        get_or-append-add (0 ∷ 1 ∷ 0 ∷ 0 ∷ []) (opening_nodes t.nodes t.nodes ++ replicate (2 * copy_words t) 0) (36 * n) 0 ∙ (get_or-append (opening_nodes t.nodes t.nodes) (replicate (2 * copy_words t) 0) 0 (36 * n) room ∙ opening_version t.nodes t.nodes n h) in
+    get_or-append-add (0 ∷ 1 ∷ 0 ∷ 0 ∷ []) (opening_nodes t.nodes t.nodes ++ replicate (2 * copy_words t) 0) (36 * n) 0 ∙ (get_or-append (opening_nodes t.nodes t.nodes) (replicate (2 * copy_words t) 0) 0 (36 * n) room ∙ opening_version t.nodes t.nodes n h) in
     let rest = opening_counters t n (omega (arith, h)) in rw (here, rest) refl
 
 pub no_numbers : (n : ℕ) → 0 ≡ numbered 0 n

@@ -1,30 +1,26 @@
 -- Callers and notes that come and go keep the rule.
-use Rattle.std.proofs.Common.{◌≡◌, ◌≢◌, ℕ, zero, suc, ◌+◌, ◌-◌, ◌*◌, ◌/◌, ◌%◌, ◌^◌, ◌<◌, ◌≤◌, ◌⊎◌, List, [], ◌∷◌, ◌++◌, length, length-append, set, get_or, sym, refl, ap, ◌∙◌, subst, inl, inr, ⊎_elim, arith, append-nil, append_assoc, lt_of_not-le, le_of_lt, Option, Some, None, false, true, true≢false, Bool, max, IfSome}
+use Rattle.std.proofs.Common.{◌≡◌, ◌≢◌, ℕ, zero, suc, ◌+◌, ◌*◌, ◌<◌, ◌≤◌, List, [], ◌∷◌, ◌++◌, length, length-append, set, sym, refl, ap, ◌∙◌, subst, ⊎_elim, arith, append-nil, lt_of_not-le, le_of_lt, Option, Some, None, false, true, true≢false, max}
 use Rattle.std.specs.List.{AllByRecursion}
-use mathlib.Core.Option.{some, some-injective, some-ne-none}
+use mathlib.Core.Option.{some, some-injective}
 use mathlib.Core.List.{IsPrefix}
-use native.Mathlib.Decide.{ℕ_discrete, dec_le}
+use native.Mathlib.Decide.{dec_le}
 use Rattle.std.proofs.lemmas.Option.{none-some}
 use borrow.Author.Tests.{lt-ltb, le-ltb}
 use lib.ListN.{get_elem?}
 use Rattle.atomic_table.specs.Table.{State, Splits, Joins}
-use Rattle.atomic_table.proofs.Lists.{at_set, set_here, set_else, at_snoc, at_longer}
-use Rattle.reg_model.specs.State.{State as Model}
-use Rattle.reg_model.specs.Receipt.{moment, AllHold, AreInOrder}
+use Rattle.atomic_table.proofs.Lists.{at_set, set_here, set_else, at_longer}
+use Rattle.reg_model.specs.Receipt.{moment, AllHold}
 use Rattle.reg_model.specs.declared.answer.Update.{Update}
 use Rattle.reg_model.specs.declared.answer.Receipt.{Receipt}
 use Rattle.reg_model.proofs.Receipts.{holds_on}
 use Rattle.word_rule.specs.declared.views.Log.{Log}
 use Rattle.word_rule.specs.declared.views.Terms.{Terms}
-use Rattle.word_rule.specs.declared.views.Kinship.{Kinship}
-use Rattle.word_rule.specs.declared.views.LoaderHolding.{LoaderHolding}
-use Rattle.word_rule.specs.Names.{times, once, is_same, child_name, newborn, after_birth, after_kin}
-use Rattle.word_rule.specs.Places.{CLOCK, LOADER, counters}
+use Rattle.word_rule.specs.Names.{times, once, is_same, child_name, after_birth, after_kin}
 use Rattle.word_rule.specs.Logs.{child_log, after_split, split_off, after_note, note_of, after_join, after_learn, spent_log, longer, credit_given}
-use Rattle.word_rule.specs.Rule.{total, Callers, LogHolds, KinHolds, Kindred, AtLoader, LoaderLock, HoldsLoader, IsRecord, IsLockedAt, dones, dones_of_all, dones_in, start}
+use Rattle.word_rule.specs.Rule.{total, Callers, LogHolds, KinHolds, Kindred, AtLoader, LoaderLock, IsRecord, dones, dones_of_all, dones_in, start}
 use Rattle.word_rule.specs.Own.{IsNote}
-use Rattle.word_rule.proofs.Facts.{total_set, total_same, total_snoc, part_of_total, two_of_total, some_of_total, all_of_total, total_set_two, after_step, within, decided, behind}
-use Rattle.word_rule.proofs.Names.{same_or, same_refl, same_is, once_same, once_other, once_small, times_append, newborn_holds, birth_holds, kin_holds}
+use Rattle.word_rule.proofs.Facts.{total_set, total_snoc, part_of_total, two_of_total, some_of_total, total_set_two, after_step, within, decided, behind}
+use Rattle.word_rule.proofs.Names.{same_or, once_same, once_other, once_small, times_append, newborn_holds, birth_holds, kin_holds}
 use Rattle.word_rule.specs.Table.{Table}
 use Rattle.word_rule.proofs.WholeSeats.{IsStill, nodes_birth, looks_birth, nodes_join, looks_join}
 
@@ -162,11 +158,11 @@ module _ (t : Terms) (words : List ℕ) (views : List Log) (history : List Updat
         (λ _ s. let o = once_same (child_name v.kin) in omega (arith, o));
     unborn = behind (λ _ u. u.spent ≡ false → (n : ℕ) → u.kin.born ≤ n → total (λ z. times (u.kin.name ++ n ∷ []) z.kin.given) both ≡ 0) (set views id w) child
         (after_step (λ _ u. u.spent ≡ false → (n : ℕ) → u.kin.born ≤ n → total (λ z. times (u.kin.name ++ n ∷ []) z.kin.given) both ≡ 0) views id w
-            (λ s. subst (λ k. (n : ℕ) → k.born ≤ n → total (λ z. times (k.name ++ n ∷ []) z.kin.given) both ≡ 0) (sym makes.kin)
-                (λ n late. other_name v.kin.name n (λ e. let p = snoc_parts v.kin.name v.kin.name n v.kin.born e in let q = p.1 in omega (arith, q, late)) (r.kindred.unborn id v at stands n (omega (arith, late)))))
-            (λ j u ne e s n late. other_name u.kin.name n
-                (λ h. let p = snoc_parts u.kin.name v.kin.name n v.kin.born h in ne (one_place views kin_each r.kindred v.kin.name id j v u at e own_name (subst (λ y. 0 < times y u.kin.members) p.0 (r.kindred.named j u e s))))
-                (r.kindred.unborn j u e s n late)))
+        (λ s. subst (λ k. (n : ℕ) → k.born ≤ n → total (λ z. times (k.name ++ n ∷ []) z.kin.given) both ≡ 0) (sym makes.kin)
+        (λ n late. other_name v.kin.name n (λ e. let p = snoc_parts v.kin.name v.kin.name n v.kin.born e in let q = p.1 in omega (arith, q, late)) (r.kindred.unborn id v at stands n (omega (arith, late)))))
+        (λ j u ne e s n late. other_name u.kin.name n
+        (λ h. let p = snoc_parts u.kin.name v.kin.name n v.kin.born h in ne (one_place views kin_each r.kindred v.kin.name id j v u at e own_name (subst (λ y. 0 < times y u.kin.members) p.0 (r.kindred.named j u e s))))
+        (r.kindred.unborn j u e s n late)))
         (λ _ s n late. other_name (child_name v.kin) n (λ e. let l = length-append (child_name v.kin) (n ∷ []) in let z : length (child_name v.kin ++ n ∷ []) ≡ length (child_name v.kin) = ap length e in omega (arith, l, z)) (unborn_childless views kin_each r.kindred id v at stands n));
     spent = behind (λ _ u. u.spent ≡ true → (u.own ≡ []) × (u.joined ≡ []) × (u.made ≡ 0)) (set views id w) child
         (after_step (λ _ u. u.spent ≡ true → (u.own ≡ []) × (u.joined ≡ []) × (u.made ≡ 0)) views id w (λ s. absurd (true≢false (sym s ∙ (makes.spent ∙ stands)))) (λ j u _ e. r.kindred.spent j u e)) (λ _ s. absurd (true≢false (sym s)));
@@ -293,8 +289,14 @@ module _ (t : Terms) (words : List ℕ) (views : List Log) (history : List Updat
   loader_merge : (holder : Option ℕ) → LoaderLock t words views holder → LoaderLock t words after holder
   loader_merge None h = h
   loader_merge (Some j) h = ⊎_elim
-      (λ (is : j ≡ id). (b, h.1, (set_else one other j spent_log (λ e. ne (sym e ∙ is)) ∙ subst (λ k. get_elem? one k ≡ some b) (sym is) (set_here views id b (within views id v at)),
-          merges.loader ∙ (ap (λ x. x.loader) (some-injective v h.0 (sym at ∙ (ap (get_elem? views) (sym is) ∙ h.2.0))) ∙ h.2.1))))
+      (λ (is : j ≡ id). (
+        b,
+        h.1,
+        (
+          set_else one other j spent_log (λ e. ne (sym e ∙ is)) ∙ subst (λ k. get_elem? one k ≡ some b) (sym is) (set_here views id b (within views id v at)),
+          merges.loader ∙ (ap (λ x. x.loader) (some-injective v h.0 (sym at ∙ (ap (get_elem? views) (sym is) ∙ h.2.0))) ∙ h.2.1),
+        ),
+      ))
       (λ (far : j ≢ id). (h.0, h.1, (set_else one other j spent_log (λ is. none-some h.1 (sym free ∙ (ap (λ x. x.loader) (some-injective u h.0 (sym was_there ∙ (ap (get_elem? views) (sym is) ∙ h.2.0))) ∙ h.2.1))) ∙ (set_else views id j b far ∙ h.2.0), h.2.1))) (decided j id)
 
   abbrev count : ℕ
@@ -322,7 +324,7 @@ module _ (t : Terms) (words : List ℕ) (views : List Log) (history : List Updat
           own = subst (λ p. IsRecord t p count b.own) (sym merges.past) (subst (IsRecord t (longer v.past u.past) count) (sym merges.own) (record_later t v.past (longer v.past u.past) _ count lengthened.0 v.own h.own));
           joined = subst (λ p. AllByRecursion (IsRecord t p count) b.joined) (sym merges.past) (subst (AllByRecursion (IsRecord t (longer v.past u.past) count)) (sym merges.joined)
               (records_append t (longer v.past u.past) count v.joined lists (records_later t v.past (longer v.past u.past) _ count lengthened.0 v.joined h.joined)
-                  (gained (record_later t u.past (longer v.past u.past) _ count lengthened.1 u.own i.own, records_later t u.past (longer v.past u.past) _ count lengthened.1 u.joined i.joined))));
+              (gained (record_later t u.past (longer v.past u.past) _ count lengthened.1 u.own i.own, records_later t u.past (longer v.past u.past) _ count lengthened.1 u.joined i.joined))));
           kin = subst KinHolds (sym merges.kin) (kin_holds v.kin u.kin h.kin i.kin);
         })
         (λ j x _ _ e. log_later t history _ count x (r.each j x e));
@@ -380,7 +382,15 @@ module _ (t : Terms) (id : ℕ) (v : Log) (stands : v.spent ≡ false) where
   pub learns : (other : ℕ) (u : Log) → IsNote u → Joins (λ (s : State (Unit {0}) Log). Table t s.words s.views) id v other u (after_learn v u) spent_log
   learns other u note s r at ne there = joined_whole s r other u (after_learn v u) [] at ne there note.spent note.loader note.held note.out
       (record {
-        terms = refl; spent = refl; past = refl; own = refl; joined = sym (append-nil v.joined); loader = refl;
-        allowance = (let a = note.allowance in omega (arith, a)); credit = (let a = note.credit in omega (arith, a)); made = (let a = note.made in omega (arith, a)); kin = refl;
+        terms = refl;
+        spent = refl;
+        past = refl;
+        own = refl;
+        joined = sym (append-nil v.joined);
+        loader = refl;
+        allowance = (let a = note.allowance in omega (arith, a));
+        credit = (let a = note.credit in omega (arith, a));
+        made = (let a = note.made in omega (arith, a));
+        kin = refl;
         counts = λ n. let e : dones_in n u ≡ 0 = (λ i. dones n (note.own i) + dones_of_all n (note.joined i)) in sym e;
       }) (record { held = refl; out = refl; head = refl; sights = refl; copies = refl; own = refl; loads = refl }) (λ c h. tt)

@@ -1,27 +1,23 @@
 -- Steps on the loader's lock keep the rule.
-use Rattle.std.proofs.Common.{◌≡◌, ◌≢◌, ℕ, zero, suc, ◌+◌, ◌-◌, ◌*◌, ◌/◌, ◌%◌, ◌^◌, ◌<◌, ◌≤◌, ◌⊎◌, eqb, List, [], ◌∷◌, ◌++◌, length, get_or, set, sym, refl, ap, ◌∙◌, subst, inl, inr, ⊎_elim, arith, get_or-set_other, get_or-set_same, length-set, eq-eqb, ne_eqb, ◌==◌, MatchBool, IfSome, IsSome, IsSomeAnd, bit_or, bit_and, true≢false, Option, Some, None, false, true, Bool}
-use Rattle.std.specs.List.{AllByRecursion}
+use Rattle.std.proofs.Common.{◌≡◌, ◌≢◌, ℕ, ◌+◌, ◌-◌, ◌/◌, ◌%◌, ◌^◌, ◌<◌, ◌≤◌, ◌⊎◌, List, [], ◌∷◌, length, get_or, set, sym, refl, ap, ◌∙◌, subst, inl, inr, ⊎_elim, arith, get_or-set_other, get_or-set_same, eq-eqb, ne_eqb, ◌==◌, MatchBool, IfSome, IsSome, IsSomeAnd, bit_or, true≢false, Option, Some, None, false, true, Bool}
 use Rattle.std.proofs.lemmas.Option.{none-some, same_Some}
 use Rattle.std.proofs.lemmas.Nat.{or_disjoint}
 use Rattle.std.specs.Int.Bits.{or_add_and}
 use lib.Bits.{and_mask}
-use mathlib.Core.Option.{none, some, some-injective, some-ne-none}
+use mathlib.Core.Option.{none, some, some-injective}
 use native.Mathlib.Decide.{ℕ_discrete}
-use mathlib.Core.List.{IsPrefix}
 use lib.ListN.{get_elem?}
-use lib.Seq.{set-get_or}
 use prog.Atomic.{either}
-use Rattle.atomic_table.specs.Table.{State, Me, step, Act, keeps, stepped, carried_after, Valid, Allows, opening}
-use Rattle.atomic_table.proofs.Lists.{at_set, set_here, set_else, set_again, exchanged}
+use Rattle.atomic_table.specs.Table.{State, Me, step, Act, keeps, stepped, carried_after, Valid, Allows}
+use Rattle.atomic_table.proofs.Lists.{set_here, set_else}
 use Rattle.word_rule.specs.declared.views.Log.{Log}
 use Rattle.word_rule.specs.declared.views.Terms.{Terms}
 use Rattle.word_rule.specs.declared.views.LoaderHolding.{LoaderHolding}
-use Rattle.word_rule.specs.Names.{times, once, is_same}
-use Rattle.word_rule.specs.Places.{CLOCK, LOADER, word_count, copy_at, spare, counters, node_counters}
+use Rattle.word_rule.specs.Places.{copy_at, spare}
 use Rattle.word_rule.specs.Logs.{load_of, after_load, after_loader_lock, after_mark, after_loader_release, after_loader_release_same}
-use Rattle.word_rule.specs.Rule.{total, Callers, LogHolds, Kindred, AtLoader, LoaderLock, HoldsLoader, IsLockedAt, dones, dones_of_all, dones_in}
+use Rattle.word_rule.specs.Rule.{Callers, AtLoader, LoaderLock, IsLockedAt}
 use Rattle.word_rule.specs.Tells.{looks, locks, marks, releases, releases_same}
-use Rattle.word_rule.proofs.Facts.{total_set, total_same, part_of_total, node_counters_set, copy_at_set, after_step, within, decided}
+use Rattle.word_rule.proofs.Facts.{copy_at_set, after_step, within}
 use Rattle.word_rule.proofs.Step.{IsLike, loader_step}
 use Rattle.word_rule.proofs.Whole.{IsSame, nodes_step, active_stays, looks_step}
 use Rattle.word_rule.specs.Table.{Table}
@@ -53,6 +49,7 @@ lock_stays t words views x id v w (Some j) at same free room h = ⊎_elim
     decided : Dec (j ≡ id) → (j ≡ id) ⊎ (j ≢ id)
     decided (yes e) = inl e
     decided (no n) = inr n
+
     mine : j ≡ id → v ≡ h.0
     mine is = some-injective v h.0 (sym at ∙ (ap (get_elem? views) (sym is) ∙ h.2.0))
 
@@ -82,8 +79,8 @@ module _ (t : Terms) (slots id : ℕ) (me : Seated) where
   idle s r w at like as_was same credit = steps s r w (get_or s.words 2 0) at as_was (loader_step t s.words s.views r.history r.callers id me.0 w at like (get_or s.words 2 0) r.callers.holder (omega (arith, credit))
       (lock_stays t s.words s.views (get_or s.words 2 0) id me.0 w r.callers.holder at same (λ e. subst (LoaderLock t s.words s.views) e r.callers.loader) (room_in s r) r.callers.loader)
       (after_step (λ j u. AtLoader t (set s.words 2 (get_or s.words 2 0)) r.callers.holder j u.loader) s.views id w
-          (rw same (part_stays t s.words (get_or s.words 2 0) r.callers.holder id me.0.loader (room_in s r) (λ _ h. h) (r.callers.at_loader id me.0 at)))
-          (λ j u _ e. part_stays t s.words (get_or s.words 2 0) r.callers.holder j u.loader (room_in s r) (λ _ h. h) (r.callers.at_loader j u e))))
+      (rw same (part_stays t s.words (get_or s.words 2 0) r.callers.holder id me.0.loader (room_in s r) (λ _ h. h) (r.callers.at_loader id me.0 at)))
+      (λ j u _ e. part_stays t s.words (get_or s.words 2 0) r.callers.holder j u.loader (room_in s r) (λ _ h. h) (r.callers.at_loader j u e))))
 
   as_it_was : (v : Log) → IsLike v v
   as_it_was v = record { terms = refl; spent = refl; past = refl; own = refl; joined = refl; allowance = refl; made = refl; kin = refl }
@@ -129,26 +126,25 @@ module _ (t : Terms) (slots id : ℕ) (me : Seated) where
   locks_loader seen even s r deep at small =
       let n : ℕ = get_or s.words 2 0 in
       by_test n seen (λ b. (w : Log) × (a : Act (Unit {0})) × Valid s.homes me.1 a × Holds (stepped s 2 (either b (seen + 1) n) id me.1 w a) × MatchBool b
-          ((seen % 4 ≡ 0) × (seen < 2 ^ 63) × ((copy : List ℕ) × (◌≡◌ {A = Seated} (w, carried_after me.1 a) (after_loader_lock seen copy me.0, me.1)))) (◌≡◌ {A = Seated} (w, carried_after me.1 a) (after_load 2 n me.0, me.1)))
+      ((seen % 4 ≡ 0) × (seen < 2 ^ 63) × ((copy : List ℕ) × (◌≡◌ {A = Seated} (w, carried_after me.1 a) (after_loader_lock seen copy me.0, me.1)))) (◌≡◌ {A = Seated} (w, carried_after me.1 a) (after_load 2 n me.0, me.1)))
       (λ hit.
-          let free : r.callers.holder ≡ None = even_is_free s r (rw hit even) in
-          let four : seen % 4 ≡ 0 = rw hit at (subst (LoaderLock t s.words s.views) free r.callers.loader) in
-          let bound = counter_bound s r in
-          let copy : List ℕ = copy_at t s.words (spare (get_or s.words 0 0)) in
-          let w : Log = after_loader_lock seen copy me.0 in
-          let here : get_or (set s.words 2 (seen + 1)) 2 0 ≡ seen + 1 = get_or-set_same s.words 2 (seen + 1) 0 (room_in s r) in
-          let clock : get_or (set s.words 2 (seen + 1)) 0 0 ≡ get_or s.words 0 0 = get_or-set_other s.words 2 0 (seen + 1) 0 (λ e. omega (arith, e)) in
-          (
-            w,
-            keeps,
-            tt,
-            steps s r w (seen + 1) at (record { held = refl; out = refl; head = refl; sights = refl; copies = refl; own = refl; past = refl; loads = inl refl }) (loader_step t s.words s.views r.history r.callers id me.0 w at (record { terms = refl; spent = refl; past = refl; own = refl; joined = refl; allowance = refl; made = refl; kin = refl }) (seen + 1) (Some id) (omega (arith, hit, four))
-                (w, record { version = seen; words = copy; stored = false }, (set_here s.views id w (within s.views id me.0 at), refl))
-                (after_step (λ j u. AtLoader t (set s.words 2 (seen + 1)) (Some id) j u.loader) s.views id w
-                    (refl, ((four, inl here), sym (copy_at_set t s.words (seen + 1) (spare (get_or s.words 0 0))) ∙ ap (λ k. copy_at t (set s.words 2 (seen + 1)) (spare k)) (sym clock)))
-                    (λ j u _ e. nothing (set s.words 2 (seen + 1)) (Some id) j u.loader (no_part s.words r.callers.holder j u.loader (λ h. none-some j (sym free ∙ h)) (r.callers.at_loader j u e))))),
-            (four, omega (arith, bound, hit), (copy, refl)),
-          ))
+      let free : r.callers.holder ≡ None = even_is_free s r (rw hit even) in
+      let four : seen % 4 ≡ 0 = rw hit at (subst (LoaderLock t s.words s.views) free r.callers.loader) in
+      let bound = counter_bound s r in
+      let copy : List ℕ = copy_at t s.words (spare (get_or s.words 0 0)) in
+      let w : Log = after_loader_lock seen copy me.0 in
+      let here : get_or (set s.words 2 (seen + 1)) 2 0 ≡ seen + 1 = get_or-set_same s.words 2 (seen + 1) 0 (room_in s r) in
+      let clock : get_or (set s.words 2 (seen + 1)) 0 0 ≡ get_or s.words 0 0 = get_or-set_other s.words 2 0 (seen + 1) 0 (λ e. omega (arith, e)) in (
+        w,
+        keeps,
+        tt,
+        steps s r w (seen + 1) at (record { held = refl; out = refl; head = refl; sights = refl; copies = refl; own = refl; past = refl; loads = inl refl }) (loader_step t s.words s.views r.history r.callers id me.0 w at (record { terms = refl; spent = refl; past = refl; own = refl; joined = refl; allowance = refl; made = refl; kin = refl }) (seen + 1) (Some id) (omega (arith, hit, four))
+            (w, record { version = seen; words = copy; stored = false }, (set_here s.views id w (within s.views id me.0 at), refl))
+            (after_step (λ j u. AtLoader t (set s.words 2 (seen + 1)) (Some id) j u.loader) s.views id w
+            (refl, ((four, inl here), sym (copy_at_set t s.words (seen + 1) (spare (get_or s.words 0 0))) ∙ ap (λ k. copy_at t (set s.words 2 (seen + 1)) (spare k)) (sym clock)))
+            (λ j u _ e. nothing (set s.words 2 (seen + 1)) (Some id) j u.loader (no_part s.words r.callers.holder j u.loader (λ h. none-some j (sym free ∙ h)) (r.callers.at_loader j u e))))),
+        (four, omega (arith, bound, hit), (copy, refl)),
+      ))
       (λ miss. (after_load 2 n me.0, keeps, tt, idle s r (after_load 2 n me.0) at (record { terms = refl; spent = refl; past = refl; own = refl; joined = refl; allowance = refl; made = refl; kin = refl }) (record { held = refl; out = refl; head = refl; sights = refl; copies = refl; own = refl; past = refl; loads = inr (load_of me.0 2 (get_or s.words 2 0), (refl, refl)) }) refl refl, refl))
 
   -- the low two bits of an odd word set
@@ -159,21 +155,20 @@ module _ (t : Terms) (slots id : ℕ) (me : Seated) where
   marks_loader seen odd s r deep at small =
       let n : ℕ = get_or s.words 2 0 in
       by_test n seen (λ b. (w : Log) × (a : Act (Unit {0})) × Valid s.homes me.1 a × Holds (stepped s 2 (either b (marked seen) n) id me.1 w a) × MatchBool b
-          (◌≡◌ {A = Seated} (w, carried_after me.1 a) (after_mark me.0, me.1)) (◌≡◌ {A = Seated} (w, carried_after me.1 a) (after_load 2 n me.0, me.1)))
+      (◌≡◌ {A = Seated} (w, carried_after me.1 a) (after_mark me.0, me.1)) (◌≡◌ {A = Seated} (w, carried_after me.1 a) (after_load 2 n me.0, me.1)))
       (λ hit.
-          let w : Log = after_mark me.0 in
-          let keeps_lock : (version : ℕ) → IsLockedAt version (get_or s.words 2 0) → IsLockedAt version (marked seen) = λ version h. (h.0, inr (⊎_elim (λ (e : get_or s.words 2 0 ≡ version + 1). let z = h.0 in omega (arith, e, z, hit)) (λ (e : get_or s.words 2 0 ≡ version + 3). let z = h.0 in omega (arith, e, z, hit)) h.1)) in
-          (
-            w,
-            keeps,
-            tt,
-            steps s r w (marked seen) at (record { held = refl; out = refl; head = refl; sights = refl; copies = refl; own = refl; past = refl; loads = inl refl }) (loader_step t s.words s.views r.history r.callers id me.0 w at (record { terms = refl; spent = refl; past = refl; own = refl; joined = refl; allowance = refl; made = refl; kin = refl }) (marked seen) r.callers.holder (omega (arith, hit))
-                (lock_stays t s.words s.views (marked seen) id me.0 w r.callers.holder at refl (λ e. let z : get_or s.words 2 0 % 4 ≡ 0 = subst (LoaderLock t s.words s.views) e r.callers.loader in absurd (omega (arith, z, odd, hit))) (room_in s r) r.callers.loader)
-                (after_step (λ j u. AtLoader t (set s.words 2 (marked seen)) r.callers.holder j u.loader) s.views id w
-                    (part_stays t s.words (marked seen) r.callers.holder id me.0.loader (room_in s r) keeps_lock (r.callers.at_loader id me.0 at))
-                    (λ j u _ e. part_stays t s.words (marked seen) r.callers.holder j u.loader (room_in s r) keeps_lock (r.callers.at_loader j u e)))),
-            refl,
-          ))
+      let w : Log = after_mark me.0 in
+      let keeps_lock : (version : ℕ) → IsLockedAt version (get_or s.words 2 0) → IsLockedAt version (marked seen) = λ version h. (h.0, inr (⊎_elim (λ (e : get_or s.words 2 0 ≡ version + 1). let z = h.0 in omega (arith, e, z, hit)) (λ (e : get_or s.words 2 0 ≡ version + 3). let z = h.0 in omega (arith, e, z, hit)) h.1)) in (
+        w,
+        keeps,
+        tt,
+        steps s r w (marked seen) at (record { held = refl; out = refl; head = refl; sights = refl; copies = refl; own = refl; past = refl; loads = inl refl }) (loader_step t s.words s.views r.history r.callers id me.0 w at (record { terms = refl; spent = refl; past = refl; own = refl; joined = refl; allowance = refl; made = refl; kin = refl }) (marked seen) r.callers.holder (omega (arith, hit))
+            (lock_stays t s.words s.views (marked seen) id me.0 w r.callers.holder at refl (λ e. let z : get_or s.words 2 0 % 4 ≡ 0 = subst (LoaderLock t s.words s.views) e r.callers.loader in absurd (omega (arith, z, odd, hit))) (room_in s r) r.callers.loader)
+            (after_step (λ j u. AtLoader t (set s.words 2 (marked seen)) r.callers.holder j u.loader) s.views id w
+            (part_stays t s.words (marked seen) r.callers.holder id me.0.loader (room_in s r) keeps_lock (r.callers.at_loader id me.0 at))
+            (λ j u _ e. part_stays t s.words (marked seen) r.callers.holder j u.loader (room_in s r) keeps_lock (r.callers.at_loader j u e)))),
+        refl,
+      ))
       (λ miss. (after_load 2 n me.0, keeps, tt, idle s r (after_load 2 n me.0) at (record { terms = refl; spent = refl; past = refl; own = refl; joined = refl; allowance = refl; made = refl; kin = refl }) (record { held = refl; out = refl; head = refl; sights = refl; copies = refl; own = refl; past = refl; loads = inr (load_of me.0 2 (get_or s.words 2 0), (refl, refl)) }) refl refl, refl))
 
   -- a log that holds the lock: the word is its version, locked, and no other log holds it
@@ -186,15 +181,14 @@ module _ (t : Terms) (slots id : ℕ) (me : Seated) where
   lets_go s r h w x at is like as_was gone four fewer =
       let mine = mine_held s r h at is in
       steps s r w x at as_was (loader_step t s.words s.views r.history r.callers id me.0 w at like x None fewer (rw (get_or-set_same s.words 2 x 0 (room_in s r)) four)
-          (after_step (λ j u. AtLoader t (set s.words 2 x) None j u.loader) s.views id w (nothing (set s.words 2 x) None id w.loader gone)
-              (λ j u other e. nothing (set s.words 2 x) None j u.loader (no_part s.words r.callers.holder j u.loader (λ held. other (same_Some _ _ (sym held ∙ mine.0))) (r.callers.at_loader j u e)))))
+      (after_step (λ j u. AtLoader t (set s.words 2 x) None j u.loader) s.views id w (nothing (set s.words 2 x) None id w.loader gone)
+      (λ j u other e. nothing (set s.words 2 x) None j u.loader (no_part s.words r.callers.holder j u.loader (λ held. other (same_Some _ _ (sym held ∙ mine.0))) (r.callers.at_loader j u e)))))
 
   pub releases_loader : (h : LoaderHolding) → me.0.loader ≡ Some h → 0 < me.0.credit → Allows Holds slots id me 2 (λ _. h.version + 4) (releases (step slots 2 (h.version + 4) 0 none) me)
   releases_loader h is some_credit s r deep at small =
       let w : Log = after_loader_release me.0 in
       let lock = (mine_held s r h at is).1 in
-      let four = lock.0 in
-      (
+      let four = lock.0 in (
         w,
         keeps,
         tt,
@@ -207,8 +201,7 @@ module _ (t : Terms) (slots id : ℕ) (me : Seated) where
   releases_same_loader h is s r deep at small =
       let w : Log = after_loader_release_same me.0 in
       let lock = (mine_held s r h at is).1 in
-      let four = lock.0 in
-      (
+      let four = lock.0 in (
         w,
         keeps,
         tt,

@@ -1,28 +1,13 @@
 -- What is said of callers stays over a step on the loader's lock.
-use Rattle.std.proofs.Common.{◌≡◌, ◌≢◌, ℕ, zero, suc, ◌+◌, ◌-◌, ◌*◌, ◌/◌, ◌%◌, ◌^◌, ◌<◌, ◌≤◌, ◌⊎◌, eqb, List, [], ◌∷◌, ◌++◌, length, get_or, set, sym, refl, ap, ◌∙◌, subst, inl, inr, ⊎_elim, arith, get_or-set_other, get_or-set_same, length-set, eq-eqb, ne_eqb, ◌==◌, MatchBool, IfSome, IsSome, IsSomeAnd, bit_or, bit_and, true≢false, Option, Some, None, false, true, Bool}
-use Rattle.std.specs.List.{AllByRecursion}
-use Rattle.std.proofs.lemmas.Option.{none-some, same_Some}
-use Rattle.std.proofs.lemmas.Nat.{or_disjoint}
-use Rattle.std.specs.Int.Bits.{or_add_and}
-use lib.Bits.{and_mask}
-use mathlib.Core.Option.{none, some, some-injective, some-ne-none}
-use native.Mathlib.Decide.{ℕ_discrete}
-use mathlib.Core.List.{IsPrefix}
+use Rattle.std.proofs.Common.{◌≡◌, ℕ, ◌+◌, ◌/◌, ◌<◌, ◌≤◌, List, [], ◌∷◌, ◌++◌, length, get_or, set, sym, ap, ◌∙◌, subst, arith, get_or-set_other, get_or-set_same, length-set, Option, false, true}
+use mathlib.Core.Option.{some}
 use lib.ListN.{get_elem?}
-use lib.Seq.{set-get_or}
-use prog.Atomic.{either}
-use Rattle.atomic_table.specs.Table.{State, Me, step, Act, keeps, stepped, carried_after, Valid, Allows, opening}
-use Rattle.atomic_table.proofs.Lists.{at_set, set_here, set_else, set_again, exchanged}
 use Rattle.reg_model.specs.declared.answer.Update.{Update}
 use Rattle.word_rule.specs.declared.views.Log.{Log}
 use Rattle.word_rule.specs.declared.views.Terms.{Terms}
-use Rattle.word_rule.specs.declared.views.LoaderHolding.{LoaderHolding}
-use Rattle.word_rule.specs.Names.{times, once, is_same}
-use Rattle.word_rule.specs.Places.{CLOCK, LOADER, word_count, copy_at, spare, counters, node_counters}
-use Rattle.word_rule.specs.Logs.{after_load, after_loader_lock, after_mark, after_loader_release, after_loader_release_same}
-use Rattle.word_rule.specs.Rule.{total, Callers, LogHolds, Kindred, AtLoader, LoaderLock, HoldsLoader, IsLockedAt, dones, dones_of_all, dones_in}
-use Rattle.word_rule.specs.Tells.{looks, locks, marks, releases, releases_same}
-use Rattle.word_rule.proofs.Facts.{total_set, total_same, part_of_total, node_counters_set, copy_at_set, after_step}
+use Rattle.word_rule.specs.Names.{times}
+use Rattle.word_rule.specs.Rule.{total, Callers, LogHolds, Kindred, AtLoader, LoaderLock, dones, dones_of_all, dones_in}
+use Rattle.word_rule.proofs.Facts.{total_set, total_same, node_counters_set, after_step}
 
 -- What such a step leaves as it is in its log.
 pub record IsLike (v w : Log) : Type 0 where
@@ -52,7 +37,7 @@ module _ (t : Terms) (words : List ℕ) (views : List Log) (history : List Updat
     named = after_step (λ _ u. u.spent ≡ false → 0 < times u.kin.name u.kin.members) views id w (λ s. rw like.kin (r.kindred.named id v at (sym like.spent ∙ s))) (λ j u _ e. r.kindred.named j u e);
     unborn = after_step (λ _ u. u.spent ≡ false → (n : ℕ) → u.kin.born ≤ n → total (λ z. times (u.kin.name ++ n ∷ []) z.kin.given) (set views id w) ≡ 0) views id w
         (λ s n b. subst (λ k. total (λ z. times (k.name ++ n ∷ []) z.kin.given) (set views id w) ≡ 0) (sym like.kin)
-            (total_same (λ z. times (v.kin.name ++ n ∷ []) z.kin.given) views id v w at (ap (λ k. times (v.kin.name ++ n ∷ []) k.given) like.kin) ∙ r.kindred.unborn id v at (sym like.spent ∙ s) n (subst (λ k. k.born ≤ n) like.kin b)))
+        (total_same (λ z. times (v.kin.name ++ n ∷ []) z.kin.given) views id v w at (ap (λ k. times (v.kin.name ++ n ∷ []) k.given) like.kin) ∙ r.kindred.unborn id v at (sym like.spent ∙ s) n (subst (λ k. k.born ≤ n) like.kin b)))
         (λ j u _ e s n b. rw (total_same (λ z. times (u.kin.name ++ n ∷ []) z.kin.given) views id v w at (ap (λ k. times (u.kin.name ++ n ∷ []) k.given) like.kin)) (r.kindred.unborn j u e s n b));
     spent = after_step (λ _ u. u.spent ≡ true → (u.own ≡ []) × (u.joined ≡ []) × (u.made ≡ 0)) views id w (λ s. let h = r.kindred.spent id v at (sym like.spent ∙ s) in (like.own ∙ h.0, like.joined ∙ h.1, like.made ∙ h.2)) (λ j u _ e. r.kindred.spent j u e);
   }

@@ -1,27 +1,25 @@
 -- What is said of nodes, sights and copies stays where a step touches none of them.
-use Rattle.std.proofs.Common.{◌≡◌, ◌≢◌, ℕ, zero, suc, ◌+◌, ◌*◌, ◌%◌, ◌<◌, ◌≤◌, ◌⊎◌, List, [], ◌∷◌, ◌++◌, length, get_or, set, take, drop, sym, refl, ap, ◌∙◌, subst, inl, inr, ⊎_elim, arith, Option, Some, None, IfSome, IsSome, IsTrue, false, true, Bool, get_or-set_other, drop-set-lt}
+use Rattle.std.proofs.Common.{◌≡◌, ◌≢◌, ℕ, ◌+◌, ◌*◌, ◌%◌, ◌≤◌, ◌⊎◌, List, [], ◌∷◌, ◌++◌, length, get_or, set, take, drop, sym, ap, ◌∙◌, subst, inl, inr, ⊎_elim, arith, Option, Some, None, IfSome, IsSome, false, get_or-set_other, drop-set-lt}
 use Rattle.std.specs.List.{AllByRecursion}
 use mathlib.Core.Option.{some, some-injective}
 use lib.ListN.{get_elem?}
-use Rattle.atomic_table.proofs.Lists.{set_here, set_else, at_longer}
+use Rattle.atomic_table.proofs.Lists.{set_here, set_else}
 use Rattle.reg_model.specs.declared.answer.Update.{Update}
 use Rattle.tree_shape.specs.Shapes.{Shape}
 use Rattle.word_rule.specs.declared.views.Log.{Log}
 use Rattle.word_rule.specs.declared.views.Load.{Load}
-use Rattle.word_rule.specs.declared.views.Loaded.{Loaded}
 use Rattle.word_rule.specs.declared.views.Sight.{Sight}
 use Rattle.word_rule.specs.declared.views.CopySight.{CopySight}
 use Rattle.word_rule.specs.declared.views.Holding.{Holding}
 use Rattle.word_rule.specs.declared.views.Terms.{Terms}
-use Rattle.word_rule.specs.Places.{node_place, copy_at, upper, HEAD, CLOCK}
+use Rattle.word_rule.specs.Places.{node_place, copy_at, upper}
 use Rattle.word_rule.specs.Spelling.{Spells}
 use Rattle.word_rule.specs.Held.{held_of}
-use Rattle.word_rule.specs.Sights.{place_of}
 use Rattle.word_rule.specs.Rule.{IsLockedAt}
-use Rattle.word_rule.specs.Table.{Shadow, Nodes, Looks, HoldsNode, HeldBy, IsOpen, SightHolds, CopySightHolds, AreLoaded, Stands, WasFilled, IsFullCount, ActiveCopy, Lists, IsChain, node_words, version_of}
+use Rattle.word_rule.specs.Table.{Shadow, Nodes, Looks, HoldsNode, HeldBy, IsOpen, SightHolds, CopySightHolds, Stands, WasFilled, IsFullCount, ActiveCopy, Lists, IsChain, node_words, version_of}
 use Rattle.reg_model.specs.History.{state_at}
 use Rattle.tree_shape.specs.Numbers.{times, once}
-use Rattle.word_rule.specs.Rule.{total, start}
+use Rattle.word_rule.specs.Rule.{start}
 use Rattle.word_rule.specs.Table.{last_moment}
 use Rattle.word_rule.proofs.Facts.{copy_at_set, total_same, after_step, within, decided}
 
@@ -90,8 +88,11 @@ module _ (t : Terms) (words : List ℕ) (x : ℕ) where
   clock_stays = word_stays 0 (λ e. omega (arith, e))
 
   copy_sight_stays : (s : CopySight) → CopySightHolds t words s → CopySightHolds t words' s
-  copy_sight_stays s r = (subst (λ k. s.guard ≤ upper k) (sym clock_stays) r.0, r.1,
-      λ e. all_both (λ w. 4 ≤ w.at) (λ w. get_or words (0 + w.at) 0 ≡ w.value) (λ w. get_or words' (0 + w.at) 0 ≡ w.value) (λ w far same. word_stays (0 + w.at) (λ z. omega (arith, z, far)) ∙ same) s.words r.1 (r.2 (e ∙ ap upper clock_stays)))
+  copy_sight_stays s r = (
+    subst (λ k. s.guard ≤ upper k) (sym clock_stays) r.0,
+    r.1,
+    λ e. all_both (λ w. 4 ≤ w.at) (λ w. get_or words (0 + w.at) 0 ≡ w.value) (λ w. get_or words' (0 + w.at) 0 ≡ w.value) (λ w far same. word_stays (0 + w.at) (λ z. omega (arith, z, far)) ∙ same) s.words r.1 (r.2 (e ∙ ap upper clock_stays)),
+  )
 
   copies_stay : (o : Option CopySight) → IfSome o (CopySightHolds t words) → IfSome o (CopySightHolds t words')
   copies_stay None h = tt
@@ -124,9 +125,9 @@ no_count t v l is = all_of (λ h. IsFullCount l h → _) (λ h full. absurd (let
 same_filled : (t : Terms) (v w : Log) → IsSame v w → AllByRecursion (WasFilled t v) v.loads → AllByRecursion (WasFilled t w) w.loads
 same_filled t v w same h =
     let kept : AllByRecursion (WasFilled t w) v.loads = all_map (WasFilled t v) (WasFilled t w) (λ l f. subst (λ p. AllByRecursion (λ g. IsFullCount l g → (j : ℕ) × ((last_moment 0 (take l.receipts w.own) ≤ j) × (j ≤ length p) × (10 ≤ length (state_at (start t) p j).registered))) l.held) (sym same.past)
-        (subst (λ o. AllByRecursion (λ g. IsFullCount l g → (j : ℕ) × ((last_moment 0 (take l.receipts o) ≤ j) × (j ≤ length v.past) × (10 ≤ length (state_at (start t) v.past j).registered))) l.held) (sym same.own) f)) v.loads h in
+    (subst (λ o. AllByRecursion (λ g. IsFullCount l g → (j : ℕ) × ((last_moment 0 (take l.receipts o) ≤ j) × (j ≤ length v.past) × (10 ≤ length (state_at (start t) v.past j).registered))) l.held) (sym same.own) f)) v.loads h in
     ⊎_elim (λ (e : w.loads ≡ v.loads). subst (AllByRecursion (WasFilled t w)) (sym e) kept)
-        (λ (e : (l : Load) × ((w.loads ≡ v.loads ++ l ∷ []) × (l.word ≡ 2))). subst (AllByRecursion (WasFilled t w)) (sym e.1.0) (all_snoc (WasFilled t w) v.loads e.0 kept (no_count t w e.0 e.1.1))) same.loads
+    (λ (e : (l : Load) × ((w.loads ≡ v.loads ++ l ∷ []) × (l.word ≡ 2))). subst (AllByRecursion (WasFilled t w)) (sym e.1.0) (all_snoc (WasFilled t w) v.loads e.0 kept (no_count t w e.0 e.1.1))) same.loads
 
 -- one log's sights and loads, over a step that is another's
 looks_stays : (t : Terms) (words : List ℕ) (x : ℕ) (history : List Update) (shadow : Shadow) (v : Log) → Looks t words history shadow v → Looks t (set words 2 x) history shadow v
@@ -150,8 +151,13 @@ module _ (t : Terms) (words : List ℕ) (views : List Log) (history : List Updat
   holders_step : (n : ℕ) (holder : Option ℕ) → HeldBy n views holder → HeldBy n (set views id w) holder
   holders_step n None h = tt
   holders_step n (Some j) h = ⊎_elim
-      (λ (is : j ≡ id). (w, (subst (λ k. get_elem? (set views id w) k ≡ some w) (sym is) (set_here views id w (within views id v at)),
-          subst (λ hs. IsSome (held_of n hs)) (sym same.held) (subst (λ u. IsSome (held_of n u.held)) (some-injective h.0 v (sym h.1.0 ∙ (ap (get_elem? views) is ∙ at))) h.1.1))))
+      (λ (is : j ≡ id). (
+        w,
+        (
+          subst (λ k. get_elem? (set views id w) k ≡ some w) (sym is) (set_here views id w (within views id v at)),
+          subst (λ hs. IsSome (held_of n hs)) (sym same.held) (subst (λ u. IsSome (held_of n u.held)) (some-injective h.0 v (sym h.1.0 ∙ (ap (get_elem? views) is ∙ at))) h.1.1),
+        ),
+      ))
       (λ (far : j ≢ id). (h.0, (set_else views id j w far ∙ h.1.0, h.1.1))) (decided j id)
 
   pub nodes_step : Nodes t words views history shadow → Nodes t (set words 2 x) (set views id w) history shadow

@@ -1,23 +1,21 @@
 -- The whole invariant holds of the opening words.
-use Rattle.std.proofs.Common.{◌≡◌, ◌≢◌, ℕ, zero, suc, ◌+◌, ◌-◌, ◌*◌, ◌/◌, ◌%◌, ◌^◌, ◌<◌, ◌≤◌, ◌⊎◌, ◌↔◌, ◌&&◌, ◌||◌, ◌==◌, nat_le, nat_lt, List, [], ◌∷◌, ◌++◌, length, length-append, get_or, set, take, drop, replicate, sym, refl, ap, ◌∙◌, subst, inl, inr, ⊎_elim, arith, Option, Some, None, IsTrue, false, true, true≢false, Bool, Contains, append_assoc, get_or-append-add, eq-or-lt_of_le, eq-eqb, ne_eqb, lt_of_not-le, if◌then◌else◌}
+use Rattle.std.proofs.Common.{◌≡◌, ℕ, zero, suc, ◌+◌, ◌-◌, ◌*◌, ◌%◌, ◌<◌, ◌≤◌, ◌⊎◌, ◌↔◌, ◌||◌, ◌==◌, nat_lt, List, [], ◌∷◌, ◌++◌, length, get_or, set, take, drop, replicate, sym, refl, ap, ◌∙◌, subst, inl, inr, arith, Some, None, IsTrue, false, true, true≢false, Bool, Contains, append_assoc, get_or-append-add, eq-or-lt_of_le, eq-eqb, ne_eqb, lt_of_not-le, if◌then◌else◌}
 use Rattle.std.specs.List.{AllByRecursion}
-use mathlib.Core.Option.{some, some-injective, some-ne-none}
 use native.Mathlib.Decide.{ℕ_discrete, dec_le}
-use borrow.Author.Tests.{le-leb, lt-leb, lt-ltb, le-ltb}
-use lib.ListN.{get_elem?, get_or-append}
+use borrow.Author.Tests.{lt-ltb, le-ltb}
+use lib.ListN.{get_or-append}
 use lib.Seq.{drop-append_seam, drop-append-add, take-append_seam}
 use Rattle.reg_model.specs.declared.span.Member.{Member}
-use Rattle.tree_shape.specs.Shapes.{Shape, Body, Link, Pairs, Entries, entries_of}
-use Rattle.tree_shape.specs.Trees.{Contents, HasEntry, branches}
+use Rattle.tree_shape.specs.Shapes.{Shape, Body, Link, Entries, entries_of}
+use Rattle.tree_shape.specs.Trees.{HasEntry, branches}
 use Rattle.tree_shape.specs.Numbers.{times, once}
-use Rattle.tree_shape.specs.Lawful.{IsLawful, IsTree, IsOrdered, IsFilled, Fits}
-use Rattle.word_rule.specs.declared.views.Log.{Log}
+use Rattle.tree_shape.specs.Lawful.{IsLawful, IsOrdered, IsFilled, Fits}
 use Rattle.word_rule.specs.declared.views.Terms.{Terms}
-use Rattle.word_rule.specs.Places.{word_count, copy_words, copy_place, copy_at, opening_kind, opening_link, opening_node, opening_nodes, opening_words, node_place, HEAD, CLOCK}
-use Rattle.word_rule.specs.Spelling.{spelled, Spells}
+use Rattle.word_rule.specs.Places.{copy_words, copy_place, copy_at, opening_kind, opening_link, opening_node, opening_nodes, opening_words}
+use Rattle.word_rule.specs.Spelling.{spelled}
 use Rattle.word_rule.specs.Logs.{first_log}
 use Rattle.word_rule.specs.Rule.{AreTerms, start}
-use Rattle.word_rule.specs.Table.{Table, Nodes, Shadow, Looks, ActiveCopy, IsChain, IsOpen, HoldsNode, node_words, version_of}
+use Rattle.word_rule.specs.Table.{Table, Shadow, Looks, IsChain, HoldsNode, node_words, version_of}
 use Rattle.word_rule.proofs.Begins.{begins, opening_nodes_length, opening_version, only}
 
 -- what the opening words spell: the root an empty leaf, all others free
@@ -59,7 +57,7 @@ opening_spells nodes (suc n) h small =
     let body : opening_body nodes (suc n) ≡ Link (opening_link nodes (suc n)) = rw other refl in
     let link_short : opening_link nodes (suc n) < 4294967296 = omega (arith, l, h, small) in
     ap (λ k. spelled (set (set (set (replicate 36 0) 1 k) 4 18446744073709551615) 6 (opening_link nodes (suc n)))) kind
-        ∙ (free_spells (opening_link nodes (suc n)) link_short ∙ ap (λ b. Some record { level = 0; low = 0; high = 18446744073709551615; body = b }) (sym body))
+    ∙ (free_spells (opening_link nodes (suc n)) link_short ∙ ap (λ b. Some record { level = 0; low = 0; high = 18446744073709551615; body = b }) (sym body))
 
 sum_zero : (n : ℕ) → once (n == 0) + 0 ≡ once (is_root n)
 sum_zero n = omega arith
@@ -84,13 +82,14 @@ nodes_at nodes (suc m) n h rest = go (eq-or-lt_of_le h) (nodes_at nodes m n)
   where
     len : length (opening_nodes nodes m) ≡ 36 * m
     len = opening_nodes_length nodes m
+
     go : (suc n ≡ suc m) ⊎ (suc n < suc m) → (n < m → (rest : List ℕ) → take 36 (drop (36 * n) (opening_nodes nodes m ++ rest)) ≡ opening_node nodes n)
         → take 36 (drop (36 * n) ((opening_nodes nodes m ++ opening_node nodes m) ++ rest)) ≡ opening_node nodes n
     go (inl e) before =
         let l = len in let at : 36 * n ≡ length (opening_nodes nodes m) = omega (arith, e, l) in let same : n ≡ m = omega (arith, e) in
         ap (λ z. take 36 (drop (36 * n) z)) (append_assoc (opening_nodes nodes m) (opening_node nodes m) rest)
-            ∙ (ap (λ k. take 36 (drop k (opening_nodes nodes m ++ (opening_node nodes m ++ rest)))) at
-            ∙ (ap (take 36) (drop-append_seam (opening_nodes nodes m) (opening_node nodes m ++ rest)) ∙ (take-append_seam (opening_node nodes m) rest ∙ ap (opening_node nodes) (sym same))))
+        ∙ (ap (λ k. take 36 (drop k (opening_nodes nodes m ++ (opening_node nodes m ++ rest)))) at
+        ∙ (ap (take 36) (drop-append_seam (opening_nodes nodes m) (opening_node nodes m ++ rest)) ∙ (take-append_seam (opening_node nodes m) rest ∙ ap (opening_node nodes) (sym same))))
     go (inr less) before = ap (λ z. take 36 (drop (36 * n) z)) (append_assoc (opening_nodes nodes m) (opening_node nodes m) rest) ∙ before (omega (arith, less)) (opening_node nodes m ++ rest)
 
 node_at : (t : Terms) (n : ℕ) → n < t.nodes → node_words (opening_words t) n ≡ opening_node t.nodes n
@@ -168,11 +167,10 @@ opening_copy t i =
     let n = opening_nodes_length t.nodes t.nodes in
     let at : copy_place t 0 ≡ length (0 ∷ 1 ∷ 0 ∷ 0 ∷ opening_nodes t.nodes t.nodes) = omega (arith, n) in
     ap (λ k. get_or (take (copy_words t) (drop k (opening_words t))) i 0) at
-        ∙ (ap (λ z. get_or (take (copy_words t) z) i 0) (drop-append_seam (0 ∷ 1 ∷ 0 ∷ 0 ∷ opening_nodes t.nodes t.nodes) (replicate (2 * copy_words t) 0)) ∙ zeros (copy_words t) (2 * copy_words t) i)
+    ∙ (ap (λ z. get_or (take (copy_words t) z) i 0) (drop-append_seam (0 ∷ 1 ∷ 0 ∷ 0 ∷ opening_nodes t.nodes t.nodes) (replicate (2 * copy_words t) 0)) ∙ zeros (copy_words t) (2 * copy_words t) i)
 
 opening_chain : (nodes : ℕ) → 4 ≤ nodes → IsChain (opening_shape nodes) 1 (free_from 1 (nodes - 1))
 opening_chain nodes some_nodes = subst (λ h. IsChain (opening_shape nodes) h (free_from 1 (nodes - 1))) (rw (ne_eqb (nodes - 1) 0 (λ e. omega (arith, e, some_nodes))) refl) (chained nodes 1 (nodes - 1) (omega arith) (omega (arith, some_nodes)))
-
 
 pub whole_begins : (t : Terms) → AreTerms t → Table t (opening_words t) (first_log t ∷ [])
 whole_begins t terms = record {

@@ -1,10 +1,10 @@
 -- What is said of nodes, sights and copies stays where a caller or a note comes or goes.
-use Rattle.std.proofs.Common.{◌≡◌, ◌≢◌, ℕ, zero, suc, ◌+◌, ◌*◌, ◌%◌, ◌<◌, ◌≤◌, ◌⊎◌, List, [], ◌∷◌, ◌++◌, length, get_or, set, take, drop, sym, refl, ap, ◌∙◌, subst, inl, inr, ⊎_elim, arith, Option, Some, None, IfSome, IsSome, IsTrue, false, true, true≢false, Bool, length-append}
+use Rattle.std.proofs.Common.{◌≡◌, ◌≢◌, ℕ, ◌+◌, ◌≤◌, List, [], ◌∷◌, ◌++◌, length, get_or, set, take, sym, ap, ◌∙◌, subst, inl, ⊎_elim, arith, Option, Some, None, IfSome, IsSome, true≢false, length-append}
 use Rattle.std.specs.List.{AllByRecursion}
 use mathlib.Core.Option.{some, some-injective}
 use mathlib.Core.List.{IsPrefix}
 use lib.ListN.{get_elem?}
-use Rattle.atomic_table.proofs.Lists.{set_here, set_else, at_longer, at_set}
+use Rattle.atomic_table.proofs.Lists.{set_here, set_else, at_longer}
 use Rattle.reg_model.specs.History.{state_at}
 use Rattle.reg_model.specs.declared.answer.Update.{Update}
 use Rattle.reg_model.proofs.Histories.{state_at-append}
@@ -16,8 +16,8 @@ use Rattle.word_rule.specs.Held.{held_of}
 use Rattle.word_rule.specs.Logs.{child_log, spent_log}
 use Rattle.word_rule.specs.Rule.{total, start}
 use Rattle.word_rule.specs.Table.{Shadow, Nodes, Looks, HoldsNode, HeldBy, WasFilled, IsFullCount, SightHolds, CopySightHolds, last_moment}
-use Rattle.word_rule.proofs.Facts.{total_same, total_set, total_snoc, total_set_two, after_step, within, behind, decided}
-use Rattle.word_rule.proofs.Whole.{all_map, IsSame, looks_same}
+use Rattle.word_rule.proofs.Facts.{total_same, total_snoc, total_set_two, after_step, within, behind, decided}
+use Rattle.word_rule.proofs.Whole.{all_map, looks_same}
 
 -- what a birth leaves of its maker's log
 pub record IsStill (v w : Log) : Type 0 where
@@ -36,8 +36,13 @@ module _ (t : Terms) (words : List ℕ) (views : List Log) (history : List Updat
   holders_born : (n : ℕ) (holder : Option ℕ) → HeldBy n views holder → HeldBy n born holder
   holders_born n None h = tt
   holders_born n (Some j) h = ⊎_elim
-      (λ (is : j ≡ id). (w, (at_longer (set views id w) (child_log a c v ∷ []) j w (subst (λ k. get_elem? (set views id w) k ≡ some w) (sym is) (set_here views id w (within views id v at))),
-          subst (λ hs. IsSome (held_of n hs)) (sym still.held) (subst (λ u. IsSome (held_of n u.held)) (some-injective h.0 v (sym h.1.0 ∙ (ap (get_elem? views) is ∙ at))) h.1.1))))
+      (λ (is : j ≡ id). (
+        w,
+        (
+          at_longer (set views id w) (child_log a c v ∷ []) j w (subst (λ k. get_elem? (set views id w) k ≡ some w) (sym is) (set_here views id w (within views id v at))),
+          subst (λ hs. IsSome (held_of n hs)) (sym still.held) (subst (λ u. IsSome (held_of n u.held)) (some-injective h.0 v (sym h.1.0 ∙ (ap (get_elem? views) is ∙ at))) h.1.1),
+        ),
+      ))
       (λ (far : j ≢ id). (h.0, (at_longer (set views id w) (child_log a c v ∷ []) j h.0 (set_else views id j w far ∙ h.1.0), h.1.1))) (decided j id)
 
   out_born : (n : ℕ) → total (λ z. times n z.out) born ≡ total (λ z. times n z.out) views
@@ -60,7 +65,7 @@ module _ (t : Terms) (words : List ℕ) (views : List Log) (history : List Updat
   pub looks_birth : ((j : ℕ) (u : Log) → get_elem? views j ≡ some u → Looks t words history shadow u) → (j : ℕ) (u : Log) → get_elem? born j ≡ some u → Looks t words history shadow u
   looks_birth r = behind (λ _ z. Looks t words history shadow z) (set views id w) (child_log a c v)
       (after_step (λ _ z. Looks t words history shadow z) views id w
-          (looks_same t words history shadow v w (record { held = still.held; out = still.out; head = still.head; sights = still.sights; copies = still.copies; own = still.own; past = past; loads = inl still.loads }) (r id v at)) (λ j z _ there. r j z there))
+      (looks_same t words history shadow v w (record { held = still.held; out = still.out; head = still.head; sights = still.sights; copies = still.copies; own = still.own; past = past; loads = inl still.loads }) (r id v at)) (λ j z _ there. r j z there))
       (λ _. record { sights = tt; copies = tt; filled = tt; head = λ h. absurd (true≢false (sym h)) })
 
 module _ (t : Terms) (words : List ℕ) (views : List Log) (history : List Update) (shadow : Shadow) (id other : ℕ) (v u b : Log) (at : get_elem? views id ≡ some v) (ne : other ≢ id)
@@ -77,8 +82,13 @@ module _ (t : Terms) (words : List ℕ) (views : List Log) (history : List Updat
   holders_joined : (n : ℕ) (holder : Option ℕ) → HeldBy n views holder → HeldBy n joined holder
   holders_joined n None h = tt
   holders_joined n (Some j) h = ⊎_elim
-      (λ (is : j ≡ id). (b, (set_else (set views id b) other j spent_log (λ e. ne (sym e ∙ is)) ∙ subst (λ k. get_elem? (set views id b) k ≡ some b) (sym is) (set_here views id b (within views id v at)),
-          subst (λ hs. IsSome (held_of n hs)) (sym still.held) (subst (λ z. IsSome (held_of n z.held)) (some-injective h.0 v (sym h.1.0 ∙ (ap (get_elem? views) is ∙ at))) h.1.1))))
+      (λ (is : j ≡ id). (
+        b,
+        (
+          set_else (set views id b) other j spent_log (λ e. ne (sym e ∙ is)) ∙ subst (λ k. get_elem? (set views id b) k ≡ some b) (sym is) (set_here views id b (within views id v at)),
+          subst (λ hs. IsSome (held_of n hs)) (sym still.held) (subst (λ z. IsSome (held_of n z.held)) (some-injective h.0 v (sym h.1.0 ∙ (ap (get_elem? views) is ∙ at))) h.1.1),
+        ),
+      ))
       (λ (far : j ≢ id). (h.0, (set_else (set views id b) other j spent_log (λ is. nobody (subst (λ hs. IsSome (held_of n hs)) held (subst (λ z. IsSome (held_of n z.held)) (some-injective h.0 u (sym h.1.0 ∙ (ap (get_elem? views) is ∙ was))) h.1.1))) ∙ (set_else views id j b far ∙ h.1.0), h.1.1))) (decided j id)
     where
       nobody : IsSome (held_of n []) → ⊥
@@ -106,9 +116,9 @@ module _ (t : Terms) (words : List ℕ) (views : List Log) (history : List Updat
   still_filled l h = all_map (λ g. IsFullCount l g → (j : ℕ) × ((last_moment 0 (take l.receipts v.own) ≤ j) × (j ≤ length v.past) × (10 ≤ length (state_at (start t) v.past j).registered)))
       (λ g. IsFullCount l g → (j : ℕ) × ((last_moment 0 (take l.receipts b.own) ≤ j) × (j ≤ length b.past) × (10 ≤ length (state_at (start t) b.past j).registered)))
       (λ g f full. let m = f full in
-          let len : length v.past + length longer.0 ≡ length b.past = sym (length-append v.past longer.0) ∙ ap length longer.1 in let inside = m.1.1 in
-          let same : state_at (start t) b.past m.0 ≡ state_at (start t) v.past m.0 = ap (λ p. state_at (start t) p m.0) (sym longer.1) ∙ state_at-append (start t) v.past longer.0 m.0 inside in
-          (m.0, (subst (λ o. last_moment 0 (take l.receipts o) ≤ m.0) (sym still.own) m.1.0, omega (arith, len, inside), subst (λ s. 10 ≤ length s.registered) (sym same) m.1.2))) l.held h
+      let len : length v.past + length longer.0 ≡ length b.past = sym (length-append v.past longer.0) ∙ ap length longer.1 in let inside = m.1.1 in
+      let same : state_at (start t) b.past m.0 ≡ state_at (start t) v.past m.0 = ap (λ p. state_at (start t) p m.0) (sym longer.1) ∙ state_at-append (start t) v.past longer.0 m.0 inside in
+      (m.0, (subst (λ o. last_moment 0 (take l.receipts o) ≤ m.0) (sym still.own) m.1.0, omega (arith, len, inside), subst (λ s. 10 ≤ length s.registered) (sym same) m.1.2))) l.held h
 
   pub looks_join : ((j : ℕ) (x : Log) → get_elem? views j ≡ some x → Looks t words history shadow x) → (j : ℕ) (x : Log) → get_elem? joined j ≡ some x → Looks t words history shadow x
   looks_join r = everywhere (λ _ z. Looks t words history shadow z) (record { sights = tt; copies = tt; filled = tt; head = λ h. absurd (true≢false (sym h)) })

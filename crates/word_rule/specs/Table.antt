@@ -1,17 +1,15 @@
 -- The whole invariant: what holds of all words and of all logs between any two steps. The record `Callers` is its part on
 -- callers and the loader's lock; those on nodes, sights and copies stand here.
-use Rattle.std.specs.Prelude.{◌≡◌, ◌≢◌, ℕ, ◌+◌, ◌-◌, ◌*◌, ◌^◌, ◌<◌, ◌≤◌, ◌%◌, ◌⊎◌, ◌↔◌, Bool, true, false, ◌==◌, IsTrue, nat_lt, List, [], ◌∷◌, ◌++◌, length, max, Option, Some, None, IfSome, IsSome, IsSomeAnd, slice_index, take, drop, if◌then◌else◌, Contains}
+use Rattle.std.specs.Prelude.{◌≡◌, ◌≢◌, ℕ, ◌+◌, ◌<◌, ◌≤◌, ◌%◌, ◌⊎◌, ◌↔◌, Bool, false, ◌==◌, IsTrue, nat_lt, List, [], ◌∷◌, length, max, Option, Some, None, IfSome, IsSome, slice_index, take, drop, if◌then◌else◌, Contains}
 use Rattle.std.specs.List.{AllByRecursion}
 use mathlib.Core.Option.{some}
 use lib.ListN.{get_elem?}
-use Rattle.reg_model.specs.Interval.{Interval}
-use Rattle.reg_model.specs.State.{State, IsFree}
 use Rattle.reg_model.specs.History.{state_after, state_at}
 use Rattle.reg_model.specs.Receipt.{moment}
 use Rattle.reg_model.specs.declared.answer.Update.{Update}
 use Rattle.reg_model.specs.declared.answer.Receipt.{Receipt}
 use Rattle.reg_model.specs.declared.span.Member.{Member}
-use Rattle.tree_shape.specs.Shapes.{Shape, Body, Link, Pairs, Entries, entries_of, pairs_of}
+use Rattle.tree_shape.specs.Shapes.{Shape, Body, Link, Pairs, Entries, entries_of}
 use Rattle.tree_shape.specs.Trees.{Contents, HasEntry}
 use Rattle.tree_shape.specs.Numbers.{times, once}
 use Rattle.tree_shape.specs.Lawful.{IsLawful}
@@ -23,9 +21,9 @@ use Rattle.word_rule.specs.declared.views.Sight.{Sight}
 use Rattle.word_rule.specs.declared.views.CopySight.{CopySight}
 use Rattle.word_rule.specs.declared.views.Loaded.{Loaded}
 use Rattle.word_rule.specs.declared.views.Mark.{Mark}
-use Rattle.word_rule.specs.Places.{CLOCK, HEAD, node_place, copy_place, copy_words, copy_at, lower, upper}
-use Rattle.word_rule.specs.Spelling.{Spells, member_at}
-use Rattle.word_rule.specs.Held.{held_of, is_listed}
+use Rattle.word_rule.specs.Places.{CLOCK, HEAD, node_place, copy_at, upper}
+use Rattle.word_rule.specs.Spelling.{Spells}
+use Rattle.word_rule.specs.Held.{held_of}
 use Rattle.word_rule.specs.Sights.{place_of}
 use Rattle.word_rule.specs.Rule.{total, Callers, IsLockedAt, start}
 
