@@ -41,9 +41,9 @@ takes a b c version copy p e =
 pub takes_then : (a b c : Known) → Locks a b → Tries b c → Locks a c
 takes_then a b c p q =
     let both : tried (record a { log = record a.log { loads = a.log.loads ++ p.0; writes = a.log.writes + p.1 + 1; loader = Some record { version = p.2; words = p.3; stored = false } } }) q.0 q.1
-        ≡ record a { log = record a.log { loads = a.log.loads ++ (p.0 ++ q.0); writes = a.log.writes + (p.1 + q.1) + 1; loader = Some record { version = p.2; words = p.3; stored = false } } } =
-        (let w : a.log.writes + p.1 + 1 + q.1 ≡ a.log.writes + (p.1 + q.1) + 1 = omega arith in
-        (λ i. record a { log = record a.log { loads = append_assoc a.log.loads p.0 q.0 i; writes = w i; loader = Some record { version = p.2; words = p.3; stored = false } } })) in
+    ≡ record a { log = record a.log { loads = a.log.loads ++ (p.0 ++ q.0); writes = a.log.writes + (p.1 + q.1) + 1; loader = Some record { version = p.2; words = p.3; stored = false } } } =
+    (let w : a.log.writes + p.1 + 1 + q.1 ≡ a.log.writes + (p.1 + q.1) + 1 = omega arith in
+    (λ i. record a { log = record a.log { loads = append_assoc a.log.loads p.0 q.0 i; writes = w i; loader = Some record { version = p.2; words = p.3; stored = false } } })) in
     (p.0 ++ q.0, p.1 + q.1, p.2, p.3, (all_append p.0 q.0 p.4.0 q.2.0, q.2.1 ∙ (ap (λ k. tried k q.0 q.1) p.4.1 ∙ both)))
 
 tries_mark : (a b : Known) → b ≡ record a { log = after_mark a.log } → Tries a b

@@ -19,7 +19,7 @@ Tries k k' = (more : List Load) × (marks : ℕ) ×
 abbrev pub Locks : Known → Known → Type 0
 Locks k k' = (more : List Load) × (marks : ℕ) × (version : ℕ) × (copy : List ℕ) ×
     (AllByRecursion IsOfLoader more
-     × (k' ≡ record k { log = record k.log { loads = k.log.loads ++ more; writes = k.log.writes + marks + 1; loader = Some record { version = version; words = copy; stored = false } } }))
+    × (k' ≡ record k { log = record k.log { loads = k.log.loads ++ more; writes = k.log.writes + marks + 1; loader = Some record { version = version; words = copy; stored = false } } }))
 
 -- A caller took turns at a lock: it holds what it held before, and its names and its calls are as they were.
 pub record Turns (k k' : Known) : Type 0 where

@@ -1,25 +1,24 @@
 -- One that is alone has all that was ever done.
-use Rattle.std.proofs.Common.{◌≡◌, ◌≢◌, ℕ, zero, suc, ◌+◌, ◌-◌, ◌^◌, ◌%◌, ◌<◌, ◌≤◌, ◌⊎◌, ◌&&◌, nat_le, ◌==◌, List, [], ◌∷◌, ◌++◌, length, length-append, set, get_or, ne_eqb, sym, refl, ap, ◌∙◌, subst, inl, inr, ⊎_elim, arith, Option, Some, None, false, true, true≢false, Bool, max, IfSome, le_of_lt, lt_of_not-le}
+use Rattle.std.proofs.Common.{◌≡◌, ◌≢◌, ℕ, zero, suc, ◌+◌, ◌%◌, ◌<◌, ◌≤◌, List, [], ◌∷◌, ◌++◌, length, length-append, set, get_or, ne_eqb, sym, refl, ap, ◌∙◌, subst, ⊎_elim, arith, Option, Some, None, false, true, Bool, max, lt_of_not-le}
 use Rattle.std.specs.List.{AllByRecursion}
 use mathlib.Core.Option.{none, some, some-injective, some-ne-none}
-use mathlib.Core.List.{IsPrefix}
-use native.Mathlib.Decide.{ℕ_discrete, dec_le}
+use native.Mathlib.Decide.{dec_le}
 use lib.ListN.{get_elem?}
-use lib.Seq.{set-get_or}
 use borrow.Author.Tests.{le-leb}
 use Rattle.atomic_table.specs.Table.{State, Me, step, keeps, Allows, Final, Seen}
 use Rattle.atomic_table.proofs.Lists.{set_again}
-use Rattle.reg_model.specs.Receipt.{moment, accepted, AllHold, Holds}
+use Rattle.reg_model.specs.Receipt.{moment, accepted, AllHold}
 use Rattle.reg_model.specs.declared.answer.Update.{Update}
 use Rattle.reg_model.specs.declared.answer.Receipt.{Receipt}
 use Rattle.word_rule.specs.declared.views.Log.{Log}
 use Rattle.word_rule.specs.declared.views.Terms.{Terms}
 use Rattle.word_rule.specs.Names.{times, once, is_same}
-use Rattle.word_rule.specs.Rule.{total, Callers, LogHolds, KinHolds, Kindred, IsRecord, IsAlone, IsWhole, done_as, dones, dones_of_all, dones_in, numbered, start}
+use Rattle.word_rule.specs.Rule.{total, Callers, LogHolds, KinHolds, IsRecord, IsAlone, IsWhole, done_as, dones, dones_of_all, dones_in, numbered, start}
+use Rattle.word_rule.specs.Table.{Table}
 use Rattle.word_rule.specs.Tells.{settles}
 use Rattle.word_rule.proofs.Facts.{part_of_total, all_of_total}
-use Rattle.word_rule.proofs.Names.{same_or, once_same}
-use Rattle.word_rule.proofs.Comings.{one_place, given_by_one, members_once, log_later}
+use Rattle.word_rule.proofs.Names.{same_or}
+use Rattle.word_rule.proofs.Comings.{one_place, given_by_one}
 
 -- numbers are not above what was seen
 dones_within : (t : Terms) (past : List Update) (callers since n : ℕ) (rs : List Receipt) → length past < n → AllHold (start t) past t.nodes callers since rs → dones n rs ≡ 0
@@ -42,7 +41,7 @@ set_first : (words : List ℕ) → set words 0 (get_or words 0 0) ≡ words
 set_first [] = refl
 set_first (x ∷ words) = refl
 
-module _ (t : Terms) (words : List ℕ) (views : List Log) (r : Callers t words views) (id : ℕ) (v : Log) (at : get_elem? views id ≡ some v) (alone : IsAlone v.kin) where
+module _ (t : Terms) (words : List ℕ) (views : List Log) (history : List Update) (r : Callers t words views history) (id : ℕ) (v : Log) (at : get_elem? views id ≡ some v) (alone : IsAlone v.kin) where
   kin_each : (j : ℕ) (u : Log) → get_elem? views j ≡ some u → KinHolds u.kin
   kin_each j u e = (r.each j u e).kin
 
@@ -50,17 +49,17 @@ module _ (t : Terms) (words : List ℕ) (views : List Log) (r : Callers t words 
   has_next : (x : List ℕ) → ((p : List ℕ) → length p < length x → 0 < total (λ u. times p u.kin.members) views → 0 < times p v.kin.members) → 0 < total (λ u. times x u.kin.members) views → 0 < times x v.kin.members
   has_next x shorter more = ⊎_elim
       (λ (e : [] ≡ x). subst (λ y. 0 < times y v.kin.members) e
-          (let b = (kin_each id v at).balanced [] in let f = alone.first in let m : times [] v.kin.missing ≡ 0 = ap (times []) alone.all in omega (arith, b, f, m)))
+      (let b = (kin_each id v at).balanced [] in let f = alone.first in let m : times [] v.kin.missing ≡ 0 = ap (times []) alone.all in omega (arith, b, f, m)))
       (λ (e : is_same [] x ≡ false).
-          let m = r.kindred.members x in let o : once (is_same [] x) ≡ 0 = rw e refl in
-          let g = given_by_one views kin_each r.kindred x (omega (arith, m, o, more)) in
-          let l = length-append g.0 (g.1 ∷ []) in let z : length x ≡ length (g.0 ++ g.1 ∷ []) = ap length g.4.1 in
-          let above = part_of_total (λ u. times g.0 u.kin.members) views g.2 g.3 g.4.0 in
-          let mine : 0 < times g.0 v.kin.members = shorter g.0 (omega (arith, l, z)) (omega (arith, above, g.4.2)) in
-          let here : g.2 ≡ id = one_place views kin_each r.kindred g.0 id g.2 v g.3 at g.4.0 mine g.4.2 in
-          let same : g.3 ≡ v = some-injective g.3 v (sym g.4.0 ∙ (ap (get_elem? views) here ∙ at)) in
-          let gave : 0 < times x v.kin.given = subst (λ u. 0 < times x u.kin.given) same g.4.3 in
-          let b = (kin_each id v at).balanced x in let n : times x v.kin.missing ≡ 0 = ap (times x) alone.all in omega (arith, b, gave, n)) (same_or [] x)
+      let m = r.kindred.members x in let o : once (is_same [] x) ≡ 0 = rw e refl in
+      let g = given_by_one views kin_each r.kindred x (omega (arith, m, o, more)) in
+      let l = length-append g.0 (g.1 ∷ []) in let z : length x ≡ length (g.0 ++ g.1 ∷ []) = ap length g.4.1 in
+      let above = part_of_total (λ u. times g.0 u.kin.members) views g.2 g.3 g.4.0 in
+      let mine : 0 < times g.0 v.kin.members = shorter g.0 (omega (arith, l, z)) (omega (arith, above, g.4.2)) in
+      let here : g.2 ≡ id = one_place views kin_each r.kindred g.0 id g.2 v g.3 at g.4.0 mine g.4.2 in
+      let same : g.3 ≡ v = some-injective g.3 v (sym g.4.0 ∙ (ap (get_elem? views) here ∙ at)) in
+      let gave : 0 < times x v.kin.given = subst (λ u. 0 < times x u.kin.given) same g.4.3 in
+      let b = (kin_each id v at).balanced x in let n : times x v.kin.missing ≡ 0 = ap (times x) alone.all in omega (arith, b, gave, n)) (same_or [] x)
 
   -- and so all of them, by induction on the length
   has_all : (size : ℕ) (x : List ℕ) → length x < size → 0 < total (λ u. times x u.kin.members) views → 0 < times x v.kin.members
@@ -85,20 +84,21 @@ module _ (t : Terms) (words : List ℕ) (views : List Log) (r : Callers t words 
   made_all : total (λ u. u.made) views ≡ v.made
   made_all = all_of_total (λ u. u.made) views id v at (λ j u far there. (r.kindred.spent j u there (others_spent j u far there)).2)
 
-  own_log : LogHolds t r.history (v.made + 1) v
-  own_log = subst (λ m. LogHolds t r.history (m + 1) v) made_all (r.each id v at)
+  own_log : LogHolds t history (v.made + 1) v
+  own_log = subst (λ m. LogHolds t history (m + 1) v) made_all (r.each id v at)
 
   -- it has seen the whole history
-  pub seen_all : length v.past ≡ length r.history
-  seen_all = go (dec_le (length r.history) (length v.past))
+  pub seen_all : length v.past ≡ length history
+  seen_all = go (dec_le (length history) (length v.past))
     where
-      sum : length v.past + length own_log.begins.0 ≡ length r.history
+      sum : length v.past + length own_log.begins.0 ≡ length history
       sum = sym (length-append v.past own_log.begins.0) ∙ ap length own_log.begins.1
-      go : Dec (length r.history ≤ length v.past) → length v.past ≡ length r.history
+
+      go : Dec (length history ≤ length v.past) → length v.past ≡ length history
       go (yes h) = let s = sum in omega (arith, s, h)
       go (no h) =
-          let above : length v.past < length r.history = lt_of_not-le h in
-          let n : ℕ = length r.history in
+          let above : length v.past < length history = lt_of_not-le h in
+          let n : ℕ = length history in
           let a = dones_within t v.past (v.made + 1) 0 n v.own above own_log.own.0 in
           let b = dones_all_within t v.past (v.made + 1) n v.joined above own_log.joined in
           let c = dones_all n in let d = r.numbers n in let e = last_number n (omega (arith, above)) in absurd (omega (arith, a, b, c, d, e))
@@ -110,16 +110,15 @@ module _ (t : Terms) (words : List ℕ) (views : List Log) (r : Callers t words 
     joined = subst (λ s. AllByRecursion (IsRecord s v.past (v.made + 1)) v.joined) (sym (own_log.terms stands)) own_log.joined;
   }
 
-pub settles_loads : (t : Terms) (slots id : ℕ) (me : Me (Unit {0}) Log) → Allows (λ (s : State (Unit {0}) Log). Callers t s.words s.views) slots id me 0 (λ n. n) (settles (step slots 0 0 0 none) me)
+pub settles_loads : (t : Terms) (slots id : ℕ) (me : Me (Unit {0}) Log) → Allows (λ (s : State (Unit {0}) Log). Table t s.words s.views) slots id me 0 (λ n. n) (settles (step slots 0 0 0 none) me)
 settles_loads t slots id me s r deep at small =
     let same_views : set s.views id me.0 ≡ s.views = set_again s.views id me.0 at in
-    let same_words : set s.words 0 (get_or s.words 0 0) ≡ s.words = set_first s.words in
-    (
+    let same_words : set s.words 0 (get_or s.words 0 0) ≡ s.words = set_first s.words in (
       me.0,
       keeps,
       tt,
       rw (same_words, same_views) r,
-      (refl, (let a = part_of_total (λ u. u.allowance) s.views id me.0 at in let o = r.room in omega (arith, a, o)), λ stands alone. whole t s.words s.views r id me.0 at alone stands),
+      (refl, (let a = part_of_total (λ u. u.allowance) s.views id me.0 at in let o = r.callers.room in omega (arith, a, o)), λ stands alone. whole t s.words s.views r.history r.callers id me.0 at alone stands),
     )
 
 first_word : (words : List ℕ) (n : ℕ) → get_elem? words 0 ≡ some n → get_or words 0 0 ≡ n
@@ -127,9 +126,9 @@ first_word [] n e = absurd (some-ne-none n (sym e))
 first_word (x ∷ words) n e = some-injective x n e
 
 -- what is found where one that is alone takes the words apart
-pub closes : (t : Terms) (words : List ℕ) (slots : List (Unit {0})) (id : ℕ) (v : Log) (n : ℕ) → v.spent ≡ false → IsAlone v.kin → Final (Seen (λ (s : State (Unit {0}) Log). Callers t s.words s.views) id v) words slots → get_elem? words 0 ≡ some n
+pub closes : (t : Terms) (words : List ℕ) (slots : List (Unit {0})) (id : ℕ) (v : Log) (n : ℕ) → v.spent ≡ false → IsAlone v.kin → Final (Seen (λ (s : State (Unit {0}) Log). Table t s.words s.views) id v) words slots → get_elem? words 0 ≡ some n
     → (n % 4294967296 ≡ length v.past) × IsWhole v
 closes t words slots id v n stands alone final found =
-    let s = final.0 in let r = final.1.0 in
+    let s = final.0 in let r = final.1.0.callers in let history = final.1.0.history in
     let clock : get_or s.words 0 0 ≡ n = ap (λ w. get_or w 0 0) final.2 ∙ first_word words n found in
-    (ap (λ k. k % 4294967296) (sym clock) ∙ (r.updates ∙ sym (seen_all t s.words s.views r id v final.1.1 alone)), whole t s.words s.views r id v final.1.1 alone stands)
+    (ap (λ k. k % 4294967296) (sym clock) ∙ (r.updates ∙ sym (seen_all t s.words s.views history r id v final.1.1 alone)), whole t s.words s.views history r id v final.1.1 alone stands)

@@ -1,14 +1,14 @@
 -- The rule holds of the opening words.
-use Rattle.std.proofs.Common.{◌≡◌, ◌≢◌, ℕ, zero, suc, ◌+◌, ◌*◌, ◌/◌, ◌%◌, ◌^◌, ◌<◌, ◌≤◌, ◌&&◌, nat_le, List, [], ◌∷◌, ◌++◌, length, length-append, length-set, get_or, set, replicate, sym, refl, ap, ◌∙◌, subst, arith, ◌⊎◌, inl, inr, Option, Some, None, false, true, true≢false, Bool, append_assoc, get_or-append-add, eq-or-lt_of_le}
+use Rattle.std.proofs.Common.{◌≡◌, ℕ, zero, suc, ◌+◌, ◌*◌, ◌<◌, ◌≤◌, [], ◌∷◌, ◌++◌, length, length-append, get_or, replicate, sym, refl, ◌∙◌, subst, arith, ◌⊎◌, inl, inr, None, false, true, true≢false, get_or-append-add, eq-or-lt_of_le}
 use mathlib.Core.Option.{some, some-injective, some-ne-none}
-use lib.ListN.{get_elem?, length-replicate, get_or-append, get_or-replicate}
+use lib.ListN.{get_elem?, length-replicate, get_or-append}
 use borrow.Author.Tests.{le-leb, lt-leb}
 use Rattle.word_rule.specs.declared.views.Log.{Log}
 use Rattle.word_rule.specs.declared.views.Terms.{Terms}
-use Rattle.word_rule.specs.Names.{once, times, is_same, newborn}
-use Rattle.word_rule.specs.Places.{word_count, copy_words, segments, opening_kind, opening_link, opening_node, opening_nodes, opening_words, node_counters, counters}
+use Rattle.word_rule.specs.Names.{times}
+use Rattle.word_rule.specs.Places.{word_count, copy_words, opening_node, opening_nodes, opening_words, node_counters}
 use Rattle.word_rule.specs.Logs.{first_log}
-use Rattle.word_rule.specs.Rule.{total, Callers, LogHolds, Kindred, AreTerms, AtLoader, numbered, dones_in}
+use Rattle.word_rule.specs.Rule.{total, Callers, LogHolds, AreTerms, AtLoader, numbered}
 use Rattle.word_rule.proofs.Names.{newborn_holds}
 
 opening_node_length : (nodes n : ℕ) → length (opening_node nodes n) ≡ 36
@@ -21,26 +21,27 @@ opening_nodes_length nodes (suc n) = let i = opening_nodes_length nodes n in let
 pub opening_length : (t : Terms) → length (opening_words t) ≡ word_count t
 opening_length t = let a = length-append (0 ∷ 1 ∷ 0 ∷ 0 ∷ opening_nodes t.nodes t.nodes) (replicate (2 * copy_words t) 0) in let n = opening_nodes_length t.nodes t.nodes in let r = length-replicate {A = ℕ} (2 * copy_words t) 0 in omega (arith, a, n, r)
 
-opening_version : (nodes m n : ℕ) → n < m → get_or (opening_nodes nodes m) (36 * n) 0 ≡ 0
+pub opening_version : (nodes m n : ℕ) → n < m → get_or (opening_nodes nodes m) (36 * n) 0 ≡ 0
 opening_version nodes zero n h = absurd (omega (arith, h))
 opening_version nodes (suc m) n h = go (eq-or-lt_of_le h) (opening_version nodes m n)
   where
     len : length (opening_nodes nodes m) ≡ 36 * m
     len = opening_nodes_length nodes m
+
     go : (suc n ≡ suc m) ⊎ (suc n < suc m) → (n < m → get_or (opening_nodes nodes m) (36 * n) 0 ≡ 0) → get_or (opening_nodes nodes m ++ opening_node nodes m) (36 * n) 0 ≡ 0
     go (inl e) before = let l = len in let at : 36 * n ≡ length (opening_nodes nodes m) + 0 = omega (arith, e, l) in rw at (get_or-append-add (opening_nodes nodes m) (opening_node nodes m) 0 0)
     go (inr less) before = let l = len in let room : 36 * n < length (opening_nodes nodes m) = omega (arith, less, l) in get_or-append (opening_nodes nodes m) (opening_node nodes m) 0 (36 * n) room ∙ before (omega (arith, less))
 
-opening_counters : (t : Terms) (n : ℕ) → n ≤ t.nodes → node_counters (opening_words t) n ≡ 0
+pub opening_counters : (t : Terms) (n : ℕ) → n ≤ t.nodes → node_counters (opening_words t) n ≡ 0
 opening_counters t zero h = refl
 opening_counters t (suc n) h =
     let len = opening_nodes_length t.nodes t.nodes in
     let room : 36 * n < length (opening_nodes t.nodes t.nodes) = omega (arith, len, h) in
     let here : get_or (opening_words t) (4 + 36 * n) 0 ≡ 0 =
-        get_or-append-add (0 ∷ 1 ∷ 0 ∷ 0 ∷ []) (opening_nodes t.nodes t.nodes ++ replicate (2 * copy_words t) 0) (36 * n) 0 ∙ (get_or-append (opening_nodes t.nodes t.nodes) (replicate (2 * copy_words t) 0) 0 (36 * n) room ∙ opening_version t.nodes t.nodes n h) in
+    get_or-append-add (0 ∷ 1 ∷ 0 ∷ 0 ∷ []) (opening_nodes t.nodes t.nodes ++ replicate (2 * copy_words t) 0) (36 * n) 0 ∙ (get_or-append (opening_nodes t.nodes t.nodes) (replicate (2 * copy_words t) 0) 0 (36 * n) room ∙ opening_version t.nodes t.nodes n h) in
     let rest = opening_counters t n (omega (arith, h)) in rw (here, rest) refl
 
-no_numbers : (n : ℕ) → 0 ≡ numbered 0 n
+pub no_numbers : (n : ℕ) → 0 ≡ numbered 0 n
 no_numbers zero = refl
 no_numbers (suc n) = rw (le-leb 1 (suc n) (omega arith), lt-leb (suc n) 0 (omega arith)) refl
 
@@ -49,12 +50,11 @@ at_first v w zero e = (refl, some-injective v w e)
 at_first v w (suc j) e = absurd (some-ne-none w (sym e))
 
 -- what holds of the first log holds of all
-only : (P : ℕ → Log → Type 0) (v : Log) → P 0 v → (j : ℕ) (w : Log) → get_elem? (v ∷ []) j ≡ some w → P j w
+pub only : (P : ℕ → Log → Type 0) (v : Log) → P 0 v → (j : ℕ) (w : Log) → get_elem? (v ∷ []) j ≡ some w → P j w
 only P v h j w e = let a = at_first v w j e in subst (λ (z : ℕ × Log). P z.0 z.1) (λ i. (sym a.0 i, a.1 i)) h
 
-pub begins : (t : Terms) → AreTerms t → Callers t (opening_words t) (first_log t ∷ [])
+pub begins : (t : Terms) → AreTerms t → Callers t (opening_words t) (first_log t ∷ []) []
 begins t terms = record {
-  history = [];
   holder = None;
   wide = opening_length t;
   lawful = tt;

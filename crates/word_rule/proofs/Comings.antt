@@ -1,41 +1,31 @@
 -- Callers and notes that come and go keep the rule.
-use Rattle.std.proofs.Common.{◌≡◌, ◌≢◌, ℕ, zero, suc, ◌+◌, ◌-◌, ◌*◌, ◌/◌, ◌%◌, ◌^◌, ◌<◌, ◌≤◌, ◌⊎◌, List, [], ◌∷◌, ◌++◌, length, length-append, set, get_or, sym, refl, ap, ◌∙◌, subst, inl, inr, ⊎_elim, arith, append-nil, append_assoc, lt_of_not-le, le_of_lt, Option, Some, None, false, true, true≢false, Bool, max, IfSome}
+use Rattle.std.proofs.Common.{◌≡◌, ◌≢◌, ℕ, zero, suc, ◌+◌, ◌*◌, ◌<◌, ◌≤◌, List, [], ◌∷◌, ◌++◌, length, length-append, set, sym, refl, ap, ◌∙◌, subst, ⊎_elim, arith, append-nil, lt_of_not-le, le_of_lt, Option, Some, None, false, true, true≢false, max}
 use Rattle.std.specs.List.{AllByRecursion}
-use mathlib.Core.Option.{some, some-injective, some-ne-none}
+use mathlib.Core.Option.{some, some-injective}
 use mathlib.Core.List.{IsPrefix}
-use native.Mathlib.Decide.{ℕ_discrete, dec_le}
+use native.Mathlib.Decide.{dec_le}
 use Rattle.std.proofs.lemmas.Option.{none-some}
 use borrow.Author.Tests.{lt-ltb, le-ltb}
 use lib.ListN.{get_elem?}
 use Rattle.atomic_table.specs.Table.{State, Splits, Joins}
-use Rattle.atomic_table.proofs.Lists.{at_set, set_here, set_else, at_snoc, at_longer}
-use Rattle.reg_model.specs.State.{State as Model}
-use Rattle.reg_model.specs.Receipt.{moment, AllHold, AreInOrder}
+use Rattle.atomic_table.proofs.Lists.{at_set, set_here, set_else, at_longer}
+use Rattle.reg_model.specs.Receipt.{moment, AllHold}
 use Rattle.reg_model.specs.declared.answer.Update.{Update}
 use Rattle.reg_model.specs.declared.answer.Receipt.{Receipt}
 use Rattle.reg_model.proofs.Receipts.{holds_on}
 use Rattle.word_rule.specs.declared.views.Log.{Log}
 use Rattle.word_rule.specs.declared.views.Terms.{Terms}
-use Rattle.word_rule.specs.declared.views.Kinship.{Kinship}
-use Rattle.word_rule.specs.declared.views.LoaderHolding.{LoaderHolding}
-use Rattle.word_rule.specs.Names.{times, once, is_same, child_name, newborn, after_birth, after_kin}
-use Rattle.word_rule.specs.Places.{CLOCK, LOADER, counters}
+use Rattle.word_rule.specs.Names.{times, once, is_same, child_name, after_birth, after_kin}
 use Rattle.word_rule.specs.Logs.{child_log, after_split, split_off, after_note, note_of, after_join, after_learn, spent_log, longer, credit_given}
-use Rattle.word_rule.specs.Rule.{total, Callers, LogHolds, KinHolds, Kindred, AtLoader, LoaderLock, HoldsLoader, IsRecord, IsLockedAt, dones, dones_of_all, dones_in, start}
+use Rattle.word_rule.specs.Rule.{total, Callers, LogHolds, KinHolds, Kindred, AtLoader, LoaderLock, IsRecord, dones, dones_of_all, dones_in, start}
 use Rattle.word_rule.specs.Own.{IsNote}
-use Rattle.word_rule.proofs.Facts.{total_set, total_same, total_snoc, part_of_total, two_of_total, some_of_total, all_of_total, total_set_two}
-use Rattle.word_rule.proofs.Names.{same_or, same_refl, same_is, once_same, once_other, once_small, times_append, newborn_holds, birth_holds, kin_holds}
-use Rattle.word_rule.proofs.Loader.{after_step, within}
+use Rattle.word_rule.proofs.Facts.{total_set, total_snoc, part_of_total, two_of_total, some_of_total, total_set_two, after_step, within, decided, behind}
+use Rattle.word_rule.proofs.Names.{same_or, once_same, once_other, once_small, times_append, newborn_holds, birth_holds, kin_holds}
+use Rattle.word_rule.specs.Table.{Table}
+use Rattle.word_rule.proofs.WholeSeats.{IsStill, nodes_birth, looks_birth, nodes_join, looks_join}
 
 snoc_is_long : (p : List ℕ) (n : ℕ) → p ++ n ∷ [] ≢ []
 snoc_is_long p n e = let l = length-append p (n ∷ []) in let z : length (p ++ n ∷ []) ≡ 0 = ap length e in omega (arith, l, z)
-
-decided : (j id : ℕ) → (j ≡ id) ⊎ (j ≢ id)
-decided j id = go (ℕ_discrete j id)
-  where
-    go : Dec (j ≡ id) → (j ≡ id) ⊎ (j ≢ id)
-    go (yes e) = inl e
-    go (no n) = inr n
 
 abbrev head_of : List ℕ → ℕ
 head_of [] = 0
@@ -126,11 +116,7 @@ pub record Makes (v w : Log) : Type 0 where
   pub loader : w.loader ≡ v.loader
   pub kin : w.kin ≡ after_birth v.kin
 
--- what holds of all, and of one that comes behind them, holds of all then
-behind : (P : ℕ → Log → Type 0) (views : List Log) (c : Log) → ((j : ℕ) (u : Log) → get_elem? views j ≡ some u → P j u) → ((j : ℕ) → P j c) → (j : ℕ) (u : Log) → get_elem? (views ++ c ∷ []) j ≡ some u → P j u
-behind P views c all mine j u e = ⊎_elim (λ (h : get_elem? views j ≡ some u). all j u h) (λ (h : c ≡ u). subst (P j) h (mine j)) (at_snoc views c u j e)
-
-module _ (t : Terms) (words : List ℕ) (views : List Log) (r : Callers t words views) (id : ℕ) (v w : Log) (a c : ℕ) (at : get_elem? views id ≡ some v) (stands : v.spent ≡ false) (makes : Makes v w) where
+module _ (t : Terms) (words : List ℕ) (views : List Log) (history : List Update) (r : Callers t words views history) (id : ℕ) (v w : Log) (a c : ℕ) (at : get_elem? views id ≡ some v) (stands : v.spent ≡ false) (makes : Makes v w) where
   abbrev child : Log
   child = child_log a c v
 
@@ -172,11 +158,11 @@ module _ (t : Terms) (words : List ℕ) (views : List Log) (r : Callers t words 
         (λ _ s. let o = once_same (child_name v.kin) in omega (arith, o));
     unborn = behind (λ _ u. u.spent ≡ false → (n : ℕ) → u.kin.born ≤ n → total (λ z. times (u.kin.name ++ n ∷ []) z.kin.given) both ≡ 0) (set views id w) child
         (after_step (λ _ u. u.spent ≡ false → (n : ℕ) → u.kin.born ≤ n → total (λ z. times (u.kin.name ++ n ∷ []) z.kin.given) both ≡ 0) views id w
-            (λ s. subst (λ k. (n : ℕ) → k.born ≤ n → total (λ z. times (k.name ++ n ∷ []) z.kin.given) both ≡ 0) (sym makes.kin)
-                (λ n late. other_name v.kin.name n (λ e. let p = snoc_parts v.kin.name v.kin.name n v.kin.born e in let q = p.1 in omega (arith, q, late)) (r.kindred.unborn id v at stands n (omega (arith, late)))))
-            (λ j u ne e s n late. other_name u.kin.name n
-                (λ h. let p = snoc_parts u.kin.name v.kin.name n v.kin.born h in ne (one_place views kin_each r.kindred v.kin.name id j v u at e own_name (subst (λ y. 0 < times y u.kin.members) p.0 (r.kindred.named j u e s))))
-                (r.kindred.unborn j u e s n late)))
+        (λ s. subst (λ k. (n : ℕ) → k.born ≤ n → total (λ z. times (k.name ++ n ∷ []) z.kin.given) both ≡ 0) (sym makes.kin)
+        (λ n late. other_name v.kin.name n (λ e. let p = snoc_parts v.kin.name v.kin.name n v.kin.born e in let q = p.1 in omega (arith, q, late)) (r.kindred.unborn id v at stands n (omega (arith, late)))))
+        (λ j u ne e s n late. other_name u.kin.name n
+        (λ h. let p = snoc_parts u.kin.name v.kin.name n v.kin.born h in ne (one_place views kin_each r.kindred v.kin.name id j v u at e own_name (subst (λ y. 0 < times y u.kin.members) p.0 (r.kindred.named j u e s))))
+        (r.kindred.unborn j u e s n late)))
         (λ _ s n late. other_name (child_name v.kin) n (λ e. let l = length-append (child_name v.kin) (n ∷ []) in let z : length (child_name v.kin ++ n ∷ []) ≡ length (child_name v.kin) = ap length e in omega (arith, l, z)) (unborn_childless views kin_each r.kindred id v at stands n));
     spent = behind (λ _ u. u.spent ≡ true → (u.own ≡ []) × (u.joined ≡ []) × (u.made ≡ 0)) (set views id w) child
         (after_step (λ _ u. u.spent ≡ true → (u.own ≡ []) × (u.joined ≡ []) × (u.made ≡ 0)) views id w (λ s. absurd (true≢false (sym s ∙ (makes.spent ∙ stands)))) (λ j u _ e. r.kindred.spent j u e)) (λ _ s. absurd (true≢false (sym s)));
@@ -188,9 +174,8 @@ module _ (t : Terms) (words : List ℕ) (views : List Log) (r : Callers t words 
       (λ (is : j ≡ id). (w, h.1, (at_longer (set views id w) (child ∷ []) j w (subst (λ k. get_elem? (set views id w) k ≡ some w) (sym is) (set_here views id w (within views id v at))), makes.loader ∙ (ap (λ u. u.loader) (some-injective v h.0 (sym at ∙ (ap (get_elem? views) (sym is) ∙ h.2.0))) ∙ h.2.1))))
       (λ (is : j ≢ id). (h.0, h.1, (at_longer (set views id w) (child ∷ []) j h.0 (set_else views id j w is ∙ h.2.0), h.2.1))) (decided j id)
 
-  pub birth : w.allowance + a ≡ v.allowance → w.credit + c ≡ v.credit → Callers t words both
+  pub birth : w.allowance + a ≡ v.allowance → w.credit + c ≡ v.credit → Callers t words both history
   birth allowed credited = record {
-    history = r.history;
     holder = r.holder;
     wide = r.wide;
     lawful = r.lawful;
@@ -200,14 +185,14 @@ module _ (t : Terms) (words : List ℕ) (views : List Log) (r : Callers t words 
     published = r.published;
     room = (let s = sums (λ u. u.allowance) allowed in let o = r.room in omega (arith, s, o));
     numbers = λ n. sums (dones_in n) (let e : dones_in n w ≡ dones_in n v = (λ i. dones n (makes.own i) + dones_of_all n (makes.joined i)) in omega (arith, e)) ∙ r.numbers n;
-    each = behind (λ _ u. LogHolds t r.history (total (λ y. y.made) both + 1) u) (set views id w) child
-        (after_step (λ _ u. LogHolds t r.history (total (λ y. y.made) both + 1) u) views id w ((let h = log_later t r.history _ (total (λ y. y.made) both + 1) v (r.each id v at) in record {
+    each = behind (λ _ u. LogHolds t history (total (λ y. y.made) both + 1) u) (set views id w) child
+        (after_step (λ _ u. LogHolds t history (total (λ y. y.made) both + 1) u) views id w ((let h = log_later t history _ (total (λ y. y.made) both + 1) v (r.each id v at) in record {
           terms = λ s. makes.terms ∙ h.terms stands;
-          begins = subst (λ p. IsPrefix p r.history) (sym makes.past) h.begins;
+          begins = subst (λ p. IsPrefix p history) (sym makes.past) h.begins;
           own = subst (λ p. IsRecord t p (total (λ y. y.made) both + 1) w.own) (sym makes.past) (subst (IsRecord t v.past (total (λ y. y.made) both + 1)) (sym makes.own) h.own);
           joined = subst (λ p. AllByRecursion (IsRecord t p (total (λ y. y.made) both + 1)) w.joined) (sym makes.past) (subst (AllByRecursion (IsRecord t v.past (total (λ y. y.made) both + 1))) (sym makes.joined) h.joined);
           kin = subst KinHolds (sym makes.kin) (birth_holds v.kin own_name h.kin);
-        })) (λ j u _ e. log_later t r.history _ (total (λ y. y.made) both + 1) u (r.each j u e)))
+        })) (λ j u _ e. log_later t history _ (total (λ y. y.made) both + 1) u (r.each j u e)))
         (λ _. record { terms = λ _. (r.each id v at).terms stands; begins = (r.each id v at).begins; own = (tt, tt); joined = tt; kin = newborn_holds (child_name v.kin) });
     loader = loader_birth r.holder r.loader;
     at_loader = behind (λ j u. AtLoader t words r.holder j u.loader) (set views id w) child
@@ -215,16 +200,6 @@ module _ (t : Terms) (words : List ℕ) (views : List Log) (r : Callers t words 
     counted = (let s = sums (λ u. u.credit) credited in let o = r.counted in omega (arith, s, o));
     kindred = kindred_birth;
   }
-
-module _ (t : Terms) (id : ℕ) (v : Log) (stands : v.spent ≡ false) where
-  pub splits : (left give : ℕ) → give ≤ left → left ≤ v.allowance → 64 * left ≤ v.credit
-      → Splits (λ (s : State (Unit {0}) Log). Callers t s.words s.views) id v (after_split left give v) (split_off left give v)
-  splits left give enough allowed credited s r at = birth t s.words s.views r id v (after_split left give v) give (credit_given v.credit left give) at stands
-      (record { terms = refl; spent = refl; past = refl; own = refl; joined = refl; loader = refl; kin = refl }) (omega (arith, enough, allowed)) (omega (arith, enough, credited))
-
-  pub notes : Splits (λ (s : State (Unit {0}) Log). Callers t s.words s.views) id v (after_note v) (note_of v)
-  notes s r at = birth t s.words s.views r id v (after_note v) 0 0 at stands
-      (record { terms = refl; spent = refl; past = refl; own = refl; joined = refl; loader = refl; kin = refl }) (omega arith) (omega arith)
 
 abbrev first_or : {A : Type 0} → A → List A → A
 first_or d [] = d
@@ -270,7 +245,7 @@ pub record Merges (v u b : Log) (lists : List (List Receipt)) : Type 0 where
   pub kin : b.kin ≡ after_kin v.kin u.kin
   pub counts : (n : ℕ) → dones_of_all n lists ≡ dones_in n u
 
-module _ (t : Terms) (words : List ℕ) (views : List Log) (r : Callers t words views) (id other : ℕ) (v u b : Log) (lists : List (List Receipt)) (at : get_elem? views id ≡ some v) (ne : other ≢ id)
+module _ (t : Terms) (words : List ℕ) (views : List Log) (history : List Update) (r : Callers t words views history) (id other : ℕ) (v u b : Log) (lists : List (List Receipt)) (at : get_elem? views id ≡ some v) (ne : other ≢ id)
     (there : get_elem? (set views id b) other ≡ some u) (stands : v.spent ≡ false) (stood : u.spent ≡ false) (free : u.loader ≡ None) (merges : Merges v u b lists) where
   abbrev one : List Log
   one = set views id b
@@ -314,19 +289,24 @@ module _ (t : Terms) (words : List ℕ) (views : List Log) (r : Callers t words 
   loader_merge : (holder : Option ℕ) → LoaderLock t words views holder → LoaderLock t words after holder
   loader_merge None h = h
   loader_merge (Some j) h = ⊎_elim
-      (λ (is : j ≡ id). (b, h.1, (set_else one other j spent_log (λ e. ne (sym e ∙ is)) ∙ subst (λ k. get_elem? one k ≡ some b) (sym is) (set_here views id b (within views id v at)),
-          merges.loader ∙ (ap (λ x. x.loader) (some-injective v h.0 (sym at ∙ (ap (get_elem? views) (sym is) ∙ h.2.0))) ∙ h.2.1))))
+      (λ (is : j ≡ id). (
+        b,
+        h.1,
+        (
+          set_else one other j spent_log (λ e. ne (sym e ∙ is)) ∙ subst (λ k. get_elem? one k ≡ some b) (sym is) (set_here views id b (within views id v at)),
+          merges.loader ∙ (ap (λ x. x.loader) (some-injective v h.0 (sym at ∙ (ap (get_elem? views) (sym is) ∙ h.2.0))) ∙ h.2.1),
+        ),
+      ))
       (λ (far : j ≢ id). (h.0, h.1, (set_else one other j spent_log (λ is. none-some h.1 (sym free ∙ (ap (λ x. x.loader) (some-injective u h.0 (sym was_there ∙ (ap (get_elem? views) (sym is) ∙ h.2.0))) ∙ h.2.1))) ∙ (set_else views id j b far ∙ h.2.0), h.2.1))) (decided j id)
 
   abbrev count : ℕ
   count = total (λ x. x.made) after + 1
 
-  lengthened : IsPrefix v.past (longer v.past u.past) × IsPrefix u.past (longer v.past u.past) × IsPrefix (longer v.past u.past) r.history
-  lengthened = in_longer v.past u.past r.history (r.each id v at).begins (r.each other u was_there).begins
+  lengthened : IsPrefix v.past (longer v.past u.past) × IsPrefix u.past (longer v.past u.past) × IsPrefix (longer v.past u.past) history
+  lengthened = in_longer v.past u.past history (r.each id v at).begins (r.each other u was_there).begins
 
-  pub merge : (AllByRecursion (IsRecord t (longer v.past u.past) count) (u.own ∷ u.joined) → AllByRecursion (IsRecord t (longer v.past u.past) count) lists) → Callers t words after
+  pub merge : (AllByRecursion (IsRecord t (longer v.past u.past) count) (u.own ∷ u.joined) → AllByRecursion (IsRecord t (longer v.past u.past) count) lists) → Callers t words after history
   merge gained = record {
-    history = r.history;
     holder = r.holder;
     wide = r.wide;
     lawful = r.lawful;
@@ -336,35 +316,81 @@ module _ (t : Terms) (words : List ℕ) (views : List Log) (r : Callers t words 
     published = r.published;
     room = (let s = merge_sum (λ x. x.allowance) (let a = merges.allowance in omega (arith, a)) in let o = r.room in omega (arith, s, o));
     numbers = λ n. merge_sum (dones_in n) (let e : dones_in n b ≡ dones n v.own + dones_of_all n (v.joined ++ lists) = (λ i. dones n (merges.own i) + dones_of_all n (merges.joined i)) in let a = dones_append n v.joined lists in let c = merges.counts n in omega (arith, e, a, c)) ∙ r.numbers n;
-    each = everywhere (λ _ x. LogHolds t r.history count x)
-        (record { terms = λ s. absurd (true≢false s); begins = (r.history, refl); own = (tt, tt); joined = tt; kin = record { balanced = λ x. refl; given_by = λ x h. absurd (omega arith) } })
+    each = everywhere (λ _ x. LogHolds t history count x)
+        (record { terms = λ s. absurd (true≢false s); begins = (history, refl); own = (tt, tt); joined = tt; kin = record { balanced = λ x. refl; given_by = λ x h. absurd (omega arith) } })
         (let h = r.each id v at in let i = r.each other u was_there in record {
           terms = λ s. merges.terms ∙ h.terms stands;
-          begins = subst (λ p. IsPrefix p r.history) (sym merges.past) lengthened.2;
+          begins = subst (λ p. IsPrefix p history) (sym merges.past) lengthened.2;
           own = subst (λ p. IsRecord t p count b.own) (sym merges.past) (subst (IsRecord t (longer v.past u.past) count) (sym merges.own) (record_later t v.past (longer v.past u.past) _ count lengthened.0 v.own h.own));
           joined = subst (λ p. AllByRecursion (IsRecord t p count) b.joined) (sym merges.past) (subst (AllByRecursion (IsRecord t (longer v.past u.past) count)) (sym merges.joined)
               (records_append t (longer v.past u.past) count v.joined lists (records_later t v.past (longer v.past u.past) _ count lengthened.0 v.joined h.joined)
-                  (gained (record_later t u.past (longer v.past u.past) _ count lengthened.1 u.own i.own, records_later t u.past (longer v.past u.past) _ count lengthened.1 u.joined i.joined))));
+              (gained (record_later t u.past (longer v.past u.past) _ count lengthened.1 u.own i.own, records_later t u.past (longer v.past u.past) _ count lengthened.1 u.joined i.joined))));
           kin = subst KinHolds (sym merges.kin) (kin_holds v.kin u.kin h.kin i.kin);
         })
-        (λ j x _ _ e. log_later t r.history _ count x (r.each j x e));
+        (λ j x _ _ e. log_later t history _ count x (r.each j x e));
     loader = loader_merge r.holder r.loader;
     at_loader = everywhere (λ j x. AtLoader t words r.holder j x.loader) tt (subst (AtLoader t words r.holder id) (sym merges.loader) (r.at_loader id v at)) (λ j x _ _ e. r.at_loader j x e);
     counted = (let s = merge_sum (λ x. x.credit) (let a = merges.credit in omega (arith, a)) in let o = r.counted in omega (arith, s, o));
     kindred = kindred_merge;
   }
 
--- a caller that holds no lock is joined into another
-pub joins : (t : Terms) (id other : ℕ) (v u : Log) → v.spent ≡ false → u.spent ≡ false → u.loader ≡ None
-    → Joins (λ (s : State (Unit {0}) Log). Callers t s.words s.views) id v other u (after_join v u) spent_log
-joins t id other v u stands stood free s r at ne there = merge t s.words s.views r id other v u (after_join v u) (u.own ∷ u.joined) at ne there stands stood free
-    (record { terms = refl; spent = refl; past = refl; own = refl; joined = refl; loader = refl; allowance = refl; credit = refl; made = refl; kin = refl; counts = λ n. refl }) (λ h. h)
+-- the rest of the invariant, where one comes or goes
+module _ (t : Terms) (id : ℕ) (v : Log) (stands : v.spent ≡ false) where
+  born_whole : (s : State (Unit {0}) Log) (r : Table t s.words s.views) (w : Log) (a c : ℕ) → get_elem? s.views id ≡ some v → Makes v w → IsStill v w → w.allowance + a ≡ v.allowance → w.credit + c ≡ v.credit
+      → Table t s.words (set s.views id w ++ child_log a c v ∷ [])
+  born_whole s r w a c at makes still allowed credited = record {
+    history = r.history;
+    callers = birth t s.words s.views r.history r.callers id v w a c at stands makes allowed credited;
+    shadow = r.shadow;
+    nodes = nodes_birth t s.words s.views r.history r.shadow id a c v w at still makes.past r.nodes;
+    active = r.active;
+    looks = looks_birth t s.words s.views r.history r.shadow id a c v w at still makes.past r.looks;
+  }
 
-pub learns : (t : Terms) (id other : ℕ) (v u : Log) → v.spent ≡ false → IsNote u
-    → Joins (λ (s : State (Unit {0}) Log). Callers t s.words s.views) id v other u (after_learn v u) spent_log
-learns t id other v u stands note s r at ne there = merge t s.words s.views r id other v u (after_learn v u) [] at ne there stands note.spent note.loader
-    (record {
-      terms = refl; spent = refl; past = refl; own = refl; joined = sym (append-nil v.joined); loader = refl;
-      allowance = (let a = note.allowance in omega (arith, a)); credit = (let a = note.credit in omega (arith, a)); made = (let a = note.made in omega (arith, a)); kin = refl;
-      counts = λ n. let e : dones_in n u ≡ 0 = (λ i. dones n (note.own i) + dones_of_all n (note.joined i)) in sym e;
-    }) (λ h. tt)
+  pub splits : (left give : ℕ) → give ≤ left → left ≤ v.allowance → 64 * left ≤ v.credit
+      → Splits (λ (s : State (Unit {0}) Log). Table t s.words s.views) id v (after_split left give v) (split_off left give v)
+  splits left give enough allowed credited s r at = born_whole s r (after_split left give v) give (credit_given v.credit left give) at
+      (record { terms = refl; spent = refl; past = refl; own = refl; joined = refl; loader = refl; kin = refl }) (record { held = refl; out = refl; head = refl; sights = refl; copies = refl; own = refl; loads = refl })
+      (omega (arith, enough, allowed)) (omega (arith, enough, credited))
+
+  pub notes : Splits (λ (s : State (Unit {0}) Log). Table t s.words s.views) id v (after_note v) (note_of v)
+  notes s r at = born_whole s r (after_note v) 0 0 at
+      (record { terms = refl; spent = refl; past = refl; own = refl; joined = refl; loader = refl; kin = refl }) (record { held = refl; out = refl; head = refl; sights = refl; copies = refl; own = refl; loads = refl })
+      (omega arith) (omega arith)
+
+  joined_whole : (s : State (Unit {0}) Log) (r : Table t s.words s.views) (other : ℕ) (u b : Log) (lists : List (List Receipt)) → get_elem? s.views id ≡ some v → (ne : other ≢ id) → get_elem? (set s.views id b) other ≡ some u
+      → u.spent ≡ false → u.loader ≡ None → u.held ≡ [] → u.out ≡ [] → (merges : Merges v u b lists) → IsStill v b
+      → ((callers : ℕ) → AllByRecursion (IsRecord t (longer v.past u.past) callers) (u.own ∷ u.joined) → AllByRecursion (IsRecord t (longer v.past u.past) callers) lists) → Table t s.words (set (set s.views id b) other spent_log)
+  joined_whole s r other u b lists at ne there stood free held out merges still gained =
+      let was : get_elem? s.views other ≡ some u = sym (set_else s.views id other b ne) ∙ there in
+      let longer_past = in_longer v.past u.past r.history (r.callers.each id v at).begins (r.callers.each other u was).begins in record {
+        history = r.history;
+        callers = merge t s.words s.views r.history r.callers id other v u b lists at ne there stands stood free merges (gained _);
+        shadow = r.shadow;
+        nodes = nodes_join t s.words s.views r.history r.shadow id other v u b at ne there still (subst (IsPrefix v.past) (sym merges.past) longer_past.0) held out r.nodes;
+        active = r.active;
+        looks = looks_join t s.words s.views r.history r.shadow id other v u b at ne there still (subst (IsPrefix v.past) (sym merges.past) longer_past.0) held out r.looks;
+      }
+
+  -- a caller that holds no lock and has no node out is joined into another
+  pub joins : (other : ℕ) (u : Log) → u.spent ≡ false → u.loader ≡ None → u.held ≡ [] → u.out ≡ []
+      → Joins (λ (s : State (Unit {0}) Log). Table t s.words s.views) id v other u (after_join v u) spent_log
+  joins other u stood free held out s r at ne there = joined_whole s r other u (after_join v u) (u.own ∷ u.joined) at ne there stood free held out
+      (record { terms = refl; spent = refl; past = refl; own = refl; joined = refl; loader = refl; allowance = refl; credit = refl; made = refl; kin = refl; counts = λ n. refl })
+      (record { held = refl; out = refl; head = refl; sights = refl; copies = refl; own = refl; loads = refl }) (λ c h. h)
+
+  pub learns : (other : ℕ) (u : Log) → IsNote u → Joins (λ (s : State (Unit {0}) Log). Table t s.words s.views) id v other u (after_learn v u) spent_log
+  learns other u note s r at ne there = joined_whole s r other u (after_learn v u) [] at ne there note.spent note.loader note.held note.out
+      (record {
+        terms = refl;
+        spent = refl;
+        past = refl;
+        own = refl;
+        joined = sym (append-nil v.joined);
+        loader = refl;
+        allowance = (let a = note.allowance in omega (arith, a));
+        credit = (let a = note.credit in omega (arith, a));
+        made = (let a = note.made in omega (arith, a));
+        kin = refl;
+        counts = λ n. let e : dones_in n u ≡ 0 = (λ i. dones n (note.own i) + dones_of_all n (note.joined i)) in sym e;
+      }) (record { held = refl; out = refl; head = refl; sights = refl; copies = refl; own = refl; loads = refl }) (λ c h. tt)

@@ -1,10 +1,12 @@
 -- Numbers of logs added up, and words that a step doesn't touch.
-use Rattle.std.proofs.Common.{◌≡◌, ◌≢◌, ℕ, zero, suc, ◌+◌, ◌*◌, ◌/◌, ◌<◌, ◌≤◌, List, [], ◌∷◌, ◌++◌, length, get_or, set, take, drop, sym, refl, ap, ◌∙◌, arith, get_or-set_other}
+use Rattle.std.proofs.Common.{◌≡◌, ◌≢◌, ℕ, zero, suc, ◌+◌, ◌*◌, ◌<◌, ◌≤◌, ◌⊎◌, inl, inr, ⊎_elim, subst, List, [], ◌∷◌, ◌++◌, length, get_or, set, take, drop, sym, refl, ap, arith, get_or-set_other}
 use mathlib.Core.Option.{some, some-injective, some-ne-none}
+use native.Mathlib.Decide.{ℕ_discrete}
 use lib.ListN.{get_elem?}
+use Rattle.atomic_table.proofs.Lists.{at_set, at_snoc}
 use Rattle.word_rule.specs.declared.views.Log.{Log}
 use Rattle.word_rule.specs.declared.views.Terms.{Terms}
-use Rattle.word_rule.specs.Places.{LOADER, node_place, node_counters, copy_at, copy_place, copy_words}
+use Rattle.word_rule.specs.Places.{LOADER, node_counters, copy_at, copy_place, copy_words}
 use Rattle.word_rule.specs.Rule.{total}
 
 -- one log changes
@@ -81,3 +83,27 @@ some_of_total f (x ∷ views) h = go (f x) refl (λ more. some_of_total f views 
 -- one log changes, and another after it
 pub total_set_two : (f : Log → ℕ) (views : List Log) (id j : ℕ) (v w u z : Log) → get_elem? views id ≡ some v → get_elem? (set views id w) j ≡ some u → total f (set (set views id w) j z) + f v + f u ≡ total f views + f w + f z
 total_set_two f views id j v w u z at there = let a = total_set f views id v w at in let b = total_set f (set views id w) j u z there in omega (arith, a, b)
+
+-- what holds of every log but the one that steps, and of that one afterwards, holds of every log
+pub after_step : (P : ℕ → Log → Type 0) (views : List Log) (id : ℕ) (w : Log) → P id w → ((j : ℕ) (u : Log) → j ≢ id → get_elem? views j ≡ some u → P j u)
+    → (j : ℕ) (u : Log) → get_elem? (set views id w) j ≡ some u → P j u
+after_step P views id w mine others j u e =
+    ⊎_elim (λ (h : (j ≡ id) × (w ≡ u)). subst (λ (z : ℕ × Log). P z.0 z.1) (λ i. (sym h.0 i, h.1 i)) mine) (λ (h : (j ≢ id) × (get_elem? views j ≡ some u)). others j u h.0 h.1) (at_set views id j w u e)
+
+-- a place that has a log is one of the list's
+pub within : (views : List Log) (id : ℕ) (v : Log) → get_elem? views id ≡ some v → id < length views
+within [] id v e = absurd (some-ne-none v (sym e))
+within (x ∷ views) zero v e = omega arith
+within (x ∷ views) (suc id) v e = let h = within views id v e in omega (arith, h)
+
+-- two numbers are one, or not
+pub decided : (j id : ℕ) → (j ≡ id) ⊎ (j ≢ id)
+decided j id = go (ℕ_discrete j id)
+  where
+    go : Dec (j ≡ id) → (j ≡ id) ⊎ (j ≢ id)
+    go (yes e) = inl e
+    go (no n) = inr n
+
+-- what holds of all, and of one that comes behind them, holds of all then
+pub behind : (P : ℕ → Log → Type 0) (views : List Log) (c : Log) → ((j : ℕ) (u : Log) → get_elem? views j ≡ some u → P j u) → ((j : ℕ) → P j c) → (j : ℕ) (u : Log) → get_elem? (views ++ c ∷ []) j ≡ some u → P j u
+behind P views c all mine j u e = ⊎_elim (λ (h : get_elem? views j ≡ some u). all j u h) (λ (h : c ≡ u). subst (P j) h (mine j)) (at_snoc views c u j e)

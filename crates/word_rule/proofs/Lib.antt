@@ -1,6 +1,10 @@
 pub mod Facts
-pub mod Loader
 pub mod Names
+pub mod Step
+pub mod Whole
+pub mod WholeSeats
+pub mod Loader
 pub mod Comings
 pub mod Alone
 pub mod Begins
+pub mod WholeBegins

@@ -1,105 +1,32 @@
 -- Steps on the loader's lock keep the rule.
-use Rattle.std.proofs.Common.{◌≡◌, ◌≢◌, ℕ, zero, suc, ◌+◌, ◌-◌, ◌*◌, ◌/◌, ◌%◌, ◌^◌, ◌<◌, ◌≤◌, ◌⊎◌, eqb, List, [], ◌∷◌, ◌++◌, length, get_or, set, sym, refl, ap, ◌∙◌, subst, inl, inr, ⊎_elim, arith, get_or-set_other, get_or-set_same, length-set, eq-eqb, ne_eqb, ◌==◌, MatchBool, IfSome, IsSome, IsSomeAnd, bit_or, bit_and, true≢false, Option, Some, None, false, true, Bool}
-use Rattle.std.specs.List.{AllByRecursion}
+use Rattle.std.proofs.Common.{◌≡◌, ◌≢◌, ℕ, ◌+◌, ◌-◌, ◌/◌, ◌%◌, ◌^◌, ◌<◌, ◌≤◌, ◌⊎◌, List, [], ◌∷◌, length, get_or, set, sym, refl, ap, ◌∙◌, subst, inl, inr, ⊎_elim, arith, get_or-set_other, get_or-set_same, eq-eqb, ne_eqb, ◌==◌, MatchBool, IfSome, IsSome, IsSomeAnd, bit_or, true≢false, Option, Some, None, false, true, Bool}
 use Rattle.std.proofs.lemmas.Option.{none-some, same_Some}
 use Rattle.std.proofs.lemmas.Nat.{or_disjoint}
 use Rattle.std.specs.Int.Bits.{or_add_and}
 use lib.Bits.{and_mask}
-use mathlib.Core.Option.{none, some, some-injective, some-ne-none}
+use mathlib.Core.Option.{none, some, some-injective}
 use native.Mathlib.Decide.{ℕ_discrete}
-use mathlib.Core.List.{IsPrefix}
 use lib.ListN.{get_elem?}
-use lib.Seq.{set-get_or}
 use prog.Atomic.{either}
-use Rattle.atomic_table.specs.Table.{State, Me, step, Act, keeps, stepped, carried_after, Valid, Allows, opening}
-use Rattle.atomic_table.proofs.Lists.{at_set, set_here, set_else, set_again, exchanged}
+use Rattle.atomic_table.specs.Table.{State, Me, step, Act, keeps, stepped, carried_after, Valid, Allows}
+use Rattle.atomic_table.proofs.Lists.{set_here, set_else}
 use Rattle.word_rule.specs.declared.views.Log.{Log}
 use Rattle.word_rule.specs.declared.views.Terms.{Terms}
 use Rattle.word_rule.specs.declared.views.LoaderHolding.{LoaderHolding}
-use Rattle.word_rule.specs.Names.{times, once, is_same}
-use Rattle.word_rule.specs.Places.{CLOCK, LOADER, word_count, copy_at, spare, counters, node_counters}
-use Rattle.word_rule.specs.Logs.{after_load, after_loader_lock, after_mark, after_loader_release, after_loader_release_same}
-use Rattle.word_rule.specs.Rule.{total, Callers, LogHolds, Kindred, AtLoader, LoaderLock, HoldsLoader, IsLockedAt, dones, dones_of_all, dones_in}
+use Rattle.word_rule.specs.Places.{copy_at, spare}
+use Rattle.word_rule.specs.Logs.{load_of, after_load, after_loader_lock, after_mark, after_loader_release, after_loader_release_same}
+use Rattle.word_rule.specs.Rule.{Callers, AtLoader, LoaderLock, IsLockedAt}
 use Rattle.word_rule.specs.Tells.{looks, locks, marks, releases, releases_same}
-use Rattle.word_rule.proofs.Facts.{total_set, total_same, part_of_total, node_counters_set, copy_at_set}
-
--- What such a step leaves as it is in its log.
-pub record IsLike (v w : Log) : Type 0 where
-  pub terms : w.terms ≡ v.terms
-  pub spent : w.spent ≡ v.spent
-  pub past : w.past ≡ v.past
-  pub own : w.own ≡ v.own
-  pub joined : w.joined ≡ v.joined
-  pub allowance : w.allowance ≡ v.allowance
-  pub made : w.made ≡ v.made
-  pub kin : w.kin ≡ v.kin
-
--- what holds of every log but the one that steps, and of that one afterwards, holds of every log
-pub after_step : (P : ℕ → Log → Type 0) (views : List Log) (id : ℕ) (w : Log) → P id w → ((j : ℕ) (u : Log) → j ≢ id → get_elem? views j ≡ some u → P j u)
-    → (j : ℕ) (u : Log) → get_elem? (set views id w) j ≡ some u → P j u
-after_step P views id w mine others j u e =
-    ⊎_elim (λ (h : (j ≡ id) × (w ≡ u)). subst (λ (z : ℕ × Log). P z.0 z.1) (λ i. (sym h.0 i, h.1 i)) mine) (λ (h : (j ≢ id) × (get_elem? views j ≡ some u)). others j u h.0 h.1) (at_set views id j w u e)
-
-module _ (t : Terms) (words : List ℕ) (views : List Log) (r : Callers t words views) (id : ℕ) (v w : Log) (at : get_elem? views id ≡ some v) (like : IsLike v w) where
-  like_log : (c : ℕ) → LogHolds t r.history c v → LogHolds t r.history c w
-  like_log c h = record {
-    terms = λ s. like.terms ∙ h.terms (sym like.spent ∙ s);
-    begins = rw like.past h.begins;
-    own = rw (like.past, like.own) h.own;
-    joined = rw (like.past, like.joined) h.joined;
-    kin = rw like.kin h.kin;
-  }
-
-  kin_stays : Kindred (set views id w)
-  kin_stays = record {
-    members = λ x. rw (total_same (λ u. times x u.kin.members) views id v w at (ap (λ k. times x k.members) like.kin), total_same (λ u. times x u.kin.given) views id v w at (ap (λ k. times x k.given) like.kin)) (r.kindred.members x);
-    given = λ x. rw (total_same (λ u. times x u.kin.given) views id v w at (ap (λ k. times x k.given) like.kin)) (r.kindred.given x);
-    named = after_step (λ _ u. u.spent ≡ false → 0 < times u.kin.name u.kin.members) views id w (λ s. rw like.kin (r.kindred.named id v at (sym like.spent ∙ s))) (λ j u _ e. r.kindred.named j u e);
-    unborn = after_step (λ _ u. u.spent ≡ false → (n : ℕ) → u.kin.born ≤ n → total (λ z. times (u.kin.name ++ n ∷ []) z.kin.given) (set views id w) ≡ 0) views id w
-        (λ s n b. subst (λ k. total (λ z. times (k.name ++ n ∷ []) z.kin.given) (set views id w) ≡ 0) (sym like.kin)
-            (total_same (λ z. times (v.kin.name ++ n ∷ []) z.kin.given) views id v w at (ap (λ k. times (v.kin.name ++ n ∷ []) k.given) like.kin) ∙ r.kindred.unborn id v at (sym like.spent ∙ s) n (subst (λ k. k.born ≤ n) like.kin b)))
-        (λ j u _ e s n b. rw (total_same (λ z. times (u.kin.name ++ n ∷ []) z.kin.given) views id v w at (ap (λ k. times (u.kin.name ++ n ∷ []) k.given) like.kin)) (r.kindred.unborn j u e s n b));
-    spent = after_step (λ _ u. u.spent ≡ true → (u.own ≡ []) × (u.joined ≡ []) × (u.made ≡ 0)) views id w (λ s. let h = r.kindred.spent id v at (sym like.spent ∙ s) in (like.own ∙ h.0, like.joined ∙ h.1, like.made ∙ h.2)) (λ j u _ e. r.kindred.spent j u e);
-  }
-
-  -- the word of the lock becomes x, and a counter rises by no more than the credit falls
-  pub loader_step : (x : ℕ) (holder : Option ℕ) → x / 4 + w.credit ≤ get_or words 2 0 / 4 + v.credit → LoaderLock t (set words 2 x) (set views id w) holder
-      → ((j : ℕ) (u : Log) → get_elem? (set views id w) j ≡ some u → AtLoader t (set words 2 x) holder j u.loader) → Callers t (set words 2 x) (set views id w)
-  loader_step x holder fewer lock at_lock =
-      let clock : get_or (set words 2 x) 0 0 ≡ get_or words 0 0 = get_or-set_other words 2 0 x 0 (λ e. omega (arith, e)) in
-      let made : total (λ u. u.made) (set views id w) ≡ total (λ u. u.made) views = total_same (λ u. u.made) views id v w at like.made in
-      let here : get_or (set words 2 x) 2 0 ≡ x = get_or-set_same words 2 x 0 (inside) in
-      record {
-        history = r.history;
-        holder = holder;
-        wide = length-set words 2 x ∙ r.wide;
-        lawful = r.lawful;
-        terms = r.terms;
-        payloads = r.payloads;
-        updates = rw clock r.updates;
-        published = rw clock r.published;
-        room = rw (total_same (λ u. u.allowance) views id v w at like.allowance) r.room;
-        numbers = λ n. rw (total_same (dones_in n) views id v w at (λ i. dones n (like.own i) + dones_of_all n (like.joined i))) (r.numbers n);
-        each = λ j u e. rw made (after_step (λ _ z. LogHolds t r.history (total (λ y. y.made) views + 1) z) views id w (like_log _ (r.each id v at)) (λ j u _ e. r.each j u e) j u e);
-        loader = lock;
-        at_loader = at_lock;
-        counted = (let c = total_set (λ u. u.credit) views id v w at in let n = node_counters_set words x t.nodes in let o = r.counted in rw (here, n) (omega (arith, c, o, fewer)));
-        kindred = kin_stays;
-      }
-    where
-      inside : 2 < length words
-      inside = omega (arith, r.wide)
+use Rattle.word_rule.proofs.Facts.{copy_at_set, after_step, within}
+use Rattle.word_rule.proofs.Step.{IsLike, loader_step}
+use Rattle.word_rule.proofs.Whole.{IsSame, nodes_step, active_stays, looks_step}
+use Rattle.word_rule.specs.Table.{Table}
 
 abbrev Sit : Type 0
 Sit = State (Unit {0}) Log
 
 abbrev Seated : Type 0
 Seated = Me (Unit {0}) Log
-
-pub within : (views : List Log) (id : ℕ) (v : Log) → get_elem? views id ≡ some v → id < length views
-within [] id v e = absurd (some-ne-none v (sym e))
-within (x ∷ views) zero v e = omega arith
-within (x ∷ views) (suc id) v e = let h = within views id v e in omega (arith, h)
 
 -- a log's part in the lock stays where the words that it names do
 part_stays : (t : Terms) (words : List ℕ) (x : ℕ) (holder : Option ℕ) (j : ℕ) (part : Option LoaderHolding) → 2 < length words
@@ -122,26 +49,38 @@ lock_stays t words views x id v w (Some j) at same free room h = ⊎_elim
     decided : Dec (j ≡ id) → (j ≡ id) ⊎ (j ≢ id)
     decided (yes e) = inl e
     decided (no n) = inr n
+
     mine : j ≡ id → v ≡ h.0
     mine is = some-injective v h.0 (sym at ∙ (ap (get_elem? views) (sym is) ∙ h.2.0))
 
 module _ (t : Terms) (slots id : ℕ) (me : Seated) where
   abbrev Holds : Sit → Type 0
-  Holds s = Callers t s.words s.views
+  Holds s = Table t s.words s.views
 
   abbrev mine_at : Sit → Type 0
   mine_at s = get_elem? s.views id ≡ some me.0
 
   room_in : (s : Sit) → Holds s → 2 < length s.words
-  room_in s r = omega (arith, r.wide)
+  room_in s r = omega (arith, r.callers.wide)
+
+  -- what is said of the rest stays
+  steps : (s : Sit) (r : Holds s) (w : Log) (x : ℕ) → mine_at s → IsSame me.0 w → Callers t (set s.words 2 x) (set s.views id w) r.history → Table t (set s.words 2 x) (set s.views id w)
+  steps s r w x at same callers = record {
+    history = r.history;
+    callers = callers;
+    shadow = r.shadow;
+    nodes = nodes_step t s.words s.views r.history r.shadow x id me.0 w at same r.nodes;
+    active = active_stays t s.words x r.history r.active;
+    looks = looks_step t s.words s.views r.history r.shadow x id me.0 w at same r.looks;
+  }
 
   -- a step that leaves the word and the holder
-  idle : (s : Sit) (r : Holds s) (w : Log) → mine_at s → IsLike me.0 w → w.loader ≡ me.0.loader → w.credit ≡ me.0.credit → Callers t (set s.words 2 (get_or s.words 2 0)) (set s.views id w)
-  idle s r w at like same credit = loader_step t s.words s.views r id me.0 w at like (get_or s.words 2 0) r.holder (omega (arith, credit))
-      (lock_stays t s.words s.views (get_or s.words 2 0) id me.0 w r.holder at same (λ e. subst (LoaderLock t s.words s.views) e r.loader) (room_in s r) r.loader)
-      (after_step (λ j u. AtLoader t (set s.words 2 (get_or s.words 2 0)) r.holder j u.loader) s.views id w
-          (rw same (part_stays t s.words (get_or s.words 2 0) r.holder id me.0.loader (room_in s r) (λ _ h. h) (r.at_loader id me.0 at)))
-          (λ j u _ e. part_stays t s.words (get_or s.words 2 0) r.holder j u.loader (room_in s r) (λ _ h. h) (r.at_loader j u e)))
+  idle : (s : Sit) (r : Holds s) (w : Log) → mine_at s → IsLike me.0 w → IsSame me.0 w → w.loader ≡ me.0.loader → w.credit ≡ me.0.credit → Table t (set s.words 2 (get_or s.words 2 0)) (set s.views id w)
+  idle s r w at like as_was same credit = steps s r w (get_or s.words 2 0) at as_was (loader_step t s.words s.views r.history r.callers id me.0 w at like (get_or s.words 2 0) r.callers.holder (omega (arith, credit))
+      (lock_stays t s.words s.views (get_or s.words 2 0) id me.0 w r.callers.holder at same (λ e. subst (LoaderLock t s.words s.views) e r.callers.loader) (room_in s r) r.callers.loader)
+      (after_step (λ j u. AtLoader t (set s.words 2 (get_or s.words 2 0)) r.callers.holder j u.loader) s.views id w
+      (rw same (part_stays t s.words (get_or s.words 2 0) r.callers.holder id me.0.loader (room_in s r) (λ _ h. h) (r.callers.at_loader id me.0 at)))
+      (λ j u _ e. part_stays t s.words (get_or s.words 2 0) r.callers.holder j u.loader (room_in s r) (λ _ h. h) (r.callers.at_loader j u e))))
 
   as_it_was : (v : Log) → IsLike v v
   as_it_was v = record { terms = refl; spent = refl; past = refl; own = refl; joined = refl; allowance = refl; made = refl; kin = refl }
@@ -152,7 +91,7 @@ module _ (t : Terms) (slots id : ℕ) (me : Seated) where
         w,
         keeps,
         tt,
-        idle s r w at (record { terms = refl; spent = refl; past = refl; own = refl; joined = refl; allowance = refl; made = refl; kin = refl }) refl refl,
+        idle s r w at (record { terms = refl; spent = refl; past = refl; own = refl; joined = refl; allowance = refl; made = refl; kin = refl }) (record { held = refl; out = refl; head = refl; sights = refl; copies = refl; own = refl; past = refl; loads = inr (load_of me.0 2 (get_or s.words 2 0), (refl, refl)) }) refl refl,
         refl,
       )
 
@@ -164,8 +103,8 @@ module _ (t : Terms) (slots id : ℕ) (me : Seated) where
       go (no ne) = subst P (sym (ne_eqb n old ne)) (miss ne)
 
   -- nobody holds a lock whose word is even
-  even_is_free : (s : Sit) (r : Holds s) → get_or s.words 2 0 % 2 ≡ 0 → r.holder ≡ None
-  even_is_free s r even = go r.holder r.loader (λ j u e. r.at_loader j u e)
+  even_is_free : (s : Sit) (r : Holds s) → get_or s.words 2 0 % 2 ≡ 0 → r.callers.holder ≡ None
+  even_is_free s r even = go r.callers.holder r.callers.loader (λ j u e. r.callers.at_loader j u e)
     where
       go : (holder : Option ℕ) → LoaderLock t s.words s.views holder → ((j : ℕ) (u : Log) → get_elem? s.views j ≡ some u → AtLoader t s.words holder j u.loader) → holder ≡ None
       go None h all = refl
@@ -181,33 +120,32 @@ module _ (t : Terms) (slots id : ℕ) (me : Seated) where
   nothing words holder j part is = subst (AtLoader t words holder j) (sym is) tt
 
   counter_bound : (s : Sit) (r : Holds s) → get_or s.words 2 0 / 4 ≤ 2 ^ 60 + 2 ^ 32
-  counter_bound s r = let c = r.counted in omega (arith, c)
+  counter_bound s r = let c = r.callers.counted in omega (arith, c)
 
   pub locks_loader : (seen : ℕ) → seen % 2 ≡ 0 → Allows Holds slots id me 2 (λ n. either (n == seen) (seen + 1) n) (locks (step slots 2 seen (seen + 1) none) me)
   locks_loader seen even s r deep at small =
       let n : ℕ = get_or s.words 2 0 in
       by_test n seen (λ b. (w : Log) × (a : Act (Unit {0})) × Valid s.homes me.1 a × Holds (stepped s 2 (either b (seen + 1) n) id me.1 w a) × MatchBool b
-          ((seen % 4 ≡ 0) × (seen < 2 ^ 63) × ((copy : List ℕ) × (◌≡◌ {A = Seated} (w, carried_after me.1 a) (after_loader_lock seen copy me.0, me.1)))) (◌≡◌ {A = Seated} (w, carried_after me.1 a) (after_load 2 n me.0, me.1)))
+      ((seen % 4 ≡ 0) × (seen < 2 ^ 63) × ((copy : List ℕ) × (◌≡◌ {A = Seated} (w, carried_after me.1 a) (after_loader_lock seen copy me.0, me.1)))) (◌≡◌ {A = Seated} (w, carried_after me.1 a) (after_load 2 n me.0, me.1)))
       (λ hit.
-          let free : r.holder ≡ None = even_is_free s r (rw hit even) in
-          let four : seen % 4 ≡ 0 = rw hit at (subst (LoaderLock t s.words s.views) free r.loader) in
-          let bound = counter_bound s r in
-          let copy : List ℕ = copy_at t s.words (spare (get_or s.words 0 0)) in
-          let w : Log = after_loader_lock seen copy me.0 in
-          let here : get_or (set s.words 2 (seen + 1)) 2 0 ≡ seen + 1 = get_or-set_same s.words 2 (seen + 1) 0 (room_in s r) in
-          let clock : get_or (set s.words 2 (seen + 1)) 0 0 ≡ get_or s.words 0 0 = get_or-set_other s.words 2 0 (seen + 1) 0 (λ e. omega (arith, e)) in
-          (
-            w,
-            keeps,
-            tt,
-            loader_step t s.words s.views r id me.0 w at (record { terms = refl; spent = refl; past = refl; own = refl; joined = refl; allowance = refl; made = refl; kin = refl }) (seen + 1) (Some id) (omega (arith, hit, four))
-                (w, record { version = seen; words = copy; stored = false }, (set_here s.views id w (within s.views id me.0 at), refl))
-                (after_step (λ j u. AtLoader t (set s.words 2 (seen + 1)) (Some id) j u.loader) s.views id w
-                    (refl, ((four, inl here), sym (copy_at_set t s.words (seen + 1) (spare (get_or s.words 0 0))) ∙ ap (λ k. copy_at t (set s.words 2 (seen + 1)) (spare k)) (sym clock)))
-                    (λ j u _ e. nothing (set s.words 2 (seen + 1)) (Some id) j u.loader (no_part s.words r.holder j u.loader (λ h. none-some j (sym free ∙ h)) (r.at_loader j u e)))),
-            (four, omega (arith, bound, hit), (copy, refl)),
-          ))
-      (λ miss. (after_load 2 n me.0, keeps, tt, idle s r (after_load 2 n me.0) at (record { terms = refl; spent = refl; past = refl; own = refl; joined = refl; allowance = refl; made = refl; kin = refl }) refl refl, refl))
+      let free : r.callers.holder ≡ None = even_is_free s r (rw hit even) in
+      let four : seen % 4 ≡ 0 = rw hit at (subst (LoaderLock t s.words s.views) free r.callers.loader) in
+      let bound = counter_bound s r in
+      let copy : List ℕ = copy_at t s.words (spare (get_or s.words 0 0)) in
+      let w : Log = after_loader_lock seen copy me.0 in
+      let here : get_or (set s.words 2 (seen + 1)) 2 0 ≡ seen + 1 = get_or-set_same s.words 2 (seen + 1) 0 (room_in s r) in
+      let clock : get_or (set s.words 2 (seen + 1)) 0 0 ≡ get_or s.words 0 0 = get_or-set_other s.words 2 0 (seen + 1) 0 (λ e. omega (arith, e)) in (
+        w,
+        keeps,
+        tt,
+        steps s r w (seen + 1) at (record { held = refl; out = refl; head = refl; sights = refl; copies = refl; own = refl; past = refl; loads = inl refl }) (loader_step t s.words s.views r.history r.callers id me.0 w at (record { terms = refl; spent = refl; past = refl; own = refl; joined = refl; allowance = refl; made = refl; kin = refl }) (seen + 1) (Some id) (omega (arith, hit, four))
+            (w, record { version = seen; words = copy; stored = false }, (set_here s.views id w (within s.views id me.0 at), refl))
+            (after_step (λ j u. AtLoader t (set s.words 2 (seen + 1)) (Some id) j u.loader) s.views id w
+            (refl, ((four, inl here), sym (copy_at_set t s.words (seen + 1) (spare (get_or s.words 0 0))) ∙ ap (λ k. copy_at t (set s.words 2 (seen + 1)) (spare k)) (sym clock)))
+            (λ j u _ e. nothing (set s.words 2 (seen + 1)) (Some id) j u.loader (no_part s.words r.callers.holder j u.loader (λ h. none-some j (sym free ∙ h)) (r.callers.at_loader j u e))))),
+        (four, omega (arith, bound, hit), (copy, refl)),
+      ))
+      (λ miss. (after_load 2 n me.0, keeps, tt, idle s r (after_load 2 n me.0) at (record { terms = refl; spent = refl; past = refl; own = refl; joined = refl; allowance = refl; made = refl; kin = refl }) (record { held = refl; out = refl; head = refl; sights = refl; copies = refl; own = refl; past = refl; loads = inr (load_of me.0 2 (get_or s.words 2 0), (refl, refl)) }) refl refl, refl))
 
   -- the low two bits of an odd word set
   abbrev marked : ℕ → ℕ
@@ -217,46 +155,44 @@ module _ (t : Terms) (slots id : ℕ) (me : Seated) where
   marks_loader seen odd s r deep at small =
       let n : ℕ = get_or s.words 2 0 in
       by_test n seen (λ b. (w : Log) × (a : Act (Unit {0})) × Valid s.homes me.1 a × Holds (stepped s 2 (either b (marked seen) n) id me.1 w a) × MatchBool b
-          (◌≡◌ {A = Seated} (w, carried_after me.1 a) (after_mark me.0, me.1)) (◌≡◌ {A = Seated} (w, carried_after me.1 a) (after_load 2 n me.0, me.1)))
+      (◌≡◌ {A = Seated} (w, carried_after me.1 a) (after_mark me.0, me.1)) (◌≡◌ {A = Seated} (w, carried_after me.1 a) (after_load 2 n me.0, me.1)))
       (λ hit.
-          let w : Log = after_mark me.0 in
-          let keeps_lock : (version : ℕ) → IsLockedAt version (get_or s.words 2 0) → IsLockedAt version (marked seen) = λ version h. (h.0, inr (⊎_elim (λ (e : get_or s.words 2 0 ≡ version + 1). let z = h.0 in omega (arith, e, z, hit)) (λ (e : get_or s.words 2 0 ≡ version + 3). let z = h.0 in omega (arith, e, z, hit)) h.1)) in
-          (
-            w,
-            keeps,
-            tt,
-            loader_step t s.words s.views r id me.0 w at (record { terms = refl; spent = refl; past = refl; own = refl; joined = refl; allowance = refl; made = refl; kin = refl }) (marked seen) r.holder (omega (arith, hit))
-                (lock_stays t s.words s.views (marked seen) id me.0 w r.holder at refl (λ e. let z : get_or s.words 2 0 % 4 ≡ 0 = subst (LoaderLock t s.words s.views) e r.loader in absurd (omega (arith, z, odd, hit))) (room_in s r) r.loader)
-                (after_step (λ j u. AtLoader t (set s.words 2 (marked seen)) r.holder j u.loader) s.views id w
-                    (part_stays t s.words (marked seen) r.holder id me.0.loader (room_in s r) keeps_lock (r.at_loader id me.0 at))
-                    (λ j u _ e. part_stays t s.words (marked seen) r.holder j u.loader (room_in s r) keeps_lock (r.at_loader j u e))),
-            refl,
-          ))
-      (λ miss. (after_load 2 n me.0, keeps, tt, idle s r (after_load 2 n me.0) at (record { terms = refl; spent = refl; past = refl; own = refl; joined = refl; allowance = refl; made = refl; kin = refl }) refl refl, refl))
+      let w : Log = after_mark me.0 in
+      let keeps_lock : (version : ℕ) → IsLockedAt version (get_or s.words 2 0) → IsLockedAt version (marked seen) = λ version h. (h.0, inr (⊎_elim (λ (e : get_or s.words 2 0 ≡ version + 1). let z = h.0 in omega (arith, e, z, hit)) (λ (e : get_or s.words 2 0 ≡ version + 3). let z = h.0 in omega (arith, e, z, hit)) h.1)) in (
+        w,
+        keeps,
+        tt,
+        steps s r w (marked seen) at (record { held = refl; out = refl; head = refl; sights = refl; copies = refl; own = refl; past = refl; loads = inl refl }) (loader_step t s.words s.views r.history r.callers id me.0 w at (record { terms = refl; spent = refl; past = refl; own = refl; joined = refl; allowance = refl; made = refl; kin = refl }) (marked seen) r.callers.holder (omega (arith, hit))
+            (lock_stays t s.words s.views (marked seen) id me.0 w r.callers.holder at refl (λ e. let z : get_or s.words 2 0 % 4 ≡ 0 = subst (LoaderLock t s.words s.views) e r.callers.loader in absurd (omega (arith, z, odd, hit))) (room_in s r) r.callers.loader)
+            (after_step (λ j u. AtLoader t (set s.words 2 (marked seen)) r.callers.holder j u.loader) s.views id w
+            (part_stays t s.words (marked seen) r.callers.holder id me.0.loader (room_in s r) keeps_lock (r.callers.at_loader id me.0 at))
+            (λ j u _ e. part_stays t s.words (marked seen) r.callers.holder j u.loader (room_in s r) keeps_lock (r.callers.at_loader j u e)))),
+        refl,
+      ))
+      (λ miss. (after_load 2 n me.0, keeps, tt, idle s r (after_load 2 n me.0) at (record { terms = refl; spent = refl; past = refl; own = refl; joined = refl; allowance = refl; made = refl; kin = refl }) (record { held = refl; out = refl; head = refl; sights = refl; copies = refl; own = refl; past = refl; loads = inr (load_of me.0 2 (get_or s.words 2 0), (refl, refl)) }) refl refl, refl))
 
   -- a log that holds the lock: the word is its version, locked, and no other log holds it
-  mine_held : (s : Sit) (r : Holds s) (h : LoaderHolding) → mine_at s → me.0.loader ≡ Some h → (r.holder ≡ Some id) × IsLockedAt h.version (get_or s.words 2 0)
-  mine_held s r h at is = let a : AtLoader t s.words r.holder id (Some h) = subst (AtLoader t s.words r.holder id) is (r.at_loader id me.0 at) in (a.0, a.1.0)
+  mine_held : (s : Sit) (r : Holds s) (h : LoaderHolding) → mine_at s → me.0.loader ≡ Some h → (r.callers.holder ≡ Some id) × IsLockedAt h.version (get_or s.words 2 0)
+  mine_held s r h at is = let a : AtLoader t s.words r.callers.holder id (Some h) = subst (AtLoader t s.words r.callers.holder id) is (r.callers.at_loader id me.0 at) in (a.0, a.1.0)
 
   -- the lock is let go with a word that is a multiple of 4
-  lets_go : (s : Sit) (r : Holds s) (h : LoaderHolding) (w : Log) (x : ℕ) → mine_at s → me.0.loader ≡ Some h → IsLike me.0 w → w.loader ≡ None → x % 4 ≡ 0 → x / 4 + w.credit ≤ get_or s.words 2 0 / 4 + me.0.credit
-      → Callers t (set s.words 2 x) (set s.views id w)
-  lets_go s r h w x at is like gone four fewer =
+  lets_go : (s : Sit) (r : Holds s) (h : LoaderHolding) (w : Log) (x : ℕ) → mine_at s → me.0.loader ≡ Some h → IsLike me.0 w → IsSame me.0 w → w.loader ≡ None → x % 4 ≡ 0 → x / 4 + w.credit ≤ get_or s.words 2 0 / 4 + me.0.credit
+      → Table t (set s.words 2 x) (set s.views id w)
+  lets_go s r h w x at is like as_was gone four fewer =
       let mine = mine_held s r h at is in
-      loader_step t s.words s.views r id me.0 w at like x None fewer (rw (get_or-set_same s.words 2 x 0 (room_in s r)) four)
-          (after_step (λ j u. AtLoader t (set s.words 2 x) None j u.loader) s.views id w (nothing (set s.words 2 x) None id w.loader gone)
-              (λ j u other e. nothing (set s.words 2 x) None j u.loader (no_part s.words r.holder j u.loader (λ held. other (same_Some _ _ (sym held ∙ mine.0))) (r.at_loader j u e))))
+      steps s r w x at as_was (loader_step t s.words s.views r.history r.callers id me.0 w at like x None fewer (rw (get_or-set_same s.words 2 x 0 (room_in s r)) four)
+      (after_step (λ j u. AtLoader t (set s.words 2 x) None j u.loader) s.views id w (nothing (set s.words 2 x) None id w.loader gone)
+      (λ j u other e. nothing (set s.words 2 x) None j u.loader (no_part s.words r.callers.holder j u.loader (λ held. other (same_Some _ _ (sym held ∙ mine.0))) (r.callers.at_loader j u e)))))
 
   pub releases_loader : (h : LoaderHolding) → me.0.loader ≡ Some h → 0 < me.0.credit → Allows Holds slots id me 2 (λ _. h.version + 4) (releases (step slots 2 (h.version + 4) 0 none) me)
   releases_loader h is some_credit s r deep at small =
       let w : Log = after_loader_release me.0 in
       let lock = (mine_held s r h at is).1 in
-      let four = lock.0 in
-      (
+      let four = lock.0 in (
         w,
         keeps,
         tt,
-        lets_go s r h w (h.version + 4) at is (record { terms = refl; spent = refl; past = refl; own = refl; joined = refl; allowance = refl; made = refl; kin = refl }) refl (omega (arith, four))
+        lets_go s r h w (h.version + 4) at is (record { terms = refl; spent = refl; past = refl; own = refl; joined = refl; allowance = refl; made = refl; kin = refl }) (record { held = refl; out = refl; head = refl; sights = refl; copies = refl; own = refl; past = refl; loads = inl refl }) refl (omega (arith, four))
             (⊎_elim (λ (e : get_or s.words 2 0 ≡ h.version + 1). omega (arith, e, four, some_credit)) (λ (e : get_or s.words 2 0 ≡ h.version + 3). omega (arith, e, four, some_credit)) lock.1),
         (refl, subst (λ part. IfSome part (λ g. IsLockedAt g.version (get_or s.words 2 0))) (sym is) lock),
       )
@@ -265,12 +201,11 @@ module _ (t : Terms) (slots id : ℕ) (me : Seated) where
   releases_same_loader h is s r deep at small =
       let w : Log = after_loader_release_same me.0 in
       let lock = (mine_held s r h at is).1 in
-      let four = lock.0 in
-      (
+      let four = lock.0 in (
         w,
         keeps,
         tt,
-        lets_go s r h w h.version at is (record { terms = refl; spent = refl; past = refl; own = refl; joined = refl; allowance = refl; made = refl; kin = refl }) refl four
+        lets_go s r h w h.version at is (record { terms = refl; spent = refl; past = refl; own = refl; joined = refl; allowance = refl; made = refl; kin = refl }) (record { held = refl; out = refl; head = refl; sights = refl; copies = refl; own = refl; past = refl; loads = inl refl }) refl four
             (⊎_elim (λ (e : get_or s.words 2 0 ≡ h.version + 1). omega (arith, e, four)) (λ (e : get_or s.words 2 0 ≡ h.version + 3). omega (arith, e, four)) lock.1),
         (refl, subst (λ part. IfSome part (λ g. IsLockedAt g.version (get_or s.words 2 0))) (sym is) lock),
       )

@@ -1,8 +1,8 @@
 -- Names, and how often they stand in lists.
-use Rattle.std.proofs.Common.{◌≡◌, ◌≢◌, ℕ, zero, suc, ◌+◌, ◌-◌, ◌<◌, ◌≤◌, ◌⊎◌, List, [], ◌∷◌, ◌++◌, ◌||◌, ◌&&◌, length, length-append, sym, refl, ap, ◌∙◌, subst, inl, inr, ⊎_elim, arith, Bool, true, false, true≢false, nat_eq, if◌then◌else◌, eq-eqb, ne_eqb, append_assoc, append-nil, take, drop, get_or, remove, drop_of_length-le, take_all}
-use Rattle.std.specs.Cmp.Lexicographic.{pointwise, same_text}
+use Rattle.std.proofs.Common.{◌≡◌, ◌≢◌, ℕ, zero, suc, ◌+◌, ◌<◌, ◌≤◌, ◌⊎◌, List, [], ◌∷◌, ◌++◌, ◌||◌, length, sym, refl, ap, ◌∙◌, inl, inr, ⊎_elim, arith, Bool, true, false, true≢false, eq-eqb, append_assoc, append-nil, take, drop, get_or, remove, drop_of_length-le, take_all}
+use Rattle.std.specs.Cmp.Lexicographic.{same_text}
 use Rattle.word_rule.specs.declared.views.Kinship.{Kinship}
-use Rattle.word_rule.specs.Names.{is_same, once, times, is_in, without, come_back, go_out, all_come_back, all_go_out, child_name, newborn, after_birth, joined_names, after_kin}
+use Rattle.word_rule.specs.Names.{is_same, once, times, is_in, without, come_back, go_out, all_come_back, all_go_out, child_name, newborn, after_birth, after_kin}
 use Rattle.word_rule.specs.Rule.{KinHolds}
 
 pub same_refl : (x : List ℕ) → is_same x x ≡ true
@@ -85,6 +85,7 @@ kin_holds k l h i = record {
   where
     more_members : (p : List ℕ) → times p (k.members ++ l.members) ≡ times p k.members + times p l.members
     more_members p = times_append p k.members l.members
+
     pick : (y : List ℕ) → 0 < times y (k.given ++ l.given) → times y (k.given ++ l.given) ≡ times y k.given + times y l.given → (n : ℕ) → times y k.given ≡ n → (p : List ℕ) × (m : ℕ) × ((y ≡ p ++ m ∷ []) × (0 < times p (k.members ++ l.members)))
     pick y more sum zero e = let g = i.given_by y (omega (arith, sum, e, more)) in (g.0, g.1, (g.2.0, (let q = more_members g.0 in let z = g.2.1 in omega (arith, q, z))))
     pick y more sum (suc n) e = let g = h.given_by y (omega (arith, e)) in (g.0, g.1, (g.2.0, (let q = more_members g.0 in let z = g.2.1 in omega (arith, q, z))))

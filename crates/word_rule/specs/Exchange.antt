@@ -1,8 +1,7 @@
 -- When and how the settled contents of the nodes that a caller holds become what their words spell. Nothing is asked of the
 -- rest of the tree.
-use Rattle.std.specs.Prelude.{◌≡◌, ◌≢◌, ℕ, ◌≤◌, ◌<◌, ◌-◌, Bool, true, false, ◌&&◌, not, IsTrue, IsSome, is_some, List, [], ◌∷◌, ◌++◌, length, Option, Some, None, ◌⊎◌, ◌↔◌, map, if◌then◌else◌, Contains}
+use Rattle.std.specs.Prelude.{◌≡◌, ◌≢◌, ℕ, ◌≤◌, Bool, true, false, ◌&&◌, not, IsTrue, IsSome, is_some, List, ◌++◌, length, Option, Some, None, ◌⊎◌, ◌↔◌, map, if◌then◌else◌}
 use Rattle.std.specs.List.{AllByRecursion, filter}
-use Rattle.reg_model.specs.State.{IsFree}
 use Rattle.reg_model.specs.declared.span.Member.{Member}
 use Rattle.reg_model.specs.declared.answer.Update.{Update}
 use Rattle.reg_model.specs.declared.answer.Update.TheVariants.{Register, Deregister, Load, Unload}
@@ -15,7 +14,7 @@ use Rattle.word_rule.specs.declared.views.Log.{Log}
 use Rattle.word_rule.specs.declared.views.Holding.{Holding}
 use Rattle.word_rule.specs.declared.views.Mark.{Mark}
 use Rattle.word_rule.specs.Spelling.{spelled}
-use Rattle.word_rule.specs.Held.{held_of, is_listed, words_of, settled_in, now_in, now_of, is_marked, marked_in, mark_of}
+use Rattle.word_rule.specs.Held.{held_of, is_listed, words_of, settled_in, now_in, now_of, marked_in, mark_of}
 
 -- the words of a held node spell another content than its settled one
 abbrev pub Differs : Holding → Type 0
@@ -84,7 +83,7 @@ mark_after now group reached h = if reached h.node then Some (mark_of now) else 
 abbrev pub exchange : (ℕ → Bool) → (ℕ → Bool) → Holding → Holding
 exchange group reached h = record h {
   settled = if group h.node then now_of h (spelled (words_of h)) else (if is_some h.mark then h.settled else now_of h (spelled (words_of h)));
-  mark = mark_after (now_of h (spelled (words_of h))) group reached h
+  mark = mark_after (now_of h (spelled (words_of h))) group reached h;
 }
 
 -- the log after the exchange

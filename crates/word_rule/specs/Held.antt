@@ -1,10 +1,8 @@
 -- The locks of nodes that a log has, by the node's number.
-use Rattle.std.specs.Prelude.{◌≡◌, ℕ, ◌+◌, Bool, true, false, ◌==◌, ◌||◌, ◌∷◌, List, [], Option, Some, None, is_some, slice_index, slice_set, if◌then◌else◌}
-use Rattle.std.specs.List.{filter}
-use Rattle.tree_shape.specs.Shapes.{Shape, Body, Link}
+use Rattle.std.specs.Prelude.{ℕ, Bool, false, ◌==◌, ◌||◌, ◌∷◌, List, [], Option, Some, None, is_some, if◌then◌else◌}
+use Rattle.tree_shape.specs.Shapes.{Shape, Link}
 use Rattle.tree_shape.specs.Trees.{Contents}
 use Rattle.word_rule.specs.Spelling.{spelled}
-use Rattle.word_rule.specs.declared.views.Log.{Log}
 use Rattle.word_rule.specs.declared.views.Holding.{Holding}
 use Rattle.word_rule.specs.declared.views.Mark.{Mark}
 

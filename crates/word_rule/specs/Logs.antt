@@ -1,14 +1,10 @@
 -- What each step makes of its caller's log.
-use Rattle.std.specs.Prelude.{ℕ, ◌+◌, ◌-◌, ◌*◌, ◌/◌, ◌<◌, List, [], ◌∷◌, ◌++◌, length, Option, Some, None, nat_lt, false, true, if◌then◌else◌}
+use Rattle.std.specs.Prelude.{ℕ, ◌+◌, ◌-◌, ◌*◌, ◌/◌, List, [], ◌∷◌, ◌++◌, length, Some, None, nat_lt, false, true, if◌then◌else◌}
 use Rattle.reg_model.specs.declared.answer.Update.{Update}
 use Rattle.word_rule.specs.declared.views.Terms.{Terms}
 use Rattle.word_rule.specs.declared.views.Log.{Log}
 use Rattle.word_rule.specs.declared.views.Load.{Load}
-use Rattle.word_rule.specs.declared.views.LoaderHolding.{LoaderHolding}
-use Rattle.word_rule.specs.declared.views.LockId.{LockId}
-use Rattle.word_rule.specs.declared.views.Ask.{Ask}
 use Rattle.word_rule.specs.Names.{newborn, child_name, after_birth, after_kin}
-use Rattle.word_rule.specs.Places.{LOADER}
 
 -- a load, or a refused exchange, with what its caller has at that moment
 abbrev pub load_of : Log → ℕ → ℕ → Load
@@ -41,18 +37,48 @@ longer a b = if nat_lt (length a) (length b) then b else a
 -- what the first caller knows
 abbrev pub first_log : Terms → Log
 first_log t = record {
-  terms = t; past = []; allowance = 67108864; credit = 1152921508901814272;
-  own = []; joined = []; loads = []; stores = []; writes = 0; held = []; loader = None; out = []; head = None; sights = []; copies = None;
-  made = 0; kin = newborn []; spent = false
+  terms = t;
+  past = [];
+  allowance = 67108864;
+  credit = 1152921508901814272;
+  own = [];
+  joined = [];
+  loads = [];
+  stores = [];
+  writes = 0;
+  held = [];
+  loader = None;
+  out = [];
+  head = None;
+  sights = [];
+  copies = None;
+  made = 0;
+  kin = newborn [];
+  spent = false;
 }
 
 -- What a caller that is split off or a note begins with: what its maker has seen, so many update calls and releases, and
 -- a name.
 abbrev pub child_log : ℕ → ℕ → Log → Log
 child_log allowance credit v = record {
-  terms = v.terms; past = v.past; allowance = allowance; credit = credit;
-  own = []; joined = []; loads = []; stores = []; writes = 0; held = []; loader = None; out = []; head = None; sights = []; copies = None;
-  made = 0; kin = newborn (child_name v.kin); spent = false
+  terms = v.terms;
+  past = v.past;
+  allowance = allowance;
+  credit = credit;
+  own = [];
+  joined = [];
+  loads = [];
+  stores = [];
+  writes = 0;
+  held = [];
+  loader = None;
+  out = [];
+  head = None;
+  sights = [];
+  copies = None;
+  made = 0;
+  kin = newborn (child_name v.kin);
+  spent = false;
 }
 
 -- The releases that a split gives away with so many of the `left` update calls: 64 for each of them, and half of the
@@ -75,8 +101,12 @@ note_of v = child_log 0 0 v
 -- another caller was joined into this one
 abbrev pub after_join : Log → Log → Log
 after_join v other = record v {
-  past = longer v.past other.past; allowance = v.allowance + other.allowance; credit = v.credit + other.credit;
-  joined = v.joined ++ other.own ∷ other.joined; made = v.made + other.made; kin = after_kin v.kin other.kin
+  past = longer v.past other.past;
+  allowance = v.allowance + other.allowance;
+  credit = v.credit + other.credit;
+  joined = v.joined ++ other.own ∷ other.joined;
+  made = v.made + other.made;
+  kin = after_kin v.kin other.kin;
 }
 
 -- a note was learnt
@@ -86,7 +116,22 @@ after_learn v note = record v { past = longer v.past note.past; kin = after_kin 
 -- what is left of a log that was joined or learnt into another
 abbrev pub spent_log : Log
 spent_log = record {
-  terms = record { nodes = 0; loads = 0; payloads = 0; fixed = [] }; past = []; allowance = 0; credit = 0;
-  own = []; joined = []; loads = []; stores = []; writes = 0; held = []; loader = None; out = []; head = None; sights = []; copies = None;
-  made = 0; kin = record { name = []; born = 0; missing = []; foreign = []; members = []; given = [] }; spent = true
+  terms = record { nodes = 0; loads = 0; payloads = 0; fixed = [] };
+  past = [];
+  allowance = 0;
+  credit = 0;
+  own = [];
+  joined = [];
+  loads = [];
+  stores = [];
+  writes = 0;
+  held = [];
+  loader = None;
+  out = [];
+  head = None;
+  sights = [];
+  copies = None;
+  made = 0;
+  kin = record { name = []; born = 0; missing = []; foreign = []; members = []; given = [] };
+  spent = true;
 }

@@ -1,5 +1,5 @@
 -- How what a caller keeps plainly is tied to its log.
-use Rattle.std.specs.Prelude.{◌≡◌, ℕ, ◌+◌, ◌*◌, ◌≤◌, ◌<◌, ◌^◌, List, [], length, slice_index, Option, IfSome, None, false}
+use Rattle.std.specs.Prelude.{◌≡◌, ℕ, ◌+◌, ◌*◌, ◌≤◌, ◌<◌, ◌^◌, List, [], length, slice_index, IfSome, None, false}
 use Rattle.word_rule.specs.declared.views.Log.{Log}
 use Rattle.word_rule.specs.declared.views.Kinship.{Kinship}
 use Rattle.word_rule.specs.declared.kin.Kin.{Kin}
@@ -27,6 +27,8 @@ pub record IsTied (left seen : ℕ) (versions : List ℕ) (kin : Kin) (me : Sat)
 pub record IsNote (u : Log) : Type 0 where
   pub spent : u.spent ≡ false
   pub loader : u.loader ≡ None
+  pub held : u.held ≡ []
+  pub out : u.out ≡ []
   pub own : u.own ≡ []
   pub joined : u.joined ≡ []
   pub allowance : u.allowance ≡ 0

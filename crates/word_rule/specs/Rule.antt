@@ -1,5 +1,5 @@
 -- What holds of the shared words and of all callers' logs between any two steps: the callers and the loader's lock.
-use Rattle.std.specs.Prelude.{◌≡◌, ℕ, ◌+◌, ◌*◌, ◌^◌, ◌<◌, ◌≤◌, ◌%◌, ◌⊎◌, List, [], ◌∷◌, ◌++◌, length, Bool, ◌==◌, ◌&&◌, nat_le, slice_index, Option, Some, None, true, false, if◌then◌else◌}
+use Rattle.std.specs.Prelude.{◌≡◌, ℕ, ◌+◌, ◌^◌, ◌<◌, ◌≤◌, ◌%◌, ◌⊎◌, List, [], ◌∷◌, ◌++◌, length, ◌==◌, ◌&&◌, nat_le, slice_index, Option, Some, None, true, false}
 use Rattle.std.specs.List.{AllByRecursion}
 use mathlib.Core.Option.{some}
 use mathlib.Core.List.{IsPrefix}
@@ -141,9 +141,8 @@ pub record Kindred (views : List Log) : Type 0 where
   -- what was joined away keeps nothing
   pub spent : (id : ℕ) (v : Log) → get_elem? views id ≡ some v → v.spent ≡ true → (v.own ≡ []) × (v.joined ≡ []) × (v.made ≡ 0)
 
--- What holds of the callers and of the loader's lock.
-pub record Callers (t : Terms) (words : List ℕ) (views : List Log) : Type 0 where
-  pub history : List Update
+-- What holds of the callers and of the loader's lock, where this is the history.
+pub record Callers (t : Terms) (words : List ℕ) (views : List Log) (history : List Update) : Type 0 where
   pub holder : Option ℕ
   pub wide : length words ≡ word_count t
   -- the clock counts the updates, and those of the loader

@@ -1,8 +1,7 @@
 -- Sights: words of a node that were loaded under a version, and what each load makes of them.
-use Rattle.std.specs.Prelude.{◌≡◌, ℕ, zero, suc, ◌+◌, ◌-◌, ◌*◌, ◌%◌, ◌<◌, Bool, true, false, ◌&&◌, ◌||◌, not, ◌==◌, nat_lt, nat_le, List, [], ◌∷◌, ◌++◌, length, map, Option, Some, None, option_map, is_some, if◌then◌else◌}
+use Rattle.std.specs.Prelude.{ℕ, zero, suc, ◌+◌, ◌-◌, ◌*◌, ◌%◌, Bool, false, ◌&&◌, ◌==◌, nat_lt, nat_le, List, [], ◌∷◌, ◌++◌, length, map, Option, Some, None, option_map, is_some, if◌then◌else◌}
 use Rattle.reg_model.specs.History.{state_at}
 use Rattle.reg_model.specs.Query.{query}
-use Rattle.reg_model.specs.State.{State}
 use Rattle.reg_model.specs.declared.span.Member.{Member}
 use Rattle.reg_model.specs.declared.answer.Update.{Update}
 use Rattle.reg_model.specs.declared.answer.Found.{Found}
@@ -117,7 +116,7 @@ receipts_after_version v a found (Some s) = if s.version == found then try_recei
 abbrev pub after_node_version : Ask → ℕ → ℕ → Log → Log
 after_node_version a n found v = record (after_load (node_place n) found v) {
   sights = sights_after_version n found (sight_of n v.sights) v.sights;
-  own = v.own ++ receipts_after_version v a found (sight_of n v.sights)
+  own = v.own ++ receipts_after_version v a found (sight_of n v.sights);
 }
 
 -- a word joins the sight of its node
@@ -127,7 +126,7 @@ with_word n at value s = if s.node == n then record s { words = record { at = at
 -- A word of a node was loaded: where the caller holds the node it tells nothing of a sight.
 abbrev pub after_node_load : ℕ → ℕ → ℕ → Log → Log
 after_node_load n at value v = record (after_load (node_place n + at) value v) {
-  sights = if is_some (held_of n v.held) then v.sights else map (with_word n at value) v.sights
+  sights = if is_some (held_of n v.held) then v.sights else map (with_word n at value) v.sights;
 }
 
 -- every sight knows when the clock was loaded after its version
@@ -145,7 +144,7 @@ after_clock found past receipts v = record (after_load 0 found v) {
   past = past;
   sights = map (with_clock (lower found)) v.sights;
   copies = copies_after_clock found v.copies;
-  own = v.own ++ receipts
+  own = v.own ++ receipts;
 }
 
 -- the receipt of a walk over the loader's copy, where the upper half of the clock is still the walk's

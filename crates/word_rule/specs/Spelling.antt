@@ -20,7 +20,7 @@ pairs_at words at (suc count) = if is_short (slice_index words at) then option_m
 abbrev pub member_at : List ℕ → ℕ → Member
 member_at words at = record {
   span = record { first = slice_index words at; last = slice_index words at + slice_index words (at + 1) - 1 };
-  payload = slice_index words (at + 2)
+  payload = slice_index words (at + 2);
 }
 
 -- a base and a size with an address above the last one, and a payload

@@ -1,8 +1,7 @@
 -- What the steps on nodes, on the loader's copies, on the clock and on the free head make of a log, and what they ask for.
-use Rattle.std.specs.Prelude.{◌≡◌, ◌≢◌, ℕ, ◌+◌, ◌-◌, ◌*◌, ◌<◌, ◌≤◌, ◌⊎◌, Bool, true, false, ◌==◌, IsTrue, List, [], ◌∷◌, ◌++◌, length, map, Option, Some, None, IsSome, IfSome, IsSomeAnd, slice_set, slice_index, if◌then◌else◌}
-use Rattle.std.specs.List.{AllByRecursion}
-use Rattle.reg_model.specs.History.{Fits, state_after, after, state_at}
-use Rattle.reg_model.specs.State.{State, at_base, IsFree}
+use Rattle.std.specs.Prelude.{◌≡◌, ℕ, ◌+◌, ◌-◌, ◌<◌, ◌⊎◌, true, false, ◌==◌, IsTrue, List, [], ◌∷◌, ◌++◌, length, Option, Some, None, IsSome, IsSomeAnd, slice_set, if◌then◌else◌}
+use Rattle.reg_model.specs.History.{state_after}
+use Rattle.reg_model.specs.State.{State, at_base}
 use Rattle.reg_model.specs.Receipt.{moment, accepted, IsRight}
 use Rattle.reg_model.specs.declared.answer.Update.{Update}
 use Rattle.reg_model.specs.declared.answer.Update.TheVariants as update
@@ -11,16 +10,16 @@ use Rattle.reg_model.specs.declared.answer.Loading.TheVariants as loading
 use Rattle.reg_model.specs.declared.answer.Removed.TheVariants as removed
 use Rattle.reg_model.specs.declared.answer.Receipt.{Receipt}
 use Rattle.reg_model.specs.declared.answer.Receipt.TheVariants as receipt
-use Rattle.tree_shape.specs.Shapes.{Shape, Body, Link, Pairs, Entries, pairs_of}
+use Rattle.tree_shape.specs.Shapes.{Shape, Link}
 use Rattle.tree_shape.specs.Trees.{branches, Branch}
 use Rattle.word_rule.specs.declared.views.Log.{Log}
 use Rattle.word_rule.specs.declared.views.Holding.{Holding}
 use Rattle.word_rule.specs.declared.views.LoaderHolding.{LoaderHolding}
 use Rattle.word_rule.specs.declared.views.Mark.{Mark}
-use Rattle.word_rule.specs.Places.{HEAD, node_place, copy_place, upper, lower}
-use Rattle.word_rule.specs.Spelling.{spelled, Spells}
+use Rattle.word_rule.specs.Places.{HEAD, copy_place}
+use Rattle.word_rule.specs.Spelling.{spelled}
 use Rattle.word_rule.specs.Held.{held_of, edited, without_lock, is_listed, without_node, words_of, marked_in}
-use Rattle.word_rule.specs.Exchange.{Exchanges, ExchangesWhereLawful, MayExchange, IsQuiet, Differs}
+use Rattle.word_rule.specs.Exchange.{Exchanges, ExchangesWhereLawful, MayExchange, Differs}
 use Rattle.word_rule.specs.Logs.{after_load}
 use Rattle.word_rule.specs.Rule.{start}
 
@@ -52,7 +51,7 @@ mark_at_lock n settled held = if n == 0 then Some record { level = settled.level
 -- A node was locked at a version, while it had this settled content and these words.
 abbrev pub after_node_lock : ℕ → ℕ → Shape → List ℕ → Log → Log
 after_node_lock n version settled words v = record (after_write v) {
-  held = record { node = n; version = version; settled = settled; words = words; stored = false; mark = mark_at_lock n settled v.held } ∷ v.held
+  held = record { node = n; version = version; settled = settled; words = words; stored = false; mark = mark_at_lock n settled v.held } ∷ v.held;
 }
 
 -- A node was let go with the next version: its content settled where that is lawful.

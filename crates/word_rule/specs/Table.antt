@@ -1,17 +1,15 @@
 -- The whole invariant: what holds of all words and of all logs between any two steps. The record `Callers` is its part on
 -- callers and the loader's lock; those on nodes, sights and copies stand here.
-use Rattle.std.specs.Prelude.{◌≡◌, ◌≢◌, ℕ, ◌+◌, ◌-◌, ◌*◌, ◌^◌, ◌<◌, ◌≤◌, ◌%◌, ◌⊎◌, ◌↔◌, Bool, true, false, ◌==◌, IsTrue, nat_lt, List, [], ◌∷◌, ◌++◌, length, max, Option, Some, None, IfSome, IsSome, IsSomeAnd, slice_index, take, drop, if◌then◌else◌, Contains}
+use Rattle.std.specs.Prelude.{◌≡◌, ◌≢◌, ℕ, ◌+◌, ◌<◌, ◌≤◌, ◌%◌, ◌⊎◌, ◌↔◌, Bool, false, ◌==◌, IsTrue, nat_lt, List, [], ◌∷◌, length, max, Option, Some, None, IfSome, IsSome, slice_index, take, drop, if◌then◌else◌, Contains}
 use Rattle.std.specs.List.{AllByRecursion}
 use mathlib.Core.Option.{some}
 use lib.ListN.{get_elem?}
-use Rattle.reg_model.specs.Interval.{Interval}
-use Rattle.reg_model.specs.State.{State, IsFree}
 use Rattle.reg_model.specs.History.{state_after, state_at}
 use Rattle.reg_model.specs.Receipt.{moment}
 use Rattle.reg_model.specs.declared.answer.Update.{Update}
 use Rattle.reg_model.specs.declared.answer.Receipt.{Receipt}
 use Rattle.reg_model.specs.declared.span.Member.{Member}
-use Rattle.tree_shape.specs.Shapes.{Shape, Body, Link, Pairs, Entries, entries_of, pairs_of}
+use Rattle.tree_shape.specs.Shapes.{Shape, Body, Link, Pairs, Entries, entries_of}
 use Rattle.tree_shape.specs.Trees.{Contents, HasEntry}
 use Rattle.tree_shape.specs.Numbers.{times, once}
 use Rattle.tree_shape.specs.Lawful.{IsLawful}
@@ -23,9 +21,9 @@ use Rattle.word_rule.specs.declared.views.Sight.{Sight}
 use Rattle.word_rule.specs.declared.views.CopySight.{CopySight}
 use Rattle.word_rule.specs.declared.views.Loaded.{Loaded}
 use Rattle.word_rule.specs.declared.views.Mark.{Mark}
-use Rattle.word_rule.specs.Places.{CLOCK, HEAD, node_place, copy_place, copy_words, copy_at, lower, upper}
-use Rattle.word_rule.specs.Spelling.{Spells, member_at}
-use Rattle.word_rule.specs.Held.{held_of, is_listed}
+use Rattle.word_rule.specs.Places.{CLOCK, HEAD, node_place, copy_at, upper}
+use Rattle.word_rule.specs.Spelling.{Spells}
+use Rattle.word_rule.specs.Held.{held_of}
 use Rattle.word_rule.specs.Sights.{place_of}
 use Rattle.word_rule.specs.Rule.{total, Callers, IsLockedAt, start}
 
@@ -127,9 +125,9 @@ ActiveCopy t words history = (members : List Member) ×
     (Lists (copy_at t words (upper (slice_index words CLOCK) % 2)) members × ((m : Member) → Contains members m ↔ Contains (state_after (start t) history).loaded m)
     × (length members ≡ length (state_after (start t) history).loaded))
 
--- while the upper half of the clock is a sight's guard, the words of that copy are as loaded
+-- A sight of a copy has words of copies alone; while the upper half of the clock is its guard, they are as loaded.
 abbrev pub CopySightHolds : Terms → List ℕ → CopySight → Type 0
-CopySightHolds t words s = (s.guard ≤ upper (slice_index words CLOCK)) × (s.guard ≡ upper (slice_index words CLOCK) → AreLoaded words 0 s.words)
+CopySightHolds t words s = (s.guard ≤ upper (slice_index words CLOCK)) × AllByRecursion (λ w. 4 ≤ w.at) s.words × (s.guard ≡ upper (slice_index words CLOCK) → AreLoaded words 0 s.words)
 
 -- A load of a full node's count by one that held it live, whose words spelled its settled content: at some moment not
 -- before the receipts that the caller had then, ten members were registered.
@@ -157,10 +155,11 @@ pub record Looks (t : Terms) (words : List ℕ) (history : List Update) (shadow 
   -- the head that is kept is the head, while the root's lock is held
   pub head : IsSome (held_of 0 v.held) → IfSome v.head (λ h. slice_index words HEAD ≡ h)
 
--- The whole invariant.
+-- The whole invariant: there is one history, the same for all.
 pub record Table (t : Terms) (words : List ℕ) (views : List Log) : Type 0 where
-  pub callers : Callers t words views
+  pub history : List Update
+  pub callers : Callers t words views history
   pub shadow : Shadow
-  pub nodes : Nodes t words views callers.history shadow
-  pub active : ActiveCopy t words callers.history
-  pub looks : (id : ℕ) (v : Log) → get_elem? views id ≡ some v → Looks t words callers.history shadow v
+  pub nodes : Nodes t words views history shadow
+  pub active : ActiveCopy t words history
+  pub looks : (id : ℕ) (v : Log) → get_elem? views id ≡ some v → Looks t words history shadow v

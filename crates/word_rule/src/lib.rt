@@ -28,5 +28,7 @@ mod views;
 mod words;
 
 pub use caller::{Caller, Note};
-pub use views::{Ask, Kinship, Load, LoaderHolding, Loaded, LockId, Log, CopySight, Holding, Mark, Sight, Terms};
+pub use views::{
+    Ask, CopySight, Holding, Kinship, Load, Loaded, LoaderHolding, LockId, Log, Mark, Sight, Terms,
+};
 pub use words::Words;

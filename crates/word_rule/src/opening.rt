@@ -26,7 +26,11 @@ fn opening_node(nodes: u32, n: u32) -> [u64; 36]
     ensures { result ≡ opening_node nodes n }
 {
     let kind = if n == 0 { LEAF } else { FREE };
-    let link = if n == 0 || n + 1 == nodes { 0 } else { n as u64 + 1 };
+    let link = if n == 0 || n + 1 == nodes {
+        0
+    } else {
+        n as u64 + 1
+    };
     let mut words = [0; NODE_WORDS];
     words[KIND] = kind;
     words[HIGH] = u64::MAX;

@@ -21,9 +21,9 @@ pub(crate) struct Law;
 impl TableRule<(), Log, Snapshot<Made>> for Law {
     ghost use Rattle.word_rule.specs.Key.{terms_of};
     ghost use Rattle.word_rule.specs.Logs.{first_log};
-    ghost use Rattle.word_rule.specs.Rule.{Callers};
+    ghost use Rattle.word_rule.specs.Table.{Table};
 
-    ghost holds = { λ key s. Callers (terms_of key.value) s.words s.views };
+    ghost holds = { λ key s. Table (terms_of key.value) s.words s.views };
 
     ghost first = { λ key. first_log (terms_of key.value) };
 }

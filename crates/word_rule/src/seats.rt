@@ -100,9 +100,7 @@ impl Words {
                 kin,
             });
         }
-        self.table
-            .shared
-            .join_seat::<Merges>(&mut me.seat, seat);
+        self.table.shared.join_seat::<Merges>(&mut me.seat, seat);
         self.settle(&mut me.seat);
         me.left += left;
         me.seen = me.seen.max(seen);
@@ -129,9 +127,7 @@ impl Words {
                 kin,
             });
         }
-        self.table
-            .shared
-            .join_seat::<Learns>(&mut me.seat, seat);
+        self.table.shared.join_seat::<Learns>(&mut me.seat, seat);
         me.seen = me.seen.max(noted);
         Ok(())
     }

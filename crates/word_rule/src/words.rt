@@ -77,9 +77,7 @@ impl Words {
     {
         let _ = lock;
         let _ = ask;
-        self.table
-            .shared
-            .load::<Looks>(&mut me.seat, LOADER_WORD)
+        self.table.shared.load::<Looks>(&mut me.seat, LOADER_WORD)
     }
 
     /// Takes a lock whose word is still the one seen, which was not locked. Else answers the word found.
@@ -91,7 +89,8 @@ impl Words {
         ensures err { IfErr result (λ found. (found ≢ seen) × (me.new ≡ record me.old { log = after_load LOADER found me.old.log })) }
     {
         let _ = lock;
-        let found = self.table
+        let found = self
+            .table
             .shared
             .compare_exchange::<Locks>(&mut me.seat, LOADER_WORD, seen, seen | LOCKED);
         if found != seen {

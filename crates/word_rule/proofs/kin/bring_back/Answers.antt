@@ -1,4 +1,4 @@
-use Rattle.std.proofs.Common.{rules, ◌≡◌, ◌∙◌, sym, refl, arith}
+use Rattle.std.proofs.Common.{rules, ◌∙◌, sym, refl}
 use Rattle.word_rule.proofs.Names.{back_new, back_known}
 use Rattle.word_rule.proofs.kin.bring_back.Goals as goal
 

@@ -1,4 +1,4 @@
-use Rattle.std.proofs.Common.{rules, ◌≡◌, [], sym, ◌∙◌}
+use Rattle.std.proofs.Common.{rules, [], sym, ◌∙◌}
 use Rattle.word_rule.proofs.Names.{finds, passed_all}
 use Rattle.word_rule.proofs.kin.has_first.Goals as goal
 

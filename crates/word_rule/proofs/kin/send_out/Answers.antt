@@ -1,4 +1,4 @@
-use Rattle.std.proofs.Common.{rules, ◌≡◌, ◌∙◌, sym, refl, arith}
+use Rattle.std.proofs.Common.{rules, ◌∙◌, sym, refl}
 use Rattle.word_rule.proofs.Names.{out_new, out_known}
 use Rattle.word_rule.proofs.kin.send_out.Goals as goal
 

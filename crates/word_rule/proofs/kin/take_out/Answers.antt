@@ -1,4 +1,4 @@
-use Rattle.std.proofs.Common.{rules, ◌≡◌, ap, ◌∙◌, sym}
+use Rattle.std.proofs.Common.{rules, ap, ◌∙◌, sym}
 use Rattle.word_rule.specs.Names.{is_in, without}
 use Rattle.word_rule.proofs.Names.{finds, passed_all}
 use Rattle.word_rule.proofs.kin.take_out.Goals as goal

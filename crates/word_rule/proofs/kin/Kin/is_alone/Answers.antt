@@ -1,4 +1,4 @@
-use Rattle.std.proofs.Common.{rules, ◌≡◌, ◌∙◌, sym, [], length, arith, ℕ, vec_len, eqb→eq, T}
+use Rattle.std.proofs.Common.{◌≡◌, ◌∙◌, sym, [], length, arith}
 use Rattle.std.proofs.lemmas.List.{nil_from_length}
 use Rattle.std.proofs.lemmas.Grind.{common_steps}
 use Rattle.word_rule.proofs.Names.{in_from_times, times_from_in}

@@ -1,4 +1,4 @@
-use Rattle.std.proofs.Common.{rules, ◌≡◌, sym, ap, ◌∙◌, subst, length}
+use Rattle.std.proofs.Common.{sym, ap, ◌∙◌, subst, length}
 use Rattle.word_rule.specs.Rule.{IsAlone, IsWhole}
 use Rattle.word_rule.proofs.Alone.{closes}
 use Rattle.word_rule.proofs.words.Words.close.Goals as goal

@@ -1,22 +1,33 @@
-use Rattle.std.proofs.Common.{rules, ◌≡◌, ◌<◌, sym, ap, ◌∙◌, subst, arith}
+use Rattle.std.proofs.Common.{sym, ap, ◌∙◌, arith}
 use Rattle.word_rule.proofs.Comings.{learns}
 use Rattle.word_rule.proofs.words.Words.learn.Goals as goal
 
 pub invariant_of-result : goal.invariant_of-result
 invariant_of-result c = let i = c.note.invariant in record {
-  bare = i.bare; seen_all = i.seen_all;
+  bare = i.bare;
+  seen_all = i.seen_all;
   kin_is = (c.in-Err.ensures.err _ _ c.me.invariant.kin_is i.kin_is).1;
   note = i.note;
 }
 
 pub invariant_of-me : goal.invariant_of-me
 invariant_of-me c = let i = c.me.invariant in record {
-  bare = i.bare; stands = i.stands; seen_all = i.seen_all; allowed = i.allowed; most = i.most; credit = i.credit;
+  bare = i.bare;
+  stands = i.stands;
+  seen_all = i.seen_all;
+  allowed = i.allowed;
+  most = i.most;
+  credit = i.credit;
   kin_is = (c.in-Err.ensures.err _ _ i.kin_is c.note.invariant.kin_is).0;
-  wide = i.wide; loader = i.loader;
+  wide = i.wide;
+  loader = i.loader;
 }
 
 pub join_seat-requires : goal.join_seat-requires
-join_seat-requires c =
-    (ap (λ k. k.table) c.me.view_is ∙ (c.requires.table ∙ sym (ap (λ k. k.table) c.self.view_is)), ap (λ k. k.table) c.note.view_is ∙ (c.requires.note ∙ sym (ap (λ k. k.table) c.self.view_is)), c.note.invariant.bare,
-      omega (arith, c.self.invariant.1), learns _ _ _ _ _ c.me.invariant.stands c.note.invariant.note)
+join_seat-requires c = (
+  ap (λ k. k.table) c.me.view_is ∙ (c.requires.table ∙ sym (ap (λ k. k.table) c.self.view_is)),
+  ap (λ k. k.table) c.note.view_is ∙ (c.requires.note ∙ sym (ap (λ k. k.table) c.self.view_is)),
+  c.note.invariant.bare,
+  omega (arith, c.self.invariant.1),
+  learns _ _ _ c.me.invariant.stands _ _ c.note.invariant.note,
+)

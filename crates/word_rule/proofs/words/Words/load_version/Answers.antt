@@ -1,4 +1,4 @@
-use Rattle.std.proofs.Common.{rules, ◌≡◌, ◌<◌, sym, ap, ◌∙◌, subst, arith}
+use Rattle.std.proofs.Common.{sym, ap, ◌∙◌, arith}
 use Rattle.word_rule.proofs.Loader.{loads_loader}
 use Rattle.word_rule.proofs.words.Words.load_version.Goals as goal
 

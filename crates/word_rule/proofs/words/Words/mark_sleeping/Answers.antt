@@ -1,4 +1,4 @@
-use Rattle.std.proofs.Common.{◌≡◌, ◌<◌, sym, ap, ◌∙◌, arith}
+use Rattle.std.proofs.Common.{sym, ap, ◌∙◌, arith}
 use Rattle.word_rule.proofs.Loader.{marks_by_bits}
 use Rattle.word_rule.proofs.words.Words.mark_sleeping.Goals as goal
 

@@ -1,19 +1,19 @@
-use Rattle.std.proofs.Common.{rules, ◌≡◌, length, List, ℕ, [], ◌∷◌, sym, ap, ◌∙◌, subst}
+use Rattle.std.proofs.Common.{length, List, ℕ, [], ◌∷◌, sym, ap, ◌∙◌, subst}
 use Rattle.word_rule.specs.declared.rule.Made.{Made}
 use Rattle.word_rule.specs.declared.views.Terms.{Terms}
 use Rattle.word_rule.specs.Key.{terms_of}
 use Rattle.word_rule.specs.Logs.{first_log}
-use Rattle.word_rule.specs.Places.{word_count}
-use Rattle.word_rule.specs.Rule.{Callers}
-use Rattle.word_rule.proofs.Begins.{begins, opening_length}
+use Rattle.word_rule.specs.Table.{Table}
+use Rattle.word_rule.proofs.Begins.{opening_length}
+use Rattle.word_rule.proofs.WholeBegins.{whole_begins}
 use Rattle.word_rule.proofs.words.Words.new.Goals as goal
 
 pub of_words-requires : goal.of_words-requires
 of_words-requires c =
     let t : Terms = record { nodes = c.args.nodes; loads = c.args.loads; payloads = c.args.payloads; fixed = c.args.fixed.items } in
-    subst (λ (m : Made). Callers (terms_of m) c.as_slice.result.now (first_log (terms_of m) ∷ [])) (sym c.of-key.ensures)
-        (subst (λ (w : List ℕ). Callers t w (first_log t ∷ [])) (sym (c.as_slice.ensures.value ∙ c.in_ok-words.ensures))
-            (begins t (record { nodes = c.requires.nodes; loads = c.requires.loads; fixed = c.requires.ascending; payloads = c.requires.payloads })))
+    subst (λ (m : Made). Table (terms_of m) c.as_slice.result.now (first_log (terms_of m) ∷ [])) (sym c.of-key.ensures)
+    (subst (λ (w : List ℕ). Table t w (first_log t ∷ [])) (sym (c.as_slice.ensures.value ∙ c.in_ok-words.ensures))
+    (whole_begins t (record { nodes = c.requires.nodes; loads = c.requires.loads; fixed = c.requires.ascending; payloads = c.requires.payloads })))
 
 pub invariant_of-result : goal.invariant_of-result
 invariant_of-result c =

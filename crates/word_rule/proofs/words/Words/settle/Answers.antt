@@ -1,4 +1,4 @@
-use Rattle.std.proofs.Common.{rules, ◌≡◌, ◌<◌, sym, ap, ◌∙◌, arith}
+use Rattle.std.proofs.Common.{sym, ap, ◌∙◌, arith}
 use Rattle.word_rule.proofs.Alone.{settles_loads}
 use Rattle.word_rule.proofs.words.Words.settle.Goals as goal
 

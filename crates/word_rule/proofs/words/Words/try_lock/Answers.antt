@@ -1,4 +1,4 @@
-use Rattle.std.proofs.Common.{◌≡◌, ◌<◌, sym, ap, ◌∙◌, arith}
+use Rattle.std.proofs.Common.{sym, ap, ◌∙◌, arith}
 use Rattle.word_rule.proofs.Loader.{locks_by_bit}
 use Rattle.word_rule.proofs.words.Words.try_lock.Goals as goal
 
