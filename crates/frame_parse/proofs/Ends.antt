@@ -1,0 +1,238 @@
+-- LEB128 numbers and texts are exact.
+use Rattle.std.proofs.Common.{◌≡◌, ℕ, suc, ◌+◌, ◌^◌, ◌<◌, ◌≤◌, ◌⊎◌, ℤ, List, [], ◌∷◌, ◌++◌, length, take, drop, Bool, true, false, cond, Option, Some, None, Ok, Err, nat_lt, nat_eq, refl, sym, ap, subst, ◌∙◌, append_assoc, length-append, arith, inl, inr}
+use Rattle.std.specs.Option.{option_map}
+use Rattle.std.proofs.lemmas.Bool.{ltb-false, ltb-true, le-ltb, lt-ltb, eqb-true}
+use Rattle.std.proofs.lemmas.List.{take-append-drop, take_at, drop_at, length-take}
+use Rattle.eh_bytes.specs.declared.fault.ByteFault.{ByteFault}
+use Rattle.eh_bytes.specs.declared.fault.ByteFault.TheVariants as bytes
+use Rattle.eh_bytes.specs.Rest.{Rest, after, text_len, text_of, text_at}
+use Rattle.eh_bytes.specs.Leb.{leb_len, uleb_value, sleb_value, fits_signed, uleb_of, uleb_at, sleb_of, sleb_at}
+use Rattle.frame_parse.specs.declared.fault.FrameFault.{FrameFault}
+use Rattle.frame_parse.specs.Fields.{fault_in, placed, IsLeb, uleb, sleb, text}
+use Rattle.frame_parse.proofs.Exact.{left, Takes, IsExact, ok_is}
+use Rattle.frame_parse.proofs.Leaves.{placed_ok, placed_err, fits_ok, fits_err}
+
+-- ---- where a number ends
+
+map_suc : (o : Option ℕ) (n : ℕ) → option_map suc o ≡ Some n → (m : ℕ) × (o ≡ Some m) × (suc m ≡ n)
+map_suc None n e = absurd cc
+map_suc (Some m) n e = (m, refl, cc)
+
+leb_grow : (b : Bool) (o more : Option ℕ) (n : ℕ) → ((m : ℕ) → o ≡ Some m → more ≡ Some m) → cond b (Some 1) (option_map suc o) ≡ Some n → cond b (Some 1) (option_map suc more) ≡ Some n
+leb_grow true o more n h e = e
+leb_grow false o more n h e = let a = map_suc o n e in ap (option_map suc) (h a.0 a.1) ∙ ap (λ (k : ℕ). Some k) a.2
+
+-- a number goes no further where more bytes follow
+pub leb_len-append : (xs ys : List ℕ) (n : ℕ) → leb_len xs ≡ Some n → leb_len (xs ++ ys) ≡ Some n
+unfolding leb_len
+leb_len-append [] ys n e = absurd cc
+leb_len-append (b ∷ bs) ys n e = leb_grow (nat_lt b 128) (leb_len bs) (leb_len (bs ++ ys)) n (leb_len-append bs ys) e
+
+leb_take : (b : ℕ) (bs : List ℕ) (n : ℕ) (t : Bool) → nat_lt b 128 ≡ t → ((m : ℕ) → leb_len bs ≡ Some m → (m ≤ length bs) × (leb_len (take m bs) ≡ Some m))
+    → cond t (Some 1) (option_map suc (leb_len bs)) ≡ Some n → (n ≤ suc (length bs)) × (leb_len (take n (b ∷ bs)) ≡ Some n)
+unfolding leb_len
+leb_take b bs n true low more e =
+    let same : 1 ≡ n = cc in
+    subst (λ (k : ℕ). (k ≤ suc (length bs)) × (leb_len (take k (b ∷ bs)) ≡ Some k)) same (omega arith, rw low refl)
+leb_take b bs n false high more e =
+    let a = map_suc (leb_len bs) n e in
+    let h = more a.0 a.1 in
+    subst (λ (k : ℕ). (k ≤ suc (length bs)) × (leb_len (take k (b ∷ bs)) ≡ Some k)) a.2 (omega (arith, h.0), rw (high, h.1) refl)
+
+-- the bytes up to the end of a number are one number
+pub leb_len-take : (xs : List ℕ) (n : ℕ) → leb_len xs ≡ Some n → (n ≤ length xs) × (leb_len (take n xs) ≡ Some n)
+unfolding leb_len
+leb_len-take [] n e = absurd cc
+leb_len-take (b ∷ bs) n e = leb_take b bs n (nat_lt b 128) refl (leb_len-take bs) e
+
+IsLeb-take : (xs : List ℕ) (n : ℕ) → leb_len xs ≡ Some n → (length (take n xs) ≡ n) × IsLeb (take n xs)
+IsLeb-take xs n e =
+    let a = leb_len-take xs n e in
+    let size : length (take n xs) ≡ n = omega (arith, a.0, length-take n xs) in
+    (size, a.1 ∙ ap (λ (k : ℕ). Some k) (sym size))
+
+-- ---- unsigned numbers
+
+uleb_some : (r : Rest) (o : Option ℕ) (x : ℕ) (behind : Rest) → uleb_of r o ≡ Ok (x, behind)
+    → (n : ℕ) × (o ≡ Some n) × (nat_lt (uleb_value (take n r.bytes)) (2 ^ 64) ≡ true) × (let made : ℕ × Rest = (uleb_value (take n r.bytes), after n r) in made ≡ (x, behind))
+unfolding uleb_of
+uleb_some r None x behind e = absurd cc
+uleb_some r (Some n) x behind e =
+    let g = fits_ok (nat_lt (uleb_value (take n r.bytes)) (2 ^ 64)) (bytes.TooWide r.at) (uleb_value (take n r.bytes), after n r) (x, behind) e in
+    (n, refl, g.0, g.1)
+
+uleb_none : (r : Rest) (o : Option ℕ) (e : ByteFault) → uleb_of r o ≡ Err e
+    → ((o ≡ None) × (e ≡ bytes.Short r.at)) ⊎ ((n : ℕ) × (o ≡ Some n) × (nat_lt (uleb_value (take n r.bytes)) (2 ^ 64) ≡ false) × (e ≡ bytes.TooWide r.at))
+unfolding uleb_of
+uleb_none r None e same = inl (refl, sym (let made : bytes.Short r.at ≡ e = cc in made))
+uleb_none r (Some n) e same =
+    let g = fits_err (nat_lt (uleb_value (take n r.bytes)) (2 ^ 64)) (bytes.TooWide r.at) e (uleb_value (take n r.bytes), after n r) same in
+    inr (n, refl, g.0, g.1)
+
+pub uleb_exact : (start : ℕ) → IsExact (uleb start)
+unfolding uleb_of
+uleb_exact start = record {
+  takes = λ r x behind e.
+      let a = uleb_some r (leb_len r.bytes) x behind (placed_ok start (uleb_at r) (x, behind) e) in
+      let leb = IsLeb-take r.bytes a.0 a.1 in
+      let made : Takes (uleb start) r (uleb_value (take a.0 r.bytes)) (after a.0 r) = record {
+        front = take a.0 r.bytes;
+        parts = sym (take-append-drop a.0 r.bytes);
+        place = omega (arith, leb.0);
+        spells = (leb.1, ltb-true _ _ a.2, refl);
+      } in
+      subst (λ (z : ℕ × Rest). Takes (uleb start) r z.0 z.1) a.3 made;
+  refuses = λ r f e.
+      let p = placed_err start (uleb_at r) f e in
+      elim (uleb_none r (leb_len r.bytes) p.0 p.1) [
+        | inl a ↦ inl (a.0, p.2 ∙ ap (fault_in start) a.1)
+        | inr a ↦
+            let leb = IsLeb-take r.bytes a.0 a.1 in
+            inr (take a.0 r.bytes, drop a.0 r.bytes, sym (take-append-drop a.0 r.bytes), leb.1, ltb-false _ _ a.2, p.2 ∙ ap (fault_in start) a.3)
+      ];
+  again = λ p front back x s.
+      let ends = leb_len-append front back (length front) s.0 in
+      let held : take (length front) (front ++ back) ≡ front = take_at front back (length front) refl in
+      let behind : drop (length front) (front ++ back) ≡ back = drop_at front back (length front) refl in
+      let fits : (nat_lt (uleb_value front) (2 ^ 64)) ≡ true = lt-ltb _ _ s.1 in
+      rw (ends, held, behind, fits, s.2) refl;
+  refused = λ p bytes f s.
+      elim s [
+        | inl a ↦ rw a.0 (ap (λ (v : FrameFault). Err v) (sym a.1))
+        | inr a ↦
+            let ends : leb_len bytes ≡ Some (length a.0) = ap leb_len a.2 ∙ leb_len-append a.0 a.1 (length a.0) a.3 in
+            let held : take (length a.0) bytes ≡ a.0 = ap (take (length a.0)) a.2 ∙ take_at a.0 a.1 (length a.0) refl in
+            let wide : (nat_lt (uleb_value a.0) (2 ^ 64)) ≡ false = le-ltb _ _ a.4 in
+            rw (ends, held, wide) (ap (λ (v : FrameFault). Err v) (sym a.5))
+      ];
+}
+
+-- ---- signed numbers
+
+sleb_some : (r : Rest) (o : Option ℕ) (x : ℤ) (behind : Rest) → sleb_of r o ≡ Ok (x, behind)
+    → (n : ℕ) × (o ≡ Some n) × (fits_signed (sleb_value (take n r.bytes)) ≡ true) × (let made : ℤ × Rest = (sleb_value (take n r.bytes), after n r) in made ≡ (x, behind))
+unfolding sleb_of
+sleb_some r None x behind e = absurd cc
+sleb_some r (Some n) x behind e =
+    let g = fits_ok (fits_signed (sleb_value (take n r.bytes))) (bytes.TooWide r.at) (sleb_value (take n r.bytes), after n r) (x, behind) e in
+    (n, refl, g.0, g.1)
+
+sleb_none : (r : Rest) (o : Option ℕ) (e : ByteFault) → sleb_of r o ≡ Err e
+    → ((o ≡ None) × (e ≡ bytes.Short r.at)) ⊎ ((n : ℕ) × (o ≡ Some n) × (fits_signed (sleb_value (take n r.bytes)) ≡ false) × (e ≡ bytes.TooWide r.at))
+unfolding sleb_of
+sleb_none r None e same = inl (refl, sym (let made : bytes.Short r.at ≡ e = cc in made))
+sleb_none r (Some n) e same =
+    let g = fits_err (fits_signed (sleb_value (take n r.bytes))) (bytes.TooWide r.at) e (sleb_value (take n r.bytes), after n r) same in
+    inr (n, refl, g.0, g.1)
+
+pub sleb_exact : (start : ℕ) → IsExact (sleb start)
+unfolding sleb_of
+sleb_exact start = record {
+  takes = λ r x behind e.
+      let a = sleb_some r (leb_len r.bytes) x behind (placed_ok start (sleb_at r) (x, behind) e) in
+      let leb = IsLeb-take r.bytes a.0 a.1 in
+      let made : Takes (sleb start) r (sleb_value (take a.0 r.bytes)) (after a.0 r) = record {
+        front = take a.0 r.bytes;
+        parts = sym (take-append-drop a.0 r.bytes);
+        place = omega (arith, leb.0);
+        spells = (leb.1, a.2, refl);
+      } in
+      subst (λ (z : ℤ × Rest). Takes (sleb start) r z.0 z.1) a.3 made;
+  refuses = λ r f e.
+      let p = placed_err start (sleb_at r) f e in
+      elim (sleb_none r (leb_len r.bytes) p.0 p.1) [
+        | inl a ↦ inl (a.0, p.2 ∙ ap (fault_in start) a.1)
+        | inr a ↦
+            let leb = IsLeb-take r.bytes a.0 a.1 in
+            inr (take a.0 r.bytes, drop a.0 r.bytes, sym (take-append-drop a.0 r.bytes), leb.1, a.2, p.2 ∙ ap (fault_in start) a.3)
+      ];
+  again = λ p front back x s.
+      let ends = leb_len-append front back (length front) s.0 in
+      let held : take (length front) (front ++ back) ≡ front = take_at front back (length front) refl in
+      let behind : drop (length front) (front ++ back) ≡ back = drop_at front back (length front) refl in
+      let fits : (fits_signed (sleb_value front)) ≡ true = s.1 in
+      rw (ends, held, behind, fits, s.2) refl;
+  refused = λ p bytes f s.
+      elim s [
+        | inl a ↦ rw a.0 (ap (λ (v : FrameFault). Err v) (sym a.1))
+        | inr a ↦
+            let ends : leb_len bytes ≡ Some (length a.0) = ap leb_len a.2 ∙ leb_len-append a.0 a.1 (length a.0) a.3 in
+            let held : take (length a.0) bytes ≡ a.0 = ap (take (length a.0)) a.2 ∙ take_at a.0 a.1 (length a.0) refl in
+            let wide : (fits_signed (sleb_value a.0)) ≡ false = a.4 in
+            rw (ends, held, wide) (ap (λ (v : FrameFault). Err v) (sym a.5))
+      ];
+}
+
+-- ---- texts
+
+text_take : (b : ℕ) (bs : List ℕ) (n : ℕ) (t : Bool) → nat_eq b 0 ≡ t
+    → ((m : ℕ) → text_len bs ≡ Some m → (m < length bs) × (text_len (take m bs) ≡ None) × (bs ≡ take m bs ++ 0 ∷ drop (m + 1) bs))
+    → cond t (Some 0) (option_map suc (text_len bs)) ≡ Some n
+    → (n < suc (length bs)) × (text_len (take n (b ∷ bs)) ≡ None) × (b ∷ bs ≡ take n (b ∷ bs) ++ 0 ∷ drop (n + 1) (b ∷ bs))
+unfolding text_len
+text_take b bs n true low more e =
+    let same : 0 ≡ n = cc in
+    let none : b ≡ 0 = eqb-true _ _ low in
+    subst (λ (k : ℕ). (k < suc (length bs)) × (text_len (take k (b ∷ bs)) ≡ None) × (b ∷ bs ≡ take k (b ∷ bs) ++ 0 ∷ drop (k + 1) (b ∷ bs))) same (omega arith, refl, ap (λ (k : ℕ). k ∷ bs) none)
+text_take b bs n false high more e =
+    let a = map_suc (text_len bs) n e in
+    let h = more a.0 a.1 in
+    let tail : drop (a.0 + 1) bs ≡ drop (suc a.0 + 1) (b ∷ bs) = let k : suc a.0 + 1 ≡ suc (a.0 + 1) = omega arith in rw k refl in
+    let whole : b ∷ bs ≡ b ∷ (take a.0 bs ++ 0 ∷ drop (suc a.0 + 1) (b ∷ bs)) = ap (λ (l : List ℕ). b ∷ l) (h.2 ∙ ap (λ (l : List ℕ). take a.0 bs ++ 0 ∷ l) tail) in
+    subst (λ (k : ℕ). (k < suc (length bs)) × (text_len (take k (b ∷ bs)) ≡ None) × (b ∷ bs ≡ take k (b ∷ bs) ++ 0 ∷ drop (k + 1) (b ∷ bs))) a.2 (omega (arith, h.0), rw (high, h.1) refl, whole)
+
+-- what stands before the first 0, and behind it
+text_len-take : (xs : List ℕ) (n : ℕ) → text_len xs ≡ Some n → (n < length xs) × (text_len (take n xs) ≡ None) × (xs ≡ take n xs ++ 0 ∷ drop (n + 1) xs)
+unfolding text_len
+text_len-take [] n e = absurd cc
+text_len-take (b ∷ bs) n e = text_take b bs n (nat_eq b 0) refl (text_len-take bs) e
+
+text_step : (t : Bool) (o more : Option ℕ) (k : ℕ) → (o ≡ None → more ≡ Some k) → cond t (Some 0) (option_map suc o) ≡ None → cond t (Some 0) (option_map suc more) ≡ Some (suc k)
+text_step true o more k h e = absurd cc
+text_step false None more k h e = let found : more ≡ Some k = h refl in rw found refl
+text_step false (Some m) more k h e = absurd cc
+
+text_len-whole : (xs ys : List ℕ) → text_len xs ≡ None → text_len (xs ++ 0 ∷ ys) ≡ Some (length xs)
+unfolding text_len
+text_len-whole [] ys e = refl
+text_len-whole (b ∷ bs) ys e = text_step (nat_eq b 0) (text_len bs) (text_len (bs ++ 0 ∷ ys)) (length bs) (text_len-whole bs ys) e
+
+text_some : (r : Rest) (o : Option ℕ) (x : List ℕ) (behind : Rest) → text_of r o ≡ Ok (x, behind)
+    → (n : ℕ) × (o ≡ Some n) × (let made : List ℕ × Rest = (take n r.bytes, after (n + 1) r) in made ≡ (x, behind))
+unfolding text_of
+text_some r None x behind e = absurd cc
+text_some r (Some n) x behind e = (n, refl, ok_is {F = ByteFault} (take n r.bytes, after (n + 1) r) (x, behind) e)
+
+text_none : (r : Rest) (o : Option ℕ) (e : ByteFault) → text_of r o ≡ Err e → (o ≡ None) × (e ≡ bytes.Short r.at)
+unfolding text_of
+text_none r None e same = (refl, sym (let made : bytes.Short r.at ≡ e = cc in made))
+text_none r (Some n) e same = absurd cc
+
+pub text_exact : (start : ℕ) → IsExact (text start)
+unfolding text_of
+text_exact start = record {
+  takes = λ r x behind e.
+      let a = text_some r (text_len r.bytes) x behind (placed_ok start (text_at r) (x, behind) e) in
+      let t = text_len-take r.bytes a.0 a.1 in
+      let made : Takes (text start) r (take a.0 r.bytes) (after (a.0 + 1) r) = record {
+        front = take a.0 r.bytes ++ 0 ∷ [];
+        parts = t.2 ∙ sym (append_assoc (take a.0 r.bytes) (0 ∷ []) (drop (a.0 + 1) r.bytes));
+        place = omega (arith, t.0, length-take a.0 r.bytes, length-append (take a.0 r.bytes) (0 ∷ []));
+        spells = (t.1, refl);
+      } in
+      subst (λ (z : List ℕ × Rest). Takes (text start) r z.0 z.1) a.2 made;
+  refuses = λ r f e.
+      let p = placed_err start (text_at r) f e in
+      let a = text_none r (text_len r.bytes) p.0 p.1 in
+      (a.0, p.2 ∙ ap (fault_in start) a.1);
+  again = λ p front back x s.
+      let regrouped : front ++ back ≡ x ++ 0 ∷ back = ap (λ (l : List ℕ). l ++ back) s.1 ∙ append_assoc x (0 ∷ []) back in
+      let ends : text_len (x ++ 0 ∷ back) ≡ Some (length x) = text_len-whole x back s.0 in
+      let held : take (length x) (x ++ 0 ∷ back) ≡ x = take_at x (0 ∷ back) (length x) refl in
+      let size : length front ≡ length x + 1 = ap length s.1 ∙ length-append x (0 ∷ []) in
+      let behind : drop (length x + 1) (x ++ 0 ∷ back) ≡ back =
+      ap (drop (length x + 1)) (sym (append_assoc x (0 ∷ []) back)) ∙ drop_at (x ++ 0 ∷ []) back (length x + 1) (length-append x (0 ∷ [])) in
+      let whole : placed start (text_at (left p (x ++ 0 ∷ back))) ≡ Ok (x, left (p + (length x + 1)) back) = rw (ends, held, behind) refl in
+      ap (λ (l : List ℕ). placed start (text_at (left p l))) regrouped ∙ whole ∙ ap (λ (k : ℕ). Ok (x, left (p + k) back)) (sym size);
+  refused = λ p bytes f s. rw s.0 (ap (λ (v : FrameFault). Err v) (sym s.1));
+}

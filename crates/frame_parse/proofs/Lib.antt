@@ -1,0 +1,9 @@
+pub mod Exact
+pub mod Leaves
+pub mod Ends
+pub mod RecordParts
+pub mod Numbers
+pub mod Searches
+pub mod OneAnswer
+pub mod SoFar
+pub mod Covers

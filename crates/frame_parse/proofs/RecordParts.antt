@@ -1,0 +1,148 @@
+-- The fields, records and their lengths are exact, part by part.
+use Rattle.std.proofs.Common.{ℕ, ◌+◌, ◌%◌, ◌^◌, List, [], ◌∷◌, Bool, None, nat_lt}
+use Rattle.std.specs.Prelude.{◌==◌, ◌||◌, ◌&&◌, not}
+use Rattle.eh_bytes.specs.Pointer.{is_format}
+use Rattle.frame_parse.specs.declared.fault.FrameFault.TheVariants.{Short, TooWide, Encoding, NoCie, Version, Column, Range}
+use Rattle.frame_parse.specs.declared.fault.FrameFault.TheVariants as faults
+use Rattle.frame_parse.specs.declared.record.Augmentation.{Augmentation}
+use Rattle.frame_parse.specs.declared.record.CieRecord.{CieRecord}
+use Rattle.frame_parse.specs.Fields.{by_format, number, is_negative, pointer, optional_pointer, is_code_encoding, is_data_encoding, encoding}
+use Rattle.frame_parse.specs.Records.{is_augmentation, plain, letter, letters, augmentation_data, version, augmentation, return_column, cie, cie_behind, range, lsda, fde, content, record_length, whole_record}
+use Rattle.frame_parse.proofs.Exact.{IsExact, then_exact, give_exact, here_exact, when_exact, check_exact, found_exact, block_exact}
+use Rattle.frame_parse.proofs.Leaves.{fixed_exact, short_of_exact}
+use Rattle.frame_parse.proofs.Ends.{uleb_exact, sleb_exact, text_exact}
+
+by_format_exact : (start f : ℕ) → IsExact (by_format start f)
+by_format_exact start f =
+    when_exact _ _ _ (uleb_exact start)
+    (when_exact _ _ _ (fixed_exact start 2)
+    (when_exact _ _ _ (fixed_exact start 4)
+    (when_exact _ _ _ (then_exact _ _ (sleb_exact start) (λ x. give_exact _))
+    (when_exact _ _ _ (then_exact _ _ (fixed_exact start 2) (λ x. give_exact _))
+    (when_exact _ _ _ (then_exact _ _ (fixed_exact start 4) (λ x. give_exact _))
+    (fixed_exact start 8))))))
+
+pub number_exact : (start e : ℕ) → IsExact (number start e)
+unfolding number
+number_exact start e =
+    then_exact _ _ here_exact (λ at.
+    then_exact _ _ (check_exact (is_format (e % 16)) (Encoding start at (e % 16))) (λ _.
+    then_exact _ _ (by_format_exact start (e % 16)) (λ x. give_exact _)))
+
+pub pointer_exact : (start section e : ℕ) → IsExact (pointer start section e)
+unfolding pointer
+pointer_exact start section e = then_exact _ _ here_exact (λ at. then_exact _ _ (number_exact start e) (λ x. give_exact _))
+
+pub optional_pointer_exact : (start section e : ℕ) → IsExact (optional_pointer start section e)
+unfolding optional_pointer
+optional_pointer_exact start section e = then_exact _ _ here_exact (λ at. then_exact _ _ (number_exact start e) (λ x. give_exact _))
+
+pub encoding_exact : (start : ℕ) (accepts : ℕ → Bool) → IsExact (encoding start accepts)
+unfolding encoding
+encoding_exact start accepts =
+    then_exact _ _ here_exact (λ at.
+    then_exact _ _ (fixed_exact start 1) (λ e.
+    then_exact _ _ (check_exact (accepts e) (Encoding start at e)) (λ _. give_exact _)))
+
+-- ---- CIEs
+
+letter_exact : (start section l : ℕ) (a : Augmentation) → IsExact (letter start section l a)
+unfolding letter
+letter_exact start section l a =
+    when_exact _ _ _ (then_exact _ _ (encoding_exact start is_data_encoding) (λ e. give_exact _))
+    (when_exact _ _ _ (then_exact _ _ (encoding_exact start is_data_encoding) (λ e. then_exact _ _ (when_exact (e == 255) _ _ (give_exact None) (optional_pointer_exact start section e)) (λ q. give_exact _)))
+    (when_exact _ _ _ (then_exact _ _ (encoding_exact start is_code_encoding) (λ e. give_exact _))
+    (give_exact _)))
+
+letters_exact : (start section : ℕ) (ls : List ℕ) (a : Augmentation) → IsExact (letters start section ls a)
+unfolding letters
+letters_exact start section [] a = give_exact a
+letters_exact start section (l ∷ ls) a = then_exact _ _ (letter_exact start section l a) (λ b. letters_exact start section ls b)
+
+augmentation_data_exact : (start section : ℕ) (t : List ℕ) → IsExact (augmentation_data start section t)
+unfolding augmentation_data
+augmentation_data_exact start section [] = give_exact plain
+augmentation_data_exact start section (z ∷ ls) =
+    then_exact _ _ (uleb_exact start) (λ n.
+    then_exact _ _ here_exact (λ at.
+    block_exact (Short start at) n (letters start section ls plain) (letters_exact start section ls plain)))
+
+version_exact : (start : ℕ) → IsExact (version start)
+unfolding version
+version_exact start =
+    then_exact _ _ here_exact (λ at.
+    then_exact _ _ (fixed_exact start 1) (λ v.
+    then_exact _ _ (check_exact (v == 1 || v == 3) (Version start at v)) (λ _. give_exact v)))
+
+augmentation_exact : (start : ℕ) → IsExact (augmentation start)
+unfolding augmentation
+augmentation_exact start =
+    then_exact _ _ here_exact (λ at.
+    then_exact _ _ (text_exact start) (λ t.
+    then_exact _ _ (check_exact (is_augmentation t) (faults.Augmentation start at)) (λ _. give_exact t)))
+
+return_column_exact : (start v : ℕ) → IsExact (return_column start v)
+unfolding return_column
+return_column_exact start v =
+    then_exact _ _ here_exact (λ at.
+    then_exact _ _ (when_exact (v == 1) _ _ (fixed_exact start 1) (uleb_exact start)) (λ c. check_exact (c == 16) (Column start at c)))
+
+cie_exact : (start section end : ℕ) → IsExact (cie start section end)
+unfolding cie
+cie_exact start section end =
+    then_exact _ _ (version_exact start) (λ v.
+    then_exact _ _ (augmentation_exact start) (λ t.
+    then_exact _ _ (uleb_exact start) (λ code.
+    then_exact _ _ (sleb_exact start) (λ factor.
+    then_exact _ _ (return_column_exact start v) (λ _.
+    then_exact _ _ (augmentation_data_exact start section t) (λ a.
+    then_exact _ _ here_exact (λ at. give_exact _)))))))
+
+-- ---- FDEs
+
+range_exact : (start e first : ℕ) → IsExact (range start e first)
+unfolding range
+range_exact start e first =
+    then_exact _ _ here_exact (λ at.
+    then_exact _ _ (number_exact start e) (λ x.
+    then_exact _ _ (check_exact (not (is_negative e x) && nat_lt (first + x) (2 ^ 64)) (Range start at)) (λ _. give_exact x)))
+
+lsda_exact : (start section : ℕ) (c : CieRecord) → IsExact (lsda start section c)
+unfolding lsda
+lsda_exact start section c =
+    when_exact c.has_data _ _
+    (then_exact _ _ (uleb_exact start) (λ n.
+    then_exact _ _ here_exact (λ at.
+    block_exact (Short start at) n _ (when_exact (c.augmentation.lsda == 255 || n == 0) _ _ (give_exact None) (optional_pointer_exact start section c.augmentation.lsda)))))
+    (give_exact None)
+
+fde_exact : (start section end : ℕ) (c : CieRecord) → IsExact (fde start section end c)
+unfolding fde
+fde_exact start section end c =
+    then_exact _ _ (pointer_exact start section c.augmentation.pointers) (λ first.
+    then_exact _ _ (range_exact start c.augmentation.pointers first) (λ size.
+    then_exact _ _ (lsda_exact start section c) (λ l.
+    then_exact _ _ here_exact (λ at. give_exact _))))
+
+-- ---- records
+
+content_exact : (start section : ℕ) (earlier : List CieRecord) (end : ℕ) → IsExact (content start section earlier end)
+unfolding content
+content_exact start section earlier end =
+    then_exact _ _ here_exact (λ at.
+    then_exact _ _ (fixed_exact start 4) (λ id.
+    when_exact (id == 0) _ _
+    (then_exact _ _ (cie_exact start section end) (λ c. give_exact _))
+    (then_exact _ _ (found_exact (cie_behind earlier at id) (NoCie start at)) (λ c. then_exact _ _ (fde_exact start section end c) (λ f. give_exact _)))))
+
+record_length_exact : (start : ℕ) → IsExact (record_length start)
+unfolding record_length
+record_length_exact start = then_exact _ _ (short_of_exact start 4) (λ n. when_exact (n == 4294967295) _ _ (short_of_exact start 8) (give_exact n))
+
+pub whole_record_exact : (section : ℕ) (earlier : List CieRecord) → IsExact (whole_record section earlier)
+unfolding whole_record
+whole_record_exact section earlier =
+    then_exact _ _ here_exact (λ start.
+    then_exact _ _ (record_length_exact start) (λ n.
+    then_exact _ _ here_exact (λ at.
+    block_exact (Short start start) n _ (content_exact start section earlier (at + n)))))

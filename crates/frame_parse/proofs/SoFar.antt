@@ -1,0 +1,173 @@
+-- Between two records: the records so far stand at the front of the bytes.
+use Rattle.std.proofs.Common.{◌≡◌, ℕ, zero, suc, ◌+◌, ◌<◌, List, [], ◌∷◌, ◌++◌, length, get_or, true, false, Ok, Err, refl, sym, ap, subst, ◌∙◌, append_assoc, length-append, arith, inl, inr}
+use Rattle.std.proofs.lemmas.Bool.{cases_lt}
+use Rattle.std.proofs.lemmas.List.{append-nil}
+use Rattle.eh_bytes.specs.Rest.{Rest}
+use Rattle.frame_parse.specs.declared.fault.FrameFault.{FrameFault}
+use Rattle.frame_parse.specs.declared.record.CieRecord.{CieRecord}
+use Rattle.frame_parse.specs.declared.record.FdeRecord.{FdeRecord}
+use Rattle.frame_parse.specs.declared.record.Record.{Record}
+use Rattle.frame_parse.specs.declared.record.Record.TheVariants.{Cie, Fde}
+use Rattle.frame_parse.specs.Records.{whole_record}
+use Rattle.frame_parse.specs.Sections.{is_end, with_record, AreRecords, cies_of, fdes_of, IsSection, IsRefused, HasFdes, starts, IsAscending}
+use Rattle.frame_parse.proofs.Exact.{left, Takes}
+use Rattle.frame_parse.proofs.RecordParts.{whole_record_exact}
+use Rattle.frame_parse.proofs.OneAnswer.{cies-step, record_grows}
+use Rattle.frame_parse.proofs.Searches.{starts-length}
+
+pub record ReadSoFar (section : ℕ) (bytes : List ℕ) (cursor : Rest) (cies : List CieRecord) (fdes : List FdeRecord) : Type 0 where
+  pub records : List Record
+  pub front : List ℕ
+  pub parts : bytes ≡ front ++ cursor.bytes
+  pub place : cursor.at ≡ length front
+  pub spelled : AreRecords section 0 [] front records
+  pub cies_are : cies ≡ cies_of records
+  pub fdes_are : fdes ≡ fdes_of records
+  pub ascending : IsAscending (starts cies)
+  pub below : (i : ℕ) → i < length cies → get_or (starts cies) i 0 < cursor.at
+
+-- one record more at the end
+AreRecords-end : (section p : ℕ) (earlier : List CieRecord) (rs : List Record) (text front : List ℕ) (r : Record) → AreRecords section p earlier text rs
+    → (whole_record section (earlier ++ cies_of rs)).Spells (p + length text) front r → AreRecords section p earlier (text ++ front) (rs ++ r ∷ [])
+AreRecords-end section p earlier [] text front r s t =
+    let whole : text ++ front ≡ front ++ [] = ap (λ (l : List ℕ). l ++ front) s ∙ sym (append-nil front) in
+    let place : p + length text ≡ p = omega (arith, ap length s) in
+    let here : (whole_record section earlier).Spells p front r =
+    subst (λ (q : ℕ). (whole_record section earlier).Spells q front r) place
+    (subst (λ (cs : List CieRecord). (whole_record section cs).Spells (p + length text) front r) (append-nil earlier) t) in
+    (front, [], whole, here, refl)
+AreRecords-end section p earlier (q ∷ qs) text front r s t =
+    let whole : text ++ front ≡ s.0 ++ (s.1 ++ front) = ap (λ (l : List ℕ). l ++ front) s.2 ∙ append_assoc s.0 s.1 front in
+    let place : p + length text ≡ p + length s.0 + length s.1 = omega (arith, ap length s.2, length-append s.0 s.1) in
+    let there : (whole_record section (with_record earlier q ++ cies_of qs)).Spells (p + length s.0 + length s.1) front r =
+    subst (λ (k : ℕ). (whole_record section (with_record earlier q ++ cies_of qs)).Spells k front r) place
+    (subst (λ (cs : List CieRecord). (whole_record section cs).Spells (p + length text) front r) (cies-step earlier q qs) t) in
+    (s.0, s.1 ++ front, whole, s.3, AreRecords-end section (p + length s.0) (with_record earlier q) qs s.1 front r s.4 there)
+
+cies_of-cie : (rs : List Record) (c : CieRecord) → cies_of (rs ++ Cie c ∷ []) ≡ cies_of rs ++ c ∷ []
+cies_of-cie [] c = refl
+cies_of-cie (Cie d ∷ rs) c = ap (λ (cs : List CieRecord). d ∷ cs) (cies_of-cie rs c)
+cies_of-cie (Fde f ∷ rs) c = cies_of-cie rs c
+
+cies_of-fde : (rs : List Record) (f : FdeRecord) → cies_of (rs ++ Fde f ∷ []) ≡ cies_of rs
+cies_of-fde [] f = refl
+cies_of-fde (Cie d ∷ rs) f = ap (λ (cs : List CieRecord). d ∷ cs) (cies_of-fde rs f)
+cies_of-fde (Fde g ∷ rs) f = cies_of-fde rs f
+
+fdes_of-cie : (rs : List Record) (c : CieRecord) → fdes_of (rs ++ Cie c ∷ []) ≡ fdes_of rs
+fdes_of-cie [] c = refl
+fdes_of-cie (Cie d ∷ rs) c = fdes_of-cie rs c
+fdes_of-cie (Fde f ∷ rs) c = ap (λ (fs : List FdeRecord). f ∷ fs) (fdes_of-cie rs c)
+
+fdes_of-fde : (rs : List Record) (f : FdeRecord) → fdes_of (rs ++ Fde f ∷ []) ≡ fdes_of rs ++ f ∷ []
+fdes_of-fde [] f = refl
+fdes_of-fde (Cie d ∷ rs) f = fdes_of-fde rs f
+fdes_of-fde (Fde g ∷ rs) f = ap (λ (fs : List FdeRecord). g ∷ fs) (fdes_of-fde rs f)
+
+-- ---- places that ascend
+
+starts-end : (cs : List CieRecord) (c : CieRecord) (i : ℕ) → i < length cs → get_or (starts (cs ++ c ∷ [])) i 0 ≡ get_or (starts cs) i 0
+starts-end [] c i lt = absurd (omega arith)
+starts-end (d ∷ cs) c zero lt = refl
+starts-end (d ∷ cs) c (suc i) lt = starts-end cs c i (omega arith)
+
+starts-last : (cs : List CieRecord) (c : CieRecord) → get_or (starts (cs ++ c ∷ [])) (length cs) 0 ≡ c.start
+starts-last [] c = refl
+starts-last (d ∷ cs) c = starts-last cs c
+
+ascending-end : (cs : List CieRecord) (c : CieRecord) → IsAscending (starts cs) → ((i : ℕ) → i < length cs → get_or (starts cs) i 0 < c.start) → IsAscending (starts (cs ++ c ∷ []))
+ascending-end cs c up low i j lt inside =
+    let size : j < length cs + 1 = omega (arith, starts-length (cs ++ c ∷ []), length-append cs (c ∷ [])) in
+    let first = starts-end cs c i (omega arith) in
+    elim (cases_lt j (length cs)) [
+      | inl before ↦ let second = starts-end cs c j before in let less = up i j lt (omega (arith, starts-length cs)) in omega arith
+      | inr last ↦
+          let same : j ≡ length cs = omega arith in
+          let second : get_or (starts (cs ++ c ∷ [])) j 0 ≡ c.start = ap (λ (k : ℕ). get_or (starts (cs ++ c ∷ [])) k 0) same ∙ starts-last cs c in
+          let less = low i (omega arith) in
+          omega arith
+    ]
+
+below-end : (cs : List CieRecord) (c : CieRecord) (p q : ℕ) → ((i : ℕ) → i < length cs → get_or (starts cs) i 0 < p) → c.start ≡ p → p < q
+    → (i : ℕ) → i < length (cs ++ c ∷ []) → get_or (starts (cs ++ c ∷ [])) i 0 < q
+below-end cs c p q low e lt i inside =
+    elim (cases_lt i (length cs)) [
+      | inl before ↦ let first = starts-end cs c i before in let less = low i before in omega arith
+      | inr last ↦
+          let same : i ≡ length cs = omega (arith, length-append cs (c ∷ [])) in
+          let second : get_or (starts (cs ++ c ∷ [])) i 0 ≡ c.start = ap (λ (k : ℕ). get_or (starts (cs ++ c ∷ [])) k 0) same ∙ starts-last cs c in
+          omega arith
+    ]
+
+-- ---- from record to record
+
+pub nothing_yet : (section : ℕ) (bytes : List ℕ) → ReadSoFar section bytes (left 0 bytes) [] []
+nothing_yet section bytes = record {
+  records = [];
+  front = [];
+  parts = refl;
+  place = refl;
+  spelled = refl;
+  cies_are = refl;
+  fdes_are = refl;
+  ascending = λ i j lt inside. absurd (omega arith);
+  below = λ i lt. absurd (omega arith);
+}
+
+-- the next record behind those so far
+next_spelled : (section : ℕ) (bytes : List ℕ) (cursor : Rest) (cies : List CieRecord) (fdes : List FdeRecord) (r : Record) (new : Rest) (s : ReadSoFar section bytes cursor cies fdes)
+    → (t : Takes (whole_record section cies) cursor r new) → AreRecords section 0 [] (s.front ++ t.front) (s.records ++ r ∷ [])
+next_spelled section bytes cursor cies fdes r new s t =
+    let place : cursor.at ≡ 0 + length s.front = omega (arith, s.place) in
+    AreRecords-end section 0 [] s.records s.front t.front r s.spelled
+    (subst (λ (q : ℕ). (whole_record section (cies_of s.records)).Spells q t.front r) place
+    (subst (λ (cs : List CieRecord). (whole_record section cs).Spells cursor.at t.front r) s.cies_are t.spells))
+
+pub next_cie : (section : ℕ) (bytes : List ℕ) (cursor : Rest) (cies : List CieRecord) (fdes : List FdeRecord) (c : CieRecord) (new : Rest) → ReadSoFar section bytes cursor cies fdes
+    → (whole_record section cies).read cursor ≡ Ok (Cie c, new) → c.start ≡ cursor.at → ReadSoFar section bytes new (cies ++ c ∷ []) fdes
+next_cie section bytes cursor cies fdes c new s e begins =
+    let t = (whole_record_exact section cies).takes cursor (Cie c) new e in
+    let grown = record_grows section cursor.at cies t.front (Cie c) t.spells in
+    record {
+      records = s.records ++ Cie c ∷ [];
+      front = s.front ++ t.front;
+      parts = s.parts ∙ ap (λ (l : List ℕ). s.front ++ l) t.parts ∙ sym (append_assoc s.front t.front new.bytes);
+      place = omega (arith, t.place, s.place, length-append s.front t.front);
+      spelled = next_spelled section bytes cursor cies fdes (Cie c) new s t;
+      cies_are = ap (λ (cs : List CieRecord). cs ++ c ∷ []) s.cies_are ∙ sym (cies_of-cie s.records c);
+      fdes_are = s.fdes_are ∙ sym (fdes_of-cie s.records c);
+      ascending = ascending-end cies c s.ascending (λ i lt. let low = s.below i lt in omega arith);
+      below = below-end cies c cursor.at new.at s.below begins (omega (arith, t.place, grown));
+    }
+
+pub next_fde : (section : ℕ) (bytes : List ℕ) (cursor : Rest) (cies : List CieRecord) (fdes : List FdeRecord) (f : FdeRecord) (new : Rest) → ReadSoFar section bytes cursor cies fdes
+    → (whole_record section cies).read cursor ≡ Ok (Fde f, new) → ReadSoFar section bytes new cies (fdes ++ f ∷ [])
+next_fde section bytes cursor cies fdes f new s e =
+    let t = (whole_record_exact section cies).takes cursor (Fde f) new e in
+    record {
+      records = s.records ++ Fde f ∷ [];
+      front = s.front ++ t.front;
+      parts = s.parts ∙ ap (λ (l : List ℕ). s.front ++ l) t.parts ∙ sym (append_assoc s.front t.front new.bytes);
+      place = omega (arith, t.place, s.place, length-append s.front t.front);
+      spelled = next_spelled section bytes cursor cies fdes (Fde f) new s t;
+      cies_are = s.cies_are ∙ sym (cies_of-fde s.records f);
+      fdes_are = ap (λ (fs : List FdeRecord). fs ++ f ∷ []) s.fdes_are ∙ sym (fdes_of-fde s.records f);
+      ascending = s.ascending;
+      below = λ i lt. let low = s.below i lt in omega (arith, t.place);
+    }
+
+-- ---- the end, and a refusal
+
+pub all_read : (section : ℕ) (bytes : List ℕ) (cursor : Rest) (cies : List CieRecord) (fdes : List FdeRecord) → ReadSoFar section bytes cursor cies fdes → is_end cursor.bytes ≡ true → HasFdes section bytes fdes
+unfolding HasFdes IsSection
+all_read section bytes cursor cies fdes s e = (s.records, (s.front, cursor.bytes, s.parts, s.spelled, e), sym s.fdes_are)
+
+pub none_further : (section : ℕ) (bytes : List ℕ) (cursor : Rest) (cies : List CieRecord) (fdes : List FdeRecord) (f : FrameFault) → ReadSoFar section bytes cursor cies fdes → is_end cursor.bytes ≡ false
+    → (whole_record section cies).read cursor ≡ Err f → IsRefused section bytes f
+unfolding IsRefused
+none_further section bytes cursor cies fdes f s on e =
+    let refusal = (whole_record_exact section cies).refuses cursor f e in
+    let there : (whole_record section (cies_of s.records)).Refuses (length s.front) cursor.bytes f =
+    subst (λ (q : ℕ). (whole_record section (cies_of s.records)).Refuses q cursor.bytes f) s.place
+    (subst (λ (cs : List CieRecord). (whole_record section cs).Refuses cursor.at cursor.bytes f) s.cies_are refusal) in
+    (s.records, s.front, cursor.bytes, s.parts, s.spelled, on, there)

@@ -1,0 +1,4 @@
+pub mod Part
+pub mod Fields
+pub mod Records
+pub mod Sections

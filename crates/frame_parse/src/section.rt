@@ -1,0 +1,211 @@
+//! A section: its records, one after another.
+
+ghost use Rattle.std.specs.Prelude.{◌≡◌, ◌≤◌, ◌<◌, ◌⊎◌, length, IfOk, IfErr, IfSome, OnOk, slice_get, Some, ℕ, List};
+ghost use Rattle.std.specs.Option.{option_map, option_copied};
+ghost use Rattle.frame_parse.specs.Part.{Gives};
+ghost use Rattle.frame_parse.specs.Records.{content, record_length, whole_record};
+ghost use Rattle.frame_parse.specs.Sections.{is_end, starts, IsAscending, BeginsAt, HasFdes, IsRefused, covers, first_cover, HasOneAnswer};
+
+use crate::cie::cie;
+use crate::fault::FrameFault;
+use crate::fde::fde;
+use crate::fields::{data, id, length4, length8};
+use crate::handle::Fde;
+use crate::record::{CieRecord, FdeRecord, Record};
+use crate::search::cie_behind;
+use byteorder::{ByteOrder, LittleEndian};
+use eh_bytes::Cursor;
+use std::alloc::Global;
+use std::marker::Model;
+
+/// What stands behind the length of a record.
+#[tactic(auto, unfolding(crate::specs::Records::content))]
+fn content(
+    start: usize,
+    cursor: &mut Cursor,
+    section: u64,
+    earlier: &[CieRecord],
+    end: usize,
+) -> Result<Record, FrameFault>
+    requires { IsAscending (starts earlier.now) }
+    ensures read { Gives (λ r. r) (content start section earlier.now end).read cursor.old result cursor.new }
+    ensures start { IfOk result (BeginsAt start) }
+{
+    let at = cursor.at();
+    let id = id(start, cursor)?;
+    if id == 0 {
+        let cie = cie(start, cursor, section, end)?;
+        return Ok(Record::Cie(cie));
+    }
+    match cie_behind(earlier, at, id as usize) {
+        None => Err(FrameFault::NoCie { start, at }),
+        Some(cie) => {
+            let fde = fde(start, cursor, section, end, cie)?;
+            Ok(Record::Fde(fde))
+        }
+    }
+}
+
+/// How many bytes follow in a record.
+#[tactic(auto, unfolding(crate::specs::Records::record_length))]
+fn record_length(start: usize, cursor: &mut Cursor) -> Result<u64, FrameFault>
+    ensures read { Gives (λ n. n) (record_length start).read cursor.old result cursor.new }
+    ensures moves { OnOk result (length cursor.new.bytes < length cursor.old.bytes) }
+{
+    let length = length4(start, cursor)?;
+    if length == 0xffff_ffff {
+        length8(start, cursor)
+    } else {
+        Ok(length as u64)
+    }
+}
+
+/// The record at the cursor.
+#[tactic(auto, unfolding(crate::specs::Records::whole_record))]
+fn whole_record(
+    cursor: &mut Cursor,
+    section: u64,
+    earlier: &[CieRecord],
+) -> Result<Record, FrameFault>
+    requires { IsAscending (starts earlier.now) }
+    ensures read { Gives (λ r. r) (whole_record section earlier.now).read cursor.old result cursor.new }
+    ensures moves { OnOk result (length cursor.new.bytes < length cursor.old.bytes) }
+    ensures start { IfOk result (BeginsAt cursor.old.at) }
+{
+    let start = cursor.at();
+    let length = record_length(start, cursor)?;
+    let mut inside = data(FrameFault::Short { start, at: start }, cursor, length)?;
+    content(start, &mut inside, section, earlier, cursor.at())
+}
+
+/// Whether the records end here.
+fn is_end(rest: &[u8]) -> bool
+    ensures { result ≡ is_end rest.now }
+{
+    rest.is_empty() || (4 <= rest.len() && LittleEndian::read_u32(rest) == 0)
+}
+
+/// The FDEs of a section's records.
+fn fdes_of(alloc: Global, section: u64, bytes: &[u8]) -> Result<Vec<FdeRecord>, FrameFault>
+    ensures found { IfOk result (λ fdes. HasFdes section bytes.now fdes.items) }
+    ensures refused { IfErr result (λ f. (f ≡ FrameFault.NoMemory) ⊎ IsRefused section bytes.now f) }
+{
+    let mut cursor = Cursor::new(bytes, 0, bytes.len());
+    let mut cies = Vec::new(alloc);
+    let mut fdes = Vec::new(alloc);
+    while !is_end(cursor.rest()) {
+        match whole_record(&mut cursor, section, &cies)? {
+            Record::Cie(cie) => cies.push(cie)?,
+            Record::Fde(fde) => fdes.push(fde)?,
+        }
+    }
+    Ok(fdes)
+}
+
+/// A section of `.eh_frame` whose records were all read.
+#[derive(Drop)]
+pub struct Section {
+    address: u64,
+    bytes: Vec<u8>,
+    fdes: Vec<FdeRecord>,
+}
+
+impl Model for Section {
+    ghost use Rattle.frame_parse.specs.Sections.{Contents, HasFdes};
+
+    ghost Value = { Contents };
+
+    ghost view = { λ s. record { address = s.address; bytes = s.bytes.items; fdes = s.fdes.items } };
+
+    ghost invariant = { λ s. HasFdes s.address s.bytes.items s.fdes.items };
+}
+
+impl Section {
+    /// The section whose bytes stand at an address.
+    pub fn read(alloc: Global, address: u64, bytes: &[u8]) -> Result<Section, FrameFault>
+        requires { length bytes.now ≤ 65536 }
+        ensures address { IfOk result (λ s. s.address ≡ address) }
+        ensures bytes { IfOk result (λ s. s.bytes ≡ bytes.now) }
+        ensures found { IfOk result (λ s. HasFdes address bytes.now s.fdes) }
+        // Any other refusal than for want of memory is the first one.
+        ensures refused { IfErr result (λ f. (f ≡ FrameFault.NoMemory) ⊎ IsRefused address bytes.now f) }
+    {
+        let fdes = fdes_of(alloc, address, bytes)?;
+        let bytes = Vec::from_slice(alloc, bytes)?;
+        Ok(Section {
+            address,
+            bytes,
+            fdes,
+        })
+    }
+
+    pub fn address(&self) -> u64
+        ensures { result ≡ self.now.address }
+    {
+        self.address
+    }
+
+    pub fn bytes(&self) -> &[u8]
+        ensures { result.now ≡ self.now.bytes }
+    {
+        &self.bytes
+    }
+
+    /// How many FDEs there are.
+    pub fn count(&self) -> usize
+        ensures { result ≡ length self.now.fdes }
+    {
+        self.fdes.len()
+    }
+
+    /// Every section has the FDEs of its bytes.
+    pub fn known(&self)
+        ensures { HasFdes self.now.address self.now.bytes self.now.fdes }
+    {
+        let _ = &self.bytes;
+    }
+
+    /// An FDE by its number, in order of bytes.
+    pub fn fde(&self, index: usize) -> Fde<'_>
+        requires { index < length self.now.fdes }
+        ensures entry { slice_get self.now.fdes index ≡ Some result.entry }
+        ensures section { result.section ≡ self.now.address }
+        ensures bytes { result.bytes ≡ self.now.bytes }
+    {
+        Fde::new(self.address, &self.bytes, &self.fdes[index])
+    }
+
+    /// The first FDE in order of bytes that covers an address.
+    pub fn fde_at(&self, pc: u64) -> Option<Fde<'_>>
+        ensures entry { option_map (λ f. f.entry) result ≡ first_cover pc self.now.fdes }
+        ensures section { IfSome result (λ f. (f.section ≡ self.now.address) × (f.bytes ≡ self.now.bytes)) }
+    {
+        match first_cover(&self.fdes, pc) {
+            None => None,
+            Some(entry) => Some(Fde::new(self.address, &self.bytes, entry)),
+        }
+    }
+}
+
+fn covers(fde: &FdeRecord, pc: u64) -> bool
+    ensures { result ≡ covers pc fde.now }
+{
+    fde.first <= pc && pc - fde.first < fde.range
+}
+
+/// The first FDE that covers an address.
+fn first_cover(fdes: &[FdeRecord], pc: u64) -> Option<&FdeRecord>
+    ensures { option_copied result ≡ first_cover pc fdes.now }
+{
+    for fde in fdes {
+        if covers(fde, pc) {
+            return Some(fde);
+        }
+    }
+    None
+}
+
+/// Each list of bytes has one list of records or one first refusal, never both.
+pub fn one_answer()
+    ensures { (address : ℕ) (bytes : List ℕ) → HasOneAnswer address bytes }
+{}

@@ -1,0 +1,159 @@
+//! What the records of sections say, and where others are refused. The values stand in the sections'
+//! descriptions, or are what `readelf --debug-dump=frames` shows.
+
+ghost use Rattle.std.specs.Prelude.{◌≤◌, ◌<◌, length};
+
+use super::*;
+use std::alloc::Global;
+use std::test::*;
+
+mod data;
+mod rows;
+
+use data::*;
+
+/// The refusal of a section, or `None` where it is accepted.
+fn fault_of(alloc: Global, address: u64, bytes: &[u8]) -> Option<FrameFault>
+    requires { length bytes.now ≤ 65536 }
+{
+    match Section::read(alloc, address, bytes) {
+        Ok(_) => None,
+        Err(fault) => Some(fault),
+    }
+}
+
+/// The refusal of S1 with another byte at a place.
+fn damaged(alloc: Global, place: usize, byte: u8) -> Option<FrameFault>
+    requires { place < 84 }
+{
+    let mut bytes = S1;
+    bytes[place] = byte;
+    fault_of(alloc, 0x2000, &bytes)
+}
+
+/// The first address and the range of each FDE.
+fn ranges(alloc: Global, section: &Section) -> Result<Vec<(u64, u64)>, Fail> {
+    let mut found = Vec::new(alloc);
+    for index in 0..section.count() {
+        let fde = section.fde(index);
+        found.push((fde.first(), fde.range()))?;
+    }
+    Ok(found)
+}
+
+fn read(alloc: Global, address: u64, bytes: &[u8]) -> Result<Section, Fail>
+    requires { length bytes.now ≤ 65536 }
+{
+    Ok(
+        Section::read(alloc, address, bytes)
+            .ok()
+            .ok_or("the bytes are a section")?,
+    )
+}
+
+#[test]
+fn fields_of_fdes(rt: HostRuntime) -> Result<(), Fail> {
+    let s1 = read(rt.alloc(), 0x2000, &S1)?;
+    assert_eq!(rt; s1.address(), 0x2000);
+    assert_eq!(rt; s1.bytes(), S1.as_slice());
+    let found = ranges(rt.alloc(), &s1)?;
+    assert_eq!(rt;
+        found.as_slice(),
+        [(0x1000, 0x20), (0x1020, 0x10)].as_slice()
+    );
+    let found = ranges(rt.alloc(), &read(rt.alloc(), 0x3000, &S2)?)?;
+    assert_eq!(rt; found.as_slice(), [(0x1000, 0x30)].as_slice());
+    let found = ranges(rt.alloc(), &read(rt.alloc(), 0x6000, &S3)?)?;
+    assert_eq!(rt; found.as_slice(), [(0x5000, 0x10)].as_slice());
+    let found = ranges(rt.alloc(), &read(rt.alloc(), 0x2000, &S4)?)?;
+    assert_eq!(rt; found.as_slice(), [(0x1000, 0x20)].as_slice());
+    let found = ranges(rt.alloc(), &read(rt.alloc(), 0x9000, &S5)?)?;
+    assert_eq!(rt; found.as_slice(), [(0x8000, 0x40)].as_slice());
+    let found = ranges(rt.alloc(), &read(rt.alloc(), 0x51000, &S6)?)?;
+    assert_eq!(rt; found.as_slice(), [(0x50000, 0x10)].as_slice());
+    Ok(())
+}
+
+#[test]
+fn augmentations(rt: HostRuntime) -> Result<(), Fail> {
+    let s5 = read(rt.alloc(), 0x9000, &S5)?;
+    let fde = s5.fde_at(0x8000).ok_or("an FDE covers the address")?;
+    assert!(rt; !fde.signal());
+    assert_eq!(rt; fde.lsda(), Some(0xb031));
+    assert_eq!(rt; fde.personality(), Some(0xa013));
+    let s3 = read(rt.alloc(), 0x6000, &S3)?;
+    let fde = s3.fde_at(0x5000).ok_or("an FDE covers the address")?;
+    assert!(rt; fde.signal());
+    assert_eq!(rt; fde.lsda(), None);
+    assert_eq!(rt; fde.personality(), None);
+    Ok(())
+}
+
+/// The first address of the FDE that covers an address.
+fn first_at(section: &Section, pc: u64) -> Option<u64> {
+    match section.fde_at(pc) {
+        None => None,
+        Some(fde) => Some(fde.first()),
+    }
+}
+
+#[test]
+fn covers(rt: HostRuntime) -> Result<(), Fail> {
+    let s1 = read(rt.alloc(), 0x2000, &S1)?;
+    assert_eq!(rt; first_at(&s1, 0xfff), None);
+    assert_eq!(rt; first_at(&s1, 0x1000), Some(0x1000));
+    assert_eq!(rt; first_at(&s1, 0x101f), Some(0x1000));
+    assert_eq!(rt; first_at(&s1, 0x1020), Some(0x1020));
+    assert_eq!(rt; first_at(&s1, 0x102f), Some(0x1020));
+    assert_eq!(rt; first_at(&s1, 0x1030), None);
+    assert_eq!(rt; first_at(&s1, 0xffff_ffff_ffff_ffff), None);
+    Ok(())
+}
+
+/// S1 without its last bytes: it is accepted where it ends with a record.
+#[test]
+fn cuts(rt: HostRuntime) {
+    for length in 0usize..=84 {
+        let start = if length < 24 {
+            0
+        } else if length < 56 {
+            24
+        } else if length < 80 {
+            56
+        } else {
+            80
+        };
+        let whole = length == start || length == 84;
+        let fault = fault_of(rt.alloc(), 0x2000, &S1[..length]);
+        if whole {
+            assert_eq!(rt; fault, None);
+        } else {
+            assert_eq!(rt; fault, Some(FrameFault::Short { start, at: start }));
+        }
+    }
+}
+
+#[test]
+fn version_four(rt: HostRuntime) {
+    let refused = FrameFault::Version {
+        start: 0,
+        at: 8,
+        byte: 4,
+    };
+    assert_eq!(rt; damaged(rt.alloc(), 8, 4), Some(refused));
+}
+
+#[test]
+fn real_sections(rt: HostRuntime) -> Result<(), Fail> {
+    let clear = read(rt.alloc(), 0x2150, &CLEAR)?;
+    assert_eq!(rt; clear.count(), 10);
+    assert_eq!(rt; first_at(&clear, 0x1653), Some(0x1620));
+    let mesg = read(rt.alloc(), 0x3318, &MESG)?;
+    assert_eq!(rt; mesg.count(), 13);
+    assert_eq!(rt; first_at(&mesg, 0x227f), Some(0x2020));
+    let scoped = read(rt.alloc(), 0x2068, &SCOPED_SET_ENV)?;
+    let found = ranges(rt.alloc(), &scoped)?;
+    let shown = SCOPED_SET_ENV_FDES;
+    assert_eq!(rt; found.as_slice(), shown.as_slice());
+    Ok(())
+}
