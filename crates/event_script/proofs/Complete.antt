@@ -1,5 +1,5 @@
 -- What is spelled is read: each line of a script is good after those before it.
-use Rattle.std.proofs.Common.{◌⊎◌, inl, inr, ◌≡◌, ℕ, ◌+◌, ◌-◌, ◌^◌, ◌<◌, ◌≤◌, true, false, cond, ◌&&◌, eqb, ltb, leb, List, [], ◌∷◌, ◌++◌, length, Option, Some, Result, Ok, Err, refl, sym, ap, subst, ◌∙◌, append_assoc, append-nil, eq-eqb, lt-ltb, le-leb, arith, length-append}
+use Rattle.std.proofs.Common.{ap₂, ◌⊎◌, inl, inr, ◌≡◌, ℕ, ◌+◌, ◌-◌, ◌^◌, ◌<◌, ◌≤◌, true, false, cond, ◌&&◌, eqb, ltb, leb, List, [], ◌∷◌, ◌++◌, length, Option, Some, Result, Ok, Err, refl, sym, ap, subst, ◌∙◌, append_assoc, append-nil, eq-eqb, lt-ltb, le-leb, arith, length-append}
 use Rattle.std.specs.Prelude.{codes}
 use Rattle.std.specs.List.{flat_map, AllByRecursion, list_all}
 use Rattle.std.specs.Option.{ok_or}
@@ -17,7 +17,14 @@ use Rattle.event_script.specs.declared.reader.kinds.Stage.{Stage}
 use Rattle.event_script.specs.declared.reader.kinds.Stage.TheVariants as stage
 use Rattle.event_script.specs.declared.reader.kinds.Kind.{Kind}
 use Rattle.event_script.specs.declared.reader.kinds.Kind.TheVariants as kind
-use Rattle.event_script.specs.declared.reader.images.ImageFields.{ImageFields}
+use Rattle.hex.specs.Hex.{IsBytes}
+use Rattle.frame_parse.specs.Sections.{Contents}
+use Rattle.frame_parse.specs.declared.fault.FrameFault.{FrameFault}
+use Rattle.event_script.specs.Section.{section_of}
+use Rattle.event_script.specs.ScriptData.{IsSectionOf}
+use Rattle.event_script.specs.Reading.{ImageData, section_or, with_image}
+use Rattle.event_script.specs.Spelling.{section_text, script_text}
+use Rattle.event_script.proofs.Sections.{bytes_again, section_visible, section_ok}
 use Rattle.event_script.specs.ScriptData.{ScriptData, IsEvent, IsThread, IsRound}
 use Rattle.event_script.specs.Spelling.{Line, hex, spelling_of, image_line, image_lines, event_line, event_lines, round_lines, script_lines, IsScript}
 use Rattle.event_script.specs.Fields.{pieces, is_printable}
@@ -121,9 +128,9 @@ one_decimal_again n lt = ap (λ (o : Option ℕ). ok_or o reason.Spelling) (deci
 one_hex_again : (n : ℕ) → n < 2 ^ 64 → one_hex (hex n ∷ []) ≡ Ok n
 one_hex_again n lt = ap (λ (o : Option ℕ). ok_or o reason.Spelling) (hex_again n lt)
 
-image_again : (number base size section : ℕ) → number < 2 ^ 32 → base < 2 ^ 64 → size < 2 ^ 64 → section < 2 ^ 64
-    → image_fields (decimal number ∷ hex base ∷ hex size ∷ hex section ∷ codes "-" ∷ []) ≡ Ok (record { number = number; base = base; size = size; section = section })
-image_again number base size section a b c d = rw (decimal_again number a, hex_again base b, hex_again size c, hex_again section d) refl
+image_again : (number base size section : ℕ) (bytes : List ℕ) → number < 2 ^ 32 → base < 2 ^ 64 → size < 2 ^ 64 → section < 2 ^ 64 → IsBytes bytes
+    → image_fields (decimal number ∷ hex base ∷ hex size ∷ hex section ∷ section_text bytes ∷ []) ≡ Ok (record { number = number; base = base; size = size; section = section; bytes = bytes })
+image_again number base size section bytes a b c d e = rw (decimal_again number a, hex_again base b, hex_again size c, hex_again section d, bytes_again bytes e) refl
 
 -- ---- the lines of a script
 
@@ -134,8 +141,8 @@ abbrev ended_with : Known → Result Known BadLine
 ended_with known = Ok known
 
 module _ (nodes loads : ℕ) where
-  abbrev at : Stage → List Interval → List (List (List Event)) → List (List Event) → List Event → Known
-  at stage images rounds threads events = record { stage = stage; nodes = nodes; loads = loads; images = images; rounds = rounds; threads = threads; events = events }
+  abbrev at : Stage → List Interval → List Contents → List (List (List Event)) → List (List Event) → List Event → Known
+  at stage images sections rounds threads events = record { stage = stage; nodes = nodes; loads = loads; images = images; sections = sections; rounds = rounds; threads = threads; events = events }
 
   reads_version : Reads nothing_known ((codes "frames" ∷ codes "1" ∷ []) ∷ []) (record nothing_known { stage = stage.Nodes })
   unfolding line_of
@@ -155,11 +162,11 @@ module _ (nodes loads : ℕ) where
       ∙ ap (λ (r : Result ℕ Reason). r >>= λ n. cond (leb 4 n && leb n 16384) (Ok (record nothing_known { stage = stage.Loads; nodes = n })) (Err reason.Limit)) (one_decimal_again nodes (omega arith))
       ∙ cond-true (leb 4 nodes && leb nodes 16384) (Ok next) (Err reason.Limit) (and_from _ _ (le-leb 4 nodes low) (le-leb nodes 16384 high)))
 
-  reads_loads : 1 ≤ loads → loads ≤ 1024 → Reads (record nothing_known { stage = stage.Loads; nodes = nodes }) ((codes "loads" ∷ decimal loads ∷ []) ∷ []) (at stage.Images [] [] [] [])
+  reads_loads : 1 ≤ loads → loads ≤ 1024 → Reads (record nothing_known { stage = stage.Loads; nodes = nodes }) ((codes "loads" ∷ decimal loads ∷ []) ∷ []) (at stage.Images [] [] [] [] [])
   unfolding line_of
   reads_loads low high =
       let known : Known = record nothing_known { stage = stage.Loads; nodes = nodes } in
-      let next : Known = at stage.Images [] [] [] [] in
+      let next : Known = at stage.Images [] [] [] [] [] in
       reads_line known next (codes "loads") (decimal loads ∷ []) (word_visible kind.Loads, (decimal_visible loads (omega arith), tt)) refl
       (by_kind known kind.Loads (decimal loads ∷ []) refl refl
       ∙ ap (λ (r : Result ℕ Reason). r >>= λ n. cond (leb 1 n && leb n 1024) (Ok (record known { stage = stage.Images; loads = n })) (Err reason.Limit)) (one_decimal_again loads (omega arith))
@@ -167,63 +174,67 @@ module _ (nodes loads : ℕ) where
 
   -- ---- images
 
-  image_line_good : (front : List Interval) (span : Interval) (section : ℕ) → length front < 4096 → IsSpan span → section < 2 ^ 64
-      → image_line_of (at stage.Images front [] [] []) (record { number = length front; base = span.first; size = span.last + 1 - span.first; section = section }) ≡ Ok (at stage.Images (front ++ span ∷ []) [] [] [])
-  image_line_good front span section room is below =
+  image_line_good : (front : List Interval) (before : List Contents) (span : Interval) (section : Contents) → length front < 4096 → IsSpan span → IsSectionOf section
+      → image_line_of (at stage.Images front before [] [] []) (record { number = length front; base = span.first; size = span.last + 1 - span.first; section = section.address; bytes = section.bytes }) ≡ Ok (at stage.Images (front ++ span ∷ []) (before ++ section ∷ []) [] [] [])
+  image_line_good front before span section room is whole =
       let ordered = is.ordered in
       let top = is.below_top in
       let last : span.first + (span.last + 1 - span.first) - 1 ≡ span.last = omega arith in
       let order : eqb (length front) (length front) ≡ true = eq-eqb _ _ refl in
-      let limit : ltb (length front) 4096 ≡ true = lt-ltb _ _ room in
+      let limit : (ltb (length front) 4096 && leb (length section.bytes) 65536) ≡ true = and_from _ _ (lt-ltb _ _ room) (le-leb _ _ whole.size) in
       let some : ltb 0 (span.last + 1 - span.first) ≡ true = lt-ltb _ _ (omega arith) in
       let inside : leb (span.first + (span.last + 1 - span.first)) (2 ^ 64 - 1) ≡ true = le-leb _ _ (omega arith) in
-      let made = λ (l : ℕ). good (at stage.Images (front ++ record { first = span.first; last = l } ∷ []) [] [] []) in
+      let made = λ (l : ℕ) (c : Contents). good (at stage.Images (front ++ record { first = span.first; last = l } ∷ []) (before ++ c ∷ []) [] [] []) in
+      let from = λ (given : Result Contents FrameFault). section_or given >>= λ c. made (span.first + (span.last + 1 - span.first) - 1) c in
       cond-true (eqb (length front) (length front)) _ (Err reason.Order) order
-      ∙ cond-true (ltb (length front) 4096) _ (Err reason.Limit) limit
-      ∙ cond-true (ltb 0 (span.last + 1 - span.first) && leb (span.first + (span.last + 1 - span.first)) (2 ^ 64 - 1)) (made (span.first + (span.last + 1 - span.first) - 1)) (Err reason.Span) (and_from _ _ some inside)
-      ∙ ap made last
+      ∙ cond-true (ltb (length front) 4096 && leb (length section.bytes) 65536) _ (Err reason.Limit) limit
+      ∙ cond-true (ltb 0 (span.last + 1 - span.first) && leb (span.first + (span.last + 1 - span.first)) (2 ^ 64 - 1)) (from (section_of section.address section.bytes)) (Err reason.Span) (and_from _ _ some inside)
+      ∙ ap from (section_ok section.address section.bytes section.fdes whole.records)
+      ∙ ap (λ (l : ℕ). made l section) last
 
-  reads_image : (front : List Interval) (number : ℕ) (span : Interval) (section : ℕ) → number ≡ length front → length front < 4096 → IsSpan span → section < 2 ^ 64
-      → Reads (at stage.Images front [] [] []) (image_line number span section ∷ []) (at stage.Images (front ++ span ∷ []) [] [] [])
+  reads_image : (front : List Interval) (before : List Contents) (number : ℕ) (span : Interval) (section : Contents) → number ≡ length front → length front < 4096 → IsSpan span → IsSectionOf section
+      → Reads (at stage.Images front before [] [] []) (image_line number span section ∷ []) (at stage.Images (front ++ span ∷ []) (before ++ section ∷ []) [] [] [])
   unfolding line_of
-  reads_image front number span section same room is below =
+  reads_image front before number span section same room is whole =
       let ordered = is.ordered in
       let top = is.below_top in
-      let known : Known = at stage.Images front [] [] [] in
-      let fields : Line = decimal number ∷ hex span.first ∷ hex (span.last + 1 - span.first) ∷ hex section ∷ codes "-" ∷ [] in
-      reads_line known (at stage.Images (front ++ span ∷ []) [] [] []) (codes "image") fields
-      (word_visible kind.Image, (decimal_visible number (omega arith), (hex_visible span.first (omega arith), (hex_visible (span.last + 1 - span.first) (omega arith), (hex_visible section below, (visible_from_test (codes "-") refl, tt)))))) refl
-      (by_kind known kind.Image fields refl refl
-      ∙ ap (λ (r : Result ImageFields Reason). r >>= λ image. image_line_of known image) (image_again number span.first (span.last + 1 - span.first) section (omega arith) (omega arith) (omega arith) below)
-      ∙ ap (λ (n : ℕ). image_line_of known (record { number = n; base = span.first; size = span.last + 1 - span.first; section = section })) same
-      ∙ image_line_good front span section room is below)
+      let known : Known = at stage.Images front before [] [] [] in
+      let fields : Line = decimal number ∷ hex span.first ∷ hex (span.last + 1 - span.first) ∷ hex section.address ∷ section_text section.bytes ∷ [] in
+      reads_line known (at stage.Images (front ++ span ∷ []) (before ++ section ∷ []) [] [] []) (codes "image") fields
+        (word_visible kind.Image, (decimal_visible number (omega arith), (hex_visible span.first (omega arith), (hex_visible (span.last + 1 - span.first) (omega arith), (hex_visible section.address whole.address, (section_visible section.bytes whole.bytes, tt)))))) refl
+        (by_kind known kind.Image fields refl refl
+          ∙ ap (λ (r : Result ImageData Reason). r >>= λ image. image_line_of known image) (image_again number span.first (span.last + 1 - span.first) section.address section.bytes (omega arith) (omega arith) (omega arith) whole.address whole.bytes)
+          ∙ ap (λ (n : ℕ). image_line_of known (record { number = n; base = span.first; size = span.last + 1 - span.first; section = section.address; bytes = section.bytes })) same
+          ∙ image_line_good front before span section room is whole)
 
-  reads_images : (front images : List Interval) (number : ℕ) (sections : List ℕ) → number ≡ length front → length sections ≡ length images → length front + length images ≤ 4096 → AllByRecursion IsSpan images → AllByRecursion (λ a. a < 2 ^ 64) sections
-      → Reads (at stage.Images front [] [] []) (image_lines number images sections) (at stage.Images (front ++ images) [] [] [])
-  reads_images front [] number sections same each room spans below = λ number others. (number, ap (λ (x : List Interval). after_lines (at stage.Images x [] [] []) number (pieces 10 others)) (sym (append-nil front)))
-  reads_images front (span ∷ images) number [] same each room spans below = absurd (omega arith)
-  reads_images front (span ∷ images) number (section ∷ sections) same each room spans below =
-      let first = reads_image front number span section same (omega arith) spans.0 below.0 in
-      let rest = reads_images (front ++ span ∷ []) images (number + 1) sections (omega (arith, length-append front (span ∷ []))) (omega arith) (omega (arith, length-append front (span ∷ []))) spans.1 below.1 in
-      subst (λ (x : List Interval). Reads (at stage.Images front [] [] []) (image_lines number (span ∷ images) (section ∷ sections)) (at stage.Images x [] [] [])) (append_assoc front (span ∷ []) images)
-      (reads_then (at stage.Images front [] [] []) (at stage.Images (front ++ span ∷ []) [] [] []) (at stage.Images ((front ++ span ∷ []) ++ images) [] [] []) (image_line number span section ∷ []) (image_lines (number + 1) images sections) first rest)
+  reads_images : (front images : List Interval) (number : ℕ) (before sections : List Contents) → number ≡ length front → length sections ≡ length images → length front + length images ≤ 4096 → AllByRecursion IsSpan images → AllByRecursion IsSectionOf sections
+      → Reads (at stage.Images front before [] [] []) (image_lines number images sections) (at stage.Images (front ++ images) (before ++ sections) [] [] [])
+  reads_images front [] number before [] same each room spans whole = λ number others. (number, ap₂ (λ (x : List Interval) (y : List Contents). after_lines (at stage.Images x y [] [] []) number (pieces 10 others)) (sym (append-nil front)) (sym (append-nil before)))
+  reads_images front [] number before (section ∷ sections) same each room spans whole = absurd (omega arith)
+  reads_images front (span ∷ images) number before [] same each room spans whole = absurd (omega arith)
+  reads_images front (span ∷ images) number before (section ∷ sections) same each room spans whole =
+      let first = reads_image front before number span section same (omega arith) spans.0 whole.0 in
+      let rest = reads_images (front ++ span ∷ []) images (number + 1) (before ++ section ∷ []) sections (omega (arith, length-append front (span ∷ []))) (omega arith) (omega (arith, length-append front (span ∷ []))) spans.1 whole.1 in
+      let all = reads_then (at stage.Images front before [] [] []) (at stage.Images (front ++ span ∷ []) (before ++ section ∷ []) [] [] []) (at stage.Images ((front ++ span ∷ []) ++ images) ((before ++ section ∷ []) ++ sections) [] [] []) (image_line number span section ∷ []) (image_lines (number + 1) images sections) first rest in
+      subst (λ (y : List Contents). Reads (at stage.Images front before [] [] []) (image_lines number (span ∷ images) (section ∷ sections)) (at stage.Images (front ++ span ∷ images) y [] [] [])) (append_assoc before (section ∷ []) sections)
+        (subst (λ (x : List Interval). Reads (at stage.Images front before [] [] []) (image_lines number (span ∷ images) (section ∷ sections)) (at stage.Images x ((before ++ section ∷ []) ++ sections) [] [] [])) (append_assoc front (span ∷ []) images) all)
 
   -- ---- rounds, threads and events
 
-  module _ (images : List Interval) (few : length images ≤ 4096) where
-    reads_round : Reads (at stage.Images images [] [] []) ((codes "round" ∷ []) ∷ []) (at stage.Round images [] [] [])
+  module _ (images : List Interval) (sections : List Contents) (few : length images ≤ 4096) where
+    reads_round : Reads (at stage.Images images sections [] [] []) ((codes "round" ∷ []) ∷ []) (at stage.Round images sections [] [] [])
     unfolding line_of
-    reads_round = reads_line (at stage.Images images [] [] []) (at stage.Round images [] [] []) (codes "round") [] (word_visible kind.Round, tt) refl (by_kind (at stage.Images images [] [] []) kind.Round [] refl refl)
+    reads_round = reads_line (at stage.Images images sections [] [] []) (at stage.Round images sections [] [] []) (codes "round") [] (word_visible kind.Round, tt) refl (by_kind (at stage.Images images sections [] [] []) kind.Round [] refl refl)
 
-    reads_thread : Reads (at stage.Round images [] [] []) ((codes "thread" ∷ []) ∷ []) (at stage.Thread images [] [] [])
+    reads_thread : Reads (at stage.Round images sections [] [] []) ((codes "thread" ∷ []) ∷ []) (at stage.Thread images sections [] [] [])
     unfolding line_of
-    reads_thread = reads_line (at stage.Round images [] [] []) (at stage.Thread images [] [] []) (codes "thread") [] (word_visible kind.Thread, tt) refl (by_kind (at stage.Round images [] [] []) kind.Thread [] refl refl)
+    reads_thread = reads_line (at stage.Round images sections [] [] []) (at stage.Thread images sections [] [] []) (codes "thread") [] (word_visible kind.Thread, tt) refl (by_kind (at stage.Round images sections [] [] []) kind.Thread [] refl refl)
 
-    reads_event : (front : List Event) (e : Event) → length front < 4096 → IsEvent (length images) e → Reads (at stage.Thread images [] [] front) (event_line e ∷ []) (at stage.Thread images [] [] (front ++ e ∷ []))
+    reads_event : (front : List Event) (e : Event) → length front < 4096 → IsEvent (length images) e → Reads (at stage.Thread images sections [] [] front) (event_line e ∷ []) (at stage.Thread images sections [] [] (front ++ e ∷ []))
     unfolding line_of
     reads_event front (event.Register image) room named =
-        let known : Known = at stage.Thread images [] [] front in
-        let next : Known = at stage.Thread images [] [] (front ++ event.Register image ∷ []) in
+        let known : Known = at stage.Thread images sections [] [] front in
+        let next : Known = at stage.Thread images sections [] [] (front ++ event.Register image ∷ []) in
         let limit : ltb (length front) 4096 ≡ true = lt-ltb _ _ room in
         let name : ltb image (length images) ≡ true = lt-ltb _ _ named in
         reads_line known next (codes "register") (decimal image ∷ []) (word_visible kind.Register, (decimal_visible image (omega arith), tt)) refl
@@ -232,83 +243,83 @@ module _ (nodes loads : ℕ) where
         ∙ cond-true (ltb (length front) 4096) (cond (ltb image (length images)) (Ok next) (Err reason.Name)) (Err reason.Limit) limit
         ∙ cond-true (ltb image (length images)) (Ok next) (Err reason.Name) name)
     reads_event front (event.Deregister base) room below =
-        let known : Known = at stage.Thread images [] [] front in
-        let next : Known = at stage.Thread images [] [] (front ++ event.Deregister base ∷ []) in
+        let known : Known = at stage.Thread images sections [] [] front in
+        let next : Known = at stage.Thread images sections [] [] (front ++ event.Deregister base ∷ []) in
         let limit : ltb (length front) 4096 ≡ true = lt-ltb _ _ room in
         reads_line known next (codes "deregister") (hex base ∷ []) (word_visible kind.Deregister, (hex_visible base below, tt)) refl
         (by_kind known kind.Deregister (hex base ∷ []) refl refl
         ∙ ap (λ (r : Result ℕ Reason). r >>= λ n. cond (ltb (length front) 4096) (Ok (with_event known (event.Deregister n))) (Err reason.Limit)) (one_hex_again base below)
         ∙ cond-true (ltb (length front) 4096) (Ok next) (Err reason.Limit) limit)
     reads_event front (event.Find pc) room below =
-        let known : Known = at stage.Thread images [] [] front in
-        let next : Known = at stage.Thread images [] [] (front ++ event.Find pc ∷ []) in
+        let known : Known = at stage.Thread images sections [] [] front in
+        let next : Known = at stage.Thread images sections [] [] (front ++ event.Find pc ∷ []) in
         let limit : ltb (length front) 4096 ≡ true = lt-ltb _ _ room in
         reads_line known next (codes "find") (hex pc ∷ []) (word_visible kind.Find, (hex_visible pc below, tt)) refl
         (by_kind known kind.Find (hex pc ∷ []) refl refl
         ∙ ap (λ (r : Result ℕ Reason). r >>= λ n. cond (ltb (length front) 4096) (Ok (with_event known (event.Find n))) (Err reason.Limit)) (one_hex_again pc below)
         ∙ cond-true (ltb (length front) 4096) (Ok next) (Err reason.Limit) limit)
 
-    reads_events : (front events : List Event) → length front + length events ≤ 4096 → AllByRecursion (IsEvent (length images)) events → Reads (at stage.Thread images [] [] front) (event_lines events) (at stage.Thread images [] [] (front ++ events))
-    reads_events front [] room are = λ number others. (number, ap (λ (x : List Event). after_lines (at stage.Thread images [] [] x) number (pieces 10 others)) (sym (append-nil front)))
+    reads_events : (front events : List Event) → length front + length events ≤ 4096 → AllByRecursion (IsEvent (length images)) events → Reads (at stage.Thread images sections [] [] front) (event_lines events) (at stage.Thread images sections [] [] (front ++ events))
+    reads_events front [] room are = λ number others. (number, ap (λ (x : List Event). after_lines (at stage.Thread images sections [] [] x) number (pieces 10 others)) (sym (append-nil front)))
     reads_events front (e ∷ events) room are =
         let first = reads_event front e (omega arith) are.0 in
         let rest = reads_events (front ++ e ∷ []) events (omega (arith, length-append front (e ∷ []))) are.1 in
-        subst (λ (x : List Event). Reads (at stage.Thread images [] [] front) (event_lines (e ∷ events)) (at stage.Thread images [] [] x)) (append_assoc front (e ∷ []) events)
-        (reads_then (at stage.Thread images [] [] front) (at stage.Thread images [] [] (front ++ e ∷ [])) (at stage.Thread images [] [] ((front ++ e ∷ []) ++ events)) (event_line e ∷ []) (event_lines events) first rest)
+        subst (λ (x : List Event). Reads (at stage.Thread images sections [] [] front) (event_lines (e ∷ events)) (at stage.Thread images sections [] [] x)) (append_assoc front (e ∷ []) events)
+        (reads_then (at stage.Thread images sections [] [] front) (at stage.Thread images sections [] [] (front ++ e ∷ [])) (at stage.Thread images sections [] [] ((front ++ e ∷ []) ++ events)) (event_line e ∷ []) (event_lines events) first rest)
 
-    reads_end : (before : Stage) (rounds : List (List (List Event))) (known : Known) → is_ended known.stage ≡ false → may_come known.stage kind.End ≡ true → is_unbuilt known.stage kind.End ≡ false → line_of known kind.End [] ≡ Ok (at stage.Ended images rounds [] []) → Reads known ((codes "end" ∷ []) ∷ []) (at stage.Ended images rounds [] [])
-    reads_end before rounds known open_still may built good = reads_line known (at stage.Ended images rounds [] []) (codes "end") [] (word_visible kind.End, tt) open_still (by_kind known kind.End [] may built ∙ good)
+    reads_end : (before : Stage) (rounds : List (List (List Event))) (known : Known) → is_ended known.stage ≡ false → may_come known.stage kind.End ≡ true → is_unbuilt known.stage kind.End ≡ false → line_of known kind.End [] ≡ Ok (at stage.Ended images sections rounds [] []) → Reads known ((codes "end" ∷ []) ∷ []) (at stage.Ended images sections rounds [] [])
+    reads_end before rounds known open_still may built good = reads_line known (at stage.Ended images sections rounds [] []) (codes "end") [] (word_visible kind.End, tt) open_still (by_kind known kind.End [] may built ∙ good)
 
     -- the rounds, and the last line
     reads_rounds : (rounds : List (List (List Event))) → length rounds ≤ 1 → AllByRecursion (λ threads. length threads ≤ 1) rounds → AllByRecursion (IsRound (length images)) rounds
-        → Reads (at stage.Images images [] [] []) (round_lines rounds ++ (codes "end" ∷ []) ∷ []) (at stage.Ended images rounds [] [])
+        → Reads (at stage.Images images sections [] [] []) (round_lines rounds ++ (codes "end" ∷ []) ∷ []) (at stage.Ended images sections rounds [] [])
     unfolding line_of
-    reads_rounds [] one small are = reads_end stage.Images [] (at stage.Images images [] [] []) refl refl refl refl
+    reads_rounds [] one small are = reads_end stage.Images [] (at stage.Images images sections [] [] []) refl refl refl refl
     reads_rounds ([] ∷ []) one small are =
-        reads_then (at stage.Images images [] [] []) (at stage.Round images [] [] []) (at stage.Ended images ([] ∷ []) [] []) ((codes "round" ∷ []) ∷ []) ((codes "end" ∷ []) ∷ []) reads_round
-        (reads_end stage.Round ([] ∷ []) (at stage.Round images [] [] []) refl refl refl refl)
+        reads_then (at stage.Images images sections [] [] []) (at stage.Round images sections [] [] []) (at stage.Ended images sections ([] ∷ []) [] []) ((codes "round" ∷ []) ∷ []) ((codes "end" ∷ []) ∷ []) reads_round
+        (reads_end stage.Round ([] ∷ []) (at stage.Round images sections [] [] []) refl refl refl refl)
     reads_rounds ((events ∷ []) ∷ []) one small are =
         let thread = recursion_from_All (IsThread (length images)) (events ∷ []) are.0.1 in
         let each = recursion_from_All (IsEvent (length images)) events thread.0.1 in
         let room = thread.0.0 in
-        let last = reads_end stage.Thread ((events ∷ []) ∷ []) (at stage.Thread images [] [] events) refl refl refl refl in
-        let inner = reads_then (at stage.Thread images [] [] []) (at stage.Thread images [] [] events) (at stage.Ended images ((events ∷ []) ∷ []) [] []) (event_lines events) ((codes "end" ∷ []) ∷ []) (reads_events [] events (omega arith) each) last in
-        let begun = reads_then (at stage.Images images [] [] []) (at stage.Round images [] [] []) (at stage.Thread images [] [] []) ((codes "round" ∷ []) ∷ []) ((codes "thread" ∷ []) ∷ []) reads_round reads_thread in
-        let all = reads_then (at stage.Images images [] [] []) (at stage.Thread images [] [] []) (at stage.Ended images ((events ∷ []) ∷ []) [] []) ((codes "round" ∷ []) ∷ (codes "thread" ∷ []) ∷ []) (event_lines events ++ (codes "end" ∷ []) ∷ []) begun inner in
+        let last = reads_end stage.Thread ((events ∷ []) ∷ []) (at stage.Thread images sections [] [] events) refl refl refl refl in
+        let inner = reads_then (at stage.Thread images sections [] [] []) (at stage.Thread images sections [] [] events) (at stage.Ended images sections ((events ∷ []) ∷ []) [] []) (event_lines events) ((codes "end" ∷ []) ∷ []) (reads_events [] events (omega arith) each) last in
+        let begun = reads_then (at stage.Images images sections [] [] []) (at stage.Round images sections [] [] []) (at stage.Thread images sections [] [] []) ((codes "round" ∷ []) ∷ []) ((codes "thread" ∷ []) ∷ []) reads_round reads_thread in
+        let all = reads_then (at stage.Images images sections [] [] []) (at stage.Thread images sections [] [] []) (at stage.Ended images sections ((events ∷ []) ∷ []) [] []) ((codes "round" ∷ []) ∷ (codes "thread" ∷ []) ∷ []) (event_lines events ++ (codes "end" ∷ []) ∷ []) begun inner in
         let same : round_lines ((events ∷ []) ∷ []) ≡ (codes "round" ∷ []) ∷ (codes "thread" ∷ []) ∷ event_lines events =
         ap (λ (x : List Line). (codes "round" ∷ []) ∷ x) (append-nil ((codes "thread" ∷ []) ∷ (event_lines events ++ []))) ∙ ap (λ (x : List Line). (codes "round" ∷ []) ∷ (codes "thread" ∷ []) ∷ x) (append-nil (event_lines events)) in
-        subst (λ (x : List Line). Reads (at stage.Images images [] [] []) (x ++ (codes "end" ∷ []) ∷ []) (at stage.Ended images ((events ∷ []) ∷ []) [] [])) (sym same) all
+        subst (λ (x : List Line). Reads (at stage.Images images sections [] [] []) (x ++ (codes "end" ∷ []) ∷ []) (at stage.Ended images sections ((events ∷ []) ∷ []) [] [])) (sym same) all
     reads_rounds ((events ∷ more ∷ threads) ∷ []) one small are = absurd (omega (arith, small.0))
     reads_rounds (threads ∷ more ∷ rounds) one small are = absurd (omega arith)
 
 -- what is spelled is read
 pub outcome_complete : (bytes : List ℕ) (s : ScriptData) → IsScript bytes s → (known : Known) × (outcome bytes ≡ Ok known) × (script_of known ≡ s)
-unfolding after_lines at_end
+unfolding after_lines at_end script_text
 outcome_complete bytes s is =
     let run = is.runnable in
-    let sections = is.spelled.sections in
+    let sections = s.sections in
     let spans = recursion_from_All IsSpan s.images run.images.1 in
-    let below = recursion_from_All (λ a. a < 2 ^ 64) sections is.spelled.addresses in
+    let below = recursion_from_All IsSectionOf sections run.sections.1 in
     let small = recursion_from_All (λ threads. length threads ≤ 1) s.rounds is.built.threads in
     let are = recursion_from_All (IsRound (length s.images)) s.rounds run.rounds.1 in
     let room = run.images.0 in
-    let at_images = at s.nodes s.loads stage.Images [] [] [] [] in
-    let last : Known = at s.nodes s.loads stage.Ended s.images s.rounds [] [] in
+    let at_images = at s.nodes s.loads stage.Images [] [] [] [] [] in
+    let last : Known = at s.nodes s.loads stage.Ended s.images sections s.rounds [] [] in
     let first = reads_version s.nodes s.loads in
     let second = reads_nodes s.nodes s.loads run.nodes.0 run.nodes.1 in
     let third = reads_loads s.nodes s.loads run.loads.0 run.loads.1 in
-    let images = reads_images s.nodes s.loads [] s.images 0 sections refl is.spelled.each (omega arith) spans below in
-    let rounds = reads_rounds s.nodes s.loads s.images room s.rounds is.built.rounds small are in
-    let middle = reads_then at_images (at s.nodes s.loads stage.Images s.images [] [] []) last (image_lines 0 s.images sections) (round_lines s.rounds ++ (codes "end" ∷ []) ∷ []) images rounds in
+    let images = reads_images s.nodes s.loads [] s.images 0 [] sections refl run.sections.0 (omega arith) spans below in
+    let rounds = reads_rounds s.nodes s.loads s.images sections room s.rounds is.built.rounds small are in
+    let middle = reads_then at_images (at s.nodes s.loads stage.Images s.images sections [] [] []) last (image_lines 0 s.images sections) (round_lines s.rounds ++ (codes "end" ∷ []) ∷ []) images rounds in
     let nodes_known : Known = record nothing_known { stage = stage.Nodes } in
     let loads_known : Known = record nothing_known { stage = stage.Loads; nodes = s.nodes } in
     let from_loads = reads_then loads_known at_images last ((codes "loads" ∷ decimal s.loads ∷ []) ∷ []) (image_lines 0 s.images sections ++ (round_lines s.rounds ++ (codes "end" ∷ []) ∷ [])) third middle in
     let from_nodes = reads_then nodes_known loads_known last ((codes "nodes" ∷ decimal s.nodes ∷ []) ∷ []) ((codes "loads" ∷ decimal s.loads ∷ []) ∷ (image_lines 0 s.images sections ++ (round_lines s.rounds ++ (codes "end" ∷ []) ∷ []))) second from_loads in
     let whole = reads_then nothing_known nodes_known last ((codes "frames" ∷ codes "1" ∷ []) ∷ []) ((codes "nodes" ∷ decimal s.nodes ∷ []) ∷ (codes "loads" ∷ decimal s.loads ∷ []) ∷ (image_lines 0 s.images sections ++ (round_lines s.rounds ++ (codes "end" ∷ []) ∷ []))) first from_nodes in
     let head = λ (x : List Line). (codes "frames" ∷ codes "1" ∷ []) ∷ (codes "nodes" ∷ decimal s.nodes ∷ []) ∷ (codes "loads" ∷ decimal s.loads ∷ []) ∷ x in
-    let regrouped : script_lines s sections ≡ head (image_lines 0 s.images sections ++ (round_lines s.rounds ++ (codes "end" ∷ []) ∷ [])) =
+    let regrouped : script_lines s ≡ head (image_lines 0 s.images sections ++ (round_lines s.rounds ++ (codes "end" ∷ []) ∷ [])) =
     ap head (append_assoc (image_lines 0 s.images sections) (round_lines s.rounds) ((codes "end" ∷ []) ∷ [])) in
-    let text = is.spelled.text ∙ ap (flat_map spelling_of) regrouped ∙ sym (append-nil (flat_map spelling_of (head (image_lines 0 s.images sections ++ (round_lines s.rounds ++ (codes "end" ∷ []) ∷ []))))) in
+    let text = is.text ∙ ap (flat_map spelling_of) regrouped ∙ sym (append-nil (flat_map spelling_of (head (image_lines 0 s.images sections ++ (round_lines s.rounds ++ (codes "end" ∷ []) ∷ []))))) in
     (last, ap outcome text ∙ (whole 1 []).1, refl)
 
 -- bytes spell one script at the most

@@ -6,5 +6,6 @@ pub mod Numbers
 pub mod Lines
 pub mod Joined
 pub mod Steps
+pub mod Sections
 pub mod Sound
 pub mod Complete

@@ -1,5 +1,5 @@
 -- What a good line says: its fields, and what it adds.
-use Rattle.std.proofs.Common.{◌≡◌, ℕ, ◌^◌, ◌<◌, Bool, true, false, cond, List, [], ◌∷◌, Option, Some, None, Result, Ok, Err, refl, ap, subst, ◌∙◌}
+use Rattle.std.proofs.Common.{◌≡◌, ℕ, ◌^◌, ◌<◌, Bool, true, false, cond, List, [], ◌∷◌, Option, Some, None, Result, Ok, Err, refl, ap, subst, ◌∙◌, arith}
 use Rattle.std.specs.Prelude.{codes}
 use Rattle.std.specs.List.{find}
 use Rattle.std.specs.Option.{ok_or}
@@ -9,10 +9,12 @@ use Rattle.std.proofs.lemmas.Slice.Eq.{bytes_eq-Decides}
 use Rattle.event_script.specs.declared.reader.fault.Reason.{Reason}
 use Rattle.event_script.specs.declared.reader.fault.Reason.TheVariants as reason
 use Rattle.event_script.specs.declared.reader.kinds.Kind.{Kind}
-use Rattle.event_script.specs.declared.reader.images.ImageFields.{ImageFields}
-use Rattle.event_script.specs.Spelling.{Line, hex}
-use Rattle.event_script.specs.Fields.{decimal_in, hex_in}
-use Rattle.event_script.specs.Reading.{◌>>=◌, only, five, has_any, one_decimal, one_hex, image_fields, kind_of, kinds, word_of}
+use Rattle.hex.specs.Hex.{IsBytes, decode_of, encode_lower}
+use Rattle.hex.specs.declared.error.FromHexError.{FromHexError}
+use Rattle.hex.proofs.HexLemmas.{decode_of-ok}
+use Rattle.event_script.specs.Spelling.{Line, hex, section_text}
+use Rattle.event_script.specs.Fields.{decimal_in, hex_in, bytes_if, bytes_in}
+use Rattle.event_script.specs.Reading.{◌>>=◌, ImageData, only, five, has_any, one_decimal, one_hex, image_fields, kind_of, kinds, word_of}
 use Rattle.event_script.proofs.Numbers.{number_is}
 
 pub bind_ok : {A B E : Type 0} (r : Result A E) (f : A → Result B E) (y : B) → (r >>= f) ≡ Ok y → (x : A) × (r ≡ Ok x) × (f x ≡ Ok y)
@@ -83,33 +85,61 @@ five_is (a ∷ b ∷ c ∷ d ∷ x ∷ y ∷ fields) f e = absurd cc
 five_same : (fields : Line) (a b c d e f g h i j : List ℕ) → fields ≡ a ∷ b ∷ c ∷ d ∷ e ∷ [] → a ≡ f → b ≡ g → c ≡ h → d ≡ i → e ≡ j → fields ≡ f ∷ g ∷ h ∷ i ∷ j ∷ []
 five_same fields a b c d e f g h i j is p q r s t = cc
 
+bytes_parts : (field : List ℕ) (decoded : Result (List ℕ) FromHexError) (bytes : List ℕ) → decode_of field ≡ decoded → bytes_if field decoded ≡ Some bytes → IsBytes bytes × (field ≡ section_text bytes)
+bytes_parts field (Err e) bytes is found = absurd cc
+bytes_parts field (Ok []) bytes is found = absurd cc
+bytes_parts field (Ok (b ∷ others)) bytes is found = by (bytes_eq field (encode_lower (b ∷ others))) refl found
+  where
+    by : (t : Bool) → bytes_eq field (encode_lower (b ∷ others)) ≡ t → cond t (Some (b ∷ others)) None ≡ Some bytes → IsBytes bytes × (field ≡ section_text bytes)
+    by true same e =
+        let bytes_is : b ∷ others ≡ bytes = cc in
+        subst (λ (x : List ℕ). IsBytes x × (field ≡ section_text x)) bytes_is ((decode_of-ok field (b ∷ others) is).3, (bytes_eq-Decides field (encode_lower (b ∷ others))).0 same)
+    by false same e = absurd cc
+
+no_bytes : IsBytes []
+no_bytes i = omega arith
+
+pub bytes_are : (field bytes : List ℕ) → bytes_in field ≡ Some bytes → IsBytes bytes × (field ≡ section_text bytes)
+unfolding bytes_in
+bytes_are field bytes e = by (bytes_eq field (codes "-")) refl e
+  where
+    by : (t : Bool) → bytes_eq field (codes "-") ≡ t → cond t (Some []) (bytes_if field (decode_of field)) ≡ Some bytes → IsBytes bytes × (field ≡ section_text bytes)
+    by true same e =
+        let bytes_is : [] ≡ bytes = cc in
+        subst (λ (x : List ℕ). IsBytes x × (field ≡ section_text x)) bytes_is (no_bytes, (bytes_eq-Decides field (codes "-")).0 same)
+    by false same e = bytes_parts field (decode_of field) bytes refl e
+
 -- an image's fields are spelled so
-pub record AreImageFields (fields : Line) (image : ImageFields) : Type 0 where
-  pub is : fields ≡ decimal image.number ∷ hex image.base ∷ hex image.size ∷ hex image.section ∷ codes "-" ∷ []
+pub record AreImageFields (fields : Line) (image : ImageData) : Type 0 where
+  pub is : fields ≡ decimal image.number ∷ hex image.base ∷ hex image.size ∷ hex image.section ∷ section_text image.bytes ∷ []
   pub number : image.number < 2 ^ 32
   pub base : image.base < 2 ^ 64
   pub size : image.size < 2 ^ 64
   pub section : image.section < 2 ^ 64
+  pub bytes : IsBytes image.bytes
 
-same_image : (fields : Line) (x y : ImageFields) → AreImageFields fields x → x ≡ y → AreImageFields fields y
-same_image fields x y are e = subst (AreImageFields fields) e are
+abbrev read_image : ImageData → Result ImageData Reason
+read_image image = Ok image
 
-pub image_fields_are : (fields : Line) (image : ImageFields) → image_fields fields ≡ Ok image → AreImageFields fields image
+same_image : (fields : Line) (x y : ImageData) → AreImageFields fields x → read_image x ≡ read_image y → AreImageFields fields y
+same_image fields x y are e = let same : x ≡ y = cc in subst (AreImageFields fields) same are
+
+pub image_fields_are : (fields : Line) (image : ImageData) → image_fields fields ≡ Ok image → AreImageFields fields image
 image_fields_are fields image e =
     let f = bind_ok (ok_or (five fields) reason.Fields) _ image e in
     let n = bind_ok (ok_or (decimal_in f.0.0) reason.Spelling) _ image f.2 in
     let b = bind_ok (ok_or (hex_in f.0.1) reason.Spelling) _ image n.2 in
     let s = bind_ok (ok_or (hex_in f.0.2) reason.Spelling) _ image b.2 in
     let a = bind_ok (ok_or (hex_in f.0.3) reason.Spelling) _ image s.2 in
-    let g = guard_last (bytes_eq f.0.4 (codes "-")) reason.Spelling (record { number = n.0; base = b.0; size = s.0; section = a.0 }) image a.2 in
+    let c = bind_ok (ok_or (bytes_in f.0.4) reason.Spelling) _ image a.2 in
     let number = decimal_is f.0.0 n.0 (some_from (decimal_in f.0.0) reason.Spelling n.0 n.1) in
     let base = hex_is f.0.1 b.0 (some_from (hex_in f.0.1) reason.Spelling b.0 b.1) in
     let size = hex_is f.0.2 s.0 (some_from (hex_in f.0.2) reason.Spelling s.0 s.1) in
     let section = hex_is f.0.3 a.0 (some_from (hex_in f.0.3) reason.Spelling a.0 a.1) in
-    let dash : f.0.4 ≡ codes "-" = (bytes_eq-Decides f.0.4 (codes "-")).0 g.0 in
+    let bytes = bytes_are f.0.4 c.0 (some_from (bytes_in f.0.4) reason.Spelling c.0 c.1) in
     let parts = five_is fields f.0 (some_from (five fields) reason.Fields f.0 f.1) in
-    same_image fields (record { number = n.0; base = b.0; size = s.0; section = a.0 }) image
-    (record { is = five_same fields _ _ _ _ _ _ _ _ _ _ parts number.1 base.1 size.1 section.1 dash; number = number.0; base = base.0; size = size.0; section = section.0 }) g.1
+    same_image fields (record { number = n.0; base = b.0; size = s.0; section = a.0; bytes = c.0 }) image
+      (record { is = five_same fields _ _ _ _ _ _ _ _ _ _ parts number.1 base.1 size.1 section.1 bytes.1; number = number.0; base = base.0; size = size.0; section = section.0; bytes = bytes.0 }) c.2
 
 -- ---- the kind of a line
 

@@ -1,5 +1,7 @@
 -- Texts in pieces: the lines of a text, the fields of a line.
-use Rattle.std.specs.Prelude.{ℕ, ◌^◌, List, [], ◌∷◌, Bool, false, ◌&&◌, ◌==◌, nat_lt, nat_le, Option, Some, None, if◌then◌else◌}
+use Rattle.std.specs.Prelude.{ℕ, ◌^◌, List, [], ◌∷◌, Bool, false, ◌&&◌, ◌==◌, nat_lt, nat_le, Option, Some, None, Result, Ok, Err, codes, if◌then◌else◌}
+use Rattle.hex.specs.Hex.{decode_of, encode_lower}
+use Rattle.hex.specs.declared.error.FromHexError.{FromHexError}
 use Rattle.std.specs.List.{list_all}
 use Rattle.std.specs.Str.{bytes_eq}
 use Rattle.std.specs.Str.Parse.{digits_value}
@@ -39,3 +41,13 @@ decimal_in field = number_in 10 (2 ^ 32) field
 -- a hexadecimal number below 2^64
 abbrev pub hex_in : List ℕ → Option ℕ
 hex_in field = number_in 16 (2 ^ 64) field
+
+-- the bytes that are not none, where the field is their spelling
+abbrev pub bytes_if : List ℕ → Result (List ℕ) FromHexError → Option (List ℕ)
+bytes_if field (Err e) = None
+bytes_if field (Ok []) = None
+bytes_if field (Ok (b ∷ bytes)) = if bytes_eq field (encode_lower (b ∷ bytes)) then Some (b ∷ bytes) else None
+
+-- the bytes of a section: none of a dash, else those whose lower-case digits the field is
+unfoldable pub bytes_in : List ℕ → Option (List ℕ)
+bytes_in field = if bytes_eq field (codes "-") then Some [] else bytes_if field (decode_of field)

@@ -4,9 +4,12 @@ use Rattle.std.specs.List.{find}
 use Rattle.std.specs.Option.{ok_or}
 use Rattle.std.specs.Str.{bytes_eq}
 use Rattle.reg_model.specs.Interval.{Interval}
+use Rattle.frame_parse.specs.Sections.{Contents}
+use Rattle.frame_parse.specs.declared.fault.FrameFault.{FrameFault}
+use Rattle.event_script.specs.Section.{section_of}
 use Rattle.event_script.specs.ScriptData.{ScriptData}
 use Rattle.event_script.specs.Spelling.{IsScript}
-use Rattle.event_script.specs.Fields.{pieces, is_printable, decimal_in, hex_in}
+use Rattle.event_script.specs.Fields.{pieces, is_printable, decimal_in, hex_in, bytes_in}
 use Rattle.event_script.specs.declared.script.Event.{Event}
 use Rattle.event_script.specs.declared.script.Event.TheVariants as event
 use Rattle.event_script.specs.declared.reader.fault.Reason.{Reason}
@@ -17,7 +20,6 @@ use Rattle.event_script.specs.declared.reader.kinds.Stage.{Stage}
 use Rattle.event_script.specs.declared.reader.kinds.Stage.TheVariants as stage
 use Rattle.event_script.specs.declared.reader.kinds.Kind.{Kind}
 use Rattle.event_script.specs.declared.reader.kinds.Kind.TheVariants as kind
-use Rattle.event_script.specs.declared.reader.images.ImageFields.{ImageFields}
 
 infixl 10 ◌>>=◌
 abbrev pub ◌>>=◌ : {A B E : Type 0} → Result A E → (A → Result B E) → Result B E
@@ -104,13 +106,14 @@ pub record Known : Type 0 where
   pub nodes : ℕ
   pub loads : ℕ
   pub images : List Interval
+  pub sections : List Contents
   pub rounds : List (List (List Event))
   pub threads : List (List Event)
   pub events : List Event
 
 -- before the first line
 abbrev pub nothing_known : Known
-nothing_known = record { stage = stage.Version; nodes = 0; loads = 0; images = []; rounds = []; threads = []; events = [] }
+nothing_known = record { stage = stage.Version; nodes = 0; loads = 0; images = []; sections = []; rounds = []; threads = []; events = [] }
 
 -- the threads of the round, with the one that goes on
 abbrev pub threads_at : Stage → List (List Event) → List Event → List (List Event)
@@ -164,22 +167,39 @@ abbrev pub five : List (List ℕ) → Option (List ℕ × List ℕ × List ℕ �
 five (number ∷ base ∷ size ∷ section ∷ bytes ∷ []) = Some (number, base, size, section, bytes)
 five _ = None
 
--- the fields of an image; its section's bytes are none, a dash
-abbrev pub image_fields : List (List ℕ) → Result ImageFields Reason
+-- what the line of an image says
+pub record ImageData : Type 0 where
+  pub number : ℕ
+  pub base : ℕ
+  pub size : ℕ
+  pub section : ℕ
+  pub bytes : List ℕ
+
+abbrev pub image_fields : List (List ℕ) → Result ImageData Reason
 image_fields fields = do
   image ← ok_or (five fields) reason.Fields
   number ← ok_or (decimal_in image.0) reason.Spelling
   base ← ok_or (hex_in image.1) reason.Spelling
   size ← ok_or (hex_in image.2) reason.Spelling
   section ← ok_or (hex_in image.3) reason.Spelling
-  if bytes_eq image.4 (codes "-") then Ok (record { number = number; base = base; size = size; section = section }) else Err reason.Spelling
+  bytes ← ok_or (bytes_in image.4) reason.Spelling
+  Ok (record { number = number; base = base; size = size; section = section; bytes = bytes })
 
-abbrev pub image_line_of : Known → ImageFields → Result Known Reason
+-- the section of an image, or the reason that it is none
+abbrev pub section_or : Result Contents FrameFault → Result Contents Reason
+section_or (Ok section) = Ok section
+section_or (Err fault) = Err (reason.Section fault)
+
+abbrev pub with_image : Known → ImageData → Contents → Known
+with_image known image section =
+    record known { images = known.images ++ record { first = image.base; last = image.base + image.size - 1 } ∷ []; sections = known.sections ++ section ∷ [] }
+
+abbrev pub image_line_of : Known → ImageData → Result Known Reason
 image_line_of known image =
     if image.number == length known.images then
-    (if nat_lt (length known.images) 4096 then
+    (if nat_lt (length known.images) 4096 && nat_le (length image.bytes) 65536 then
     (if nat_lt 0 image.size && nat_le (image.base + image.size) (2 ^ 64 - 1) then
-    Ok (record known { images = known.images ++ record { first = image.base; last = image.base + image.size - 1 } ∷ [] })
+    (section_or (section_of image.section image.bytes) >>= λ section. Ok (with_image known image section))
     else Err reason.Span)
     else Err reason.Limit)
     else Err reason.Order
@@ -255,7 +275,7 @@ after_line known line =
     else (if is_printable line then by_word known (pieces 32 line) else Err reason.Byte)
 
 abbrev pub script_of : Known → ScriptData
-script_of known = record { nodes = known.nodes; loads = known.loads; images = known.images; rounds = known.rounds }
+script_of known = record { nodes = known.nodes; loads = known.loads; images = known.images; sections = known.sections; rounds = known.rounds }
 
 -- where no line feed comes any more
 unfoldable pub at_end : Known → List ℕ → Result Known Reason

@@ -1,6 +1,8 @@
 -- Scripts as plain data, and their limits.
-use Rattle.std.specs.Prelude.{ℕ, ◌^◌, ◌<◌, ◌≤◌, List, length, All}
+use Rattle.std.specs.Prelude.{◌≡◌, ℕ, ◌^◌, ◌<◌, ◌≤◌, List, length, All}
 use Rattle.reg_model.specs.Interval.{Interval, IsSpan}
+use Rattle.hex.specs.Hex.{IsBytes}
+use Rattle.frame_parse.specs.Sections.{Contents, HasFdes}
 use Rattle.event_script.specs.declared.script.Event.{Event}
 use Rattle.event_script.specs.declared.script.Event.TheVariants.{Register, Deregister, Find}
 
@@ -9,6 +11,7 @@ pub record ScriptData : Type 0 where
   pub nodes : ℕ
   pub loads : ℕ
   pub images : List Interval
+  pub sections : List Contents
   pub rounds : List (List (List Event))
 
 -- The event names an image that there is; addresses have 64 bits.
@@ -23,11 +26,19 @@ IsThread images events = (length events ≤ 4096) × All (IsEvent images) events
 abbrev pub IsRound : ℕ → List (List Event) → Type 0
 IsRound images threads = (length threads ≤ 16) × All (IsThread images) threads
 
--- each number and each count is within its limit, each image is a span, and each event is one of these images'
+-- the section of an image: at most 65,536 bytes, which are records of `.eh_frame`
+pub record IsSectionOf (section : Contents) : Type 0 where
+  pub address : section.address < 2 ^ 64
+  pub size : length section.bytes ≤ 65536
+  pub bytes : IsBytes section.bytes
+  pub records : HasFdes section.address section.bytes section.fdes
+
+-- each number and each count is within its limit, each image is a span and has a section, and each event is one of these images'
 pub record IsRunnable (s : ScriptData) : Type 0 where
   pub nodes : (4 ≤ s.nodes) × (s.nodes ≤ 16384)
   pub loads : (1 ≤ s.loads) × (s.loads ≤ 1024)
   pub images : (length s.images ≤ 4096) × All IsSpan s.images
+  pub sections : (length s.sections ≡ length s.images) × All IsSectionOf s.sections
   pub rounds : (length s.rounds ≤ 64) × All (IsRound (length s.images)) s.rounds
 
 -- What can be run today: one round of one thread at the most. It goes when threads come.

@@ -2,6 +2,8 @@
 use Rattle.std.specs.Prelude.{◌≡◌, ℕ, ◌+◌, ◌-◌, ◌^◌, ◌<◌, List, [], ◌∷◌, ◌++◌, length, false, All, codes}
 use Rattle.std.specs.List.{flat_map}
 use Rattle.std.specs.Fmt.{decimal, digits}
+use Rattle.hex.specs.Hex.{encode_lower}
+use Rattle.frame_parse.specs.Sections.{Contents}
 use Rattle.reg_model.specs.Interval.{Interval}
 use Rattle.event_script.specs.ScriptData.{ScriptData, IsRunnable, IsBuilt}
 use Rattle.event_script.specs.declared.script.Event.{Event}
@@ -21,12 +23,17 @@ spelling_of [] = 10 ∷ []
 spelling_of (field ∷ []) = field ++ 10 ∷ []
 spelling_of (field ∷ fields) = field ++ 32 ∷ spelling_of fields
 
--- Number, base, size, and the address of the image's section, whose bytes are none, a dash.
-abbrev pub image_line : ℕ → Interval → ℕ → Line
-image_line number span section = codes "image" ∷ decimal number ∷ hex span.first ∷ hex (span.last + 1 - span.first) ∷ hex section ∷ codes "-" ∷ []
+-- the bytes of a section: none are a dash
+abbrev pub section_text : List ℕ → List ℕ
+section_text [] = codes "-"
+section_text (b ∷ bytes) = encode_lower (b ∷ bytes)
 
--- a line for each image, numbered upwards; sections has the address of each one's section
-abbrev pub image_lines : ℕ → List Interval → List ℕ → List Line
+-- number, base, size, the address of the section, and its bytes
+abbrev pub image_line : ℕ → Interval → Contents → Line
+image_line number span section = codes "image" ∷ decimal number ∷ hex span.first ∷ hex (span.last + 1 - span.first) ∷ hex section.address ∷ section_text section.bytes ∷ []
+
+-- a line for each image, numbered upwards, with its section
+abbrev pub image_lines : ℕ → List Interval → List Contents → List Line
 image_lines number [] sections = []
 image_lines number (span ∷ images) [] = []
 image_lines number (span ∷ images) (section ∷ sections) = image_line number span section ∷ image_lines (number + 1) images sections
@@ -49,22 +56,19 @@ round_lines [] = []
 round_lines (threads ∷ rounds) = (codes "round" ∷ []) ∷ thread_lines threads ++ round_lines rounds
 
 -- the lines of a script
-abbrev pub script_lines : ScriptData → List ℕ → List Line
-script_lines s sections =
+abbrev pub script_lines : ScriptData → List Line
+script_lines s =
     (codes "frames" ∷ codes "1" ∷ [])
     ∷ (codes "nodes" ∷ decimal s.nodes ∷ [])
     ∷ (codes "loads" ∷ decimal s.loads ∷ [])
-    ∷ (image_lines 0 s.images sections ++ round_lines s.rounds ++ (codes "end" ∷ []) ∷ [])
+    ∷ (image_lines 0 s.images s.sections ++ round_lines s.rounds ++ (codes "end" ∷ []) ∷ [])
 
--- The bytes spell the script, with the addresses of the images' empty sections, which a script does not keep.
-pub record Spells (bytes : List ℕ) (s : ScriptData) : Type 0 where
-  pub sections : List ℕ
-  pub each : length sections ≡ length s.images
-  pub addresses : All (λ section. section < 2 ^ 64) sections
-  pub text : bytes ≡ flat_map spelling_of (script_lines s sections)
+-- the text of a script
+unfoldable pub script_text : ScriptData → List ℕ
+script_text s = flat_map spelling_of (script_lines s)
 
 -- the bytes are those of a script that can be run
 pub record IsScript (bytes : List ℕ) (s : ScriptData) : Type 0 where
-  pub spelled : Spells bytes s
+  pub text : bytes ≡ script_text s
   pub runnable : IsRunnable s
   pub built : IsBuilt s

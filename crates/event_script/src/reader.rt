@@ -69,6 +69,7 @@ pub fn read(alloc: Global, bytes: &[u8]) -> Result<Script, ScriptFault>
         nodes,
         loads,
         images,
+        sections,
         rounds,
         ..
     } = draft;
@@ -76,6 +77,7 @@ pub fn read(alloc: Global, bytes: &[u8]) -> Result<Script, ScriptFault>
         nodes,
         loads,
         images,
+        sections,
         rounds,
     })
 }

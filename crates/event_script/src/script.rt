@@ -2,6 +2,7 @@
 
 ghost use Rattle.std.specs.Prelude.{◌≡◌, ℕ, List};
 
+use frame_parse::Section;
 use reg_model::Span;
 use std::marker::Model;
 
@@ -55,6 +56,8 @@ pub struct Script {
     pub loads: u32,
     /// The span of each image, by its number.
     pub images: Vec<Span>,
+    /// The section of each image, by its number.
+    pub sections: Vec<Section>,
     pub rounds: Vec<Round>,
 }
 
@@ -63,7 +66,7 @@ impl Model for Script {
 
     ghost Value = { ScriptData };
 
-    ghost view = { λ s. record { nodes = s.nodes; loads = s.loads; images = s.images.items; rounds = s.rounds.items } };
+    ghost view = { λ s. record { nodes = s.nodes; loads = s.loads; images = s.images.items; sections = s.sections.items; rounds = s.rounds.items } };
 
-    ghost invariant = { λ s. IsRunnable (record { nodes = s.nodes; loads = s.loads; images = s.images.items; rounds = s.rounds.items }) };
+    ghost invariant = { λ s. IsRunnable (record { nodes = s.nodes; loads = s.loads; images = s.images.items; sections = s.sections.items; rounds = s.rounds.items }) };
 }

@@ -1,14 +1,16 @@
 //! What the lines so far make known, and what one more line adds.
 
-ghost use Rattle.std.specs.Prelude.{◌≡◌, IfOk};
+ghost use Rattle.std.specs.Prelude.{◌≡◌, ◌≤◌, length, IfOk};
 ghost use Rattle.event_script.specs.Fields.{fields_behind};
-ghost use Rattle.event_script.specs.Reading.{Gives, nothing_known, threads_at, rounds_at, version_line, nodes_line, loads_line, image_line, round_line, thread_line, register_line, deregister_line, find_line, end_line, line_of, after_line, at_end};
+ghost use Rattle.event_script.specs.Section.{section_of};
+ghost use Rattle.event_script.specs.Reading.{Gives, section_or, nothing_known, threads_at, rounds_at, version_line, nodes_line, loads_line, image_line, round_line, thread_line, register_line, deregister_line, find_line, end_line, line_of, after_line, at_end};
 
 use crate::reader::fault::{LineFault, Reason};
 use crate::reader::fields::{first_field, has_any, is_printable};
 use crate::reader::images::{image_fields, one_decimal, one_hex};
 use crate::reader::kinds::{Kind, Stage, is_unbuilt, kind_of, may_come};
 use crate::script::{Event, Round, Thread};
+use frame_parse::{FrameFault, Section};
 use reg_model::{NoMemory, Span};
 use std::alloc::Global;
 use std::marker::Model;
@@ -20,6 +22,7 @@ pub struct Draft {
     pub nodes: u32,
     pub loads: u32,
     pub images: Vec<Span>,
+    pub sections: Vec<Section>,
     /// The rounds that are over.
     pub rounds: Vec<Round>,
     /// The threads that are over, of the round that goes on.
@@ -33,7 +36,7 @@ impl Model for Draft {
 
     ghost Value = { Known };
 
-    ghost view = { λ d. record { stage = d.stage; nodes = d.nodes; loads = d.loads; images = d.images.items; rounds = d.rounds.items; threads = d.threads.items; events = d.events.items } };
+    ghost view = { λ d. record { stage = d.stage; nodes = d.nodes; loads = d.loads; images = d.images.items; sections = d.sections.items; rounds = d.rounds.items; threads = d.threads.items; events = d.events.items } };
 }
 
 /// The threads of a round, with the one that goes on.
@@ -72,6 +75,22 @@ fn all_rounds(
     Ok(rounds)
 }
 
+/// The section at an address.
+fn section_of(alloc: Global, address: u64, bytes: &[u8]) -> Result<Section, LineFault>
+    requires { length bytes.now ≤ 65536 }
+    ensures { Gives result (section_or (section_of address bytes.now)) }
+{
+    match Section::read(alloc, address, bytes) {
+        Ok(section) => Ok(section),
+        Err(fault) => match fault {
+            FrameFault::NoMemory => Err(LineFault::NoMemory),
+            _ => Err(LineFault::Bad {
+                reason: Reason::Section { fault },
+            }),
+        },
+    }
+}
+
 impl Draft {
     /// Before the first line.
     pub fn new(alloc: Global) -> Self
@@ -82,6 +101,7 @@ impl Draft {
             nodes: 0,
             loads: 0,
             images: Vec::new(alloc),
+            sections: Vec::new(alloc),
             rounds: Vec::new(alloc),
             threads: Vec::new(alloc),
             events: Vec::new(alloc),
@@ -131,17 +151,17 @@ impl Draft {
         Ok(draft)
     }
 
-    fn image(self, rest: &[u8]) -> Result<Draft, LineFault>
+    fn image(self, alloc: Global, rest: &[u8]) -> Result<Draft, LineFault>
         ensures { Gives result (image_line self (fields_behind rest.now)) }
     {
         let mut draft = self;
-        let image = image_fields(rest)?;
+        let image = image_fields(alloc, rest)?;
         if image.number as usize != draft.images.len() {
             return Err(LineFault::Bad {
                 reason: Reason::Order,
             });
         }
-        if draft.images.len() >= 4096 {
+        if draft.images.len() >= 4096 || image.bytes.len() > 65536 {
             return Err(LineFault::Bad {
                 reason: Reason::Limit,
             });
@@ -151,6 +171,8 @@ impl Draft {
                 reason: Reason::Span,
             }),
             Some(span) => {
+                let section = section_of(alloc, image.section, &image.bytes)?;
+                draft.sections.push(section)?;
                 draft.images.push(span)?;
                 Ok(draft)
             }
@@ -170,6 +192,7 @@ impl Draft {
             nodes,
             loads,
             images,
+            sections,
             rounds,
             threads,
             events,
@@ -185,6 +208,7 @@ impl Draft {
             nodes,
             loads,
             images,
+            sections,
             rounds,
             threads: Vec::new(alloc),
             events: Vec::new(alloc),
@@ -204,6 +228,7 @@ impl Draft {
             nodes,
             loads,
             images,
+            sections,
             rounds,
             threads,
             events,
@@ -219,6 +244,7 @@ impl Draft {
             nodes,
             loads,
             images,
+            sections,
             rounds,
             threads,
             events: Vec::new(alloc),
@@ -285,6 +311,7 @@ impl Draft {
             nodes,
             loads,
             images,
+            sections,
             rounds,
             threads,
             events,
@@ -295,6 +322,7 @@ impl Draft {
             nodes,
             loads,
             images,
+            sections,
             rounds,
             threads: Vec::new(alloc),
             events: Vec::new(alloc),
@@ -310,7 +338,7 @@ impl Draft {
             Kind::Version => self.version(rest),
             Kind::Nodes => self.nodes(rest),
             Kind::Loads => self.loads(rest),
-            Kind::Image => self.image(rest),
+            Kind::Image => self.image(alloc, rest),
             Kind::Round => self.round(alloc, rest),
             Kind::Thread => self.thread(alloc, rest),
             Kind::Register => self.register(rest),

@@ -3,6 +3,7 @@
 ghost use Rattle.std.specs.Prelude.{◌≡◌};
 ghost use Rattle.event_script.specs.declared.reader.fault.LineFault.TheVariants.{Bad, NoMemory};
 
+use frame_parse::FrameFault;
 use std::alloc::AllocFailed;
 
 /// Why a line is bad: the first of these reasons that holds.
@@ -30,6 +31,8 @@ pub enum Reason {
     Limit,
     /// The size is 0, or the span reaches past the greatest address.
     Span,
+    /// The section's first refusal.
+    Section { fault: FrameFault },
     /// It names an image that the script hasn't.
     Name,
 }

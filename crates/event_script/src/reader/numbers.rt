@@ -1,8 +1,15 @@
-//! Numbers in fields.
+//! Numbers and bytes in fields.
 
-ghost use Rattle.std.specs.Prelude.{◌≡◌, ℕ, ◌+◌, ◌^◌, ◌<◌, ◌≤◌, false, MatchOption};
+ghost use Rattle.std.specs.Prelude.{◌≡◌, ℕ, ◌+◌, ◌^◌, ◌<◌, ◌≤◌, false, MatchOption, IfOk};
 ghost use Rattle.std.specs.Fmt.{digit_glyph};
-ghost use Rattle.event_script.specs.Fields.{number_in, decimal_in, hex_in};
+ghost use Rattle.event_script.specs.Fields.{number_in, decimal_in, hex_in, bytes_in};
+ghost use Rattle.std.specs.List.{list_all};
+ghost use Rattle.std.specs.Option.{option_map};
+ghost use Rattle.event_script.specs.Lower.{is_lower};
+
+use hex::FromHexError;
+use reg_model::NoMemory;
+use std::alloc::Global;
 
 /// The value of a digit, in lower case.
 fn digit_of(byte: u8) -> Option<u64>
@@ -55,4 +62,36 @@ pub fn hex_in(field: &[u8]) -> Option<u64>
     ensures { result ≡ hex_in field.now }
 {
     number_of(16, 16, field)
+}
+
+/// Whether each byte is a hexadecimal digit in lower case.
+fn are_lower(field: &[u8]) -> bool
+    ensures { result ≡ list_all is_lower field.now }
+{
+    field
+        .iter()
+        .all(|b| (b'0' <= *b && *b <= b'9') || (b'a' <= *b && *b <= b'f'))
+}
+
+#[tactic(auto, unfolding(crate::specs::Fields::bytes_in))]
+/// The bytes of a section: none for a dash, else those whose digits in lower case the field is.
+pub fn bytes_in(alloc: Global, field: &[u8]) -> Result<Option<Vec<u8>>, NoMemory>
+    ensures { IfOk result (λ found. option_map (λ bytes. bytes.items) found ≡ bytes_in field.now) }
+{
+    if field == b"-".as_slice() {
+        return Ok(Some(Vec::new(alloc)));
+    }
+    if field.is_empty() {
+        return Ok(None);
+    }
+    if !are_lower(field) {
+        return Ok(None);
+    }
+    match hex::decode(alloc, field) {
+        Ok(bytes) => Ok(Some(bytes)),
+        Err(fault) => match fault {
+            FromHexError::OutOfMemory => Err(NoMemory),
+            _ => Ok(None),
+        },
+    }
 }

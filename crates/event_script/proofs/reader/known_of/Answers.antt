@@ -10,7 +10,7 @@ use Rattle.event_script.proofs.reader.known_of.Goals as goal
 pub loop-end-init : goal.loop-end-init
 loop-end-init c = let new = sym c.new-draft.ensures in record {
   so_far = ap (λ (known : Known). after_lines known 1 (pieces 10 c.args.bytes.now)) c.new-draft.ensures;
-  counted = subst (λ (known : Known). (sections : List ℕ) × Sound known sections × (1 ≡ length (lines_so_far known sections) + 1)) new ([], at_first, refl);
+  counted = subst (λ (known : Known). Sound known × (1 ≡ length (lines_so_far known) + 1)) new (at_first, refl);
   within = c.place_of-end.ensures.within;
   before = c.place_of-end.ensures.before;
   found = c.place_of-end.ensures.found;
@@ -26,7 +26,7 @@ pub overflow_add-line : goal.overflow_add-line
 overflow_add-line c = let l = c.loop-end in let i = l.invariant in
     let text = c.split_at.result.0.now in
     let given = numbered_ok l.line (after_line l.draft text) c.in_ok-draft.draft (c.in_ok-draft.ensures (after_line l.draft text) c.after.ensures) in
-    omega (arith, i.counted.2, few_lines l.draft c.in_ok-draft.draft i.counted.0 text i.counted.1 given)
+    omega (arith, i.counted.1, few_lines l.draft c.in_ok-draft.draft text i.counted.0 given)
 
 pub loop-end-preserved : goal.loop-end-preserved
 loop-end-preserved c = let l = c.loop-end in let i = l.invariant in
@@ -34,7 +34,7 @@ loop-end-preserved c = let l = c.loop-end in let i = l.invariant in
     let good = c.in_ok-draft.ensures (after_line l.draft text) c.after.ensures in
     record {
       so_far = line_good l.draft l.line l.rest.now l.end i.within i.before i.found text _ _ _ c.loop-end-test.true c.split_at.ensures.front c.split_at-in-loop-end.ensures.back good i.so_far;
-      counted = one_more_line l.draft c.in_ok-draft.draft i.counted.0 text l.line i.counted.1 i.counted.2 (numbered_ok l.line (after_line l.draft text) c.in_ok-draft.draft good);
+      counted = one_more_line l.draft c.in_ok-draft.draft text l.line i.counted.0 i.counted.1 (numbered_ok l.line (after_line l.draft text) c.in_ok-draft.draft good);
       within = c.place_of-end-in-loop-end.ensures.within;
       before = c.place_of-end-in-loop-end.ensures.before;
       found = c.place_of-end-in-loop-end.ensures.found;

@@ -8,7 +8,7 @@ use Rattle.event_script.proofs.reader.known_of.Given as goal
 abbrev pub invariant-loop-end : goal.invariant-loop-end
 invariant-loop-end l = record {
   so_far : after_lines l.draft l.line (pieces 10 l.rest) ≡ outcome l.fn.bytes;
-  counted : (sections : List ℕ) × Sound l.draft sections × (l.line ≡ length (lines_so_far l.draft sections) + 1);
+  counted : Sound l.draft × (l.line ≡ length (lines_so_far l.draft) + 1);
   within : l.end ≤ length l.rest;
   before : (k : ℕ) → k < l.end → get_or l.rest k 0 ≢ 10;
   found : l.end < length l.rest → get_or l.rest l.end 0 ≡ 10;
