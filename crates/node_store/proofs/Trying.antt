@@ -1,11 +1,10 @@
 -- Loads, refused exchanges and marks one after another.
-use Rattle.std.proofs.Common.{◌≡◌, ℕ, ◌+◌, ◌*◌, List, [], ◌∷◌, ◌++◌, Some, None, Ok, Err, Result, IfOk, IfErr, ◌≢◌, false, sym, refl, ap, ◌∙◌, subst, append-nil, append_assoc, add_assoc, add-zero, arith}
+use Rattle.std.proofs.Common.{◌≡◌, ℕ, ◌+◌, List, [], ◌∷◌, ◌++◌, Some, Ok, Err, Result, IfOk, IfErr, ◌≢◌, false, sym, refl, ap, ◌∙◌, append-nil, append_assoc, add_assoc, add-zero, arith}
 use Rattle.std.specs.List.{AllByRecursion}
 use Rattle.word_rule.specs.Known.{Known}
 use Rattle.word_rule.specs.Places.{LOADER}
 use Rattle.word_rule.specs.Logs.{load_of, after_load, after_loader_lock, after_mark}
 use Rattle.word_rule.specs.declared.views.Load.{Load}
-use Rattle.word_rule.specs.declared.views.Log.{Log}
 use Rattle.node_store.specs.Locking.{IsOfLoader, Tries, Locks}
 
 all_append : (xs ys : List Load) → AllByRecursion IsOfLoader xs → AllByRecursion IsOfLoader ys → AllByRecursion IsOfLoader (xs ++ ys)

@@ -1,6 +1,6 @@
-use Rattle.std.proofs.Common.{◌≡◌, ◌∙◌, sym, subst}
+use Rattle.std.proofs.Common.{◌∙◌, sym, subst}
 use Rattle.word_rule.specs.Known.{Known}
-use Rattle.node_store.specs.Locking.{Tries, Locks}
+use Rattle.node_store.specs.Locking.{Locks}
 use Rattle.node_store.proofs.Trying.{tries_both, tries_table, takes, takes_then}
 use Rattle.node_store.proofs.locks.lock.Goals as goal
 use Rattle.node_store.proofs.locks.lock.Goals.{then-slept, else-slept}
