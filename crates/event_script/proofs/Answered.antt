@@ -14,4 +14,4 @@ printable_is {T} {U} answers_of threads_of rounds all =
     let P : U → Type 0 = λ round. All (All IsPrintable) (map answers_of (threads_of round)) in
     let Q : U → Type 0 = λ round. All (λ thread. All IsPrintable (answers_of thread)) (threads_of round) in
     All-weaker P Q (λ round each. All-unmap (All IsPrintable) answers_of (threads_of round) each) rounds
-      (All-unmap (All (All IsPrintable)) (λ round. map answers_of (threads_of round)) rounds all)
+    (All-unmap (All (All IsPrintable)) (λ round. map answers_of (threads_of round)) rounds all)

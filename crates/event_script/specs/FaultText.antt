@@ -4,7 +4,7 @@ use Rattle.std.specs.Fmt.{decimal}
 use Rattle.frame_parse.specs.declared.fault.FrameFault.{FrameFault}
 use Rattle.frame_parse.specs.declared.fault.FrameFault.TheVariants as section
 use Rattle.event_script.specs.declared.reader.fault.Reason.{Reason}
-use Rattle.event_script.specs.declared.reader.fault.Reason.TheVariants.{Missing, After, Unended, Byte, Word, Unbuilt, Fields, Spelling, Order, Limit, Span, Name}
+use Rattle.event_script.specs.declared.reader.fault.Reason.TheVariants.{Missing, After, Unended, Byte, Word, Unbuilt, Fields, Spelling, Order, Limit, Span, Section, Name}
 
 -- a refusal of a section: its name, where its record starts, and the place that is refused
 abbrev pub placed : List ℕ → ℕ → ℕ → List ℕ
@@ -40,6 +40,7 @@ reason_text Spelling = codes "spelling"
 reason_text Order = codes "order"
 reason_text Limit = codes "limit"
 reason_text Span = codes "span"
+reason_text (Section fault) = section_text fault
 reason_text Name = codes "name"
 
 -- the first bad line, and the first reason that holds of it

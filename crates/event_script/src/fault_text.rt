@@ -37,6 +37,7 @@ fn put_reason(text: &mut String, reason: Reason) -> Result<(), AllocError>
         Reason::Order => text.push_str("order"),
         Reason::Limit => text.push_str("limit"),
         Reason::Span => text.push_str("span"),
+        Reason::Section { fault } => put_section(text, fault),
         Reason::Name => text.push_str("name"),
     }
 }

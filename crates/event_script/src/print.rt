@@ -5,6 +5,9 @@ ghost use Rattle.std.specs.String.{string_bytes};
 ghost use Rattle.event_script.specs.Spelling.{hex};
 ghost use Rattle.event_script.specs.Text.{IsPrintable, inserted_text, removed_text, found_text, place_text, answer_line, answer_text, numbered, thread_text, updates_text, journal_text};
 
+#[cfg(test)]
+mod tests;
+
 use crate::journal::{Answer, Journal};
 use reg_model::{Found, Inserted, NoMemory, Place, Removed};
 use std::alloc::{AllocError, Global};

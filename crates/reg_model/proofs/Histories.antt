@@ -54,8 +54,8 @@ AreDisjoint-filter test [] [] disjoint = tt
 AreDisjoint-filter test [] (m ∷ members) disjoint =
     let rest = AreDisjoint-filter test [] members disjoint.1 in
     elim (test m) as (λ kept. AreDisjoint (cond kept (m ∷ filter test members) (filter test members))) [
-      true ↦ (All-filter test (λ o. ¬ Overlaps o.span m.span) members disjoint.0, rest)
-    | false ↦ rest
+      | true ↦ (All-filter test (λ o. ¬ Overlaps o.span m.span) members disjoint.0, rest)
+      | false ↦ rest
     ]
 AreDisjoint-filter test (m ∷ front) members disjoint =
     (All-filter_back (λ o. ¬ Overlaps o.span m.span) test front members disjoint.0, AreDisjoint-filter test front members disjoint.1)
@@ -70,15 +70,15 @@ pub lawful_after : (u : Update) (s : State) → IsLawful s → Fits u s → IsLa
 lawful_after (Register m) s lawful fits = record { registered = AreDisjoint-push s.registered m lawful.registered fits; objects = lawful.objects; room = lawful.room }
 lawful_after (Deregister base) s lawful fits = record { registered = AreDisjoint-filter (λ m. not (eqb m.span.first base)) [] s.registered lawful.registered; objects = lawful.objects; room = lawful.room }
 lawful_after (Load m) s lawful fits = record {
-    registered = lawful.registered;
-    objects = rw (← append_assoc s.fixed s.loaded (m ∷ [])) (AreDisjoint-push (objects s) m lawful.objects fits.0);
-    room = rw length-append (let limit : length s.loaded < s.loads = fits.1 in omega arith)
-  }
+  registered = lawful.registered;
+  objects = rw (← append_assoc s.fixed s.loaded (m ∷ [])) (AreDisjoint-push (objects s) m lawful.objects fits.0);
+  room = rw length-append (let limit : length s.loaded < s.loads = fits.1 in omega arith);
+}
 lawful_after (Unload base) s lawful fits = record {
-    registered = lawful.registered;
-    objects = AreDisjoint-filter (λ m. not (eqb m.span.first base)) s.fixed s.loaded lawful.objects;
-    room = (let fewer = length-filter_le (λ m. not (eqb m.span.first base)) s.loaded in let limit = lawful.room in omega arith)
-  }
+  registered = lawful.registered;
+  objects = AreDisjoint-filter (λ m. not (eqb m.span.first base)) s.fixed s.loaded lawful.objects;
+  room = (let fewer = length-filter_le (λ m. not (eqb m.span.first base)) s.loaded in let limit = lawful.room in omega arith);
+}
 
 pub lawful_history : (s : State) (history : List Update) → IsLawful s → IsHistory s history → IsLawful (state_after s history)
 lawful_history s [] lawful is = lawful
@@ -94,10 +94,10 @@ member_at-contains [] m pc disjoint (k, within, is) holds = absurd (omega arith)
 member_at-contains (first ∷ members) m pc disjoint listed holds =
     let none : Contains [] m → ⊥ = λ (k, within, is). omega arith in
     elim (Contains-append_cases (first ∷ []) members m listed) [
-      inl here ↦ elim (Contains-push_cases [] first m here) [
-        inl nowhere ↦ absurd (none nowhere)
-      | inr same ↦ (let in_first : contains first.span pc ≡ true = rw same holds in rw in_first (ap Some same))
+      | inl here ↦ elim (Contains-push_cases [] first m here) [
+        | inl nowhere ↦ absurd (none nowhere)
+        | inr same ↦ (let in_first : contains first.span pc ≡ true = rw same holds in rw in_first (ap Some same))
       ]
-    | inr later ↦
-        found_first first m members pc (contains first.span pc) refl (All-contains (λ o. ¬ Overlaps o.span first.span) members m disjoint.0 later) holds (member_at-contains members m pc disjoint.1 later holds)
+      | inr later ↦
+          found_first first m members pc (contains first.span pc) refl (All-contains (λ o. ¬ Overlaps o.span first.span) members m disjoint.0 later) holds (member_at-contains members m pc disjoint.1 later holds)
     ]

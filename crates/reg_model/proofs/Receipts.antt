@@ -37,11 +37,11 @@ filled_on start history more since (Query half pc found) within filled = tt
 -- an answer that holds goes on to hold when the history grows and callers come
 pub holds_on : (start : State) (history more : List Update) (nodes callers callers' since : ℕ) (r : Receipt) → Holds start history nodes callers since r → Holds start (history ++ more) nodes callers' since r
 holds_on start history more nodes callers callers' since r holds = record {
-    within = (let within = holds.within in rw length-append (omega arith));
-    numbered = numbered_on history more (moment r) (accepted r) holds.within holds.numbered;
-    right = rw (state_at-append start history more (made_before r) (before_within (accepted r) (moment r) (length history) holds.within)) holds.right;
-    filled = filled_on start history more since r holds.within holds.filled
-  }
+  within = (let within = holds.within in rw length-append (omega arith));
+  numbered = numbered_on history more (moment r) (accepted r) holds.within holds.numbered;
+  right = rw (state_at-append start history more (made_before r) (before_within (accepted r) (moment r) (length history) holds.within)) holds.right;
+  filled = filled_on start history more since r holds.within holds.filled;
+}
 
 before_is : (a : Option Update) (n m : ℕ) → MatchOption a (n ≡ m) (λ u. n ≡ m + 1) → elim a [ None ↦ n | Some u ↦ n - 1 ] ≡ m
 before_is None n m is = is
@@ -61,10 +61,10 @@ right_here start history more now k r leads is right =
 grown : (start : State) (history : List Update) (old new : Current) (n : ℕ) (a : Option Update) → LeadsTo start history old → MatchOption a ((n ≡ old.updates) × (new ≡ old)) (λ u. Fits u old.state × (n ≡ old.updates + 1) × (new ≡ record { state = after u old.state; updates = old.updates + 1 })) → LeadsTo start (history ++ option_to_list a) new
 grown start history old new n None leads changes = rw (append-nil, changes.1) leads
 grown start history old new n (Some u) leads changes = rw changes.2 (record {
-    lawful = IsHistory-append start history (u ∷ []) leads.lawful (rw leads.state (changes.0, tt));
-    state = state_after-append start history (u ∷ []) ∙ ap (after u) leads.state;
-    updates = (let updates = leads.updates in rw length-append (omega arith))
-  })
+  lawful = IsHistory-append start history (u ∷ []) leads.lawful (rw leads.state (changes.0, tt));
+  state = state_after-append start history (u ∷ []) ∙ ap (after u) leads.state;
+  updates = (let updates = leads.updates in rw length-append (omega arith));
+})
 
 numbered_next : (history : List Update) (n m : ℕ) (a : Option Update) → length history ≡ m → MatchOption a (n ≡ m) (λ u. n ≡ m + 1) → (n ≤ length (history ++ option_to_list a)) × IfSome a (λ u. (0 < n) × (slice_get (history ++ option_to_list a) (n - 1) ≡ Some u))
 numbered_next history n m None is moment = (rw append-nil (omega arith), tt)
@@ -76,10 +76,12 @@ numbered_next history n m (Some u) is moment =
 pub step_holds : (start : State) (history : List Update) (old new : Current) (nodes callers since : ℕ) (r : Receipt) → LeadsTo start history old → Step old r new → IsFilled start (history ++ made r) since r → LeadsTo start (history ++ made r) new × Holds start (history ++ made r) nodes callers since r
 step_holds start history old new nodes callers since r leads step filled =
     let now = moment_is (accepted r) (moment r) old.updates (new ≡ old) (λ u. Fits u old.state) (λ u. new ≡ record { state = after u old.state; updates = old.updates + 1 }) step.changes in
-    let next = numbered_next history (moment r) old.updates (accepted r) leads.updates now in
-    (grown start history old new (moment r) (accepted r) leads step.changes, record {
-      within = next.0;
-      numbered = next.1;
-      right = right_here start history (made r) old (made_before r) r leads (before_is (accepted r) (moment r) old.updates now) step.right;
-      filled = filled
-    })
+    let next = numbered_next history (moment r) old.updates (accepted r) leads.updates now in (
+      grown start history old new (moment r) (accepted r) leads step.changes,
+      record {
+        within = next.0;
+        numbered = next.1;
+        right = right_here start history (made r) old (made_before r) r leads (before_is (accepted r) (moment r) old.updates now) step.right;
+        filled = filled;
+      },
+    )

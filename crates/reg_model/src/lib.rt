@@ -10,6 +10,8 @@ mod answer;
 pub mod laws;
 mod plain;
 mod span;
+#[cfg(test)]
+mod tests;
 
 pub use answer::{
     Again, Found, Half, Inserted, Loading, NoMemory, Place, Receipt, Removed, Update,

@@ -30,17 +30,19 @@ threads_hold : (start : State) (history : List Update) (nodes callers : ℕ) (th
 threads_hold start history nodes callers [] a b walk all = tt
 threads_hold start history nodes callers (receipts ∷ threads) a b walk all =
     let walks = Walks-parts a b receipts (of_round threads) walk in
-    let holds = AllByRecursion-parts (HoldsAlways start history) receipts (of_round threads) all in
-    ((AllHold-from_always start history nodes callers 0 receipts holds.0, walk_in_order a walks.0 receipts 0 (omega arith) walks.1.0),
-     threads_hold start history nodes callers threads walks.0 b walks.1.1 holds.1)
+    let holds = AllByRecursion-parts (HoldsAlways start history) receipts (of_round threads) all in (
+      (AllHold-from_always start history nodes callers 0 receipts holds.0, walk_in_order a walks.0 receipts 0 (omega arith) walks.1.0),
+      threads_hold start history nodes callers threads walks.0 b walks.1.1 holds.1,
+    )
 
 rounds_hold : (start : State) (history : List Update) (nodes callers : ℕ) (rounds : List (List (List Receipt))) (a b : Current) → Walks a (in_one rounds) b → AllByRecursion (HoldsAlways start history) (in_one rounds) → RoundsHold start history nodes callers rounds
 rounds_hold start history nodes callers [] a b walk all = tt
 rounds_hold start history nodes callers (round ∷ rounds) a b walk all =
     let walks = Walks-parts a b (of_round round) (in_one rounds) walk in
-    let holds = AllByRecursion-parts (HoldsAlways start history) (of_round round) (in_one rounds) all in
-    (All-from_recursion (λ receipts. AllHold start history nodes (callers + length round) 0 receipts × AreInOrder 0 receipts) round (threads_hold start history nodes (callers + length round) round a walks.0 walks.1.0 holds.0),
-     rounds_hold start history nodes (callers + length round) rounds walks.0 b walks.1.1 holds.1)
+    let holds = AllByRecursion-parts (HoldsAlways start history) (of_round round) (in_one rounds) all in (
+      All-from_recursion (λ receipts. AllHold start history nodes (callers + length round) 0 receipts × AreInOrder 0 receipts) round (threads_hold start history nodes (callers + length round) round a walks.0 walks.1.0 holds.0),
+      rounds_hold start history nodes (callers + length round) rounds walks.0 b walks.1.1 holds.1,
+    )
 
 rounds_between : (rounds : List (List (List Receipt))) (done : ℕ) (a b : Current) → done ≡ a.updates → Walks a (in_one rounds) b → AreInRounds done rounds
 rounds_between [] done a b is walk = tt
@@ -51,9 +53,10 @@ rounds_between (round ∷ rounds) done a b is walk =
     let later = done + done_count (of_round round) in
     let now : walks.0.updates ≡ later = omega arith in
     let P : ℕ → Type 0 = λ low. AllByRecursion (IsBetween low later) (of_round round) in
-    let Q : ℕ → Type 0 = λ high. AllByRecursion (IsBetween a.updates high) (of_round round) in
-    (All-from_recursion (IsBetween done later) (of_round round) (subst P (sym is) (subst Q now rises.between)),
-     rounds_between rounds later walks.0 b (sym now) walks.1.1)
+    let Q : ℕ → Type 0 = λ high. AllByRecursion (IsBetween a.updates high) (of_round round) in (
+      All-from_recursion (IsBetween done later) (of_round round) (subst P (sym is) (subst Q now rises.between)),
+      rounds_between rounds later walks.0 b (sym now) walks.1.1,
+    )
 
 -- a walk from no updates, by the receipts of each thread of each round
 pub lawful_walk : (script : ScriptData) (journal : JournalData) (end : Current) → AllZip (AllZip (AllZip AnswersEvent)) script.rounds journal.rounds → journal.updates ≡ end.updates → Walks (record { state = start_of script; updates = 0 }) (in_one (thread_receipts script.images journal)) end → IsLawful script journal
@@ -68,7 +71,7 @@ lawful_walk script journal end answered updates walk =
       numbered = rw updates (λ number. count_of_number first end receipts number walk);
       history = rw history (walk_leads start [] first end receipts leads walk).lawful;
       receipts = rw history (rounds_hold start (all_made receipts) script.nodes 1 (thread_receipts script.images journal) first end walk (walk_holds start [] first end receipts leads walk));
-      rounds = rounds_between (thread_receipts script.images journal) 0 first end refl walk
+      rounds = rounds_between (thread_receipts script.images journal) 0 first end refl walk;
     }
 
 -- the receipts of a round whose threads hold their answers in a type of their own
@@ -83,21 +86,21 @@ lawful_play {T} {U} answers_of threads_of script rounds updates end answered sam
     let round_of : U → List (List Answer) = λ round. map answers_of (threads_of round) in
     let receipts_in : List (List Answer) → List (List Receipt) = λ round. map (λ answers. flat_map (receipts_of script.images) answers) round in
     let all : in_one (map receipts_in (map round_of rounds)) ≡ flat_map (λ round. flat_map (λ thread. flat_map (receipts_of script.images) (answers_of thread)) (threads_of round)) rounds =
-        flat_map-map of_round receipts_in (map round_of rounds)
-        ∙ flat_map-map (λ (round : List (List Answer)). of_round (receipts_in round)) round_of rounds
-        ∙ flat_map-same _ _ (λ round. round_receipts script.images answers_of (threads_of round)) rounds in
+    flat_map-map of_round receipts_in (map round_of rounds)
+    ∙ flat_map-map (λ (round : List (List Answer)). of_round (receipts_in round)) round_of rounds
+    ∙ flat_map-same _ _ (λ round. round_receipts script.images answers_of (threads_of round)) rounds in
     let P : List Receipt → Type 0 = λ receipts. Walks (record { state = start_of script; updates = 0 }) receipts end in
     let threads_answered = AllZip-weaker _ _ (λ threads round zipped. AllZip-map (AllZip AnswersEvent) answers_of threads (threads_of round) zipped) script.rounds rounds answered in
     lawful_walk script (record { rounds = map round_of rounds; updates = updates }) end
-      (AllZip-map (AllZip (AllZip AnswersEvent)) round_of script.rounds rounds threads_answered)
-      same (subst P (sym all) walk)
+    (AllZip-map (AllZip (AllZip AnswersEvent)) round_of script.rounds rounds threads_answered)
+    same (subst P (sym all) walk)
 
 pub printable_play : {T U : Type 0} (answers_of : T → List Answer) (threads_of : U → List T) (rounds : List U) → All (λ round. All (λ thread. All IsPrintable (answers_of thread)) (threads_of round)) rounds → All (All (All IsPrintable)) (map (λ round. map answers_of (threads_of round)) rounds)
 printable_play {T} {U} answers_of threads_of rounds all =
     let P : U → Type 0 = λ round. All (λ thread. All IsPrintable (answers_of thread)) (threads_of round) in
     let Q : U → Type 0 = λ round. All (All IsPrintable) (map answers_of (threads_of round)) in
     All-map (All (All IsPrintable)) (λ round. map answers_of (threads_of round)) rounds
-      (All-weaker P Q (λ round each. All-map (All IsPrintable) answers_of (threads_of round) each) rounds all)
+    (All-weaker P Q (λ round each. All-map (All IsPrintable) answers_of (threads_of round) each) rounds all)
 
 -- as few answers as events, so that they can be numbered
 pub counted_play : {T U : Type 0} (answers_of : T → List Answer) (threads_of : U → List T) (images : ℕ) (script_rounds : List (List (List Event))) (rounds : List U) → (length script_rounds ≤ 64) × All (IsRound images) script_rounds → AllZip (λ threads round. AllZip (λ events thread. AllZip AnswersEvent events (answers_of thread)) threads (threads_of round)) script_rounds rounds → HasCounts (map (λ round. map answers_of (threads_of round)) rounds)
@@ -105,12 +108,14 @@ counted_play {T} {U} answers_of threads_of images script_rounds rounds few answe
     let count = AllZip-length _ script_rounds rounds answered in
     let Short : List Answer → Type 0 = λ answers. length answers < 2 ^ 32 in
     let thread_short : (events : List Event) (thread : T) → AllZip AnswersEvent events (answers_of thread) → IsThread images events → Short (answers_of thread) =
-        λ events thread zipped is. (let same = AllZip-length AnswersEvent events (answers_of thread) zipped in let short = is.0 in omega arith) in
+    λ events thread zipped is. (let same = AllZip-length AnswersEvent events (answers_of thread) zipped in let short = is.0 in omega arith) in
     let round_short : (threads : List (List Event)) (round : U) → AllZip (λ events thread. AllZip AnswersEvent events (answers_of thread)) threads (threads_of round) → IsRound images threads → (length (map answers_of (threads_of round)) < 2 ^ 32) × All Short (map answers_of (threads_of round)) =
-        λ threads round zipped is. (let same = AllZip-length _ threads (threads_of round) zipped in let short = is.0 in
-          (rw length-map (omega arith),
-           All-map Short answers_of (threads_of round) (AllZip-beside _ (IsThread images) (λ thread. Short (answers_of thread)) thread_short threads (threads_of round) zipped is.1))) in
-    let short = few.0 in
-    (rw length-map (omega arith),
-     All-map (λ threads. (length threads < 2 ^ 32) × All Short threads) (λ round. map answers_of (threads_of round)) rounds
-       (AllZip-beside _ (IsRound images) (λ round. (length (map answers_of (threads_of round)) < 2 ^ 32) × All Short (map answers_of (threads_of round))) round_short script_rounds rounds answered few.1))
+    λ threads round zipped is. (let same = AllZip-length _ threads (threads_of round) zipped in let short = is.0 in (
+      rw length-map (omega arith),
+      All-map Short answers_of (threads_of round) (AllZip-beside _ (IsThread images) (λ thread. Short (answers_of thread)) thread_short threads (threads_of round) zipped is.1),
+    )) in
+    let short = few.0 in (
+      rw length-map (omega arith),
+      All-map (λ threads. (length threads < 2 ^ 32) × All Short threads) (λ round. map answers_of (threads_of round)) rounds
+          (AllZip-beside _ (IsRound images) (λ round. (length (map answers_of (threads_of round)) < 2 ^ 32) × All Short (map answers_of (threads_of round))) round_short script_rounds rounds answered few.1),
+    )

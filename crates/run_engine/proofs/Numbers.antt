@@ -52,13 +52,13 @@ found_by r found history more low mid k (Some u) is move length_is from later =
     let now = move.now in
     let next = move.from in
     elim (cases_lt k mid) [
-      inl here ↦
-        let number : eqb (moment r) (suc k) ≡ true = eq-eqb (moment r) (suc k) (omega arith) in
-        let place : k ≡ length history = omega arith in
-        rw (number, place) (is ∙ sym (slice_get-next history u more))
-    | inr above ↦
-        let number : eqb (moment r) (suc k) ≡ false = ne_eqb (moment r) (suc k) (λ same. omega arith) in
-        rw (number, ← append_assoc history (u ∷ []) more) (later above)
+      | inl here ↦
+          let number : eqb (moment r) (suc k) ≡ true = eq-eqb (moment r) (suc k) (omega arith) in
+          let place : k ≡ length history = omega arith in
+          rw (number, place) (is ∙ sym (slice_get-next history u more))
+      | inr above ↦
+          let number : eqb (moment r) (suc k) ≡ false = ne_eqb (moment r) (suc k) (λ same. omega arith) in
+          rw (number, ← append_assoc history (u ∷ []) more) (later above)
     ]
 
 -- the receipt with the next number has the history's next update
@@ -67,7 +67,7 @@ numbered_at a b [] history k length_is from below walk = absurd (let same = ap (
 numbered_at a b (r ∷ receipts) history k length_is from below (mid, step, unfilled, walk) =
     let move = moves a mid r step in
     found_by r (find (has_number (suc k)) receipts) history (all_made receipts) a.updates mid.updates k (accepted r) refl move length_is from
-      (λ above. numbered_at mid b receipts (history ++ made r) k (longer (accepted r) move) above below walk)
+    (λ above. numbered_at mid b receipts (history ++ made r) k (longer (accepted r) move) above below walk)
   where
     longer : (o : Option Update) → Moves a.updates (moment r) o mid.updates → length (history ++ option_to_list o) ≡ mid.updates
     longer None move = (let stays = move.from in rw append-nil (omega arith))

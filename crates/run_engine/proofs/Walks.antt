@@ -64,7 +64,8 @@ walk_holds start history a b (r ∷ receipts) leads (mid, step, unfilled, walk) 
     let P : List Update → Type 0 = λ all. AllByRecursion (HoldsAlways start all) (r ∷ receipts) in
     subst P (append_assoc history (made r) (all_made receipts)) (
       record { always = λ nodes callers since. holds_on start (history ++ made r) (all_made receipts) nodes callers callers since r (next nodes callers since).1 },
-      walk_holds start (history ++ made r) mid b receipts (next 0 0 0).0 walk)
+      walk_holds start (history ++ made r) mid b receipts (next 0 0 0).0 walk,
+    )
 
 pub AllHold-from_always : (start : State) (history : List Update) (nodes callers since : ℕ) (receipts : List Receipt) → AllByRecursion (HoldsAlways start history) receipts → AllHold start history nodes callers since receipts
 AllHold-from_always start history nodes callers since [] all = tt
@@ -108,7 +109,7 @@ walk_rises a b (r ∷ receipts) (mid, step, unfilled, walk) =
     let one = sum_by-cons (λ (r : Receipt). cond (is_some (accepted r)) 1 0) r receipts in
     record {
       count = omega arith;
-      between = ((omega arith, omega arith), between_wider mid.updates a.updates b.updates receipts (omega arith) rest.between)
+      between = ((omega arith, omega arith), between_wider mid.updates a.updates b.updates receipts (omega arith) rest.between);
     }
 
 order_by : (old new n since : ℕ) (a : Option Update) → since ≤ old → Moves old n a new → MatchOption a (since ≤ n) (λ u. since < n)

@@ -14,5 +14,12 @@ pub trait Gate {
 pub struct NoGate;
 
 impl Gate for NoGate {
-    fn pass<R: Wait>(&self, _rt: &R, _round: u32, _thread: u32, _event: u32, _answer: Option<&Answer>) {}
+    fn pass<R: Wait>(
+        &self,
+        _rt: &R,
+        _round: u32,
+        _thread: u32,
+        _event: u32,
+        _answer: Option<&Answer>,
+    ) {}
 }

@@ -13,6 +13,8 @@ mod ports;
 mod reading;
 mod running;
 mod status;
+#[cfg(test)]
+mod tests;
 mod writing;
 
 pub use gate::{Gate, NoGate};

@@ -16,7 +16,11 @@ use std::alloc::Global;
 use std::sync::Wait;
 
 /// Plays one event.
-fn play_event(registry: &mut PlainRegistry, images: &[Span], event: Event) -> Result<Answer, NoMemory>
+fn play_event(
+    registry: &mut PlainRegistry,
+    images: &[Span],
+    event: Event,
+) -> Result<Answer, NoMemory>
     requires event { IsEvent (length images.now) event }
     requires room { registry.old.updates < 2 ^ 26 }
     ensures answered { IfOk result (λ answer. AnswersEvent event answer) }
@@ -135,13 +139,25 @@ fn play_rounds<R: Wait, G: Gate>(
 
 /// Plays a script against a new registry. The threads of a round take turns, in the order in which they stand: one of
 /// the orders that a journal may show.
-pub fn play<R: Wait, G: Gate>(rt: &R, alloc: Global, gate: &G, script: &Script) -> Result<Journal, NoMemory>
+pub fn play<R: Wait, G: Gate>(
+    rt: &R,
+    alloc: Global,
+    gate: &G,
+    script: &Script,
+) -> Result<Journal, NoMemory>
     ensures lawful { IfOk result (λ journal. IsLawful script.now journal) }
     ensures printable { IfOk result (λ journal. All (All (All IsPrintable)) journal.rounds) }
     ensures counted { IfOk result (λ journal. HasCounts journal.rounds) }
 {
     let mut registry = PlainRegistry::new(alloc, Vec::new(alloc), script.loads);
-    let rounds = play_rounds(rt, alloc, gate, &script.images, &mut registry, &script.rounds)?;
+    let rounds = play_rounds(
+        rt,
+        alloc,
+        gate,
+        &script.images,
+        &mut registry,
+        &script.rounds,
+    )?;
     let updates = registry.updates();
     Ok(Journal { rounds, updates })
 }

@@ -42,11 +42,9 @@ pub fn run<R: Wait, S: Source, K: Sink, G: Gate + Sync>(
     ensures no_memory { result ≡ Status.NoMemory → WritesPart (map string_bytes words.now) (S.remaining source.old) (K.written sink.old) (K.written sink.new) }
 
     // A script that can be read and written is run, unless memory is wanted.
-    ensures complete {
-        AreTaken (map string_bytes words.now) → IfSome (S.remaining source.old) (λ bytes. length bytes ≤ limit → (script : ScriptData) → IsScript bytes script
+    ensures complete { AreTaken (map string_bytes words.now) → IfSome (S.remaining source.old) (λ bytes. length bytes ≤ limit → (script : ScriptData) → IsScript bytes script
         → ¬ Rose (S.faults source.old) (S.faults source.new) → ¬ Rose (K.faults sink.old) (K.faults sink.new)
-        → (result ≡ Status.Done) ⊎ (result ≡ Status.NoMemory))
-    }
+        → (result ≡ Status.Done) ⊎ (result ≡ Status.NoMemory)) }
 {
     end_of(rt, alloc, words, source, sink, gate)
 }
@@ -60,17 +58,22 @@ fn end_of<R: Wait, S: Source, K: Sink, G: Gate + Sync>(
     sink: &mut K,
     gate: &G,
 ) -> Status
-    ensures {
-        Ends (map string_bytes words.now) (S.remaining source.old)
-            (record {
-                reads = S.faults source.old; reads_after = S.faults source.new;
-                writes = K.faults sink.old; writes_after = K.faults sink.new;
-                held = K.written sink.old; held_after = K.written sink.new
-            }) result
-    }
+    ensures { Ends (map string_bytes words.now) (S.remaining source.old)
+        (record {
+          reads = S.faults source.old;
+          reads_after = S.faults source.new;
+          writes = K.faults sink.old;
+          writes_after = K.faults sink.new;
+          held = K.written sink.old;
+          held_after = K.written sink.new;
+        }) result }
 {
     if !are_taken(words) {
-        return conclude(sink, b"usage: unwind_main run | unwind_main gen N\n", Status::Usage);
+        return conclude(
+            sink,
+            b"usage: unwind_main run | unwind_main gen N\n",
+            Status::Usage,
+        );
     }
     let bytes = match take_all(alloc, source) {
         Ok(bytes) => bytes,
@@ -108,14 +111,15 @@ fn are_taken(words: &[String]) -> bool
 
 /// Writes the line that is due with a status.
 fn conclude<K: Sink>(sink: &mut K, line: &[u8], status: Status) -> Status
-    ensures {
-        Concludes line.now status
-            (record {
-                reads = 0; reads_after = 0;
-                writes = K.faults sink.old; writes_after = K.faults sink.new;
-                held = K.written sink.old; held_after = K.written sink.new
-            }) result
-    }
+    ensures { Concludes line.now status
+        (record {
+          reads = 0;
+          reads_after = 0;
+          writes = K.faults sink.old;
+          writes_after = K.faults sink.new;
+          held = K.written sink.old;
+          held_after = K.written sink.new;
+        }) result }
 {
     match write_piece(sink, line) {
         Ok(()) => status,

@@ -120,7 +120,11 @@ fn write_rounds<K: Sink>(
 }
 
 /// Writes a journal, and at its end the number of updates.
-pub fn write_journal<K: Sink>(alloc: Global, sink: &mut K, journal: &Journal) -> Result<(), SinkFault>
+pub fn write_journal<K: Sink>(
+    alloc: Global,
+    sink: &mut K,
+    journal: &Journal,
+) -> Result<(), SinkFault>
     requires printable { All (All (All IsPrintable)) journal.now.rounds }
     requires few { HasCounts journal.now.rounds }
     ensures ok { OnOk result (Gains (K.written sink.old) (K.written sink.new) (journal_text journal.now)) }

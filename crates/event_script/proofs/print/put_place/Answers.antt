@@ -20,5 +20,5 @@ returns-in_ok-push_str-in-Some c =
     let first : string_bytes c.put_found.new.text ≡ old ++ (codes "registered " ++ found) = appended _ _ _ (codes "registered ") found c.in_ok-push_str.ensures.bytes c.in_ok-put_found.ensures in
     let second : string_bytes c.push_str-in-Some.new.self ≡ old ++ ((codes "registered " ++ found) ++ codes " loaded ") = appended _ _ _ (codes "registered " ++ found) (codes " loaded ") first c.in_ok-push_str-in-Some.ensures.bytes in
     rw c.in-Some.is (on_ok_weaker c.put_found-in-Some.result (λ more.
-      appended _ _ _ ((codes "registered " ++ found) ++ codes " loaded ") loaded second more
-      ∙ ap (λ text. old ++ (codes "registered " ++ text)) (append_assoc found (codes " loaded ") loaded)) c.put_found-in-Some.ensures)
+    appended _ _ _ ((codes "registered " ++ found) ++ codes " loaded ") loaded second more
+    ∙ ap (λ text. old ++ (codes "registered " ++ text)) (append_assoc found (codes " loaded ") loaded)) c.put_found-in-Some.ensures)

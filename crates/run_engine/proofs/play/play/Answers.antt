@@ -13,9 +13,9 @@ returns-clause-lawful g c =
     let loads = c.script.inside.loads in
     let first = c.new-registry.ensures ∙ ap (λ fixed. record { state = opening fixed loads; updates = 0 }) c.new.ensures.items in
     rw (← c.script.view_is) (lawful_play (λ thread. thread.items) (λ round. round.items) _ c.in_ok-rounds.rounds.items c.updates-updates.result c.play_rounds.new.registry
-      (rw (← c.deref-2.ensures.value) c.in_ok-rounds.ensures.answered)
-      c.updates-updates.ensures
-      (rw (← c.deref.ensures.value, ← first) c.in_ok-rounds.ensures.walks))
+    (rw (← c.deref-2.ensures.value) c.in_ok-rounds.ensures.answered)
+    c.updates-updates.ensures
+    (rw (← c.deref.ensures.value, ← first) c.in_ok-rounds.ensures.walks))
 
 pub returns-clause-printable : goal.returns-clause-printable
 returns-clause-printable g c = printable_play (λ thread. thread.items) (λ round. round.items) c.in_ok-rounds.rounds.items c.in_ok-rounds.ensures.printable

@@ -27,5 +27,5 @@ loop-index-preserved g c =
       answered = rw grown (AllZip-more (λ events thread. AllZip AnswersEvent events thread.items) passed answers item played before.answered (rw (← events) c.in_ok-played.ensures.answered));
       walks = Walks-push (λ thread. flat_map (receipts_of c.args.images.now) thread.items) _ _ _ answers played before.walks c.in_ok-played.ensures.walks;
       printable = All-push (λ thread. All IsPrintable thread.items) answers played before.printable c.in_ok-played.ensures.printable;
-      room = (let room = before.room in let more = c.in_ok-played.ensures.room in omega arith)
+      room = (let room = before.room in let more = c.in_ok-played.ensures.room in omega arith);
     })

@@ -27,5 +27,5 @@ loop-index-preserved g c =
       answered = rw grown (AllZip-more (λ threads round. AllZip (λ events thread. AllZip AnswersEvent events thread.items) threads round.items) passed answers item played before.answered (rw (← threads) c.in_ok-played.ensures.answered));
       walks = Walks-push (λ round. flat_map (λ thread. flat_map (receipts_of c.args.images.now) thread.items) round.items) _ _ _ answers played before.walks c.in_ok-played.ensures.walks;
       printable = All-push (λ round. All (λ thread. All IsPrintable thread.items) round.items) answers played before.printable c.in_ok-played.ensures.printable;
-      room = (let room = before.room in let more = c.in_ok-played.ensures.room in omega arith)
+      room = (let room = before.room in let more = c.in_ok-played.ensures.room in omega arith);
     })

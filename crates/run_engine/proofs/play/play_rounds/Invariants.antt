@@ -8,8 +8,8 @@ use Rattle.run_engine.proofs.play.play_rounds.Given as goal
 -- the rounds so far are answered, one after another
 abbrev pub invariant-loop-index : goal.invariant-loop-index
 invariant-loop-index g l = record {
-    answered : AllZip (λ threads round. AllZip (λ events thread. AllZip AnswersEvent events thread.items) threads round.items) (take l.index l.rounds) l.answers.items;
-    walks : Walks l.fn.registry (flat_map (λ round. flat_map (λ thread. flat_map (receipts_of l.images) thread.items) round.items) l.answers.items) l.registry;
-    printable : All (λ round. All (λ thread. All IsPrintable thread.items) round.items) l.answers.items;
-    room : l.registry.updates ≤ 65536 * l.index
-  }
+  answered : AllZip (λ threads round. AllZip (λ events thread. AllZip AnswersEvent events thread.items) threads round.items) (take l.index l.rounds) l.answers.items;
+  walks : Walks l.fn.registry (flat_map (λ round. flat_map (λ thread. flat_map (receipts_of l.images) thread.items) round.items) l.answers.items) l.registry;
+  printable : All (λ round. All (λ thread. All IsPrintable thread.items) round.items) l.answers.items;
+  room : l.registry.updates ≤ 65536 * l.index;
+}

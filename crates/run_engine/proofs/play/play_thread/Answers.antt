@@ -17,5 +17,5 @@ loop-index-preserved g c =
       answered = rw (take_more c.args.events.now c.loop-index.index (Register 0) c.loop-index-test.true) (AllZip-more AnswersEvent _ answers _ answer before.answered c.in_ok-answer.ensures.answered);
       walks = Walks-push (receipts_of c.args.images.now) _ _ _ answers answer before.walks c.in_ok-answer.ensures.walks;
       printable = All-push IsPrintable answers answer before.printable c.in_ok-answer.ensures.printable;
-      room = (let room = before.room in let more = c.in_ok-answer.ensures.room in omega arith)
+      room = (let room = before.room in let more = c.in_ok-answer.ensures.room in omega arith);
     })

@@ -8,8 +8,8 @@ use Rattle.run_engine.proofs.play.play_thread.Given as goal
 -- the events so far are answered, one after another
 abbrev pub invariant-loop-index : goal.invariant-loop-index
 invariant-loop-index g l = record {
-    answered : AllZip AnswersEvent (take l.index l.events) l.answers.items;
-    walks : Walks l.fn.registry (flat_map (receipts_of l.images) l.answers.items) l.registry;
-    printable : All IsPrintable l.answers.items;
-    room : l.registry.updates ≤ l.fn.registry.updates + l.index
-  }
+  answered : AllZip AnswersEvent (take l.index l.events) l.answers.items;
+  walks : Walks l.fn.registry (flat_map (receipts_of l.images) l.answers.items) l.registry;
+  printable : All IsPrintable l.answers.items;
+  room : l.registry.updates ≤ l.fn.registry.updates + l.index;
+}

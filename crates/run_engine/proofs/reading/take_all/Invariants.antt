@@ -6,11 +6,11 @@ use Rattle.run_engine.proofs.reading.take_all.Given as goal
 -- what was taken so far
 abbrev pub invariant-pieces : goal.invariant-pieces
 invariant-pieces g l = record {
-    handed : Hands (g.S.Source.remaining l.fn.source) (g.S.Source.remaining l.source) l.bytes.items;
-    limit : vec_len l.bytes ≤ LIMIT + 1;
-    buffer : length l.buffer ≡ PIECE;
-    counted : g.S.Source.faults l.fn.source ≤ g.S.Source.faults l.source
-  }
+  handed : Hands (g.S.Source.remaining l.fn.source) (g.S.Source.remaining l.source) l.bytes.items;
+  limit : vec_len l.bytes ≤ LIMIT + 1;
+  buffer : length l.buffer ≡ PIECE;
+  counted : g.S.Source.faults l.fn.source ≤ g.S.Source.faults l.source;
+}
 
 abbrev pub decreases-pieces : goal.decreases-pieces
 decreases-pieces g l = LIMIT + 1 - vec_len l.bytes

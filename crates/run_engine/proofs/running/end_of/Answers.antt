@@ -17,8 +17,8 @@ pub returns-then-len-gt-LIMIT : goal.returns-then-len-gt-LIMIT
 returns-then-len-gt-LIMIT g c =
     let long : limit < length c.in-Ok.bytes.items = (let count = c.len.ensures in let above = c.if-len-gt-LIMIT.true in omega (arith, c.in-Ok.bytes.ok.0)) in
     ends_concluded _ _ _ _ status.TooLong _
-      (c.are_taken.ensures.0 c.if-not-are_taken.false, Hands-longer limit _ _ c.in-Ok.bytes.items c.in-Ok.ensures.handed long, refl)
-      c.conclude-then-len-gt-LIMIT.ensures
+    (c.are_taken.ensures.0 c.if-not-are_taken.false, Hands-longer limit _ _ c.in-Ok.bytes.items c.in-Ok.ensures.handed long, refl)
+    c.conclude-then-len-gt-LIMIT.ensures
 
 pub returns-in-Err-Bad : goal.returns-in-Err-Bad
 returns-in-Err-Bad g c =
@@ -36,17 +36,24 @@ returns-in-Err-Failed-write_journal g c =
     let short : length bytes.items ≤ limit = (let count = c.len.ensures in let below = c.if-len-gt-LIMIT.false in omega (arith, bytes.ok.0)) in
     let within : vec_len bytes ≤ limit = (let count = c.len.ensures in let below = c.if-len-gt-LIMIT.false in omega arith) in
     let P : List ℕ → Type 0 = λ had. (length had ≤ limit) × IsScript had c.in-Ok-read.script in
-    let failed = rw c.in-Err-Failed-write_journal.field-0-is at c.in-Err-Failed-write_journal.ensures.failed in
-    (failed refl,
-     inr (status.Done, journal_text c.in-Ok-play.journal,
-       (c.are_taken.ensures.0 c.if-not-are_taken.false, record {
-         script = c.in-Ok-read.script;
-         journal = c.in-Ok-play.journal;
-         spelled = IfSome-same _ bytes.items P (c.in-Ok.ensures.all within) (short, rw (← c.deref.ensures.value) c.in-Ok-read.ensures.ok);
-         lawful = c.in-Ok-play.ensures.lawful;
-         text_is = refl
-       }),
-       c.in-Err-Failed-write_journal.ensures.err))
+    let failed = rw c.in-Err-Failed-write_journal.field-0-is at c.in-Err-Failed-write_journal.ensures.failed in (
+      failed refl,
+      inr (
+        status.Done,
+        journal_text c.in-Ok-play.journal,
+        (
+          c.are_taken.ensures.0 c.if-not-are_taken.false,
+          record {
+            script = c.in-Ok-read.script;
+            journal = c.in-Ok-play.journal;
+            spelled = IfSome-same _ bytes.items P (c.in-Ok.ensures.all within) (short, rw (← c.deref.ensures.value) c.in-Ok-read.ensures.ok);
+            lawful = c.in-Ok-play.ensures.lawful;
+            text_is = refl;
+          },
+        ),
+        c.in-Err-Failed-write_journal.ensures.err,
+      ),
+    )
 
 pub returns : goal.returns
 returns g c =
@@ -54,12 +61,18 @@ returns g c =
     let short : length bytes.items ≤ limit = (let count = c.len.ensures in let below = c.if-len-gt-LIMIT.false in omega (arith, bytes.ok.0)) in
     let within : vec_len bytes ≤ limit = (let count = c.len.ensures in let below = c.if-len-gt-LIMIT.false in omega arith) in
     let P : List ℕ → Type 0 = λ had. (length had ≤ limit) × IsScript had c.in-Ok-read.script in
-    inr (status.Done, journal_text c.in-Ok-play.journal,
-      (c.are_taken.ensures.0 c.if-not-are_taken.false, record {
-        script = c.in-Ok-read.script;
-        journal = c.in-Ok-play.journal;
-        spelled = IfSome-same _ bytes.items P (c.in-Ok.ensures.all within) (short, rw (← c.deref.ensures.value) c.in-Ok-read.ensures.ok);
-        lawful = c.in-Ok-play.ensures.lawful;
-        text_is = refl
-      }),
-      c.in-Err-NoMemory-write_journal.ensures.err)
+    inr (
+      status.Done,
+      journal_text c.in-Ok-play.journal,
+      (
+        c.are_taken.ensures.0 c.if-not-are_taken.false,
+        record {
+          script = c.in-Ok-read.script;
+          journal = c.in-Ok-play.journal;
+          spelled = IfSome-same _ bytes.items P (c.in-Ok.ensures.all within) (short, rw (← c.deref.ensures.value) c.in-Ok-read.ensures.ok);
+          lawful = c.in-Ok-play.ensures.lawful;
+          text_is = refl;
+        },
+      ),
+      c.in-Err-NoMemory-write_journal.ensures.err,
+    )

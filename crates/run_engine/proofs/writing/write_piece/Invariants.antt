@@ -5,10 +5,10 @@ use Rattle.run_engine.proofs.writing.write_piece.Given as goal
 -- the front of the piece was written
 abbrev pub invariant-loop-at : goal.invariant-loop-at
 invariant-loop-at g l = record {
-    within : l.at ≤ length l.piece;
-    gained : Gains (g.K.Sink.written l.fn.sink) (g.K.Sink.written l.sink) (take l.at l.piece);
-    counted : g.K.Sink.faults l.fn.sink ≤ g.K.Sink.faults l.sink
-  }
+  within : l.at ≤ length l.piece;
+  gained : Gains (g.K.Sink.written l.fn.sink) (g.K.Sink.written l.sink) (take l.at l.piece);
+  counted : g.K.Sink.faults l.fn.sink ≤ g.K.Sink.faults l.sink;
+}
 
 abbrev pub decreases-loop-at : goal.decreases-loop-at
 decreases-loop-at g l = length l.piece - l.at

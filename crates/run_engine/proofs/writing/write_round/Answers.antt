@@ -9,7 +9,7 @@ loop-index-preserved g c =
     let counted_before = c.loop-index.invariant.counted in
     record {
       gained = gains_more (λ thread answers. thread_text c.args.round thread answers.items) c.args.threads.now c.loop-index.index c.index-threads-index.result c.loop-index-test.true c.index-threads-index.is _ _ _ c.loop-index.invariant.gained (rw c.deref.ensures.value at c.in-Ok.ensures.ok);
-      counted = omega arith
+      counted = omega arith;
     }
 
 pub returns-in-Err-clause-err : goal.returns-in-Err-clause-err

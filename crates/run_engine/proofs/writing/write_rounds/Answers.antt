@@ -9,7 +9,7 @@ loop-index-preserved g c =
     let counted_before = c.loop-index.invariant.counted in
     record {
       gained = gains_more (λ round threads. numbered (λ thread answers. thread_text round thread answers.items) 1 threads.items) c.args.rounds.now c.loop-index.index c.index-rounds-index.result c.loop-index-test.true c.index-rounds-index.is _ _ _ c.loop-index.invariant.gained (rw c.deref.ensures.value at c.in-Ok.ensures.ok);
-      counted = omega arith
+      counted = omega arith;
     }
 
 pub returns-in-Err-clause-err : goal.returns-in-Err-clause-err

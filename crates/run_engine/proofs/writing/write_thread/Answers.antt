@@ -9,7 +9,7 @@ loop-index-preserved g c =
     let counted_before = c.loop-index.invariant.counted in
     record {
       gained = gains_more (answer_text c.args.number.round c.args.number.thread) c.args.answers.now c.loop-index.index c.index-answers-index.result c.loop-index-test.true c.index-answers-index.is _ _ _ c.loop-index.invariant.gained c.in-Ok.ensures.ok;
-      counted = omega arith
+      counted = omega arith;
     }
 
 pub returns-in-Err-clause-err : goal.returns-in-Err-clause-err
