@@ -1,11 +1,11 @@
 -- Receipts: a right answer holds where it was given, and holds on.
-use Rattle.std.proofs.Common.{◌≡◌, ℕ, ◌+◌, ◌-◌, ◌<◌, ◌≤◌, List, [], ◌∷◌, ◌++◌, length, take, Option, Some, None, MatchOption, IfSome, refl, sym, ◌∙◌, ap, subst, arith, length-append}
+use Rattle.std.proofs.Common.{◌≡◌, ℕ, ◌+◌, ◌-◌, ◌<◌, ◌≤◌, List, [], ◌∷◌, ◌++◌, length, Option, Some, None, MatchOption, IfSome, sym, ◌∙◌, ap, subst, arith, length-append}
 use Rattle.std.specs.List.{slice_get}
 use Rattle.std.specs.Option.{option_to_list}
 use Rattle.std.proofs.lemmas.List.{append-nil}
 use Rattle.reg_model.proofs.Histories.{state_after-append, IsHistory-append, state_at-append, state_at-length, slice_get-append, slice_get-next}
 use Rattle.reg_model.specs.State.{State}
-use Rattle.reg_model.specs.History.{Fits, after, IsHistory, state_after, state_at}
+use Rattle.reg_model.specs.History.{Fits, after, state_at}
 use Rattle.reg_model.specs.Receipt.{moment, accepted, made, made_before, IsRight, IsFilled, Holds}
 use Rattle.reg_model.specs.Current.{Current, LeadsTo, Step}
 use Rattle.reg_model.specs.declared.answer.Update.{Update}
