@@ -12,9 +12,11 @@ pub mod laws;
 mod print;
 mod reader;
 mod script;
+mod spell;
 
 pub use journal::{Answer, Journal};
 pub use print::{print_answer, print_journal};
 pub use reader::fault::Reason;
 pub use reader::{ScriptFault, read};
 pub use script::{Event, Round, Script, Thread};
+pub use spell::print_script;
