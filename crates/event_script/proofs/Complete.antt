@@ -22,7 +22,7 @@ use Rattle.frame_parse.specs.Sections.{Contents}
 use Rattle.frame_parse.specs.declared.fault.FrameFault.{FrameFault}
 use Rattle.event_script.specs.Section.{section_of}
 use Rattle.event_script.specs.ScriptData.{IsSectionOf}
-use Rattle.event_script.specs.Reading.{ImageData, section_or, with_image}
+use Rattle.event_script.specs.Reading.{ImageData, section_or}
 use Rattle.event_script.specs.Spelling.{section_text, script_text}
 use Rattle.event_script.proofs.Sections.{bytes_again, section_visible, section_ok}
 use Rattle.event_script.specs.ScriptData.{ScriptData, IsEvent, IsThread, IsRound}
@@ -201,11 +201,11 @@ module _ (nodes loads : ℕ) where
       let known : Known = at stage.Images front before [] [] [] in
       let fields : Line = decimal number ∷ hex span.first ∷ hex (span.last + 1 - span.first) ∷ hex section.address ∷ section_text section.bytes ∷ [] in
       reads_line known (at stage.Images (front ++ span ∷ []) (before ++ section ∷ []) [] [] []) (codes "image") fields
-        (word_visible kind.Image, (decimal_visible number (omega arith), (hex_visible span.first (omega arith), (hex_visible (span.last + 1 - span.first) (omega arith), (hex_visible section.address whole.address, (section_visible section.bytes whole.bytes, tt)))))) refl
-        (by_kind known kind.Image fields refl refl
-          ∙ ap (λ (r : Result ImageData Reason). r >>= λ image. image_line_of known image) (image_again number span.first (span.last + 1 - span.first) section.address section.bytes (omega arith) (omega arith) (omega arith) whole.address whole.bytes)
-          ∙ ap (λ (n : ℕ). image_line_of known (record { number = n; base = span.first; size = span.last + 1 - span.first; section = section.address; bytes = section.bytes })) same
-          ∙ image_line_good front before span section room is whole)
+      (word_visible kind.Image, (decimal_visible number (omega arith), (hex_visible span.first (omega arith), (hex_visible (span.last + 1 - span.first) (omega arith), (hex_visible section.address whole.address, (section_visible section.bytes whole.bytes, tt)))))) refl
+      (by_kind known kind.Image fields refl refl
+      ∙ ap (λ (r : Result ImageData Reason). r >>= λ image. image_line_of known image) (image_again number span.first (span.last + 1 - span.first) section.address section.bytes (omega arith) (omega arith) (omega arith) whole.address whole.bytes)
+      ∙ ap (λ (n : ℕ). image_line_of known (record { number = n; base = span.first; size = span.last + 1 - span.first; section = section.address; bytes = section.bytes })) same
+      ∙ image_line_good front before span section room is whole)
 
   reads_images : (front images : List Interval) (number : ℕ) (before sections : List Contents) → number ≡ length front → length sections ≡ length images → length front + length images ≤ 4096 → AllByRecursion IsSpan images → AllByRecursion IsSectionOf sections
       → Reads (at stage.Images front before [] [] []) (image_lines number images sections) (at stage.Images (front ++ images) (before ++ sections) [] [] [])
@@ -217,7 +217,7 @@ module _ (nodes loads : ℕ) where
       let rest = reads_images (front ++ span ∷ []) images (number + 1) (before ++ section ∷ []) sections (omega (arith, length-append front (span ∷ []))) (omega arith) (omega (arith, length-append front (span ∷ []))) spans.1 whole.1 in
       let all = reads_then (at stage.Images front before [] [] []) (at stage.Images (front ++ span ∷ []) (before ++ section ∷ []) [] [] []) (at stage.Images ((front ++ span ∷ []) ++ images) ((before ++ section ∷ []) ++ sections) [] [] []) (image_line number span section ∷ []) (image_lines (number + 1) images sections) first rest in
       subst (λ (y : List Contents). Reads (at stage.Images front before [] [] []) (image_lines number (span ∷ images) (section ∷ sections)) (at stage.Images (front ++ span ∷ images) y [] [] [])) (append_assoc before (section ∷ []) sections)
-        (subst (λ (x : List Interval). Reads (at stage.Images front before [] [] []) (image_lines number (span ∷ images) (section ∷ sections)) (at stage.Images x ((before ++ section ∷ []) ++ sections) [] [] [])) (append_assoc front (span ∷ []) images) all)
+      (subst (λ (x : List Interval). Reads (at stage.Images front before [] [] []) (image_lines number (span ∷ images) (section ∷ sections)) (at stage.Images x ((before ++ section ∷ []) ++ sections) [] [] [])) (append_assoc front (span ∷ []) images) all)
 
   -- ---- rounds, threads and events
 

@@ -9,3 +9,4 @@ pub mod Steps
 pub mod Sections
 pub mod Sound
 pub mod Complete
+pub mod Spelled

@@ -1,13 +1,13 @@
 -- The bytes of sections as text, and the section that bytes are.
-use Rattle.std.proofs.Common.{◌≡◌, ℕ, suc, zero, ◌+◌, ◌*◌, ◌/◌, ◌%◌, ◌<◌, ◌≤◌, ◌≢◌, true≢false, ◌⊎◌, inl, inr, Bool, true, false, cond, not, ◌&&◌, ◌||◌, eqb, leb, List, [], ◌∷◌, length, get_or, Option, Some, None, Result, Ok, Err, refl, sym, ap, ap₂, subst, ◌∙◌, arith}
+use Rattle.std.proofs.Common.{◌≡◌, ℕ, suc, ◌+◌, ◌*◌, ◌/◌, ◌%◌, ◌<◌, ◌≤◌, ◌≢◌, true≢false, ◌⊎◌, inl, inr, Bool, true, false, cond, not, ◌&&◌, ◌||◌, eqb, leb, List, [], ◌∷◌, length, Option, Some, None, Result, Ok, Err, refl, sym, ap, ap₂, subst, ◌∙◌, arith}
 use Rattle.std.specs.Prelude.{slice_index, codes}
 use Rattle.std.specs.List.{AllByRecursion, list_all}
 use Rattle.std.specs.Option.{unwrap_or}
 use Rattle.std.specs.Str.{bytes_eq}
-use Rattle.std.proofs.lemmas.Bool.{agree_below, agree_below_at, and_parts, and_from, or_cases, leb-true, cond-true, cond-false, eqb-true, and_right}
+use Rattle.std.proofs.lemmas.Bool.{agree_below_at, and_parts, and_from, or_cases, leb-true, cond-true, cond-false, eqb-true, and_right}
 use Rattle.std.proofs.lemmas.Nat.{div-mul-add, mod-mul-add}
 use Rattle.std.proofs.lemmas.Slice.Eq.{bytes_eq-Decides}
-use Rattle.hex.specs.Hex.{◌>>=◌, IsBytes, decode_of, decode_pairs, encode_lower, encode_with, hex_digit_value, lower_digits, pair_value, value_at, digit_or_error, is_hex_digit}
+use Rattle.hex.specs.Hex.{◌>>=◌, IsBytes, decode_of, decode_pairs, encode_lower, encode_with, hex_digit_value, lower_digits, pair_value, value_at, digit_or_error}
 use Rattle.hex.specs.declared.error.FromHexError.{FromHexError}
 use Rattle.hex.proofs.HexLemmas.{decode_of-ok, decode_of-even, decode_of-encode_lower}
 use Rattle.frame_parse.specs.declared.fault.FrameFault.{FrameFault}
@@ -33,9 +33,9 @@ or_right_of false y e t = absurd cc
 
 lower_below : (c : ℕ) → is_lower c ≡ true → c < 256
 lower_below c e = elim (or_cases (leb 48 c && leb c 57) (leb 97 c && leb c 102) e) [
-    | inl low ↦ omega (arith, leb-true c 57 (and_parts (leb 48 c) (leb c 57) low).1)
-    | inr high ↦ omega (arith, leb-true c 102 (and_parts (leb 97 c) (leb c 102) high).1)
-  ]
+  | inl low ↦ omega (arith, leb-true c 57 (and_parts (leb 48 c) (leb c 57) low).1)
+  | inr high ↦ omega (arith, leb-true c 102 (and_parts (leb 97 c) (leb c 102) high).1)
+]
 
 lower_digit : (c v : ℕ) → is_lower c ≡ true → hex_digit_value c ≡ Some v → slice_index lower_digits v ≡ c
 lower_digit c v lower is =
@@ -140,6 +140,7 @@ module _ (field : List ℕ) (no_dash : bytes_eq field (codes "-") ≡ false) whe
           let lower = encode_is_lower (b ∷ rest) (decode_of-ok field (b ∷ rest) is).3 in
           true≢false (sym lower ∙ ap (list_all is_lower) (sym spelled) ∙ other)
       same b rest bytes is false eq e = cc
+
       by : (d : Result (List ℕ) FromHexError) → decode_of field ≡ d → (bytes : List ℕ) → bytes_if field d ≡ Some bytes → ⊥
       by (Err x) is bytes e = cc
       by (Ok []) is bytes e = cc
@@ -170,11 +171,13 @@ bytes_again (b ∷ bytes) fits =
 visible_if_lower : (field : List ℕ) → list_all is_lower field ≡ true → AllByRecursion (λ b. (33 ≤ b) × (b ≤ 126)) field
 visible_if_lower [] lower = tt
 visible_if_lower (c ∷ field) lower =
-    let p = and_parts (is_lower c) (list_all is_lower field) lower in
-    (elim (or_cases (leb 48 c && leb c 57) (leb 97 c && leb c 102) p.0) [
-      | inl low ↦ (omega (arith, leb-true 48 c (and_parts (leb 48 c) (leb c 57) low).0), omega (arith, leb-true c 57 (and_parts (leb 48 c) (leb c 57) low).1))
-      | inr high ↦ (omega (arith, leb-true 97 c (and_parts (leb 97 c) (leb c 102) high).0), omega (arith, leb-true c 102 (and_parts (leb 97 c) (leb c 102) high).1))
-    ], visible_if_lower field p.1)
+    let p = and_parts (is_lower c) (list_all is_lower field) lower in (
+      elim (or_cases (leb 48 c && leb c 57) (leb 97 c && leb c 102) p.0) [
+        | inl low ↦ (omega (arith, leb-true 48 c (and_parts (leb 48 c) (leb c 57) low).0), omega (arith, leb-true c 57 (and_parts (leb 48 c) (leb c 57) low).1))
+        | inr high ↦ (omega (arith, leb-true 97 c (and_parts (leb 97 c) (leb c 102) high).0), omega (arith, leb-true c 102 (and_parts (leb 97 c) (leb c 102) high).1))
+      ],
+      visible_if_lower field p.1,
+    )
 
 pub section_visible : (bytes : List ℕ) → IsBytes bytes → AllByRecursion (λ b. (33 ≤ b) × (b ≤ 126)) (section_text bytes)
 section_visible [] fits = ((omega arith, omega arith), tt)

@@ -147,7 +147,7 @@ module _ (nodes loads : ℕ) (images : List Interval) (sections : List Contents)
 
 -- ---- images
 
-images_push : (number : ℕ) (images : List Interval) (sections : List Contents) (span : Interval) (section : Contents) → length sections ≡ length images
+pub images_push : (number : ℕ) (images : List Interval) (sections : List Contents) (span : Interval) (section : Contents) → length sections ≡ length images
     → image_lines number (images ++ span ∷ []) (sections ++ section ∷ []) ≡ image_lines number images sections ++ image_line (number + length images) span section ∷ []
 images_push number [] [] span section e = ap (λ (n : ℕ). image_line n span section ∷ []) (omega arith)
 images_push number [] (a ∷ sections) span section e = absurd (omega arith)
@@ -266,7 +266,7 @@ module _ (nodes loads : ℕ) (images : List Interval) (sections : List Contents)
 
 -- ---- events
 
-events_push : (events : List Event) (e : Event) → event_lines (events ++ e ∷ []) ≡ event_lines events ++ event_line e ∷ []
+pub events_push : (events : List Event) (e : Event) → event_lines (events ++ e ∷ []) ≡ event_lines events ++ event_line e ∷ []
 events_push [] e = refl
 events_push (first ∷ events) e = ap (λ (x : List Line). event_line first ∷ x) (events_push events e)
 
@@ -412,7 +412,7 @@ word_sound known next (word ∷ fields) s e =
     let may = guard_then (may_come known.stage a.0) reason.Word _ next a.2 in
     let built = guard_else (is_unbuilt known.stage a.0) reason.Unbuilt _ next may.1 in
     subst (λ (w : List ℕ). Step known next (w ∷ fields)) (sym (kind_word word a.0 a.1))
-      (kind_sound known.nodes known.loads known.images known.sections known.rounds known.threads known.events known.stage a.0 next fields may.0 built.0 s built.1)
+    (kind_sound known.nodes known.loads known.images known.sections known.rounds known.threads known.events known.stage a.0 next fields may.0 built.0 s built.1)
 
 pub line_sound : (known next : Known) (line : List ℕ) → Sound known → after_line known line ≡ Ok next → Step known next (pieces 32 line)
 unfolding after_line

@@ -139,7 +139,7 @@ image_fields_are fields image e =
     let bytes = bytes_are f.0.4 c.0 (some_from (bytes_in f.0.4) reason.Spelling c.0 c.1) in
     let parts = five_is fields f.0 (some_from (five fields) reason.Fields f.0 f.1) in
     same_image fields (record { number = n.0; base = b.0; size = s.0; section = a.0; bytes = c.0 }) image
-      (record { is = five_same fields _ _ _ _ _ _ _ _ _ _ parts number.1 base.1 size.1 section.1 bytes.1; number = number.0; base = base.0; size = size.0; section = section.0; bytes = bytes.0 }) c.2
+    (record { is = five_same fields _ _ _ _ _ _ _ _ _ _ parts number.1 base.1 size.1 section.1 bytes.1; number = number.0; base = base.0; size = size.0; section = section.0; bytes = bytes.0 }) c.2
 
 -- ---- the kind of a line
 

@@ -1,5 +1,5 @@
 -- The grammar of scripts: which bytes spell which script.
-use Rattle.std.specs.Prelude.{◌≡◌, ℕ, ◌+◌, ◌-◌, ◌^◌, ◌<◌, List, [], ◌∷◌, ◌++◌, length, false, All, codes}
+use Rattle.std.specs.Prelude.{◌≡◌, ℕ, ◌+◌, ◌-◌, List, [], ◌∷◌, ◌++◌, false, codes}
 use Rattle.std.specs.List.{flat_map}
 use Rattle.std.specs.Fmt.{decimal, digits}
 use Rattle.hex.specs.Hex.{encode_lower}
@@ -55,13 +55,13 @@ abbrev pub round_lines : List (List (List Event)) → List Line
 round_lines [] = []
 round_lines (threads ∷ rounds) = (codes "round" ∷ []) ∷ thread_lines threads ++ round_lines rounds
 
+-- the version and the two numbers
+abbrev pub first_lines : ℕ → ℕ → List Line
+first_lines nodes loads = (codes "frames" ∷ codes "1" ∷ []) ∷ (codes "nodes" ∷ decimal nodes ∷ []) ∷ (codes "loads" ∷ decimal loads ∷ []) ∷ []
+
 -- the lines of a script
 abbrev pub script_lines : ScriptData → List Line
-script_lines s =
-    (codes "frames" ∷ codes "1" ∷ [])
-    ∷ (codes "nodes" ∷ decimal s.nodes ∷ [])
-    ∷ (codes "loads" ∷ decimal s.loads ∷ [])
-    ∷ (image_lines 0 s.images s.sections ++ round_lines s.rounds ++ (codes "end" ∷ []) ∷ [])
+script_lines s = first_lines s.nodes s.loads ++ image_lines 0 s.images s.sections ++ round_lines s.rounds ++ (codes "end" ∷ []) ∷ []
 
 -- the text of a script
 unfoldable pub script_text : ScriptData → List ℕ

@@ -2,7 +2,7 @@
 
 ghost use Rattle.std.specs.Prelude.{◌≡◌, ℕ, List};
 ghost use Rattle.event_script.specs.ScriptData.{ScriptData};
-ghost use Rattle.event_script.specs.Spelling.{IsScript};
+ghost use Rattle.event_script.specs.Spelling.{IsScript, script_text};
 ghost use Rattle.event_script.specs.Reading.{HasOneAnswer};
 
 /// Bytes spell one script at the most.
@@ -13,4 +13,11 @@ pub fn bytes_spell_one_script()
 /// Bytes spell one script, or have one first bad line with one reason, and never both.
 pub fn bytes_have_one_answer()
     ensures { (bytes : List ℕ) → HasOneAnswer bytes }
+{}
+
+/// Where bytes spell a script, its text is these bytes, and it is spelled by its text: so what was read prints
+/// back, and what was printed is read again.
+pub fn scripts_print_back()
+    ensures printed { (bytes : List ℕ) (s : ScriptData) → IsScript bytes s → script_text s ≡ bytes }
+    ensures read_again { (bytes : List ℕ) (s : ScriptData) → IsScript bytes s → IsScript (script_text s) s }
 {}

@@ -13,6 +13,7 @@ pub mod laws;
 mod print;
 mod reader;
 mod script;
+mod spell;
 
 pub use fault_text::print_fault;
 pub use journal::{Answer, Journal};
@@ -20,3 +21,4 @@ pub use print::{print_answer, print_journal, print_updates};
 pub use reader::fault::Reason;
 pub use reader::{ScriptFault, read};
 pub use script::{Event, Round, Script, Thread};
+pub use spell::print_script;

@@ -68,9 +68,7 @@ pub fn hex_in(field: &[u8]) -> Option<u64>
 fn are_lower(field: &[u8]) -> bool
     ensures { result ≡ list_all is_lower field.now }
 {
-    field
-        .iter()
-        .all(|b| (b'0' <= *b && *b <= b'9') || (b'a' <= *b && *b <= b'f'))
+    field.iter().all(|b| (b'0' <= *b && *b <= b'9') || (b'a' <= *b && *b <= b'f'))
 }
 
 #[tactic(auto, unfolding(crate::specs::Fields::bytes_in))]

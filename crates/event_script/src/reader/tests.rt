@@ -2,6 +2,8 @@
 
 use super::*;
 use crate::script::Event;
+use crate::spell::print_script;
+use frame_parse::FrameFault;
 use std::test::Fail;
 
 const ONE_RANGE: &[u8] =
@@ -67,8 +69,14 @@ const SCRIPTS: [(&[u8], u32, usize, usize); 8] = [
     ),
 ];
 
+/// A script with a section that ends behind a record (section_without_end_mark), and how many bytes that has.
+const SECTION: (&[u8], usize) = (
+    b"frames 1\nnodes 16\nloads 8\nimage 0 1000 30 2000 1400000000000000017a5200017810011b0c0708900100001c0000001c000000e0efffff2000000000410e108602430d0600000000000000140000003c000000e0efffff100000000000000000000000\nround\nthread\nend\n",
+    80,
+);
+
 /// Texts with their first bad line and its reason: the script above with one change each, and a few more.
-const BAD: [(&[u8], u32, Reason); 65] = [
+const BAD: [(&[u8], u32, Reason); 69] = [
     (
         b"frames 1\nnodes 16\nloads 8\nimage 0 1000 20 0 -\nround\nthread\nregister 0\nfind 1010\nfind 1020\nderegister 1000\nfind 1010\n",
         12,
@@ -245,6 +253,18 @@ const BAD: [(&[u8], u32, Reason); 65] = [
         Reason::Order,
     ),
     (
+        b"frames 1\nnodes 16\nloads 8\nimage 0 1000 0 0 00\nround\nthread\nregister 0\nfind 1010\nfind 1020\nderegister 1000\nfind 1010\nend\n",
+        4,
+        Reason::Span,
+    ),
+    (
+        b"frames 1\nnodes 16\nloads 8\nimage 0 1000 20 0 00\nround\nthread\nregister 0\nfind 1010\nfind 1020\nderegister 1000\nfind 1010\nend\n",
+        4,
+        Reason::Section {
+            fault: FrameFault::Short { start: 0, at: 0 },
+        },
+    ),
+    (
         b"frames 1\nnodes 16\nloads 8\nimage 0 ffffffffffffffff 1 0 -\nround\nthread\nregister 0\nfind 1010\nfind 1020\nderegister 1000\nfind 1010\nend\n",
         4,
         Reason::Span,
@@ -390,6 +410,24 @@ const BAD: [(&[u8], u32, Reason); 65] = [
         4,
         Reason::Spelling,
     ),
+    (
+        b"frames 1\nnodes 16\nloads 8\nimage 0 1000 30 2000 1400000000000000017a5200017810011b0c0708900100001c0000001c000000e0efffff20000000\nround\nthread\nend\n",
+        4,
+        Reason::Section {
+            fault: FrameFault::Short { start: 24, at: 24 },
+        },
+    ),
+    (
+        b"frames 1\nnodes 16\nloads 8\nimage 0 1000 30 2000 1400000000000000047a5200017810011b0c0708900100001c0000001c000000e0efffff2000000000410e108602430d0600000000000000140000003c000000e0efffff10000000000000000000000000000000\nround\nthread\nend\n",
+        4,
+        Reason::Section {
+            fault: FrameFault::Version {
+                start: 0,
+                at: 8,
+                byte: 4,
+            },
+        },
+    ),
 ];
 
 #[test]
@@ -430,6 +468,28 @@ fn scripts_are_read(rt: HostRuntime) -> Result<(), Fail> {
                 assert_eq!(rt; thread.events.len(), events);
             }
         }
+    }
+    Ok(())
+}
+
+#[test]
+fn a_section_is_kept(rt: HostRuntime) -> Result<(), Fail> {
+    let (text, bytes) = SECTION;
+    let script = read(rt.alloc(), text)?;
+    assert_eq!(rt; script.sections.len(), 1);
+    for section in &script.sections {
+        assert_eq!(rt; section.address(), 0x2000);
+        assert_eq!(rt; section.bytes().len(), bytes);
+    }
+    Ok(())
+}
+
+#[test]
+fn what_was_read_prints_back(rt: HostRuntime) -> Result<(), Fail> {
+    for text in [ONE_RANGE, SECTION.0] {
+        let script = read(rt.alloc(), text)?;
+        let printed = print_script(rt.alloc(), &script)?;
+        assert_eq!(rt; printed.as_slice(), text);
     }
     Ok(())
 }

@@ -1,4 +1,4 @@
-use Rattle.std.proofs.Common.{ℕ, ◌+◌, List, length, ◌≡◌, ◌≢◌, ◌<◌, ◌≤◌, get_or}
+use Rattle.std.proofs.Common.{ℕ, ◌+◌, length, ◌≡◌, ◌≢◌, ◌<◌, ◌≤◌, get_or}
 use Rattle.event_script.specs.Fields.{pieces}
 use Rattle.event_script.specs.Reading.{outcome, after_lines}
 use Rattle.event_script.proofs.Sound.{Sound, lines_so_far}

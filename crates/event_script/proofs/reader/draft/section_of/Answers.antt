@@ -1,5 +1,4 @@
-use Rattle.std.proofs.Common.{◌≡◌, sym, ap, ap₂, ◌∙◌, Ok}
-use Rattle.frame_parse.specs.Sections.{Contents}
+use Rattle.std.proofs.Common.{ap}
 use Rattle.event_script.specs.Reading.{section_or}
 use Rattle.event_script.proofs.Sections.{section_ok_of, section_bad_or}
 use Rattle.event_script.proofs.reader.draft.section_of.Goals as goal

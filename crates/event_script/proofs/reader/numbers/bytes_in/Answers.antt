@@ -1,8 +1,7 @@
-use Rattle.std.proofs.Common.{◌≡◌, ℕ, List, Bool, true, false, Some, None, ap, sym, ◌∙◌, eqb-true, inl, inr}
+use Rattle.std.proofs.Common.{◌≡◌, true, false, Some, ap, sym, ◌∙◌, eqb-true, inl, inr}
 use Rattle.std.specs.Prelude.{codes}
 use Rattle.std.specs.Str.{bytes_eq}
-use Rattle.std.proofs.lemmas.Bool.{eqb-false, cond-true}
-use Rattle.event_script.specs.Fields.{bytes_in}
+use Rattle.std.proofs.lemmas.Bool.{eqb-false}
 use Rattle.event_script.proofs.Sections.{dash_in, undecoded_in, empty_in, not_lower_in, decoded_in}
 use Rattle.event_script.proofs.reader.numbers.bytes_in.Goals as goal
 
@@ -29,4 +28,4 @@ returns-in-Ok c =
 pub returns-in_default : goal.returns-in_default
 returns-in_default c =
     let other : bytes_eq c.args.field.now (codes "-") ≡ false = ap (bytes_eq c.args.field.now) (sym c.as_slice.ensures) ∙ sym c.if-eq.ensures in
-    sym (elim c.in-Err.ensures.err [ | inl memory ↦ absurd (c.in_default.not-OutOfMemory memory) | inr is ↦ undecoded_in c.args.field.now other c.in-Err.fault is ])
+    sym (elim c.in-Err.ensures.err [ inl memory ↦ absurd (c.in_default.not-OutOfMemory memory) | inr is ↦ undecoded_in c.args.field.now other c.in-Err.fault is ])
