@@ -178,3 +178,10 @@ pub(crate) fn length8(start: usize, cursor: &mut Cursor) -> Result<u64, FrameFau
         Err(_) => Err(FrameFault::Short { start, at: start }),
     }
 }
+
+/// Two bytes, the lowest first.
+pub(crate) fn pair(start: usize, cursor: &mut Cursor) -> Result<u16, FrameFault>
+    ensures { Gives (λ x. x) (fixed start 2).read cursor.old result cursor.new }
+{
+    placed(start, cursor.u16())
+}

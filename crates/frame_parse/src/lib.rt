@@ -11,14 +11,19 @@ mod fault;
 mod fde;
 mod fields;
 mod handle;
+mod instruction;
+mod program;
 mod record;
 mod search;
 mod section;
+mod state;
 
 pub use fault::FrameFault;
 pub use handle::Fde;
+pub use instruction::{Instruction, Operation, ReadRule, Step};
 pub use record::{Augmentation, CieRecord, Extent, FdeRecord, Record};
 pub use section::{Section, one_answer};
+pub use state::{Remembered, State};
 
 #[cfg(test)]
 mod tests;

@@ -11,6 +11,7 @@ use crate::fault::FrameFault;
 use crate::fde::fde;
 use crate::fields::{data, id, length4, length8};
 use crate::handle::Fde;
+use crate::program::{first_state, initial_state, steps};
 use crate::record::{CieRecord, FdeRecord, Record};
 use crate::search::cie_behind;
 use byteorder::{ByteOrder, LittleEndian};
@@ -34,13 +35,17 @@ fn content(
     let at = cursor.at();
     let id = id(start, cursor)?;
     if id == 0 {
-        let cie = cie(start, cursor, section, end)?;
+        let mut cie = cie(start, cursor, section, end)?;
+        let state = steps(start, cursor, section, false, &cie, initial_state())?;
+        cie.offset = state.offset;
         return Ok(Record::Cie(cie));
     }
     match cie_behind(earlier, at, id as usize) {
         None => Err(FrameFault::NoCie { start, at }),
         Some(cie) => {
             let fde = fde(start, cursor, section, end, cie)?;
+            let state = first_state(&cie, fde.first);
+            let _state = steps(start, cursor, section, true, &cie, state)?;
             Ok(Record::Fde(fde))
         }
     }
