@@ -108,7 +108,8 @@ pub(crate) fn optional_pointer(
     section: u64,
     encoding: u8,
 ) -> Result<Option<u64>, FrameFault>
-    ensures { Gives (λ x. x) (optional_pointer start section encoding).read cursor.old result cursor.new }
+    ensures { Gives (λ x. x) (optional_pointer start section encoding).read
+        cursor.old result cursor.new }
 {
     let at = cursor.at();
     let number = number(start, cursor, encoding)?;

@@ -119,7 +119,8 @@ fn plain_operation(
     at: usize,
     byte: u8,
 ) -> Result<Operation, FrameFault>
-    ensures { Gives (λ o. o) (plain_operation start section cie.now at byte).read cursor.old result cursor.new }
+    ensures { Gives (λ o. o) (plain_operation start section cie.now at byte).read
+        cursor.old result cursor.new }
 {
     match byte {
         0x00 => Ok(other(Instruction::Nop)),
@@ -256,7 +257,8 @@ fn effect_of(
 
 /// The location on by as many code alignments, where that is an address.
 fn advanced(location: u64, delta: u64, alignment: u64) -> Option<u64>
-    ensures { result ≡ (if nat_lt (location + delta * alignment) (2 ^ 64) then Some (location + delta * alignment) else None) }
+    ensures { result ≡ (if nat_lt (location + delta * alignment) (2 ^ 64)
+        then Some (location + delta * alignment) else None) }
 {
     match delta.checked_mul(alignment) {
         None => None,
@@ -316,7 +318,8 @@ pub(crate) fn step(
     cie: &CieRecord,
     state: State,
 ) -> Result<(Step, State), FrameFault>
-    ensures { Gives (λ x. x) (step start section moves cie.now state).read cursor.old result cursor.new }
+    ensures { Gives (λ x. x) (step start section moves cie.now state).read
+        cursor.old result cursor.new }
 {
     let at = cursor.at();
     let operation = operation(start, cursor, section, cie)?;
@@ -337,7 +340,8 @@ pub(crate) fn steps(
     cie: &CieRecord,
     state: State,
 ) -> Result<State, FrameFault>
-    ensures { Gives (λ s. s) (steps_from (step start section moves cie.now) state).read cursor.old result cursor.new }
+    ensures { Gives (λ s. s) (steps_from (step start section moves cie.now) state).read
+        cursor.old result cursor.new }
 {
     let mut state = state;
     while cursor.left() > 0 {

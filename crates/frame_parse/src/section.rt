@@ -29,7 +29,8 @@ fn content(
     end: usize,
 ) -> Result<Record, FrameFault>
     requires { IsAscending (starts earlier.now) }
-    ensures read { Gives (λ r. r) (content start section earlier.now end).read cursor.old result cursor.new }
+    ensures read { Gives (λ r. r) (content start section earlier.now end).read
+        cursor.old result cursor.new }
     ensures start { IfOk result (BeginsAt start) }
 {
     let at = cursor.at();
@@ -73,7 +74,8 @@ fn whole_record(
     earlier: &[CieRecord],
 ) -> Result<Record, FrameFault>
     requires { IsAscending (starts earlier.now) }
-    ensures read { Gives (λ r. r) (whole_record section earlier.now).read cursor.old result cursor.new }
+    ensures read { Gives (λ r. r) (whole_record section earlier.now).read
+        cursor.old result cursor.new }
     ensures moves { OnOk result (length cursor.new.bytes < length cursor.old.bytes) }
     ensures start { IfOk result (BeginsAt cursor.old.at) }
 {
@@ -93,7 +95,8 @@ fn is_end(rest: &[u8]) -> bool
 /// The FDEs of a section's records.
 fn fdes_of(alloc: Global, section: u64, bytes: &[u8]) -> Result<Vec<FdeRecord>, FrameFault>
     ensures found { IfOk result (λ fdes. HasFdes section bytes.now fdes.items) }
-    ensures refused { IfErr result (λ f. (f ≡ FrameFault.NoMemory) ⊎ IsRefused section bytes.now f) }
+    ensures refused { IfErr result (λ f. (f ≡ FrameFault.NoMemory)
+        ⊎ IsRefused section bytes.now f) }
 {
     let mut cursor = Cursor::new(bytes, 0, bytes.len());
     let mut cies = Vec::new(alloc);
@@ -133,7 +136,8 @@ impl Section {
         ensures bytes { IfOk result (λ s. s.bytes ≡ bytes.now) }
         ensures found { IfOk result (λ s. HasFdes address bytes.now s.fdes) }
         // Any other refusal than for want of memory is the first one.
-        ensures refused { IfErr result (λ f. (f ≡ FrameFault.NoMemory) ⊎ IsRefused address bytes.now f) }
+        ensures refused { IfErr result (λ f. (f ≡ FrameFault.NoMemory)
+            ⊎ IsRefused address bytes.now f) }
     {
         let fdes = fdes_of(alloc, address, bytes)?;
         let bytes = Vec::from_slice(alloc, bytes)?;
@@ -183,7 +187,8 @@ impl Section {
     /// The first FDE in order of bytes that covers an address.
     pub fn fde_at(&self, pc: u64) -> Option<Fde<'_>>
         ensures entry { option_map (λ f. f.entry) result ≡ first_cover pc self.now.fdes }
-        ensures section { IfSome result (λ f. (f.section ≡ self.now.address) × (f.bytes ≡ self.now.bytes)) }
+        ensures section { IfSome result
+            (λ f. (f.section ≡ self.now.address) × (f.bytes ≡ self.now.bytes)) }
     {
         match first_cover(&self.fdes, pc) {
             None => None,

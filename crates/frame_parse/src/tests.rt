@@ -7,11 +7,15 @@ use super::*;
 use std::alloc::Global;
 use std::test::*;
 
+mod damaged_rows;
 mod data;
-mod rows;
+mod program_rows;
+mod record_rows;
 
+use damaged_rows::*;
 use data::*;
-use rows::*;
+use program_rows::*;
+use record_rows::*;
 
 /// The refusal of a section, or `None` where it is accepted.
 fn fault_of(alloc: Global, address: u64, bytes: &[u8]) -> Option<FrameFault>
