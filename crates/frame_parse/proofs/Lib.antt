@@ -11,3 +11,5 @@ pub mod ProgramParts
 pub mod Wholes
 pub mod Steps
 pub mod RecordWholes
+pub mod StepsLeft
+pub mod Kept

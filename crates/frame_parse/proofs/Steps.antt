@@ -9,7 +9,7 @@ use Rattle.frame_parse.specs.declared.instruction.Step.{Step}
 use Rattle.frame_parse.specs.declared.state.State.{State}
 use Rattle.frame_parse.specs.Part.{Part}
 use Rattle.frame_parse.specs.Programs.{AreSteps, run, steps_from}
-use Rattle.frame_parse.proofs.Exact.{left, Takes, IsExact}
+use Rattle.frame_parse.proofs.Exact.{ok_is, left, Takes, IsExact}
 use Rattle.frame_parse.proofs.Wholes.{IsWhole}
 
 -- each step is exact and takes a byte at least
@@ -170,3 +170,25 @@ step_shrinks one s r x mid sound e =
     let t = (sound.exact s).takes r x mid e in
     let grown = sound.grows s r.at t.front x t.spells in
     omega (arith, ap length t.parts, length-append t.front mid.bytes)
+
+-- ---- the next step of those that the bytes spell
+
+pub no_steps : (one : State → Part (Step × State)) (p : ℕ) (s : State) (text : List ℕ) (steps : List Step) (t : State) → AreSound one → AreSteps one p s text steps t → length text ≤ 0 → steps ≡ []
+no_steps one p s text [] t sound a le = refl
+no_steps one p s text (x ∷ xs) t sound a le = absurd (omega (arith, sound.grows s p a.1 (x, a.0) a.4, ap length a.3, length-append a.1 a.2))
+
+pub next_step : (one : State → Part (Step × State)) (r : Rest) (s : State) (steps : List Step) (t : State) (x : Step) (m : State) (mid : Rest) → AreSound one → 0 < length r.bytes → AreSteps one r.at s r.bytes steps t
+    → (one s).read r ≡ Ok ((x, m), mid) → (more : List Step) × (steps ≡ x ∷ more) × AreSteps one mid.at m mid.bytes more t
+next_step one r s [] t x m mid sound some a e = absurd (omega (arith, ap length a.0))
+next_step one r s (y ∷ ys) t x m mid sound some a e =
+    let first : (one s).read r ≡ Ok ((y, a.0), left (r.at + length a.1) a.2) = ap (λ (l : List ℕ). (one s).read (left r.at l)) a.3 ∙ (sound.exact s).again r.at a.1 a.2 (y, a.0) a.4 in
+    let same : ((y, a.0), left (r.at + length a.1) a.2) ≡ ((x, m), mid) = ok_is {F = FrameFault} ((y, a.0), left (r.at + length a.1) a.2) ((x, m), mid) (sym first ∙ e) in
+    let found : (z : (Step × State) × Rest) → Type 0 = λ z. (more : List Step) × (y ∷ ys ≡ z.0.0 ∷ more) × AreSteps one z.1.at z.0.1 z.1.bytes more t in
+    subst found same (ys, refl, a.5)
+
+pub no_refusal : (one : State → Part (Step × State)) (r : Rest) (s : State) (steps : List Step) (t : State) (f : FrameFault) → AreSound one → 0 < length r.bytes → AreSteps one r.at s r.bytes steps t
+    → (one s).read r ≡ Err f → ⊥
+no_refusal one r s [] t f sound some a e = omega (arith, ap length a.0)
+no_refusal one r s (y ∷ ys) t f sound some a e =
+    let first : (one s).read r ≡ Ok ((y, a.0), left (r.at + length a.1) a.2) = ap (λ (l : List ℕ). (one s).read (left r.at l)) a.3 ∙ (sound.exact s).again r.at a.1 a.2 (y, a.0) a.4 in
+    let both = sym first ∙ e in cc

@@ -1,11 +1,13 @@
 -- Call frame instructions, after DWARF 5, section 6.4.2, and the programs that they make.
-use Rattle.std.specs.Prelude.{◌≡◌, ℕ, zero, suc, ◌+◌, ◌-◌, ◌*◌, ◌/◌, ◌%◌, ◌^◌, ◌<◌, List, [], ◌∷◌, ◌++◌, length, take, get_or, Bool, true, false, Result, Ok, Err, nat_lt, nat_le, ◌==◌, ◌&&◌, ◌||◌, if◌then◌else◌}
+use Rattle.std.specs.Prelude.{slice_range, ◌≡◌, ℕ, zero, suc, ◌+◌, ◌-◌, ◌*◌, ◌/◌, ◌%◌, ◌^◌, ◌<◌, List, [], ◌∷◌, ◌++◌, length, take, get_or, Bool, true, false, Result, Ok, Err, nat_lt, nat_le, ◌==◌, ◌&&◌, ◌||◌, if◌then◌else◌}
 use Rattle.std.specs.Int.{w64, cast_unsigned}
 use Rattle.eh_bytes.specs.Rest.{Rest}
 use Rattle.eh_bytes.specs.Rest as rest
 use Rattle.frame_parse.specs.declared.fault.FrameFault.{FrameFault}
 use Rattle.frame_parse.specs.declared.fault.FrameFault.TheVariants as faults
 use Rattle.frame_parse.specs.declared.record.CieRecord.{CieRecord}
+use Rattle.frame_parse.specs.declared.record.FdeRecord.{FdeRecord}
+use Rattle.frame_parse.specs.declared.record.Extent.{Extent}
 use Rattle.frame_parse.specs.declared.instruction.ReadRule.{ReadRule}
 use Rattle.frame_parse.specs.declared.instruction.ReadRule.TheVariants as rules
 use Rattle.frame_parse.specs.declared.instruction.Instruction.{Instruction}
@@ -157,3 +159,43 @@ initial_state = record { location = 0; offset = false; remembered = [] }
 -- the state before the instructions of an FDE, behind those of its CIE
 abbrev pub first_state : CieRecord → ℕ → State
 first_state c first = record { location = first; offset = c.offset; remembered = [] }
+
+-- what contracts see of a program: where it goes on, and what its instructions refer to
+pub record ProgramRest : Type 0 where
+  pub start : ℕ
+  pub section : ℕ
+  pub moves : Bool
+  pub cie : CieRecord
+  pub state : State
+  pub rest : Rest
+
+-- the steps that a program goes on with: the pairs of location and instruction that its bytes spell
+unfoldable pub HasSteps : ProgramRest → List Step → Type 0
+HasSteps p steps = (t : State) × AreSteps (step p.start p.section p.moves p.cie) p.rest.at p.state p.rest.bytes steps t
+
+-- the text that stands at an extent of the bytes
+abbrev pub IsExtent : List ℕ → Extent → List ℕ → Type 0
+IsExtent bytes e text = (before : List ℕ) × (after : List ℕ) × (bytes ≡ before ++ (text ++ after)) × (e.at ≡ length before) × (e.end ≡ e.at + length text)
+
+-- the bytes between the two places of an extent
+abbrev pub text_at : List ℕ → Extent → List ℕ
+text_at bytes e = slice_range bytes e.at e.end
+
+-- the instructions of an FDE, which start at its first address
+abbrev pub program_of : ℕ → FdeRecord → List ℕ → ProgramRest
+program_of section f text = record { start = f.start; section = section; moves = true; cie = f.cie; state = first_state f.cie f.first; rest = record { bytes = text; at = f.program.at } }
+
+-- the initial instructions of its CIE, at that address
+abbrev pub initial_of : ℕ → FdeRecord → List ℕ → ProgramRest
+initial_of section f text = record { start = f.cie.start; section = section; moves = false; cie = f.cie; state = record initial_state { location = f.first }; rest = record { bytes = text; at = f.cie.initial.at } }
+
+-- both programs of an FDE stand in the bytes, and were read without fault
+pub record HasPrograms (section : ℕ) (bytes : List ℕ) (f : FdeRecord) : Type 0 where
+  pub text : List ℕ
+  pub inside : IsExtent bytes f.program text
+  pub steps : List Step
+  pub spelled : HasSteps (program_of section f text) steps
+  pub initial_text : List ℕ
+  pub initial_inside : IsExtent bytes f.cie.initial initial_text
+  pub initial_steps : List Step
+  pub initial_spelled : HasSteps (initial_of section f initial_text) initial_steps

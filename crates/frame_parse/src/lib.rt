@@ -11,6 +11,7 @@ mod fault;
 mod fde;
 mod fields;
 mod handle;
+mod handout;
 mod instruction;
 mod program;
 mod record;
@@ -20,6 +21,7 @@ mod state;
 
 pub use fault::FrameFault;
 pub use handle::Fde;
+pub use handout::Program;
 pub use instruction::{Instruction, Operation, ReadRule, Step};
 pub use record::{Augmentation, CieRecord, Extent, FdeRecord, Record};
 pub use section::{Section, one_answer};

@@ -181,7 +181,8 @@ impl Section {
         ensures section { result.section ≡ self.now.address }
         ensures bytes { result.bytes ≡ self.now.bytes }
     {
-        Fde::new(self.address, &self.bytes, &self.fdes[index])
+        let entry = entry_at(&self.fdes, index);
+        Fde::new(self.address, &self.bytes, entry)
     }
 
     /// The first FDE in order of bytes that covers an address.
@@ -195,6 +196,13 @@ impl Section {
             Some(entry) => Some(Fde::new(self.address, &self.bytes, entry)),
         }
     }
+}
+
+fn entry_at(fdes: &[FdeRecord], index: usize) -> &FdeRecord
+    requires { index < length fdes.now }
+    ensures { slice_get fdes.now index ≡ Some result.now }
+{
+    &fdes[index]
 }
 
 fn covers(fde: &FdeRecord, pc: u64) -> bool

@@ -155,6 +155,72 @@ fn damaged_sections(rt: HostRuntime) {
     }
 }
 
+/// All steps of a program.
+fn steps_of(alloc: Global, mut program: Program) -> Result<Vec<Step>, Fail> {
+    let mut steps = Vec::new(alloc);
+    for _ in 0..64 {
+        match program.next() {
+            Some(step) => steps.push(step)?,
+            None => return Ok(steps),
+        }
+    }
+    Err(Fail::from("the program has no end"))
+}
+
+fn at(location: u64, instruction: Instruction) -> Step {
+    Step {
+        location,
+        instruction,
+    }
+}
+
+#[test]
+fn steps(rt: HostRuntime) -> Result<(), Fail> {
+    let s4 = read(rt.alloc(), 0x2000, &S4)?;
+    let fde = s4.fde_at(0x1000).ok_or("an FDE covers the address")?;
+    let minus_8 = 0xffff_ffff_ffff_fff8;
+    let minus_16 = 0xffff_ffff_ffff_fff0;
+    let initial = steps_of(rt.alloc(), fde.initial())?;
+    let shown = [
+        at(0x1000, Instruction::Cfa { column: 7, by: 8 }),
+        at(
+            0x1000,
+            Instruction::Set {
+                column: 16,
+                rule: ReadRule::Offset { by: minus_8 },
+            },
+        ),
+        at(0x1000, Instruction::Nop),
+        at(0x1000, Instruction::Nop),
+    ];
+    assert_eq!(rt; initial.as_slice(), shown.as_slice());
+    let program = steps_of(rt.alloc(), fde.program())?;
+    let shown = [
+        at(0x1001, Instruction::Advance),
+        at(0x1001, Instruction::CfaOffset { by: 16 }),
+        at(
+            0x1001,
+            Instruction::Set {
+                column: 6,
+                rule: ReadRule::Offset { by: minus_16 },
+            },
+        ),
+        at(0x1004, Instruction::Advance),
+        at(0x1004, Instruction::CfaColumn { column: 6 }),
+        at(0x1008, Instruction::Advance),
+        at(0x1008, Instruction::Remember),
+        at(0x1008, Instruction::Cfa { column: 7, by: 8 }),
+        at(0x1008, Instruction::Restore { column: 6 }),
+        at(0x1009, Instruction::Advance),
+        at(0x1009, Instruction::RestoreState),
+        at(0x1009, Instruction::Nop),
+        at(0x1009, Instruction::Nop),
+        at(0x1009, Instruction::Nop),
+    ];
+    assert_eq!(rt; program.as_slice(), shown.as_slice());
+    Ok(())
+}
+
 /// Expressions aren't read yet.
 #[test]
 fn expressions(rt: HostRuntime) {
