@@ -18,7 +18,8 @@ pub(crate) fn leb_length(bytes: &[u8]) -> Option<usize>
 
 /// The unsigned number that the bytes spell, where it fits.
 pub(crate) fn uleb_number(text: &[u8]) -> Option<u64>
-    ensures { result ≡ (if nat_lt (uleb_value text.now) (2 ^ 64) then Some (uleb_value text.now) else None) }
+    ensures { result ≡ (if nat_lt (uleb_value text.now) (2 ^ 64)
+        then Some (uleb_value text.now) else None) }
 {
     let mut number: u64 = 0;
     let mut i = text.len();
@@ -48,7 +49,8 @@ fn signed_digit(byte: u8) -> i64
 /// The signed number that the bytes spell, where it fits.
 pub(crate) fn sleb_number(text: &[u8]) -> Option<i64>
     requires { 0 < length text.now }
-    ensures { result ≡ (if fits_signed (sleb_value text.now) then Some (sleb_value text.now) else None) }
+    ensures { result ≡ (if fits_signed (sleb_value text.now)
+        then Some (sleb_value text.now) else None) }
 {
     let mut i = text.len() - 1;
     let mut signed = signed_digit(text[i]);

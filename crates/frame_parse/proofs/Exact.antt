@@ -5,7 +5,7 @@ use Rattle.std.proofs.lemmas.List.{take-append-drop, take_at, drop_at, length-ta
 use Rattle.eh_bytes.specs.Rest.{Rest, after}
 use Rattle.eh_bytes.specs.Rest as rest
 use Rattle.frame_parse.specs.declared.fault.FrameFault.{FrameFault}
-use Rattle.frame_parse.specs.Part.{Part, ◌>>=◌, give, here, refuse, when, check, found, block}
+use Rattle.frame_parse.specs.Part.{Part, ◌>>=◌, give, here, refuse, when, check, found, given, block}
 
 -- what is left at a place
 abbrev pub left : ℕ → List ℕ → Rest
@@ -144,6 +144,10 @@ pub found_exact : {A : Type 0} (o : Option A) (f : FrameFault) → IsExact (foun
 found_exact None f = refuse_exact f
 found_exact (Some x) f = give_exact x
 
+pub given_exact : {A : Type 0} (m : Result A FrameFault) → IsExact (given m)
+given_exact (Ok x) = give_exact x
+given_exact (Err f) = refuse_exact f
+
 -- ---- data of a stated length
 
 pub cond_err : {A F : Type 0} (b : Bool) (d : F) (m : Result A F) (x : A) → cond b (Err d) m ≡ Ok x → (b ≡ false) × (m ≡ Ok x)
@@ -154,7 +158,7 @@ pub cond_errs : {A F : Type 0} (b : Bool) (d : F) (m : Result A F) (f : F) → c
 cond_errs {A} true d m f e = inl (refl, sym (err_is {A = A} d f e))
 cond_errs false d m f e = inr (refl, e)
 
-guarded : {A B F : Type 0} (b : Bool) (d : F) (x : A) (k : A → Result B F) → rest.◌>>=◌ (cond b (Err d) (Ok x)) k ≡ cond b (Err d) (k x)
+pub guarded : {A B F : Type 0} (b : Bool) (d : F) (x : A) (k : A → Result B F) → rest.◌>>=◌ (cond b (Err d) (Ok x)) k ≡ cond b (Err d) (k x)
 guarded true d x k = refl
 guarded false d x k = refl
 

@@ -15,7 +15,7 @@ use Rattle.frame_parse.specs.declared.record.Record.TheVariants.{Cie, Fde}
 use Rattle.frame_parse.specs.Records.{content, record_length, whole_record}
 use Rattle.frame_parse.specs.Sections.{is_end, with_record, AreRecords, cies_of, IsSection, IsRefused, HasOneAnswer}
 use Rattle.frame_parse.proofs.Exact.{left, Takes, ok_is, err_is}
-use Rattle.frame_parse.proofs.RecordParts.{whole_record_exact}
+use Rattle.frame_parse.proofs.RecordWholes.{whole_record_exact}
 
 -- ---- a record has bytes, and is not the end
 
@@ -49,8 +49,8 @@ length_above section p earlier front r s =
     let inner = s.5 in
     let sized = inner.4 in
     let body = inner.5.5 in
-    let held = content_grows s.0 section _ earlier _ body.1.0 r body.1.3 in
-    let size : 4 ≤ inner.0 = omega (arith, held, grows _ body.1.0 body.1.1 body.1.2, body.0) in
+    let held = content_grows s.0 section _ earlier _ inner.5.2 r body.1 in
+    let size : 4 ≤ inner.0 = omega (arith, held, body.0) in
     let above : 0 < sized.0 =
     elim sized.5 [
       | inl long ↦ omega (arith, eqb-true sized.0 4294967295 long.0)

@@ -7,9 +7,9 @@ use Rattle.frame_parse.specs.declared.fault.FrameFault.TheVariants as faults
 use Rattle.frame_parse.specs.declared.record.Augmentation.{Augmentation}
 use Rattle.frame_parse.specs.declared.record.CieRecord.{CieRecord}
 use Rattle.frame_parse.specs.Fields.{by_format, number, is_negative, pointer, optional_pointer, is_code_encoding, is_data_encoding, encoding}
-use Rattle.frame_parse.specs.Records.{is_augmentation, plain, letter, letters, augmentation_data, version, augmentation, return_column, cie, cie_behind, range, lsda, fde, content, record_length, whole_record}
-use Rattle.frame_parse.proofs.Exact.{IsExact, then_exact, give_exact, here_exact, when_exact, check_exact, found_exact, block_exact}
-use Rattle.frame_parse.proofs.Leaves.{fixed_exact, short_of_exact}
+use Rattle.frame_parse.specs.Records.{is_augmentation, plain, letter, letters, augmentation_data, version, augmentation, return_column, cie, range, lsda, fde}
+use Rattle.frame_parse.proofs.Exact.{IsExact, then_exact, give_exact, here_exact, when_exact, check_exact, block_exact}
+use Rattle.frame_parse.proofs.Leaves.{fixed_exact}
 use Rattle.frame_parse.proofs.Ends.{uleb_exact, sleb_exact, text_exact}
 
 by_format_exact : (start f : ℕ) → IsExact (by_format start f)
@@ -87,7 +87,7 @@ return_column_exact start v =
     then_exact _ _ here_exact (λ at.
     then_exact _ _ (when_exact (v == 1) _ _ (fixed_exact start 1) (uleb_exact start)) (λ c. check_exact (c == 16) (Column start at c)))
 
-cie_exact : (start section end : ℕ) → IsExact (cie start section end)
+pub cie_exact : (start section end : ℕ) → IsExact (cie start section end)
 unfolding cie
 cie_exact start section end =
     then_exact _ _ (version_exact start) (λ v.
@@ -116,33 +116,10 @@ lsda_exact start section c =
     block_exact (Short start at) n _ (when_exact (c.augmentation.lsda == 255 || n == 0) _ _ (give_exact None) (optional_pointer_exact start section c.augmentation.lsda)))))
     (give_exact None)
 
-fde_exact : (start section end : ℕ) (c : CieRecord) → IsExact (fde start section end c)
+pub fde_exact : (start section end : ℕ) (c : CieRecord) → IsExact (fde start section end c)
 unfolding fde
 fde_exact start section end c =
     then_exact _ _ (pointer_exact start section c.augmentation.pointers) (λ first.
     then_exact _ _ (range_exact start c.augmentation.pointers first) (λ size.
     then_exact _ _ (lsda_exact start section c) (λ l.
     then_exact _ _ here_exact (λ at. give_exact _))))
-
--- ---- records
-
-content_exact : (start section : ℕ) (earlier : List CieRecord) (end : ℕ) → IsExact (content start section earlier end)
-unfolding content
-content_exact start section earlier end =
-    then_exact _ _ here_exact (λ at.
-    then_exact _ _ (fixed_exact start 4) (λ id.
-    when_exact (id == 0) _ _
-    (then_exact _ _ (cie_exact start section end) (λ c. give_exact _))
-    (then_exact _ _ (found_exact (cie_behind earlier at id) (NoCie start at)) (λ c. then_exact _ _ (fde_exact start section end c) (λ f. give_exact _)))))
-
-record_length_exact : (start : ℕ) → IsExact (record_length start)
-unfolding record_length
-record_length_exact start = then_exact _ _ (short_of_exact start 4) (λ n. when_exact (n == 4294967295) _ _ (short_of_exact start 8) (give_exact n))
-
-pub whole_record_exact : (section : ℕ) (earlier : List CieRecord) → IsExact (whole_record section earlier)
-unfolding whole_record
-whole_record_exact section earlier =
-    then_exact _ _ here_exact (λ start.
-    then_exact _ _ (record_length_exact start) (λ n.
-    then_exact _ _ here_exact (λ at.
-    block_exact (Short start start) n _ (content_exact start section earlier (at + n)))))

@@ -2,3 +2,4 @@ pub mod Part
 pub mod Fields
 pub mod Records
 pub mod Sections
+pub mod Programs

@@ -64,6 +64,11 @@ abbrev pub found : {A : Type 0} → Option A → FrameFault → Part A
 found None f = refuse f
 found (Some x) f = give x
 
+-- no bytes, where a test of what was read gives a value and not a refusal
+abbrev pub given : {A : Type 0} → Result A FrameFault → Part A
+given (Ok x) = give x
+given (Err f) = refuse f
+
 -- the next n bytes, and what is left behind them
 abbrev pub data_at : FrameFault → ℕ → Rest → Result (Rest × Rest) FrameFault
 data_at short n r = if nat_lt (length r.bytes) n then Err short else Ok (record { bytes = take n r.bytes; at = r.at }, after n r)
@@ -72,6 +77,14 @@ data_at short n r = if nat_lt (length r.bytes) n then Err short else Ok (record 
 abbrev pub block : {A : Type 0} → FrameFault → ℕ → Part A → Part A
 block short n g = record {
   Spells = λ p text y. (length text ≡ n) × ((front : List ℕ) × (back : List ℕ) × (text ≡ front ++ back) × g.Spells p front y);
+  Refuses = λ p bytes f. ((length bytes < n) × (f ≡ short)) ⊎ ((text : List ℕ) × (back : List ℕ) × (bytes ≡ text ++ back) × (length text ≡ n) × g.Refuses p text f);
+  read = λ r. rest.◌>>=◌ (data_at short n r) (λ d. rest.◌>>=◌ (g.read d.0) (λ y. Ok (y.0, d.1)));
+}
+
+-- data of n bytes, which are wholly a part
+abbrev pub filled : {A : Type 0} → FrameFault → ℕ → Part A → Part A
+filled short n g = record {
+  Spells = λ p text y. (length text ≡ n) × g.Spells p text y;
   Refuses = λ p bytes f. ((length bytes < n) × (f ≡ short)) ⊎ ((text : List ℕ) × (back : List ℕ) × (bytes ≡ text ++ back) × (length text ≡ n) × g.Refuses p text f);
   read = λ r. rest.◌>>=◌ (data_at short n r) (λ d. rest.◌>>=◌ (g.read d.0) (λ y. Ok (y.0, d.1)));
 }

@@ -8,7 +8,8 @@ use Rattle.frame_parse.specs.declared.record.CieRecord.{CieRecord}
 use Rattle.frame_parse.specs.declared.record.FdeRecord.{FdeRecord}
 use Rattle.frame_parse.specs.declared.record.Record.{Record}
 use Rattle.frame_parse.specs.declared.record.Record.TheVariants.{Cie, Fde}
-use Rattle.frame_parse.specs.Part.{Part, ◌>>=◌, give, here, when, check, found, block}
+use Rattle.frame_parse.specs.Part.{Part, ◌>>=◌, give, here, when, check, found, block, filled}
+use Rattle.frame_parse.specs.Programs.{step, steps_from, initial_state, first_state}
 use Rattle.frame_parse.specs.Fields.{fixed, uleb, sleb, text, number, is_negative, pointer, optional_pointer, is_code_encoding, is_data_encoding, encoding, short_of}
 
 -- ---- augmentations
@@ -80,7 +81,7 @@ return_column start v = do
   c ← when (v == 1) (fixed start 1) (uleb start)
   check (c == 16) (Column start at c)
 
--- the fields of a CIE behind its id; what is left of the record are its initial instructions
+-- the fields of a CIE behind its id; nothing is known of the CFA before its instructions
 unfoldable pub cie : ℕ → ℕ → ℕ → Part CieRecord
 cie start section end = do
   v ← version start
@@ -90,7 +91,7 @@ cie start section end = do
   _ ← return_column start v
   a ← augmentation_data start section t
   at ← here
-  give (record { start = start; code_alignment = code; data_alignment = data_; has_data = has_data t; augmentation = a; initial = record { at = at; end = end } })
+  give (record { start = start; code_alignment = code; data_alignment = data_; has_data = has_data t; augmentation = a; offset = false; initial = record { at = at; end = end } })
 
 -- ---- FDEs
 
@@ -119,7 +120,7 @@ lsda start section c = when c.has_data
     (when (c.augmentation.lsda == 255 || n == 0) (give None) (optional_pointer start section c.augmentation.lsda)))
     (give None)
 
--- the fields of an FDE behind its id; what is left of the record are its instructions
+-- the fields of an FDE behind its id
 unfoldable pub fde : ℕ → ℕ → ℕ → CieRecord → Part FdeRecord
 fde start section end c = do
   first ← pointer start section c.augmentation.pointers
@@ -130,14 +131,15 @@ fde start section end c = do
 
 -- ---- records
 
--- an id of 0 is a CIE's; any other is the distance back to an FDE's
+-- An id of 0 is a CIE's; any other is the distance back to an FDE's. What is left behind the fields are
+-- instructions: those of a CIE don't move, those of an FDE start at its first address.
 unfoldable pub content : ℕ → ℕ → List CieRecord → ℕ → Part Record
 content start section earlier end = do
   at ← here
   id ← fixed start 4
   when (id == 0)
-      (cie start section end >>= λ c. give (Cie c))
-      (found (cie_behind earlier at id) (NoCie start at) >>= λ c. fde start section end c >>= λ f. give (Fde f))
+      (cie start section end >>= λ c. steps_from (step start section false c) initial_state >>= λ s. give (Cie (record c { offset = s.offset })))
+      (found (cie_behind earlier at id) (NoCie start at) >>= λ c. fde start section end c >>= λ f. steps_from (step start section true c) (first_state c f.first) >>= λ s. give (Fde f))
 
 -- the length of a record: four bytes, or eight behind 0xffffffff
 unfoldable pub record_length : ℕ → Part ℕ
@@ -151,4 +153,4 @@ whole_record section earlier = do
   start ← here
   n ← record_length start
   at ← here
-  block (Short start start) n (content start section earlier (at + n))
+  filled (Short start start) n (content start section earlier (at + n))

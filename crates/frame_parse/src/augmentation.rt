@@ -73,7 +73,8 @@ fn letters(
     text: &[u8],
     so_far: Augmentation,
 ) -> Result<Augmentation, FrameFault>
-    ensures { Gives (λ a. a) (letters start section text.now so_far).read cursor.old result cursor.new }
+    ensures { Gives (λ a. a) (letters start section text.now so_far).read
+        cursor.old result cursor.new }
 {
     match text {
         [] => Ok(so_far),
@@ -92,7 +93,8 @@ pub(crate) fn augmentation_data(
     section: u64,
     text: &[u8],
 ) -> Result<Augmentation, FrameFault>
-    ensures { Gives (λ a. a) (augmentation_data start section text.now).read cursor.old result cursor.new }
+    ensures { Gives (λ a. a) (augmentation_data start section text.now).read
+        cursor.old result cursor.new }
 {
     match text {
         [] => Ok(Augmentation::PLAIN),

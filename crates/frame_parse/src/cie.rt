@@ -81,6 +81,7 @@ pub(crate) fn cie(
         data_alignment,
         has_data: !text.is_empty(),
         augmentation,
+        offset: false,
         initial: Extent {
             at: cursor.at(),
             end,

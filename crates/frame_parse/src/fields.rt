@@ -108,7 +108,8 @@ pub(crate) fn optional_pointer(
     section: u64,
     encoding: u8,
 ) -> Result<Option<u64>, FrameFault>
-    ensures { Gives (λ x. x) (optional_pointer start section encoding).read cursor.old result cursor.new }
+    ensures { Gives (λ x. x) (optional_pointer start section encoding).read
+        cursor.old result cursor.new }
 {
     let at = cursor.at();
     let number = number(start, cursor, encoding)?;
@@ -177,4 +178,11 @@ pub(crate) fn length8(start: usize, cursor: &mut Cursor) -> Result<u64, FrameFau
         Ok(length) => Ok(length),
         Err(_) => Err(FrameFault::Short { start, at: start }),
     }
+}
+
+/// Two bytes, the lowest first.
+pub(crate) fn pair(start: usize, cursor: &mut Cursor) -> Result<u16, FrameFault>
+    ensures { Gives (λ x. x) (fixed start 2).read cursor.old result cursor.new }
+{
+    placed(start, cursor.u16())
 }

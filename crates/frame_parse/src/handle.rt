@@ -1,8 +1,14 @@
 //! An FDE as a part of its section.
 
-ghost use Rattle.std.specs.Prelude.{◌≡◌};
+ghost use Rattle.std.specs.Prelude.{◌≡◌, List};
+ghost use Rattle.frame_parse.specs.declared.instruction.Step.{Step};
+ghost use Rattle.frame_parse.specs.Programs.{HasPrograms, HasSteps, initial_of, program_of, text_at};
 
+use crate::handout::Program;
+use crate::program::first_state;
 use crate::record::FdeRecord;
+use crate::state::{Remembered, State};
+use eh_bytes::Cursor;
 use std::marker::Model;
 
 /// An FDE of a section, lent from it.
@@ -19,10 +25,15 @@ impl<'a> Model for Fde<'a> {
     ghost Value = { FdeContents };
 
     ghost view = { λ f. record { section = f.section; bytes = f.bytes.now; entry = f.entry.now } };
+
+    ghost use Rattle.frame_parse.specs.Programs.{HasPrograms};
+
+    ghost invariant = { λ f. HasPrograms f.section f.bytes.now f.entry.now };
 }
 
 impl<'a> Fde<'a> {
     pub(crate) fn new(section: u64, bytes: &'a [u8], entry: &'a FdeRecord) -> Fde<'a>
+        requires { HasPrograms section bytes.now entry.now }
         ensures section { result.section ≡ section }
         ensures bytes { result.bytes ≡ bytes.now }
         ensures entry { result.entry ≡ entry.now }
@@ -67,5 +78,34 @@ impl<'a> Fde<'a> {
         ensures { result ≡ self.now.entry.cie.augmentation.personality }
     {
         self.entry.cie.augmentation.personality
+    }
+
+    /// The initial instructions of its CIE, at its first address.
+    pub fn initial(&self) -> Program<'a>
+        ensures program { result ≡ initial_of self.now.section self.now.entry
+            (text_at self.now.bytes self.now.entry.cie.initial) }
+        ensures known { (steps : List Step) × HasSteps result steps }
+    {
+        let entry = self.entry;
+        let cie = &entry.cie;
+        let cursor = Cursor::new(self.bytes, cie.initial.at, cie.initial.end);
+        let state = State {
+            location: entry.first,
+            offset: false,
+            remembered: Remembered::new(),
+        };
+        Program::new(cie.start, self.section, false, cie, state, cursor)
+    }
+
+    /// Its instructions.
+    pub fn program(&self) -> Program<'a>
+        ensures program { result ≡ program_of self.now.section self.now.entry
+            (text_at self.now.bytes self.now.entry.program) }
+        ensures known { (steps : List Step) × HasSteps result steps }
+    {
+        let entry = self.entry;
+        let cursor = Cursor::new(self.bytes, entry.program.at, entry.program.end);
+        let state = first_state(&entry.cie, entry.first);
+        Program::new(entry.start, self.section, true, &entry.cie, state, cursor)
     }
 }

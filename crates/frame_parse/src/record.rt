@@ -37,6 +37,8 @@ pub struct CieRecord {
     /// Its FDEs have augmentation data.
     pub has_data: bool,
     pub augmentation: Augmentation,
+    /// Its initial instructions leave a CFA rule that is a column plus an offset.
+    pub offset: bool,
     pub initial: Extent,
 }
 

@@ -11,6 +11,7 @@ use crate::fault::FrameFault;
 use crate::fde::fde;
 use crate::fields::{data, id, length4, length8};
 use crate::handle::Fde;
+use crate::program::{first_state, initial_state, steps};
 use crate::record::{CieRecord, FdeRecord, Record};
 use crate::search::cie_behind;
 use byteorder::{ByteOrder, LittleEndian};
@@ -28,19 +29,24 @@ fn content(
     end: usize,
 ) -> Result<Record, FrameFault>
     requires { IsAscending (starts earlier.now) }
-    ensures read { Gives (λ r. r) (content start section earlier.now end).read cursor.old result cursor.new }
+    ensures read { Gives (λ r. r) (content start section earlier.now end).read
+        cursor.old result cursor.new }
     ensures start { IfOk result (BeginsAt start) }
 {
     let at = cursor.at();
     let id = id(start, cursor)?;
     if id == 0 {
-        let cie = cie(start, cursor, section, end)?;
+        let mut cie = cie(start, cursor, section, end)?;
+        let state = steps(start, cursor, section, false, &cie, initial_state())?;
+        cie.offset = state.offset;
         return Ok(Record::Cie(cie));
     }
     match cie_behind(earlier, at, id as usize) {
         None => Err(FrameFault::NoCie { start, at }),
         Some(cie) => {
             let fde = fde(start, cursor, section, end, cie)?;
+            let state = first_state(&cie, fde.first);
+            let _state = steps(start, cursor, section, true, &cie, state)?;
             Ok(Record::Fde(fde))
         }
     }
@@ -68,7 +74,8 @@ fn whole_record(
     earlier: &[CieRecord],
 ) -> Result<Record, FrameFault>
     requires { IsAscending (starts earlier.now) }
-    ensures read { Gives (λ r. r) (whole_record section earlier.now).read cursor.old result cursor.new }
+    ensures read { Gives (λ r. r) (whole_record section earlier.now).read
+        cursor.old result cursor.new }
     ensures moves { OnOk result (length cursor.new.bytes < length cursor.old.bytes) }
     ensures start { IfOk result (BeginsAt cursor.old.at) }
 {
@@ -88,7 +95,8 @@ fn is_end(rest: &[u8]) -> bool
 /// The FDEs of a section's records.
 fn fdes_of(alloc: Global, section: u64, bytes: &[u8]) -> Result<Vec<FdeRecord>, FrameFault>
     ensures found { IfOk result (λ fdes. HasFdes section bytes.now fdes.items) }
-    ensures refused { IfErr result (λ f. (f ≡ FrameFault.NoMemory) ⊎ IsRefused section bytes.now f) }
+    ensures refused { IfErr result (λ f. (f ≡ FrameFault.NoMemory)
+        ⊎ IsRefused section bytes.now f) }
 {
     let mut cursor = Cursor::new(bytes, 0, bytes.len());
     let mut cies = Vec::new(alloc);
@@ -128,7 +136,8 @@ impl Section {
         ensures bytes { IfOk result (λ s. s.bytes ≡ bytes.now) }
         ensures found { IfOk result (λ s. HasFdes address bytes.now s.fdes) }
         // Any other refusal than for want of memory is the first one.
-        ensures refused { IfErr result (λ f. (f ≡ FrameFault.NoMemory) ⊎ IsRefused address bytes.now f) }
+        ensures refused { IfErr result (λ f. (f ≡ FrameFault.NoMemory)
+            ⊎ IsRefused address bytes.now f) }
     {
         let fdes = fdes_of(alloc, address, bytes)?;
         let bytes = Vec::from_slice(alloc, bytes)?;
@@ -172,19 +181,28 @@ impl Section {
         ensures section { result.section ≡ self.now.address }
         ensures bytes { result.bytes ≡ self.now.bytes }
     {
-        Fde::new(self.address, &self.bytes, &self.fdes[index])
+        let entry = entry_at(&self.fdes, index);
+        Fde::new(self.address, &self.bytes, entry)
     }
 
     /// The first FDE in order of bytes that covers an address.
     pub fn fde_at(&self, pc: u64) -> Option<Fde<'_>>
         ensures entry { option_map (λ f. f.entry) result ≡ first_cover pc self.now.fdes }
-        ensures section { IfSome result (λ f. (f.section ≡ self.now.address) × (f.bytes ≡ self.now.bytes)) }
+        ensures section { IfSome result
+            (λ f. (f.section ≡ self.now.address) × (f.bytes ≡ self.now.bytes)) }
     {
         match first_cover(&self.fdes, pc) {
             None => None,
             Some(entry) => Some(Fde::new(self.address, &self.bytes, entry)),
         }
     }
+}
+
+fn entry_at(fdes: &[FdeRecord], index: usize) -> &FdeRecord
+    requires { index < length fdes.now }
+    ensures { slice_get fdes.now index ≡ Some result.now }
+{
+    &fdes[index]
 }
 
 fn covers(fde: &FdeRecord, pc: u64) -> bool

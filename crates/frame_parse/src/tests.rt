@@ -7,10 +7,15 @@ use super::*;
 use std::alloc::Global;
 use std::test::*;
 
+mod damaged_rows;
 mod data;
-mod rows;
+mod program_rows;
+mod record_rows;
 
+use damaged_rows::*;
 use data::*;
+use program_rows::*;
+use record_rows::*;
 
 /// The refusal of a section, or `None` where it is accepted.
 fn fault_of(alloc: Global, address: u64, bytes: &[u8]) -> Option<FrameFault>
@@ -20,15 +25,6 @@ fn fault_of(alloc: Global, address: u64, bytes: &[u8]) -> Option<FrameFault>
         Ok(_) => None,
         Err(fault) => Some(fault),
     }
-}
-
-/// The refusal of S1 with another byte at a place.
-fn damaged(alloc: Global, place: usize, byte: u8) -> Option<FrameFault>
-    requires { place < 84 }
-{
-    let mut bytes = S1;
-    bytes[place] = byte;
-    fault_of(alloc, 0x2000, &bytes)
 }
 
 /// The first address and the range of each FDE.
@@ -61,10 +57,6 @@ fn fields_of_fdes(rt: HostRuntime) -> Result<(), Fail> {
         found.as_slice(),
         [(0x1000, 0x20), (0x1020, 0x10)].as_slice()
     );
-    let found = ranges(rt.alloc(), &read(rt.alloc(), 0x3000, &S2)?)?;
-    assert_eq!(rt; found.as_slice(), [(0x1000, 0x30)].as_slice());
-    let found = ranges(rt.alloc(), &read(rt.alloc(), 0x6000, &S3)?)?;
-    assert_eq!(rt; found.as_slice(), [(0x5000, 0x10)].as_slice());
     let found = ranges(rt.alloc(), &read(rt.alloc(), 0x2000, &S4)?)?;
     assert_eq!(rt; found.as_slice(), [(0x1000, 0x20)].as_slice());
     let found = ranges(rt.alloc(), &read(rt.alloc(), 0x9000, &S5)?)?;
@@ -81,7 +73,11 @@ fn augmentations(rt: HostRuntime) -> Result<(), Fail> {
     assert!(rt; !fde.signal());
     assert_eq!(rt; fde.lsda(), Some(0xb031));
     assert_eq!(rt; fde.personality(), Some(0xa013));
-    let s3 = read(rt.alloc(), 0x6000, &S3)?;
+    let mut without_rules = S3;
+    for place in 41..52 {
+        without_rules[place] = 0;
+    }
+    let s3 = read(rt.alloc(), 0x6000, &without_rules)?;
     let fde = s3.fde_at(0x5000).ok_or("an FDE covers the address")?;
     assert!(rt; fde.signal());
     assert_eq!(rt; fde.lsda(), None);
@@ -133,14 +129,113 @@ fn cuts(rt: HostRuntime) {
     }
 }
 
+/// Whether a section at 0x2000 is answered so.
+fn is_answered(alloc: Global, bytes: &[u8], answer: Option<FrameFault>) -> bool {
+    bytes.len() <= 65536 && fault_of(alloc, 0x2000, bytes) == answer
+}
+
 #[test]
-fn version_four(rt: HostRuntime) {
-    let refused = FrameFault::Version {
-        start: 0,
-        at: 8,
-        byte: 4,
+fn records(rt: HostRuntime) {
+    for (bytes, answer) in RECORDS {
+        assert!(rt; is_answered(rt.alloc(), bytes, answer), "{bytes:?}");
+    }
+}
+
+#[test]
+fn programs(rt: HostRuntime) {
+    for (bytes, answer) in PROGRAMS {
+        assert!(rt; is_answered(rt.alloc(), bytes, answer), "{bytes:?}");
+    }
+}
+
+#[test]
+fn damaged_sections(rt: HostRuntime) {
+    for (bytes, answer) in DAMAGED {
+        assert!(rt; is_answered(rt.alloc(), bytes, answer), "{bytes:?}");
+    }
+}
+
+/// All steps of a program.
+fn steps_of(alloc: Global, mut program: Program) -> Result<Vec<Step>, Fail> {
+    let mut steps = Vec::new(alloc);
+    for _ in 0..64 {
+        match program.next() {
+            Some(step) => steps.push(step)?,
+            None => return Ok(steps),
+        }
+    }
+    Err(Fail::from("the program has no end"))
+}
+
+fn at(location: u64, instruction: Instruction) -> Step {
+    Step {
+        location,
+        instruction,
+    }
+}
+
+#[test]
+fn steps(rt: HostRuntime) -> Result<(), Fail> {
+    let s4 = read(rt.alloc(), 0x2000, &S4)?;
+    let fde = s4.fde_at(0x1000).ok_or("an FDE covers the address")?;
+    let minus_8 = 0xffff_ffff_ffff_fff8;
+    let minus_16 = 0xffff_ffff_ffff_fff0;
+    let initial = steps_of(rt.alloc(), fde.initial())?;
+    let shown = [
+        at(0x1000, Instruction::Cfa { column: 7, by: 8 }),
+        at(
+            0x1000,
+            Instruction::Set {
+                column: 16,
+                rule: ReadRule::Offset { by: minus_8 },
+            },
+        ),
+        at(0x1000, Instruction::Nop),
+        at(0x1000, Instruction::Nop),
+    ];
+    assert_eq!(rt; initial.as_slice(), shown.as_slice());
+    let program = steps_of(rt.alloc(), fde.program())?;
+    let shown = [
+        at(0x1001, Instruction::Advance),
+        at(0x1001, Instruction::CfaOffset { by: 16 }),
+        at(
+            0x1001,
+            Instruction::Set {
+                column: 6,
+                rule: ReadRule::Offset { by: minus_16 },
+            },
+        ),
+        at(0x1004, Instruction::Advance),
+        at(0x1004, Instruction::CfaColumn { column: 6 }),
+        at(0x1008, Instruction::Advance),
+        at(0x1008, Instruction::Remember),
+        at(0x1008, Instruction::Cfa { column: 7, by: 8 }),
+        at(0x1008, Instruction::Restore { column: 6 }),
+        at(0x1009, Instruction::Advance),
+        at(0x1009, Instruction::RestoreState),
+        at(0x1009, Instruction::Nop),
+        at(0x1009, Instruction::Nop),
+        at(0x1009, Instruction::Nop),
+    ];
+    assert_eq!(rt; program.as_slice(), shown.as_slice());
+    Ok(())
+}
+
+/// Expressions aren't read yet.
+#[test]
+fn expressions(rt: HostRuntime) {
+    let refused = FrameFault::Opcode {
+        start: 24,
+        at: 47,
+        byte: 0x0f,
     };
-    assert_eq!(rt; damaged(rt.alloc(), 8, 4), Some(refused));
+    assert_eq!(rt; fault_of(rt.alloc(), 0x3000, &S2), Some(refused));
+    let refused = FrameFault::Opcode {
+        start: 24,
+        at: 41,
+        byte: 0x0f,
+    };
+    assert_eq!(rt; fault_of(rt.alloc(), 0x6000, &S3), Some(refused));
 }
 
 #[test]

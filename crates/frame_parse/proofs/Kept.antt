@@ -1,0 +1,320 @@
+-- The programs of a section's FDEs stand in its bytes, as they were read.
+use Rattle.std.proofs.Common.{◌≡◌, ℕ, zero, suc, ◌+◌, ◌-◌, ◌<◌, List, [], ◌∷◌, ◌++◌, length, get_or, Bool, true, false, cond, Option, Some, None, Ok, Err, nat_lt, nat_eq, refl, sym, ap, subst, ◌∙◌, append_assoc, length-append, arith, inl, inr}
+use Rattle.std.specs.Prelude.{slice_get}
+use Rattle.std.proofs.lemmas.List.{append-nil}
+use Rattle.frame_parse.specs.declared.fault.FrameFault.{FrameFault}
+use Rattle.frame_parse.specs.declared.fault.FrameFault.TheVariants as faults
+use Rattle.frame_parse.specs.declared.record.Extent.{Extent}
+use Rattle.frame_parse.specs.declared.record.CieRecord.{CieRecord}
+use Rattle.frame_parse.specs.declared.record.FdeRecord.{FdeRecord}
+use Rattle.frame_parse.specs.declared.record.Record.{Record}
+use Rattle.frame_parse.specs.declared.record.Record.TheVariants.{Cie, Fde}
+use Rattle.frame_parse.specs.declared.instruction.Instruction.{Instruction}
+use Rattle.frame_parse.specs.declared.instruction.Instruction.TheVariants.{Nop, Advance, Set, Restore, Remember, RestoreState, Cfa, CfaColumn, CfaOffset}
+use Rattle.frame_parse.specs.declared.instruction.Operation.{Operation}
+use Rattle.frame_parse.specs.declared.instruction.Operation.TheVariants as operations
+use Rattle.frame_parse.specs.declared.instruction.Step.{Step}
+use Rattle.frame_parse.specs.declared.state.State.{State}
+use Rattle.frame_parse.specs.Part.{given, found}
+use Rattle.frame_parse.specs.Programs.{operation, plain_operation, effect_of, effect, step, top, below_top, AreSteps, initial_state, first_state, HasSteps, IsExtent, HasPrograms}
+use Rattle.frame_parse.specs.Sections.{AreRecords, fdes_of, IsSection, HasFdes, covers, first_cover}
+use Rattle.frame_parse.specs.Records.{cie, fde, cie_from, cie_behind, content, whole_record}
+
+-- ---- what a step doesn't look at
+
+-- the location, where it can't move
+given_lift : (b : Bool) (x m : State) (f : FrameFault) (p : ℕ) (text : List ℕ) (k : State → State) → (given (cond b (Ok x) (Err f))).Spells p text m → (given (cond b (Ok (k x)) (Err f))).Spells p text (k m)
+given_lift true x m f p text k a = (a.0, ap k a.1)
+given_lift false x m f p text k a = absurd a
+
+abbrev moved : ℕ → State → State
+moved l s = record s { location = l }
+
+given_at : (start at l p : ℕ) (s m : State) (i : Instruction) (text : List ℕ) → (given (effect_of start at s i)).Spells p text m → (given (effect_of start at (moved l s) i)).Spells p text (moved l m)
+given_at start at l p s m Nop text a = (a.0, ap (moved l) a.1)
+given_at start at l p s m Advance text a = (a.0, ap (moved l) a.1)
+given_at start at l p s m (Set r rule) text a = (a.0, ap (moved l) a.1)
+given_at start at l p s m (Restore r) text a = (a.0, ap (moved l) a.1)
+given_at start at l p s m (Cfa r n) text a = (a.0, ap (moved l) a.1)
+given_at start at l p s m Remember text a = given_lift (nat_lt (length s.remembered) 8) (record s { remembered = s.remembered ++ s.offset ∷ [] }) m (faults.Remember start at) p text (moved l) a
+given_at start at l p s m RestoreState text a = given_lift (nat_lt 0 (length s.remembered)) (record s { offset = top s.remembered; remembered = below_top s.remembered }) m (faults.Remember start at) p text (moved l) a
+given_at start at l p s m (CfaColumn r) text a = given_lift s.offset s m (faults.CfaRule start at) p text (moved l) a
+given_at start at l p s m (CfaOffset n) text a = given_lift s.offset s m (faults.CfaRule start at) p text (moved l) a
+
+effect_at : (start at l p : ℕ) (c : CieRecord) (s m : State) (o : Operation) (text : List ℕ) → (given (effect start at false c s o)).Spells p text m → (given (effect start at false c (moved l s) o)).Spells p text (moved l m)
+effect_at start at l p c s m (operations.Advance d) text a = absurd a
+effect_at start at l p c s m (operations.SetLocation d) text a = absurd a
+effect_at start at l p c s m (operations.Other i) text a = given_at start at l p s m i text a
+
+step_at : (start section l p : ℕ) (c : CieRecord) (s m : State) (front : List ℕ) (x : Step) → (step start section false c s).Spells p front (x, m)
+    → (step start section false c (moved l s)).Spells p front (record x { location = l }, moved l m)
+unfolding step
+step_at start section l p c s m front x a =
+    let b = a.5 in
+    let d = b.5 in
+    let both : Step × State → Step × State = λ z. (record z.0 { location = l }, moved l z.1) in
+    (a.0, a.1, a.2, a.3, a.4, (b.0, b.1, b.2, b.3, b.4, (moved l d.0, d.1, d.2, d.3, effect_at start a.0 l _ c s d.0 b.0 d.1 d.4, (d.5.0, ap both d.5.1))))
+
+AreSteps_at : (start section l : ℕ) (c : CieRecord) (p : ℕ) (s : State) (text : List ℕ) (steps : List Step) (t : State) → AreSteps (step start section false c) p s text steps t
+    → (others : List Step) × AreSteps (step start section false c) p (moved l s) text others (moved l t)
+AreSteps_at start section l c p s text [] t a = ([], (a.0, ap (moved l) a.1))
+AreSteps_at start section l c p s text (x ∷ xs) t a =
+    let later = AreSteps_at start section l c (p + length a.1) a.0 a.2 xs t a.5 in
+    (record x { location = l } ∷ later.0, (moved l a.0, a.1, a.2, a.3, step_at start section l p c s a.0 a.1 x a.4, later.1))
+
+-- what the CIE says of its own CFA rule
+AreSteps_offset : (start section : ℕ) (c : CieRecord) (b : Bool) (p : ℕ) (s : State) (text : List ℕ) (steps : List Step) (t : State) → AreSteps (step start section false c) p s text steps t
+    → AreSteps (step start section false (record c { offset = b })) p s text steps t
+unfolding step operation plain_operation
+AreSteps_offset start section c b p s text steps t a = a
+
+-- ---- where programs stand
+
+cie_place : (start section end p : ℕ) (front : List ℕ) (c : CieRecord) → (cie start section end).Spells p front c
+    → (c.initial ≡ record { at = p + length front; end = end }) × (c.start ≡ start)
+unfolding cie
+cie_place start section end p front c s =
+    let s1 = s.5 in let s2 = s1.5 in let s3 = s2.5 in let s4 = s3.5 in let s5 = s4.5 in let s6 = s5.5 in
+    let place : s6.0 ≡ p + length front =
+    omega (
+      arith,
+      s6.4.1,
+      ap length s.3,
+      length-append s.1 s.2,
+      ap length s1.3,
+      length-append s1.1 s1.2,
+      ap length s2.3,
+      length-append s2.1 s2.2,
+      ap length s3.3,
+      length-append s3.1 s3.2,
+      ap length s4.3,
+      length-append s4.1 s4.2,
+      ap length s5.3,
+      length-append s5.1 s5.2,
+      ap length s6.3,
+      length-append s6.1 s6.2,
+      ap length s6.4.0,
+      ap length s6.5.0,
+    ) in
+    let made : Extent = record { at = s6.0; end = end } in
+    let found : c.initial ≡ made = sym (ap (λ (k : CieRecord). k.initial) s6.5.1) in
+    (found ∙ ap (λ (q : ℕ). record { at = q; end = end }) place, sym (ap (λ (k : CieRecord). k.start) s6.5.1))
+
+fde_place : (start section end p : ℕ) (c : CieRecord) (front : List ℕ) (f : FdeRecord) → (fde start section end c).Spells p front f
+    → (f.program ≡ record { at = p + length front; end = end }) × (f.cie ≡ c) × (f.start ≡ start)
+unfolding fde
+fde_place start section end p c front f s =
+    let s1 = s.5 in let s2 = s1.5 in let s3 = s2.5 in
+    let place : s3.0 ≡ p + length front =
+    omega (
+      arith,
+      s3.4.1,
+      ap length s.3,
+      length-append s.1 s.2,
+      ap length s1.3,
+      length-append s1.1 s1.2,
+      ap length s2.3,
+      length-append s2.1 s2.2,
+      ap length s3.3,
+      length-append s3.1 s3.2,
+      ap length s3.4.0,
+      ap length s3.5.0,
+    ) in
+    let made : Extent = record { at = s3.0; end = end } in
+    let found : f.program ≡ made = sym (ap (λ (k : FdeRecord). k.program) s3.5.1) in
+    (found ∙ ap (λ (q : ℕ). record { at = q; end = end }) place, sym (ap (λ (k : FdeRecord). k.cie) s3.5.1), sym (ap (λ (k : FdeRecord). k.start) s3.5.1))
+
+-- the initial instructions of a CIE stand in the bytes
+pub record CieKept (section : ℕ) (bytes : List ℕ) (c : CieRecord) : Type 0 where
+  pub text : List ℕ
+  pub inside : IsExtent bytes c.initial text
+  pub steps : List Step
+  pub last : State
+  pub spelled : AreSteps (step c.start section false c) c.initial.at initial_state text steps last
+
+-- a text behind others, up to the end of its record
+extent : (bytes before head body text after : List ℕ) (p at end : ℕ) → bytes ≡ before ++ (text ++ after) → text ≡ head ++ body → p ≡ length before → at ≡ p + length head → end ≡ p + length text
+    → IsExtent bytes (record { at = at; end = end }) body
+extent bytes before head body text after p at end whole parts start place size =
+    let regrouped : bytes ≡ (before ++ head) ++ (body ++ after) =
+    whole ∙ ap (λ (l : List ℕ). before ++ (l ++ after)) parts ∙ ap (λ (l : List ℕ). before ++ l) (append_assoc head body after) ∙ sym (append_assoc before head (body ++ after)) in
+    (before ++ head, after, regrouped, omega (arith, length-append before head), omega (arith, ap length parts, length-append head body))
+
+content_cie : (start section p : ℕ) (earlier : List CieRecord) (end : ℕ) (text bytes before after : List ℕ) (c : CieRecord) → (content start section earlier end).Spells p text (Cie c)
+    → bytes ≡ before ++ (text ++ after) → p ≡ length before → end ≡ p + length text → CieKept section bytes c
+unfolding content
+content_cie start section p earlier end text bytes before after c s whole place size =
+    let id = s.5 in
+    elim id.5 [
+      | inl w ↦
+          let q = w.1 in
+          let rest = q.5 in
+          let same : record q.0 { offset = rest.0.offset } ≡ c = let made = rest.5.1 in cc in
+          let head = id.1 ++ q.1 in
+          let parts : text ≡ head ++ rest.1 =
+          s.3 ∙ ap (λ (l : List ℕ). l ++ s.2) s.4.0 ∙ id.3 ∙ ap (λ (l : List ℕ). id.1 ++ l) (q.3 ∙ ap (λ (l : List ℕ). q.1 ++ l) (rest.3 ∙ ap (λ (l : List ℕ). rest.1 ++ l) rest.5.0 ∙ append-nil rest.1))
+          ∙ sym (append_assoc id.1 q.1 rest.1) in
+          let placed = cie_place start section end _ q.1 q.0 q.4 in
+          let at : p + length s.1 + length id.1 + length q.1 ≡ p + length head = omega (arith, ap length s.4.0, length-append id.1 q.1) in
+          let inside : IsExtent bytes q.0.initial rest.1 =
+          subst (λ (e : Extent). IsExtent bytes e rest.1) (sym placed.0) (extent bytes before head rest.1 text after p (p + length s.1 + length id.1 + length q.1) end whole parts place at size) in
+          let stepped = AreSteps_offset start section q.0 rest.0.offset _ initial_state rest.1 rest.4.0 rest.0 rest.4.1 in
+          let there = subst (λ (k : ℕ). AreSteps (step start section false (record q.0 { offset = rest.0.offset })) k initial_state rest.1 rest.4.0 rest.0) (sym (ap (λ (e : Extent). e.at) placed.0)) stepped in
+          let here = subst (λ (k : ℕ). AreSteps (step k section false (record q.0 { offset = rest.0.offset })) q.0.initial.at initial_state rest.1 rest.4.0 rest.0) (sym placed.1) there in
+          subst (λ (k : CieRecord). CieKept section bytes k) same (record { text = rest.1; inside = inside; steps = rest.4.0; last = rest.0; spelled = here })
+      | inr w ↦ absurd (let never = w.1.5.5.5.1 in cc)
+    ]
+
+-- ---- FDEs, with their CIEs among the earlier ones
+
+abbrev pub AllKept : ℕ → List ℕ → List CieRecord → Type 0
+AllKept section bytes [] = Unit {0}
+AllKept section bytes (c ∷ cs) = CieKept section bytes c × AllKept section bytes cs
+
+AllKept-end : (section : ℕ) (bytes : List ℕ) (cs : List CieRecord) (c : CieRecord) → AllKept section bytes cs → CieKept section bytes c → AllKept section bytes (cs ++ c ∷ [])
+AllKept-end section bytes [] c all kept = (kept, tt)
+AllKept-end section bytes (d ∷ cs) c all kept = (all.0, AllKept-end section bytes cs c all.1 kept)
+
+found_spells : (o : Option CieRecord) (f : FrameFault) (p : ℕ) (text : List ℕ) (c : CieRecord) → (found o f).Spells p text c → (text ≡ []) × (o ≡ Some c)
+found_spells None f p text c a = absurd a
+found_spells (Some d) f p text c a = (a.0, ap (λ (k : CieRecord). Some k) a.1)
+
+kept_choice : (section : ℕ) (bytes : List ℕ) (b : Bool) (d c : CieRecord) (o : Option CieRecord) → CieKept section bytes d → (o ≡ Some c → CieKept section bytes c) → cond b (Some d) o ≡ Some c → CieKept section bytes c
+kept_choice section bytes true d c o kept more e = subst (λ (k : CieRecord). CieKept section bytes k) (let same : d ≡ c = cc in same) kept
+kept_choice section bytes false d c o kept more e = more e
+
+cie_from-kept : (section : ℕ) (bytes : List ℕ) (cs : List CieRecord) (place : ℕ) (c : CieRecord) → AllKept section bytes cs → cie_from cs place ≡ Some c → CieKept section bytes c
+cie_from-kept section bytes [] place c all e = absurd cc
+cie_from-kept section bytes (d ∷ cs) place c all e = kept_choice section bytes (nat_eq d.start place) d c (cie_from cs place) all.0 (cie_from-kept section bytes cs place c all.1) e
+
+kept_behind : (section : ℕ) (bytes : List ℕ) (b : Bool) (cs : List CieRecord) (place : ℕ) (c : CieRecord) → AllKept section bytes cs → cond b None (cie_from cs place) ≡ Some c → CieKept section bytes c
+kept_behind section bytes true cs place c all e = absurd cc
+kept_behind section bytes false cs place c all e = cie_from-kept section bytes cs place c all e
+
+-- the programs of an FDE, whose CIE was kept
+programs_of : (section : ℕ) (bytes text : List ℕ) (f : FdeRecord) (steps : List Step) (t : State) → CieKept section bytes f.cie → IsExtent bytes f.program text
+    → AreSteps (step f.start section true f.cie) f.program.at (first_state f.cie f.first) text steps t → HasPrograms section bytes f
+unfolding HasSteps
+programs_of section bytes text f steps t kept inside a =
+    let moved_steps = AreSteps_at f.cie.start section f.first f.cie f.cie.initial.at initial_state kept.text kept.steps kept.last kept.spelled in
+    record {
+      text = text;
+      inside = inside;
+      steps = steps;
+      spelled = (t, a);
+      initial_text = kept.text;
+      initial_inside = kept.inside;
+      initial_steps = moved_steps.0;
+      initial_spelled = (moved f.first kept.last, moved_steps.1);
+    }
+
+content_fde : (start section p : ℕ) (earlier : List CieRecord) (end : ℕ) (text bytes before after : List ℕ) (f : FdeRecord) → AllKept section bytes earlier → (content start section earlier end).Spells p text (Fde f)
+    → bytes ≡ before ++ (text ++ after) → p ≡ length before → end ≡ p + length text → HasPrograms section bytes f
+unfolding content
+content_fde start section p earlier end text bytes before after f all s whole place size =
+    let id = s.5 in
+    elim id.5 [
+      | inl w ↦ absurd (let never = w.1.5.5.1 in cc)
+      | inr w ↦
+          let u = w.1 in
+          let v = u.5 in
+          let rest = v.5 in
+          let same : v.0 ≡ f = let made = rest.5.1 in cc in
+          let known = found_spells (cie_behind earlier s.0 id.0) (faults.NoCie start s.0) _ u.1 u.0 u.4 in
+          let kept = kept_behind section bytes (nat_lt s.0 id.0) earlier (s.0 - id.0) u.0 all known.1 in
+          let head = id.1 ++ v.1 in
+          let parts : text ≡ head ++ rest.1 =
+          s.3 ∙ ap (λ (l : List ℕ). l ++ s.2) s.4.0 ∙ id.3
+          ∙ ap (λ (l : List ℕ). id.1 ++ l) (u.3 ∙ ap (λ (l : List ℕ). l ++ u.2) known.0 ∙ v.3 ∙ ap (λ (l : List ℕ). v.1 ++ l) (rest.3 ∙ ap (λ (l : List ℕ). rest.1 ++ l) rest.5.0 ∙ append-nil rest.1))
+          ∙ sym (append_assoc id.1 v.1 rest.1) in
+          let placed = fde_place start section end _ u.0 v.1 v.0 v.4 in
+          let at : p + length s.1 + length id.1 + length u.1 + length v.1 ≡ p + length head = omega (arith, ap length s.4.0, ap length known.0, length-append id.1 v.1) in
+          let inside : IsExtent bytes v.0.program rest.1 =
+          subst (λ (e : Extent). IsExtent bytes e rest.1) (sym placed.0) (extent bytes before head rest.1 text after p (p + length s.1 + length id.1 + length u.1 + length v.1) end whole parts place at size) in
+          let there = subst (λ (k : ℕ). AreSteps (step start section true u.0) k (first_state u.0 v.0.first) rest.1 rest.4.0 rest.0) (sym (ap (λ (e : Extent). e.at) placed.0)) rest.4.1 in
+          let here = subst (λ (k : ℕ). AreSteps (step k section true u.0) v.0.program.at (first_state u.0 v.0.first) rest.1 rest.4.0 rest.0) (sym placed.2) there in
+          let own = subst (λ (k : CieRecord). AreSteps (step v.0.start section true k) v.0.program.at (first_state k v.0.first) rest.1 rest.4.0 rest.0) (sym placed.1) here in
+          let kept_own = subst (λ (k : CieRecord). CieKept section bytes k) (sym placed.1) kept in
+          subst (λ (k : FdeRecord). HasPrograms section bytes k) same (programs_of section bytes rest.1 v.0 rest.4.0 rest.0 kept_own inside own)
+    ]
+
+-- ---- whole records
+
+-- what stands behind the length of a record
+record Body (section p : ℕ) (earlier : List CieRecord) (bytes : List ℕ) (r : Record) : Type 0 where
+  start : ℕ
+  at : ℕ
+  end : ℕ
+  text : List ℕ
+  before : List ℕ
+  after : List ℕ
+  spelled : (content start section earlier end).Spells at text r
+  whole : bytes ≡ before ++ (text ++ after)
+  place : at ≡ length before
+  size : end ≡ at + length text
+
+body_of : (section p : ℕ) (earlier : List CieRecord) (front bytes before after : List ℕ) (r : Record) → (whole_record section earlier).Spells p front r → bytes ≡ before ++ (front ++ after) → p ≡ length before → Body section p earlier bytes r
+unfolding whole_record
+body_of section p earlier front bytes before after r s whole place =
+    let inner = s.5 in
+    let held = inner.5 in
+    let parts : front ≡ inner.1 ++ held.2 =
+    s.3 ∙ ap (λ (l : List ℕ). l ++ s.2) s.4.0 ∙ inner.3 ∙ ap (λ (l : List ℕ). inner.1 ++ l) (held.3 ∙ ap (λ (l : List ℕ). l ++ held.2) held.4.0) in
+    let regrouped : bytes ≡ (before ++ inner.1) ++ (held.2 ++ after) =
+    whole ∙ ap (λ (l : List ℕ). before ++ (l ++ after)) parts ∙ ap (λ (l : List ℕ). before ++ l) (append_assoc inner.1 held.2 after) ∙ sym (append_assoc before inner.1 (held.2 ++ after)) in
+    record {
+      start = s.0;
+      at = p + length s.1 + length inner.1 + length held.1;
+      end = held.0 + inner.0;
+      text = held.2;
+      before = before ++ inner.1;
+      after = after;
+      spelled = held.5.1;
+      whole = regrouped;
+      place = omega (arith, ap length s.4.0, ap length held.4.0, length-append before inner.1);
+      size = omega (arith, held.4.1, held.5.0, ap length held.4.0);
+    }
+
+abbrev pub AllPrograms : ℕ → List ℕ → List FdeRecord → Type 0
+AllPrograms section bytes [] = Unit {0}
+AllPrograms section bytes (f ∷ fs) = HasPrograms section bytes f × AllPrograms section bytes fs
+
+records_kept : (section p : ℕ) (earlier : List CieRecord) (text : List ℕ) (rs : List Record) (bytes before after : List ℕ) → AllKept section bytes earlier → AreRecords section p earlier text rs
+    → bytes ≡ before ++ (text ++ after) → p ≡ length before → AllPrograms section bytes (fdes_of rs)
+records_kept section p earlier text [] bytes before after all s whole place = tt
+records_kept section p earlier text (Cie c ∷ rs) bytes before after all s whole place =
+    let first : bytes ≡ before ++ (s.0 ++ (s.1 ++ after)) = whole ∙ ap (λ (l : List ℕ). before ++ (l ++ after)) s.2 ∙ ap (λ (l : List ℕ). before ++ l) (append_assoc s.0 s.1 after) in
+    let b = body_of section p earlier s.0 bytes before (s.1 ++ after) (Cie c) s.3 first place in
+    let kept = content_cie b.start section b.at earlier b.end b.text bytes b.before b.after c b.spelled b.whole b.place b.size in
+    records_kept section (p + length s.0) (earlier ++ c ∷ []) s.1 rs bytes (before ++ s.0) after (AllKept-end section bytes earlier c all kept) s.4 (first ∙ sym (append_assoc before s.0 (s.1 ++ after))) (omega (arith, length-append before s.0))
+records_kept section p earlier text (Fde f ∷ rs) bytes before after all s whole place =
+    let first : bytes ≡ before ++ (s.0 ++ (s.1 ++ after)) = whole ∙ ap (λ (l : List ℕ). before ++ (l ++ after)) s.2 ∙ ap (λ (l : List ℕ). before ++ l) (append_assoc s.0 s.1 after) in
+    let b = body_of section p earlier s.0 bytes before (s.1 ++ after) (Fde f) s.3 first place in
+    let kept = content_fde b.start section b.at earlier b.end b.text bytes b.before b.after f all b.spelled b.whole b.place b.size in
+    (kept, records_kept section (p + length s.0) earlier s.1 rs bytes (before ++ s.0) after all s.4 (first ∙ sym (append_assoc before s.0 (s.1 ++ after))) (omega (arith, length-append before s.0)))
+
+-- ---- sections
+
+pub section_kept : (section : ℕ) (bytes : List ℕ) (fdes : List FdeRecord) → HasFdes section bytes fdes → AllPrograms section bytes fdes
+unfolding HasFdes IsSection
+section_kept section bytes fdes s =
+    let rs = s.0 in
+    subst (λ (fs : List FdeRecord). AllPrograms section bytes fs) s.2 (records_kept section 0 [] s.1.0 rs bytes [] s.1.1 tt s.1.3 s.1.2 refl)
+
+pub programs_at : (section : ℕ) (bytes : List ℕ) (fs : List FdeRecord) (i : ℕ) (d : FdeRecord) → AllPrograms section bytes fs → i < length fs → HasPrograms section bytes (get_or fs i d)
+programs_at section bytes [] i d all lt = absurd (omega arith)
+programs_at section bytes (f ∷ fs) zero d all lt = all.0
+programs_at section bytes (f ∷ fs) (suc i) d all lt = programs_at section bytes fs i d all.1 (omega arith)
+
+cover_choice : (section : ℕ) (bytes : List ℕ) (b : Bool) (g f : FdeRecord) (o : Option FdeRecord) → HasPrograms section bytes g → (o ≡ Some f → HasPrograms section bytes f) → cond b (Some g) o ≡ Some f → HasPrograms section bytes f
+cover_choice section bytes true g f o has more e = subst (λ (k : FdeRecord). HasPrograms section bytes k) (let same : g ≡ f = cc in same) has
+cover_choice section bytes false g f o has more e = more e
+
+pub programs_of_cover : (section : ℕ) (bytes : List ℕ) (fs : List FdeRecord) (pc : ℕ) (f : FdeRecord) → AllPrograms section bytes fs → first_cover pc fs ≡ Some f → HasPrograms section bytes f
+programs_of_cover section bytes [] pc f all e = absurd cc
+programs_of_cover section bytes (g ∷ gs) pc f all e = cover_choice section bytes (covers pc g) g f (first_cover pc gs) all.0 (programs_of_cover section bytes gs pc f all.1) e
+
+pub programs_of_index : (section : ℕ) (bytes : List ℕ) (fs : List FdeRecord) (i : ℕ) (f : FdeRecord) → AllPrograms section bytes fs → slice_get fs i ≡ Some f → HasPrograms section bytes f
+programs_of_index section bytes [] i f all e = absurd cc
+programs_of_index section bytes (g ∷ gs) zero f all e = subst (λ (k : FdeRecord). HasPrograms section bytes k) (let same : g ≡ f = cc in same) all.0
+programs_of_index section bytes (g ∷ gs) (suc i) f all e = programs_of_index section bytes gs i f all.1 e

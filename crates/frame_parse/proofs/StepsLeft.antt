@@ -1,0 +1,24 @@
+-- The next step of a program, and what is left of it.
+use Rattle.std.proofs.Common.{◌≡◌, ◌<◌, ◌≤◌, List, [], ◌∷◌, length, Ok, Err}
+use Rattle.eh_bytes.specs.Rest.{Rest}
+use Rattle.frame_parse.specs.declared.fault.FrameFault.{FrameFault}
+use Rattle.frame_parse.specs.declared.instruction.Step.{Step}
+use Rattle.frame_parse.specs.declared.state.State.{State}
+use Rattle.frame_parse.specs.Programs.{step, ProgramRest, HasSteps}
+use Rattle.frame_parse.proofs.ProgramParts.{steps_sound}
+use Rattle.frame_parse.proofs.Steps.{no_steps, next_step, no_refusal}
+
+pub nothing_left : (p : ProgramRest) (steps : List Step) → length p.rest.bytes ≤ 0 → HasSteps p steps → steps ≡ []
+unfolding HasSteps
+nothing_left p steps le a = no_steps (step p.start p.section p.moves p.cie) p.rest.at p.state p.rest.bytes steps a.0 (steps_sound p.start p.section p.moves p.cie) a.1 le
+
+pub next_left : (p : ProgramRest) (steps : List Step) (x : Step) (m : State) (mid : Rest) → 0 < length p.rest.bytes → HasSteps p steps → (step p.start p.section p.moves p.cie p.state).read p.rest ≡ Ok ((x, m), mid)
+    → (more : List Step) × (steps ≡ x ∷ more) × HasSteps (record p { state = m; rest = mid }) more
+unfolding HasSteps
+next_left p steps x m mid some a e =
+    let n = next_step (step p.start p.section p.moves p.cie) p.rest p.state steps a.0 x m mid (steps_sound p.start p.section p.moves p.cie) some a.1 e in
+    (n.0, n.1, (a.0, n.2))
+
+pub none_refused : (p : ProgramRest) (steps : List Step) (f : FrameFault) → 0 < length p.rest.bytes → HasSteps p steps → (step p.start p.section p.moves p.cie p.state).read p.rest ≡ Err f → ⊥
+unfolding HasSteps
+none_refused p steps f some a e = no_refusal (step p.start p.section p.moves p.cie) p.rest p.state steps a.0 f (steps_sound p.start p.section p.moves p.cie) some a.1 e

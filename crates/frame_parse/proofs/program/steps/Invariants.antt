@@ -1,0 +1,10 @@
+use Rattle.std.proofs.Common.{◌≡◌, length}
+use Rattle.frame_parse.specs.Programs.{step, steps_from}
+use Rattle.frame_parse.proofs.program.steps.Given as goal
+
+abbrev pub invariant-loop-cursor : goal.invariant-loop-cursor
+invariant-loop-cursor l =
+    (steps_from (step l.start l.section l.moves l.cie) l.fn.state).read l.initial.cursor ≡ (steps_from (step l.start l.section l.moves l.cie) l.state).read l.cursor
+
+abbrev pub decreases-loop-cursor : goal.decreases-loop-cursor
+decreases-loop-cursor l = length l.cursor.bytes

@@ -1,0 +1,9 @@
+use Rattle.frame_parse.proofs.Kept.{section_kept, programs_of_index}
+use Rattle.frame_parse.proofs.section.Section.fde.Goals as goal
+
+pub new-requires : goal.new-requires
+new-requires c =
+    let s = c.self.inside in
+    let entry = rw c.deref.ensures.value at c.entry_at-entry.ensures in
+    rw c.deref-2.ensures.value
+    (programs_of_index s.address s.bytes.items s.fdes.items c.args.index c.entry_at-entry.result.now (section_kept s.address s.bytes.items s.fdes.items c.self.invariant) entry)

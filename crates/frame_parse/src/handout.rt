@@ -1,0 +1,99 @@
+//! The instructions of a program, one by one.
+
+ghost use Rattle.std.specs.Prelude.{◌≡◌, ◌∷◌, [], List, MatchOption};
+ghost use Rattle.frame_parse.specs.Programs.{HasSteps};
+ghost use Rattle.frame_parse.specs.declared.instruction.Step.{Step};
+
+use crate::instruction::Step;
+use crate::program::{initial_state, step};
+use crate::record::CieRecord;
+use crate::state::State;
+use eh_bytes::Cursor;
+use std::marker::Model;
+use std::mem;
+
+/// What is left of a program, lent from its section.
+#[derive(Drop)]
+pub struct Program<'a> {
+    start: usize,
+    section: u64,
+    moves: bool,
+    cie: &'a CieRecord,
+    state: State,
+    cursor: Cursor<'a>,
+}
+
+impl<'a> Model for Program<'a> {
+    ghost use Rattle.std.specs.Prelude.{List};
+    ghost use Rattle.frame_parse.specs.declared.instruction.Step.{Step};
+    ghost use Rattle.frame_parse.specs.Programs.{ProgramRest, HasSteps};
+
+    ghost Value = { ProgramRest };
+
+    ghost view = { λ p. record { start = p.start; section = p.section; moves = p.moves; cie = p.cie.now; state = p.state; rest = p.cursor } };
+
+    ghost invariant = { λ p. (steps : List Step) × HasSteps (record { start = p.start; section = p.section; moves = p.moves; cie = p.cie.now; state = p.state; rest = p.cursor }) steps };
+}
+
+impl<'a> Program<'a> {
+    /// What is left behind a state, where the rest of the record was read without fault.
+    pub(crate) fn new(
+        start: usize,
+        section: u64,
+        moves: bool,
+        cie: &'a CieRecord,
+        state: State,
+        cursor: Cursor<'a>,
+    ) -> Program<'a>
+        requires { (steps : List Step) × HasSteps (record {
+          start = start;
+          section = section;
+          moves = moves;
+          cie = cie.now;
+          state = state;
+          rest = cursor;
+        }) steps }
+        ensures { result ≡ record {
+          start = start;
+          section = section;
+          moves = moves;
+          cie = cie.now;
+          state = state;
+          rest = cursor.entry;
+        } }
+    {
+        Program {
+            start,
+            section,
+            moves,
+            cie,
+            state,
+            cursor,
+        }
+    }
+
+    /// The next instruction, with the location at which it holds, or `None` at the end.
+    pub fn next(&mut self) -> Option<Step>
+        ensures { (steps : List Step) → HasSteps self.old steps
+            → MatchOption result (steps ≡ []) (λ x. (more : List Step) × (steps ≡ x ∷ more) × HasSteps self.new more) }
+    {
+        if self.cursor.left() == 0 {
+            return None;
+        }
+        let state = mem::replace(&mut self.state, initial_state());
+        match step(
+            self.start,
+            &mut self.cursor,
+            self.section,
+            self.moves,
+            self.cie,
+            state,
+        ) {
+            Ok((step, state)) => {
+                self.state = state;
+                Some(step)
+            }
+            Err(_) => None,
+        }
+    }
+}
