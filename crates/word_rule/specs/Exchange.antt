@@ -33,11 +33,12 @@ abbrev pub is_reached : Log → ℕ → (ℕ → Bool) → ℕ → Bool
 is_reached v top group n =
     is_among (within (either group (is_fresh v.held v.out)) (exchanged_in v group) (exchanged_in v group top).level top) n
 
--- what becomes of the entries: a release and a store keep them, a commit changes them by its update
+-- What becomes of the entries: a release and a store keep them, a commit changes them by its update. A member is added that
+-- was not there, and one is taken away that was.
 abbrev pub EntriesBecome : Option Update → (Member → Type 0) → (Member → Type 0) → Type 0
 EntriesBecome None before after = (m : Member) → after m ↔ before m
-EntriesBecome (Some (Register added)) before after = (m : Member) → after m ↔ (before m ⊎ (m ≡ added))
-EntriesBecome (Some (Deregister base)) before after = (m : Member) → after m ↔ (before m × (m.span.first ≢ base))
+EntriesBecome (Some (Register added)) before after = (¬ before added) × ((m : Member) → after m ↔ (before m ⊎ (m ≡ added)))
+EntriesBecome (Some (Deregister base)) before after = ((m : Member) × (before m × (m.span.first ≡ base))) × ((m : Member) → after m ↔ (before m × (m.span.first ≢ base)))
 EntriesBecome (Some (Load m)) before after = ⊥
 EntriesBecome (Some (Unload base)) before after = ⊥
 
@@ -105,6 +106,7 @@ MayExchange v update = (top : ℕ) × (group : ℕ → Bool) × IsLawfulExchange
 abbrev pub Exchanges : Option Update → Log → Log → Type 0
 Exchanges update v w = (IsQuiet v update × (w ≡ settle_free v)) ⊎ ((top : ℕ) × (group : ℕ → Bool) × (IsLawfulExchange v update top group × (w ≡ after_exchange v top group)))
 
--- An exchange that is made exactly where it is lawful, as at the release of a node and at a store that makes one free.
+-- An exchange that is made exactly where it is lawful, as at the release of a node and at a store that makes one free. Held
+-- nodes that aren't live settle in any case.
 abbrev pub ExchangesWhereLawful : Log → Log → Type 0
-ExchangesWhereLawful v w = Exchanges None v w ⊎ ((¬ IsQuiet v None) × (¬ MayExchange v None) × (w ≡ v))
+ExchangesWhereLawful v w = Exchanges None v w ⊎ ((¬ IsQuiet v None) × (¬ MayExchange v None) × (w ≡ settle_free v))
