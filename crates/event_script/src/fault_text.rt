@@ -70,3 +70,6 @@ fn put_places(text: &mut String, name: &str, start: usize, at: usize) -> Result<
 {
     write!(text, "section {name} {start} {at}")
 }
+
+#[cfg(test)]
+mod tests;
