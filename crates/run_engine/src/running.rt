@@ -130,14 +130,15 @@ fn conclude<K: Sink>(sink: &mut K, line: &[u8], status: Status) -> Status
 
 /// Writes the line that tells of a bad line of the script.
 fn refuse<K: Sink>(alloc: Global, sink: &mut K, line: u32, reason: Reason) -> Status
-    ensures {
-        Concludes (fault_text line reason) Status.Script
-            (record {
-                reads = 0; reads_after = 0;
-                writes = K.faults sink.old; writes_after = K.faults sink.new;
-                held = K.written sink.old; held_after = K.written sink.new
-            }) result
-    }
+    ensures { Concludes (fault_text line reason) Status.Script
+        (record {
+          reads = 0;
+          reads_after = 0;
+          writes = K.faults sink.old;
+          writes_after = K.faults sink.new;
+          held = K.written sink.old;
+          held_after = K.written sink.new;
+        }) result }
 {
     match print_fault(alloc, line, reason) {
         Ok(text) => conclude(sink, &text, Status::Script),

@@ -18,6 +18,9 @@ fn a_bad_section_is_told_with_its_record_and_place(rt: HostRuntime) -> Result<()
         byte: 4,
     };
     let text = print_fault(rt.alloc(), 4, Reason::Section { fault })?;
-    assert_eq!(rt; text.as_slice(), b"script line 4: section version 0 8\n".as_slice());
+    assert_eq!(rt;
+        text.as_slice(),
+        b"script line 4: section version 0 8\n".as_slice()
+    );
     Ok(())
 }

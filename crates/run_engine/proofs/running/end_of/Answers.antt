@@ -27,8 +27,8 @@ returns-in-Err-Bad g c =
     let within : vec_len bytes ≤ limit = (let count = c.len.ensures in let below = c.if-len-gt-LIMIT.false in omega arith) in
     let P : List ℕ → Type 0 = λ had. (length had ≤ limit) × IsFirstBad had c.in-Err-Bad.line c.in-Err-Bad.reason in
     ends_concluded _ _ _ _ status.Script _
-      (c.are_taken.ensures.0 c.if-not-are_taken.false, record { line = c.in-Err-Bad.line; reason = c.in-Err-Bad.reason; first = IfSome-same _ bytes.items P (c.in-Ok.ensures.all within) (short, rw (← c.deref.ensures.value) (rw c.in-Err-Bad.field-0-is at c.in-Err-Bad.ensures.bad)); text_is = refl })
-      c.refuse.ensures
+    (c.are_taken.ensures.0 c.if-not-are_taken.false, record { line = c.in-Err-Bad.line; reason = c.in-Err-Bad.reason; first = IfSome-same _ bytes.items P (c.in-Ok.ensures.all within) (short, rw (← c.deref.ensures.value) (rw c.in-Err-Bad.field-0-is at c.in-Err-Bad.ensures.bad)); text_is = refl })
+    c.refuse.ensures
 
 pub returns-in-Err-Failed-write_journal : goal.returns-in-Err-Failed-write_journal
 returns-in-Err-Failed-write_journal g c =
