@@ -13,6 +13,8 @@ mod images;
 mod kinds;
 mod numbers;
 #[cfg(test)]
+mod section_tests;
+#[cfg(test)]
 mod tests;
 
 use crate::reader::draft::Draft;

@@ -1,0 +1,426 @@
+//! Images whose sections were cut or damaged.
+
+use super::*;
+use frame_parse::FrameFault;
+use std::test::Fail;
+
+/// Sections at 2000 of which a part was exchanged, with their first refusals.
+const DAMAGED: [(&[u8], FrameFault); 12] = [
+    (
+        b"140000000000000001655200017810011b0c0708900100001c0000001c000000e0efffff2000000000410e108602430d0600000000000000140000003c000000e0efffff10000000000000000000000000000000",
+        FrameFault::Augmentation { start: 0, at: 9 },
+    ),
+    (
+        b"1400000000000000017a5200017811011b0c0708900100001c0000001c000000e0efffff2000000000410e108602430d0600000000000000140000003c000000e0efffff10000000000000000000000000000000",
+        FrameFault::Column {
+            start: 0,
+            at: 14,
+            column: 17,
+        },
+    ),
+    (
+        b"1400000000000000017a52000178107f1b0c0708900100001c0000001c000000e0efffff2000000000410e108602430d0600000000000000140000003c000000e0efffff10000000000000000000000000000000",
+        FrameFault::Short { start: 0, at: 16 },
+    ),
+    (
+        b"1400000000000000017a5200017810012b0c0708900100001c0000001c000000e0efffff2000000000410e108602430d0600000000000000140000003c000000e0efffff10000000000000000000000000000000",
+        FrameFault::Encoding {
+            start: 0,
+            at: 16,
+            byte: 43,
+        },
+    ),
+    (
+        b"1400000000000000017a5200017810011b410708900100001c0000001c000000e0efffff2000000000410e108602430d0600000000000000140000003c000000e0efffff10000000000000000000000000000000",
+        FrameFault::Location { start: 0, at: 17 },
+    ),
+    (
+        b"1400000000000000017a5200017810011b000708900100001c0000001c000000e0efffff2000000000410e108602430d0600000000000000140000003c000000e0efffff10000000000000000000000000000000",
+        FrameFault::CfaRule { start: 24, at: 42 },
+    ),
+    (
+        b"1400000000000000017a5200017810011b0c0708900100001c0000001d000000e0efffff2000000000410e108602430d0600000000000000140000003c000000e0efffff10000000000000000000000000000000",
+        FrameFault::NoCie { start: 24, at: 28 },
+    ),
+    (
+        b"1400000000000000017a5200017810011b0c0708900100001c0000001c000000e0efffff2000008000410e108602430d0600000000000000140000003c000000e0efffff10000000000000000000000000000000",
+        FrameFault::Range { start: 24, at: 36 },
+    ),
+    (
+        b"1400000000000000017a5200017810011b0c0708900100001c0000001c000000e0efffff20000000003f0e108602430d0600000000000000140000003c000000e0efffff10000000000000000000000000000000",
+        FrameFault::Opcode {
+            start: 24,
+            at: 41,
+            byte: 63,
+        },
+    ),
+    (
+        b"1400000000000000017a5200017810011b0c0708900100001c0000001c000000e0efffff20000000000b0e108602430d0600000000000000140000003c000000e0efffff10000000000000000000000000000000",
+        FrameFault::Remember { start: 24, at: 41 },
+    ),
+    (
+        b"1400000000000000017a5200017810011b0c0708900100001c0000001c000000e0efffff2000000000410e102effffffffffffffffff0200140000003c000000e0efffff10000000000000000000000000000000",
+        FrameFault::TooWide { start: 24, at: 45 },
+    ),
+    (
+        b"1400000000000000017a5200017810011b0c0708900100001c0000001c000000e0efffff2000000000410e108602430d1100000000000000140000003c000000e0efffff10000000000000000000000000000000",
+        FrameFault::Column {
+            start: 24,
+            at: 48,
+            column: 17,
+        },
+    ),
+];
+
+/// The first bytes of a section at 2000, from none to all, and what is refused of them.
+const CUT: [(&[u8], Option<FrameFault>); 85] = [
+    (b"-", None),
+    (b"14", Some(FrameFault::Short { start: 0, at: 0 })),
+    (b"1400", Some(FrameFault::Short { start: 0, at: 0 })),
+    (b"140000", Some(FrameFault::Short { start: 0, at: 0 })),
+    (b"14000000", Some(FrameFault::Short { start: 0, at: 0 })),
+    (b"1400000000", Some(FrameFault::Short { start: 0, at: 0 })),
+    (b"140000000000", Some(FrameFault::Short { start: 0, at: 0 })),
+    (
+        b"14000000000000",
+        Some(FrameFault::Short { start: 0, at: 0 }),
+    ),
+    (
+        b"1400000000000000",
+        Some(FrameFault::Short { start: 0, at: 0 }),
+    ),
+    (
+        b"140000000000000001",
+        Some(FrameFault::Short { start: 0, at: 0 }),
+    ),
+    (
+        b"1400000000000000017a",
+        Some(FrameFault::Short { start: 0, at: 0 }),
+    ),
+    (
+        b"1400000000000000017a52",
+        Some(FrameFault::Short { start: 0, at: 0 }),
+    ),
+    (
+        b"1400000000000000017a5200",
+        Some(FrameFault::Short { start: 0, at: 0 }),
+    ),
+    (
+        b"1400000000000000017a520001",
+        Some(FrameFault::Short { start: 0, at: 0 }),
+    ),
+    (
+        b"1400000000000000017a52000178",
+        Some(FrameFault::Short { start: 0, at: 0 }),
+    ),
+    (
+        b"1400000000000000017a5200017810",
+        Some(FrameFault::Short { start: 0, at: 0 }),
+    ),
+    (
+        b"1400000000000000017a520001781001",
+        Some(FrameFault::Short { start: 0, at: 0 }),
+    ),
+    (
+        b"1400000000000000017a5200017810011b",
+        Some(FrameFault::Short { start: 0, at: 0 }),
+    ),
+    (
+        b"1400000000000000017a5200017810011b0c",
+        Some(FrameFault::Short { start: 0, at: 0 }),
+    ),
+    (
+        b"1400000000000000017a5200017810011b0c07",
+        Some(FrameFault::Short { start: 0, at: 0 }),
+    ),
+    (
+        b"1400000000000000017a5200017810011b0c0708",
+        Some(FrameFault::Short { start: 0, at: 0 }),
+    ),
+    (
+        b"1400000000000000017a5200017810011b0c070890",
+        Some(FrameFault::Short { start: 0, at: 0 }),
+    ),
+    (
+        b"1400000000000000017a5200017810011b0c07089001",
+        Some(FrameFault::Short { start: 0, at: 0 }),
+    ),
+    (
+        b"1400000000000000017a5200017810011b0c0708900100",
+        Some(FrameFault::Short { start: 0, at: 0 }),
+    ),
+    (b"1400000000000000017a5200017810011b0c070890010000", None),
+    (
+        b"1400000000000000017a5200017810011b0c0708900100001c",
+        Some(FrameFault::Short { start: 24, at: 24 }),
+    ),
+    (
+        b"1400000000000000017a5200017810011b0c0708900100001c00",
+        Some(FrameFault::Short { start: 24, at: 24 }),
+    ),
+    (
+        b"1400000000000000017a5200017810011b0c0708900100001c0000",
+        Some(FrameFault::Short { start: 24, at: 24 }),
+    ),
+    (
+        b"1400000000000000017a5200017810011b0c0708900100001c000000",
+        Some(FrameFault::Short { start: 24, at: 24 }),
+    ),
+    (
+        b"1400000000000000017a5200017810011b0c0708900100001c0000001c",
+        Some(FrameFault::Short { start: 24, at: 24 }),
+    ),
+    (
+        b"1400000000000000017a5200017810011b0c0708900100001c0000001c00",
+        Some(FrameFault::Short { start: 24, at: 24 }),
+    ),
+    (
+        b"1400000000000000017a5200017810011b0c0708900100001c0000001c0000",
+        Some(FrameFault::Short { start: 24, at: 24 }),
+    ),
+    (
+        b"1400000000000000017a5200017810011b0c0708900100001c0000001c000000",
+        Some(FrameFault::Short { start: 24, at: 24 }),
+    ),
+    (
+        b"1400000000000000017a5200017810011b0c0708900100001c0000001c000000e0",
+        Some(FrameFault::Short { start: 24, at: 24 }),
+    ),
+    (
+        b"1400000000000000017a5200017810011b0c0708900100001c0000001c000000e0ef",
+        Some(FrameFault::Short { start: 24, at: 24 }),
+    ),
+    (
+        b"1400000000000000017a5200017810011b0c0708900100001c0000001c000000e0efff",
+        Some(FrameFault::Short { start: 24, at: 24 }),
+    ),
+    (
+        b"1400000000000000017a5200017810011b0c0708900100001c0000001c000000e0efffff",
+        Some(FrameFault::Short { start: 24, at: 24 }),
+    ),
+    (
+        b"1400000000000000017a5200017810011b0c0708900100001c0000001c000000e0efffff20",
+        Some(FrameFault::Short { start: 24, at: 24 }),
+    ),
+    (
+        b"1400000000000000017a5200017810011b0c0708900100001c0000001c000000e0efffff2000",
+        Some(FrameFault::Short { start: 24, at: 24 }),
+    ),
+    (
+        b"1400000000000000017a5200017810011b0c0708900100001c0000001c000000e0efffff200000",
+        Some(FrameFault::Short { start: 24, at: 24 }),
+    ),
+    (
+        b"1400000000000000017a5200017810011b0c0708900100001c0000001c000000e0efffff20000000",
+        Some(FrameFault::Short { start: 24, at: 24 }),
+    ),
+    (
+        b"1400000000000000017a5200017810011b0c0708900100001c0000001c000000e0efffff2000000000",
+        Some(FrameFault::Short { start: 24, at: 24 }),
+    ),
+    (
+        b"1400000000000000017a5200017810011b0c0708900100001c0000001c000000e0efffff200000000041",
+        Some(FrameFault::Short { start: 24, at: 24 }),
+    ),
+    (
+        b"1400000000000000017a5200017810011b0c0708900100001c0000001c000000e0efffff2000000000410e",
+        Some(FrameFault::Short { start: 24, at: 24 }),
+    ),
+    (
+        b"1400000000000000017a5200017810011b0c0708900100001c0000001c000000e0efffff2000000000410e10",
+        Some(FrameFault::Short { start: 24, at: 24 }),
+    ),
+    (
+        b"1400000000000000017a5200017810011b0c0708900100001c0000001c000000e0efffff2000000000410e1086",
+        Some(FrameFault::Short { start: 24, at: 24 }),
+    ),
+    (
+        b"1400000000000000017a5200017810011b0c0708900100001c0000001c000000e0efffff2000000000410e108602",
+        Some(FrameFault::Short { start: 24, at: 24 }),
+    ),
+    (
+        b"1400000000000000017a5200017810011b0c0708900100001c0000001c000000e0efffff2000000000410e10860243",
+        Some(FrameFault::Short { start: 24, at: 24 }),
+    ),
+    (
+        b"1400000000000000017a5200017810011b0c0708900100001c0000001c000000e0efffff2000000000410e108602430d",
+        Some(FrameFault::Short { start: 24, at: 24 }),
+    ),
+    (
+        b"1400000000000000017a5200017810011b0c0708900100001c0000001c000000e0efffff2000000000410e108602430d06",
+        Some(FrameFault::Short { start: 24, at: 24 }),
+    ),
+    (
+        b"1400000000000000017a5200017810011b0c0708900100001c0000001c000000e0efffff2000000000410e108602430d0600",
+        Some(FrameFault::Short { start: 24, at: 24 }),
+    ),
+    (
+        b"1400000000000000017a5200017810011b0c0708900100001c0000001c000000e0efffff2000000000410e108602430d060000",
+        Some(FrameFault::Short { start: 24, at: 24 }),
+    ),
+    (
+        b"1400000000000000017a5200017810011b0c0708900100001c0000001c000000e0efffff2000000000410e108602430d06000000",
+        Some(FrameFault::Short { start: 24, at: 24 }),
+    ),
+    (
+        b"1400000000000000017a5200017810011b0c0708900100001c0000001c000000e0efffff2000000000410e108602430d0600000000",
+        Some(FrameFault::Short { start: 24, at: 24 }),
+    ),
+    (
+        b"1400000000000000017a5200017810011b0c0708900100001c0000001c000000e0efffff2000000000410e108602430d060000000000",
+        Some(FrameFault::Short { start: 24, at: 24 }),
+    ),
+    (
+        b"1400000000000000017a5200017810011b0c0708900100001c0000001c000000e0efffff2000000000410e108602430d06000000000000",
+        Some(FrameFault::Short { start: 24, at: 24 }),
+    ),
+    (
+        b"1400000000000000017a5200017810011b0c0708900100001c0000001c000000e0efffff2000000000410e108602430d0600000000000000",
+        None,
+    ),
+    (
+        b"1400000000000000017a5200017810011b0c0708900100001c0000001c000000e0efffff2000000000410e108602430d060000000000000014",
+        Some(FrameFault::Short { start: 56, at: 56 }),
+    ),
+    (
+        b"1400000000000000017a5200017810011b0c0708900100001c0000001c000000e0efffff2000000000410e108602430d06000000000000001400",
+        Some(FrameFault::Short { start: 56, at: 56 }),
+    ),
+    (
+        b"1400000000000000017a5200017810011b0c0708900100001c0000001c000000e0efffff2000000000410e108602430d0600000000000000140000",
+        Some(FrameFault::Short { start: 56, at: 56 }),
+    ),
+    (
+        b"1400000000000000017a5200017810011b0c0708900100001c0000001c000000e0efffff2000000000410e108602430d060000000000000014000000",
+        Some(FrameFault::Short { start: 56, at: 56 }),
+    ),
+    (
+        b"1400000000000000017a5200017810011b0c0708900100001c0000001c000000e0efffff2000000000410e108602430d0600000000000000140000003c",
+        Some(FrameFault::Short { start: 56, at: 56 }),
+    ),
+    (
+        b"1400000000000000017a5200017810011b0c0708900100001c0000001c000000e0efffff2000000000410e108602430d0600000000000000140000003c00",
+        Some(FrameFault::Short { start: 56, at: 56 }),
+    ),
+    (
+        b"1400000000000000017a5200017810011b0c0708900100001c0000001c000000e0efffff2000000000410e108602430d0600000000000000140000003c0000",
+        Some(FrameFault::Short { start: 56, at: 56 }),
+    ),
+    (
+        b"1400000000000000017a5200017810011b0c0708900100001c0000001c000000e0efffff2000000000410e108602430d0600000000000000140000003c000000",
+        Some(FrameFault::Short { start: 56, at: 56 }),
+    ),
+    (
+        b"1400000000000000017a5200017810011b0c0708900100001c0000001c000000e0efffff2000000000410e108602430d0600000000000000140000003c000000e0",
+        Some(FrameFault::Short { start: 56, at: 56 }),
+    ),
+    (
+        b"1400000000000000017a5200017810011b0c0708900100001c0000001c000000e0efffff2000000000410e108602430d0600000000000000140000003c000000e0ef",
+        Some(FrameFault::Short { start: 56, at: 56 }),
+    ),
+    (
+        b"1400000000000000017a5200017810011b0c0708900100001c0000001c000000e0efffff2000000000410e108602430d0600000000000000140000003c000000e0efff",
+        Some(FrameFault::Short { start: 56, at: 56 }),
+    ),
+    (
+        b"1400000000000000017a5200017810011b0c0708900100001c0000001c000000e0efffff2000000000410e108602430d0600000000000000140000003c000000e0efffff",
+        Some(FrameFault::Short { start: 56, at: 56 }),
+    ),
+    (
+        b"1400000000000000017a5200017810011b0c0708900100001c0000001c000000e0efffff2000000000410e108602430d0600000000000000140000003c000000e0efffff10",
+        Some(FrameFault::Short { start: 56, at: 56 }),
+    ),
+    (
+        b"1400000000000000017a5200017810011b0c0708900100001c0000001c000000e0efffff2000000000410e108602430d0600000000000000140000003c000000e0efffff1000",
+        Some(FrameFault::Short { start: 56, at: 56 }),
+    ),
+    (
+        b"1400000000000000017a5200017810011b0c0708900100001c0000001c000000e0efffff2000000000410e108602430d0600000000000000140000003c000000e0efffff100000",
+        Some(FrameFault::Short { start: 56, at: 56 }),
+    ),
+    (
+        b"1400000000000000017a5200017810011b0c0708900100001c0000001c000000e0efffff2000000000410e108602430d0600000000000000140000003c000000e0efffff10000000",
+        Some(FrameFault::Short { start: 56, at: 56 }),
+    ),
+    (
+        b"1400000000000000017a5200017810011b0c0708900100001c0000001c000000e0efffff2000000000410e108602430d0600000000000000140000003c000000e0efffff1000000000",
+        Some(FrameFault::Short { start: 56, at: 56 }),
+    ),
+    (
+        b"1400000000000000017a5200017810011b0c0708900100001c0000001c000000e0efffff2000000000410e108602430d0600000000000000140000003c000000e0efffff100000000000",
+        Some(FrameFault::Short { start: 56, at: 56 }),
+    ),
+    (
+        b"1400000000000000017a5200017810011b0c0708900100001c0000001c000000e0efffff2000000000410e108602430d0600000000000000140000003c000000e0efffff10000000000000",
+        Some(FrameFault::Short { start: 56, at: 56 }),
+    ),
+    (
+        b"1400000000000000017a5200017810011b0c0708900100001c0000001c000000e0efffff2000000000410e108602430d0600000000000000140000003c000000e0efffff1000000000000000",
+        Some(FrameFault::Short { start: 56, at: 56 }),
+    ),
+    (
+        b"1400000000000000017a5200017810011b0c0708900100001c0000001c000000e0efffff2000000000410e108602430d0600000000000000140000003c000000e0efffff100000000000000000",
+        Some(FrameFault::Short { start: 56, at: 56 }),
+    ),
+    (
+        b"1400000000000000017a5200017810011b0c0708900100001c0000001c000000e0efffff2000000000410e108602430d0600000000000000140000003c000000e0efffff10000000000000000000",
+        Some(FrameFault::Short { start: 56, at: 56 }),
+    ),
+    (
+        b"1400000000000000017a5200017810011b0c0708900100001c0000001c000000e0efffff2000000000410e108602430d0600000000000000140000003c000000e0efffff1000000000000000000000",
+        Some(FrameFault::Short { start: 56, at: 56 }),
+    ),
+    (
+        b"1400000000000000017a5200017810011b0c0708900100001c0000001c000000e0efffff2000000000410e108602430d0600000000000000140000003c000000e0efffff100000000000000000000000",
+        None,
+    ),
+    (
+        b"1400000000000000017a5200017810011b0c0708900100001c0000001c000000e0efffff2000000000410e108602430d0600000000000000140000003c000000e0efffff10000000000000000000000000",
+        Some(FrameFault::Short { start: 80, at: 80 }),
+    ),
+    (
+        b"1400000000000000017a5200017810011b0c0708900100001c0000001c000000e0efffff2000000000410e108602430d0600000000000000140000003c000000e0efffff1000000000000000000000000000",
+        Some(FrameFault::Short { start: 80, at: 80 }),
+    ),
+    (
+        b"1400000000000000017a5200017810011b0c0708900100001c0000001c000000e0efffff2000000000410e108602430d0600000000000000140000003c000000e0efffff100000000000000000000000000000",
+        Some(FrameFault::Short { start: 80, at: 80 }),
+    ),
+    (
+        b"1400000000000000017a5200017810011b0c0708900100001c0000001c000000e0efffff2000000000410e108602430d0600000000000000140000003c000000e0efffff10000000000000000000000000000000",
+        None,
+    ),
+];
+
+/// What is refused of a script with one image that has this section.
+fn refused(alloc: Global, section: &[u8]) -> Result<Option<ScriptFault>, Fail> {
+    let mut text = Vec::new(alloc);
+    text.extend_from_slice(b"frames 1\nnodes 16\nloads 8\nimage 0 1000 30 2000 ")?;
+    text.extend_from_slice(section)?;
+    text.extend_from_slice(b"\nround\nthread\nend\n")?;
+    Ok(read(alloc, &text).err())
+}
+
+/// The fault of the image's line.
+fn of_image(fault: FrameFault) -> ScriptFault {
+    ScriptFault::Bad {
+        line: 4,
+        reason: Reason::Section { fault },
+    }
+}
+
+#[test]
+fn a_damaged_section_is_told(rt: HostRuntime) -> Result<(), Fail> {
+    for (section, fault) in DAMAGED {
+        assert_eq!(rt; refused(rt.alloc(), section)?, Some(of_image(fault)));
+    }
+    Ok(())
+}
+
+#[test]
+fn a_cut_section_is_told_or_taken(rt: HostRuntime) -> Result<(), Fail> {
+    for (section, fault) in CUT {
+        assert_eq!(rt; refused(rt.alloc(), section)?, fault.map(of_image));
+    }
+    Ok(())
+}
