@@ -13,3 +13,4 @@ pub mod Steps
 pub mod RecordWholes
 pub mod StepsLeft
 pub mod Kept
+pub mod Orders

@@ -3,3 +3,4 @@ pub mod Fields
 pub mod Records
 pub mod Sections
 pub mod Programs
+pub mod Order

@@ -1,6 +1,6 @@
 //! The instructions of a program, one by one.
 
-ghost use Rattle.std.specs.Prelude.{◌≡◌, ◌∷◌, [], List, MatchOption};
+ghost use Rattle.std.specs.Prelude.{◌≡◌, ◌<◌, ◌∷◌, [], List, MatchOption, OnSome, length};
 ghost use Rattle.frame_parse.specs.Programs.{HasSteps};
 ghost use Rattle.frame_parse.specs.declared.instruction.Step.{Step};
 
@@ -74,8 +74,9 @@ impl<'a> Program<'a> {
 
     /// The next instruction, with the location at which it holds, or `None` at the end.
     pub fn next(&mut self) -> Option<Step>
-        ensures { (steps : List Step) → HasSteps self.old steps
+        ensures steps { (steps : List Step) → HasSteps self.old steps
             → MatchOption result (steps ≡ []) (λ x. (more : List Step) × (steps ≡ x ∷ more) × HasSteps self.new more) }
+        ensures shrinks { OnSome result (length self.new.rest.bytes < length self.old.rest.bytes) }
     {
         if self.cursor.left() == 0 {
             return None;

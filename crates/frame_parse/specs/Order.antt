@@ -1,0 +1,32 @@
+-- What holds along the steps of a program that was read without fault, after DWARF 5, section 6.4.2.
+use Rattle.std.specs.Prelude.{◌≡◌, ℕ, ◌+◌, ◌-◌, ◌<◌, ◌≤◌, List, [], ◌∷◌}
+use Rattle.frame_parse.specs.declared.instruction.Instruction.{Instruction}
+use Rattle.frame_parse.specs.declared.instruction.Instruction.TheVariants.{Remember, RestoreState}
+use Rattle.frame_parse.specs.declared.instruction.Step.{Step}
+
+-- the locations of the steps never fall, from a first one on
+abbrev pub IsAscendingFrom : ℕ → List Step → Type 0
+IsAscendingFrom location [] = Unit {0}
+IsAscendingFrom location (x ∷ xs) = (location ≤ x.location) × IsAscendingFrom x.location xs
+
+-- all steps hold at one location
+abbrev pub AreAt : ℕ → List Step → Type 0
+AreAt location [] = Unit {0}
+AreAt location (x ∷ xs) = (x.location ≡ location) × AreAt location xs
+
+-- how many states may be remembered where an instruction is met
+abbrev pub MayStandAt : ℕ → Instruction → Type 0
+MayStandAt depth Remember = depth < 8
+MayStandAt depth RestoreState = 0 < depth
+MayStandAt depth _ = Unit {0}
+
+-- how many are remembered behind it
+abbrev pub depth_behind : ℕ → Instruction → ℕ
+depth_behind depth Remember = depth + 1
+depth_behind depth RestoreState = depth - 1
+depth_behind depth _ = depth
+
+-- from so many remembered states on, never more than eight are, and none is restored that wasn't remembered
+abbrev pub IsBalanced : ℕ → List Step → Type 0
+IsBalanced depth [] = Unit {0}
+IsBalanced depth (x ∷ xs) = MayStandAt depth x.instruction × IsBalanced (depth_behind depth x.instruction) xs
