@@ -1,0 +1,3 @@
+pub mod Onward
+pub mod Agreement
+pub mod BothPrograms

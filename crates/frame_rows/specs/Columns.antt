@@ -1,0 +1,110 @@
+-- The rule of one column, after DWARF 5, sections 6.4.1 to 6.4.3, seen apart from all other columns.
+use Rattle.std.specs.Prelude.{ℕ, List, [], ◌∷◌, map, ◌==◌, if◌then◌else◌, nat_le}
+use Rattle.std.specs.List.{filter, fold}
+use Rattle.frame_parse.specs.declared.instruction.ReadRule.{ReadRule}
+use Rattle.frame_parse.specs.declared.instruction.ReadRule.TheVariants as read
+use Rattle.frame_parse.specs.declared.instruction.Instruction.{Instruction}
+use Rattle.frame_parse.specs.declared.instruction.Instruction.TheVariants.{Nop, Advance, Set, Restore, Remember, RestoreState, Cfa, CfaColumn, CfaOffset}
+use Rattle.frame_parse.specs.declared.instruction.Step.{Step}
+use Rattle.frame_parse.specs.Programs.{HasSteps, initial_of, program_of, text_at}
+use Rattle.frame_parse.specs.Sections.{FdeContents}
+use Rattle.frame_rows.specs.declared.row.Rule.{Rule}
+use Rattle.frame_rows.specs.declared.row.Rule.TheVariants as rules
+use Rattle.frame_rows.specs.declared.row.CfaRule.{CfaRule}
+use Rattle.frame_rows.specs.declared.row.CfaRule.TheVariants as cfas
+
+-- a column's rule, and its rules in the remembered states, the last one first
+pub record Column (A : Type 0) : Type 0 where
+  pub rule : A
+  pub remembered : List A
+
+-- nothing is remembered at the start of a program
+abbrev pub opening : {A : Type 0} → A → Column A
+opening rule = record { rule = rule; remembered = [] }
+
+-- remember_state keeps the rule beside those kept before
+abbrev pub remember : {A : Type 0} → Column A → Column A
+remember c = record { rule = c.rule; remembered = c.rule ∷ c.remembered }
+
+-- restore_state takes the last one back
+abbrev pub restore_from : {A : Type 0} → A → List A → Column A
+restore_from rule [] = record { rule = rule; remembered = [] }
+restore_from rule (last ∷ others) = record { rule = last; remembered = others }
+
+abbrev pub restore_state : {A : Type 0} → Column A → Column A
+restore_state c = restore_from c.rule c.remembered
+
+-- ---- a register's column
+
+-- the rule that an instruction sets
+abbrev pub rule_of : ReadRule → Rule
+rule_of read.Undefined = rules.Undefined
+rule_of read.Same = rules.Same
+rule_of (read.Offset n) = rules.Offset n
+rule_of (read.ValOffset n) = rules.ValOffset n
+rule_of (read.Register q) = rules.Register q
+
+-- what an instruction does to column r: it may set it, or give it back the rule `base`
+abbrev pub register_step : ℕ → Rule → Column Rule → Instruction → Column Rule
+register_step r base c (Set q rule) = if q == r then record c { rule = rule_of rule } else c
+register_step r base c (Restore q) = if q == r then record c { rule = base } else c
+register_step r base c Remember = remember c
+register_step r base c RestoreState = restore_state c
+register_step r base c Nop = c
+register_step r base c Advance = c
+register_step r base c (Cfa q n) = c
+register_step r base c (CfaColumn q) = c
+register_step r base c (CfaOffset n) = c
+
+-- ---- the CFA's column
+
+-- another column and the same offset, or the same column and another offset
+abbrev pub with_column : ℕ → CfaRule → CfaRule
+with_column q cfas.Missing = cfas.Missing
+with_column q (cfas.Offset p n) = cfas.Offset q n
+
+abbrev pub with_offset : ℕ → CfaRule → CfaRule
+with_offset n cfas.Missing = cfas.Missing
+with_offset n (cfas.Offset q m) = cfas.Offset q n
+
+abbrev pub cfa_step : Column CfaRule → Instruction → Column CfaRule
+cfa_step c (Cfa q n) = record c { rule = cfas.Offset q n }
+cfa_step c (CfaColumn q) = record c { rule = with_column q c.rule }
+cfa_step c (CfaOffset n) = record c { rule = with_offset n c.rule }
+cfa_step c Remember = remember c
+cfa_step c RestoreState = restore_state c
+cfa_step c Nop = c
+cfa_step c Advance = c
+cfa_step c (Set q rule) = c
+cfa_step c (Restore q) = c
+
+-- ---- at an address
+
+-- the instructions of all steps, and of those whose location is at most an address
+abbrev pub instructions : List Step → List Instruction
+instructions steps = map (λ (x : Step). x.instruction) steps
+
+abbrev pub up_to : ℕ → List Step → List Step
+up_to pc steps = filter (λ (x : Step). nat_le x.location pc) steps
+
+-- The rule that the initial instructions leave. Inside them a restore leaves nothing set.
+unfoldable pub initial_rule : ℕ → List Step → Rule
+initial_rule r initial = (fold (register_step r rules.Unset) (opening rules.Unset) (instructions initial)).rule
+
+-- The rule of column r at an address, where the FDE's programs are these steps.
+unfoldable pub rule_at : ℕ → List Step → List Step → ℕ → Rule
+rule_at r initial steps pc = (fold (register_step r (initial_rule r initial)) (opening (initial_rule r initial)) (instructions (up_to pc steps))).rule
+
+unfoldable pub initial_cfa : List Step → CfaRule
+initial_cfa initial = (fold cfa_step (opening cfas.Missing) (instructions initial)).rule
+
+-- the rule of the CFA at an address
+unfoldable pub cfa_at : List Step → List Step → ℕ → CfaRule
+cfa_at initial steps pc = (fold cfa_step (opening (initial_cfa initial)) (instructions (up_to pc steps))).rule
+
+-- the steps that an FDE's initial instructions spell, and those of its own
+abbrev pub HasInitial : FdeContents → List Step → Type 0
+HasInitial f steps = HasSteps (initial_of f.section f.entry (text_at f.bytes f.entry.cie.initial)) steps
+
+abbrev pub HasProgram : FdeContents → List Step → Type 0
+HasProgram f steps = HasSteps (program_of f.section f.entry (text_at f.bytes f.entry.program)) steps

@@ -1,0 +1,53 @@
+-- Rows of all columns, and the remembered ones: how the code goes through a program.
+use Rattle.std.specs.Prelude.{ℕ, List, [], ◌∷◌, replicate, slice_set, slice_index_or}
+use Rattle.std.specs.List.{fold}
+use Rattle.frame_parse.specs.declared.instruction.Instruction.{Instruction}
+use Rattle.frame_parse.specs.declared.instruction.Instruction.TheVariants.{Nop, Advance, Set, Restore, Remember, RestoreState, Cfa, CfaColumn, CfaOffset}
+use Rattle.frame_parse.specs.declared.instruction.Step.{Step}
+use Rattle.frame_rows.specs.declared.row.Rule.TheVariants as rules
+use Rattle.frame_rows.specs.declared.row.CfaRule.TheVariants as cfas
+use Rattle.frame_rows.specs.declared.row.Row.{Row}
+use Rattle.frame_rows.specs.Columns.{rule_of, with_column, with_offset, instructions, up_to}
+
+-- the row before any instruction
+abbrev pub unset : Row
+unset = record { cfa = cfas.Missing; columns = replicate 17 rules.Unset }
+
+-- the row behind an instruction that doesn't remember or restore a state
+abbrev pub applied : Row → Row → Instruction → Row
+applied base row (Set q rule) = record row { columns = slice_set row.columns q (rule_of rule) }
+applied base row (Restore q) = record row { columns = slice_set row.columns q (slice_index_or base.columns q rules.Unset) }
+applied base row (Cfa q n) = record row { cfa = cfas.Offset q n }
+applied base row (CfaColumn q) = record row { cfa = with_column q row.cfa }
+applied base row (CfaOffset n) = record row { cfa = with_offset n row.cfa }
+applied base row Remember = row
+applied base row RestoreState = row
+applied base row Nop = row
+applied base row Advance = row
+
+-- a row, and the remembered ones, the last one first
+pub record Rows : Type 0 where
+  pub row : Row
+  pub remembered : List Row
+
+abbrev pub beside : Row → List Row → Rows
+beside row below = record { row = row; remembered = below }
+
+abbrev pub restored : Row → List Row → Rows
+restored row [] = record { row = row; remembered = [] }
+restored row (last ∷ others) = record { row = last; remembered = others }
+
+abbrev pub rows_step : Row → Rows → Instruction → Rows
+rows_step base s Remember = record { row = s.row; remembered = s.row ∷ s.remembered }
+rows_step base s RestoreState = restored s.row s.remembered
+rows_step base s (Set q rule) = record s { row = applied base s.row (Set q rule) }
+rows_step base s (Restore q) = record s { row = applied base s.row (Restore q) }
+rows_step base s (Cfa q n) = record s { row = applied base s.row (Cfa q n) }
+rows_step base s (CfaColumn q) = record s { row = applied base s.row (CfaColumn q) }
+rows_step base s (CfaOffset n) = record s { row = applied base s.row (CfaOffset n) }
+rows_step base s Nop = s
+rows_step base s Advance = s
+
+-- the rows behind the steps up to an address
+abbrev pub rows_behind : Row → ℕ → Rows → List Step → Rows
+rows_behind base pc s steps = fold (rows_step base) s (instructions (up_to pc steps))

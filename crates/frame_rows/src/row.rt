@@ -1,0 +1,97 @@
+//! Rules and rows, and what an instruction makes of a row.
+
+ghost use Rattle.std.specs.Prelude.{◌≡◌};
+ghost use Rattle.frame_rows.specs.Columns.{rule_of};
+ghost use Rattle.frame_rows.specs.Rows.{applied, unset};
+
+use frame_parse::{Instruction, ReadRule};
+
+/// How the CFA is found.
+#[derive(Clone, Copy, Debug, PartialEq, Eq)]
+pub enum CfaRule {
+    /// No instruction has said it.
+    Missing,
+    /// A column's number plus an offset, modulo 2^64.
+    Offset { column: u8, by: u64 },
+}
+
+/// How a column of the frame before is found.
+#[derive(Clone, Copy, Debug, PartialEq, Eq)]
+pub enum Rule {
+    /// No instruction has said it.
+    Unset,
+    Undefined,
+    Same,
+    /// Saved at the CFA plus an offset, modulo 2^64.
+    Offset { by: u64 },
+    /// The CFA plus an offset, modulo 2^64.
+    ValOffset { by: u64 },
+    /// Saved in another column.
+    Register { column: u8 },
+}
+
+/// The rules that hold at an address. Columns 0 to 15 are the registers of x86-64 by their DWARF numbers, 16 is
+/// the return address.
+#[derive(Clone, Copy, Debug, PartialEq, Eq)]
+pub struct Row {
+    pub cfa: CfaRule,
+    pub columns: [Rule; 17],
+}
+
+impl Row {
+    /// What holds before any instruction.
+    pub(crate) fn unset() -> Row
+        ensures { result ≡ unset }
+    {
+        Row {
+            cfa: CfaRule::Missing,
+            columns: [Rule::Unset; 17],
+        }
+    }
+}
+
+/// The rule that an instruction sets.
+fn rule_of(read: ReadRule) -> Rule
+    ensures { result ≡ rule_of read }
+{
+    match read {
+        ReadRule::Undefined => Rule::Undefined,
+        ReadRule::Same => Rule::Same,
+        ReadRule::Offset { by } => Rule::Offset { by },
+        ReadRule::ValOffset { by } => Rule::ValOffset { by },
+        ReadRule::Register { column } => Rule::Register { column },
+    }
+}
+
+/// What an instruction makes of a row by itself; `base` is the row that the initial instructions left.
+pub(crate) fn apply(row: &mut Row, base: &Row, instruction: Instruction)
+    ensures { row.new ≡ applied base.now row.old instruction }
+{
+    match instruction {
+        Instruction::Set { column, rule } => {
+            if column < 17 {
+                row.columns[column as usize] = rule_of(rule);
+            }
+        }
+        Instruction::Restore { column } => {
+            if column < 17 {
+                row.columns[column as usize] = base.columns[column as usize];
+            }
+        }
+        Instruction::Cfa { column, by } => row.cfa = CfaRule::Offset { column, by },
+        Instruction::CfaColumn { column } => {
+            if let CfaRule::Offset { by, .. } = row.cfa {
+                row.cfa = CfaRule::Offset { column, by };
+            }
+        }
+        Instruction::CfaOffset { by } => {
+            if let CfaRule::Offset { column, .. } = row.cfa {
+                row.cfa = CfaRule::Offset { column, by };
+            }
+        }
+        Instruction::Nop
+        | Instruction::Advance
+        | Instruction::Remember
+        | Instruction::RestoreState => {}
+    }
+}
