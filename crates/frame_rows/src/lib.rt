@@ -10,3 +10,6 @@ mod walk;
 
 pub use row::{CfaRule, Row, Rule};
 pub use walk::row_at;
+
+#[cfg(test)]
+mod tests;
