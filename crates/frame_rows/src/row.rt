@@ -1,7 +1,7 @@
 //! Rules and rows, and what an instruction makes of a row.
 
-ghost use Rattle.std.specs.Prelude.{◌≡◌};
-ghost use Rattle.frame_rows.specs.Columns.{rule_of};
+ghost use Rattle.std.specs.Prelude.{◌≡◌, slice_index_or, slice_set};
+ghost use Rattle.frame_rows.specs.Columns.{rule_of, with_column, with_offset};
 ghost use Rattle.frame_rows.specs.Rows.{applied, unset};
 
 use frame_parse::{Instruction, ReadRule};
@@ -38,6 +38,28 @@ pub struct Row {
     pub columns: [Rule; 17],
 }
 
+impl CfaRule {
+    /// Another column, and the same offset.
+    fn with_column(self, column: u8) -> CfaRule
+        ensures { result ≡ with_column column self }
+    {
+        match self {
+            CfaRule::Missing => CfaRule::Missing,
+            CfaRule::Offset { by, .. } => CfaRule::Offset { column, by },
+        }
+    }
+
+    /// The same column, and another offset.
+    fn with_offset(self, by: u64) -> CfaRule
+        ensures { result ≡ with_offset by self }
+    {
+        match self {
+            CfaRule::Missing => CfaRule::Missing,
+            CfaRule::Offset { column, .. } => CfaRule::Offset { column, by },
+        }
+    }
+}
+
 impl Row {
     /// What holds before any instruction.
     pub(crate) fn unset() -> Row
@@ -46,6 +68,27 @@ impl Row {
         Row {
             cfa: CfaRule::Missing,
             columns: [Rule::Unset; 17],
+        }
+    }
+
+    /// The rule of a column; those above 16 have none.
+    fn rule(&self, column: u8) -> Rule
+        ensures { result ≡ slice_index_or self.now.columns column Rule.Unset }
+    {
+        if column < 17 {
+            self.columns[column as usize]
+        } else {
+            Rule::Unset
+        }
+    }
+
+    /// Sets the rule of a column up to 16.
+    fn set(&mut self, column: u8, rule: Rule)
+        ensures { self.new ≡ record self.old { columns = slice_set self.old.columns column rule } }
+    {
+        let index = column as usize;
+        if index < self.columns.len() {
+            self.columns[index] = rule;
         }
     }
 }
@@ -68,27 +111,11 @@ pub(crate) fn apply(row: &mut Row, base: &Row, instruction: Instruction)
     ensures { row.new ≡ applied base.now row.old instruction }
 {
     match instruction {
-        Instruction::Set { column, rule } => {
-            if column < 17 {
-                row.columns[column as usize] = rule_of(rule);
-            }
-        }
-        Instruction::Restore { column } => {
-            if column < 17 {
-                row.columns[column as usize] = base.columns[column as usize];
-            }
-        }
+        Instruction::Set { column, rule } => row.set(column, rule_of(rule)),
+        Instruction::Restore { column } => row.set(column, base.rule(column)),
         Instruction::Cfa { column, by } => row.cfa = CfaRule::Offset { column, by },
-        Instruction::CfaColumn { column } => {
-            if let CfaRule::Offset { by, .. } = row.cfa {
-                row.cfa = CfaRule::Offset { column, by };
-            }
-        }
-        Instruction::CfaOffset { by } => {
-            if let CfaRule::Offset { column, .. } = row.cfa {
-                row.cfa = CfaRule::Offset { column, by };
-            }
-        }
+        Instruction::CfaColumn { column } => row.cfa = row.cfa.with_column(column),
+        Instruction::CfaOffset { by } => row.cfa = row.cfa.with_offset(by),
         Instruction::Nop
         | Instruction::Advance
         | Instruction::Remember

@@ -55,9 +55,9 @@ fn row_behind(mut program: Program<'_>, pc: u64, before: &Row) -> Row
 /// The row that holds at an address of an FDE: what the initial instructions of its CIE make of a row in which
 /// nothing is set, and then its own instructions whose location is at most the address. It takes no memory.
 pub fn row_at(fde: &Fde<'_>, pc: u64) -> Row
-    // Both programs spell lists of steps,
+    // Both of its programs spell a list of steps.
     ensures known { (initial : List Step) × (steps : List Step) × HasInitial fde.now initial × HasProgram fde.now steps }
-    // and for these the CFA and each column have their own rules.
+    // For these the CFA and each column have their own rules.
     ensures cfa { (initial steps : List Step) → HasInitial fde.now initial → HasProgram fde.now steps
         → result.cfa ≡ cfa_at initial steps pc }
     ensures columns { (initial steps : List Step) → HasInitial fde.now initial → HasProgram fde.now steps
