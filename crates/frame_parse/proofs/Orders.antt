@@ -13,7 +13,7 @@ use Rattle.frame_parse.specs.declared.instruction.Step.{Step}
 use Rattle.frame_parse.specs.declared.state.State.{State}
 use Rattle.frame_parse.specs.Part.{given}
 use Rattle.frame_parse.specs.Programs.{effect_of, effect, step, instruction_of, top, below_top, AreSteps, ProgramRest, HasSteps}
-use Rattle.frame_parse.specs.Order.{IsAscendingFrom, AreAt, MayStandAt, depth_behind, IsBalanced}
+use Rattle.frame_parse.specs.Order.{IsAscendingFrom, AreAt, MayStandAt, depth_behind, IsBalanced, AreOrdered}
 
 -- what a step does to the location and to the number of remembered states
 record Changes (moves : Bool) (s : State) (i : Instruction) (m : State) : Type 0 where
@@ -111,14 +111,10 @@ balanced_from start section moves c p s text (x ∷ xs) t a =
     let later = balanced_from start section moves c (p + length a.1) a.0 a.2 xs t a.5 in
     (one.change.may, subst (λ (k : ℕ). IsBalanced k xs) one.change.depth later)
 
-pub ascending : (p : ProgramRest) (steps : List Step) → HasSteps p steps → IsAscendingFrom p.state.location steps
+pub ordered : (p : ProgramRest) (steps : List Step) → HasSteps p steps → AreOrdered p steps
 unfolding HasSteps
-ascending p steps a = ascending_from p.start p.section p.moves p.cie p.rest.at p.state p.rest.bytes steps a.0 a.1
-
-pub staying : (p : ProgramRest) (steps : List Step) → HasSteps p steps → p.moves ≡ false → AreAt p.state.location steps
-unfolding HasSteps
-staying p steps a e = at_from p.start p.section p.moves p.cie p.rest.at p.state p.rest.bytes steps a.0 e a.1
-
-pub balanced : (p : ProgramRest) (steps : List Step) → HasSteps p steps → IsBalanced (length p.state.remembered) steps
-unfolding HasSteps
-balanced p steps a = balanced_from p.start p.section p.moves p.cie p.rest.at p.state p.rest.bytes steps a.0 a.1
+ordered p steps a = record {
+  ascending = ascending_from p.start p.section p.moves p.cie p.rest.at p.state p.rest.bytes steps a.0 a.1;
+  staying = λ e. at_from p.start p.section p.moves p.cie p.rest.at p.state p.rest.bytes steps a.0 e a.1;
+  balanced = balanced_from p.start p.section p.moves p.cie p.rest.at p.state p.rest.bytes steps a.0 a.1;
+}

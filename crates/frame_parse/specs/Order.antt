@@ -1,8 +1,9 @@
 -- What holds along the steps of a program that was read without fault, after DWARF 5, section 6.4.2.
-use Rattle.std.specs.Prelude.{◌≡◌, ℕ, ◌+◌, ◌-◌, ◌<◌, ◌≤◌, List, [], ◌∷◌}
+use Rattle.std.specs.Prelude.{◌≡◌, ℕ, ◌+◌, ◌-◌, ◌<◌, ◌≤◌, List, [], ◌∷◌, length, false}
 use Rattle.frame_parse.specs.declared.instruction.Instruction.{Instruction}
 use Rattle.frame_parse.specs.declared.instruction.Instruction.TheVariants.{Remember, RestoreState}
 use Rattle.frame_parse.specs.declared.instruction.Step.{Step}
+use Rattle.frame_parse.specs.Programs.{ProgramRest}
 
 -- the locations of the steps never fall, from a first one on
 abbrev pub IsAscendingFrom : ℕ → List Step → Type 0
@@ -30,3 +31,10 @@ depth_behind depth _ = depth
 abbrev pub IsBalanced : ℕ → List Step → Type 0
 IsBalanced depth [] = Unit {0}
 IsBalanced depth (x ∷ xs) = MayStandAt depth x.instruction × IsBalanced (depth_behind depth x.instruction) xs
+
+-- what holds along the steps that a program goes on with
+pub record AreOrdered (p : ProgramRest) (steps : List Step) : Type 0 where
+  pub ascending : IsAscendingFrom p.state.location steps
+  -- in a CIE
+  pub staying : p.moves ≡ false → AreAt p.state.location steps
+  pub balanced : IsBalanced (length p.state.remembered) steps

@@ -152,7 +152,7 @@ base_is r first initial lt at =
     ∙ ap (λ (k : Rule). (fold (register_step r k) (opening k) (instructions (up_to first initial))).rule) (unset_rule r lt)
     ∙ ap (λ (is : List Instruction). (fold (register_step r rules.Unset) (opening rules.Unset) is).rule) all
 
-pub column_agrees : (r first pc : ℕ) (initial steps : List Step) → r < 17 → AreAt first initial → get_or (row_from (base_row first initial) pc steps).columns r rules.Unset ≡ rule_at r initial steps pc
+column_agrees : (r first pc : ℕ) (initial steps : List Step) → r < 17 → AreAt first initial → get_or (row_from (base_row first initial) pc steps).columns r rules.Unset ≡ rule_at r initial steps pc
 unfolding rule_at
 column_agrees r first pc initial steps lt at =
     let base = base_row first initial in
@@ -160,7 +160,7 @@ column_agrees r first pc initial steps lt at =
     ap (λ (c : Column Rule). c.rule) folded
     ∙ ap (λ (k : Rule). (fold (register_step r k) (opening k) (instructions (up_to pc steps))).rule) (base_is r first initial lt at)
 
-pub columns_full : (first pc : ℕ) (initial steps : List Step) → length (row_from (base_row first initial) pc steps).columns ≡ 17
+columns_full : (first pc : ℕ) (initial steps : List Step) → length (row_from (base_row first initial) pc steps).columns ≡ 17
 columns_full first pc initial steps =
     let base = base_row first initial in
     (full_fold base (beside base []) (instructions (up_to pc steps)) (base_full first initial, tt)).0
@@ -172,7 +172,7 @@ base_cfa first initial at =
     ap (λ (c : Column CfaRule). c.rule) (cfa_fold unset (beside unset []) (instructions (up_to first initial)))
     ∙ ap (λ (is : List Instruction). (fold cfa_step (opening cfas.Missing) is).rule) all
 
-pub cfa_agrees : (first pc : ℕ) (initial steps : List Step) → AreAt first initial → (row_from (base_row first initial) pc steps).cfa ≡ cfa_at initial steps pc
+cfa_agrees : (first pc : ℕ) (initial steps : List Step) → AreAt first initial → (row_from (base_row first initial) pc steps).cfa ≡ cfa_at initial steps pc
 unfolding cfa_at
 cfa_agrees first pc initial steps at =
     let base = base_row first initial in
@@ -181,14 +181,17 @@ cfa_agrees first pc initial steps at =
 
 -- ---- put together
 
-pub cfa_of : (first pc : ℕ) (initial steps : List Step) (base row : Row) → AreAt first initial → base ≡ base_row first initial → row ≡ row_from base pc steps → row.cfa ≡ cfa_at initial steps pc
-cfa_of first pc initial steps base row at is made =
-    ap (λ (k : Row). k.cfa) (made ∙ ap (λ (b : Row). row_from b pc steps) is) ∙ cfa_agrees first pc initial steps at
+-- the row behind both programs of an FDE
+pub record IsBehind (first pc : ℕ) (initial steps : List Step) (row : Row) : Type 0 where
+  pub at : AreAt first initial
+  pub is : row ≡ row_from (base_row first initial) pc steps
 
-pub column_of : (r first pc : ℕ) (initial steps : List Step) (base row : Row) → r < 17 → AreAt first initial → base ≡ base_row first initial → row ≡ row_from base pc steps → slice_get row.columns r ≡ Some (rule_at r initial steps pc)
-column_of r first pc initial steps base row lt at is made =
-    let here = made ∙ ap (λ (b : Row). row_from b pc steps) is in
-    let full : length row.columns ≡ 17 = ap (λ (k : Row). length k.columns) here ∙ columns_full first pc initial steps in
+pub cfa_of : (first pc : ℕ) (initial steps : List Step) (row : Row) → IsBehind first pc initial steps row → row.cfa ≡ cfa_at initial steps pc
+cfa_of first pc initial steps row b = ap (λ (k : Row). k.cfa) b.is ∙ cfa_agrees first pc initial steps b.at
+
+pub column_of : (r first pc : ℕ) (initial steps : List Step) (row : Row) → r < 17 → IsBehind first pc initial steps row → slice_get row.columns r ≡ Some (rule_at r initial steps pc)
+column_of r first pc initial steps row lt b =
+    let full : length row.columns ≡ 17 = ap (λ (k : Row). length k.columns) b.is ∙ columns_full first pc initial steps in
     slice_get-get_or row.columns r rules.Unset (omega arith)
-    ∙ ap (λ (k : Row). Some (get_or k.columns r rules.Unset)) here
-    ∙ ap (λ (v : Rule). Some v) (column_agrees r first pc initial steps lt at)
+    ∙ ap (λ (k : Row). Some (get_or k.columns r rules.Unset)) b.is
+    ∙ ap (λ (v : Rule). Some v) (column_agrees r first pc initial steps lt b.at)
