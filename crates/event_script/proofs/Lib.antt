@@ -7,6 +7,9 @@ pub mod Lines
 pub mod Joined
 pub mod Steps
 pub mod Sections
+pub mod SoFar
+pub mod SoundLines
 pub mod Sound
+pub mod LineCounts
 pub mod Complete
 pub mod Spelled

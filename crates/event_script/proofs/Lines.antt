@@ -34,7 +34,7 @@ module _ (known : Known) (number : ℕ) (rest : List ℕ) (end : ℕ) (within : 
       ap (λ (bytes : List ℕ). after_lines after (number + 1) (pieces 10 bytes)) is_next ∙ sym (line_gives line (Ok after) lt is good) ∙ so_far
 
   pub line_bad : (fault : ScriptFault) (line : List ℕ) (total : Result Known BadLine) → end < length rest → line ≡ take end rest → FailsAt fault (at_line number (after_line known line)) → after_lines known number (pieces 10 rest) ≡ total → FailsAt fault total
-  line_bad (Bad n reason) line total lt is fails so_far = sym so_far ∙ line_gives line (Err (record { line = n; reason = reason })) lt is fails
+  line_bad (Bad n reason) line total lt is fails so_far = (sym so_far ∙ line_gives line (Err (record { line = n; reason = reason })) lt is fails.0, fails.1)
   line_bad NoMemory line total lt is fails so_far = tt
 
   pub lines_end : (total : Result Known BadLine) → length rest ≤ end → after_lines known number (pieces 10 rest) ≡ total → at_line number (at_end known rest) ≡ total

@@ -20,6 +20,8 @@ use Rattle.event_script.specs.Lower.{is_lower}
 use Rattle.event_script.specs.Fields.{bytes_if, bytes_in}
 use Rattle.event_script.specs.Section.{section_from, section_of}
 use Rattle.event_script.specs.Spelling.{section_text}
+use Rattle.event_script.specs.Reading.{IsOfBytes}
+use Rattle.event_script.specs.declared.reader.fault.Reason.TheVariants as reason
 
 -- ---- digits in lower case
 
@@ -223,3 +225,8 @@ module _ (address : ℕ) (bytes : List ℕ) where
   pub section_bad_or : (f : FrameFault) → (f ≡ frame_fault.NoMemory → ⊥) → (f ≡ frame_fault.NoMemory) ⊎ IsRefused address bytes f → section_of address bytes ≡ Err f
   section_bad_or f other (inl memory) = absurd (other memory)
   section_bad_or f other (inr is) = section_bad f is
+
+-- what is refused for another cause than memory is refused for its bytes
+pub of_bytes : (f : FrameFault) → (f ≡ frame_fault.NoMemory → ⊥) → IsOfBytes (reason.Section f)
+of_bytes frame_fault.NoMemory other = absurd (other refl)
+of_bytes _ other = tt

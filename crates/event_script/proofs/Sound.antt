@@ -1,21 +1,13 @@
 -- What is read is spelled so: each good line is the spelling of what it adds.
-use Rattle.std.proofs.Common.{◌≡◌, ℕ, ◌+◌, ◌-◌, ◌^◌, ◌<◌, ◌≤◌, Bool, true, false, cond, ◌&&◌, eqb, ltb, leb, List, [], ◌∷◌, ◌++◌, length, All, Result, Ok, Err, refl, sym, ap, ap₂, subst, ◌∙◌, append_assoc, append-nil, eqb-true, ltb-true, leb-true, arith, length-append}
+use Rattle.std.proofs.Common.{◌≡◌, ℕ, ◌+◌, ◌-◌, ◌≤◌, Bool, true, false, cond, ltb, List, [], ◌∷◌, ◌++◌, length, Result, Ok, Err, refl, sym, ap, ap₂, subst, ◌∙◌, append_assoc, append-nil, ltb-true, arith, length-append}
 use Rattle.std.specs.Prelude.{codes}
 use Rattle.std.specs.List.{flat_map}
 use Rattle.std.specs.Option.{ok_or}
-use Rattle.std.specs.Fmt.{decimal}
-use Rattle.std.proofs.lemmas.Bool.{and_parts}
-use Rattle.std.proofs.lemmas.Fmt.{decimal_digit}
 use Rattle.std.proofs.lemmas.Grind.{flat_map-append}
 use Rattle.std.proofs.lemmas.List.Elements.{All-push, All-from_recursion}
-use Rattle.hex.specs.Hex.{IsBytes}
 use Rattle.event_script.specs.ScriptData.{IsSectionOf}
-use Rattle.event_script.specs.Reading.{ImageData, section_or, with_image}
-use Rattle.event_script.specs.Spelling.{script_text, section_text}
-use Rattle.frame_parse.specs.declared.fault.FrameFault.{FrameFault}
+use Rattle.event_script.specs.Spelling.{script_text}
 use Rattle.frame_parse.specs.Sections.{Contents}
-use Rattle.event_script.specs.Section.{section_of}
-use Rattle.event_script.proofs.Sections.{section_is}
 use Rattle.reg_model.specs.Interval.{Interval, IsSpan}
 use Rattle.event_script.specs.declared.script.Event.{Event}
 use Rattle.event_script.specs.declared.script.Event.TheVariants as event
@@ -26,243 +18,13 @@ use Rattle.event_script.specs.declared.reader.kinds.Stage.TheVariants as stage
 use Rattle.event_script.specs.declared.reader.kinds.Kind.{Kind}
 use Rattle.event_script.specs.declared.reader.kinds.Kind.TheVariants as kind
 use Rattle.event_script.specs.ScriptData.{IsEvent, IsThread, IsRound}
-use Rattle.event_script.specs.Spelling.{Line, hex, spelling_of, section_text, image_line, image_lines, event_line, event_lines, round_lines, IsScript}
+use Rattle.event_script.specs.Spelling.{Line, spelling_of, image_lines, event_line, event_lines, round_lines, IsScript}
 use Rattle.event_script.specs.Fields.{pieces}
-use Rattle.event_script.specs.Reading.{Known, BadLine, at_line, nothing_known, has_any, rounds_at, one_decimal, one_hex, image_fields, version_line, nodes_line, loads_line, image_line_of, round_line, thread_line, with_event, register_line, deregister_line, find_line, end_line, kind_of, may_come, is_unbuilt, word_of, line_of, by_word, is_ended, after_line, at_end, after_lines, outcome, script_of}
-use Rattle.event_script.specs.Reading.{image_line as image_line_from}
+use Rattle.event_script.specs.Reading.{Known, BadLine, at_line, nothing_known, has_any, one_decimal, one_hex, with_event, register_line, deregister_line, find_line, end_line, kind_of, may_come, is_unbuilt, word_of, line_of, by_word, is_ended, after_line, at_end, after_lines, outcome, script_of}
 use Rattle.event_script.proofs.Joined.{join, join_pieces, spelled_pieces}
-use Rattle.event_script.proofs.Steps.{bind_ok, guard_last, guard_then, guard_else, ok_is, no_fields, one_decimal_is, one_hex_is, image_fields_are, kind_word}
-
--- ---- the lines so far
-
-abbrev version_text : Line
-version_text = codes "frames" ∷ codes "1" ∷ []
-
-abbrev nodes_text : ℕ → Line
-nodes_text nodes = codes "nodes" ∷ decimal nodes ∷ []
-
-abbrev loads_text : ℕ → Line
-loads_text loads = codes "loads" ∷ decimal loads ∷ []
-
--- the lines of the images, and of the rounds so far
-abbrev middle : Known → List Line
-middle known = image_lines 0 known.images known.sections ++ round_lines (rounds_at known.stage known.rounds known.threads known.events)
-
-abbrev lines_at : Stage → Known → List Line
-lines_at stage.Version known = []
-lines_at stage.Nodes known = version_text ∷ []
-lines_at stage.Loads known = version_text ∷ nodes_text known.nodes ∷ []
-lines_at stage.Ended known = version_text ∷ nodes_text known.nodes ∷ loads_text known.loads ∷ (image_lines 0 known.images known.sections ++ round_lines known.rounds ++ (codes "end" ∷ []) ∷ [])
-lines_at _ known = version_text ∷ nodes_text known.nodes ∷ loads_text known.loads ∷ middle known
-
-abbrev pub lines_so_far : Known → List Line
-lines_so_far known = lines_at known.stage known
-
--- ---- what holds of what is known
-
-abbrev NodesAt : Stage → ℕ → Type 0
-NodesAt stage.Version nodes = Unit {0}
-NodesAt stage.Nodes nodes = Unit {0}
-NodesAt _ nodes = (4 ≤ nodes) × (nodes ≤ 16384)
-
-abbrev LoadsAt : Stage → ℕ → Type 0
-LoadsAt stage.Version loads = Unit {0}
-LoadsAt stage.Nodes loads = Unit {0}
-LoadsAt stage.Loads loads = Unit {0}
-LoadsAt _ loads = (1 ≤ loads) × (loads ≤ 1024)
-
--- the rounds that can be run today
-record AreRounds (images : ℕ) (rounds : List (List (List Event))) : Type 0 where
-  few : length rounds ≤ 1
-  small : All (λ threads. length threads ≤ 1) rounds
-  each : All (IsRound images) rounds
-
-abbrev ShapeAt : Stage → Known → Type 0
-ShapeAt stage.Images known = (known.rounds ≡ []) × (known.threads ≡ []) × (known.events ≡ [])
-ShapeAt stage.Round known = (known.rounds ≡ []) × (known.threads ≡ [])
-ShapeAt stage.Thread known = (known.rounds ≡ []) × (known.threads ≡ [])
-ShapeAt stage.Ended known = AreRounds (length known.images) known.rounds
-ShapeAt _ known = (known.images ≡ []) × (known.rounds ≡ []) × (known.threads ≡ []) × (known.events ≡ [])
-
-pub record Sound (known : Known) : Type 0 where
-  each : length known.sections ≡ length known.images
-  addresses : All IsSectionOf known.sections
-  nodes : NodesAt known.stage known.nodes
-  loads : LoadsAt known.stage known.loads
-  count : length known.images ≤ 4096
-  spans : All IsSpan known.images
-  events : IsThread (length known.images) known.events
-  shape : ShapeAt known.stage known
-
--- after one more line
-pub record Step (known next : Known) (line : Line) : Type 0 where
-  sound : Sound next
-  lines : lines_so_far next ≡ lines_so_far known ++ line ∷ []
-
-same_step : (known made next : Known) (line : Line) → made ≡ next → Step known made line → Step known next line
-same_step known made next line e step = subst (λ (n : Known). Step known n line) e step
-
-no_events : (images : ℕ) → IsThread images []
-no_events images = (omega arith, All-from_recursion (IsEvent images) [] tt)
-
--- ---- the first three lines
-
-module _ (nodes loads : ℕ) (images : List Interval) (sections : List Contents) (rounds : List (List (List Event))) (threads : List (List Event)) (events : List Event) where
-  abbrev at : Stage → Known
-  at stage = record { stage = stage; nodes = nodes; loads = loads; images = images; sections = sections; rounds = rounds; threads = threads; events = events }
-
-  version_sound : (next : Known) (fields : Line) → Sound (at stage.Version) → version_line (at stage.Version) fields ≡ Ok next → Step (at stage.Version) next (codes "frames" ∷ fields)
-  version_sound next fields s e =
-      let a = bind_ok (one_decimal fields) (λ version. cond (eqb version 1) (Ok (at stage.Nodes)) (Err reason.Limit)) next e in
-      let g = guard_last (eqb a.0 1) reason.Limit (at stage.Nodes) next a.2 in
-      let one : a.0 ≡ 1 = eqb-true a.0 1 g.0 in
-      let is : fields ≡ codes "1" ∷ [] = (one_decimal_is fields a.0 a.1).1 ∙ ap (λ (n : ℕ). decimal n ∷ []) one ∙ ap (λ (x : List ℕ). x ∷ []) (decimal_digit 1 (omega arith)) in
-      same_step _ (at stage.Nodes) next _ g.1 (record {
-        sound = record { each = s.each; addresses = s.addresses; nodes = tt; loads = tt; count = s.count; spans = s.spans; events = s.events; shape = s.shape };
-        lines = ap (λ (x : Line). (codes "frames" ∷ x) ∷ []) (sym is);
-      })
-
-  nodes_sound : (next : Known) (fields : Line) → Sound (at stage.Nodes) → nodes_line (at stage.Nodes) fields ≡ Ok next → Step (at stage.Nodes) next (codes "nodes" ∷ fields)
-  nodes_sound next fields s e =
-      let made = λ (n : ℕ). record (at stage.Loads) { nodes = n } in
-      let a = bind_ok (one_decimal fields) (λ n. cond (leb 4 n && leb n 16384) (Ok (made n)) (Err reason.Limit)) next e in
-      let g = guard_last (leb 4 a.0 && leb a.0 16384) reason.Limit (made a.0) next a.2 in
-      let limits = and_parts (leb 4 a.0) (leb a.0 16384) g.0 in
-      same_step _ (made a.0) next _ g.1 (record {
-        sound = record { each = s.each; addresses = s.addresses; nodes = (leb-true 4 a.0 limits.0, leb-true a.0 16384 limits.1); loads = tt; count = s.count; spans = s.spans; events = s.events; shape = s.shape };
-        lines = ap (λ (x : Line). version_text ∷ (codes "nodes" ∷ x) ∷ []) (sym (one_decimal_is fields a.0 a.1).1);
-      })
-
-  loads_sound : (next : Known) (fields : Line) → Sound (at stage.Loads) → loads_line (at stage.Loads) fields ≡ Ok next → Step (at stage.Loads) next (codes "loads" ∷ fields)
-  loads_sound next fields s e =
-      let made = λ (n : ℕ). record (at stage.Images) { loads = n } in
-      let a = bind_ok (one_decimal fields) (λ n. cond (leb 1 n && leb n 1024) (Ok (made n)) (Err reason.Limit)) next e in
-      let g = guard_last (leb 1 a.0 && leb a.0 1024) reason.Limit (made a.0) next a.2 in
-      let limits = and_parts (leb 1 a.0) (leb a.0 1024) g.0 in
-      same_step _ (made a.0) next _ g.1 (record {
-        sound = record { each = s.each; addresses = s.addresses; nodes = s.nodes; loads = (leb-true 1 a.0 limits.0, leb-true a.0 1024 limits.1); count = s.count; spans = s.spans; events = s.events; shape = (s.shape.1, s.shape.2, s.shape.3) };
-        lines = ap₂ (λ (is : List Interval) (rs : List (List (List Event))). version_text ∷ nodes_text nodes ∷ loads_text a.0 ∷ (image_lines 0 is sections ++ round_lines rs)) s.shape.0 s.shape.1
-            ∙ ap (λ (x : Line). version_text ∷ nodes_text nodes ∷ (codes "loads" ∷ x) ∷ []) (sym (one_decimal_is fields a.0 a.1).1);
-      })
-
--- ---- images
-
-pub images_push : (number : ℕ) (images : List Interval) (sections : List Contents) (span : Interval) (section : Contents) → length sections ≡ length images
-    → image_lines number (images ++ span ∷ []) (sections ++ section ∷ []) ≡ image_lines number images sections ++ image_line (number + length images) span section ∷ []
-images_push number [] [] span section e = ap (λ (n : ℕ). image_line n span section ∷ []) (omega arith)
-images_push number [] (a ∷ sections) span section e = absurd (omega arith)
-images_push number (i ∷ images) [] span section e = absurd (omega arith)
-images_push number (i ∷ images) (a ∷ sections) span section e =
-    let rest = images_push (number + 1) images sections span section (omega arith) in
-    let next : number + 1 + length images ≡ number + length (i ∷ images) = omega arith in
-    ap (λ (x : List Line). image_line number i a ∷ x) (rest ∙ ap (λ (n : ℕ). image_lines (number + 1) images sections ++ image_line n span section ∷ []) next)
-
--- the line of an image, from its fields
-image_is : (image : ImageData) (section : Contents) (count : ℕ) (fields : Line) → image.number ≡ count → 0 < image.size → section.address ≡ image.section → section.bytes ≡ image.bytes
-    → fields ≡ decimal image.number ∷ hex image.base ∷ hex image.size ∷ hex image.section ∷ section_text image.bytes ∷ []
-    → image_line (0 + count) (record { first = image.base; last = image.base + image.size - 1 }) section ≡ codes "image" ∷ fields
-image_is image section count fields number some address bytes is =
-    let number_is : 0 + count ≡ image.number = omega arith in
-    let size_is : image.base + image.size - 1 + 1 - image.base ≡ image.size = omega arith in
-    ap₂ (λ (n s : ℕ). codes "image" ∷ decimal n ∷ hex image.base ∷ hex s ∷ hex section.address ∷ section_text section.bytes ∷ []) number_is size_is
-    ∙ ap₂ (λ (a : ℕ) (b : List ℕ). codes "image" ∷ decimal image.number ∷ hex image.base ∷ hex image.size ∷ hex a ∷ section_text b ∷ []) address bytes
-    ∙ ap (λ (x : Line). codes "image" ∷ x) (sym is)
-
--- lines and what the rounds so far add, none
-before_rounds : (known : List Line) (rounds : List (List (List Event))) → rounds ≡ [] → known ++ round_lines rounds ≡ known
-before_rounds known rounds e = ap (λ (r : List (List (List Event))). known ++ round_lines r) e ∙ append-nil known
-
-abbrev found_section : Contents → Result Contents Reason
-found_section section = Ok section
-
-contents_is : (x y : Contents) → found_section x ≡ found_section y → x ≡ y
-contents_is x y e = cc
-
-section_from_or : (given : Result Contents FrameFault) (section : Contents) → section_or given ≡ Ok section → given ≡ Ok section
-section_from_or (Ok found) section e = ap Ok (contents_is found section e)
-section_from_or (Err fault) section e = absurd cc
-
-module _ (nodes loads : ℕ) (images : List Interval) (sections : List Contents) (rounds : List (List (List Event))) (threads : List (List Event)) (events : List Event) where
-  abbrev from : Stage → Known
-  from stage = record { stage = stage; nodes = nodes; loads = loads; images = images; sections = sections; rounds = rounds; threads = threads; events = events }
-
-  abbrev head : List Line → List Line
-  head lines = version_text ∷ nodes_text nodes ∷ loads_text loads ∷ lines
-
-  image_sound : (next : Known) (fields : Line) → Sound (from stage.Images) → image_line_from (from stage.Images) fields ≡ Ok next → Step (from stage.Images) next (codes "image" ∷ fields)
-  image_sound next fields s e =
-      let a = bind_ok (image_fields fields) (image_line_of (from stage.Images)) next e in
-      let image = a.0 in
-      let are = image_fields_are fields image a.1 in
-      let span : Interval = record { first = image.base; last = image.base + image.size - 1 } in
-      let in_order = guard_then (eqb image.number (length images)) reason.Order _ next a.2 in
-      let in_limit = guard_then (ltb (length images) 4096 && leb (length image.bytes) 65536) reason.Limit _ next in_order.1 in
-      let is_span = guard_then (ltb 0 image.size && leb (image.base + image.size) (2 ^ 64 - 1)) reason.Span _ next in_limit.1 in
-      let read = bind_ok (section_or (section_of image.section image.bytes)) _ next is_span.1 in
-      let section = read.0 in
-      let made : Known = with_image (from stage.Images) image section in
-      let section_is_one = section_is image.section image.bytes section (section_from_or (section_of image.section image.bytes) section read.1) in
-      let parts = and_parts (ltb 0 image.size) (leb (image.base + image.size) (2 ^ 64 - 1)) is_span.0 in
-      let limits = and_parts (ltb (length images) 4096) (leb (length image.bytes) 65536) in_limit.0 in
-      let some = ltb-true 0 image.size parts.0 in
-      let below = leb-true (image.base + image.size) (2 ^ 64 - 1) parts.1 in
-      let room = ltb-true (length images) 4096 limits.0 in
-      let small = leb-true (length image.bytes) 65536 limits.1 in
-      let number = eqb-true image.number (length images) in_order.0 in
-      let each = s.each in
-      let good : IsSpan span = record { ordered = omega arith; below_top = omega arith } in
-      let is_section : IsSectionOf section = record {
-        address = subst (λ (x : ℕ). x < 2 ^ 64) (sym section_is_one.0) are.section;
-        size = subst (λ (x : List ℕ). length x ≤ 65536) (sym section_is_one.1) small;
-        bytes = subst IsBytes (sym section_is_one.1) are.bytes;
-        records = section_is_one.2;
-      } in
-      same_step _ made next _ (ok_is made next read.2) (record {
-        sound = record {
-          each = omega (arith, length-append sections (section ∷ []), length-append images (span ∷ []));
-          addresses = All-push IsSectionOf sections section s.addresses is_section;
-          nodes = s.nodes;
-          loads = s.loads;
-          count = omega (arith, length-append images (span ∷ []));
-          spans = All-push IsSpan images span s.spans good;
-          events = subst (IsThread (length (images ++ span ∷ []))) (sym s.shape.2) (no_events (length (images ++ span ∷ [])));
-          shape = s.shape;
-        };
-        lines = ap head (
-            before_rounds (image_lines 0 (images ++ span ∷ []) (sections ++ section ∷ [])) rounds s.shape.0
-            ∙ images_push 0 images sections span section each
-            ∙ ap₂ (λ (x : List Line) (y : Line). x ++ y ∷ []) (sym (before_rounds (image_lines 0 images sections) rounds s.shape.0)) (image_is image section (length images) fields number some section_is_one.0 section_is_one.1 are.is));
-      })
-
-  -- ---- rounds and threads
-
-  round_sound : (next : Known) (fields : Line) → Sound (from stage.Images) → round_line (from stage.Images) fields ≡ Ok next → Step (from stage.Images) next (codes "round" ∷ fields)
-  round_sound next fields s e =
-      let made : Known = record (from stage.Round) { threads = []; events = [] } in
-      let none = guard_else (has_any fields) reason.Fields _ next e in
-      let few = guard_last (ltb (length rounds) 64) reason.Limit made next none.1 in
-      let is = no_fields fields none.0 in
-      same_step _ made next _ few.1 (record {
-        sound = record { each = s.each; addresses = s.addresses; nodes = s.nodes; loads = s.loads; count = s.count; spans = s.spans; events = no_events (length images); shape = (s.shape.0, refl) };
-        lines = ap head (
-            ap (λ (r : List (List (List Event))). image_lines 0 images sections ++ round_lines (r ++ [] ∷ [])) s.shape.0
-            ∙ ap₂ (λ (x : List Line) (y : Line). x ++ (codes "round" ∷ y) ∷ []) (sym (before_rounds (image_lines 0 images sections) rounds s.shape.0)) (sym is));
-      })
-
-  thread_sound : (next : Known) (fields : Line) → Sound (from stage.Round) → thread_line (from stage.Round) fields ≡ Ok next → Step (from stage.Round) next (codes "thread" ∷ fields)
-  thread_sound next fields s e =
-      let made : Known = record (from stage.Thread) { events = [] } in
-      let none = guard_else (has_any fields) reason.Fields _ next e in
-      let few = guard_last (ltb (length threads) 16) reason.Limit made next none.1 in
-      let is = no_fields fields none.0 in
-      same_step _ made next _ few.1 (record {
-        sound = record { each = s.each; addresses = s.addresses; nodes = s.nodes; loads = s.loads; count = s.count; spans = s.spans; events = no_events (length images); shape = s.shape };
-        lines = ap head (
-            ap₂ (λ (r : List (List (List Event))) (t : List (List Event)). image_lines 0 images sections ++ round_lines (r ++ (t ++ [] ∷ []) ∷ [])) s.shape.0 s.shape.1
-            ∙ sym (append_assoc (image_lines 0 images sections) ((codes "round" ∷ []) ∷ []) ((codes "thread" ∷ []) ∷ []))
-            ∙ ap (λ (y : Line). (image_lines 0 images sections ++ (codes "round" ∷ []) ∷ []) ++ (codes "thread" ∷ y) ∷ []) (sym is)
-            ∙ ap₂ (λ (r : List (List (List Event))) (t : List (List Event)). (image_lines 0 images sections ++ round_lines (r ++ t ∷ [])) ++ (codes "thread" ∷ fields) ∷ []) (sym s.shape.0) (sym s.shape.1));
-      })
+use Rattle.event_script.proofs.Steps.{bind_ok, guard_last, guard_then, guard_else, ok_is, no_fields, one_decimal_is, one_hex_is, kind_word}
+use Rattle.event_script.proofs.SoFar.{version_text, nodes_text, loads_text, lines_at, lines_so_far, NodesAt, LoadsAt, AreRounds, ShapeAt, Sound, Step, same_step, no_events}
+use Rattle.event_script.proofs.SoundLines.{version_sound, nodes_sound, loads_sound, image_sound, round_sound, thread_sound}
 
 -- ---- events
 
@@ -271,7 +33,7 @@ events_push [] e = refl
 events_push (first ∷ events) e = ap (λ (x : List Line). event_line first ∷ x) (events_push events e)
 
 -- the lines of a round of one thread
-one_thread : (events : List Event) → round_lines ((events ∷ []) ∷ []) ≡ (codes "round" ∷ []) ∷ (codes "thread" ∷ []) ∷ event_lines events
+pub one_thread : (events : List Event) → round_lines ((events ∷ []) ∷ []) ≡ (codes "round" ∷ []) ∷ (codes "thread" ∷ []) ∷ event_lines events
 one_thread events = ap (λ (x : List Line). (codes "round" ∷ []) ∷ x) (append-nil ((codes "thread" ∷ []) ∷ (event_lines events ++ []))) ∙ ap (λ (x : List Line). (codes "round" ∷ []) ∷ (codes "thread" ∷ []) ∷ x) (append-nil (event_lines events))
 
 thread_push : (before : List Line) (events : List Event) (e : Event) → before ++ round_lines (((events ++ e ∷ []) ∷ []) ∷ []) ≡ (before ++ round_lines ((events ∷ []) ∷ [])) ++ event_line e ∷ []
@@ -506,46 +268,3 @@ script_from known text e = by known.stage refl e.is_last
 pub outcome_sound : (bytes : List ℕ) (known : Known) → outcome bytes ≡ Ok known → IsScript bytes (script_of known)
 outcome_sound bytes known e =
     script_from known bytes (subst (Ended known) (join_pieces 10 bytes) (lines_sound nothing_known known 1 (pieces 10 bytes) at_first e))
-
--- ---- how many lines there are
-
-images_count : (number : ℕ) (images : List Interval) (sections : List Contents) → length (image_lines number images sections) ≤ length images
-images_count number [] sections = omega arith
-images_count number (span ∷ images) [] = omega arith
-images_count number (span ∷ images) (section ∷ sections) = omega (arith, images_count (number + 1) images sections)
-
-events_count : (events : List Event) → length (event_lines events) ≡ length events
-events_count [] = refl
-events_count (e ∷ events) = omega (arith, events_count events)
-
-middle_count : (images : List Interval) (sections : List Contents) (lines rounds : List Line) (most : ℕ) → length images ≤ 4096 → lines ≡ rounds → length rounds ≤ most → length (image_lines 0 images sections ++ lines) ≤ 4096 + most
-middle_count images sections lines rounds most few is small = omega (arith, length-append (image_lines 0 images sections) lines, images_count 0 images sections, ap length is)
-
--- before a good line there are few lines
-pub few_lines : (known next : Known) (line : List ℕ) → Sound known → after_line known line ≡ Ok next → length (lines_so_far known) ≤ 8200
-unfolding after_line
-few_lines known next line s e =
-    let open_still = guard_else (is_ended known.stage) reason.After _ next e in
-    by known.stage known.images known.rounds known.threads known.events s.count s.events s.shape open_still.0
-  where
-    by : (at : Stage) (images : List Interval) (rounds : List (List (List Event))) (threads : List (List Event)) (events : List Event) → length images ≤ 4096 → IsThread (length images) events
-        → ShapeAt at (record { stage = at; nodes = known.nodes; loads = known.loads; images = images; sections = known.sections; rounds = rounds; threads = threads; events = events }) → is_ended at ≡ false
-        → length (lines_at at (record { stage = at; nodes = known.nodes; loads = known.loads; images = images; sections = known.sections; rounds = rounds; threads = threads; events = events })) ≤ 8200
-    by stage.Version images rounds threads events few are shape going = omega arith
-    by stage.Nodes images rounds threads events few are shape going = omega arith
-    by stage.Loads images rounds threads events few are shape going = omega arith
-    by stage.Images images rounds threads events few are shape going = omega (arith, middle_count images known.sections (round_lines rounds) [] 0 few (ap round_lines shape.0) (omega arith))
-    by stage.Round images rounds threads events few are shape going =
-        omega (arith, middle_count images known.sections (round_lines (rounds ++ threads ∷ [])) ((codes "round" ∷ []) ∷ []) 1 few (ap₂ (λ (r : List (List (List Event))) (t : List (List Event)). round_lines (r ++ t ∷ [])) shape.0 shape.1) (omega arith))
-    by stage.Thread images rounds threads events few are shape going =
-        let is : round_lines (rounds ++ (threads ++ events ∷ []) ∷ []) ≡ (codes "round" ∷ []) ∷ (codes "thread" ∷ []) ∷ event_lines events =
-        ap₂ (λ (r : List (List (List Event))) (t : List (List Event)). round_lines (r ++ (t ++ events ∷ []) ∷ [])) shape.0 shape.1 ∙ one_thread events in
-        omega (arith, middle_count images known.sections (round_lines (rounds ++ (threads ++ events ∷ []) ∷ [])) ((codes "round" ∷ []) ∷ (codes "thread" ∷ []) ∷ event_lines events) 4098 few is (omega (arith, events_count events, are.0)))
-    by stage.Ended images rounds threads events few are shape going = absurd cc
-
--- a good line is one more line
-pub one_more_line : (known next : Known) (line : List ℕ) (number : ℕ) → Sound known → number ≡ length (lines_so_far known) + 1 → after_line known line ≡ Ok next
-    → Sound next × (number + 1 ≡ length (lines_so_far next) + 1)
-one_more_line known next line number s counted e =
-    let step = line_sound known next line s e in
-    (step.sound, omega (arith, ap length step.lines, length-append (lines_so_far known) (pieces 32 line ∷ [])))

@@ -10,7 +10,8 @@ use Rattle.reg_model.specs.Interval.{Interval}
 use Rattle.event_script.specs.declared.script.Event.{Event}
 use Rattle.event_script.specs.ScriptData.{ScriptData}
 use Rattle.event_script.specs.Spelling.{Line, spelling_of, image_line, image_lines, event_line, event_lines, thread_lines, round_lines, first_lines, script_text}
-use Rattle.event_script.proofs.Sound.{images_push, events_push}
+use Rattle.event_script.proofs.SoundLines.{images_push}
+use Rattle.event_script.proofs.Sound.{events_push}
 
 abbrev pub spelled : List Line → List ℕ
 spelled lines = flat_map spelling_of lines

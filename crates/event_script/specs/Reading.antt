@@ -6,6 +6,7 @@ use Rattle.std.specs.Str.{bytes_eq}
 use Rattle.reg_model.specs.Interval.{Interval}
 use Rattle.frame_parse.specs.Sections.{Contents}
 use Rattle.frame_parse.specs.declared.fault.FrameFault.{FrameFault}
+use Rattle.frame_parse.specs.declared.fault.FrameFault.TheVariants as frame_fault
 use Rattle.event_script.specs.Section.{section_of}
 use Rattle.event_script.specs.ScriptData.{ScriptData}
 use Rattle.event_script.specs.Spelling.{IsScript}
@@ -26,10 +27,15 @@ abbrev pub ◌>>=◌ : {A B E : Type 0} → Result A E → (A → Result B E) �
 (Ok x) >>= f = f x
 (Err e) >>= f = Err e
 
+-- a section is refused for its bytes, and never for want of memory
+abbrev pub IsOfBytes : Reason → Type 0
+IsOfBytes (reason.Section frame_fault.NoMemory) = ⊥
+IsOfBytes _ = Unit {0}
+
 -- What a reader returned is what the lines give, unless memory ran out.
 abbrev pub Fails : {A : Type 0} → LineFault → Result A Reason → Type 0
 Fails fault.NoMemory given = Unit {0}
-Fails (fault.Bad reason) given = given ≡ Err reason
+Fails (fault.Bad reason) given = (given ≡ Err reason) × IsOfBytes reason
 
 abbrev pub Gives : {A : Type 0} → Result A LineFault → Result A Reason → Type 0
 Gives (Ok x) given = given ≡ Ok x

@@ -4,10 +4,12 @@ ghost use Rattle.std.specs.Prelude.{◌≡◌, Result, IfOk, IfErr};
 ghost use Rattle.event_script.specs.Spelling.{IsScript};
 ghost use Rattle.event_script.specs.declared.reader.fault.Reason.{Reason};
 ghost use Rattle.event_script.specs.Reading.{Known, Gives, at_line, outcome};
-ghost use Rattle.event_script.specs.Fault.{Tells, GivesLines};
+ghost use Rattle.event_script.specs.Fault.{Tells, IsOfScript, GivesLines};
 
 mod draft;
 pub mod fault;
+#[cfg(test)]
+mod fault_tests;
 mod fields;
 mod images;
 mod kinds;
@@ -65,6 +67,7 @@ fn known_of(alloc: Global, bytes: &[u8]) -> Result<Draft, ScriptFault>
 pub fn read(alloc: Global, bytes: &[u8]) -> Result<Script, ScriptFault>
     ensures ok { IfOk result (λ script. IsScript bytes.now script) }
     ensures bad { IfErr result (λ fault. Tells bytes.now fault) }
+    ensures memory { IfErr result IsOfScript }
 {
     let draft = known_of(alloc, bytes)?;
     let Draft {

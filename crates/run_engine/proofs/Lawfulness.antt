@@ -1,11 +1,10 @@
 -- A walk through a script's events is a lawful journal.
-use Rattle.std.proofs.Common.{◌≡◌, ℕ, ◌+◌, ◌^◌, ◌<◌, ◌≤◌, List, [], ◌∷◌, ◌++◌, length, map, refl, sym, ◌∙◌, ap, subst, arith}
+use Rattle.std.proofs.Common.{◌≡◌, ℕ, ◌+◌, ◌^◌, ◌<◌, ◌≤◌, List, [], ◌∷◌, length, map, refl, sym, ◌∙◌, ap, subst, arith}
 use Rattle.std.specs.List.{All, AllByRecursion, AllZip, flat_map}
 use Rattle.std.proofs.lemmas.List.Elements.{All-from_recursion, All-map, All-weaker}
 use Rattle.reg_model.specs.Interval.{Interval}
 use Rattle.reg_model.specs.State.{State}
-use Rattle.reg_model.specs.History.{IsHistory}
-use Rattle.reg_model.specs.Receipt.{moment, accepted, AllHold, AreInOrder}
+use Rattle.reg_model.specs.Receipt.{AllHold, AreInOrder}
 use Rattle.reg_model.specs.Current.{Current, LeadsTo}
 use Rattle.reg_model.specs.declared.answer.Update.{Update}
 use Rattle.reg_model.specs.declared.answer.Receipt.{Receipt}

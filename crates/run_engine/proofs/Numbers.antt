@@ -1,6 +1,6 @@
 -- The numbers of a walk's updates: each once, and the history is read off them.
-use Rattle.std.proofs.Common.{◌≡◌, ℕ, ◌+◌, ◌<◌, ◌≤◌, zero, suc, List, [], ◌∷◌, ◌++◌, length, take, Option, Some, None, Bool, true, false, cond, ◌&&◌, eqb, leb, ltb, inl, inr, eq-eqb, ne_eqb, refl, sym, ◌∙◌, ap, subst, append_assoc, length-append, count_by, sum_by, arith}
-use Rattle.std.specs.List.{flat_map, find, slice_get}
+use Rattle.std.proofs.Common.{◌≡◌, ℕ, ◌+◌, ◌<◌, ◌≤◌, zero, suc, List, [], ◌∷◌, ◌++◌, length, take, Option, Some, None, true, false, cond, ◌&&◌, eqb, leb, inl, inr, eq-eqb, ne_eqb, refl, sym, ◌∙◌, ap, append_assoc, length-append, count_by, arith}
+use Rattle.std.specs.List.{find, slice_get}
 use Rattle.std.specs.Option.{is_some, option_and_then, option_to_list}
 use Rattle.std.proofs.lemmas.Bool.Decides.{nat_tests}
 use Rattle.std.proofs.lemmas.Bool.{cases_lt}
@@ -8,11 +8,11 @@ use Rattle.std.proofs.lemmas.List.{append-nil, take_all}
 use Rattle.std.proofs.lemmas.List.Sums.{sum_by-cons}
 use Rattle.reg_model.specs.State.{State}
 use Rattle.reg_model.specs.Receipt.{moment, accepted, made}
-use Rattle.reg_model.specs.Current.{Current, LeadsTo, Step}
+use Rattle.reg_model.specs.Current.{Current, LeadsTo}
 use Rattle.reg_model.specs.declared.answer.Update.{Update}
 use Rattle.reg_model.specs.declared.answer.Receipt.{Receipt}
 use Rattle.reg_model.proofs.Histories.{slice_get-next}
-use Rattle.event_script.specs.Lawful.{has_number, history_of, AreNumbered}
+use Rattle.event_script.specs.Lawful.{has_number, history_of}
 use Rattle.run_engine.specs.Walk.{Walks}
 use Rattle.run_engine.proofs.Walks.{Moves, moves, all_made, walk_rises, walk_leads}
 

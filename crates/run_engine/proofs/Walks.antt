@@ -1,5 +1,5 @@
 -- Walks: their receipts hold in the history that they make, and their stamps and numbers rise.
-use Rattle.std.proofs.Common.{◌≡◌, ℕ, ◌+◌, ◌<◌, ◌≤◌, List, [], ◌∷◌, ◌++◌, Option, Some, None, Bool, true, false, cond, MatchOption, refl, sym, ◌∙◌, ap, subst, append_assoc, count_by, max, arith}
+use Rattle.std.proofs.Common.{◌≡◌, ℕ, ◌+◌, ◌<◌, ◌≤◌, List, [], ◌∷◌, ◌++◌, Option, Some, None, cond, MatchOption, refl, sym, ◌∙◌, ap, subst, append_assoc, count_by, max, arith}
 use Rattle.std.specs.List.{flat_map, AllByRecursion}
 use Rattle.std.specs.Option.{is_some}
 use Rattle.std.proofs.lemmas.List.{append-nil}

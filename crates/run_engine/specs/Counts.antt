@@ -1,5 +1,5 @@
 -- Journals whose events can be numbered.
-use Rattle.std.specs.Prelude.{ℕ, ◌^◌, ◌<◌, List, length, All}
+use Rattle.std.specs.Prelude.{◌^◌, ◌<◌, List, length, All}
 use Rattle.event_script.specs.declared.journal.Answer.{Answer}
 
 -- there are fewer rounds, threads and events than 2^32

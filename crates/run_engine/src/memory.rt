@@ -1,6 +1,7 @@
 //! Sources and sinks in memory, for tests and for promises about bytes.
 
-ghost use Rattle.std.specs.Prelude.{◌≡◌, ℕ, ◌-◌, ◌≤◌, ◌↔◌, [], Some, IsTrue, Contains, length, min, take, drop};
+ghost use Rattle.std.specs.Prelude.{◌≡◌, ◌≢◌, ℕ, ◌+◌, ◌-◌, ◌^◌, ◌<◌, ◌≤◌, ◌↔◌, ◌++◌, [], Some, Err, IsTrue, IfOk, IsOk, IsErr, OnErr, Contains, length, min, take, drop};
+ghost use Rattle.run_engine.specs.Ports.{Rose};
 
 use crate::ports::{Failed, Sink, SinkFault, Source};
 use std::alloc::Global;
@@ -47,7 +48,22 @@ impl Source for MemorySource {
 
     ghost faults = { λ s. s.faults };
 
-    fn read(&mut self, buffer: &mut [u8]) -> Result<usize, Failed> {
+    fn read(&mut self, buffer: &mut [u8]) -> Result<usize, Failed>
+        ensures count { IfOk result (λ count. count ≤ length buffer.old) }
+        ensures bytes { IfOk result (λ count. self.old.rest ≡ take count buffer.new ++ self.new.rest) }
+        ensures end { IfOk result (λ count. count ≡ 0 → 0 < length buffer.old → self.old.rest ≡ []) }
+        ensures err { IsErr result → Rose self.old.faults self.new.faults }
+        ensures counted { self.old.faults ≤ self.new.faults }
+
+        // The reads are counted, and those fail whose number is listed. Any other hands out all that fits.
+        ensures call { self.new.calls ≡ min (self.old.calls + 1) (2 ^ 64 - 1) }
+        ensures fails { IsErr result ↔ Contains self.old.fails self.new.calls }
+        ensures all { IfOk result (λ count. count ≡ min (length self.old.rest) (length buffer.old)) }
+        ensures kept { OnErr result (self.new.rest ≡ self.old.rest) }
+        ensures fault { OnErr result (self.new.faults ≡ min (self.old.faults + 1) (2 ^ 64 - 1)) }
+        ensures sound { IfOk result (λ _. self.new.faults ≡ self.old.faults) }
+        ensures listed { self.new.fails ≡ self.old.fails }
+    {
         self.calls = self.calls.saturating_add(1);
         if is_listed(&self.fails, self.calls) {
             self.faults = self.faults.saturating_add(1);
@@ -108,7 +124,15 @@ impl Source for SureSource {
 
     ghost faults = { λ _. 0 };
 
-    fn read(&mut self, buffer: &mut [u8]) -> Result<usize, Failed> {
+    fn read(&mut self, buffer: &mut [u8]) -> Result<usize, Failed>
+        ensures count { IfOk result (λ count. count ≤ length buffer.old) }
+        ensures bytes { IfOk result (λ count. self.old ≡ take count buffer.new ++ self.new) }
+        ensures end { IfOk result (λ count. count ≡ 0 → 0 < length buffer.old → self.old ≡ []) }
+
+        // Each read hands out all that fits.
+        ensures never { IsOk result }
+        ensures all { IfOk result (λ count. count ≡ min (length self.old) (length buffer.old)) }
+    {
         let count = copy_front(&self.bytes, self.at, buffer);
         self.at += count;
         Ok(count)
@@ -158,7 +182,22 @@ impl Sink for MemorySink {
 
     ghost faults = { λ s. s.faults };
 
-    fn write(&mut self, piece: &[u8]) -> Result<usize, SinkFault> {
+    fn write(&mut self, piece: &[u8]) -> Result<usize, SinkFault>
+        ensures count { IfOk result (λ count. count ≤ length piece.now) }
+        ensures some { IfOk result (λ count. 0 < length piece.now → 0 < count) }
+        ensures bytes { IfOk result (λ count. self.new.bytes ≡ self.old.bytes ++ take count piece.now) }
+        ensures err { OnErr result (self.new.bytes ≡ self.old.bytes) }
+        ensures failed { result ≡ Err SinkFault.Failed → Rose self.old.faults self.new.faults }
+        ensures counted { self.old.faults ≤ self.new.faults }
+
+        // The writes are counted, and those fail whose number is listed. Any other takes the whole piece, unless memory is wanted.
+        ensures call { self.new.calls ≡ min (self.old.calls + 1) (2 ^ 64 - 1) }
+        ensures fails { (result ≡ Err SinkFault.Failed) ↔ Contains self.old.fails self.new.calls }
+        ensures all { IfOk result (λ count. count ≡ length piece.now) }
+        ensures fault { result ≡ Err SinkFault.Failed → self.new.faults ≡ min (self.old.faults + 1) (2 ^ 64 - 1) }
+        ensures sound { result ≢ Err SinkFault.Failed → self.new.faults ≡ self.old.faults }
+        ensures listed { self.new.fails ≡ self.old.fails }
+    {
         self.calls = self.calls.saturating_add(1);
         if is_listed(&self.fails, self.calls) {
             self.faults = self.faults.saturating_add(1);
@@ -208,7 +247,16 @@ impl Sink for SureSink {
 
     ghost faults = { λ _. 0 };
 
-    fn write(&mut self, piece: &[u8]) -> Result<usize, SinkFault> {
+    fn write(&mut self, piece: &[u8]) -> Result<usize, SinkFault>
+        ensures count { IfOk result (λ count. count ≤ length piece.now) }
+        ensures some { IfOk result (λ count. 0 < length piece.now → 0 < count) }
+        ensures bytes { IfOk result (λ count. self.new ≡ self.old ++ take count piece.now) }
+        ensures err { OnErr result (self.new ≡ self.old) }
+
+        // Each write takes the whole piece, unless memory is wanted.
+        ensures never { result ≢ Err SinkFault.Failed }
+        ensures all { IfOk result (λ count. count ≡ length piece.now) }
+    {
         match self.bytes.extend_from_slice(piece) {
             Ok(()) => Ok(piece.len()),
             Err(_) => Err(SinkFault::NoMemory),

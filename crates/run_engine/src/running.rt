@@ -14,6 +14,7 @@ use crate::ports::{Sink, SinkFault, Source};
 use crate::reading::{LIMIT, TakeFault, take_all};
 use crate::status::Status;
 use crate::writing::{write_journal, write_piece};
+use event_script::laws::bytes_have_one_answer;
 use event_script::{Reason, ScriptFault, print_fault, read};
 use std::alloc::Global;
 use std::sync::Wait;
@@ -46,6 +47,8 @@ pub fn run<R: Wait, S: Source, K: Sink, G: Gate + Sync>(
         → ¬ Rose (S.faults source.old) (S.faults source.new) → ¬ Rose (K.faults sink.old) (K.faults sink.new)
         → (result ≡ Status.Done) ⊎ (result ≡ Status.NoMemory)) }
 {
+    // Bytes that spell a script have no first bad line: `complete` rests on this law, which takes no step.
+    bytes_have_one_answer();
     end_of(rt, alloc, words, source, sink, gate)
 }
 

@@ -30,19 +30,19 @@ impl Model for ImageFields {
 }
 
 /// The one field that follows, a decimal number.
-pub fn one_decimal(rest: &[u8]) -> Result<u32, Reason>
-    ensures { result ≡ one_decimal (fields_behind rest.now) }
+pub fn one_decimal(rest: &[u8]) -> Result<u32, LineFault>
+    ensures { Gives result (one_decimal (fields_behind rest.now)) }
 {
     let field = only_field(rest).ok_or(Reason::Fields)?;
-    decimal_in(field).ok_or(Reason::Spelling)
+    Ok(decimal_in(field).ok_or(Reason::Spelling)?)
 }
 
 /// The one field that follows, a hexadecimal number.
-pub fn one_hex(rest: &[u8]) -> Result<u64, Reason>
-    ensures { result ≡ one_hex (fields_behind rest.now) }
+pub fn one_hex(rest: &[u8]) -> Result<u64, LineFault>
+    ensures { Gives result (one_hex (fields_behind rest.now)) }
 {
     let field = only_field(rest).ok_or(Reason::Fields)?;
-    hex_in(field).ok_or(Reason::Spelling)
+    Ok(hex_in(field).ok_or(Reason::Spelling)?)
 }
 
 /// The fields of an image.

@@ -4,7 +4,9 @@ use Rattle.event_script.specs.Fields.{pieces}
 use Rattle.event_script.specs.Fault.{GivesLines}
 use Rattle.event_script.specs.Reading.{Known, after_line, after_lines, at_end}
 use Rattle.event_script.proofs.Lines.{line_good, line_bad, lines_end}
-use Rattle.event_script.proofs.Sound.{Sound, lines_so_far, at_first, numbered_ok, few_lines, one_more_line}
+use Rattle.event_script.proofs.SoFar.{Sound, lines_so_far}
+use Rattle.event_script.proofs.Sound.{at_first, numbered_ok}
+use Rattle.event_script.proofs.LineCounts.{few_lines, one_more_line}
 use Rattle.event_script.proofs.reader.known_of.Goals as goal
 
 pub loop-end-init : goal.loop-end-init

@@ -1,7 +1,7 @@
 use Rattle.std.proofs.Common.{ℕ, ◌+◌, length, ◌≡◌, ◌≢◌, ◌<◌, ◌≤◌, get_or}
 use Rattle.event_script.specs.Fields.{pieces}
 use Rattle.event_script.specs.Reading.{outcome, after_lines}
-use Rattle.event_script.proofs.Sound.{Sound, lines_so_far}
+use Rattle.event_script.proofs.SoFar.{Sound, lines_so_far}
 use Rattle.event_script.proofs.reader.known_of.Given as goal
 
 -- what is left is read as all of it is; the next line ends at end, and its number counts the lines before it

@@ -1,10 +1,5 @@
-use Rattle.std.proofs.Common.{◌≡◌, ap, sym, ◌∙◌, subst, List, length}
-use Rattle.std.specs.List.{flat_map}
+use Rattle.std.proofs.Common.{ap, ◌∙◌, length}
 use Rattle.reg_model.specs.State.{opening}
-use Rattle.reg_model.specs.Current.{Current}
-use Rattle.reg_model.specs.declared.answer.Receipt.{Receipt}
-use Rattle.event_script.specs.Lawful.{receipts_of}
-use Rattle.run_engine.specs.Walk.{Walks}
 use Rattle.run_engine.proofs.Lawfulness.{lawful_play, printable_play, counted_play}
 use Rattle.run_engine.proofs.play.play.Goals as goal
 

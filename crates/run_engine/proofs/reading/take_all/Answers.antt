@@ -1,4 +1,4 @@
-use Rattle.std.proofs.Common.{◌<◌, ℕ, length, take, length-take, arith}
+use Rattle.std.proofs.Common.{◌<◌, length, take, length-take, arith}
 use Rattle.run_engine.proofs.Pieces.{Hands-all}
 use Rattle.run_engine.proofs.reading.take_all.Goals as goal
 

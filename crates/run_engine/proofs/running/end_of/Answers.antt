@@ -1,4 +1,4 @@
-use Rattle.std.proofs.Common.{◌≡◌, ◌<◌, ◌≤◌, List, ℕ, length, vec_len, refl, sym, ◌∙◌, inr, arith}
+use Rattle.std.proofs.Common.{◌<◌, ◌≤◌, List, ℕ, length, vec_len, refl, sym, ◌∙◌, inr, arith}
 use Rattle.std.proofs.lemmas.Bool.{false≢true}
 use Rattle.event_script.specs.Reading.{IsFirstBad}
 use Rattle.event_script.specs.Spelling.{IsScript}

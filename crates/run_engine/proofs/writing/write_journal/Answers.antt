@@ -1,7 +1,6 @@
-use Rattle.std.proofs.Common.{◌≡◌, ◌++◌, List, ℕ, Result, OnOk, OnErr, Ok, Err, sym, ap, ◌∙◌, subst}
+use Rattle.std.proofs.Common.{◌≡◌, ◌∙◌}
 use Rattle.std.proofs.lemmas.Result.{on_ok_weaker, on_err_weaker}
 use Rattle.event_script.specs.Text.{updates_text}
-use Rattle.run_engine.specs.Ports.{Gains, GainsPart}
 use Rattle.event_script.proofs.Numbered.{rounds_text_is}
 use Rattle.event_script.proofs.Answered.{printable_is}
 use Rattle.run_engine.proofs.JournalTexts.{counts_is}

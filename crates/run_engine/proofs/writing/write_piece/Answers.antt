@@ -1,7 +1,7 @@
-use Rattle.std.proofs.Common.{◌≡◌, ◌+◌, ◌-◌, ◌≤◌, length, take, drop, take-append-drop, length-take, length-drop, ap, sym, ◌∙◌, arith}
+use Rattle.std.proofs.Common.{◌≡◌, ◌-◌, length, take, drop, take-append-drop, length-drop, sym, arith}
 use Rattle.std.proofs.lemmas.List.{take_rest}
 use Rattle.std.proofs.Math.Seq.{take-add}
-use Rattle.run_engine.proofs.Pieces.{Gains-more, GainsPart-all, GainsPart-wider}
+use Rattle.run_engine.proofs.Pieces.{Gains-more}
 use Rattle.run_engine.proofs.writing.write_piece.Goals as goal
 
 pub loop-at-preserved : goal.loop-at-preserved

@@ -1,4 +1,4 @@
-use Rattle.std.proofs.Common.{◌≤◌, arith}
+use Rattle.std.proofs.Common.{arith}
 use Rattle.event_script.specs.Text.{thread_text}
 use Rattle.run_engine.proofs.Numbered.{gains_more, gains_part}
 use Rattle.run_engine.proofs.writing.write_round.Goals as goal
