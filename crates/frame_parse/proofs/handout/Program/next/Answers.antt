@@ -1,7 +1,8 @@
 use Rattle.std.proofs.Common.{◌<◌, length, arith}
 use Rattle.frame_parse.specs.Programs.{HasSteps, ProgramRest}
-use Rattle.frame_parse.proofs.StepsLeft.{nothing_left, next_left, none_refused}
+use Rattle.frame_parse.proofs.StepsLeft.{nothing_left, next_left, none_refused, left_by}
 use Rattle.frame_parse.proofs.handout.Program.next.Goals as goal
+use Rattle.frame_parse.proofs.handout.Program.next.Goals.{in-Ok, in-Err}
 
 pub returns-then-left-eq0 : goal.returns-then-left-eq0
 returns-then-left-eq0 c = λ steps has.
@@ -15,31 +16,15 @@ invariant_of-self c =
     let p = c.self.inside in
     let was : ProgramRest = record { start = p.start; section = p.section; moves = p.moves; cie = p.cie.now; state = p.state; rest = p.cursor } in
     let some : 0 < length p.cursor.bytes = omega (arith, c.left.ensures, c.if-left-eq0.false) in
-    let read = rw c.replace-state.ensures.value at c.in-Ok.ensures in
-    let left = next_left was c.self.invariant.0 c.in-Ok.step c.in-Ok.state c.step.new.cursor some c.self.invariant.1 read in
-    (left.0, left.2)
+    left_by was c.self.invariant.0 c.step.result c.step.new.state c.step.new.cursor some c.self.invariant.1 c.step.ensures
 
-pub returns-in-Ok : goal.returns-in-Ok
-returns-in-Ok c = λ steps has.
+pub returns : goal.returns
+returns c = λ steps has.
     let p = c.self.inside in
     let was : ProgramRest = record { start = p.start; section = p.section; moves = p.moves; cie = p.cie.now; state = p.state; rest = p.cursor } in
     let here : HasSteps was steps = rw (← c.self.view_is) at has in
     let some : 0 < length p.cursor.bytes = omega (arith, c.left.ensures, c.if-left-eq0.false) in
-    let read = rw c.replace-state.ensures.value at c.in-Ok.ensures in
-    next_left was steps c.in-Ok.step c.in-Ok.state c.step.new.cursor some here read
-
-pub invariant_of-self-in-Err : goal.invariant_of-self-in-Err
-invariant_of-self-in-Err c =
-    let p = c.self.inside in
-    let was : ProgramRest = record { start = p.start; section = p.section; moves = p.moves; cie = p.cie.now; state = p.state; rest = p.cursor } in
-    let some : 0 < length p.cursor.bytes = omega (arith, c.left.ensures, c.if-left-eq0.false) in
-    let read = rw c.replace-state.ensures.value at c.in-Err.ensures in
-    absurd (none_refused was c.self.invariant.0 c.in-Err.field-0 some c.self.invariant.1 read)
-
-pub returns-in-Err : goal.returns-in-Err
-returns-in-Err c = λ steps has.
-    let p = c.self.inside in
-    let was : ProgramRest = record { start = p.start; section = p.section; moves = p.moves; cie = p.cie.now; state = p.state; rest = p.cursor } in
-    let some : 0 < length p.cursor.bytes = omega (arith, c.left.ensures, c.if-left-eq0.false) in
-    let read = rw c.replace-state.ensures.value at c.in-Err.ensures in
-    absurd (none_refused was c.self.invariant.0 c.in-Err.field-0 some c.self.invariant.1 read)
+    elim c.match-step.branch [
+      | in-Ok w ↦ rw w.result-is (next_left was steps w.in-Ok.step c.step.new.state c.step.new.cursor some here w.in-Ok.ensures)
+      | in-Err w ↦ absurd (none_refused was steps w.in-Err.field-0 some here w.in-Err.ensures)
+    ]
