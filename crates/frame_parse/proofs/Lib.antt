@@ -6,10 +6,10 @@ pub mod Numbers
 pub mod Searches
 pub mod OneAnswer
 pub mod SoFar
-pub mod Covers
 pub mod ProgramParts
 pub mod Wholes
 pub mod Steps
 pub mod RecordWholes
 pub mod StepsLeft
 pub mod Kept
+pub mod Lookups

@@ -2,4 +2,5 @@ pub mod Part
 pub mod Fields
 pub mod Records
 pub mod Sections
+pub mod Lookups
 pub mod Programs

@@ -13,6 +13,7 @@ mod fields;
 mod handle;
 mod handout;
 mod instruction;
+mod lookup;
 mod program;
 mod record;
 mod search;
