@@ -1,5 +1,5 @@
 -- LEB128 numbers from their places: the digit at a place, and the number of the digits from it on.
-use Rattle.std.proofs.Common.{◌≡◌, ℕ, zero, suc, ◌+◌, ◌-◌, ◌*◌, ◌%◌, ◌^◌, ◌<◌, ◌≤◌, ℤ, pos, negsuc, ◌+ℤ◌, ◌*ℤ◌, ◌≤ℤ◌, ◌<ℤ◌, true, false, List, [], ◌∷◌, length, drop, get_or, Option, Some, None, Ok, nat_lt, refl, ap, arith, add-one, drop-cons, inl, inr, ◌⊎◌}
+use Rattle.std.proofs.Common.{◌≡◌, ℕ, zero, suc, ◌+◌, ◌-◌, ◌*◌, ◌%◌, ◌^◌, ◌<◌, ◌≤◌, ℤ, pos, negsuc, ◌+ℤ◌, ◌-ℤ◌, ◌*ℤ◌, ◌≤ℤ◌, ◌<ℤ◌, true, false, List, [], ◌∷◌, length, drop, get_or, Option, Some, None, Ok, nat_lt, refl, ap, arith, add-one, drop-cons, inl, inr, ◌⊎◌}
 use Rattle.std.specs.Option.{option_map}
 use Rattle.std.proofs.lemmas.Int.{ints}
 use Rattle.std.specs.Int.{w64}
@@ -7,7 +7,7 @@ use mir.Val.{SFits, to_z}
 use Rattle.std.proofs.lemmas.Bool.{cases_lt, ltb-false, le-ltb, lt-ltb}
 use Rattle.std.proofs.lemmas.List.{drop_all}
 use Rattle.std.proofs.lemmas.Bool.Decides.{nat_tests}
-use Rattle.eh_bytes.specs.Leb.{leb_len, uleb_value, sleb_value, signed_digit, fits_signed, uleb_of, uleb_at}
+use Rattle.eh_bytes.specs.Leb.{leb_len, uleb_value, sleb_value, signed_digit, fits_signed, uleb_of, uleb_at, sleb_of, sleb_at}
 
 -- a length, counted from i places before
 abbrev pub shifted : ℕ → Option ℕ → Option ℕ
@@ -81,6 +81,15 @@ fits-not : (z : ℤ) → fits_signed z ≡ false → (pos (2 ^ 63) ≤ℤ z) ⊎
 fits-not (pos n) e = let le = ltb-false _ _ e in inl (omega (arith, ints, le))
 fits-not (negsuc n) e = let le = ltb-false _ _ e in inr (omega (arith, ints, le))
 
+-- one digit fits
+digit-fits : (b : ℕ) → fits_signed (signed_digit b) ≡ true
+digit-fits b =
+    let small : b % 128 < 128 = omega arith in
+    elim (cases_lt (b % 128) 64) [
+      | inl lt ↦ rw (lt-ltb (b % 128) 64 lt) (lt-ltb (b % 128) (2 ^ 63) (omega arith))
+      | inr ge ↦ rw (le-ltb (b % 128) 64 ge) (fits-within (pos (b % 128) -ℤ pos 128) (omega (arith, ints)) (omega (arith, ints)))
+    ]
+
 -- a digit below does not bring a number back
 fits-up : (d : ℕ) (z : ℤ) → d < 128 → fits_signed z ≡ false → fits_signed (pos d +ℤ pos 128 *ℤ z) ≡ false
 fits-up d z lt e =
@@ -121,6 +130,13 @@ uleb_at-byte (b ∷ bs) at some low =
     let digit : b % 128 + 0 ≡ b = omega arith in
     let fits : nat_lt b (2 ^ 64) ≡ true = lt-ltb _ _ (omega arith) in
     rw (last, digit, fits) refl
+
+pub sleb_at-byte : (bs : List ℕ) (at : ℕ) → 0 < length bs → get_or bs 0 0 < 128 → sleb_at (record { bytes = bs; at = at }) ≡ Ok (signed_digit (get_or bs 0 0), record { bytes = drop 1 bs; at = at + 1 })
+unfolding leb_len sleb_of sleb_value
+sleb_at-byte [] at some low = absurd (omega arith)
+sleb_at-byte (b ∷ bs) at some low =
+    let last : nat_lt b 128 ≡ true = lt-ltb _ _ low in
+    rw (last, digit-fits b) refl
 
 -- the bits of a signed number of 64 bits
 pub fits-cast : (n : ℕ) → n < 2 ^ 64 → fits_signed (to_z w64 n) ≡ true

@@ -6,7 +6,7 @@ ghost use Rattle.eh_bytes.specs.Leb.{uleb_at, sleb_at};
 ghost use Rattle.eh_bytes.specs.Pointer.{number_at, pointer_at, is_pointer, extended};
 
 use crate::fault::ByteFault;
-use crate::leb::{leb_length, sleb_number, uleb_number};
+use crate::leb::{leb_length, signed_digit, sleb_number, uleb_number};
 use byteorder::{ByteOrder, LittleEndian};
 use std::marker::Model;
 
@@ -156,6 +156,7 @@ impl<'a> Cursor<'a> {
     }
 
     /// An unsigned LEB128 number of any length.
+    #[inline(always)]
     pub fn uleb(&mut self) -> Result<u64, ByteFault>
         ensures { Reads (λ x. x) uleb_at self.old result self.new }
     {
@@ -171,6 +172,7 @@ impl<'a> Cursor<'a> {
     }
 
     /// The same, wherever the number ends.
+    #[inline(never)]
     #[tactic(auto, unfolding(crate::specs::Leb::uleb_of))]
     fn long_uleb(&mut self) -> Result<u64, ByteFault>
         ensures { Reads (λ x. x) uleb_at self.old result self.new }
@@ -189,8 +191,25 @@ impl<'a> Cursor<'a> {
     }
 
     /// A signed LEB128 number of any length.
-    #[tactic(auto, unfolding(crate::specs::Leb::sleb_of))]
+    #[inline(always)]
     pub fn sleb(&mut self) -> Result<i64, ByteFault>
+        ensures { Reads (λ x. x) sleb_at self.old result self.new }
+    {
+        match self.rest {
+            [byte, rest @ ..] if *byte < 128 => {
+                let byte = *byte;
+                self.rest = rest;
+                self.at += 1;
+                Ok(signed_digit(byte))
+            }
+            _ => self.long_sleb(),
+        }
+    }
+
+    /// The same, wherever the number ends.
+    #[inline(never)]
+    #[tactic(auto, unfolding(crate::specs::Leb::sleb_of))]
+    fn long_sleb(&mut self) -> Result<i64, ByteFault>
         ensures { Reads (λ x. x) sleb_at self.old result self.new }
     {
         match leb_length(self.rest) {

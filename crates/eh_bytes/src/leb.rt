@@ -1,4 +1,4 @@
-//! LEB128 numbers of any length. Short ones never come here.
+//! LEB128 numbers of any length. Those of one byte are read before.
 
 ghost use Rattle.std.specs.Prelude.{◌≡◌, ◌^◌, ◌<◌, ◌≤◌, length, Some, None, IfSome, nat_lt, if◌then◌else◌};
 ghost use Rattle.eh_bytes.specs.Leb.{leb_len, uleb_value, signed_digit, sleb_value, fits_signed};
@@ -35,7 +35,7 @@ pub(crate) fn uleb_number(text: &[u8]) -> Option<u64>
 }
 
 /// The last byte's low seven bits, whose highest bit is the sign.
-fn signed_digit(byte: u8) -> i64
+pub(crate) fn signed_digit(byte: u8) -> i64
     ensures { result ≡ signed_digit byte }
 {
     let digit = byte % 128;

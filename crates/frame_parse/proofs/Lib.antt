@@ -6,7 +6,6 @@ pub mod Numbers
 pub mod Searches
 pub mod OneAnswer
 pub mod SoFar
-pub mod Covers
 pub mod ProgramParts
 pub mod Wholes
 pub mod Steps
@@ -14,3 +13,4 @@ pub mod RecordWholes
 pub mod StepsLeft
 pub mod Kept
 pub mod Orders
+pub mod Lookups

@@ -1,9 +1,10 @@
 -- The next step of a program, and what is left of it.
-use Rattle.std.proofs.Common.{◌≡◌, ◌<◌, ◌≤◌, List, [], ◌∷◌, length, Ok, Err}
+use Rattle.std.proofs.Common.{◌≡◌, ◌<◌, ◌≤◌, List, [], ◌∷◌, length, Result, Ok, Err}
 use Rattle.eh_bytes.specs.Rest.{Rest}
 use Rattle.frame_parse.specs.declared.fault.FrameFault.{FrameFault}
 use Rattle.frame_parse.specs.declared.instruction.Step.{Step}
 use Rattle.frame_parse.specs.declared.state.State.{State}
+use Rattle.frame_parse.specs.Part.{Gives}
 use Rattle.frame_parse.specs.Programs.{step, ProgramRest, HasSteps}
 use Rattle.frame_parse.proofs.ProgramParts.{steps_sound}
 use Rattle.frame_parse.proofs.Steps.{no_steps, next_step, no_refusal}
@@ -22,3 +23,8 @@ next_left p steps x m mid some a e =
 pub none_refused : (p : ProgramRest) (steps : List Step) (f : FrameFault) → 0 < length p.rest.bytes → HasSteps p steps → (step p.start p.section p.moves p.cie p.state).read p.rest ≡ Err f → ⊥
 unfolding HasSteps
 none_refused p steps f some a e = no_refusal (step p.start p.section p.moves p.cie) p.rest p.state steps a.0 f (steps_sound p.start p.section p.moves p.cie) some a.1 e
+
+pub left_by : (p : ProgramRest) (steps : List Step) (r : Result Step FrameFault) (m : State) (mid : Rest) → 0 < length p.rest.bytes → HasSteps p steps → Gives (λ x. (x, m)) (step p.start p.section p.moves p.cie p.state).read p.rest r mid
+    → (more : List Step) × HasSteps (record p { state = m; rest = mid }) more
+left_by p steps (Ok x) m mid some a e = let n = next_left p steps x m mid some a e in (n.0, n.2)
+left_by p steps (Err f) m mid some a e = absurd (none_refused p steps f some a e)

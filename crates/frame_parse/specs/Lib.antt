@@ -2,5 +2,6 @@ pub mod Part
 pub mod Fields
 pub mod Records
 pub mod Sections
+pub mod Lookups
 pub mod Programs
 pub mod Order

@@ -94,3 +94,8 @@ filled short n g = record {
 abbrev pub Gives : {X Y : Type 0} → (X → Y) → (Rest → Result (Y × Rest) FrameFault) → Rest → Result X FrameFault → Rest → Type 0
 Gives view read old (Ok x) new = read old ≡ Ok (view x, new)
 Gives view read old (Err e) new = read old ≡ Err e
+
+-- The call left the value that is due, or gave the fault in its place.
+abbrev pub Leaves : {S : Type 0} → Result S FrameFault → Result (Unit {0}) FrameFault → S → Type 0
+Leaves due (Ok x) new = due ≡ Ok new
+Leaves due (Err e) new = due ≡ Err e

@@ -10,6 +10,7 @@ use crate::fault::FrameFault;
 use eh_bytes::{ByteFault, Cursor, is_pointer};
 
 /// A field's fault as the record's.
+#[inline(always)]
 fn placed<T: Drop>(start: usize, read: Result<T, ByteFault>) -> Result<T, FrameFault>
     ensures { result ≡ placed start read }
 {
@@ -21,6 +22,7 @@ fn placed<T: Drop>(start: usize, read: Result<T, ByteFault>) -> Result<T, FrameF
     }
 }
 
+#[inline(always)]
 pub(crate) fn byte(start: usize, cursor: &mut Cursor) -> Result<u8, FrameFault>
     ensures { Gives (λ x. x) (fixed start 1).read cursor.old result cursor.new }
 {
@@ -28,12 +30,14 @@ pub(crate) fn byte(start: usize, cursor: &mut Cursor) -> Result<u8, FrameFault>
 }
 
 /// The id of a record.
+#[inline(always)]
 pub(crate) fn id(start: usize, cursor: &mut Cursor) -> Result<u32, FrameFault>
     ensures { Gives (λ x. x) (fixed start 4).read cursor.old result cursor.new }
 {
     placed(start, cursor.u32())
 }
 
+#[inline(always)]
 pub(crate) fn uleb(start: usize, cursor: &mut Cursor) -> Result<u64, FrameFault>
     ensures { Gives (λ x. x) (uleb start).read cursor.old result cursor.new }
 {
@@ -181,6 +185,7 @@ pub(crate) fn length8(start: usize, cursor: &mut Cursor) -> Result<u64, FrameFau
 }
 
 /// Two bytes, the lowest first.
+#[inline(always)]
 pub(crate) fn pair(start: usize, cursor: &mut Cursor) -> Result<u16, FrameFault>
     ensures { Gives (λ x. x) (fixed start 2).read cursor.old result cursor.new }
 {

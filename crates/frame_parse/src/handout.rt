@@ -5,12 +5,11 @@ ghost use Rattle.frame_parse.specs.Programs.{HasSteps};
 ghost use Rattle.frame_parse.specs.declared.instruction.Step.{Step};
 
 use crate::instruction::Step;
-use crate::program::{initial_state, step};
+use crate::program::step;
 use crate::record::CieRecord;
 use crate::state::State;
 use eh_bytes::Cursor;
 use std::marker::Model;
-use std::mem;
 
 /// What is left of a program, lent from its section.
 #[derive(Drop)]
@@ -81,19 +80,15 @@ impl<'a> Program<'a> {
         if self.cursor.left() == 0 {
             return None;
         }
-        let state = mem::replace(&mut self.state, initial_state());
         match step(
             self.start,
             &mut self.cursor,
             self.section,
             self.moves,
             self.cie,
-            state,
+            &mut self.state,
         ) {
-            Ok((step, state)) => {
-                self.state = state;
-                Some(step)
-            }
+            Ok(step) => Some(step),
             Err(_) => None,
         }
     }

@@ -14,6 +14,7 @@ mod handle;
 mod handout;
 mod instruction;
 mod laws;
+mod lookup;
 mod program;
 mod record;
 mod search;

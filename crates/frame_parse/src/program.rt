@@ -2,7 +2,7 @@
 
 ghost use Rattle.std.specs.Prelude.{◌≡◌, ◌<◌, ◌≤◌, ◌+◌, ◌*◌, ◌%◌, ◌^◌, ◌⊎◌, length, nat_lt, if◌then◌else◌, Some, None, IfOk};
 ghost use Rattle.std.specs.Int.{w64, cast_unsigned};
-ghost use Rattle.frame_parse.specs.Part.{Gives};
+ghost use Rattle.frame_parse.specs.Part.{Gives, Leaves};
 ghost use Rattle.frame_parse.specs.declared.instruction.ReadRule.TheVariants as rules;
 ghost use Rattle.frame_parse.specs.Programs.{other, factored, set, restored, cfa_column, second_column, plain_operation, operation, effect_of, effect, instruction_of, step, steps_from, initial_state, first_state};
 
@@ -14,6 +14,7 @@ use crate::state::{Remembered, State};
 use eh_bytes::Cursor;
 
 /// An offset in data alignments, modulo 2^64.
+#[inline(always)]
 fn factored(cie: &CieRecord, number: u64) -> u64
     ensures { result ≡ factored cie.now number }
 {
@@ -21,6 +22,7 @@ fn factored(cie: &CieRecord, number: u64) -> u64
 }
 
 /// A rule for a column, which is applied up to column 16.
+#[inline(always)]
 fn set(column: u64, rule: ReadRule) -> Operation
     ensures { result ≡ set column rule }
 {
@@ -39,6 +41,7 @@ fn set(column: u64, rule: ReadRule) -> Operation
 }
 
 /// The initial rule of a column, which is applied up to column 16.
+#[inline(always)]
 fn restored(column: u64) -> Operation
     ensures { result ≡ restored column }
 {
@@ -56,6 +59,7 @@ fn restored(column: u64) -> Operation
 }
 
 /// A column of the CFA.
+#[inline(always)]
 #[tactic(auto, unfolding(crate::specs::Programs::cfa_column))]
 fn cfa_column(start: usize, cursor: &mut Cursor) -> Result<u8, FrameFault>
     ensures { Gives (λ x. x) (cfa_column start).read cursor.old result cursor.new }
@@ -85,6 +89,7 @@ fn second_column(start: usize, cursor: &mut Cursor, first: u64) -> Result<u64, F
 }
 
 /// A rule that takes a column from another.
+#[inline(always)]
 fn register(first: u64, second: u64) -> Operation
     requires { 16 < first ⊎ second < 17 }
     ensures { result ≡ set first (rules.Register second) }
@@ -103,6 +108,7 @@ fn register(first: u64, second: u64) -> Operation
     }
 }
 
+#[inline(always)]
 fn other(instruction: Instruction) -> Operation
     ensures { result ≡ other instruction }
 {
@@ -110,6 +116,7 @@ fn other(instruction: Instruction) -> Operation
 }
 
 /// The instructions whose operands aren't in their byte.
+#[inline(always)]
 #[tactic(auto, unfolding(crate::specs::Programs::plain_operation))]
 fn plain_operation(
     start: usize,
@@ -196,6 +203,7 @@ fn plain_operation(
 }
 
 /// What the next instruction spells.
+#[inline(always)]
 #[tactic(auto, unfolding(crate::specs::Programs::operation))]
 fn operation(
     start: usize,
@@ -220,13 +228,14 @@ fn operation(
 }
 
 /// What an instruction changes for those behind it.
+#[inline(always)]
 fn effect_of(
     start: usize,
     at: usize,
-    mut state: State,
+    state: &mut State,
     instruction: &Instruction,
-) -> Result<State, FrameFault>
-    ensures { result ≡ effect_of start at state instruction.now }
+) -> Result<(), FrameFault>
+    ensures { Leaves (effect_of start at state.old instruction.now) result state.new }
 {
     match instruction {
         Instruction::Remember => {
@@ -252,10 +261,11 @@ fn effect_of(
         | Instruction::Set { .. }
         | Instruction::Restore { .. } => {}
     }
-    Ok(state)
+    Ok(())
 }
 
 /// The location on by as many code alignments, where that is an address.
+#[inline(always)]
 fn advanced(location: u64, delta: u64, alignment: u64) -> Option<u64>
     ensures { result ≡ (if nat_lt (location + delta * alignment) (2 ^ 64)
         then Some (location + delta * alignment) else None) }
@@ -266,23 +276,24 @@ fn advanced(location: u64, delta: u64, alignment: u64) -> Option<u64>
     }
 }
 
-/// The state behind an instruction, which moves the location only in an FDE.
+/// What an instruction makes of the state. It moves the location only in an FDE.
+#[inline(always)]
 fn effect(
     start: usize,
     at: usize,
     moves: bool,
     cie: &CieRecord,
-    mut state: State,
+    state: &mut State,
     operation: &Operation,
-) -> Result<State, FrameFault>
-    ensures { result ≡ effect start at moves cie.now state operation.now }
+) -> Result<(), FrameFault>
+    ensures { Leaves (effect start at moves cie.now state.old operation.now) result state.new }
 {
     match operation {
         Operation::Advance { delta } => {
             match advanced(state.location, *delta, cie.code_alignment) {
                 Some(location) if moves => {
                     state.location = location;
-                    Ok(state)
+                    Ok(())
                 }
                 _ => Err(FrameFault::Location { start, at }),
             }
@@ -290,7 +301,7 @@ fn effect(
         Operation::SetLocation { address } => {
             if moves && state.location <= *address {
                 state.location = *address;
-                Ok(state)
+                Ok(())
             } else {
                 Err(FrameFault::Location { start, at })
             }
@@ -299,6 +310,7 @@ fn effect(
     }
 }
 
+#[inline(always)]
 fn instruction_of(operation: &Operation) -> Instruction
     ensures { result ≡ instruction_of operation.now }
 {
@@ -308,7 +320,8 @@ fn instruction_of(operation: &Operation) -> Instruction
     }
 }
 
-/// The next instruction, with the location at which it holds, and the state behind it.
+/// The next instruction, with the location at which it holds. The state is then the one behind it.
+#[inline(always)]
 #[tactic(auto, unfolding(crate::specs::Programs::step))]
 pub(crate) fn step(
     start: usize,
@@ -316,19 +329,18 @@ pub(crate) fn step(
     section: u64,
     moves: bool,
     cie: &CieRecord,
-    state: State,
-) -> Result<(Step, State), FrameFault>
-    ensures { Gives (λ x. x) (step start section moves cie.now state).read
+    state: &mut State,
+) -> Result<Step, FrameFault>
+    ensures { Gives (λ x. (x, state.new)) (step start section moves cie.now state.old).read
         cursor.old result cursor.new }
 {
     let at = cursor.at();
     let operation = operation(start, cursor, section, cie)?;
-    let state = effect(start, at, moves, cie, state, &operation)?;
-    let step = Step {
+    effect(start, at, moves, cie, state, &operation)?;
+    Ok(Step {
         location: state.location,
         instruction: instruction_of(&operation),
-    };
-    Ok((step, state))
+    })
 }
 
 /// All instructions up to the end of their record, and the state behind them.
@@ -345,8 +357,7 @@ pub(crate) fn steps(
 {
     let mut state = state;
     while cursor.left() > 0 {
-        let (_, next) = step(start, cursor, section, moves, cie, state)?;
-        state = next;
+        step(start, cursor, section, moves, cie, &mut state)?;
     }
     Ok(state)
 }

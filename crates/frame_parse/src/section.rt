@@ -1,16 +1,17 @@
 //! A section: its records, one after another.
 
 ghost use Rattle.std.specs.Prelude.{◌≡◌, ◌≤◌, ◌<◌, ◌⊎◌, length, IfOk, IfErr, IfSome, OnOk, slice_get, Some, ℕ, List};
-ghost use Rattle.std.specs.Option.{option_map, option_copied};
+ghost use Rattle.std.specs.Option.{option_map};
 ghost use Rattle.frame_parse.specs.Part.{Gives};
 ghost use Rattle.frame_parse.specs.Records.{content, record_length, whole_record};
-ghost use Rattle.frame_parse.specs.Sections.{is_end, starts, IsAscending, BeginsAt, HasFdes, IsRefused, covers, first_cover, HasOneAnswer};
+ghost use Rattle.frame_parse.specs.Sections.{is_end, starts, IsAscending, BeginsAt, HasFdes, IsRefused, first_cover, HasOneAnswer};
 
 use crate::cie::cie;
 use crate::fault::FrameFault;
 use crate::fde::fde;
 use crate::fields::{data, id, length4, length8};
 use crate::handle::Fde;
+use crate::lookup::FdeList;
 use crate::program::{first_state, initial_state, steps};
 use crate::record::{CieRecord, FdeRecord, Record};
 use crate::search::cie_behind;
@@ -115,7 +116,7 @@ fn fdes_of(alloc: Global, section: u64, bytes: &[u8]) -> Result<Vec<FdeRecord>, 
 pub struct Section {
     address: u64,
     bytes: Vec<u8>,
-    fdes: Vec<FdeRecord>,
+    fdes: FdeList,
 }
 
 impl Model for Section {
@@ -123,9 +124,9 @@ impl Model for Section {
 
     ghost Value = { Contents };
 
-    ghost view = { λ s. record { address = s.address; bytes = s.bytes.items; fdes = s.fdes.items } };
+    ghost view = { λ s. record { address = s.address; bytes = s.bytes.items; fdes = s.fdes } };
 
-    ghost invariant = { λ s. HasFdes s.address s.bytes.items s.fdes.items };
+    ghost invariant = { λ s. HasFdes s.address s.bytes.items s.fdes };
 }
 
 impl Section {
@@ -139,7 +140,7 @@ impl Section {
         ensures refused { IfErr result (λ f. (f ≡ FrameFault.NoMemory)
             ⊎ IsRefused address bytes.now f) }
     {
-        let fdes = fdes_of(alloc, address, bytes)?;
+        let fdes = FdeList::new(alloc, fdes_of(alloc, address, bytes)?)?;
         let bytes = Vec::from_slice(alloc, bytes)?;
         Ok(Section {
             address,
@@ -164,7 +165,7 @@ impl Section {
     pub fn count(&self) -> usize
         ensures { result ≡ length self.now.fdes }
     {
-        self.fdes.len()
+        self.fdes.as_slice().len()
     }
 
     /// Every section has the FDEs of its bytes.
@@ -181,7 +182,7 @@ impl Section {
         ensures section { result.section ≡ self.now.address }
         ensures bytes { result.bytes ≡ self.now.bytes }
     {
-        let entry = entry_at(&self.fdes, index);
+        let entry = entry_at(self.fdes.as_slice(), index);
         Fde::new(self.address, &self.bytes, entry)
     }
 
@@ -191,7 +192,7 @@ impl Section {
         ensures section { IfSome result
             (λ f. (f.section ≡ self.now.address) × (f.bytes ≡ self.now.bytes)) }
     {
-        match first_cover(&self.fdes, pc) {
+        match self.fdes.cover(pc) {
             None => None,
             Some(entry) => Some(Fde::new(self.address, &self.bytes, entry)),
         }
@@ -203,24 +204,6 @@ fn entry_at(fdes: &[FdeRecord], index: usize) -> &FdeRecord
     ensures { slice_get fdes.now index ≡ Some result.now }
 {
     &fdes[index]
-}
-
-fn covers(fde: &FdeRecord, pc: u64) -> bool
-    ensures { result ≡ covers pc fde.now }
-{
-    fde.first <= pc && pc - fde.first < fde.range
-}
-
-/// The first FDE that covers an address.
-fn first_cover(fdes: &[FdeRecord], pc: u64) -> Option<&FdeRecord>
-    ensures { option_copied result ≡ first_cover pc fdes.now }
-{
-    for fde in fdes {
-        if covers(fde, pc) {
-            return Some(fde);
-        }
-    }
-    None
 }
 
 /// Each list of bytes has one list of records or one first refusal, never both.

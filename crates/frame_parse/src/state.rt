@@ -1,6 +1,6 @@
 //! What instructions are tested against, between two of them.
 
-ghost use Rattle.std.specs.Prelude.{◌≡◌, ◌<◌, List, [], ◌∷◌, ◌++◌, Bool, length, take};
+ghost use Rattle.std.specs.Prelude.{◌≡◌, ◌<◌, ◌≤◌, List, [], ◌∷◌, ◌++◌, Bool, length, take};
 
 use std::marker::Model;
 
@@ -32,7 +32,8 @@ impl Remembered {
     }
 
     pub(crate) fn len(&self) -> usize
-        ensures { result ≡ length self.now }
+        ensures count { result ≡ length self.now }
+        ensures bound { result ≤ 8 }
     {
         self.depth
     }

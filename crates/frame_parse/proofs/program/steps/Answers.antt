@@ -9,20 +9,20 @@ pub loop-cursor-smaller : goal.loop-cursor-smaller
 loop-cursor-smaller c =
     let one = step c.args.start c.args.section c.args.moves c.args.cie.now in
     let sound = steps_sound c.args.start c.args.section c.args.moves c.args.cie.now in
-    step_shrinks one c.loop-cursor.state c.loop-cursor.cursor (c.in_ok-next.field-0-0, c.in_ok-next.next) c.step.new.cursor sound c.in_ok-next.ensures
+    step_shrinks one c.loop-cursor.state c.loop-cursor.cursor (c.in_ok-step.field-0, c.step.new.state) c.step.new.cursor sound c.in_ok-step.ensures
 
 pub loop-cursor-preserved : goal.loop-cursor-preserved
 loop-cursor-preserved c =
     let one = step c.args.start c.args.section c.args.moves c.args.cie.now in
     let sound = steps_sound c.args.start c.args.section c.args.moves c.args.cie.now in
     let some : 0 < length c.loop-cursor.cursor.bytes = omega (arith, c.left.ensures, c.loop-cursor-test.true) in
-    c.loop-cursor.invariant ∙ read_step one c.loop-cursor.state c.loop-cursor.cursor (c.in_ok-next.field-0-0, c.in_ok-next.next) c.step.new.cursor sound some c.in_ok-next.ensures
+    c.loop-cursor.invariant ∙ read_step one c.loop-cursor.state c.loop-cursor.cursor (c.in_ok-step.field-0, c.step.new.state) c.step.new.cursor sound some c.in_ok-step.ensures
 
-pub returns-in_err-next : goal.returns-in_err-next
-returns-in_err-next c =
+pub returns-in_err-step : goal.returns-in_err-step
+returns-in_err-step c =
     let one = step c.args.start c.args.section c.args.moves c.args.cie.now in
     let some : 0 < length c.loop-cursor.cursor.bytes = omega (arith, c.left.ensures, c.loop-cursor-test.true) in
-    let refused = c.loop-cursor.invariant ∙ read_refusal one c.loop-cursor.state c.loop-cursor.cursor c.in_err-next.field-0.0 some c.in_err-next.ensures in
+    let refused = c.loop-cursor.invariant ∙ read_refusal one c.loop-cursor.state c.loop-cursor.cursor c.in_err-step.field-0.0 some c.in_err-step.ensures in
     let p = err_from_is_err_and c.from_residual.result c.from_residual.ensures.1 in
     rw (p.1, p.2) refused
 

@@ -2,8 +2,9 @@ use Rattle.std.proofs.Common.{◌<◌, length, ap, arith}
 use Rattle.frame_parse.specs.Programs.{HasSteps, ProgramRest, step}
 use Rattle.frame_parse.proofs.ProgramParts.{steps_sound}
 use Rattle.frame_parse.proofs.Steps.{step_shrinks}
-use Rattle.frame_parse.proofs.StepsLeft.{nothing_left, next_left, none_refused}
+use Rattle.frame_parse.proofs.StepsLeft.{nothing_left, next_left, none_refused, left_by}
 use Rattle.frame_parse.proofs.handout.Program.next.Goals as goal
+use Rattle.frame_parse.proofs.handout.Program.next.Goals.{in-Ok, in-Err}
 
 pub returns-then-left-eq0-clause-steps : goal.returns-then-left-eq0-clause-steps
 returns-then-left-eq0-clause-steps c = λ steps has.
@@ -17,39 +18,27 @@ invariant_of-self c =
     let p = c.self.inside in
     let was : ProgramRest = record { start = p.start; section = p.section; moves = p.moves; cie = p.cie.now; state = p.state; rest = p.cursor } in
     let some : 0 < length p.cursor.bytes = omega (arith, c.left.ensures, c.if-left-eq0.false) in
-    let read = rw c.replace-state.ensures.value at c.in-Ok.ensures in
-    let left = next_left was c.self.invariant.0 c.in-Ok.step c.in-Ok.state c.step.new.cursor some c.self.invariant.1 read in
-    (left.0, left.2)
+    left_by was c.self.invariant.0 c.step.result c.step.new.state c.step.new.cursor some c.self.invariant.1 c.step.ensures
 
-pub returns-in-Ok-clause-steps : goal.returns-in-Ok-clause-steps
-returns-in-Ok-clause-steps c = λ steps has.
+pub returns-clause-steps : goal.returns-clause-steps
+returns-clause-steps c = λ steps has.
     let p = c.self.inside in
     let was : ProgramRest = record { start = p.start; section = p.section; moves = p.moves; cie = p.cie.now; state = p.state; rest = p.cursor } in
     let here : HasSteps was steps = rw (← c.self.view_is) at has in
     let some : 0 < length p.cursor.bytes = omega (arith, c.left.ensures, c.if-left-eq0.false) in
-    let read = rw c.replace-state.ensures.value at c.in-Ok.ensures in
-    next_left was steps c.in-Ok.step c.in-Ok.state c.step.new.cursor some here read
+    elim c.match-step.branch [
+      | in-Ok w ↦ rw w.result-is (next_left was steps w.in-Ok.step c.step.new.state c.step.new.cursor some here w.in-Ok.ensures)
+      | in-Err w ↦ absurd (none_refused was steps w.in-Err.field-0 some here w.in-Err.ensures)
+    ]
 
-pub invariant_of-self-in-Err : goal.invariant_of-self-in-Err
-invariant_of-self-in-Err c =
-    let p = c.self.inside in
-    let was : ProgramRest = record { start = p.start; section = p.section; moves = p.moves; cie = p.cie.now; state = p.state; rest = p.cursor } in
-    let some : 0 < length p.cursor.bytes = omega (arith, c.left.ensures, c.if-left-eq0.false) in
-    let read = rw c.replace-state.ensures.value at c.in-Err.ensures in
-    absurd (none_refused was c.self.invariant.0 c.in-Err.field-0 some c.self.invariant.1 read)
-
-pub returns-in-Err-clause-steps : goal.returns-in-Err-clause-steps
-returns-in-Err-clause-steps c = λ steps has.
-    let p = c.self.inside in
-    let was : ProgramRest = record { start = p.start; section = p.section; moves = p.moves; cie = p.cie.now; state = p.state; rest = p.cursor } in
-    let some : 0 < length p.cursor.bytes = omega (arith, c.left.ensures, c.if-left-eq0.false) in
-    let read = rw c.replace-state.ensures.value at c.in-Err.ensures in
-    absurd (none_refused was c.self.invariant.0 c.in-Err.field-0 some c.self.invariant.1 read)
-
-pub returns-in-Ok-clause-shrinks : goal.returns-in-Ok-clause-shrinks
-returns-in-Ok-clause-shrinks c =
+pub returns-clause-shrinks : goal.returns-clause-shrinks
+returns-clause-shrinks c =
     let p = c.self.inside in
     let one = step p.start p.section p.moves p.cie.now in
-    let read = rw c.replace-state.ensures.value at c.in-Ok.ensures in
-    let shorter = step_shrinks one p.state p.cursor (c.in-Ok.step, c.in-Ok.state) c.step.new.cursor (steps_sound p.start p.section p.moves p.cie.now) read in
-    omega (arith, shorter, ap (λ (k : ProgramRest). length k.rest.bytes) c.self.view_is)
+    let sound = steps_sound p.start p.section p.moves p.cie.now in
+    elim c.match-step.branch [
+      | in-Ok w ↦
+          let shorter = step_shrinks one p.state p.cursor (w.in-Ok.step, c.step.new.state) c.step.new.cursor sound w.in-Ok.ensures in
+          rw w.result-is (omega (arith, shorter, ap (λ (k : ProgramRest). length k.rest.bytes) c.self.view_is))
+      | in-Err w ↦ rw w.result-is tt
+    ]

@@ -5,6 +5,5 @@ use Rattle.frame_parse.proofs.section.Section.fde_at.Goals as goal
 pub new-requires : goal.new-requires
 new-requires c =
     let s = c.self.inside in
-    let entry = rw c.deref.ensures.value at (sym c.in-Some.ensures) in
-    rw c.deref-in-Some.ensures.value
-    (programs_of_cover s.address s.bytes.items s.fdes.items c.args.pc c.in-Some.entry.now (section_kept s.address s.bytes.items s.fdes.items c.self.invariant) entry)
+    rw c.deref.ensures.value
+    (programs_of_cover s.address s.bytes.items s.fdes c.args.pc c.in-Some.entry.now (section_kept s.address s.bytes.items s.fdes c.self.invariant) (sym c.in-Some.ensures))

@@ -1,0 +1,148 @@
+-- Ranges that are apart: at most one has an address. So the one that has it is the first FDE's that covers it.
+use Rattle.std.proofs.Common.{◌≡◌, ℕ, zero, suc, ◌+◌, ◌-◌, ◌<◌, ◌≤◌, Bool, List, [], ◌∷◌, length, get_or, true, false, Some, None, nat_le, nat_lt, refl, sym, ap, subst, ◌∙◌, arith, inl, inr, leb-true, ltb-true, le-ltb}
+use Rattle.std.proofs.lemmas.Bool.{and_parts, and_left, and_right, cases_lt, lt-leb}
+use Rattle.std.specs.List.{All, Contains}
+use Rattle.std.specs.List.Sorted.{IsPermutation, IsNonDecreasingBy}
+use Rattle.std.proofs.lemmas.List.Sorted.{All-permutation, Contains-permutation}
+use Rattle.std.proofs.lemmas.List.Elements.{All-contains}
+use Rattle.frame_parse.specs.declared.record.FdeRecord.{FdeRecord}
+use Rattle.frame_parse.specs.declared.lookup.CoveredRange.{CoveredRange}
+use Rattle.frame_parse.specs.Sections.{covers, first_cover}
+use Rattle.frame_parse.specs.Lookups.{range_of, IsRangeOf, HasRanges, are_apart, holds}
+
+pub few_apart : (rs : List CoveredRange) → length rs < 2 → are_apart rs ≡ true
+few_apart [] lt = refl
+few_apart (a ∷ []) lt = refl
+few_apart (a ∷ b ∷ rs) lt = absurd (omega arith)
+
+-- a range ends before all behind it begin
+above : (a : CoveredRange) (rs : List CoveredRange) (j : ℕ) (d : CoveredRange) → are_apart (a ∷ rs) ≡ true → j < length rs → a.first + a.range ≤ (get_or rs j d).first
+above a [] j d h lt = absurd (omega arith)
+above a (b ∷ rs) zero d h lt =
+    let parts = and_parts (nat_le (a.first + a.range) b.first) (are_apart (b ∷ rs)) h in
+    leb-true _ _ parts.0
+above a (b ∷ rs) (suc j) d h lt =
+    let parts = and_parts (nat_le (a.first + a.range) b.first) (are_apart (b ∷ rs)) h in
+    let far = above b rs j d parts.1 (omega arith) in
+    omega (arith, far, leb-true _ _ parts.0)
+
+behind : (a : CoveredRange) (rs : List CoveredRange) → are_apart (a ∷ rs) ≡ true → are_apart rs ≡ true
+behind a [] h = refl
+behind a (b ∷ rs) h = (and_parts (nat_le (a.first + a.range) b.first) (are_apart (b ∷ rs)) h).1
+
+pub apart : (rs : List CoveredRange) (i j : ℕ) (d : CoveredRange) → are_apart rs ≡ true → i < j → j < length rs → (get_or rs i d).first + (get_or rs i d).range ≤ (get_or rs j d).first
+apart [] i j d h lt within = absurd (omega arith)
+apart (a ∷ rs) i zero d h lt within = absurd (omega arith)
+apart (a ∷ rs) zero (suc j) d h lt within = above a rs j d h (omega arith)
+apart (a ∷ rs) (suc i) (suc j) d h lt within = apart rs i j d (behind a rs h) (omega arith) (omega arith)
+
+pub ascending : (rs : List CoveredRange) → are_apart rs ≡ true → IsNonDecreasingBy (λ (r : CoveredRange). r.first) rs
+ascending rs h = λ i j d le within.
+    elim (cases_lt i j) [
+      | inl lt ↦ let up = apart rs i j d h lt within in omega (arith, up)
+      | inr ge ↦ let same : i ≡ j = omega arith in rw same (omega arith)
+    ]
+
+not_below : (pc : ℕ) (r : CoveredRange) → pc < r.first → holds pc r ≡ false
+not_below pc r lt = and_left _ _ (lt-leb r.first pc lt)
+
+not_above : (pc : ℕ) (r : CoveredRange) → r.first + r.range ≤ pc → holds pc r ≡ false
+not_above pc r le = and_right _ _ (le-ltb pc (r.first + r.range) le)
+
+-- where the last range that begins up to an address hasn't it, none has
+pub none_holds : (rs : List CoveredRange) (pc n : ℕ) → are_apart rs ≡ true → n ≤ length rs → ((k : ℕ) (d : CoveredRange) → k < n → (get_or rs k d).first ≤ pc)
+    → ((k : ℕ) (d : CoveredRange) → n ≤ k → k < length rs → pc < (get_or rs k d).first) → ((d : CoveredRange) → 0 < n → holds pc (get_or rs (n - 1) d) ≡ false) → All (λ r. holds pc r ≡ false) rs
+none_holds rs pc n h le below beyond last = λ k d within.
+    elim (cases_lt k n) [
+      | inr ge ↦ not_below pc (get_or rs k d) (beyond k d ge within)
+      | inl lt ↦
+          elim (cases_lt k (n - 1)) [
+            | inl before ↦
+                let up = apart rs k (n - 1) d h before (omega arith) in
+                let reached = below (n - 1) d (omega arith) in
+                not_above pc (get_or rs k d) (omega (arith, up, reached))
+            | inr ge ↦ let same : k ≡ n - 1 = omega arith in rw same (last d (omega arith))
+          ]
+    ]
+
+pub any_default : (rs : List CoveredRange) (k : ℕ) (c d : CoveredRange) → k < length rs → get_or rs k c ≡ get_or rs k d
+any_default [] k c d lt = absurd (omega arith)
+any_default (r ∷ rs) zero c d lt = refl
+any_default (r ∷ rs) (suc k) c d lt = any_default rs k c d (omega arith)
+
+within_both : (pc : ℕ) (a b : CoveredRange) → holds pc a ≡ true → holds pc b ≡ true → a.first + a.range ≤ b.first → ⊥
+within_both pc a b ha hb le =
+    let pa = and_parts (nat_le a.first pc) (nat_lt pc (a.first + a.range)) ha in
+    let pb = and_parts (nat_le b.first pc) (nat_lt pc (b.first + b.range)) hb in
+    let up = ltb-true _ _ pa.1 in
+    let down = leb-true _ _ pb.0 in
+    omega (arith, up, down)
+
+-- of ranges that are apart one at most has an address
+one_holds : (rs : List CoveredRange) (pc : ℕ) (a b : CoveredRange) → are_apart rs ≡ true → Contains rs a → Contains rs b → holds pc a ≡ true → holds pc b ≡ true → a ≡ b
+one_holds rs pc a b h (i, li, ea) (j, lj, eb) ha hb =
+    let ej : get_or rs j a ≡ b = any_default rs j a b lj ∙ eb in
+    elim (cases_lt i j) [
+      | inl lt ↦ absurd (within_both pc a b ha hb (let up = apart rs i j a h lt lj in rw (ea, ej) at up))
+      | inr ge ↦
+          elim (cases_lt j i) [
+            | inl lt ↦ absurd (within_both pc b a hb ha (let up = apart rs j i a h lt li in rw (ea, ej) at up))
+            | inr le ↦ let same : i ≡ j = omega arith in sym ea ∙ ap (λ k. get_or rs k a) same ∙ ej
+          ]
+    ]
+
+-- ---- the FDEs
+
+first_cover-at : (pc : ℕ) (fs : List FdeRecord) (i : ℕ) (d : FdeRecord) → i < length fs → covers pc (get_or fs i d) ≡ true → ((j : ℕ) → j < i → covers pc (get_or fs j d) ≡ false) → first_cover pc fs ≡ Some (get_or fs i d)
+first_cover-at pc [] i d lt e before = absurd (omega arith)
+first_cover-at pc (f ∷ fs) zero d lt e before = rw e refl
+first_cover-at pc (f ∷ fs) (suc i) d lt e before =
+    let no : covers pc f ≡ false = before 0 (omega arith) in
+    rw no (first_cover-at pc fs i d (omega arith) e (λ j h. before (suc j) (omega arith)))
+
+first_cover-none : (pc : ℕ) (fs : List FdeRecord) → ((j : ℕ) (d : FdeRecord) → j < length fs → covers pc (get_or fs j d) ≡ false) → first_cover pc fs ≡ None
+first_cover-none pc [] none = refl
+first_cover-none pc (f ∷ fs) none =
+    let no : covers pc f ≡ false = none 0 f (omega arith) in
+    rw no (first_cover-none pc fs (λ j d h. none (suc j) d (omega arith)))
+
+refuted : (b : Bool) → (b ≡ true → ⊥) → b ≡ false
+refuted true h = absurd (h refl)
+refuted false h = refl
+
+not_empty : (pc : ℕ) (f : FdeRecord) → covers pc f ≡ true → 0 < f.range
+not_empty pc f e =
+    let parts = and_parts (nat_le f.first pc) (nat_lt pc (f.first + f.range)) e in
+    let low = leb-true _ _ parts.0 in
+    let high = ltb-true _ _ parts.1 in
+    omega (arith, low, high)
+
+pub permuted : (fs : List FdeRecord) (n : ℕ) (rs moved : List CoveredRange) → HasRanges fs n rs → IsPermutation rs moved → HasRanges fs n moved
+permuted fs n rs moved h p = record {
+  sound = All-permutation (IsRangeOf fs) rs moved p h.sound;
+  whole = λ i d lt within some. Contains-permutation rs moved (range_of i (get_or fs i d)) p (h.whole i d lt within some);
+}
+
+pub none_covers : (pc : ℕ) (fs : List FdeRecord) (rs : List CoveredRange) → HasRanges fs (length fs) rs → All (λ r. holds pc r ≡ false) rs → first_cover pc fs ≡ None
+none_covers pc fs rs h none = first_cover-none pc fs (λ j d lt.
+    refuted (covers pc (get_or fs j d)) (λ e.
+    let here = h.whole j d lt lt (not_empty pc (get_or fs j d) e) in
+    let not : covers pc (get_or fs j d) ≡ false = All-contains (λ r. holds pc r ≡ false) rs (range_of j (get_or fs j d)) none here in
+    let both : true ≡ false = sym e ∙ not in
+    absurd cc))
+
+-- the range that has the address is of an FDE, and it is the first one that covers it
+pub one_covers : (pc : ℕ) (fs : List FdeRecord) (rs : List CoveredRange) (r : CoveredRange) (d : FdeRecord) → HasRanges fs (length fs) rs → are_apart rs ≡ true → Contains rs r → holds pc r ≡ true
+    → (r.fde < length fs) × (first_cover pc fs ≡ Some (get_or fs r.fde d))
+one_covers pc fs rs r d h up here e =
+    let of = All-contains (IsRangeOf fs) rs r h.sound here in
+    let is = of.1 d in
+    let at : covers pc (get_or fs r.fde d) ≡ true = subst (λ x. holds pc x ≡ true) is e in (
+      of.0,
+      first_cover-at pc fs r.fde d of.0 at (λ j lt.
+          refuted (covers pc (get_or fs j d)) (λ c.
+          let other = h.whole j d (omega arith) (omega arith) (not_empty pc (get_or fs j d) c) in
+          let same = one_holds rs pc (range_of j (get_or fs j d)) r up other here c e in
+          let number : j ≡ r.fde = ap (λ (x : CoveredRange). x.fde) same in
+          omega (arith, number, lt))),
+    )
