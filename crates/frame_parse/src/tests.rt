@@ -106,6 +106,54 @@ fn covers(rt: HostRuntime) -> Result<(), Fail> {
     Ok(())
 }
 
+/// S1 with its second FDE moved, or emptied: addresses and the FDE that covers each. The FDE's place is
+/// told by byte 64, the lowest of its distance, and its size by byte 68.
+const MOVED: [(usize, u8, &[(u64, Option<u64>)]); 3] = [
+    // It stands before the first FDE: their order isn't that of the bytes.
+    (
+        64,
+        0xb0,
+        &[
+            (0xfef, None),
+            (0xff0, Some(0xff0)),
+            (0xfff, Some(0xff0)),
+            (0x1000, Some(0x1000)),
+            (0x101f, Some(0x1000)),
+            (0x1020, None),
+        ],
+    ),
+    // It covers addresses of the first FDE, and some behind them: the first one counts.
+    (
+        64,
+        0xd8,
+        &[
+            (0x1017, Some(0x1000)),
+            (0x1018, Some(0x1000)),
+            (0x101f, Some(0x1000)),
+            (0x1020, Some(0x1018)),
+            (0x1027, Some(0x1018)),
+            (0x1028, None),
+        ],
+    ),
+    // It is empty.
+    (68, 0, &[(0x101f, Some(0x1000)), (0x1020, None)]),
+];
+
+#[test]
+fn covers_of_moved_fdes(rt: HostRuntime) -> Result<(), Fail> {
+    for (place, byte, covers) in MOVED {
+        let mut moved = S1;
+        if place < 84 {
+            moved[place] = byte;
+        }
+        let section = read(rt.alloc(), 0x2000, &moved)?;
+        for (pc, first) in covers {
+            assert_eq!(rt; first_at(&section, *pc), *first);
+        }
+    }
+    Ok(())
+}
+
 /// S1 without its last bytes: it is accepted where it ends with a record.
 #[test]
 fn cuts(rt: HostRuntime) {
@@ -236,6 +284,24 @@ fn expressions(rt: HostRuntime) {
         byte: 0x0f,
     };
     assert_eq!(rt; fault_of(rt.alloc(), 0x6000, &S3), Some(refused));
+}
+
+/// The fields of S2 and S3 with nops in the place of their expressions.
+#[test]
+fn fields_beside_expressions(rt: HostRuntime) -> Result<(), Fail> {
+    let mut without_rules = S2;
+    for place in 47..60 {
+        without_rules[place] = 0;
+    }
+    let found = ranges(rt.alloc(), &read(rt.alloc(), 0x3000, &without_rules)?)?;
+    assert_eq!(rt; found.as_slice(), [(0x1000, 0x30)].as_slice());
+    let mut without_rules = S3;
+    for place in 41..51 {
+        without_rules[place] = 0;
+    }
+    let found = ranges(rt.alloc(), &read(rt.alloc(), 0x6000, &without_rules)?)?;
+    assert_eq!(rt; found.as_slice(), [(0x5000, 0x10)].as_slice());
+    Ok(())
 }
 
 #[test]
