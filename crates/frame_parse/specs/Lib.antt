@@ -3,4 +3,5 @@ pub mod Fields
 pub mod Records
 pub mod Sections
 pub mod Lookups
+pub mod Reading
 pub mod Programs

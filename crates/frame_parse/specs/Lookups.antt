@@ -1,6 +1,6 @@
 -- The FDEs of a section in order of addresses, where no address is covered twice: then the first FDE
 -- that covers an address is the only one, and is found by halving.
-use Rattle.std.specs.Prelude.{◌≡◌, ℕ, ◌+◌, ◌<◌, ◌≤◌, List, [], ◌∷◌, length, get_or, Bool, true, nat_le, nat_lt, ◌&&◌, ⊤}
+use Rattle.std.specs.Prelude.{◌≡◌, ℕ, ◌+◌, ◌<◌, List, [], ◌∷◌, length, get_or, Bool, true, nat_le, nat_lt, ◌&&◌, ⊤}
 use Rattle.std.specs.List.{All, Contains}
 use Rattle.frame_parse.specs.declared.record.FdeRecord.{FdeRecord}
 use Rattle.frame_parse.specs.declared.lookup.CoveredRange.{CoveredRange}

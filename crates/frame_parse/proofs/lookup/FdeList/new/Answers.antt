@@ -1,5 +1,4 @@
-use Rattle.std.proofs.Common.{◌≡◌, sym, ◌∙◌, length}
-use Rattle.frame_parse.specs.Lookups.{Finds, HasRanges}
+use Rattle.std.proofs.Common.{sym, length}
 use Rattle.frame_parse.proofs.Lookups.{permuted}
 use Rattle.frame_parse.proofs.lookup.FdeList.new.Goals as goal
 use Rattle.frame_parse.proofs.lookup.FdeList.new.Goals.{then-are_apart, else-are_apart}
