@@ -10,10 +10,12 @@ use Rattle.eh_bytes.specs.Rest.{Rest}
 use Rattle.eh_bytes.specs.Rest as rest
 use Rattle.frame_parse.specs.declared.fault.FrameFault.{FrameFault}
 use Rattle.frame_parse.specs.declared.record.CieRecord.{CieRecord}
+use Rattle.frame_parse.specs.declared.record.FdeRecord.{FdeRecord}
 use Rattle.frame_parse.specs.declared.record.Record.{Record}
 use Rattle.frame_parse.specs.declared.record.Record.TheVariants.{Cie, Fde}
 use Rattle.frame_parse.specs.Records.{content, record_length, whole_record}
-use Rattle.frame_parse.specs.Sections.{is_end, with_record, AreRecords, cies_of, IsSection, IsRefused, HasOneAnswer}
+use Rattle.frame_parse.specs.Sections.{is_end, with_record, AreRecords, cies_of, IsSection, IsRefused, HasOneAnswer, HasFdes}
+use Rattle.frame_parse.specs.Reading.{read_all, section_of, IsAnswered}
 use Rattle.frame_parse.proofs.Exact.{left, Takes, ok_is, err_is}
 use Rattle.frame_parse.proofs.RecordWholes.{whole_record_exact}
 
@@ -76,11 +78,6 @@ not_end section p earlier front back r s =
     end_test (length (front ++ back)) (little_number 4 (front ++ back)) long (omega (arith, number, a.6))
 
 -- ---- reading the records in turn
-
-unfoldable read_all : ℕ → ℕ → List CieRecord → Rest → Result (List Record) FrameFault
-read_all zero section earlier r = Ok []
-read_all (suc n) section earlier r =
-    cond (is_end r.bytes) (Ok []) (rest.◌>>=◌ ((whole_record section earlier).read r) (λ x. rest.◌>>=◌ (read_all n section (with_record earlier x.0) x.1) (λ rs. Ok (x.0 ∷ rs))))
 
 -- records and their end are what reading gives
 section_read : (n section p : ℕ) (earlier : List CieRecord) (rs : List Record) (front back : List ℕ) → length (front ++ back) < n → AreRecords section p earlier front rs → is_end back ≡ true
@@ -225,3 +222,18 @@ one_answer section bytes = record {
   one_fault = λ f other s t. err_is {A = List Record} f other (sym (refusal_is_read section bytes f s) ∙ refusal_is_read section bytes other t);
   not_both = λ rs f s t. let both = sym (section_is_read section bytes rs s) ∙ refusal_is_read section bytes f t in cc;
 }
+
+of_section : (address : ℕ) (bytes : List ℕ) (fdes : List FdeRecord) (s : HasFdes address bytes fdes) → section_of address bytes ≡ Ok (record { address = address; bytes = bytes; fdes = fdes })
+unfolding section_of HasFdes
+of_section address bytes fdes s =
+    let read = section_is_read address bytes s.0 s.1 in
+    rw (read, s.2) refl
+
+of_refusal : (address : ℕ) (bytes : List ℕ) (f : FrameFault) → IsRefused address bytes f → section_of address bytes ≡ Err f
+unfolding section_of
+of_refusal address bytes f s =
+    let read = refusal_is_read address bytes f s in
+    rw read refl
+
+pub answered : (address : ℕ) (bytes : List ℕ) → IsAnswered address bytes
+answered address bytes = record { contents = of_section address bytes; refusal = of_refusal address bytes }

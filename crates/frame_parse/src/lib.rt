@@ -27,7 +27,7 @@ pub use handout::Program;
 pub use instruction::{Instruction, Operation, ReadRule, Step};
 pub use laws::steps_are_ordered;
 pub use record::{Augmentation, CieRecord, Extent, FdeRecord, Record};
-pub use section::{Section, one_answer};
+pub use section::{Section, one_answer, section_is_answered};
 pub use state::{Remembered, State};
 
 #[cfg(test)]

@@ -5,6 +5,7 @@ ghost use Rattle.std.specs.Option.{option_map};
 ghost use Rattle.frame_parse.specs.Part.{Gives};
 ghost use Rattle.frame_parse.specs.Records.{content, record_length, whole_record};
 ghost use Rattle.frame_parse.specs.Sections.{is_end, starts, IsAscending, BeginsAt, HasFdes, IsRefused, first_cover, HasOneAnswer};
+ghost use Rattle.frame_parse.specs.Reading.{IsAnswered};
 
 use crate::cie::cie;
 use crate::fault::FrameFault;
@@ -209,4 +210,9 @@ fn entry_at(fdes: &[FdeRecord], index: usize) -> &FdeRecord
 /// Each list of bytes has one list of records or one first refusal, never both.
 pub fn one_answer()
     ensures { (address : ℕ) (bytes : List ℕ) → HasOneAnswer address bytes }
+{}
+
+/// `section_of` is that answer: of a section its contents, of any other bytes their first refusal.
+pub fn section_is_answered()
+    ensures { (address : ℕ) (bytes : List ℕ) → IsAnswered address bytes }
 {}
