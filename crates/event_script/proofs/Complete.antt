@@ -20,7 +20,7 @@ use Rattle.event_script.specs.declared.reader.kinds.Kind.TheVariants as kind
 use Rattle.hex.specs.Hex.{IsBytes}
 use Rattle.frame_parse.specs.Sections.{Contents}
 use Rattle.frame_parse.specs.declared.fault.FrameFault.{FrameFault}
-use Rattle.event_script.specs.Section.{section_of}
+use Rattle.frame_parse.specs.Reading.{section_of}
 use Rattle.event_script.specs.ScriptData.{IsSectionOf}
 use Rattle.event_script.specs.Reading.{ImageData, section_or}
 use Rattle.event_script.specs.Spelling.{section_text, script_text}

@@ -15,10 +15,10 @@ use Rattle.frame_parse.specs.declared.fault.FrameFault.TheVariants as frame_faul
 use Rattle.frame_parse.specs.declared.record.Record.{Record}
 use Rattle.frame_parse.specs.declared.record.FdeRecord.{FdeRecord}
 use Rattle.frame_parse.specs.Sections.{Contents, HasFdes, IsSection, IsRefused, fdes_of}
-use Rattle.frame_parse.proofs.OneAnswer.{one_answer}
+use Rattle.frame_parse.specs.Reading.{section_of}
+use Rattle.frame_parse.proofs.OneAnswer.{one_answer, answered}
 use Rattle.event_script.specs.Lower.{is_lower}
 use Rattle.event_script.specs.Fields.{bytes_if, bytes_in}
-use Rattle.event_script.specs.Section.{section_from, section_of}
 use Rattle.event_script.specs.Spelling.{section_text}
 use Rattle.event_script.specs.Reading.{IsOfBytes}
 use Rattle.event_script.specs.declared.reader.fault.Reason.TheVariants as reason
@@ -192,31 +192,22 @@ module _ (address : ℕ) (bytes : List ℕ) where
   some_answer = ((rs : List Record) × IsSection address bytes rs) ⊎ ((f : FrameFault) × IsRefused address bytes f)
 
   pub section_ok : (fdes : List FdeRecord) → HasFdes address bytes fdes → section_of address bytes ≡ Ok (record { address = address; bytes = bytes; fdes = fdes })
-  unfolding section_of HasFdes
-  section_ok fdes has = by (one_answer address bytes).some
-    where
-      by : (answer : some_answer) → section_from address bytes answer ≡ Ok (record { address = address; bytes = bytes; fdes = fdes })
-      by (inl found) = ap (λ (x : List FdeRecord). Ok (record { address = address; bytes = bytes; fdes = x })) (ap fdes_of ((one_answer address bytes).one_list found.0 has.0 found.1 has.1) ∙ has.2)
-      by (inr refused) = absurd ((one_answer address bytes).not_both has.0 refused.0 has.1 refused.1)
+  section_ok = (answered address bytes).contents
 
   pub section_bad : (f : FrameFault) → IsRefused address bytes f → section_of address bytes ≡ Err f
-  unfolding section_of
-  section_bad f is = by (one_answer address bytes).some
-    where
-      by : (answer : some_answer) → section_from address bytes answer ≡ Err f
-      by (inl found) = absurd ((one_answer address bytes).not_both found.0 f found.1 is)
-      by (inr refused) = ap Err ((one_answer address bytes).one_fault refused.0 f refused.1 is)
+  section_bad = (answered address bytes).refusal
 
   -- what was found is a section
   pub section_is : (section : Contents) → section_of address bytes ≡ Ok section → (section.address ≡ address) × (section.bytes ≡ bytes) × HasFdes section.address section.bytes section.fdes
-  unfolding section_of HasFdes
-  section_is section e = by (one_answer address bytes).some e
+  unfolding HasFdes
+  section_is section e = by (one_answer address bytes).some
     where
-      by : (answer : some_answer) → section_from address bytes answer ≡ Ok section → (section.address ≡ address) × (section.bytes ≡ bytes) × HasFdes section.address section.bytes section.fdes
-      by (inl found) e =
+      by : some_answer → (section.address ≡ address) × (section.bytes ≡ bytes) × HasFdes section.address section.bytes section.fdes
+      by (inl found) =
+          let is = section_ok (fdes_of found.0) (found.0, found.1, refl) in
           let same : record { address = address; bytes = bytes; fdes = fdes_of found.0 } ≡ section = cc in
           subst (λ (s : Contents). (s.address ≡ address) × (s.bytes ≡ bytes) × HasFdes s.address s.bytes s.fdes) same (refl, refl, (found.0, found.1, refl))
-      by (inr refused) e = absurd cc
+      by (inr refused) = (let is = section_bad refused.0 refused.1 in absurd cc)
 
   -- a section that was read is the one that the bytes are
   pub section_ok_of : (section : Contents) → section.address ≡ address → section.bytes ≡ bytes → HasFdes address bytes section.fdes → section_of address bytes ≡ Ok section

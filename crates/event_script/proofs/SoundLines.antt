@@ -10,7 +10,7 @@ use Rattle.event_script.specs.ScriptData.{IsSectionOf}
 use Rattle.event_script.specs.Reading.{ImageData, section_or, with_image}
 use Rattle.frame_parse.specs.declared.fault.FrameFault.{FrameFault}
 use Rattle.frame_parse.specs.Sections.{Contents}
-use Rattle.event_script.specs.Section.{section_of}
+use Rattle.frame_parse.specs.Reading.{section_of}
 use Rattle.event_script.proofs.Sections.{section_is}
 use Rattle.reg_model.specs.Interval.{Interval, IsSpan}
 use Rattle.event_script.specs.declared.script.Event.{Event}

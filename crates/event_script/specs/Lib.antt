@@ -2,7 +2,6 @@ pub mod ScriptData
 pub mod Spelling
 pub mod Fields
 pub mod Lower
-pub mod Section
 pub mod Reading
 pub mod Fault
 pub mod FaultText

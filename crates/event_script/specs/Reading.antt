@@ -7,7 +7,7 @@ use Rattle.reg_model.specs.Interval.{Interval}
 use Rattle.frame_parse.specs.Sections.{Contents}
 use Rattle.frame_parse.specs.declared.fault.FrameFault.{FrameFault}
 use Rattle.frame_parse.specs.declared.fault.FrameFault.TheVariants as frame_fault
-use Rattle.event_script.specs.Section.{section_of}
+use Rattle.frame_parse.specs.Reading.{section_of}
 use Rattle.event_script.specs.ScriptData.{ScriptData}
 use Rattle.event_script.specs.Spelling.{IsScript}
 use Rattle.event_script.specs.Fields.{pieces, is_printable, decimal_in, hex_in, bytes_in}

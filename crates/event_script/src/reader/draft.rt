@@ -2,7 +2,7 @@
 
 ghost use Rattle.std.specs.Prelude.{◌≡◌, ◌≤◌, length, IfOk};
 ghost use Rattle.event_script.specs.Fields.{fields_behind};
-ghost use Rattle.event_script.specs.Section.{section_of};
+ghost use Rattle.frame_parse.specs.Reading.{section_of};
 ghost use Rattle.event_script.specs.Reading.{Gives, section_or, nothing_known, threads_at, rounds_at, version_line, nodes_line, loads_line, image_line, round_line, thread_line, register_line, deregister_line, find_line, end_line, line_of, after_line, at_end};
 
 use crate::reader::fault::{LineFault, Reason};
