@@ -10,7 +10,7 @@ use Rattle.frame_expr.specs.declared.operation.Code.{Code}
 use Rattle.frame_expr.specs.declared.fault.ExprFault.{ExprFault}
 use Rattle.frame_expr.specs.declared.fault.ExprFault.TheVariants as faults
 use Rattle.frame_expr.specs.Operations.{code_of, operand_at, is_absent, operation_with, with_operand, Begins, Spells}
-use Rattle.frame_expr.specs.Depth.{fits, behind, is_pick, is_early}
+use Rattle.frame_expr.specs.Depth.{fits, behind, is_pick, byte_fits}
 use Rattle.frame_expr.specs.Expressions.{HasNoOperand, LacksEntries, HasFault, placed, checked, with_number, coded, by_code, step}
 use Rattle.eh_bytes.specs.Rest.{fixed_at}
 use Rattle.frame_expr.proofs.Operands.{no_encoding, first_byte}
@@ -56,7 +56,7 @@ early : (b c : Bool) → (b ≡ false → c ≡ true) → (b || c) ≡ true
 early true c f = refl
 early false c f = f refl
 
-early_fits : (d n : ℕ) (c : Code) → fits d (with_operand n c) ≡ true → is_early d c.operation ≡ true
+early_fits : (d n : ℕ) (c : Code) → fits d (with_operand n c) ≡ true → byte_fits d c.operation ≡ true
 early_fits d n c e = early (is_pick c.operation) (fits d c.operation) (λ plain. sym (placed_same d n c.operation (is_absent c.operand) plain) ∙ e)
 
 -- ---- what was read is spelled
@@ -96,7 +96,7 @@ code_ok : (d : ℕ) (r : Rest) (b : ℕ) (q : Option Code) (o : Operation) (k : 
     → Spells r o m × (fits d o ≡ true) × (k ≡ behind d o)
 code_ok d r b None o k m s known e = absurd cc
 code_ok d r b (Some c) o k m s known e =
-    let t = tested (is_early d c.operation) (with_number d r.at c (placed (operand_at c.operand (after 1 r)))) (faults.Depth r.at) (stepped o k m) e in
+    let t = tested (byte_fits d c.operation) (with_number d r.at c (placed (operand_at c.operand (after 1 r)))) (faults.Depth r.at) (stepped o k m) e in
     let n = number_ok d r.at c (placed (operand_at c.operand (after 1 r))) o k m t.1 in
     let read = placed_ok (operand_at c.operand (after 1 r)) (n.number, m) n.read in
     ((b, c, n.number, s, known, read, sym n.is), subst (λ (p : Operation). fits d p ≡ true) n.is n.fit, sym n.deep ∙ ap (behind d) n.is)
@@ -110,7 +110,7 @@ step_ok d r (b ∷ bs) o k m same e = code_ok d r b (code_of b) o k m (bs, same)
 fault_is : (f g : ExprFault) → stopped f ≡ stopped g → f ≡ g
 fault_is f g e = cc
 
-number_err : (d : ℕ) (r : Rest) (b : ℕ) (c : Code) (q : Result (ℕ × Rest) ByteFault) (f : ExprFault) → Begins r b → code_of b ≡ Some c → is_early d c.operation ≡ true
+number_err : (d : ℕ) (r : Rest) (b : ℕ) (c : Code) (q : Result (ℕ × Rest) ByteFault) (f : ExprFault) → Begins r b → code_of b ≡ Some c → byte_fits d c.operation ≡ true
     → operand_at c.operand (after 1 r) ≡ q → with_number d r.at c (placed q) ≡ stopped f → HasFault d r f
 number_err d r b c (Err (bytes.Short p)) f s known soon read e =
     subst (λ (g : ExprFault). HasFault d r g) (fault_is (faults.Short p) f e) (b, c, s, known, soon, read)
@@ -125,9 +125,9 @@ number_err d r b c (Ok x) f s known soon read e = number_lacks (fits d (with_ope
 
 code_err : (d : ℕ) (r : Rest) (b : ℕ) (q : Option Code) (f : ExprFault) → Begins r b → code_of b ≡ q → by_code d r b q ≡ stopped f → HasFault d r f
 code_err d r b None f s known e = subst (λ (g : ExprFault). HasFault d r g) (fault_is (faults.Operation r.at b) f e) (refl, s, known)
-code_err d r b (Some c) f s known e = soon_or_not (is_early d c.operation) refl e
+code_err d r b (Some c) f s known e = soon_or_not (byte_fits d c.operation) refl e
   where
-    soon_or_not : (t : Bool) → is_early d c.operation ≡ t → cond t (with_number d r.at c (placed (operand_at c.operand (after 1 r)))) (stopped (faults.Depth r.at)) ≡ stopped f → HasFault d r f
+    soon_or_not : (t : Bool) → byte_fits d c.operation ≡ t → cond t (with_number d r.at c (placed (operand_at c.operand (after 1 r)))) (stopped (faults.Depth r.at)) ≡ stopped f → HasFault d r f
     soon_or_not true soon e = number_err d r b c (operand_at c.operand (after 1 r)) f s known soon refl e
     soon_or_not false soon e = subst (λ (g : ExprFault). HasFault d r g) (fault_is (faults.Depth r.at) f e) (refl, inr (b, c, s, known, inl soon))
 
@@ -140,7 +140,7 @@ step_err d r (b ∷ bs) f same some e = code_err d r b (code_of b) f (bs, same) 
 pub by_byte : (d : ℕ) (r : Rest) (b : ℕ) (q : Option Code) → Begins r b → code_of b ≡ q → step d r r.bytes ≡ by_code d r b q
 by_byte d r b q s known = ap (step d r) s.1 ∙ ap (by_code d r b) known
 
-by_operand : (d p : ℕ) (c : Code) (r : Rest) (q : Result (ℕ × Rest) ByteFault) → is_early d c.operation ≡ true → operand_at c.operand r ≡ q → coded d p c r ≡ with_number d p c (placed q)
+by_operand : (d p : ℕ) (c : Code) (r : Rest) (q : Result (ℕ × Rest) ByteFault) → byte_fits d c.operation ≡ true → operand_at c.operand r ≡ q → coded d p c r ≡ with_number d p c (placed q)
 by_operand d p c r q soon read =
     ap (λ (t : Bool). cond t (with_number d p c (placed (operand_at c.operand r))) (stopped (faults.Depth p))) soon
     ∙ ap (λ (x : Result (ℕ × Rest) ByteFault). with_number d p c (placed x)) read
@@ -148,7 +148,7 @@ by_operand d p c r q soon read =
 by_depth : (t : Bool) (d p : ℕ) (o : Operation) (m : Rest) (b : Bool) → b ≡ t → checked b d p o m ≡ checked t d p o m
 by_depth t d p o m b e = ap (λ (x : Bool). checked x d p o m) e
 
-late : (d p : ℕ) (c : Code) (r : Rest) → is_early d c.operation ≡ false → coded d p c r ≡ stopped (faults.Depth p)
+late : (d p : ℕ) (c : Code) (r : Rest) → byte_fits d c.operation ≡ false → coded d p c r ≡ stopped (faults.Depth p)
 late d p c r soon = ap (λ (t : Bool). cond t (with_number d p c (placed (operand_at c.operand r))) (stopped (faults.Depth p))) soon
 
 pub spelled_step : (d : ℕ) (r : Rest) (o : Operation) (m : Rest) → Spells r o m → fits d o ≡ true → step d r r.bytes ≡ went o (behind d o) m

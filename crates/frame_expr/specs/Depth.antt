@@ -63,5 +63,5 @@ is_pick (Binary k) = false
 is_pick (Compare k) = false
 
 -- what the operation's byte alone says of the depth: nothing of pick's, which its operand tells
-abbrev pub is_early : ℕ → Operation → Bool
-is_early d o = is_pick o || fits d o
+abbrev pub byte_fits : ℕ → Operation → Bool
+byte_fits d o = is_pick o || fits d o

@@ -8,7 +8,7 @@ use Rattle.frame_expr.specs.declared.operation.Code.{Code}
 use Rattle.frame_expr.specs.declared.fault.ExprFault.{ExprFault}
 use Rattle.frame_expr.specs.declared.fault.ExprFault.TheVariants as faults
 use Rattle.frame_expr.specs.Operations.{code_of, operand_at, with_operand, Begins, Spells}
-use Rattle.frame_expr.specs.Depth.{fits, behind, is_early}
+use Rattle.frame_expr.specs.Depth.{fits, behind, byte_fits}
 
 -- From one place to another the bytes spell these operations one behind another, and each finds its entries: first
 -- the depth of the stack and the rest of the bytes before them, then both behind them.
@@ -28,13 +28,13 @@ IsExpr depth bytes os = (e : ℕ) × (rest : Rest) × AreOperations depth (whole
 
 -- the operand of the next operation can't be read, for this cause
 abbrev pub HasNoOperand : ℕ → Rest → ByteFault → Type 0
-HasNoOperand d r f = (b : ℕ) × (c : Code) × Begins r b × (code_of b ≡ Some c) × (is_early d c.operation ≡ true) × (operand_at c.operand (after 1 r) ≡ Err f)
+HasNoOperand d r f = (b : ℕ) × (c : Code) × Begins r b × (code_of b ≡ Some c) × (byte_fits d c.operation ≡ true) × (operand_at c.operand (after 1 r) ≡ Err f)
 
 -- The next operation doesn't find its entries, or leaves too many. Its byte tells, or with pick its operand.
 abbrev pub LacksEntries : ℕ → Rest → Type 0
 LacksEntries d r = (b : ℕ) × (c : Code) × Begins r b × (code_of b ≡ Some c)
-    × ((is_early d c.operation ≡ false)
-    ⊎ ((is_early d c.operation ≡ true) × ((n : ℕ) × (rest : Rest) × (operand_at c.operand (after 1 r) ≡ Ok (n, rest)) × (fits d (with_operand n c) ≡ false))))
+    × ((byte_fits d c.operation ≡ false)
+    ⊎ ((byte_fits d c.operation ≡ true) × ((n : ℕ) × (rest : Rest) × (operand_at c.operand (after 1 r) ≡ Ok (n, rest)) × (fits d (with_operand n c) ≡ false))))
 
 -- with so many entries on the stack, what stands here is refused for this cause
 abbrev pub HasFault : ℕ → Rest → ExprFault → Type 0
@@ -66,7 +66,7 @@ with_number d at c (Err f) = Err f
 
 -- behind an operation's byte
 abbrev pub coded : ℕ → ℕ → Code → Rest → Result ((Operation × ℕ) × Rest) ExprFault
-coded d at c r = if is_early d c.operation then with_number d at c (placed (operand_at c.operand r)) else Err (faults.Depth at)
+coded d at c r = if byte_fits d c.operation then with_number d at c (placed (operand_at c.operand r)) else Err (faults.Depth at)
 
 abbrev pub by_code : ℕ → Rest → ℕ → Option Code → Result ((Operation × ℕ) × Rest) ExprFault
 by_code d r b None = Err (faults.Operation r.at b)
