@@ -1,8 +1,9 @@
 //! The value of an expression.
 
-ghost use Rattle.std.specs.Prelude.{◌≡◌, ◌<◌, ◌≤◌, length, get_or, true, if◌then◌else◌};
+ghost use Rattle.std.specs.Prelude.{◌≡◌, ◌<◌, ◌≤◌, length, drop, get_or, true, if◌then◌else◌};
 ghost use Rattle.frame_expr.specs.Depth.{fits};
-ghost use Rattle.frame_expr.specs.Values.{unary, binary, compare, after, Leaves, stack_of, IsValue};
+ghost use Rattle.frame_expr.specs.Regions.{word_at};
+ghost use Rattle.frame_expr.specs.Values.{unary, binary, compare, entry, loaded, after, Leaves, stack_of, IsValue};
 
 use crate::expr::{Expr, next};
 use crate::fault::NoBytes;
@@ -65,6 +66,23 @@ fn column_of(regs: &Regs, column: u8) -> u64
     }
 }
 
+/// Puts the eight bytes at the top's address in the place of the top.
+fn load(stack: &mut Stack, memory: &Memory) -> Result<(), NoBytes>
+    requires { 0 < length stack.old }
+    ensures { Leaves
+        (loaded (entry 0 stack.old) (drop 1 stack.old) (word_at (entry 0 stack.old) memory.now))
+        result stack.new }
+{
+    let address = stack.entry(0);
+    match memory.word(address) {
+        Some(number) => {
+            stack.replace(number);
+            Ok(())
+        }
+        None => Err(NoBytes { address }),
+    }
+}
+
 /// Does what an operation says.
 fn apply(
     stack: &mut Stack,
@@ -81,59 +99,24 @@ fn apply(
         Operation::Breg { column, offset } => {
             stack.push(column_of(regs, *column).wrapping_add(*offset));
         }
-        Operation::Deref => {
-            let address = stack.pop();
-            match memory.word(address) {
-                Some(number) => stack.push(number),
-                None => return Err(NoBytes { address }),
-            }
-        }
-        Operation::Dup => {
-            let number = stack.entry(0);
-            stack.push(number);
-        }
+        Operation::Deref => return load(stack, memory),
+        Operation::Dup => stack.copy(0),
         Operation::Drop => {
             let _ = stack.pop();
         }
-        Operation::Over => {
-            let number = stack.entry(1);
-            stack.push(number);
-        }
-        Operation::Pick { index } => {
-            let number = stack.entry(*index as usize);
-            stack.push(number);
-        }
-        Operation::Swap => {
-            let top = stack.pop();
-            let below = stack.pop();
-            stack.push(top);
-            stack.push(below);
-        }
-        Operation::Rot => {
-            let top = stack.pop();
-            let second = stack.pop();
-            let third = stack.pop();
-            stack.push(top);
-            stack.push(third);
-            stack.push(second);
-        }
-        Operation::Unary { by } => {
-            let top = stack.pop();
-            stack.push(unary(*by, top));
-        }
-        Operation::PlusUconst { number } => {
-            let top = stack.pop();
-            stack.push(top.wrapping_add(*number));
-        }
+        Operation::Over => stack.copy(1),
+        Operation::Pick { index } => stack.copy(*index as usize),
+        Operation::Swap => stack.swap(),
+        Operation::Rot => stack.rot(),
+        Operation::Unary { by } => stack.replace(unary(*by, stack.entry(0))),
+        Operation::PlusUconst { number } => stack.replace(stack.entry(0).wrapping_add(*number)),
         Operation::Binary { by } => {
             let right = stack.pop();
-            let left = stack.pop();
-            stack.push(binary(*by, left, right));
+            stack.replace(binary(*by, stack.entry(0), right));
         }
         Operation::Compare { by } => {
             let right = stack.pop();
-            let left = stack.pop();
-            stack.push(if compare(*by, left, right) { 1 } else { 0 });
+            stack.replace(compare(*by, stack.entry(0), right) as u64);
         }
     }
     Ok(())
