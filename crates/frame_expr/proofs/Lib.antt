@@ -1,0 +1,5 @@
+mod Ascending
+mod Operands
+mod Steps
+mod Reading
+mod Going

@@ -1,0 +1,5 @@
+use Rattle.frame_expr.proofs.Reading.{one_answer}
+use Rattle.frame_expr.proofs.expr.one_answer.Goals as goal
+
+pub returns : goal.returns
+returns c = one_answer

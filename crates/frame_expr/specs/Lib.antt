@@ -1,0 +1,5 @@
+pub mod Regions
+pub mod Operations
+pub mod Depth
+pub mod Expressions
+pub mod Values

@@ -1,0 +1,199 @@
+//! Recorded memory: a list of regions, of which each is an address and the bytes from there on.
+
+ghost use Rattle.std.specs.Prelude.{◌≡◌, ◌<◌, ◌≤◌, ◌+◌, ◌^◌, None, if◌then◌else◌, IfErr, ℕ, length, ◌++◌, ◌∷◌, [], slice_get, Some, OnOk, OnErr};
+ghost use Rattle.std.specs.Option.{option_map};
+ghost use Rattle.frame_expr.specs.Regions.{RegionData, end, holds, word_in, word_at, end_of, Accepts, IsRefused, AreRegions, AreFrom};
+
+use byteorder::{ByteOrder, LittleEndian};
+use std::alloc::{AllocError, AllocFailed, Global};
+use std::marker::Model;
+
+/// Why a region isn't recorded.
+#[derive(Clone, Copy, Debug, PartialEq, Eq)]
+pub enum RegionFault {
+    /// It has no bytes.
+    Empty,
+    /// Its address and its length come to more than 2^64 - 1.
+    End,
+    /// It isn't above the last byte of the region before.
+    Order,
+    /// Memory ran out, which says nothing of the region.
+    NoMemory,
+}
+
+impl From<AllocError> for RegionFault {
+    ghost use Rattle.frame_expr.specs.declared.memory.RegionFault.TheVariants.{NoMemory};
+
+    ghost from_gives = { λ _ e. e ≡ NoMemory };
+
+    fn from(_e: AllocError) -> RegionFault {
+        RegionFault::NoMemory
+    }
+}
+
+impl<T: Drop> From<AllocFailed<T>> for RegionFault {
+    ghost use Rattle.frame_expr.specs.declared.memory.RegionFault.TheVariants.{NoMemory};
+
+    ghost from_gives = { λ _ e. e ≡ NoMemory };
+
+    fn from(_e: AllocFailed<T>) -> RegionFault {
+        RegionFault::NoMemory
+    }
+}
+
+/// Bytes that stand one behind another from an address on.
+#[derive(Drop)]
+struct Region {
+    address: u64,
+    bytes: Vec<u8>,
+}
+
+impl Model for Region {
+    ghost use Rattle.frame_expr.specs.Regions.{RegionData};
+
+    ghost Value = { RegionData };
+
+    ghost view = { λ r. record { address = r.address; bytes = r.bytes.items } };
+}
+
+impl Region {
+    /// The first address behind it.
+    fn end(&self) -> u64
+        requires { end self.now < 2 ^ 64 }
+        ensures { result ≡ end self.now }
+    {
+        self.address + self.bytes.len() as u64
+    }
+
+    /// The eight bytes at an address as a number, where it holds all eight.
+    fn word(&self, address: u64) -> Option<u64>
+        requires { end self.now < 2 ^ 64 }
+        ensures { result ≡ (if holds address self.now then Some (word_in address self.now) else None) }
+    {
+        if address < self.address || self.bytes.len() < 8 {
+            return None;
+        }
+        let place = address - self.address;
+        if place > self.bytes.len() as u64 - 8 {
+            return None;
+        }
+        Some(LittleEndian::read_u64(&self.bytes[place as usize..]))
+    }
+}
+
+/// Recorded memory: regions that ascend and have no byte in common.
+#[derive(Drop)]
+pub struct Memory {
+    alloc: Global,
+    regions: Vec<Region>,
+}
+
+impl Model for Memory {
+    ghost use Rattle.std.specs.Prelude.{List};
+    ghost use Rattle.frame_expr.specs.Regions.{RegionData, AreRegions};
+
+    ghost Value = { List RegionData };
+
+    ghost view = { λ m. m.regions.items };
+
+    ghost invariant = { λ m. AreRegions m.regions.items };
+}
+
+impl Memory {
+    /// Memory without any region. It takes no memory itself.
+    pub fn new(alloc: Global) -> Memory
+        ensures { result ≡ [] }
+    {
+        Memory {
+            alloc,
+            regions: Vec::new(alloc),
+        }
+    }
+
+    /// The regions of a memory ascend and have no byte in common.
+    pub fn known(&self)
+        ensures { AreRegions self.now }
+    {
+        let _ = &self.regions;
+    }
+
+    /// Records a region above all that are recorded. The bytes are copied.
+    pub fn push_region(&mut self, address: u64, bytes: &[u8]) -> Result<(), RegionFault>
+        ensures ok { OnOk result (self.new ≡ self.old ++ record { address = address; bytes = bytes.now } ∷ []) }
+        ensures accepted { OnOk result (Accepts self.old address bytes.now) }
+        ensures refused { OnErr result (self.new ≡ self.old) }
+        ensures fault { IfErr result (IsRefused self.old address bytes.now) }
+    {
+        if bytes.is_empty() {
+            return Err(RegionFault::Empty);
+        }
+        if bytes.len() as u64 > u64::MAX - address {
+            return Err(RegionFault::End);
+        }
+        if address < end_of(&self.regions) {
+            return Err(RegionFault::Order);
+        }
+        let bytes = Vec::from_slice(self.alloc, bytes)?;
+        self.regions.push(Region { address, bytes })?;
+        Ok(())
+    }
+
+    /// How many regions there are.
+    pub fn count(&self) -> usize
+        ensures { result ≡ length self.now }
+    {
+        self.regions.len()
+    }
+
+    /// The address of a region, by its number in ascending order.
+    pub fn address(&self, index: usize) -> u64
+        requires { index < length self.now }
+        ensures { option_map (λ r. r.address) (slice_get self.now index) ≡ Some result }
+    {
+        self.regions[index].address
+    }
+
+    /// The bytes of a region, by its number in ascending order.
+    pub fn region(&self, index: usize) -> &[u8]
+        requires { index < length self.now }
+        ensures { option_map (λ r. r.bytes) (slice_get self.now index) ≡ Some result.now }
+    {
+        &self.regions[index].bytes
+    }
+
+    /// The eight bytes at an address as a number, the lowest first. `None` exactly where no single region
+    /// holds all eight.
+    pub fn word(&self, address: u64) -> Option<u64>
+        ensures { result ≡ word_at address self.now }
+    {
+        word_among(&self.regions, address)
+    }
+}
+
+/// The first address behind the last region, or 0.
+fn end_of(regions: &[Region]) -> u64
+    requires { AreRegions regions.now }
+    ensures { result ≡ end_of regions.now }
+{
+    match regions.last() {
+        None => 0,
+        Some(region) => region.end(),
+    }
+}
+
+/// The word at an address. The regions ascend, so half of those that are left are passed by at a time.
+fn word_among(regions: &[Region], address: u64) -> Option<u64>
+    requires { AreRegions regions.now }
+    ensures { result ≡ word_at address regions.now }
+{
+    let mut left = regions;
+    while left.len() > 1 {
+        let (low, high) = left.split_at(left.len() / 2);
+        let first = &high[0];
+        left = if first.address <= address { high } else { low };
+    }
+    match left {
+        [region, ..] => region.word(address),
+        [] => None,
+    }
+}
