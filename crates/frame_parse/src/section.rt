@@ -102,7 +102,8 @@ fn fdes_of(alloc: Global, section: u64, bytes: &[u8]) -> Result<Vec<FdeRecord>, 
 {
     let mut cursor = Cursor::new(bytes, 0, bytes.len());
     let mut cies = Vec::new(alloc);
-    let mut fdes = Vec::new(alloc);
+    // An FDE of GCC's has 24 bytes at least, and mostly more.
+    let mut fdes = Vec::with_capacity(alloc, bytes.len() / 24)?;
     while !is_end(cursor.rest()) {
         match whole_record(&mut cursor, section, &cies)? {
             Record::Cie(cie) => cies.push(cie)?,

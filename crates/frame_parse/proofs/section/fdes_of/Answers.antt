@@ -4,8 +4,8 @@ use Rattle.frame_parse.specs.Sections.{is_end}
 use Rattle.frame_parse.proofs.SoFar.{next_cie, next_fde, all_read, none_further}
 use Rattle.frame_parse.proofs.section.fdes_of.Goals as goal
 
-pub loop-cursor-preserved-in-Continue-branch-3 : goal.loop-cursor-preserved-in-Continue-branch-3
-loop-cursor-preserved-in-Continue-branch-3 c =
+pub loop-cursor-preserved-in-Continue-branch-4 : goal.loop-cursor-preserved-in-Continue-branch-4
+loop-cursor-preserved-in-Continue-branch-4 c =
     let was = c.loop-cursor in
     let read = rw (c.deref.ensures.value, c.in-Cie.is) at c.in_ok-cie.ensures.read in
     let start = rw c.in-Cie.is at c.in_ok-cie.ensures.start in
@@ -25,7 +25,7 @@ returns-in_err-cie-clause-refused c =
     let read = rw c.deref.ensures.value at c.in_err-cie.ensures.read in
     let on : is_end was.cursor.bytes ≡ false = ap is_end (sym c.rest.ensures) ∙ sym c.loop-cursor-test.ensures in
     let refused = none_further c.args.section c.args.bytes.now was.cursor was.cies.items was.fdes.items c.in_err-cie.field-0.0 was.invariant on read in
-    let p = err_from_is_err_and c.from_residual.result c.from_residual.ensures.1 in
+    let p = err_from_is_err_and c.from_residual-in_err-cie.result c.from_residual-in_err-cie.ensures.1 in
     rw (p.1, p.2) (inr refused)
 
 pub returns-clause-found : goal.returns-clause-found
