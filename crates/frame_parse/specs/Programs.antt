@@ -77,6 +77,10 @@ plain_operation start section c at b =
     (when (b == 46) (uleb start >>= λ n. give (other Nop))
     (refuse (faults.Opcode start at b))))))))))))))))))))))
 
+-- the instructions of these bytes are read in place: nop, advance_loc1, remember_state, restore_state, def_cfa_offset
+abbrev pub is_frequent : ℕ → Bool
+is_frequent b = b == 0 || b == 2 || b == 10 || b == 11 || b == 14
+
 -- the two high bits of the byte are an instruction with an operand in the low six, or none
 unfoldable pub operation : ℕ → ℕ → CieRecord → Part Operation
 operation start section c = do

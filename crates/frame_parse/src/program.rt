@@ -1,10 +1,10 @@
 //! Instructions, read one by one and tested on the way.
 
-ghost use Rattle.std.specs.Prelude.{◌≡◌, ◌<◌, ◌≤◌, ◌+◌, ◌*◌, ◌%◌, ◌^◌, ◌⊎◌, length, nat_lt, if◌then◌else◌, Some, None, IfOk};
+ghost use Rattle.std.specs.Prelude.{◌≡◌, ◌<◌, ◌≤◌, ◌+◌, ◌*◌, ◌%◌, ◌^◌, ◌⊎◌, length, false, nat_lt, if◌then◌else◌, Some, None, IfOk};
 ghost use Rattle.std.specs.Int.{w64, cast_unsigned};
 ghost use Rattle.frame_parse.specs.Part.{Gives, Leaves};
 ghost use Rattle.frame_parse.specs.declared.instruction.ReadRule.TheVariants as rules;
-ghost use Rattle.frame_parse.specs.Programs.{other, factored, set, restored, cfa_column, second_column, plain_operation, operation, effect_of, effect, instruction_of, step, steps_from, initial_state, first_state};
+ghost use Rattle.frame_parse.specs.Programs.{is_frequent, other, factored, set, restored, cfa_column, second_column, plain_operation, operation, effect_of, effect, instruction_of, step, steps_from, initial_state, first_state};
 
 use crate::fault::FrameFault;
 use crate::fields::{byte, id, pair, pointer, sleb, uleb};
@@ -115,7 +115,8 @@ fn other(instruction: Instruction) -> Operation
     Operation::Other { instruction }
 }
 
-/// The instructions whose operands aren't in their byte.
+/// The instructions whose operands aren't in their byte. Those of which compilers write most are here, so
+/// that they are read in place.
 #[inline(always)]
 #[tactic(auto, unfolding(crate::specs::Programs::plain_operation))]
 fn plain_operation(
@@ -131,13 +132,38 @@ fn plain_operation(
 {
     match byte {
         0x00 => Ok(other(Instruction::Nop)),
+        0x02 => Ok(Operation::Advance {
+            delta: crate::fields::byte(start, cursor)? as u64,
+        }),
+        0x0a => Ok(other(Instruction::Remember)),
+        0x0b => Ok(other(Instruction::RestoreState)),
+        0x0e => Ok(other(Instruction::CfaOffset {
+            by: uleb(start, cursor)?,
+        })),
+        _ => rarer_operation(start, cursor, section, cie, at, byte),
+    }
+}
+
+/// The others.
+#[inline(never)]
+#[tactic(auto, unfolding(crate::specs::Programs::plain_operation))]
+fn rarer_operation(
+    start: usize,
+    cursor: &mut Cursor,
+    section: u64,
+    cie: &CieRecord,
+    at: usize,
+    byte: u8,
+) -> Result<Operation, FrameFault>
+    requires { is_frequent byte ≡ false }
+    ensures { Gives (λ o. o) (plain_operation start section cie.now at byte).read
+        cursor.old result cursor.new }
+{
+    match byte {
         0x01 => {
             let address = pointer(start, cursor, section, cie.augmentation.pointers)?;
             Ok(Operation::SetLocation { address })
         }
-        0x02 => Ok(Operation::Advance {
-            delta: crate::fields::byte(start, cursor)? as u64,
-        }),
         0x03 => Ok(Operation::Advance {
             delta: pair(start, cursor)? as u64,
         }),
@@ -157,8 +183,6 @@ fn plain_operation(
             let second = second_column(start, cursor, first)?;
             Ok(register(first, second))
         }
-        0x0a => Ok(other(Instruction::Remember)),
-        0x0b => Ok(other(Instruction::RestoreState)),
         0x0c => {
             let column = cfa_column(start, cursor)?;
             let by = uleb(start, cursor)?;
@@ -166,9 +190,6 @@ fn plain_operation(
         }
         0x0d => Ok(other(Instruction::CfaColumn {
             column: cfa_column(start, cursor)?,
-        })),
-        0x0e => Ok(other(Instruction::CfaOffset {
-            by: uleb(start, cursor)?,
         })),
         0x11 => {
             let column = uleb(start, cursor)?;
