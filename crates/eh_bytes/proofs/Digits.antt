@@ -131,6 +131,18 @@ uleb_at-byte (b ∷ bs) at some low =
     let fits : nat_lt b (2 ^ 64) ≡ true = lt-ltb _ _ (omega arith) in
     rw (last, digit, fits) refl
 
+-- a number of two bytes
+pub uleb_at-two : (bs : List ℕ) (at : ℕ) → 1 < length bs → 128 ≤ get_or bs 0 0 → get_or bs 1 0 < 128 → uleb_at (record { bytes = bs; at = at }) ≡ Ok (get_or bs 0 0 % 128 + 128 * get_or bs 1 0, record { bytes = drop 2 bs; at = at + 2 })
+unfolding leb_len uleb_of uleb_value
+uleb_at-two [] at some first last = absurd (omega arith)
+uleb_at-two (b ∷ []) at some first last = absurd (omega arith)
+uleb_at-two (b ∷ c ∷ bs) at some first last =
+    let more : nat_lt b 128 ≡ false = le-ltb _ _ first in
+    let whole : nat_lt c 128 ≡ true = lt-ltb _ _ last in
+    let digit : c % 128 + 0 ≡ c = omega arith in
+    let fits : nat_lt (b % 128 + 128 * c) (2 ^ 64) ≡ true = lt-ltb _ _ (omega arith) in
+    rw (more, whole, digit, fits) refl
+
 pub sleb_at-byte : (bs : List ℕ) (at : ℕ) → 0 < length bs → get_or bs 0 0 < 128 → sleb_at (record { bytes = bs; at = at }) ≡ Ok (signed_digit (get_or bs 0 0), record { bytes = drop 1 bs; at = at + 1 })
 unfolding leb_len sleb_of sleb_value
 sleb_at-byte [] at some low = absurd (omega arith)

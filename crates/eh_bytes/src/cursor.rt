@@ -10,22 +10,23 @@ use crate::leb::{leb_length, signed_digit, sleb_number, uleb_number};
 use byteorder::{ByteOrder, LittleEndian};
 use std::marker::Model;
 
-/// What is left of a section's bytes, or of a part of them, and the place where it begins.
+/// What is left of a section's bytes, or of a part of them, and the place where it begins. Kept is the place where
+/// it ends, which no move changes.
 #[derive(Debug, Drop)]
 pub struct Cursor<'a> {
     rest: &'a [u8],
-    at: usize,
+    end: usize,
 }
 
 impl<'a> Model for Cursor<'a> {
-    ghost use Rattle.std.specs.Prelude.{ℕ, ◌+◌, ◌^◌, ◌<◌, length};
+    ghost use Rattle.std.specs.Prelude.{◌-◌, ◌≤◌, length};
     ghost use Rattle.eh_bytes.specs.Rest.{Rest};
 
     ghost Value = { Rest };
 
-    ghost view = { λ c. record { bytes = c.rest.now; at = c.at } };
+    ghost view = { λ c. record { bytes = c.rest.now; at = c.end - length c.rest.now } };
 
-    ghost invariant = { λ c. c.at + length c.rest.now < 2 ^ 64 };
+    ghost invariant = { λ c. length c.rest.now ≤ c.end };
 }
 
 impl<'a> Cursor<'a> {
@@ -38,7 +39,7 @@ impl<'a> Cursor<'a> {
     {
         Cursor {
             rest: &bytes[at..end],
-            at,
+            end,
         }
     }
 
@@ -46,7 +47,7 @@ impl<'a> Cursor<'a> {
     pub fn at(&self) -> usize
         ensures { result ≡ self.now.at }
     {
-        self.at
+        self.end - self.rest.len()
     }
 
     /// How many bytes are left.
@@ -68,11 +69,10 @@ impl<'a> Cursor<'a> {
         ensures { Reads (λ part. part.now) (bytes_at count) self.old result self.new }
     {
         if self.rest.len() < count {
-            return Err(ByteFault::Short { at: self.at });
+            return Err(ByteFault::Short { at: self.at() });
         }
         let (part, rest) = self.rest.split_at(count);
         self.rest = rest;
-        self.at += count;
         Ok(part)
     }
 
@@ -80,9 +80,11 @@ impl<'a> Cursor<'a> {
     pub fn part(&mut self, count: usize) -> Result<Cursor<'a>, ByteFault>
         ensures { Reads (λ part. part) (part_at count) self.old result self.new }
     {
-        let at = self.at;
         let rest = self.take(count)?;
-        Ok(Cursor { rest, at })
+        Ok(Cursor {
+            rest,
+            end: self.at(),
+        })
     }
 
     /// The bytes of a text that a 0 ends, without the 0.
@@ -91,11 +93,10 @@ impl<'a> Cursor<'a> {
         ensures { Reads (λ text. text.now) text_at self.old result self.new }
     {
         match text_length(self.rest) {
-            None => Err(ByteFault::Short { at: self.at }),
+            None => Err(ByteFault::Short { at: self.at() }),
             Some(length) => {
                 let text = &self.rest[..length];
                 self.rest = &self.rest[length + 1..];
-                self.at += length + 1;
                 Ok(text)
             }
         }
@@ -109,10 +110,9 @@ impl<'a> Cursor<'a> {
             [byte, rest @ ..] => {
                 let byte = *byte;
                 self.rest = rest;
-                self.at += 1;
                 Ok(byte)
             }
-            [] => Err(ByteFault::Short { at: self.at }),
+            [] => Err(ByteFault::Short { at: self.at() }),
         }
     }
 
@@ -121,11 +121,10 @@ impl<'a> Cursor<'a> {
         ensures { Reads (λ x. x) (fixed_at 2) self.old result self.new }
     {
         if self.rest.len() < 2 {
-            return Err(ByteFault::Short { at: self.at });
+            return Err(ByteFault::Short { at: self.at() });
         }
         let number = LittleEndian::read_u16(self.rest);
         self.rest = &self.rest[2..];
-        self.at += 2;
         Ok(number)
     }
 
@@ -134,11 +133,10 @@ impl<'a> Cursor<'a> {
         ensures { Reads (λ x. x) (fixed_at 4) self.old result self.new }
     {
         if self.rest.len() < 4 {
-            return Err(ByteFault::Short { at: self.at });
+            return Err(ByteFault::Short { at: self.at() });
         }
         let number = LittleEndian::read_u32(self.rest);
         self.rest = &self.rest[4..];
-        self.at += 4;
         Ok(number)
     }
 
@@ -147,15 +145,14 @@ impl<'a> Cursor<'a> {
         ensures { Reads (λ x. x) (fixed_at 8) self.old result self.new }
     {
         if self.rest.len() < 8 {
-            return Err(ByteFault::Short { at: self.at });
+            return Err(ByteFault::Short { at: self.at() });
         }
         let number = LittleEndian::read_u64(self.rest);
         self.rest = &self.rest[8..];
-        self.at += 8;
         Ok(number)
     }
 
-    /// An unsigned LEB128 number of any length.
+    /// An unsigned LEB128 number of any length. One of a byte or two is read in place.
     #[inline(always)]
     pub fn uleb(&mut self) -> Result<u64, ByteFault>
         ensures { Reads (λ x. x) uleb_at self.old result self.new }
@@ -164,26 +161,38 @@ impl<'a> Cursor<'a> {
             [byte, rest @ ..] if *byte < 128 => {
                 let number = *byte as u64;
                 self.rest = rest;
-                self.at += 1;
+                Ok(number)
+            }
+            [low, high, rest @ ..] if *high < 128 => {
+                let number = (*low % 128) as u64 + 128 * *high as u64;
+                self.rest = rest;
                 Ok(number)
             }
             _ => self.long_uleb(),
         }
     }
 
-    /// The same, wherever the number ends.
-    #[inline(never)]
-    #[tactic(auto, unfolding(crate::specs::Leb::uleb_of))]
+    /// The same by a call, whose answer has a place of its own: so that of `uleb` needn't be in memory.
+    #[inline(always)]
     fn long_uleb(&mut self) -> Result<u64, ByteFault>
         ensures { Reads (λ x. x) uleb_at self.old result self.new }
     {
+        let number = self.uleb_of_any_length()?;
+        Ok(number)
+    }
+
+    /// The same, wherever the number ends.
+    #[inline(never)]
+    #[tactic(auto, unfolding(crate::specs::Leb::uleb_of))]
+    fn uleb_of_any_length(&mut self) -> Result<u64, ByteFault>
+        ensures { Reads (λ x. x) uleb_at self.old result self.new }
+    {
         match leb_length(self.rest) {
-            None => Err(ByteFault::Short { at: self.at }),
+            None => Err(ByteFault::Short { at: self.at() }),
             Some(length) => match uleb_number(&self.rest[..length]) {
-                None => Err(ByteFault::TooWide { at: self.at }),
+                None => Err(ByteFault::TooWide { at: self.at() }),
                 Some(number) => {
                     self.rest = &self.rest[length..];
-                    self.at += length;
                     Ok(number)
                 }
             },
@@ -199,26 +208,33 @@ impl<'a> Cursor<'a> {
             [byte, rest @ ..] if *byte < 128 => {
                 let byte = *byte;
                 self.rest = rest;
-                self.at += 1;
                 Ok(signed_digit(byte))
             }
             _ => self.long_sleb(),
         }
     }
 
-    /// The same, wherever the number ends.
-    #[inline(never)]
-    #[tactic(auto, unfolding(crate::specs::Leb::sleb_of))]
+    /// The same by a call, whose answer has a place of its own: so that of `sleb` needn't be in memory.
+    #[inline(always)]
     fn long_sleb(&mut self) -> Result<i64, ByteFault>
         ensures { Reads (λ x. x) sleb_at self.old result self.new }
     {
+        let number = self.sleb_of_any_length()?;
+        Ok(number)
+    }
+
+    /// The same, wherever the number ends.
+    #[inline(never)]
+    #[tactic(auto, unfolding(crate::specs::Leb::sleb_of))]
+    fn sleb_of_any_length(&mut self) -> Result<i64, ByteFault>
+        ensures { Reads (λ x. x) sleb_at self.old result self.new }
+    {
         match leb_length(self.rest) {
-            None => Err(ByteFault::Short { at: self.at }),
+            None => Err(ByteFault::Short { at: self.at() }),
             Some(length) => match sleb_number(&self.rest[..length]) {
-                None => Err(ByteFault::TooWide { at: self.at }),
+                None => Err(ByteFault::TooWide { at: self.at() }),
                 Some(number) => {
                     self.rest = &self.rest[length..];
-                    self.at += length;
                     Ok(number)
                 }
             },
@@ -246,7 +262,7 @@ impl<'a> Cursor<'a> {
     pub fn pointer(&mut self, encoding: u8, section: u64) -> Result<u64, ByteFault>
         ensures { Reads (λ x. x) (pointer_at encoding section) self.old result self.new }
     {
-        let at = self.at;
+        let at = self.at();
         if !is_pointer(encoding) {
             return Err(ByteFault::Encoding { at, byte: encoding });
         }

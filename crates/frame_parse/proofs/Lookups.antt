@@ -1,8 +1,8 @@
 -- Ranges that are apart: at most one has an address. So the one that has it is the first FDE's that covers it.
-use Rattle.std.proofs.Common.{◌≡◌, ℕ, zero, suc, ◌+◌, ◌-◌, ◌<◌, ◌≤◌, Bool, List, [], ◌∷◌, length, get_or, true, false, Some, None, nat_le, nat_lt, refl, sym, ap, subst, ◌∙◌, arith, inl, inr, leb-true, ltb-true, le-ltb}
+use Rattle.std.proofs.Common.{◌≡◌, ℕ, zero, suc, ◌+◌, ◌-◌, ◌<◌, ◌≤◌, Bool, cond, List, [], ◌∷◌, length, get_or, true, false, Some, None, nat_le, nat_lt, refl, sym, ap, subst, ◌∙◌, arith, inl, inr, leb-true, leb-false, ltb-true, le-ltb}
 use Rattle.std.proofs.lemmas.Bool.{and_parts, and_left, and_right, cases_lt, lt-leb}
 use Rattle.std.specs.List.{All, Contains}
-use Rattle.std.specs.List.Sorted.{IsPermutation, IsNonDecreasingBy}
+use Rattle.std.specs.List.Sorted.{IsPermutation}
 use Rattle.std.proofs.lemmas.List.Sorted.{All-permutation, Contains-permutation}
 use Rattle.std.proofs.lemmas.List.Elements.{All-contains}
 use Rattle.frame_parse.specs.declared.record.FdeRecord.{FdeRecord}
@@ -36,39 +36,68 @@ apart (a ∷ rs) i zero d h lt within = absurd (omega arith)
 apart (a ∷ rs) zero (suc j) d h lt within = above a rs j d h (omega arith)
 apart (a ∷ rs) (suc i) (suc j) d h lt within = apart rs i j d (behind a rs h) (omega arith) (omega arith)
 
-pub ascending : (rs : List CoveredRange) → are_apart rs ≡ true → IsNonDecreasingBy (λ (r : CoveredRange). r.first) rs
-ascending rs h = λ i j d le within.
-    elim (cases_lt i j) [
-      | inl lt ↦ let up = apart rs i j d h lt within in omega (arith, up)
-      | inr ge ↦ let same : i ≡ j = omega arith in rw same (omega arith)
-    ]
-
 not_below : (pc : ℕ) (r : CoveredRange) → pc < r.first → holds pc r ≡ false
 not_below pc r lt = and_left _ _ (lt-leb r.first pc lt)
 
 not_above : (pc : ℕ) (r : CoveredRange) → r.first + r.range ≤ pc → holds pc r ≡ false
 not_above pc r le = and_right _ _ (le-ltb pc (r.first + r.range) le)
 
--- where the last range that begins up to an address hasn't it, none has
-pub none_holds : (rs : List CoveredRange) (pc n : ℕ) → are_apart rs ≡ true → n ≤ length rs → ((k : ℕ) (d : CoveredRange) → k < n → (get_or rs k d).first ≤ pc)
-    → ((k : ℕ) (d : CoveredRange) → n ≤ k → k < length rs → pc < (get_or rs k d).first) → ((d : CoveredRange) → 0 < n → holds pc (get_or rs (n - 1) d) ≡ false) → All (λ r. holds pc r ≡ false) rs
-none_holds rs pc n h le below beyond last = λ k d within.
-    elim (cases_lt k n) [
-      | inr ge ↦ not_below pc (get_or rs k d) (beyond k d ge within)
-      | inl lt ↦
-          elim (cases_lt k (n - 1)) [
-            | inl before ↦
-                let up = apart rs k (n - 1) d h before (omega arith) in
-                let reached = below (n - 1) d (omega arith) in
-                not_above pc (get_or rs k d) (omega (arith, up, reached))
-            | inr ge ↦ let same : k ≡ n - 1 = omega arith in rw same (last d (omega arith))
-          ]
-    ]
-
 pub any_default : (rs : List CoveredRange) (k : ℕ) (c d : CoveredRange) → k < length rs → get_or rs k c ≡ get_or rs k d
 any_default [] k c d lt = absurd (omega arith)
 any_default (r ∷ rs) zero c d lt = refl
 any_default (r ∷ rs) (suc k) c d lt = any_default rs k c d (omega arith)
+
+-- ---- halving
+
+-- no range outside the `size` from `base` on has the address
+pub record AreLeft (rs : List CoveredRange) (pc base size : ℕ) : Type 0 where
+  pub within : base + size ≤ length rs
+  pub below : (k : ℕ) (d : CoveredRange) → k < base → holds pc (get_or rs k d) ≡ false
+  pub above : (k : ℕ) (d : CoveredRange) → base + size ≤ k → k < length rs → holds pc (get_or rs k d) ≡ false
+
+pub all_left : (rs : List CoveredRange) (pc : ℕ) → AreLeft rs pc 0 (length rs)
+all_left rs pc = record { within = omega arith; below = λ k d lt. absurd (omega arith); above = λ k d le lt. absurd (omega arith) }
+
+halved : (rs : List CoveredRange) (pc base size half : ℕ) (d : CoveredRange) (b : Bool) → are_apart rs ≡ true → AreLeft rs pc base size → half + half ≤ size → half < size
+    → nat_le (get_or rs (base + half) d).first pc ≡ b → AreLeft rs pc (base + cond b half 0) (size - half)
+halved rs pc base size half d true apart_ left le lt e =
+    let reached = leb-true _ _ e in
+    let w = left.within in
+    record {
+      within = omega (arith, w);
+      below = λ k f kl.
+          elim (cases_lt k (base + half)) [
+            | inl before ↦
+                let up = apart rs k (base + half) f apart_ before (omega (arith, w)) in
+                let same = any_default rs (base + half) f d (omega (arith, w)) in
+                not_above pc (get_or rs k f) (omega (arith, up, ap (λ (r : CoveredRange). r.first) same, reached))
+            | inr ge ↦ absurd (omega arith)
+          ];
+      above = λ k f ge kl. left.above k f (omega (arith, ge, w)) kl;
+    }
+halved rs pc base size half d false apart_ left le lt e =
+    let beyond = leb-false _ _ e in
+    let w = left.within in
+    record {
+      within = omega (arith, w);
+      below = λ k f kl. left.below k f (omega arith);
+      above = λ k f ge kl.
+          elim (cases_lt (base + half) k) [
+            | inl behind_ ↦
+                let up = apart rs (base + half) k f apart_ behind_ kl in
+                let same = any_default rs (base + half) f d (omega (arith, w)) in
+                not_below pc (get_or rs k f) (omega (arith, up, ap (λ (r : CoveredRange). r.first) same, beyond))
+            | inr here ↦
+                let same : k ≡ base + half = omega arith in
+                let one = any_default rs k f d kl in
+                not_below pc (get_or rs k f) (omega (arith, ap (λ (r : CoveredRange). r.first) (one ∙ ap (λ j. get_or rs j d) same), beyond))
+          ];
+    }
+
+-- the upper half is left where the range in the middle begins up to the address, else the lower one
+pub half_left : (rs : List CoveredRange) (pc base size half : ℕ) (d : CoveredRange) → are_apart rs ≡ true → AreLeft rs pc base size → half + half ≤ size → half < size
+    → AreLeft rs pc (base + cond (nat_le (get_or rs (base + half) d).first pc) half 0) (size - half)
+half_left rs pc base size half d h left le lt = halved rs pc base size half d (nat_le (get_or rs (base + half) d).first pc) h left le lt refl
 
 within_both : (pc : ℕ) (a b : CoveredRange) → holds pc a ≡ true → holds pc b ≡ true → a.first + a.range ≤ b.first → ⊥
 within_both pc a b ha hb le =

@@ -13,11 +13,11 @@ use Rattle.frame_parse.specs.declared.instruction.Step.{Step}
 use Rattle.frame_parse.specs.declared.state.State.{State}
 use Rattle.frame_parse.specs.Part.{given}
 use Rattle.frame_parse.specs.Programs.{effect_of, effect, step, instruction_of, top, below_top, AreSteps, ProgramRest, HasSteps}
-use Rattle.frame_parse.specs.Order.{IsAscendingFrom, AreAt, MayStandAt, depth_behind, IsBalanced, AreOrdered}
+use Rattle.frame_parse.specs.Order.{Moves, IsAscendingFrom, AreAt, MayStandAt, depth_behind, IsBalanced, AreOrdered}
 
 -- what a step does to the location and to the number of remembered states
 record Changes (moves : Bool) (s : State) (i : Instruction) (m : State) : Type 0 where
-  up : s.location ≤ m.location
+  up : Moves i s.location m.location
   still : moves ≡ false → m.location ≡ s.location
   may : MayStandAt (length s.remembered) i
   depth : length m.remembered ≡ depth_behind (length s.remembered) i
@@ -26,31 +26,31 @@ chosen : (b : Bool) (x m : State) (f : FrameFault) (p : ℕ) (text : List ℕ) �
 chosen true x m f p text a = (refl, a.1)
 chosen false x m f p text a = absurd a
 
-same : (moves : Bool) (s m : State) (i : Instruction) → MayStandAt (length s.remembered) i → depth_behind (length s.remembered) i ≡ length s.remembered → s ≡ m → Changes moves s i m
-same moves s m i may depth e =
-    let made : Changes moves s i s = record { up = omega arith; still = λ _. refl; may = may; depth = sym depth } in
+same : (moves : Bool) (s m : State) (i : Instruction) → Moves i s.location s.location → MayStandAt (length s.remembered) i → depth_behind (length s.remembered) i ≡ length s.remembered → s ≡ m → Changes moves s i m
+same moves s m i up may depth e =
+    let made : Changes moves s i s = record { up = up; still = λ _. refl; may = may; depth = sym depth } in
     subst (λ (k : State). Changes moves s i k) e made
 
 changes_of : (start at : ℕ) (moves : Bool) (s m : State) (i : Instruction) (p : ℕ) (text : List ℕ) → (given (effect_of start at s i)).Spells p text m → Changes moves s i m
-changes_of start at moves s m Nop p text a = same moves s m Nop tt refl a.1
-changes_of start at moves s m Advance p text a = same moves s m Advance tt refl a.1
-changes_of start at moves s m (Set r rule) p text a = same moves s m (Set r rule) tt refl a.1
-changes_of start at moves s m (Restore r) p text a = same moves s m (Restore r) tt refl a.1
+changes_of start at moves s m Nop p text a = same moves s m Nop refl tt refl a.1
+changes_of start at moves s m Advance p text a = same moves s m Advance (omega arith) tt refl a.1
+changes_of start at moves s m (Set r rule) p text a = same moves s m (Set r rule) refl tt refl a.1
+changes_of start at moves s m (Restore r) p text a = same moves s m (Restore r) refl tt refl a.1
 changes_of start at moves s m (Cfa r n) p text a =
     let kept : State = record s { offset = true } in
-    let made : Changes moves s (Cfa r n) kept = record { up = omega arith; still = λ _. refl; may = tt; depth = refl } in
+    let made : Changes moves s (Cfa r n) kept = record { up = refl; still = λ _. refl; may = tt; depth = refl } in
     subst (λ (k : State). Changes moves s (Cfa r n) k) a.1 made
-changes_of start at moves s m (CfaColumn r) p text a = same moves s m (CfaColumn r) tt refl (chosen s.offset s m _ p text a).1
-changes_of start at moves s m (CfaOffset n) p text a = same moves s m (CfaOffset n) tt refl (chosen s.offset s m _ p text a).1
+changes_of start at moves s m (CfaColumn r) p text a = same moves s m (CfaColumn r) refl tt refl (chosen s.offset s m _ p text a).1
+changes_of start at moves s m (CfaOffset n) p text a = same moves s m (CfaOffset n) refl tt refl (chosen s.offset s m _ p text a).1
 changes_of start at moves s m Remember p text a =
     let kept : State = record s { remembered = s.remembered ++ s.offset ∷ [] } in
     let b = chosen (nat_lt (length s.remembered) 8) kept m _ p text a in
-    let made : Changes moves s Remember kept = record { up = omega arith; still = λ _. refl; may = ltb-true _ _ b.0; depth = length-append s.remembered (s.offset ∷ []) } in
+    let made : Changes moves s Remember kept = record { up = refl; still = λ _. refl; may = ltb-true _ _ b.0; depth = length-append s.remembered (s.offset ∷ []) } in
     subst (λ (k : State). Changes moves s Remember k) b.1 made
 changes_of start at moves s m RestoreState p text a =
     let kept : State = record s { offset = top s.remembered; remembered = below_top s.remembered } in
     let b = chosen (nat_lt 0 (length s.remembered)) kept m _ p text a in
-    let made : Changes moves s RestoreState kept = record { up = omega arith; still = λ _. refl; may = ltb-true _ _ b.0; depth = omega (arith, length-take (length s.remembered - 1) s.remembered) } in
+    let made : Changes moves s RestoreState kept = record { up = refl; still = λ _. refl; may = ltb-true _ _ b.0; depth = omega (arith, length-take (length s.remembered - 1) s.remembered) } in
     subst (λ (k : State). Changes moves s RestoreState k) b.1 made
 
 both : (a b : Bool) → a && b ≡ true → (a ≡ true) × (b ≡ true)
@@ -95,7 +95,7 @@ ascending_from start section moves c p s text [] t a = tt
 ascending_from start section moves c p s text (x ∷ xs) t a =
     let one = stepped start section moves c s a.0 p a.1 x a.4 in
     let later = ascending_from start section moves c (p + length a.1) a.0 a.2 xs t a.5 in
-    (omega (arith, one.here, one.change.up), subst (λ (k : ℕ). IsAscendingFrom k xs) (sym one.here) later)
+    (subst (λ (k : ℕ). Moves x.instruction s.location k) (sym one.here) one.change.up, subst (λ (k : ℕ). IsAscendingFrom k xs) (sym one.here) later)
 
 at_from : (start section : ℕ) (moves : Bool) (c : CieRecord) (p : ℕ) (s : State) (text : List ℕ) (steps : List Step) (t : State) → moves ≡ false → AreSteps (step start section moves c) p s text steps t → AreAt s.location steps
 at_from start section moves c p s text [] t e a = tt

@@ -5,4 +5,5 @@ pub mod Sections
 pub mod Lookups
 pub mod Reading
 pub mod Programs
+pub mod Frequent
 pub mod Order

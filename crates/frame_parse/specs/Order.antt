@@ -1,14 +1,19 @@
 -- What holds along the steps of a program that was read without fault, after DWARF 5, section 6.4.2.
 use Rattle.std.specs.Prelude.{◌≡◌, ℕ, ◌+◌, ◌-◌, ◌<◌, ◌≤◌, List, [], ◌∷◌, length, false}
 use Rattle.frame_parse.specs.declared.instruction.Instruction.{Instruction}
-use Rattle.frame_parse.specs.declared.instruction.Instruction.TheVariants.{Remember, RestoreState}
+use Rattle.frame_parse.specs.declared.instruction.Instruction.TheVariants.{Advance, Remember, RestoreState}
 use Rattle.frame_parse.specs.declared.instruction.Step.{Step}
 use Rattle.frame_parse.specs.Programs.{ProgramRest}
 
--- the locations of the steps never fall, from a first one on
+-- an Advance may move the location up, every other instruction leaves it
+abbrev pub Moves : Instruction → ℕ → ℕ → Type 0
+Moves Advance location next = location ≤ next
+Moves _ location next = next ≡ location
+
+-- from a first one on, the locations of the steps never fall, and only an Advance moves them
 abbrev pub IsAscendingFrom : ℕ → List Step → Type 0
 IsAscendingFrom location [] = Unit {0}
-IsAscendingFrom location (x ∷ xs) = (location ≤ x.location) × IsAscendingFrom x.location xs
+IsAscendingFrom location (x ∷ xs) = Moves x.instruction location x.location × IsAscendingFrom x.location xs
 
 -- all steps hold at one location
 abbrev pub AreAt : ℕ → List Step → Type 0

@@ -29,11 +29,11 @@ abbrev pub other : Instruction → Operation
 other i = operations.Other i
 
 -- rules for columns above 16 are read and not applied
-abbrev pub set : ℕ → ReadRule → Operation
-set r rule = if nat_lt 16 r then other Nop else other (Set r rule)
+abbrev pub set : ℕ → ReadRule → Instruction
+set r rule = if nat_lt 16 r then Nop else Set r rule
 
-abbrev pub restored : ℕ → Operation
-restored r = if nat_lt 16 r then other Nop else other (Restore r)
+abbrev pub restored : ℕ → Instruction
+restored r = if nat_lt 16 r then Nop else Restore r
 
 -- a column of the CFA is at most 16
 unfoldable pub cfa_column : ℕ → Part ℕ
@@ -59,27 +59,23 @@ plain_operation start section c at b =
     (when (b == 2) (fixed start 1 >>= λ d. give (operations.Advance d))
     (when (b == 3) (fixed start 2 >>= λ d. give (operations.Advance d))
     (when (b == 4) (fixed start 4 >>= λ d. give (operations.Advance d))
-    (when (b == 5) (uleb start >>= λ r. uleb start >>= λ n. give (set r (rules.Offset (factored c n))))
-    (when (b == 6) (uleb start >>= λ r. give (restored r))
-    (when (b == 7) (uleb start >>= λ r. give (set r rules.Undefined))
-    (when (b == 8) (uleb start >>= λ r. give (set r rules.Same))
-    (when (b == 9) (uleb start >>= λ r. second_column start r >>= λ q. give (set r (rules.Register q)))
+    (when (b == 5) (uleb start >>= λ r. uleb start >>= λ n. give (other (set r (rules.Offset (factored c n)))))
+    (when (b == 6) (uleb start >>= λ r. give (other (restored r)))
+    (when (b == 7) (uleb start >>= λ r. give (other (set r rules.Undefined)))
+    (when (b == 8) (uleb start >>= λ r. give (other (set r rules.Same)))
+    (when (b == 9) (uleb start >>= λ r. second_column start r >>= λ q. give (other (set r (rules.Register q))))
     (when (b == 10) (give (other Remember))
     (when (b == 11) (give (other RestoreState))
     (when (b == 12) (cfa_column start >>= λ r. uleb start >>= λ n. give (other (Cfa r n)))
     (when (b == 13) (cfa_column start >>= λ r. give (other (CfaColumn r)))
     (when (b == 14) (uleb start >>= λ n. give (other (CfaOffset n)))
-    (when (b == 17) (uleb start >>= λ r. sleb start >>= λ n. give (set r (rules.Offset (factored c (cast_unsigned w64 n)))))
+    (when (b == 17) (uleb start >>= λ r. sleb start >>= λ n. give (other (set r (rules.Offset (factored c (cast_unsigned w64 n))))))
     (when (b == 18) (cfa_column start >>= λ r. sleb start >>= λ n. give (other (Cfa r (factored c (cast_unsigned w64 n)))))
     (when (b == 19) (sleb start >>= λ n. give (other (CfaOffset (factored c (cast_unsigned w64 n)))))
-    (when (b == 20) (uleb start >>= λ r. uleb start >>= λ n. give (set r (rules.ValOffset (factored c n))))
-    (when (b == 21) (uleb start >>= λ r. sleb start >>= λ n. give (set r (rules.ValOffset (factored c (cast_unsigned w64 n)))))
+    (when (b == 20) (uleb start >>= λ r. uleb start >>= λ n. give (other (set r (rules.ValOffset (factored c n)))))
+    (when (b == 21) (uleb start >>= λ r. sleb start >>= λ n. give (other (set r (rules.ValOffset (factored c (cast_unsigned w64 n))))))
     (when (b == 46) (uleb start >>= λ n. give (other Nop))
     (refuse (faults.Opcode start at b))))))))))))))))))))))
-
--- the instructions of these bytes are read in place: nop, advance_loc1, remember_state, restore_state, def_cfa_offset
-abbrev pub is_frequent : ℕ → Bool
-is_frequent b = b == 0 || b == 2 || b == 10 || b == 11 || b == 14
 
 -- the two high bits of the byte are an instruction with an operand in the low six, or none
 unfoldable pub operation : ℕ → ℕ → CieRecord → Part Operation
@@ -87,8 +83,8 @@ operation start section c = do
   at ← here
   b ← fixed start 1
   when (b / 64 == 1) (give (operations.Advance (b % 64)))
-      (when (b / 64 == 2) (uleb start >>= λ n. give (set (b % 64) (rules.Offset (factored c n))))
-      (when (b / 64 == 3) (give (restored (b % 64)))
+      (when (b / 64 == 2) (uleb start >>= λ n. give (other (set (b % 64) (rules.Offset (factored c n)))))
+      (when (b / 64 == 3) (give (other (restored (b % 64))))
       (plain_operation start section c at b)))
 
 -- ---- what it is tested against, and what it changes
@@ -100,14 +96,18 @@ top flags = get_or flags (length flags - 1) false
 abbrev pub below_top : List Bool → List Bool
 below_top flags = take (length flags - 1) flags
 
+-- a part of the CFA rule changes only where that is a column plus an offset
+abbrev pub change_cfa : ℕ → ℕ → State → Result State FrameFault
+change_cfa start at s = if s.offset then Ok s else Err (faults.CfaRule start at)
+
 -- remembering and restoring states, and changing a part of the CFA rule
 abbrev pub effect_of : ℕ → ℕ → State → Instruction → Result State FrameFault
 effect_of start at s Remember = if nat_lt (length s.remembered) 8 then Ok (record s { remembered = s.remembered ++ s.offset ∷ [] }) else Err (faults.Remember start at)
 effect_of start at s RestoreState =
     if nat_lt 0 (length s.remembered) then Ok (record s { offset = top s.remembered; remembered = below_top s.remembered }) else Err (faults.Remember start at)
 effect_of start at s (Cfa r n) = Ok (record s { offset = true })
-effect_of start at s (CfaColumn r) = if s.offset then Ok s else Err (faults.CfaRule start at)
-effect_of start at s (CfaOffset n) = if s.offset then Ok s else Err (faults.CfaRule start at)
+effect_of start at s (CfaColumn r) = change_cfa start at s
+effect_of start at s (CfaOffset n) = change_cfa start at s
 effect_of start at s Nop = Ok s
 effect_of start at s Advance = Ok s
 effect_of start at s (Set r rule) = Ok s
@@ -125,13 +125,20 @@ instruction_of (operations.Advance d) = Advance
 instruction_of (operations.SetLocation a) = Advance
 instruction_of (operations.Other i) = i
 
+-- the step of an operation, with the location that holds behind it, and the state behind it
+abbrev pub finished : ℕ → ℕ → Bool → CieRecord → State → Operation → Part (Step × State)
+finished start at moves c s o = given (effect start at moves c s o) >>= λ t. give (record { location = t.location; instruction = instruction_of o }, t)
+
+-- the step of an instruction whose byte is below 64
+abbrev pub plain_step : ℕ → ℕ → Bool → CieRecord → State → ℕ → ℕ → Part (Step × State)
+plain_step start section moves c s at b = plain_operation start section c at b >>= λ o. finished start at moves c s o
+
 -- an instruction with the location that holds when it is met, and the state behind it
 unfoldable pub step : ℕ → ℕ → Bool → CieRecord → State → Part (Step × State)
 step start section moves c s = do
   at ← here
   o ← operation start section c
-  t ← given (effect start at moves c s o)
-  give (record { location = t.location; instruction = instruction_of o }, t)
+  finished start at moves c s o
 
 -- ---- programs
 

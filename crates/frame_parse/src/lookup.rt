@@ -2,7 +2,7 @@
 //! order when the section is read, and then a lookup halves them. Where two share one, the FDEs are gone
 //! through in order of bytes.
 
-ghost use Rattle.std.specs.Prelude.{◌≡◌, length, true, false, IfOk, IfNone, IfSome};
+ghost use Rattle.std.specs.Prelude.{◌≡◌, ◌<◌, ◌^◌, length, true, false, if◌then◌else◌, IfOk, IfNone, IfSome};
 ghost use Rattle.std.specs.List.{All, Contains};
 ghost use Rattle.std.specs.Option.{option_copied};
 ghost use Rattle.frame_parse.specs.Sections.{covers, first_cover};
@@ -121,20 +121,32 @@ fn holds(range: &CoveredRange, pc: u64) -> bool
     range.first <= pc && pc - range.first < range.range
 }
 
-/// The number of the FDE whose range has the address, where the ranges are apart.
+/// All of a number where something holds, else 0, without a branch: the processor would guess wrong half of the time.
+#[inline(always)]
+fn where_holds(number: usize, holds: bool) -> usize
+    requires { number < 2 ^ 63 }
+    ensures { result ≡ (if holds then number else 0) }
+{
+    (number << u32::from(holds)) - number
+}
+
+/// The number of the FDE whose range has the address, where the ranges are apart. Half of those that may have it are
+/// passed by at a time; they begin at `base`.
 fn ordered_cover(ranges: &[CoveredRange], pc: u64) -> Option<usize>
     requires { are_apart ranges.now ≡ true }
     ensures none { IfNone result (All (λ range. holds pc range ≡ false) ranges.now) }
     ensures some { IfSome result (λ fde. (range : CoveredRange)
         × Contains ranges.now range × (holds pc range ≡ true) × (range.fde ≡ fde)) }
 {
-    let after = ranges.partition_point(|range| range.first <= pc);
-    if after == 0 {
-        return None;
+    let mut base = 0;
+    let mut size = ranges.len();
+    while size > 1 {
+        let half = size / 2;
+        base += where_holds(half, ranges[base + half].first <= pc);
+        size -= half;
     }
-    let range = &ranges[after - 1];
-    if holds(range, pc) {
-        Some(range.fde)
+    if base < ranges.len() && holds(&ranges[base], pc) {
+        Some(ranges[base].fde)
     } else {
         None
     }

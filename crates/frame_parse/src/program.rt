@@ -4,7 +4,8 @@ ghost use Rattle.std.specs.Prelude.{◌≡◌, ◌<◌, ◌≤◌, ◌+◌, ◌*
 ghost use Rattle.std.specs.Int.{w64, cast_unsigned};
 ghost use Rattle.frame_parse.specs.Part.{Gives, Leaves};
 ghost use Rattle.frame_parse.specs.declared.instruction.ReadRule.TheVariants as rules;
-ghost use Rattle.frame_parse.specs.Programs.{is_frequent, other, factored, set, restored, cfa_column, second_column, plain_operation, operation, effect_of, effect, instruction_of, step, steps_from, initial_state, first_state};
+ghost use Rattle.frame_parse.specs.Frequent.{is_frequent};
+ghost use Rattle.frame_parse.specs.Programs.{other, factored, set, restored, cfa_column, second_column, plain_operation, change_cfa, effect_of, effect, instruction_of, plain_step, step, steps_from, initial_state, first_state};
 
 use crate::fault::FrameFault;
 use crate::fields::{byte, id, pair, pointer, sleb, uleb};
@@ -23,37 +24,29 @@ fn factored(cie: &CieRecord, number: u64) -> u64
 
 /// A rule for a column, which is applied up to column 16.
 #[inline(always)]
-fn set(column: u64, rule: ReadRule) -> Operation
+fn set(column: u64, rule: ReadRule) -> Instruction
     ensures { result ≡ set column rule }
 {
     if column > 16 {
-        Operation::Other {
-            instruction: Instruction::Nop,
-        }
+        Instruction::Nop
     } else {
-        Operation::Other {
-            instruction: Instruction::Set {
-                column: column as u8,
-                rule,
-            },
+        Instruction::Set {
+            column: column as u8,
+            rule,
         }
     }
 }
 
 /// The initial rule of a column, which is applied up to column 16.
 #[inline(always)]
-fn restored(column: u64) -> Operation
+fn restored(column: u64) -> Instruction
     ensures { result ≡ restored column }
 {
     if column > 16 {
-        Operation::Other {
-            instruction: Instruction::Nop,
-        }
+        Instruction::Nop
     } else {
-        Operation::Other {
-            instruction: Instruction::Restore {
-                column: column as u8,
-            },
+        Instruction::Restore {
+            column: column as u8,
         }
     }
 }
@@ -90,14 +83,12 @@ fn second_column(start: usize, cursor: &mut Cursor, first: u64) -> Result<u64, F
 
 /// A rule that takes a column from another.
 #[inline(always)]
-fn register(first: u64, second: u64) -> Operation
+fn register(first: u64, second: u64) -> Instruction
     requires { 16 < first ⊎ second < 17 }
     ensures { result ≡ set first (rules.Register second) }
 {
     if first > 16 {
-        Operation::Other {
-            instruction: Instruction::Nop,
-        }
+        Instruction::Nop
     } else {
         set(
             first,
@@ -115,37 +106,8 @@ fn other(instruction: Instruction) -> Operation
     Operation::Other { instruction }
 }
 
-/// The instructions whose operands aren't in their byte. Those of which compilers write most are here, so
-/// that they are read in place.
+/// What an instruction spells whose operands aren't in its byte, where `plain_step` doesn't read it in place.
 #[inline(always)]
-#[tactic(auto, unfolding(crate::specs::Programs::plain_operation))]
-fn plain_operation(
-    start: usize,
-    cursor: &mut Cursor,
-    section: u64,
-    cie: &CieRecord,
-    at: usize,
-    byte: u8,
-) -> Result<Operation, FrameFault>
-    ensures { Gives (λ o. o) (plain_operation start section cie.now at byte).read
-        cursor.old result cursor.new }
-{
-    match byte {
-        0x00 => Ok(other(Instruction::Nop)),
-        0x02 => Ok(Operation::Advance {
-            delta: crate::fields::byte(start, cursor)? as u64,
-        }),
-        0x0a => Ok(other(Instruction::Remember)),
-        0x0b => Ok(other(Instruction::RestoreState)),
-        0x0e => Ok(other(Instruction::CfaOffset {
-            by: uleb(start, cursor)?,
-        })),
-        _ => rarer_operation(start, cursor, section, cie, at, byte),
-    }
-}
-
-/// The others.
-#[inline(never)]
 #[tactic(auto, unfolding(crate::specs::Programs::plain_operation))]
 fn rarer_operation(
     start: usize,
@@ -173,20 +135,15 @@ fn rarer_operation(
         0x05 => {
             let column = uleb(start, cursor)?;
             let by = factored(cie, uleb(start, cursor)?);
-            Ok(set(column, ReadRule::Offset { by }))
+            Ok(other(set(column, ReadRule::Offset { by })))
         }
-        0x06 => Ok(restored(uleb(start, cursor)?)),
-        0x07 => Ok(set(uleb(start, cursor)?, ReadRule::Undefined)),
-        0x08 => Ok(set(uleb(start, cursor)?, ReadRule::Same)),
+        0x06 => Ok(other(restored(uleb(start, cursor)?))),
+        0x07 => Ok(other(set(uleb(start, cursor)?, ReadRule::Undefined))),
+        0x08 => Ok(other(set(uleb(start, cursor)?, ReadRule::Same))),
         0x09 => {
             let first = uleb(start, cursor)?;
             let second = second_column(start, cursor, first)?;
-            Ok(register(first, second))
-        }
-        0x0c => {
-            let column = cfa_column(start, cursor)?;
-            let by = uleb(start, cursor)?;
-            Ok(other(Instruction::Cfa { column, by }))
+            Ok(other(register(first, second)))
         }
         0x0d => Ok(other(Instruction::CfaColumn {
             column: cfa_column(start, cursor)?,
@@ -194,7 +151,7 @@ fn rarer_operation(
         0x11 => {
             let column = uleb(start, cursor)?;
             let by = factored(cie, sleb(start, cursor)?.cast_unsigned());
-            Ok(set(column, ReadRule::Offset { by }))
+            Ok(other(set(column, ReadRule::Offset { by })))
         }
         0x12 => {
             let column = cfa_column(start, cursor)?;
@@ -208,12 +165,12 @@ fn rarer_operation(
         0x14 => {
             let column = uleb(start, cursor)?;
             let by = factored(cie, uleb(start, cursor)?);
-            Ok(set(column, ReadRule::ValOffset { by }))
+            Ok(other(set(column, ReadRule::ValOffset { by })))
         }
         0x15 => {
             let column = uleb(start, cursor)?;
             let by = factored(cie, sleb(start, cursor)?.cast_unsigned());
-            Ok(set(column, ReadRule::ValOffset { by }))
+            Ok(other(set(column, ReadRule::ValOffset { by })))
         }
         0x2e => {
             let _size = uleb(start, cursor)?;
@@ -223,28 +180,39 @@ fn rarer_operation(
     }
 }
 
-/// What the next instruction spells.
+/// Remembers whether the CFA rule is a column plus an offset.
 #[inline(always)]
-#[tactic(auto, unfolding(crate::specs::Programs::operation))]
-fn operation(
-    start: usize,
-    cursor: &mut Cursor,
-    section: u64,
-    cie: &CieRecord,
-) -> Result<Operation, FrameFault>
-    ensures { Gives (λ o. o) (operation start section cie.now).read cursor.old result cursor.new }
+fn remember(start: usize, at: usize, state: &mut State) -> Result<(), FrameFault>
+    ensures { Leaves (effect_of start at state.old Instruction.Remember) result state.new }
 {
-    let at = cursor.at();
-    let byte = byte(start, cursor)?;
-    let low = byte % 64;
-    match byte / 64 {
-        1 => Ok(Operation::Advance { delta: low as u64 }),
-        2 => {
-            let by = factored(cie, uleb(start, cursor)?);
-            Ok(set(low as u64, ReadRule::Offset { by }))
-        }
-        3 => Ok(restored(low as u64)),
-        _ => plain_operation(start, cursor, section, cie, at, byte),
+    if state.remembered.len() == 8 {
+        return Err(FrameFault::Remember { start, at });
+    }
+    state.remembered.push(state.offset);
+    Ok(())
+}
+
+/// Takes back what was remembered last.
+#[inline(always)]
+fn restore_state(start: usize, at: usize, state: &mut State) -> Result<(), FrameFault>
+    ensures { Leaves (effect_of start at state.old Instruction.RestoreState) result state.new }
+{
+    if state.remembered.len() == 0 {
+        return Err(FrameFault::Remember { start, at });
+    }
+    state.offset = state.remembered.pop();
+    Ok(())
+}
+
+/// A part of the CFA rule can be changed only where that is a column plus an offset.
+#[inline(always)]
+fn change_cfa(start: usize, at: usize, state: &State) -> Result<(), FrameFault>
+    ensures { Leaves (change_cfa start at state.now) result state.now }
+{
+    if state.offset {
+        Ok(())
+    } else {
+        Err(FrameFault::CfaRule { start, at })
     }
 }
 
@@ -259,30 +227,20 @@ fn effect_of(
     ensures { Leaves (effect_of start at state.old instruction.now) result state.new }
 {
     match instruction {
-        Instruction::Remember => {
-            if state.remembered.len() == 8 {
-                return Err(FrameFault::Remember { start, at });
-            }
-            state.remembered.push(state.offset);
+        Instruction::Remember => remember(start, at, state),
+        Instruction::RestoreState => restore_state(start, at, state),
+        Instruction::Cfa { .. } => {
+            state.offset = true;
+            Ok(())
         }
-        Instruction::RestoreState => {
-            if state.remembered.len() == 0 {
-                return Err(FrameFault::Remember { start, at });
-            }
-            state.offset = state.remembered.pop();
-        }
-        Instruction::Cfa { .. } => state.offset = true,
         Instruction::CfaColumn { .. } | Instruction::CfaOffset { .. } => {
-            if !state.offset {
-                return Err(FrameFault::CfaRule { start, at });
-            }
+            change_cfa(start, at, state)
         }
         Instruction::Nop
         | Instruction::Advance
         | Instruction::Set { .. }
-        | Instruction::Restore { .. } => {}
+        | Instruction::Restore { .. } => Ok(()),
     }
-    Ok(())
 }
 
 /// The location on by as many code alignments, where that is an address.
@@ -294,6 +252,27 @@ fn advanced(location: u64, delta: u64, alignment: u64) -> Option<u64>
     match delta.checked_mul(alignment) {
         None => None,
         Some(by) => location.checked_add(by),
+    }
+}
+
+/// Moves the location on by as many code alignments: only in an FDE, and not past the last address.
+#[inline(always)]
+fn advance(
+    start: usize,
+    at: usize,
+    moves: bool,
+    cie: &CieRecord,
+    state: &mut State,
+    delta: u64,
+) -> Result<(), FrameFault>
+    ensures { Leaves (effect start at moves cie.now state.old (Operation.Advance delta)) result state.new }
+{
+    match advanced(state.location, delta, cie.code_alignment) {
+        Some(location) if moves => {
+            state.location = location;
+            Ok(())
+        }
+        _ => Err(FrameFault::Location { start, at }),
     }
 }
 
@@ -310,15 +289,7 @@ fn effect(
     ensures { Leaves (effect start at moves cie.now state.old operation.now) result state.new }
 {
     match operation {
-        Operation::Advance { delta } => {
-            match advanced(state.location, *delta, cie.code_alignment) {
-                Some(location) if moves => {
-                    state.location = location;
-                    Ok(())
-                }
-                _ => Err(FrameFault::Location { start, at }),
-            }
-        }
+        Operation::Advance { delta } => advance(start, at, moves, cie, state, *delta),
         Operation::SetLocation { address } => {
             if moves && state.location <= *address {
                 state.location = *address;
@@ -341,9 +312,106 @@ fn instruction_of(operation: &Operation) -> Instruction
     }
 }
 
-/// The next instruction, with the location at which it holds. The state is then the one behind it.
+/// An instruction where it is met.
 #[inline(always)]
-#[tactic(auto, unfolding(crate::specs::Programs::step))]
+fn here(state: &State, instruction: Instruction) -> Step
+    ensures { result ≡ record { location = state.now.location; instruction = instruction } }
+{
+    Step {
+        location: state.location,
+        instruction,
+    }
+}
+
+/// The step of an instruction that `plain_step` doesn't read in place.
+#[inline(never)]
+fn rarer_step(
+    start: usize,
+    cursor: &mut Cursor,
+    section: u64,
+    moves: bool,
+    cie: &CieRecord,
+    state: &mut State,
+    at: usize,
+    byte: u8,
+) -> Result<Step, FrameFault>
+    requires { is_frequent byte ≡ false }
+    ensures { Gives (λ x. (x, state.new)) (plain_step start section moves cie.now state.old at byte).read
+        cursor.old result cursor.new }
+{
+    let operation = rarer_operation(start, cursor, section, cie, at, byte)?;
+    effect(start, at, moves, cie, state, &operation)?;
+    Ok(here(state, instruction_of(&operation)))
+}
+
+/// The same, with a place of its own for the answer: so that of `plain_step` needn't be in memory.
+#[inline(always)]
+fn called_step(
+    start: usize,
+    cursor: &mut Cursor,
+    section: u64,
+    moves: bool,
+    cie: &CieRecord,
+    state: &mut State,
+    at: usize,
+    byte: u8,
+) -> Result<Step, FrameFault>
+    requires { is_frequent byte ≡ false }
+    ensures { Gives (λ x. (x, state.new)) (plain_step start section moves cie.now state.old at byte).read
+        cursor.old result cursor.new }
+{
+    let step = rarer_step(start, cursor, section, moves, cie, state, at, byte)?;
+    Ok(step)
+}
+
+/// The step of an instruction whose operands aren't in its byte. Those of which compilers write most are here, so
+/// that they are read in place.
+#[inline(always)]
+#[tactic(auto, unfolding(crate::specs::Programs::plain_operation))]
+fn plain_step(
+    start: usize,
+    cursor: &mut Cursor,
+    section: u64,
+    moves: bool,
+    cie: &CieRecord,
+    state: &mut State,
+    at: usize,
+    byte: u8,
+) -> Result<Step, FrameFault>
+    requires { ¬ (byte ≡ 14) }
+    ensures { Gives (λ x. (x, state.new)) (plain_step start section moves cie.now state.old at byte).read
+        cursor.old result cursor.new }
+{
+    match byte {
+        0x00 => Ok(here(state, Instruction::Nop)),
+        0x02 => {
+            let delta = crate::fields::byte(start, cursor)? as u64;
+            advance(start, at, moves, cie, state, delta)?;
+            Ok(here(state, Instruction::Advance))
+        }
+        0x0a => {
+            remember(start, at, state)?;
+            Ok(here(state, Instruction::Remember))
+        }
+        0x0b => {
+            restore_state(start, at, state)?;
+            Ok(here(state, Instruction::RestoreState))
+        }
+        0x0c => {
+            let column = cfa_column(start, cursor)?;
+            let by = uleb(start, cursor)?;
+            state.offset = true;
+            Ok(here(state, Instruction::Cfa { column, by }))
+        }
+        _ => called_step(start, cursor, section, moves, cie, state, at, byte),
+    }
+}
+
+/// The next instruction, with the location at which it holds. The state is then the one behind it. Each instruction is
+/// tested where it is read, so that nothing goes by its kind a second time; the two that are most frequent come first,
+/// apart from the others, since a branch is guessed better than a jump through a table.
+#[inline(always)]
+#[tactic(auto, unfolding(crate::specs::Programs::step, crate::specs::Programs::operation, crate::specs::Programs::plain_operation))]
 pub(crate) fn step(
     start: usize,
     cursor: &mut Cursor,
@@ -356,12 +424,26 @@ pub(crate) fn step(
         cursor.old result cursor.new }
 {
     let at = cursor.at();
-    let operation = operation(start, cursor, section, cie)?;
-    effect(start, at, moves, cie, state, &operation)?;
-    Ok(Step {
-        location: state.location,
-        instruction: instruction_of(&operation),
-    })
+    let byte = byte(start, cursor)?;
+    let low = byte % 64;
+    let high = byte / 64;
+    if high == 1 {
+        advance(start, at, moves, cie, state, low as u64)?;
+        Ok(here(state, Instruction::Advance))
+    } else if byte == 0x0e {
+        let by = uleb(start, cursor)?;
+        change_cfa(start, at, state)?;
+        Ok(here(state, Instruction::CfaOffset { by }))
+    } else {
+        match high {
+            2 => {
+                let by = factored(cie, uleb(start, cursor)?);
+                Ok(here(state, set(low as u64, ReadRule::Offset { by })))
+            }
+            3 => Ok(here(state, restored(low as u64))),
+            _ => plain_step(start, cursor, section, moves, cie, state, at, byte),
+        }
+    }
 }
 
 /// All instructions up to the end of their record, and the state behind them.

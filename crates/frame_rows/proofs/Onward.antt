@@ -5,7 +5,7 @@ use Rattle.frame_parse.specs.declared.instruction.Instruction.{Instruction}
 use Rattle.frame_parse.specs.declared.instruction.Instruction.TheVariants.{Nop, Advance, Set, Restore, Remember, RestoreState, Cfa, CfaColumn, CfaOffset}
 use Rattle.frame_parse.specs.declared.instruction.Step.{Step}
 use Rattle.frame_parse.specs.Programs.{ProgramRest, HasSteps}
-use Rattle.frame_parse.specs.Order.{IsAscendingFrom, IsBalanced, MayStandAt, depth_behind}
+use Rattle.frame_parse.specs.Order.{Moves, IsAscendingFrom, IsBalanced, MayStandAt, depth_behind}
 use Rattle.frame_rows.specs.declared.row.Row.{Row}
 use Rattle.frame_rows.specs.declared.walk.Stop.{Stop}
 use Rattle.frame_rows.specs.declared.walk.Stop.TheVariants.{End, Restored}
@@ -19,34 +19,63 @@ Gives p x q = (steps : List Step) → HasSteps p steps → (more : List Step) ×
 
 -- ---- the steps that are left
 
-pub ascending_below : (k l : ℕ) (xs : List Step) → k ≤ l → IsAscendingFrom l xs → IsAscendingFrom k xs
-ascending_below k l [] le a = tt
-ascending_below k l (x ∷ xs) le a = (omega (arith, a.0), a.1)
+-- a step that isn't above the address, as far as its instruction leaves that open
+abbrev pub IsReached : ℕ → Step → Type 0
+IsReached pc x = x.instruction ≡ Advance → x.location ≤ pc
 
-none_up_to : (pc l : ℕ) (xs : List Step) → pc < l → IsAscendingFrom l xs → up_to pc xs ≡ []
+upward : (i : Instruction) (k l : ℕ) → Moves i k l → k ≤ l
+upward Advance k l m = m
+upward Nop k l m = omega arith
+upward (Set q rule) k l m = omega arith
+upward (Restore q) k l m = omega arith
+upward Remember k l m = omega arith
+upward RestoreState k l m = omega arith
+upward (Cfa q n) k l m = omega arith
+upward (CfaColumn q) k l m = omega arith
+upward (CfaOffset n) k l m = omega arith
+
+-- only an Advance leads past an address
+within : (i : Instruction) (pc k l : ℕ) → Moves i k l → k ≤ pc → (i ≡ Advance → l ≤ pc) → l ≤ pc
+within Advance pc k l m le reached = reached refl
+within Nop pc k l m le reached = omega arith
+within (Set q rule) pc k l m le reached = omega arith
+within (Restore q) pc k l m le reached = omega arith
+within Remember pc k l m le reached = omega arith
+within RestoreState pc k l m le reached = omega arith
+within (Cfa q n) pc k l m le reached = omega arith
+within (CfaColumn q) pc k l m le reached = omega arith
+within (CfaOffset n) pc k l m le reached = omega arith
+
+pub none_up_to : (pc l : ℕ) (xs : List Step) → pc < l → IsAscendingFrom l xs → up_to pc xs ≡ []
 none_up_to pc l [] lt a = refl
 none_up_to pc l (x ∷ xs) lt a =
-    let above : nat_le x.location pc ≡ false = lt-leb _ _ (omega (arith, a.0)) in
-    rw above (none_up_to pc x.location xs (omega (arith, a.0)) a.1)
+    let up = upward x.instruction l x.location a.0 in
+    let above : nat_le x.location pc ≡ false = lt-leb _ _ (omega (arith, up)) in
+    rw above (none_up_to pc x.location xs (omega (arith, up)) a.1)
 
-record Next (x : Step) (q : ProgramRest) (depth : ℕ) (steps : List Step) : Type 0 where
+not_advance : (pc : ℕ) (x : Step) (i : Instruction) → x.instruction ≡ i → (i ≡ Advance → ⊥) → IsReached pc x
+not_advance pc x i is never = λ e. absurd (never (sym is ∙ e))
+
+record Next (x : Step) (q : ProgramRest) (pc depth : ℕ) (steps : List Step) : Type 0 where
   more : List Step
   are : steps ≡ x ∷ more
-  on : GoesOn q (depth_behind depth x.instruction) more
+  on : x.location ≤ pc → GoesOn q pc (depth_behind depth x.instruction) more
   may : MayStandAt depth x.instruction
   above : IsAscendingFrom x.location more
+  stays : IsReached pc x → x.location ≤ pc
 
-next_of : (p q : ProgramRest) (x : Step) (depth : ℕ) (steps : List Step) → Gives p x q → GoesOn p depth steps → Next x q depth steps
-next_of p q x depth steps gives g =
+next_of : (p q : ProgramRest) (x : Step) (pc depth : ℕ) (steps : List Step) → Gives p x q → GoesOn p pc depth steps → Next x q pc depth steps
+next_of p q x pc depth steps gives g =
     let n = gives steps g.has in
-    let ascending : IsAscendingFrom 0 (x ∷ n.0) = subst (λ (l : List Step). IsAscendingFrom 0 l) n.1 g.ascending in
+    let ascending : IsAscendingFrom g.location (x ∷ n.0) = subst (λ (l : List Step). IsAscendingFrom g.location l) n.1 g.ascending in
     let balanced : IsBalanced depth (x ∷ n.0) = subst (λ (l : List Step). IsBalanced depth l) n.1 g.balanced in
     record {
       more = n.0;
       are = n.1;
-      on = record { has = n.2; ascending = ascending_below 0 x.location n.0 (omega arith) ascending.1; balanced = balanced.1 };
+      on = λ le. record { has = n.2; location = x.location; reached = le; ascending = ascending.1; balanced = balanced.1 };
       may = balanced.0;
       above = ascending.1;
+      stays = within x.instruction pc g.location x.location ascending.0 g.reached;
     }
 
 rows_on : (base : Row) (pc : ℕ) (s : Rows) (x : Step) (more steps : List Step) → steps ≡ x ∷ more → x.location ≤ pc → rows_behind base pc s steps ≡ rows_behind base pc (rows_step base s x.instruction) more
@@ -96,54 +125,63 @@ plain (Cfa q n) a b = record { flat = λ d. refl; stays = λ base row below. ref
 plain (CfaColumn q) a b = record { flat = λ d. refl; stays = λ base row below. refl }
 plain (CfaOffset n) a b = record { flat = λ d. refl; stays = λ base row below. refl }
 
-pub leads_plain : (base : Row) (pc : ℕ) (p q : ProgramRest) (row : Row) (x : Step) → Gives p x q → length q.rest.bytes < length p.rest.bytes → x.location ≤ pc → (x.instruction ≡ Remember → ⊥) → (x.instruction ≡ RestoreState → ⊥)
+pub leads_plain : (base : Row) (pc : ℕ) (p q : ProgramRest) (row : Row) (x : Step) → Gives p x q → length q.rest.bytes < length p.rest.bytes → IsReached pc x → (x.instruction ≡ Remember → ⊥) → (x.instruction ≡ RestoreState → ⊥)
     → LeadsTo base pc p row q (applied base row x.instruction)
-leads_plain base pc p q row x gives shorter le a b =
+leads_plain base pc p q row x gives shorter reached a b =
     let i = plain x.instruction a b in
     record {
       shorter = omega arith;
       rows = λ steps below g.
-          let n = next_of p q x (length below) steps gives g in
+          let n = next_of p q x pc (length below) steps gives g in
+          let le = n.stays reached in
           record {
             more = n.more;
-            on = subst (λ (d : ℕ). GoesOn q d n.more) (i.flat (length below)) n.on;
+            on = subst (λ (d : ℕ). GoesOn q pc d n.more) (i.flat (length below)) (n.on le);
             same = rows_on base pc (beside row below) x n.more steps n.are le ∙ ap (λ (s : Rows). rows_behind base pc s n.more) (i.stays base row below);
           };
     }
 
+-- behind an Advance that doesn't lead past the address
+pub leads_advance : (base : Row) (pc : ℕ) (p q : ProgramRest) (row : Row) (x : Step) → Gives p x q → length q.rest.bytes < length p.rest.bytes → x.location ≤ pc → x.instruction ≡ Advance → LeadsTo base pc p row q row
+leads_advance base pc p q row x gives shorter le is =
+    let plain = leads_plain base pc p q row x gives shorter (λ e. le) (λ e. absurd (let two = sym is ∙ e in cc)) (λ e. absurd (let two = sym is ∙ e in cc)) in
+    subst (λ (k : Row). LeadsTo base pc p row q k) (ap (applied base row) is) plain
+
 -- behind remember_state, up to the step that takes the row back
-pub leads_back : (base : Row) (pc : ℕ) (p q r : ProgramRest) (row other : Row) (x : Step) → Gives p x q → length q.rest.bytes < length p.rest.bytes → x.location ≤ pc → x.instruction ≡ Remember → Walks base pc q row Restored r other
+pub leads_back : (base : Row) (pc : ℕ) (p q r : ProgramRest) (row other : Row) (x : Step) → Gives p x q → length q.rest.bytes < length p.rest.bytes → x.instruction ≡ Remember → Walks base pc q row Restored r other
     → LeadsTo base pc p row r row
-leads_back base pc p q r row other x gives shorter le is inner = record {
+leads_back base pc p q r row other x gives shorter is inner = record {
   shorter = omega (arith, inner.shorter);
   rows = λ steps below g.
-      let n = next_of p q x (length below) steps gives g in
+      let n = next_of p q x pc (length below) steps gives g in
+      let le = n.stays (not_advance pc x _ is (λ e. cc)) in
       let deeper : depth_behind (length below) x.instruction ≡ length (row ∷ below) = ap (depth_behind (length below)) is ∙ omega arith in
-      let back = inner.rows n.more (row ∷ below) (subst (λ (d : ℕ). GoesOn q d n.more) deeper n.on) in
+      let back = inner.rows n.more (row ∷ below) (subst (λ (d : ℕ). GoesOn q pc d n.more) deeper (n.on le)) in
       let first : row ≡ back.last = let e = back.are in cc in
       let rest : below ≡ back.others = let e = back.are in cc in
       let there : beside back.last back.others ≡ beside row below = ap (λ (k : Row). beside k back.others) (sym first) ∙ ap (λ (l : List Row). beside row l) (sym rest) in
       let stepped : rows_step base (beside row below) x.instruction ≡ beside row (row ∷ below) = ap (rows_step base (beside row below)) is in
       record {
         more = back.onward.more;
-        on = subst (λ (l : List Row). GoesOn r (length l) back.onward.more) (sym rest) back.onward.on;
+        on = subst (λ (l : List Row). GoesOn r pc (length l) back.onward.more) (sym rest) back.onward.on;
         same = rows_on base pc (beside row below) x n.more steps n.are le ∙ ap (λ (s : Rows). rows_behind base pc s n.more) stepped ∙ back.onward.same ∙ ap (λ (s : Rows). rows_behind base pc s back.onward.more) there;
       };
 }
 
 -- ---- how it stops
 
-pub stops_inside : (base : Row) (pc : ℕ) (p q r : ProgramRest) (row other : Row) (x : Step) → Gives p x q → x.location ≤ pc → x.instruction ≡ Remember → Walks base pc q row End r other → Walks base pc p row End r other
-stops_inside base pc p q r row other x gives le is inner = λ steps below g.
-    let n = next_of p q x (length below) steps gives g in
+pub stops_inside : (base : Row) (pc : ℕ) (p q r : ProgramRest) (row other : Row) (x : Step) → Gives p x q → x.instruction ≡ Remember → Walks base pc q row End r other → Walks base pc p row End r other
+stops_inside base pc p q r row other x gives is inner = λ steps below g.
+    let n = next_of p q x pc (length below) steps gives g in
+    let le = n.stays (not_advance pc x _ is (λ e. cc)) in
     let deeper : depth_behind (length below) x.instruction ≡ length (row ∷ below) = ap (depth_behind (length below)) is ∙ omega arith in
     let stepped : rows_step base (beside row below) x.instruction ≡ beside row (row ∷ below) = ap (rows_step base (beside row below)) is in
     ap (λ (s : Rows). s.row) (rows_on base pc (beside row below) x n.more steps n.are le ∙ ap (λ (s : Rows). rows_behind base pc s n.more) stepped)
-    ∙ inner n.more (row ∷ below) (subst (λ (d : ℕ). GoesOn q d n.more) deeper n.on)
+    ∙ inner n.more (row ∷ below) (subst (λ (d : ℕ). GoesOn q pc d n.more) deeper (n.on le))
 
 pub stops_above : (base : Row) (pc : ℕ) (p q : ProgramRest) (row : Row) (x : Step) → Gives p x q → pc < x.location → Walks base pc p row End q row
 stops_above base pc p q row x gives lt = λ steps below g.
-    let n = next_of p q x (length below) steps gives g in
+    let n = next_of p q x pc (length below) steps gives g in
     let above : nat_le x.location pc ≡ false = lt-leb _ _ lt in
     let none = none_up_to pc x.location n.more lt n.above in
     ap (λ (l : List Step). (rows_behind base pc (beside row below) l).row) n.are ∙ rw (above, none) refl
@@ -151,9 +189,10 @@ stops_above base pc p q row x gives lt = λ steps below g.
 pub stops_behind : (base : Row) (pc : ℕ) (p q : ProgramRest) (row : Row) → ((steps : List Step) → HasSteps p steps → steps ≡ []) → Walks base pc p row End q row
 stops_behind base pc p q row none = λ steps below g. ap (λ (l : List Step). (rows_behind base pc (beside row below) l).row) (none steps g.has)
 
-taken_back : (base : Row) (pc : ℕ) (row : Row) (below : List Row) (steps : List Step) (q : ProgramRest) (x : Step) → Next x q (length below) steps → x.location ≤ pc → x.instruction ≡ RestoreState → TakesBack base pc row below steps q
-taken_back base pc row [] steps q x n le is = absurd (let may : 0 < 0 = subst (MayStandAt 0) is n.may in omega (arith, may))
-taken_back base pc row (last ∷ others) steps q x n le is =
+taken_back : (base : Row) (pc : ℕ) (row : Row) (below : List Row) (steps : List Step) (q : ProgramRest) (x : Step) → Next x q pc (length below) steps → x.instruction ≡ RestoreState → TakesBack base pc row below steps q
+taken_back base pc row [] steps q x n is = absurd (let may : 0 < 0 = subst (MayStandAt 0) is n.may in omega (arith, may))
+taken_back base pc row (last ∷ others) steps q x n is =
+    let le = n.stays (not_advance pc x _ is (λ e. cc)) in
     let higher : depth_behind (length (last ∷ others)) x.instruction ≡ length others = ap (depth_behind (length (last ∷ others))) is ∙ omega arith in
     let stepped : rows_step base (beside row (last ∷ others)) x.instruction ≡ beside last others = ap (rows_step base (beside row (last ∷ others))) is in
     record {
@@ -162,22 +201,22 @@ taken_back base pc row (last ∷ others) steps q x n le is =
       are = refl;
       onward = record {
         more = n.more;
-        on = subst (λ (d : ℕ). GoesOn q d n.more) higher n.on;
+        on = subst (λ (d : ℕ). GoesOn q pc d n.more) higher (n.on le);
         same = rows_on base pc (beside row (last ∷ others)) x n.more steps n.are le ∙ ap (λ (s : Rows). rows_behind base pc s n.more) stepped;
       };
     }
 
-pub stops_restored : (base : Row) (pc : ℕ) (p q : ProgramRest) (row other : Row) (x : Step) → Gives p x q → length q.rest.bytes < length p.rest.bytes → x.location ≤ pc → x.instruction ≡ RestoreState → Walks base pc p row Restored q other
-stops_restored base pc p q row other x gives shorter le is = record {
+pub stops_restored : (base : Row) (pc : ℕ) (p q : ProgramRest) (row other : Row) (x : Step) → Gives p x q → length q.rest.bytes < length p.rest.bytes → x.instruction ≡ RestoreState → Walks base pc p row Restored q other
+stops_restored base pc p q row other x gives shorter is = record {
   shorter = omega arith;
-  rows = λ steps below g. taken_back base pc row below steps q x (next_of p q x (length below) steps gives g) le is;
+  rows = λ steps below g. taken_back base pc row below steps q x (next_of p q x pc (length below) steps gives g) is;
 }
 
 -- a walk on which nothing was remembered before goes to the end
-pub whole : (base : Row) (pc : ℕ) (p q : ProgramRest) (row other : Row) (stop : Stop) → Walks base pc p row stop q other → (steps : List Step) → GoesOn p 0 steps → (rows_behind base pc (beside row []) steps).row ≡ other
+pub whole : (base : Row) (pc : ℕ) (p q : ProgramRest) (row other : Row) (stop : Stop) → Walks base pc p row stop q other → (steps : List Step) → GoesOn p pc 0 steps → (rows_behind base pc (beside row []) steps).row ≡ other
 whole base pc p q row other End w steps g = w steps [] g
 whole base pc p q row other Restored w steps g = absurd (let none = (w.rows steps [] g).are in cc)
 
 -- the laws of a program's steps, at its start
-pub goes_on_from : (p : ProgramRest) (location : ℕ) (steps : List Step) → HasSteps p steps → IsAscendingFrom location steps → IsBalanced 0 steps → GoesOn p 0 steps
-goes_on_from p location steps has ascending balanced = record { has = has; ascending = ascending_below 0 location steps (omega arith) ascending; balanced = balanced }
+pub goes_on_from : (p : ProgramRest) (pc location : ℕ) (steps : List Step) → location ≤ pc → HasSteps p steps → IsAscendingFrom location steps → IsBalanced 0 steps → GoesOn p pc 0 steps
+goes_on_from p pc location steps reached has ascending balanced = record { has = has; location = location; reached = reached; ascending = ascending; balanced = balanced }

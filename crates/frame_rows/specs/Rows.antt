@@ -1,5 +1,5 @@
 -- Rows of all columns, and the remembered ones: how the code goes through a program.
-use Rattle.std.specs.Prelude.{ℕ, List, [], ◌∷◌, replicate, slice_set, slice_index_or}
+use Rattle.std.specs.Prelude.{ℕ, Option, Some, None, List, [], ◌∷◌, replicate, slice_set, slice_index_or}
 use Rattle.std.specs.List.{fold}
 use Rattle.frame_parse.specs.declared.instruction.Instruction.{Instruction}
 use Rattle.frame_parse.specs.declared.instruction.Instruction.TheVariants.{Nop, Advance, Set, Restore, Remember, RestoreState, Cfa, CfaColumn, CfaOffset}
@@ -12,6 +12,11 @@ use Rattle.frame_rows.specs.Columns.{rule_of, with_column, with_offset, instruct
 -- the row before any instruction
 abbrev pub unset : Row
 unset = record { cfa = cfas.Missing; columns = replicate 17 rules.Unset }
+
+-- the row whose rules a restore gives back: inside the initial instructions there is none, and nothing is set
+abbrev pub given_back : Option Row → Row
+given_back None = unset
+given_back (Some row) = row
 
 -- the row behind an instruction that doesn't remember or restore a state
 abbrev pub applied : Row → Row → Instruction → Row

@@ -8,22 +8,24 @@ use Rattle.frame_rows.specs.declared.walk.Stop.{Stop}
 use Rattle.frame_rows.specs.declared.walk.Stop.TheVariants.{End, Restored}
 use Rattle.frame_rows.specs.Rows.{Rows, beside, rows_behind}
 
--- a program that goes on with these steps, where so many rows are remembered
-pub record GoesOn (p : ProgramRest) (depth : ℕ) (steps : List Step) : Type 0 where
+-- a program that goes on with these steps from a location up to an address, where so many rows are remembered
+pub record GoesOn (p : ProgramRest) (pc depth : ℕ) (steps : List Step) : Type 0 where
   pub has : HasSteps p steps
-  pub ascending : IsAscendingFrom 0 steps
+  pub location : ℕ
+  pub reached : location ≤ pc
+  pub ascending : IsAscendingFrom location steps
   pub balanced : IsBalanced depth steps
 
 -- some of the steps are done: at q more of them are left, and the rows behind all are those from here on
 pub record IsOnward (base : Row) (pc : ℕ) (from : Rows) (steps : List Step) (q : ProgramRest) (to : Rows) : Type 0 where
   pub more : List Step
-  pub on : GoesOn q (length to.remembered) more
+  pub on : GoesOn q pc (length to.remembered) more
   pub same : rows_behind base pc from steps ≡ rows_behind base pc to more
 
 -- from a row at p to another row at q, with the same rows remembered
 pub record LeadsTo (base : Row) (pc : ℕ) (p : ProgramRest) (row : Row) (q : ProgramRest) (other : Row) : Type 0 where
   pub shorter : length q.rest.bytes ≤ length p.rest.bytes
-  pub rows : (steps : List Step) (below : List Row) → GoesOn p (length below) steps → IsOnward base pc (beside row below) steps q (beside other below)
+  pub rows : (steps : List Step) (below : List Row) → GoesOn p pc (length below) steps → IsOnward base pc (beside row below) steps q (beside other below)
 
 -- behind the step that takes back the last of the remembered rows
 pub record TakesBack (base : Row) (pc : ℕ) (row : Row) (below : List Row) (steps : List Step) (q : ProgramRest) : Type 0 where
@@ -34,9 +36,9 @@ pub record TakesBack (base : Row) (pc : ℕ) (row : Row) (below : List Row) (ste
 
 pub record Restores (base : Row) (pc : ℕ) (p : ProgramRest) (row : Row) (q : ProgramRest) : Type 0 where
   pub shorter : length q.rest.bytes ≤ length p.rest.bytes
-  pub rows : (steps : List Step) (below : List Row) → GoesOn p (length below) steps → TakesBack base pc row below steps q
+  pub rows : (steps : List Step) (below : List Row) → GoesOn p pc (length below) steps → TakesBack base pc row below steps q
 
 -- A walk stops behind all steps up to the address, with their row, or behind a step that takes a row back.
 abbrev pub Walks : Row → ℕ → ProgramRest → Row → Stop → ProgramRest → Row → Type 0
-Walks base pc p row End q other = (steps : List Step) (below : List Row) → GoesOn p (length below) steps → (rows_behind base pc (beside row below) steps).row ≡ other
+Walks base pc p row End q other = (steps : List Step) (below : List Row) → GoesOn p pc (length below) steps → (rows_behind base pc (beside row below) steps).row ≡ other
 Walks base pc p row Restored q other = Restores base pc p row q

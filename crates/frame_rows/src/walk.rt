@@ -1,9 +1,10 @@
 //! Going through a program up to an address.
 
 ghost use Rattle.std.specs.Prelude.{◌≡◌, ℕ, ◌<◌, List, [], slice_get, Some};
+ghost use Rattle.std.specs.Option.{option_copied};
 ghost use Rattle.frame_parse.specs.declared.instruction.Step.{Step};
 ghost use Rattle.frame_rows.specs.Columns.{HasInitial, HasProgram, rule_at, cfa_at};
-ghost use Rattle.frame_rows.specs.Rows.{beside, rows_behind};
+ghost use Rattle.frame_rows.specs.Rows.{beside, given_back, rows_behind};
 ghost use Rattle.frame_rows.specs.Walk.{GoesOn, Walks};
 
 use crate::row::{Row, apply};
@@ -20,21 +21,21 @@ enum Stop {
 
 /// Goes on from a row. What is remembered on the way is kept by a walk of its own, so that a program that
 /// remembers nothing pays for no other row.
-fn walk(program: &mut Program<'_>, pc: u64, base: &Row, row: &mut Row) -> Stop
-    ensures { Walks base.now pc program.old row.old result program.new row.new }
+#[cycle(walk)]
+fn walk(program: &mut Program<'_>, pc: u64, base: Option<&Row>, row: &mut Row) -> Stop
+    ensures { Walks (given_back (option_copied base.entry)) pc program.old row.old result program.new row.new }
 {
     while let Some(step) = program.next() {
-        if step.location > pc {
-            return Stop::End;
-        }
         match step.instruction {
-            Instruction::Remember => {
-                let kept = *row;
-                match walk(program, pc, base, row) {
-                    Stop::End => return Stop::End,
-                    Stop::Restored => *row = kept,
+            Instruction::Advance => {
+                if step.location > pc {
+                    return Stop::End;
                 }
             }
+            Instruction::Remember => match walk_back(program, pc, base, row) {
+                Stop::End => return Stop::End,
+                Stop::Restored => {}
+            },
             Instruction::RestoreState => return Stop::Restored,
             instruction => apply(row, base, instruction),
         }
@@ -42,14 +43,27 @@ fn walk(program: &mut Program<'_>, pc: u64, base: &Row, row: &mut Row) -> Stop
     Stop::End
 }
 
-/// The row behind all steps of a program up to an address, from the row before them.
-fn row_behind(mut program: Program<'_>, pc: u64, before: &Row) -> Row
-    ensures { (steps : List Step) → GoesOn program.entry 0 steps
-        → result ≡ (rows_behind before.now pc (beside before.now []) steps).row }
+/// Goes on from a row that is remembered, and takes it back where it is restored.
+#[cycle(walk)]
+#[inline(never)]
+fn walk_back(program: &mut Program<'_>, pc: u64, base: Option<&Row>, row: &mut Row) -> Stop
+    ensures walks { Walks (given_back (option_copied base.entry)) pc program.old row.old result program.new row.new }
+    ensures kept { result ≡ Stop.Restored → row.new ≡ row.old }
 {
-    let mut row = *before;
-    walk(&mut program, pc, before, &mut row);
-    row
+    let kept = *row;
+    let stop = walk(program, pc, base, row);
+    if stop == Stop::Restored {
+        *row = kept;
+    }
+    stop
+}
+
+/// Goes from a row on to the one behind all steps of a program up to an address.
+fn go_through(mut program: Program<'_>, pc: u64, base: Option<&Row>, row: &mut Row)
+    ensures { (steps : List Step) → GoesOn program.entry pc 0 steps
+        → row.new ≡ (rows_behind (given_back (option_copied base.entry)) pc (beside row.old []) steps).row }
+{
+    walk(&mut program, pc, base, row);
 }
 
 /// The row that holds at an address of an FDE: what the initial instructions of its CIE make of a row in which
@@ -64,7 +78,13 @@ pub fn row_at(fde: &Fde<'_>, pc: u64) -> Row
         → (r : ℕ) → r < 17 → slice_get result.columns r ≡ Some (rule_at r initial steps pc) }
 {
     steps_are_ordered();
-    let unset = Row::unset();
-    let base = row_behind(fde.initial(), fde.first(), &unset);
-    row_behind(fde.program(), pc, &base)
+    let first = fde.first();
+    let mut base = Row::unset();
+    go_through(fde.initial(), first, None, &mut base);
+    let program = fde.program();
+    let mut row = base;
+    if first <= pc {
+        go_through(program, pc, Some(&base), &mut row);
+    }
+    row
 }

@@ -1,19 +1,35 @@
 use Rattle.frame_rows.proofs.Agreement.{cfa_of, column_of}
-use Rattle.frame_rows.proofs.BothPrograms.{behind_both}
+use Rattle.frame_rows.proofs.BothPrograms.{behind_both, behind_initial}
 use Rattle.frame_rows.proofs.walk.row_at.Goals as goal
 
-pub returns-clause-cfa : goal.returns-clause-cfa
-returns-clause-cfa c = λ initial steps has_initial has.
+pub returns-then-first-pc-clause-cfa : goal.returns-then-first-pc-clause-cfa
+returns-then-first-pc-clause-cfa c = λ initial steps has_initial has.
     let f = c.args.fde.now in
     let behind =
-    behind_both f c.initial.result c.program.result c.first.result c.args.pc c.unset-unset.result c.row_behind-base.result c.row_behind.result initial steps c.steps_are_ordered.ensures
-    c.initial.ensures.program c.program.ensures.program c.first.ensures c.unset-unset.ensures c.row_behind-base.ensures c.row_behind.ensures has_initial has in
-    cfa_of f.entry.first c.args.pc initial steps c.row_behind.result behind
+    behind_both f c.initial.result c.program-program.result c.first-first.result c.args.pc c.unset-base.result c.go_through.new.row c.go_through-then-first-pc.new.row initial steps c.steps_are_ordered.ensures
+    c.initial.ensures.program c.program-program.ensures.program c.first-first.ensures c.if-first-pc.true c.unset-base.ensures c.go_through.ensures c.go_through-then-first-pc.ensures has_initial has in
+    cfa_of f.entry.first c.args.pc initial steps c.go_through-then-first-pc.new.row behind
 
-pub returns-clause-columns : goal.returns-clause-columns
-returns-clause-columns c = λ initial steps has_initial has r lt.
+pub returns-then-first-pc-clause-columns : goal.returns-then-first-pc-clause-columns
+returns-then-first-pc-clause-columns c = λ initial steps has_initial has r lt.
     let f = c.args.fde.now in
     let behind =
-    behind_both f c.initial.result c.program.result c.first.result c.args.pc c.unset-unset.result c.row_behind-base.result c.row_behind.result initial steps c.steps_are_ordered.ensures
-    c.initial.ensures.program c.program.ensures.program c.first.ensures c.unset-unset.ensures c.row_behind-base.ensures c.row_behind.ensures has_initial has in
-    column_of r f.entry.first c.args.pc initial steps c.row_behind.result lt behind
+    behind_both f c.initial.result c.program-program.result c.first-first.result c.args.pc c.unset-base.result c.go_through.new.row c.go_through-then-first-pc.new.row initial steps c.steps_are_ordered.ensures
+    c.initial.ensures.program c.program-program.ensures.program c.first-first.ensures c.if-first-pc.true c.unset-base.ensures c.go_through.ensures c.go_through-then-first-pc.ensures has_initial has in
+    column_of r f.entry.first c.args.pc initial steps c.go_through-then-first-pc.new.row lt behind
+
+pub returns-else-first-pc-clause-cfa : goal.returns-else-first-pc-clause-cfa
+returns-else-first-pc-clause-cfa c = λ initial steps has_initial has.
+    let f = c.args.fde.now in
+    let behind =
+    behind_initial f c.initial.result c.first-first.result c.args.pc c.unset-base.result c.go_through.new.row initial steps c.steps_are_ordered.ensures
+    c.initial.ensures.program c.first-first.ensures c.if-first-pc.false c.unset-base.ensures c.go_through.ensures has_initial has in
+    cfa_of f.entry.first c.args.pc initial steps c.go_through.new.row behind
+
+pub returns-else-first-pc-clause-columns : goal.returns-else-first-pc-clause-columns
+returns-else-first-pc-clause-columns c = λ initial steps has_initial has r lt.
+    let f = c.args.fde.now in
+    let behind =
+    behind_initial f c.initial.result c.first-first.result c.args.pc c.unset-base.result c.go_through.new.row initial steps c.steps_are_ordered.ensures
+    c.initial.ensures.program c.first-first.ensures c.if-first-pc.false c.unset-base.ensures c.go_through.ensures has_initial has in
+    column_of r f.entry.first c.args.pc initial steps c.go_through.new.row lt behind

@@ -12,9 +12,11 @@ use Rattle.eh_bytes.proofs.cursor.Cursor.sleb.Goals as goal
 pub returns-in-len1-up : goal.returns-in-len1-up
 returns-in-len1-up c =
     let rest = c.self.inside.rest.now in
-    let at = c.self.inside.at in
+    let end = c.self.inside.end in
+    let at = end - length rest in
     let short = sleb_at-byte rest at (omega arith) (omega arith) in
     let behind : take (length rest - 1) (drop 1 rest) ≡ drop 1 rest = take_all (length rest - 1) (drop 1 rest) (omega (arith, length-drop 1 rest)) in
-    let found : List ℕ → Result (ℤ × Rest) ByteFault = λ bytes. Ok (signed_digit (get_or rest 0 0), record { bytes = bytes; at = at + 1 }) in
+    let moved : at + 1 ≡ end - length (drop 1 rest) = omega (arith, length-drop 1 rest, c.self.invariant) in
+    let found : List ℕ → ℕ → Result (ℤ × Rest) ByteFault = λ bytes place. Ok (signed_digit (get_or rest 0 0), record { bytes = bytes; at = place }) in
     let bits = to_z-of_z w64 c.signed_digit.result (record { sfits = c.signed_digit.type_inv }) in
-    rw (← c.self.view_is, bits, c.signed_digit.ensures) (short ∙ ap found (sym behind))
+    rw (← c.self.view_is, bits, c.signed_digit.ensures) (short ∙ ap (found (drop 1 rest)) moved ∙ ap (λ (bytes : List ℕ). found bytes (end - length bytes)) (sym behind))
