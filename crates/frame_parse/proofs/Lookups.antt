@@ -1,5 +1,5 @@
 -- Ranges that are apart: at most one has an address. So the one that has it is the first FDE's that covers it.
-use Rattle.std.proofs.Common.{◌≡◌, ℕ, zero, suc, ◌+◌, ◌-◌, ◌<◌, ◌≤◌, Bool, cond, List, [], ◌∷◌, length, get_or, true, false, Some, None, nat_le, nat_lt, refl, sym, ap, subst, ◌∙◌, arith, inl, inr, leb-true, leb-false, ltb-true, le-ltb}
+use Rattle.std.proofs.Common.{◌≡◌, ℕ, zero, suc, ◌+◌, ◌-◌, ◌*◌, ◌<◌, ◌≤◌, Bool, cond, List, [], ◌∷◌, length, get_or, true, false, Some, None, nat_le, nat_lt, refl, sym, ap, subst, ◌∙◌, arith, inl, inr, leb-true, leb-false, ltb-true, le-ltb}
 use Rattle.std.proofs.lemmas.Bool.{and_parts, and_left, and_right, cases_lt, lt-leb}
 use Rattle.std.specs.List.{All, Contains}
 use Rattle.std.specs.List.Sorted.{IsPermutation}
@@ -58,46 +58,104 @@ pub record AreLeft (rs : List CoveredRange) (pc base size : ℕ) : Type 0 where
 pub all_left : (rs : List CoveredRange) (pc : ℕ) → AreLeft rs pc 0 (length rs)
 all_left rs pc = record { within = omega arith; below = λ k d lt. absurd (omega arith); above = λ k d le lt. absurd (omega arith) }
 
-halved : (rs : List CoveredRange) (pc base size half : ℕ) (d : CoveredRange) (b : Bool) → are_apart rs ≡ true → AreLeft rs pc base size → half + half ≤ size → half < size
-    → nat_le (get_or rs (base + half) d).first pc ≡ b → AreLeft rs pc (base + cond b half 0) (size - half)
-halved rs pc base size half d true apart_ left le lt e =
-    let reached = leb-true _ _ e in
+-- a range that begins up to the address leaves itself and those behind it
+upper_left : (rs : List CoveredRange) (pc base size j : ℕ) (d : CoveredRange) → are_apart rs ≡ true → AreLeft rs pc base size → j < size → (get_or rs (base + j) d).first ≤ pc → AreLeft rs pc (base + j) (size - j)
+upper_left rs pc base size j d h left lt reached =
     let w = left.within in
     record {
       within = omega (arith, w);
       below = λ k f kl.
-          elim (cases_lt k (base + half)) [
-            | inl before ↦
-                let up = apart rs k (base + half) f apart_ before (omega (arith, w)) in
-                let same = any_default rs (base + half) f d (omega (arith, w)) in
-                not_above pc (get_or rs k f) (omega (arith, up, ap (λ (r : CoveredRange). r.first) same, reached))
-            | inr ge ↦ absurd (omega arith)
-          ];
+          let up = apart rs k (base + j) f h kl (omega (arith, w)) in
+          let same = any_default rs (base + j) f d (omega (arith, w)) in
+          not_above pc (get_or rs k f) (omega (arith, up, ap (λ (r : CoveredRange). r.first) same, reached));
       above = λ k f ge kl. left.above k f (omega (arith, ge, w)) kl;
     }
-halved rs pc base size half d false apart_ left le lt e =
-    let beyond = leb-false _ _ e in
+
+-- a range that begins above the address leaves those before it
+lower_left : (rs : List CoveredRange) (pc base size j : ℕ) (d : CoveredRange) → are_apart rs ≡ true → AreLeft rs pc base size → j < size → pc < (get_or rs (base + j) d).first → AreLeft rs pc base j
+lower_left rs pc base size j d h left lt beyond =
     let w = left.within in
     record {
       within = omega (arith, w);
-      below = λ k f kl. left.below k f (omega arith);
+      below = left.below;
       above = λ k f ge kl.
-          elim (cases_lt (base + half) k) [
-            | inl behind_ ↦
-                let up = apart rs (base + half) k f apart_ behind_ kl in
-                let same = any_default rs (base + half) f d (omega (arith, w)) in
+          elim (cases_lt (base + j) k) [
+            | inl past ↦
+                let up = apart rs (base + j) k f h past kl in
+                let same = any_default rs (base + j) f d (omega (arith, w)) in
                 not_below pc (get_or rs k f) (omega (arith, up, ap (λ (r : CoveredRange). r.first) same, beyond))
             | inr here ↦
-                let same : k ≡ base + half = omega arith in
+                let same : k ≡ base + j = omega arith in
                 let one = any_default rs k f d kl in
-                not_below pc (get_or rs k f) (omega (arith, ap (λ (r : CoveredRange). r.first) (one ∙ ap (λ j. get_or rs j d) same), beyond))
+                not_below pc (get_or rs k f) (omega (arith, ap (λ (r : CoveredRange). r.first) (one ∙ ap (λ i. get_or rs i d) same), beyond))
           ];
     }
+
+-- more may be left than need be
+wider : (rs : List CoveredRange) (pc base size more : ℕ) → AreLeft rs pc base size → size ≤ more → base + more ≤ length rs → AreLeft rs pc base more
+wider rs pc base size more left le within = record { within = within; below = left.below; above = λ k f ge kl. left.above k f (omega arith) kl }
+
+-- ---- a half at a time
+
+halved : (rs : List CoveredRange) (pc base size half : ℕ) (d : CoveredRange) (b : Bool) → are_apart rs ≡ true → AreLeft rs pc base size → half + half ≤ size → half < size
+    → nat_le (get_or rs (base + half) d).first pc ≡ b → AreLeft rs pc (base + cond b half 0) (size - half)
+halved rs pc base size half d true h left le lt e = upper_left rs pc base size half d h left lt (leb-true _ _ e)
+halved rs pc base size half d false h left le lt e =
+    let w = left.within in
+    let none : base + 0 ≡ base = omega arith in
+    let lower = wider rs pc base half (size - half) (lower_left rs pc base size half d h left lt (leb-false _ _ e)) (omega arith) (omega (arith, w)) in
+    subst (λ k. AreLeft rs pc k (size - half)) (sym none) lower
 
 -- the upper half is left where the range in the middle begins up to the address, else the lower one
 pub half_left : (rs : List CoveredRange) (pc base size half : ℕ) (d : CoveredRange) → are_apart rs ≡ true → AreLeft rs pc base size → half + half ≤ size → half < size
     → AreLeft rs pc (base + cond (nat_le (get_or rs (base + half) d).first pc) half 0) (size - half)
 half_left rs pc base size half d h left le lt = halved rs pc base size half d (nat_le (get_or rs (base + half) d).first pc) h left le lt refl
+
+-- ---- a quarter at a time
+
+-- a quarter is left behind a range that begins up to the address and before one that doesn't
+one_quarter : (rs : List CoveredRange) (pc base size q : ℕ) (d : CoveredRange) → are_apart rs ≡ true → AreLeft rs pc base size → q < size → pc < (get_or rs (base + q) d).first → q ≤ size - q → (more : ℕ) → q ≤ more → more ≤ size → AreLeft rs pc base more
+one_quarter rs pc base size q d h left lt beyond few more le within =
+    let w = left.within in
+    wider rs pc base q more (lower_left rs pc base size q d h left lt beyond) le (omega (arith, w))
+
+-- of two ranges the later one begins above the address where the earlier does
+later : (rs : List CoveredRange) (pc i j : ℕ) (d : CoveredRange) → are_apart rs ≡ true → i < j → j < length rs → pc < (get_or rs i d).first → nat_le (get_or rs j d).first pc ≡ true → ⊥
+later rs pc i j d h lt within beyond e =
+    let up = apart rs i j d h lt within in
+    let down = leb-true _ _ e in
+    omega (arith, up, down)
+
+quartered : (rs : List CoveredRange) (pc base size q : ℕ) (d : CoveredRange) (x y z : Bool) → are_apart rs ≡ true → AreLeft rs pc base size → 0 < q → 4 * q ≤ size
+    → nat_le (get_or rs (base + q) d).first pc ≡ x → nat_le (get_or rs (base + 2 * q) d).first pc ≡ y → nat_le (get_or rs (base + 3 * q) d).first pc ≡ z
+    → (k : ℕ) → k ≡ base + (cond x 1 0 + cond y 1 0 + cond z 1 0) * q → AreLeft rs pc k (size - 3 * q)
+quartered rs pc base size q d true true true h left some le ex ey ez k is =
+    let at : k ≡ base + 3 * q = omega arith in
+    subst (λ n. AreLeft rs pc n (size - 3 * q)) (sym at) (upper_left rs pc base size (3 * q) d h left (omega arith) (leb-true _ _ ez))
+quartered rs pc base size q d true true false h left some le ex ey ez k is =
+    let at : k ≡ base + 2 * q = omega arith in
+    let upper = upper_left rs pc base size (2 * q) d h left (omega arith) (leb-true _ _ ey) in
+    let place : base + 3 * q ≡ base + 2 * q + q = omega arith in
+    let beyond = rw place at (leb-false _ _ ez) in
+    subst (λ n. AreLeft rs pc n (size - 3 * q)) (sym at) (one_quarter rs pc (base + 2 * q) (size - 2 * q) q d h upper (omega arith) beyond (omega arith) (size - 3 * q) (omega arith) (omega arith))
+quartered rs pc base size q d true false false h left some le ex ey ez k is =
+    let at : k ≡ base + q = omega arith in
+    let upper = upper_left rs pc base size q d h left (omega arith) (leb-true _ _ ex) in
+    let place : base + 2 * q ≡ base + q + q = omega arith in
+    let beyond = rw place at (leb-false _ _ ey) in
+    subst (λ n. AreLeft rs pc n (size - 3 * q)) (sym at) (one_quarter rs pc (base + q) (size - q) q d h upper (omega arith) beyond (omega arith) (size - 3 * q) (omega arith) (omega arith))
+quartered rs pc base size q d false false false h left some le ex ey ez k is =
+    let at : k ≡ base = omega arith in
+    subst (λ n. AreLeft rs pc n (size - 3 * q)) (sym at) (one_quarter rs pc base size q d h left (omega arith) (leb-false _ _ ex) (omega arith) (size - 3 * q) (omega arith) (omega arith))
+quartered rs pc base size q d false true z h left some le ex ey ez k is = absurd (later rs pc (base + q) (base + 2 * q) d h (omega arith) (let w = left.within in omega (arith, w)) (leb-false _ _ ex) ey)
+quartered rs pc base size q d false false true h left some le ex ey ez k is = absurd (later rs pc (base + q) (base + 3 * q) d h (omega arith) (let w = left.within in omega (arith, w)) (leb-false _ _ ex) ez)
+quartered rs pc base size q d true false true h left some le ex ey ez k is = absurd (later rs pc (base + 2 * q) (base + 3 * q) d h (omega arith) (let w = left.within in omega (arith, w)) (leb-false _ _ ey) ez)
+
+-- of the ranges a quarter apart, as many quarters are passed by as begin up to the address
+pub quarter_left : (rs : List CoveredRange) (pc base size q : ℕ) (d : CoveredRange) → are_apart rs ≡ true → AreLeft rs pc base size → 0 < q → 4 * q ≤ size
+    → AreLeft rs pc (base + (cond (nat_le (get_or rs (base + q) d).first pc) 1 0 + cond (nat_le (get_or rs (base + 2 * q) d).first pc) 1 0 + cond (nat_le (get_or rs (base + 3 * q) d).first pc) 1 0) * q) (size - 3 * q)
+quarter_left rs pc base size q d h left some le =
+    quartered rs pc base size q d (nat_le (get_or rs (base + q) d).first pc) (nat_le (get_or rs (base + 2 * q) d).first pc) (nat_le (get_or rs (base + 3 * q) d).first pc) h left some le refl refl refl _ refl
 
 within_both : (pc : ℕ) (a b : CoveredRange) → holds pc a ≡ true → holds pc b ≡ true → a.first + a.range ≤ b.first → ⊥
 within_both pc a b ha hb le =

@@ -16,10 +16,10 @@ use std::marker::Model;
 pub struct Program<'a> {
     start: usize,
     section: u64,
-    moves: bool,
     cie: &'a CieRecord,
-    state: State,
     cursor: Cursor<'a>,
+    state: State,
+    moves: bool,
 }
 
 impl<'a> Model for Program<'a> {

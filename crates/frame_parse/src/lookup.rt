@@ -2,7 +2,7 @@
 //! order when the section is read, and then a lookup halves them. Where two share one, the FDEs are gone
 //! through in order of bytes.
 
-ghost use Rattle.std.specs.Prelude.{◌≡◌, ◌<◌, ◌^◌, length, true, false, if◌then◌else◌, IfOk, IfNone, IfSome};
+ghost use Rattle.std.specs.Prelude.{◌≡◌, ◌<◌, ◌^◌, length, true, false, nat_le, if◌then◌else◌, IfOk, IfNone, IfSome};
 ghost use Rattle.std.specs.List.{All, Contains};
 ghost use Rattle.std.specs.Option.{option_copied};
 ghost use Rattle.frame_parse.specs.Sections.{covers, first_cover};
@@ -130,8 +130,16 @@ fn where_holds(number: usize, holds: bool) -> usize
     (number << u32::from(holds)) - number
 }
 
-/// The number of the FDE whose range has the address, where the ranges are apart. Half of those that may have it are
-/// passed by at a time; they begin at `base`.
+/// 1 where the range begins up to an address, else 0.
+#[inline(always)]
+fn begins(range: &CoveredRange, pc: u64) -> usize
+    ensures { result ≡ (if nat_le range.now.first pc then 1 else 0) }
+{
+    usize::from(range.first <= pc)
+}
+
+/// The number of the FDE whose range has the address, where the ranges are apart. Three quarters of those that may have
+/// it are passed by at a time, and at the end one half; those that are left begin at `base`.
 fn ordered_cover(ranges: &[CoveredRange], pc: u64) -> Option<usize>
     requires { are_apart ranges.now ≡ true }
     ensures none { IfNone result (All (λ range. holds pc range ≡ false) ranges.now) }
@@ -140,7 +148,15 @@ fn ordered_cover(ranges: &[CoveredRange], pc: u64) -> Option<usize>
 {
     let mut base = 0;
     let mut size = ranges.len();
-    while size > 1 {
+    'quarters: while size > 3 {
+        let quarter = size / 4;
+        let first = begins(&ranges[base + quarter], pc);
+        let second = begins(&ranges[base + 2 * quarter], pc);
+        let third = begins(&ranges[base + 3 * quarter], pc);
+        base += (first + second + third) * quarter;
+        size -= 3 * quarter;
+    }
+    'halves: while size > 1 {
         let half = size / 2;
         base += where_holds(half, ranges[base + half].first <= pc);
         size -= half;

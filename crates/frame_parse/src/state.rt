@@ -59,6 +59,6 @@ impl Remembered {
 #[derive(Drop)]
 pub struct State {
     pub location: u64,
-    pub offset: bool,
     pub remembered: Remembered,
+    pub offset: bool,
 }
