@@ -72,6 +72,7 @@ impl<'a> Program<'a> {
     }
 
     /// The next instruction, with the location at which it holds, or `None` at the end.
+    #[inline(always)]
     pub fn next(&mut self) -> Option<Step>
         ensures steps { (steps : List Step) → HasSteps self.old steps
             → MatchOption result (steps ≡ []) (λ x. (more : List Step) × (steps ≡ x ∷ more) × HasSteps self.new more) }
