@@ -4,7 +4,7 @@ ghost use Rattle.std.specs.Prelude.{◌≡◌, ℕ, ◌<◌, ◌≤◌, List, []
 ghost use Rattle.frame_parse.specs.declared.instruction.Step.{Step};
 ghost use Rattle.frame_rows.specs.declared.row.Row.{Row};
 ghost use Rattle.frame_rows.specs.Columns.{HasInitial, HasProgram, rule_at, cfa_at};
-ghost use Rattle.frame_rows.specs.Rows.{base_row, beside, rows_behind};
+ghost use Rattle.frame_rows.specs.Rows.{base_row, beside, rows_behind, unset};
 ghost use Rattle.frame_rows.specs.Walk.{GoesOn, Walks};
 
 use crate::base::{Base, NothingSet};
@@ -71,17 +71,26 @@ fn go_through<B: Base>(mut program: Program<'_>, pc: u64, base: &B, row: &mut Ro
     walk(&mut program, pc, base, row);
 }
 
-/// The row that the initial instructions of its CIE leave. It stays a call of its own: a restore, which is rare,
-/// works it out again.
-#[inline(never)]
-pub(crate) fn initial_row(fde: &Fde<'_>) -> Row
+/// Makes of a row in which nothing is set the one that the initial instructions leave.
+#[inline(always)]
+fn set_initial(fde: &Fde<'_>, row: &mut Row)
+    requires { row.old ≡ unset }
     ensures known { (initial : List Step) × HasInitial fde.now initial }
     ensures row { (initial : List Step) → HasInitial fde.now initial
-        → result ≡ base_row fde.now.entry.first initial }
+        → row.new ≡ base_row fde.now.entry.first initial }
 {
     steps_are_ordered();
+    go_through(fde.initial(), fde.first(), &NothingSet, row);
+}
+
+/// The row that the initial instructions leave, for a restore. These are rare, so it is worked out again.
+#[inline(never)]
+pub(crate) fn initial_row(fde: &Fde<'_>) -> Row
+    ensures { (initial : List Step) → HasInitial fde.now initial
+        → result ≡ base_row fde.now.entry.first initial }
+{
     let mut row = Row::unset();
-    go_through(fde.initial(), fde.first(), &NothingSet, &mut row);
+    set_initial(fde, &mut row);
     row
 }
 
@@ -97,7 +106,8 @@ pub fn row_at(fde: &Fde<'_>, pc: u64) -> Row
         → (r : ℕ) → r < 17 → slice_get result.columns r ≡ Some (rule_at r initial steps pc) }
 {
     steps_are_ordered();
-    let mut row = initial_row(fde);
+    let mut row = Row::unset();
+    set_initial(fde, &mut row);
     let program = fde.program();
     if fde.first() <= pc {
         go_through(program, pc, fde, &mut row);
