@@ -16,7 +16,7 @@ use Rattle.frame_rows.specs.declared.row.CfaRule.{CfaRule}
 use Rattle.frame_rows.specs.declared.row.CfaRule.TheVariants as cfas
 use Rattle.frame_rows.specs.declared.row.Row.{Row}
 use Rattle.frame_rows.specs.Columns.{Column, opening, restore_from, rule_of, register_step, cfa_step, instructions, up_to, initial_rule, rule_at, initial_cfa, cfa_at}
-use Rattle.frame_rows.specs.Rows.{Rows, unset, beside, restored, rows_step, rows_behind}
+use Rattle.frame_rows.specs.Rows.{Rows, unset, beside, restored, rows_step, rows_behind, base_row}
 
 -- ---- all rows have seventeen columns
 
@@ -127,10 +127,7 @@ all_up_to location (x ∷ xs) a =
     let here : nat_le x.location location ≡ true = le-leb _ _ (omega (arith, a.0)) in
     rw here (ap (λ (l : List Step). x ∷ l) (all_up_to location xs a.1))
 
--- the row that the initial instructions leave, and the row at an address
-abbrev pub base_row : ℕ → List Step → Row
-base_row first initial = (rows_behind unset first (beside unset []) initial).row
-
+-- the row at an address
 abbrev pub row_from : Row → ℕ → List Step → Row
 row_from base pc steps = (rows_behind base pc (beside base []) steps).row
 

@@ -7,10 +7,10 @@ use Rattle.frame_parse.specs.Programs.{ProgramRest, HasSteps, initial_of, progra
 use Rattle.frame_parse.specs.Sections.{FdeContents}
 use Rattle.frame_rows.specs.declared.row.Row.{Row}
 use Rattle.frame_rows.specs.Columns.{HasInitial, HasProgram, instructions, up_to}
-use Rattle.frame_rows.specs.Rows.{unset, beside, rows_step, rows_behind}
+use Rattle.frame_rows.specs.Rows.{unset, beside, rows_step, rows_behind, base_row}
 use Rattle.frame_rows.specs.Walk.{GoesOn}
 use Rattle.frame_rows.proofs.Onward.{goes_on_from, none_up_to}
-use Rattle.frame_rows.proofs.Agreement.{base_row, row_from, IsBehind}
+use Rattle.frame_rows.proofs.Agreement.{row_from, IsBehind}
 
 -- what holds along the steps of every program
 abbrev pub Law : Type 0
@@ -24,15 +24,17 @@ opens p pc steps law has none reached =
 abbrev pub Leaves : ProgramRest → ℕ → Row → Row → Row → Type 0
 Leaves p pc base before after = (steps : List Step) → GoesOn p pc 0 steps → after ≡ (rows_behind base pc (beside before []) steps).row
 
-initial_left : (f : FdeContents) (p : ProgramRest) (first : ℕ) (start base : Row) (initial : List Step) → Law → p ≡ initial_of f.section f.entry (text_at f.bytes f.entry.cie.initial) → first ≡ f.entry.first → start ≡ unset → Leaves p first unset start base
-    → HasInitial f initial → (base ≡ base_row f.entry.first initial) × AreAt f.entry.first initial
+pub initial_left : (f : FdeContents) (p : ProgramRest) (first : ℕ) (start base : Row) (initial : List Step) → Law → p ≡ initial_of f.section f.entry (text_at f.bytes f.entry.cie.initial) → first ≡ f.entry.first → start ≡ unset → Leaves p first unset start base
+    → HasInitial f initial → base ≡ base_row f.entry.first initial
 initial_left f p first start base initial law is at none left has =
     let here : HasSteps p initial = subst (λ (k : ProgramRest). HasSteps k initial) (sym is) has in
     let place : p.state.location ≡ f.entry.first = ap (λ (k : ProgramRest). k.state.location) is in
-    let made = left initial (opens p first initial law here (ap (λ (k : ProgramRest). k.state.remembered) is) (omega arith)) in (
-      made ∙ ap (λ (k : Row). (rows_behind unset first (beside k []) initial).row) none ∙ ap (λ (l : ℕ). base_row l initial) at,
-      subst (λ (l : ℕ). AreAt l initial) place ((law p initial here).staying (ap (λ (k : ProgramRest). k.moves) is)),
-    )
+    let made = left initial (opens p first initial law here (ap (λ (k : ProgramRest). k.state.remembered) is) (omega arith)) in
+    made ∙ ap (λ (k : Row). (rows_behind unset first (beside k []) initial).row) none ∙ ap (λ (l : ℕ). base_row l initial) at
+
+-- the initial instructions all stand at the first address
+initial_at : (f : FdeContents) (initial : List Step) → Law → HasInitial f initial → AreAt f.entry.first initial
+initial_at f initial law has = (law (initial_of f.section f.entry (text_at f.bytes f.entry.cie.initial)) initial has).staying refl
 
 program_left : (f : FdeContents) (q : ProgramRest) (first pc : ℕ) (base row : Row) (steps : List Step) → Law → q ≡ program_of f.section f.entry (text_at f.bytes f.entry.program) → first ≡ f.entry.first → first ≤ pc → Leaves q pc base base row → HasProgram f steps
     → row ≡ row_from base pc steps
@@ -49,14 +51,12 @@ nothing_left f first pc base steps law at below has =
     ap (λ (l : List Step). (fold (rows_step base) (beside base []) (instructions l)).row) (sym none)
 
 -- the row behind both programs, and behind the initial instructions alone where the address is below the first one
-pub behind_both : (f : FdeContents) (p q : ProgramRest) (first pc : ℕ) (start base row : Row) (initial steps : List Step) → Law → p ≡ initial_of f.section f.entry (text_at f.bytes f.entry.cie.initial) → q ≡ program_of f.section f.entry (text_at f.bytes f.entry.program)
-    → first ≡ f.entry.first → first ≤ pc → start ≡ unset → Leaves p first unset start base → Leaves q pc base base row → HasInitial f initial → HasProgram f steps → IsBehind f.entry.first pc initial steps row
-behind_both f p q first pc start base row initial steps law is_p is_q at reached none left_base left_row has_initial has =
-    let made = initial_left f p first start base initial law is_p at none left_base has_initial in
-    record { at = made.1; is = program_left f q first pc base row steps law is_q at reached left_row has ∙ ap (λ (k : Row). row_from k pc steps) made.0 }
+pub behind_both : (f : FdeContents) (q : ProgramRest) (first pc : ℕ) (base row : Row) (initial steps : List Step) → Law → q ≡ program_of f.section f.entry (text_at f.bytes f.entry.program)
+    → first ≡ f.entry.first → first ≤ pc → base ≡ base_row f.entry.first initial → Leaves q pc base base row → HasInitial f initial → HasProgram f steps → IsBehind f.entry.first pc initial steps row
+behind_both f q first pc base row initial steps law is at reached made left has_initial has =
+    record { at = initial_at f initial law has_initial; is = program_left f q first pc base row steps law is at reached left has ∙ ap (λ (k : Row). row_from k pc steps) made }
 
-pub behind_initial : (f : FdeContents) (p : ProgramRest) (first pc : ℕ) (start base : Row) (initial steps : List Step) → Law → p ≡ initial_of f.section f.entry (text_at f.bytes f.entry.cie.initial)
-    → first ≡ f.entry.first → pc < first → start ≡ unset → Leaves p first unset start base → HasInitial f initial → HasProgram f steps → IsBehind f.entry.first pc initial steps base
-behind_initial f p first pc start base initial steps law is_p at below none left_base has_initial has =
-    let made = initial_left f p first start base initial law is_p at none left_base has_initial in
-    record { at = made.1; is = nothing_left f first pc base steps law at below has ∙ ap (λ (k : Row). row_from k pc steps) made.0 }
+pub behind_initial : (f : FdeContents) (first pc : ℕ) (base : Row) (initial steps : List Step) → Law → first ≡ f.entry.first → pc < first → base ≡ base_row f.entry.first initial → HasInitial f initial → HasProgram f steps
+    → IsBehind f.entry.first pc initial steps base
+behind_initial f first pc base initial steps law at below made has_initial has =
+    record { at = initial_at f initial law has_initial; is = nothing_left f first pc base steps law at below has ∙ ap (λ (k : Row). row_from k pc steps) made }

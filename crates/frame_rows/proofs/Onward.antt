@@ -86,28 +86,22 @@ rows_on base pc s x more steps are le =
 -- ---- how a walk goes on
 
 pub leads_here : (base : Row) (pc : ℕ) (p : ProgramRest) (row : Row) → LeadsTo base pc p row p row
-leads_here base pc p row = record { shorter = omega arith; rows = λ steps below g. record { more = steps; on = g; same = refl } }
+leads_here base pc p row = λ steps below g. record { more = steps; on = g; same = refl }
 
 pub leads_on : (base : Row) (pc : ℕ) (p q r : ProgramRest) (row other last : Row) → LeadsTo base pc p row q other → LeadsTo base pc q other r last → LeadsTo base pc p row r last
-leads_on base pc p q r row other last a b = record {
-  shorter = omega (arith, a.shorter, b.shorter);
-  rows = λ steps below g.
-      let one = a.rows steps below g in
-      let two = b.rows one.more below one.on in
-      record { more = two.more; on = two.on; same = one.same ∙ two.same };
-}
+leads_on base pc p q r row other last a b = λ steps below g.
+    let one = a steps below g in
+    let two = b one.more below one.on in
+    record { more = two.more; on = two.on; same = one.same ∙ two.same }
 
 pub leads_stop : (base : Row) (pc : ℕ) (p q r : ProgramRest) (row other last : Row) (stop : Stop) → LeadsTo base pc p row q other → Walks base pc q other stop r last → Walks base pc p row stop r last
 leads_stop base pc p q r row other last End a b = λ steps below g.
-    let one = a.rows steps below g in
+    let one = a steps below g in
     ap (λ (s : Rows). s.row) one.same ∙ b one.more below one.on
-leads_stop base pc p q r row other last Restored a b = record {
-  shorter = omega (arith, a.shorter, b.shorter);
-  rows = λ steps below g.
-      let one = a.rows steps below g in
-      let two = b.rows one.more below one.on in
-      record { last = two.last; others = two.others; are = two.are; onward = record { more = two.onward.more; on = two.onward.on; same = one.same ∙ two.onward.same } };
-}
+leads_stop base pc p q r row other last Restored a b = λ steps below g.
+    let one = a steps below g in
+    let two = b one.more below one.on in
+    record { last = two.last; others = two.others; are = two.are; onward = record { more = two.onward.more; on = two.onward.on; same = one.same ∙ two.onward.same } }
 
 -- an instruction that changes the row alone
 record IsPlain (i : Instruction) : Type 0 where
@@ -125,48 +119,42 @@ plain (Cfa q n) a b = record { flat = λ d. refl; stays = λ base row below. ref
 plain (CfaColumn q) a b = record { flat = λ d. refl; stays = λ base row below. refl }
 plain (CfaOffset n) a b = record { flat = λ d. refl; stays = λ base row below. refl }
 
-pub leads_plain : (base : Row) (pc : ℕ) (p q : ProgramRest) (row : Row) (x : Step) → Gives p x q → length q.rest.bytes < length p.rest.bytes → IsReached pc x → (x.instruction ≡ Remember → ⊥) → (x.instruction ≡ RestoreState → ⊥)
+pub leads_plain : (base : Row) (pc : ℕ) (p q : ProgramRest) (row : Row) (x : Step) → Gives p x q → IsReached pc x → (x.instruction ≡ Remember → ⊥) → (x.instruction ≡ RestoreState → ⊥)
     → LeadsTo base pc p row q (applied base row x.instruction)
-leads_plain base pc p q row x gives shorter reached a b =
+leads_plain base pc p q row x gives reached a b =
     let i = plain x.instruction a b in
+    λ steps below g.
+    let n = next_of p q x pc (length below) steps gives g in
+    let le = n.stays reached in
     record {
-      shorter = omega arith;
-      rows = λ steps below g.
-          let n = next_of p q x pc (length below) steps gives g in
-          let le = n.stays reached in
-          record {
-            more = n.more;
-            on = subst (λ (d : ℕ). GoesOn q pc d n.more) (i.flat (length below)) (n.on le);
-            same = rows_on base pc (beside row below) x n.more steps n.are le ∙ ap (λ (s : Rows). rows_behind base pc s n.more) (i.stays base row below);
-          };
+      more = n.more;
+      on = subst (λ (d : ℕ). GoesOn q pc d n.more) (i.flat (length below)) (n.on le);
+      same = rows_on base pc (beside row below) x n.more steps n.are le ∙ ap (λ (s : Rows). rows_behind base pc s n.more) (i.stays base row below);
     }
 
 -- behind an Advance that doesn't lead past the address
-pub leads_advance : (base : Row) (pc : ℕ) (p q : ProgramRest) (row : Row) (x : Step) → Gives p x q → length q.rest.bytes < length p.rest.bytes → x.location ≤ pc → x.instruction ≡ Advance → LeadsTo base pc p row q row
-leads_advance base pc p q row x gives shorter le is =
-    let plain = leads_plain base pc p q row x gives shorter (λ e. le) (λ e. absurd (let two = sym is ∙ e in cc)) (λ e. absurd (let two = sym is ∙ e in cc)) in
+pub leads_advance : (base : Row) (pc : ℕ) (p q : ProgramRest) (row : Row) (x : Step) → Gives p x q → x.location ≤ pc → x.instruction ≡ Advance → LeadsTo base pc p row q row
+leads_advance base pc p q row x gives le is =
+    let plain = leads_plain base pc p q row x gives (λ e. le) (λ e. absurd (let two = sym is ∙ e in cc)) (λ e. absurd (let two = sym is ∙ e in cc)) in
     subst (λ (k : Row). LeadsTo base pc p row q k) (ap (applied base row) is) plain
 
 -- behind remember_state, up to the step that takes the row back
-pub leads_back : (base : Row) (pc : ℕ) (p q r : ProgramRest) (row other : Row) (x : Step) → Gives p x q → length q.rest.bytes < length p.rest.bytes → x.instruction ≡ Remember → Walks base pc q row Restored r other
+pub leads_back : (base : Row) (pc : ℕ) (p q r : ProgramRest) (row other : Row) (x : Step) → Gives p x q → x.instruction ≡ Remember → Walks base pc q row Restored r other
     → LeadsTo base pc p row r row
-leads_back base pc p q r row other x gives shorter is inner = record {
-  shorter = omega (arith, inner.shorter);
-  rows = λ steps below g.
-      let n = next_of p q x pc (length below) steps gives g in
-      let le = n.stays (not_advance pc x _ is (λ e. cc)) in
-      let deeper : depth_behind (length below) x.instruction ≡ length (row ∷ below) = ap (depth_behind (length below)) is ∙ omega arith in
-      let back = inner.rows n.more (row ∷ below) (subst (λ (d : ℕ). GoesOn q pc d n.more) deeper (n.on le)) in
-      let first : row ≡ back.last = let e = back.are in cc in
-      let rest : below ≡ back.others = let e = back.are in cc in
-      let there : beside back.last back.others ≡ beside row below = ap (λ (k : Row). beside k back.others) (sym first) ∙ ap (λ (l : List Row). beside row l) (sym rest) in
-      let stepped : rows_step base (beside row below) x.instruction ≡ beside row (row ∷ below) = ap (rows_step base (beside row below)) is in
-      record {
-        more = back.onward.more;
-        on = subst (λ (l : List Row). GoesOn r pc (length l) back.onward.more) (sym rest) back.onward.on;
-        same = rows_on base pc (beside row below) x n.more steps n.are le ∙ ap (λ (s : Rows). rows_behind base pc s n.more) stepped ∙ back.onward.same ∙ ap (λ (s : Rows). rows_behind base pc s back.onward.more) there;
-      };
-}
+leads_back base pc p q r row other x gives is inner = λ steps below g.
+    let n = next_of p q x pc (length below) steps gives g in
+    let le = n.stays (not_advance pc x _ is (λ e. cc)) in
+    let deeper : depth_behind (length below) x.instruction ≡ length (row ∷ below) = ap (depth_behind (length below)) is ∙ omega arith in
+    let back = inner n.more (row ∷ below) (subst (λ (d : ℕ). GoesOn q pc d n.more) deeper (n.on le)) in
+    let first : row ≡ back.last = let e = back.are in cc in
+    let rest : below ≡ back.others = let e = back.are in cc in
+    let there : beside back.last back.others ≡ beside row below = ap (λ (k : Row). beside k back.others) (sym first) ∙ ap (λ (l : List Row). beside row l) (sym rest) in
+    let stepped : rows_step base (beside row below) x.instruction ≡ beside row (row ∷ below) = ap (rows_step base (beside row below)) is in
+    record {
+      more = back.onward.more;
+      on = subst (λ (l : List Row). GoesOn r pc (length l) back.onward.more) (sym rest) back.onward.on;
+      same = rows_on base pc (beside row below) x n.more steps n.are le ∙ ap (λ (s : Rows). rows_behind base pc s n.more) stepped ∙ back.onward.same ∙ ap (λ (s : Rows). rows_behind base pc s back.onward.more) there;
+    }
 
 -- ---- how it stops
 
@@ -206,16 +194,13 @@ taken_back base pc row (last ∷ others) steps q x n is =
       };
     }
 
-pub stops_restored : (base : Row) (pc : ℕ) (p q : ProgramRest) (row other : Row) (x : Step) → Gives p x q → length q.rest.bytes < length p.rest.bytes → x.instruction ≡ RestoreState → Walks base pc p row Restored q other
-stops_restored base pc p q row other x gives shorter is = record {
-  shorter = omega arith;
-  rows = λ steps below g. taken_back base pc row below steps q x (next_of p q x pc (length below) steps gives g) is;
-}
+pub stops_restored : (base : Row) (pc : ℕ) (p q : ProgramRest) (row other : Row) (x : Step) → Gives p x q → x.instruction ≡ RestoreState → Walks base pc p row Restored q other
+stops_restored base pc p q row other x gives is = λ steps below g. taken_back base pc row below steps q x (next_of p q x pc (length below) steps gives g) is
 
 -- a walk on which nothing was remembered before goes to the end
 pub whole : (base : Row) (pc : ℕ) (p q : ProgramRest) (row other : Row) (stop : Stop) → Walks base pc p row stop q other → (steps : List Step) → GoesOn p pc 0 steps → (rows_behind base pc (beside row []) steps).row ≡ other
 whole base pc p q row other End w steps g = w steps [] g
-whole base pc p q row other Restored w steps g = absurd (let none = (w.rows steps [] g).are in cc)
+whole base pc p q row other Restored w steps g = absurd (let none = (w steps [] g).are in cc)
 
 -- the laws of a program's steps, at its start
 pub goes_on_from : (p : ProgramRest) (pc location : ℕ) (steps : List Step) → location ≤ pc → HasSteps p steps → IsAscendingFrom location steps → IsBalanced 0 steps → GoesOn p pc 0 steps

@@ -1,22 +1,18 @@
 -- Rows of all columns, and the remembered ones: how the code goes through a program.
-use Rattle.std.specs.Prelude.{ℕ, Option, Some, None, List, [], ◌∷◌, replicate, slice_set, slice_index_or}
+use Rattle.std.specs.Prelude.{◌≡◌, ℕ, List, [], ◌∷◌, replicate, slice_set, slice_index_or}
 use Rattle.std.specs.List.{fold}
 use Rattle.frame_parse.specs.declared.instruction.Instruction.{Instruction}
 use Rattle.frame_parse.specs.declared.instruction.Instruction.TheVariants.{Nop, Advance, Set, Restore, Remember, RestoreState, Cfa, CfaColumn, CfaOffset}
 use Rattle.frame_parse.specs.declared.instruction.Step.{Step}
+use Rattle.frame_parse.specs.Sections.{FdeContents}
 use Rattle.frame_rows.specs.declared.row.Rule.TheVariants as rules
 use Rattle.frame_rows.specs.declared.row.CfaRule.TheVariants as cfas
 use Rattle.frame_rows.specs.declared.row.Row.{Row}
-use Rattle.frame_rows.specs.Columns.{rule_of, with_column, with_offset, instructions, up_to}
+use Rattle.frame_rows.specs.Columns.{HasInitial, rule_of, with_column, with_offset, instructions, up_to}
 
 -- the row before any instruction
 abbrev pub unset : Row
 unset = record { cfa = cfas.Missing; columns = replicate 17 rules.Unset }
-
--- the row whose rules a restore gives back: inside the initial instructions there is none, and nothing is set
-abbrev pub given_back : Option Row → Row
-given_back None = unset
-given_back (Some row) = row
 
 -- the row behind an instruction that doesn't remember or restore a state
 abbrev pub applied : Row → Row → Instruction → Row
@@ -56,3 +52,11 @@ rows_step base s Advance = s
 -- the rows behind the steps up to an address
 abbrev pub rows_behind : Row → ℕ → Rows → List Step → Rows
 rows_behind base pc s steps = fold (rows_step base) s (instructions (up_to pc steps))
+
+-- the row that the initial instructions leave; inside them a restore leaves nothing set
+abbrev pub base_row : ℕ → List Step → Row
+base_row first initial = (rows_behind unset first (beside unset []) initial).row
+
+-- the row whose rules a restore gives back among the instructions of an FDE itself
+abbrev pub IsBaseRow : FdeContents → Row → Type 0
+IsBaseRow f row = (initial : List Step) × HasInitial f initial × (row ≡ base_row f.entry.first initial)

@@ -23,9 +23,8 @@ pub record IsOnward (base : Row) (pc : ℕ) (from : Rows) (steps : List Step) (q
   pub same : rows_behind base pc from steps ≡ rows_behind base pc to more
 
 -- from a row at p to another row at q, with the same rows remembered
-pub record LeadsTo (base : Row) (pc : ℕ) (p : ProgramRest) (row : Row) (q : ProgramRest) (other : Row) : Type 0 where
-  pub shorter : length q.rest.bytes ≤ length p.rest.bytes
-  pub rows : (steps : List Step) (below : List Row) → GoesOn p pc (length below) steps → IsOnward base pc (beside row below) steps q (beside other below)
+abbrev pub LeadsTo : Row → ℕ → ProgramRest → Row → ProgramRest → Row → Type 0
+LeadsTo base pc p row q other = (steps : List Step) (below : List Row) → GoesOn p pc (length below) steps → IsOnward base pc (beside row below) steps q (beside other below)
 
 -- behind the step that takes back the last of the remembered rows
 pub record TakesBack (base : Row) (pc : ℕ) (row : Row) (below : List Row) (steps : List Step) (q : ProgramRest) : Type 0 where
@@ -34,11 +33,7 @@ pub record TakesBack (base : Row) (pc : ℕ) (row : Row) (below : List Row) (ste
   pub are : below ≡ last ∷ others
   pub onward : IsOnward base pc (beside row below) steps q (beside last others)
 
-pub record Restores (base : Row) (pc : ℕ) (p : ProgramRest) (row : Row) (q : ProgramRest) : Type 0 where
-  pub shorter : length q.rest.bytes ≤ length p.rest.bytes
-  pub rows : (steps : List Step) (below : List Row) → GoesOn p pc (length below) steps → TakesBack base pc row below steps q
-
 -- A walk stops behind all steps up to the address, with their row, or behind a step that takes a row back.
 abbrev pub Walks : Row → ℕ → ProgramRest → Row → Stop → ProgramRest → Row → Type 0
 Walks base pc p row End q other = (steps : List Step) (below : List Row) → GoesOn p pc (length below) steps → (rows_behind base pc (beside row below) steps).row ≡ other
-Walks base pc p row Restored q other = Restores base pc p row q
+Walks base pc p row Restored q other = (steps : List Step) (below : List Row) → GoesOn p pc (length below) steps → TakesBack base pc row below steps q

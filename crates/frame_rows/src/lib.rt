@@ -5,6 +5,7 @@
 //! Nothing here takes memory.
 #![tactic(auto)]
 
+mod base;
 mod row;
 mod walk;
 

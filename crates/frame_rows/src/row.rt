@@ -1,10 +1,11 @@
 //! Rules and rows, and what an instruction makes of a row.
 
 ghost use Rattle.std.specs.Prelude.{◌≡◌, slice_index_or, slice_set};
-ghost use Rattle.std.specs.Option.{option_copied};
+ghost use Rattle.frame_rows.specs.declared.row.Row.{Row};
 ghost use Rattle.frame_rows.specs.Columns.{rule_of, with_column, with_offset};
-ghost use Rattle.frame_rows.specs.Rows.{applied, given_back, unset};
+ghost use Rattle.frame_rows.specs.Rows.{applied, unset};
 
+use crate::base::Base;
 use frame_parse::{Instruction, ReadRule};
 
 /// How the CFA is found.
@@ -73,7 +74,7 @@ impl Row {
     }
 
     /// The rule of a column; those above 16 have none.
-    fn rule(&self, column: u8) -> Rule
+    pub(crate) fn rule(&self, column: u8) -> Rule
         ensures { result ≡ slice_index_or self.now.columns column Rule.Unset }
     {
         if column < 17 {
@@ -107,25 +108,14 @@ fn rule_of(read: ReadRule) -> Rule
     }
 }
 
-/// The rule that a restore gives back to a column: that of the row which the initial instructions left. Inside them
-/// nothing is set.
-fn initial_rule(base: Option<&Row>, column: u8) -> Rule
-    ensures { result ≡ slice_index_or (given_back (option_copied base.entry)).columns column Rule.Unset }
-{
-    match base {
-        None => Rule::Unset,
-        Some(row) => row.rule(column),
-    }
-}
-
 /// What an instruction makes of a row by itself.
 #[inline(always)]
-pub(crate) fn apply(row: &mut Row, base: Option<&Row>, instruction: Instruction)
-    ensures { row.new ≡ applied (given_back (option_copied base.entry)) row.old instruction }
+pub(crate) fn apply<B: Base>(row: &mut Row, base: &B, instruction: Instruction)
+    ensures { (given : Row) → B.gives base.now given → row.new ≡ applied given row.old instruction }
 {
     match instruction {
         Instruction::Set { column, rule } => row.set(column, rule_of(rule)),
-        Instruction::Restore { column } => row.set(column, initial_rule(base, column)),
+        Instruction::Restore { column } => row.set(column, base.rule(column)),
         Instruction::Cfa { column, by } => row.cfa = CfaRule::Offset { column, by },
         Instruction::CfaColumn { column } => row.cfa = row.cfa.with_column(column),
         Instruction::CfaOffset { by } => row.cfa = row.cfa.with_offset(by),

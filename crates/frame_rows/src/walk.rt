@@ -1,12 +1,13 @@
 //! Going through a program up to an address.
 
-ghost use Rattle.std.specs.Prelude.{◌≡◌, ℕ, ◌<◌, List, [], slice_get, Some};
-ghost use Rattle.std.specs.Option.{option_copied};
+ghost use Rattle.std.specs.Prelude.{◌≡◌, ℕ, ◌<◌, ◌≤◌, List, [], length, slice_get, Some};
 ghost use Rattle.frame_parse.specs.declared.instruction.Step.{Step};
+ghost use Rattle.frame_rows.specs.declared.row.Row.{Row};
 ghost use Rattle.frame_rows.specs.Columns.{HasInitial, HasProgram, rule_at, cfa_at};
-ghost use Rattle.frame_rows.specs.Rows.{beside, given_back, rows_behind};
+ghost use Rattle.frame_rows.specs.Rows.{base_row, beside, rows_behind, unset};
 ghost use Rattle.frame_rows.specs.Walk.{GoesOn, Walks};
 
+use crate::base::{Base, NothingSet};
 use crate::row::{Row, apply};
 use frame_parse::{Fde, Instruction, Program, steps_are_ordered};
 
@@ -22,8 +23,10 @@ enum Stop {
 /// Goes on from a row. What is remembered on the way is kept by a walk of its own, so that a program that
 /// remembers nothing pays for no other row.
 #[cycle(walk)]
-fn walk(program: &mut Program<'_>, pc: u64, base: Option<&Row>, row: &mut Row) -> Stop
-    ensures { Walks (given_back (option_copied base.entry)) pc program.old row.old result program.new row.new }
+fn walk<B: Base>(program: &mut Program<'_>, pc: u64, base: &B, row: &mut Row) -> Stop
+    ensures shorter { result ≡ Stop.Restored → length program.new.rest.bytes ≤ length program.old.rest.bytes }
+    ensures walks { (given : Row) → B.gives base.now given
+        → Walks given pc program.old row.old result program.new row.new }
 {
     while let Some(step) = program.next() {
         match step.instruction {
@@ -46,8 +49,10 @@ fn walk(program: &mut Program<'_>, pc: u64, base: Option<&Row>, row: &mut Row) -
 /// Goes on from a row that is remembered, and takes it back where it is restored.
 #[cycle(walk)]
 #[inline(never)]
-fn walk_back(program: &mut Program<'_>, pc: u64, base: Option<&Row>, row: &mut Row) -> Stop
-    ensures walks { Walks (given_back (option_copied base.entry)) pc program.old row.old result program.new row.new }
+fn walk_back<B: Base>(program: &mut Program<'_>, pc: u64, base: &B, row: &mut Row) -> Stop
+    ensures shorter { result ≡ Stop.Restored → length program.new.rest.bytes ≤ length program.old.rest.bytes }
+    ensures walks { (given : Row) → B.gives base.now given
+        → Walks given pc program.old row.old result program.new row.new }
     ensures kept { result ≡ Stop.Restored → row.new ≡ row.old }
 {
     let kept = *row;
@@ -59,11 +64,34 @@ fn walk_back(program: &mut Program<'_>, pc: u64, base: Option<&Row>, row: &mut R
 }
 
 /// Goes from a row on to the one behind all steps of a program up to an address.
-fn go_through(mut program: Program<'_>, pc: u64, base: Option<&Row>, row: &mut Row)
-    ensures { (steps : List Step) → GoesOn program.entry pc 0 steps
-        → row.new ≡ (rows_behind (given_back (option_copied base.entry)) pc (beside row.old []) steps).row }
+fn go_through<B: Base>(mut program: Program<'_>, pc: u64, base: &B, row: &mut Row)
+    ensures { (given : Row) → B.gives base.now given → (steps : List Step) → GoesOn program.entry pc 0 steps
+        → row.new ≡ (rows_behind given pc (beside row.old []) steps).row }
 {
     walk(&mut program, pc, base, row);
+}
+
+/// Makes of a row in which nothing is set the one that the initial instructions leave.
+#[inline(always)]
+fn set_initial(fde: &Fde<'_>, row: &mut Row)
+    requires { row.old ≡ unset }
+    ensures known { (initial : List Step) × HasInitial fde.now initial }
+    ensures row { (initial : List Step) → HasInitial fde.now initial
+        → row.new ≡ base_row fde.now.entry.first initial }
+{
+    steps_are_ordered();
+    go_through(fde.initial(), fde.first(), &NothingSet, row);
+}
+
+/// The row that the initial instructions leave, for a restore. These are rare, so it is worked out again.
+#[inline(never)]
+pub(crate) fn initial_row(fde: &Fde<'_>) -> Row
+    ensures { (initial : List Step) → HasInitial fde.now initial
+        → result ≡ base_row fde.now.entry.first initial }
+{
+    let mut row = Row::unset();
+    set_initial(fde, &mut row);
+    row
 }
 
 /// The row that holds at an address of an FDE: what the initial instructions of its CIE make of a row in which
@@ -78,13 +106,11 @@ pub fn row_at(fde: &Fde<'_>, pc: u64) -> Row
         → (r : ℕ) → r < 17 → slice_get result.columns r ≡ Some (rule_at r initial steps pc) }
 {
     steps_are_ordered();
-    let first = fde.first();
-    let mut base = Row::unset();
-    go_through(fde.initial(), first, None, &mut base);
+    let mut row = Row::unset();
+    set_initial(fde, &mut row);
     let program = fde.program();
-    let mut row = base;
-    if first <= pc {
-        go_through(program, pc, Some(&base), &mut row);
+    if fde.first() <= pc {
+        go_through(program, pc, fde, &mut row);
     }
     row
 }

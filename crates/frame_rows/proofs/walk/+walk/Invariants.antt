@@ -1,17 +1,16 @@
-use Rattle.std.proofs.Common.{◌+◌, ◌*◌, length}
-use Rattle.std.specs.Option.{option_copied}
-use Rattle.frame_rows.specs.Rows.{given_back}
+use Rattle.std.proofs.Common.{◌+◌, ◌*◌, ◌≤◌, length}
+use Rattle.frame_rows.specs.declared.row.Row.{Row}
 use Rattle.frame_rows.specs.Walk.{LeadsTo}
 use Rattle.frame_rows.proofs.walk.+walk.Given as goal
 
 abbrev pub decreases-walk : goal.decreases-walk
-decreases-walk l = 2 * length l.program.now.rest.bytes
+decreases-walk g l = 2 * length l.program.now.rest.bytes
 
 abbrev pub decreases-walk_back : goal.decreases-walk_back
-decreases-walk_back l = 2 * length l.program.now.rest.bytes + 1
+decreases-walk_back g l = 2 * length l.program.now.rest.bytes + 1
 
 abbrev pub invariant-walk-loop-step : goal.invariant-walk-loop-step
-invariant-walk-loop-step l = LeadsTo (given_back (option_copied l.base)) l.pc l.fn.program l.fn.row l.program l.row
+invariant-walk-loop-step g l = (length l.program.rest.bytes ≤ length l.fn.program.rest.bytes) × ((given : Row) → g.B.Base.gives l.base given → LeadsTo given l.pc l.fn.program l.fn.row l.program l.row)
 
 abbrev pub decreases-walk-loop-step : goal.decreases-walk-loop-step
-decreases-walk-loop-step l = length l.program.rest.bytes
+decreases-walk-loop-step g l = length l.program.rest.bytes
