@@ -1,6 +1,6 @@
 //! Which FDE covers an address. The FDEs of most sections share no address, so their ranges are put in
-//! order when the section is read, and then a lookup halves them. Where two share one, the FDEs are gone
-//! through in order of bytes.
+//! order when the section is read, and then a lookup passes by most of those that are left at each step. Where
+//! two share one, the FDEs are gone through in order of bytes.
 
 ghost use Rattle.std.specs.Prelude.{◌≡◌, ◌<◌, ◌^◌, length, true, false, nat_le, if◌then◌else◌, IfOk, IfNone, IfSome};
 ghost use Rattle.std.specs.List.{All, Contains};

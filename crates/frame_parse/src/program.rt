@@ -364,8 +364,8 @@ fn called_step(
     Ok(step)
 }
 
-/// The step of an instruction whose operands aren't in its byte. Those of which compilers write most are here, so
-/// that they are read in place.
+/// The step of an instruction whose operands aren't in its byte, but def_cfa_offset, which `step` reads. Those of which
+/// compilers write most are here, so that they are read in place.
 #[inline(always)]
 #[tactic(auto, unfolding(crate::specs::Programs::plain_operation))]
 fn plain_step(
@@ -408,8 +408,8 @@ fn plain_step(
 }
 
 /// The next instruction, with the location at which it holds. The state is then the one behind it. Each instruction is
-/// tested where it is read, so that nothing goes by its kind a second time; the two that are most frequent come first,
-/// apart from the others, since a branch is guessed better than a jump through a table.
+/// tested where it is read, so that nothing goes by its kind a second time; the two that are most frequent, advance_loc
+/// and def_cfa_offset, come first, since a branch is guessed better than a jump through a table.
 #[inline(always)]
 #[tactic(auto, unfolding(crate::specs::Programs::step, crate::specs::Programs::operation, crate::specs::Programs::plain_operation))]
 pub(crate) fn step(
