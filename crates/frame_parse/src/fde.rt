@@ -50,17 +50,17 @@ pub(crate) fn fde(
     cursor: &mut Cursor,
     section: u64,
     end: usize,
-    cie: CieRecord,
+    cie: &CieRecord,
 ) -> Result<FdeRecord, FrameFault>
-    ensures { Gives (λ f. f) (fde start section end cie).read cursor.old result cursor.new }
+    ensures { Gives (λ f. f) (fde start section end cie.now).read cursor.old result cursor.new }
 {
     let pointers = cie.augmentation.pointers;
     let first = pointer(start, cursor, section, pointers)?;
     let range = range(start, cursor, pointers, first)?;
-    let lsda = lsda(start, cursor, section, &cie)?;
+    let lsda = lsda(start, cursor, section, cie)?;
     Ok(FdeRecord {
         start,
-        cie,
+        cie: *cie,
         first,
         range,
         lsda,

@@ -47,8 +47,8 @@ fn content(
         None => Err(FrameFault::NoCie { start, at }),
         Some(cie) => {
             let fde = fde(start, cursor, section, end, cie)?;
-            let state = first_state(&cie, fde.first);
-            let _state = steps(start, cursor, section, true, &cie, state)?;
+            let state = first_state(cie, fde.first);
+            let _state = steps(start, cursor, section, true, cie, state)?;
             Ok(Record::Fde(fde))
         }
     }
