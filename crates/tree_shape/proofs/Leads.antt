@@ -10,7 +10,15 @@ use Rattle.tree_shape.specs.Trees.{Contents, Branch, branches_from, branches, no
 use Rattle.tree_shape.specs.Lawful.{IsTree, IsOrderedAs}
 use Rattle.tree_shape.proofs.Times.{In, times_cases, times_flat_map}
 use Rattle.tree_shape.proofs.Reach.{branch_level}
-use Rattle.tree_shape.proofs.Living.{own_branches, own_at, live_node, root_live, child_live, child_fits}
+use Rattle.tree_shape.proofs.Living.{
+  own_branches,
+  own_at,
+  live_node,
+  live_under,
+  root_live,
+  child_live,
+  child_fits,
+}
 
 -- `Contains` counts places, `In` goes by cases
 pub contains_in : {X : Type 0} (xs : List X) (x : X) → Contains xs x → In x xs
@@ -95,41 +103,64 @@ inner_above s (Pairs pairs) ordered level = ordered.1
 inner_above s (Entries entries) ordered level = absurd (omega arith)
 inner_above s (Link next) ordered level = absurd ordered
 
--- The leaf of an entry is the one that each of its addresses leads to, and lies inside the fences of each node on the way.
-pub leads : (f : Contents) (live : ℕ → Bool) → IsTree f live → (pc level n : ℕ) → IsTrue (live n) → (f n).level ≡ level →
-    (x : ℕ) → 0 < times x (nodes_under f level n) → (m : Member) → In m (entries_of (f x)) → m.span.first ≤ pc → pc ≤ m.span.last →
+-- An address inside the fences of a leaf below a node leads from the node to this leaf, and lies
+-- inside the fences of each node on the way.
+pub leads_inside : (f : Contents) (live : ℕ → Bool) → IsTree f live → (pc level n : ℕ) →
+    IsTrue (live n) → (f n).level ≡ level →
+    (x : ℕ) → 0 < times x (nodes_under f level n) → (f x).level ≡ 0 → (f x).low ≤ pc →
+    pc ≤ (f x).high →
     (leaf_under f pc level n ≡ x) × ((f n).low ≤ pc) × (pc ≤ (f n).high)
-leads f live tree pc zero n alive at x there m held above below = elim (times_cases x n [] there) [
-  | inl e ↦
-      let held' : In m (entries_of (f n)) = subst (λ z. In m (entries_of (f z))) e held in
-      let says = leaf_says (f n) (f n).body (tree.ordered n alive) m held' in
-      let inside = entry_inside (f n).low (f n).high (entries_of (f n)) m says.1 held' in
-      (sym e, omega arith, omega arith)
-  | inr none ↦ absurd (omega arith)
-]
-leads f live tree pc (suc level) n alive at x there m held above below =
+leads_inside f live tree pc zero n alive at x there leaf above below =
+    elim (times_cases x n [] there) [
+      | inl e ↦ subst (λ y. (n ≡ y) × ((f n).low ≤ pc) × (pc ≤ (f n).high)) (sym e)
+          (refl, subst (λ y. (f y).low ≤ pc) e above, subst (λ y. pc ≤ (f y).high) e below)
+      | inr none ↦ absurd (omega arith)
+    ]
+leads_inside f live tree pc (suc level) n alive at x there leaf above below =
     elim (times_cases x n (flat_map (λ (b : Branch). nodes_under f level b.child) (branches level (f n))) there) [
-      | inl e ↦
-          let says = leaf_says (f n) (f n).body (tree.ordered n alive) m (subst (λ z. In m (entries_of (f z))) e held) in
+      | inl e ↦ let same : (f x).level ≡ (f n).level = ap (λ y. (f y).level) e in
           absurd (omega arith)
       | inr later ↦
           let found = times_flat_map (λ (b : Branch). nodes_under f level b.child) (branches level (f n)) x later in
           let own : In found.0 (own_branches f n) = subst (λ bs. In found.0 bs) (sym (own_at f n level at)) found.1.0 in
           let fits = child_fits f live tree n alive found.0 own in
-          let deeper = leads f live tree pc level found.0.child (child_live f live tree n alive found.0 own)
-          (fits.level ∙ branch_level level (f n).low (pairs_of (f n)) found.0 found.1.0) x found.1.1 m held above below in
+          let deeper = leads_inside f live tree pc level found.0.child
+          (child_live f live tree n alive found.0 own)
+          (fits.level ∙ branch_level level (f n).low (pairs_of (f n)) found.0 found.1.0) x found.1.1
+          leaf above below in
           let cut = inner_above (f n) (f n).body (tree.ordered n alive) (omega arith) in
           let inside = branch_inside level (f n).low (f n).high (pairs_of (f n)) found.0 cut found.1.0 in
           let low = fits.low in
           let high = fits.high in
-          let child = child_for_branch pc level (f n).low (f n).high (pairs_of (f n)) found.0 cut found.1.0 (omega (arith, deeper.1)) (omega (arith, deeper.2)) in
+          let child = child_for_branch pc level (f n).low (f n).high (pairs_of (f n)) found.0 cut
+          found.1.0
+          (omega (arith, deeper.1)) (omega (arith, deeper.2)) in
           (ap (leaf_under f pc level) child ∙ deeper.0, omega (arith, deeper.1), omega (arith, deeper.2))
     ]
 
--- The leaf that an address between the fences leads to is reached, and has level 0.
-pub leads_to : (f : Contents) (live : ℕ → Bool) → IsTree f live → (pc level n : ℕ) → IsTrue (live n) → (f n).level ≡ level → (f n).low ≤ pc → pc ≤ (f n).high →
-    IsTrue (live (leaf_under f pc level n)) × ((f (leaf_under f pc level n)).level ≡ 0)
-leads_to f live tree pc zero n alive at above below = (alive, at)
+-- So each address of an entry leads to the entry's leaf.
+pub leads : (f : Contents) (live : ℕ → Bool) → IsTree f live → (pc level n : ℕ) → IsTrue (live n) →
+    (f n).level ≡ level →
+    (x : ℕ) → 0 < times x (nodes_under f level n) → (m : Member) → In m (entries_of (f x)) →
+    m.span.first ≤ pc → pc ≤ m.span.last →
+    (leaf_under f pc level n ≡ x) × ((f n).low ≤ pc) × (pc ≤ (f n).high)
+leads f live tree pc level n alive at x there m held above below =
+    let says =
+    leaf_says (f x) (f x).body
+    (tree.ordered x (live_under f live tree level n alive at x there)) m held in
+    let inside = entry_inside (f x).low (f x).high (entries_of (f x)) m says.1 held in
+    leads_inside f live tree pc level n alive at x there says.0 (omega (arith, inside.0))
+    (omega (arith, inside.1))
+
+-- What holds of the leaf that an address leads to: it is live, of level 0, and its fences hold the
+-- address.
+abbrev pub Led : Contents → (ℕ → Bool) → ℕ → ℕ → Type 0
+Led f live pc x = IsTrue (live x) × ((f x).level ≡ 0) × ((f x).low ≤ pc) × (pc ≤ (f x).high)
+
+pub leads_to : (f : Contents) (live : ℕ → Bool) → IsTree f live → (pc level n : ℕ) →
+    IsTrue (live n) → (f n).level ≡ level →
+    (f n).low ≤ pc → pc ≤ (f n).high → Led f live pc (leaf_under f pc level n)
+leads_to f live tree pc zero n alive at above below = (alive, at, above, below)
 leads_to f live tree pc (suc level) n alive at above below =
     let cut = inner_above (f n) (f n).body (tree.ordered n alive) (omega arith) in
     let found = some_branch pc level (f n).low (f n).high (pairs_of (f n)) cut above below in
@@ -139,7 +170,7 @@ leads_to f live tree pc (suc level) n alive at above below =
     let low = fits.low in
     let high = fits.high in
     let start = found.1.1 in
-    subst (λ c. IsTrue (live (leaf_under f pc level c)) × ((f (leaf_under f pc level c)).level ≡ 0)) (sym child)
+    subst (λ c. Led f live pc (leaf_under f pc level c)) (sym child)
     (leads_to f live tree pc level found.0.child (child_live f live tree n alive found.0 own)
     (fits.level ∙ branch_level level (f n).low (pairs_of (f n)) found.0 found.1.0) (omega (arith, start.0)) (omega (arith, start.1)))
 

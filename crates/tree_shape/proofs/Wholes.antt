@@ -11,13 +11,40 @@ use Rattle.reg_model.specs.Query.{member_at}
 use Rattle.reg_model.proofs.Spans.{contains_bounds}
 use Rattle.tree_shape.specs.declared.pair.Pair.{Pair}
 use Rattle.tree_shape.specs.Numbers.{times}
-use Rattle.tree_shape.specs.Shapes.{Shape, Body, Pairs, Entries, Link, entries_of, entries_in, pairs_of, pairs_in, EntriesWithin, Cut, IsLeaf}
+use Rattle.tree_shape.specs.Shapes.{
+  Shape,
+  Body,
+  Pairs,
+  Entries,
+  Link,
+  entries_of,
+  entries_in,
+  pairs_of,
+  pairs_in,
+  EntriesWithin,
+  Cut,
+  IsLeaf,
+  IsInFences,
+  LiesInFences,
+}
 use Rattle.tree_shape.specs.Trees.{Contents, Branch, branches_from, branches, nodes_under, nodes, entries, leaf_for, HasEntry}
 use Rattle.tree_shape.specs.Lawful.{IsTree, IsLawful, IsOrderedAs, IsFilledAs, fewest_pairs, fewest_entries}
 use Rattle.tree_shape.proofs.Times.{In, times_head, times_cases, in_flat_map, in_flat_map_from}
 use Rattle.tree_shape.proofs.Reach.{branch_level}
 use Rattle.tree_shape.proofs.Living.{own_branches, own_at, live_node, node_live, root_live, root_no_child, child_live, child_fits, own_child}
-use Rattle.tree_shape.proofs.Leads.{contains_in, in_contains, entry_inside, last_below, leaf_at_zero, inner_above, leads, leads_to}
+use Rattle.tree_shape.proofs.Leads.{
+  contains_in,
+  in_contains,
+  entry_inside,
+  entry_ordered,
+  last_below,
+  leaf_says,
+  leaf_at_zero,
+  inner_above,
+  leads_inside,
+  leads,
+  leads_to,
+}
 use Rattle.tree_shape.proofs.Runs.{entries_join}
 use Rattle.tree_shape.proofs.Slotted.{some_same}
 use Rattle.tree_shape.proofs.Halves.{fewest_below, fewest_pairs_some}
@@ -138,6 +165,75 @@ lookup_finds f live tree pc inside m =
           let led = leads f live tree pc (f 0).level 0 (root_live f live tree) refl h.0.0 (live_node f live tree h.0.0 h.0.1.0) m at bounds.0 bounds.1 in
           found_from pc (f (leaf_for f pc)).low (f (leaf_for f pc)).high (entries_of (f (leaf_for f pc))) m within (subst (λ n. In m (entries_of (f n))) (sym led.0) at) h.1,
     )
+
+-- The fences of a live leaf.
+pub leaf_kind : (f : Contents) (live : ℕ → Bool) (n : ℕ) → IsTree f live → IsTrue (live n) →
+    IsLeaf (f n) ↔ ((f n).level ≡ 0)
+leaf_kind f live n tree alive = (
+  λ leaf. (subst (λ b. IsOrderedAs (f n) b) leaf (tree.ordered n alive)).0,
+  λ at. is_leaf_at (f n) (f n).body (tree.ordered n alive) at,
+)
+
+-- an address inside the fences of a live leaf leads to it
+led_inside : (f : Contents) (live : ℕ → Bool) (leaf pc : ℕ) → IsTree f live → IsTrue (live leaf) →
+    IsLeaf (f leaf) →
+    IsInFences pc (f leaf) → leaf_for f pc ≡ leaf
+led_inside f live leaf pc tree alive is_leaf inside =
+    (leads_inside f live tree pc (f 0).level 0 (root_live f live tree) refl leaf
+    (live_node f live tree leaf alive)
+    ((leaf_kind f live leaf tree alive).0 is_leaf) inside.0 inside.1).0
+
+pub fenced_leaf : (f : Contents) (live : ℕ → Bool) (leaf pc : ℕ) → IsTree f live →
+    IsTrue (live leaf) → IsLeaf (f leaf) →
+    pc ≤ 2 ^ 64 - 1 → (leaf_for f pc ≡ leaf) ↔ IsInFences pc (f leaf)
+fenced_leaf f live leaf pc tree alive is_leaf top = (
+  λ is.
+      let low = tree.root_low in
+      let high = tree.root_high in
+      let to = leads_to f live tree pc (f 0).level 0 (root_live f live tree) refl (omega arith)
+      (omega arith) in
+      subst (λ n. IsInFences pc (f n)) is (to.2, to.3),
+  led_inside f live leaf pc tree alive is_leaf,
+)
+
+pub fenced_entries : (f : Contents) (live : ℕ → Bool) (leaf : ℕ) (m : Member) → IsTree f live →
+    IsTrue (live leaf) →
+    IsLeaf (f leaf) → Contains (entries_of (f leaf)) m ↔
+    (HasEntry f live m × LiesInFences m.span (f leaf))
+fenced_entries f live leaf m tree alive is_leaf =
+    let within = leaf_at_zero (f leaf) (f leaf).body (tree.ordered leaf alive)
+    ((leaf_kind f live leaf tree alive).0 is_leaf) in (
+      λ held. (
+        (leaf, (alive, held)),
+        entry_inside (f leaf).low (f leaf).high (entries_of (f leaf))
+            m within (contains_in (entries_of (f leaf)) m held),
+      ),
+      λ h.
+          let x = h.0.0 in
+          let at = contains_in (entries_of (f x)) m h.0.1.1 in
+          let says = leaf_says (f x) (f x).body (tree.ordered x h.0.1.0) m at in
+          let order = entry_ordered (f x).low (f x).high (entries_of (f x)) m says.1 at in
+          let fences = h.1 in
+          let to_leaf = led_inside f live leaf m.span.first tree alive is_leaf
+          (fences.0, omega (arith, fences.1)) in
+          let to_x = leads f live tree m.span.first (f 0).level 0 (root_live f live tree) refl x
+          (live_node f live tree x h.0.1.0) m at (omega arith) order in
+          subst (λ n. Contains (entries_of (f n)) m) (sym to_x.0 ∙ to_leaf) h.0.1.1,
+    )
+
+pub fenced_found : (f : Contents) (live : ℕ → Bool) (leaf pc : ℕ) (m : Member) → IsTree f live →
+    IsTrue (live leaf) →
+    IsLeaf (f leaf) → IsInFences pc (f leaf) →
+    (member_at pc (entries_of (f leaf)) ≡ Some m) ↔
+    (HasEntry f live m × IsTrue (contains m.span pc))
+fenced_found f live leaf pc m tree alive is_leaf inside =
+    let whole = leads_inside f live tree pc (f 0).level 0 (root_live f live tree) refl leaf
+    (live_node f live tree leaf alive)
+    ((leaf_kind f live leaf tree alive).0 is_leaf) inside.0 inside.1 in
+    let high = tree.root_high in
+    subst (λ n. (member_at pc (entries_of (f n)) ≡ Some m) ↔
+    (HasEntry f live m × IsTrue (contains m.span pc))) whole.0
+    (lookup_finds f live tree pc (omega (arith, whole.2)) m)
 
 -- Fillings.
 branch_count : (level low : ℕ) (pairs : List Pair) → length (branches_from level low pairs) ≡ length pairs

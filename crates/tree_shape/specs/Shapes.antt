@@ -1,6 +1,7 @@
 -- What contracts see of a node: its level, its two fences, and what it holds as a list.
 use Rattle.std.specs.Prelude.{◌≡◌, ℕ, ◌+◌, ◌≤◌, List, [], ◌∷◌, nat_le, nat_lt, if◌then◌else◌}
 use Rattle.reg_model.specs.declared.span.Member.{Member}
+use Rattle.reg_model.specs.Interval.{Interval}
 use Rattle.tree_shape.specs.declared.pair.Pair.{Pair}
 
 -- what a node holds: children with their separators, or members, or the next free node
@@ -40,6 +41,13 @@ IsLeaf s = s.body ≡ Entries (entries_of s)
 
 abbrev pub IsInner : Shape → Type 0
 IsInner s = s.body ≡ Pairs (pairs_of s)
+
+-- the node's fences hold the address, and the whole span
+abbrev pub IsInFences : ℕ → Shape → Type 0
+IsInFences pc s = (s.low ≤ pc) × (pc ≤ s.high)
+
+abbrev pub LiesInFences : Interval → Shape → Type 0
+LiesInFences span s = (s.low ≤ span.first) × (span.last ≤ s.high)
 
 -- Entries one after another from `low` to `high`: each begins at or above `low`, ends at or below `high`, and those
 -- after it begin above its last address. So they ascend, are disjoint and lie inside the fences.

@@ -7,6 +7,7 @@ ghost use Rattle.tree_shape.specs.declared.pair.Pair.{Pair};
 ghost use Rattle.reg_model.specs.Interval.{contains};
 ghost use Rattle.reg_model.specs.Query.{member_at};
 ghost use Rattle.tree_shape.specs.Shapes.{IsLeaf, EntriesWithin, entries_of};
+ghost use Rattle.tree_shape.specs.Shapes.{IsInFences, LiesInFences};
 ghost use Rattle.tree_shape.specs.Trees.{Contents, within, nodes, entries, leaf_for, HasEntry};
 ghost use Rattle.tree_shape.specs.Lawful.{IsTree, IsLawful, IsFilled};
 ghost use Rattle.tree_shape.specs.Steps.{Keeps, IsSplit, IsJoin, IsShare, IsFenceMove, IsLift, Lifts, IsSink, IsPut, Adds, IsTake, Takes, with_node, without_node};
@@ -18,6 +19,23 @@ pub fn lookup()
         → IsTrue (live (leaf_for f pc)) × IsLeaf (f (leaf_for f pc)) }
     ensures found { (f : Contents) (live : ℕ → Bool) (pc : ℕ) (m : Member) → IsTree f live → pc ≤ 2 ^ 64 - 1
         → (member_at pc (entries_of (f (leaf_for f pc))) ≡ Some m) ↔ (HasEntry f live m × IsTrue (contains m.span pc)) }
+{}
+
+/// A live leaf holds exactly the tree's entries inside its fences, and an address leads to the leaf
+/// whose fences hold it. So one who holds a live leaf knows all that the tree has inside them.
+pub fn leaf_fences()
+    ensures kind { (f : Contents) (live : ℕ → Bool) (n : ℕ) → IsTree f live → IsTrue (live n)
+        → IsLeaf (f n) ↔ ((f n).level ≡ 0) }
+    ensures leaf { (f : Contents) (live : ℕ → Bool) (leaf pc : ℕ) → IsTree f live
+        → IsTrue (live leaf) → IsLeaf (f leaf) → pc ≤ 2 ^ 64 - 1
+        → (leaf_for f pc ≡ leaf) ↔ IsInFences pc (f leaf) }
+    ensures entries { (f : Contents) (live : ℕ → Bool) (leaf : ℕ) (m : Member) → IsTree f live
+        → IsTrue (live leaf) → IsLeaf (f leaf)
+        → Contains (entries_of (f leaf)) m ↔ (HasEntry f live m × LiesInFences m.span (f leaf)) }
+    ensures found { (f : Contents) (live : ℕ → Bool) (leaf pc : ℕ) (m : Member) → IsTree f live
+        → IsTrue (live leaf) → IsLeaf (f leaf) → IsInFences pc (f leaf)
+        → (member_at pc (entries_of (f leaf)) ≡ Some m)
+        ↔ (HasEntry f live m × IsTrue (contains m.span pc)) }
 {}
 
 /// A tree's entries from left to right are those of its live nodes, and ascend.
