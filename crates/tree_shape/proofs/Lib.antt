@@ -18,3 +18,5 @@ pub mod Roots
 pub mod Wholes
 pub mod Spines
 pub mod Fences
+pub mod Transfers
+pub mod Becomes

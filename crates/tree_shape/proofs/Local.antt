@@ -8,7 +8,7 @@ use Rattle.tree_shape.specs.Numbers.{times, once, is_among}
 use Rattle.tree_shape.specs.Shapes.{entries_of}
 use Rattle.tree_shape.specs.Trees.{Contents, Branch, branches, nodes_under, nodes, within, leaving, HasEntry}
 use Rattle.tree_shape.specs.Lawful.{IsTree, IsOrdered, IsFilled, Fits}
-use Rattle.tree_shape.specs.LocalChange.{IsLocalChange, either, live_after}
+use Rattle.tree_shape.specs.LocalChange.{IsLocalChange, either, live_after, reached_nodes}
 use Rattle.tree_shape.proofs.Times.{In, all_at, all_from, all_times, times-append, times_flat_map_from, flat_map_same}
 use Rattle.tree_shape.proofs.Reach.{children, below, within_set, within_under, within_parent, within_top, under_top, reached_parts, same_within, same_under}
 use Rattle.tree_shape.proofs.Living.{own_branches, Sound, goes_on, leaves_from, live_node, one_way, root_live, child_live, child_fits, live_within, live_under, sound_at, root_no_child, one_parent, own_child}
@@ -87,6 +87,20 @@ record Rest (f g : Contents) (top : ℕ) (touched : ℕ → Bool) : Type 0 where
   apart : (x : ℕ) → 0 < times x others → touched x ≡ false
   old : (x : ℕ) → times x (nodes f) ≡ times x others + times x (nodes_under f (f top).level top)
   new : (x : ℕ) → times x (nodes g) ≡ times x others + times x (nodes_under g (g top).level top)
+
+-- what the top reaches after a local change is sound
+pub sound_change : (f : Contents) (live : ℕ → Bool) (top : ℕ) (group fresh : ℕ → Bool)
+    (g : Contents) →
+    IsLocalChange f live top group fresh g → Sound (either group fresh) g (g top).level top
+sound_change f live top group fresh g change = record {
+  ordered = λ x there. all_times (λ n. IsOrdered (g n)) (reached_nodes top group fresh g) x
+      change.ordered there;
+  fitting = λ x there b own.
+      all_at (λ (c : Branch). IsTrue (either group fresh c.child) → Fits g c) (own_branches g x) b
+      (all_times (λ n. AllByRecursion (λ (c : Branch). IsTrue (either group fresh c.child) →
+      Fits g c) (own_branches g n))
+      (reached_nodes top group fresh g) x change.fitting there) own;
+}
 
 module _ (f : Contents) (live : ℕ → Bool) (top : ℕ) (group fresh : ℕ → Bool) (g : Contents) (tree : IsTree f live) (change : IsLocalChange f live top group fresh g) where
   group_touched : (x : ℕ) → IsTrue (group x) → IsTrue (either group fresh x)
@@ -245,14 +259,8 @@ module _ (f : Contents) (live : ℕ → Bool) (top : ℕ) (group fresh : ℕ →
     | inr was ↦ subst IsOrdered (sym was.stays) (tree.ordered x was.alive)
   ]
 
-  -- what the top now reaches is sound
   sound_new : Sound (either group fresh) g (g top).level top
-  sound_new = record {
-    ordered = λ x there. all_times (λ n. IsOrdered (g n)) (within (either group fresh) g (g top).level top) x change.ordered there;
-    fitting = λ x there b own. all_at (λ (c : Branch). IsTrue (either group fresh c.child) → Fits g c) (own_branches g x) b
-        (all_times (λ n. AllByRecursion (λ (c : Branch). IsTrue (either group fresh c.child) → Fits g c) (own_branches g n))
-        (within (either group fresh) g (g top).level top) x change.fitting there) own;
-  }
+  sound_new = sound_change f live top group fresh g change
 
   -- a branch to a node that isn't touched fits as before
   fits_still : (b : Branch) → either group fresh b.child ≡ false → Fits f b → Fits g b

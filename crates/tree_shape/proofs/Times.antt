@@ -72,6 +72,19 @@ times_head n xs = omega (arith, once_same n)
 pub times_cases : (n x : ℕ) (xs : List ℕ) → 0 < times n (x ∷ xs) → (n ≡ x) ⊎ (0 < times n xs)
 times_cases n x xs some = elim (cases_eq n x) [ inl e ↦ inl e | inr other ↦ inr (omega (arith, once_other n x other)) ]
 
+-- numbers in a list, by cases
+pub in_times : (xs : List ℕ) (n : ℕ) → In n xs → 0 < times n xs
+in_times [] n there = absurd there
+in_times (x ∷ xs) n there = elim there [
+  | inl e ↦ subst (λ y. 0 < times y (x ∷ xs)) e (times_head x xs)
+  | inr later ↦ omega (arith, in_times xs n later)
+]
+
+pub times_in : (xs : List ℕ) (n : ℕ) → 0 < times n xs → In n xs
+times_in [] n there = absurd (omega arith)
+times_in (x ∷ xs) n there =
+    elim (times_cases n x xs there) [ inl e ↦ inl (sym e) | inr later ↦ inr (times_in xs n later) ]
+
 pub all_times : (P : ℕ → Type 0) (xs : List ℕ) (n : ℕ) → AllByRecursion P xs → 0 < times n xs → P n
 all_times P [] n all some = absurd (omega arith)
 all_times P (x ∷ xs) n all some = elim (times_cases n x xs some) [ inl e ↦ subst P (sym e) all.0 | inr later ↦ all_times P xs n all.1 later ]

@@ -8,7 +8,7 @@ use Rattle.std.proofs.Math.Nat.{mul-le-mul_right, pow-suc}
 use Rattle.reg_model.specs.declared.span.Member.{Member}
 use Rattle.reg_model.specs.Interval.{contains}
 use Rattle.reg_model.specs.Query.{member_at}
-use Rattle.reg_model.proofs.Spans.{contains_bounds}
+use Rattle.reg_model.proofs.Spans.{contains_bounds, contains_from}
 use Rattle.tree_shape.specs.declared.pair.Pair.{Pair}
 use Rattle.tree_shape.specs.Numbers.{times}
 use Rattle.tree_shape.specs.Shapes.{
@@ -29,7 +29,7 @@ use Rattle.tree_shape.specs.Shapes.{
 }
 use Rattle.tree_shape.specs.Trees.{Contents, Branch, branches_from, branches, nodes_under, nodes, entries, leaf_for, HasEntry}
 use Rattle.tree_shape.specs.Lawful.{IsTree, IsLawful, IsOrderedAs, IsFilledAs, fewest_pairs, fewest_entries}
-use Rattle.tree_shape.proofs.Times.{In, times_head, times_cases, in_flat_map, in_flat_map_from}
+use Rattle.tree_shape.proofs.Times.{In, in_times, times_in, in_flat_map, in_flat_map_from}
 use Rattle.tree_shape.proofs.Reach.{branch_level}
 use Rattle.tree_shape.proofs.Living.{own_branches, own_at, live_node, node_live, root_live, root_no_child, child_live, child_fits, own_child}
 use Rattle.tree_shape.proofs.Leads.{
@@ -48,18 +48,6 @@ use Rattle.tree_shape.proofs.Leads.{
 use Rattle.tree_shape.proofs.Runs.{entries_join}
 use Rattle.tree_shape.proofs.Slotted.{some_same}
 use Rattle.tree_shape.proofs.Halves.{fewest_below, fewest_pairs_some}
-
--- numbers in a list, by cases
-in_times : (xs : List ℕ) (n : ℕ) → In n xs → 0 < times n xs
-in_times [] n there = absurd there
-in_times (x ∷ xs) n there = elim there [
-  | inl e ↦ subst (λ y. 0 < times y (x ∷ xs)) e (times_head x xs)
-  | inr later ↦ omega (arith, in_times xs n later)
-]
-
-times_in : (xs : List ℕ) (n : ℕ) → 0 < times n xs → In n xs
-times_in [] n there = absurd (omega arith)
-times_in (x ∷ xs) n there = elim (times_cases n x xs there) [ inl e ↦ inl (sym e) | inr later ↦ inr (times_in xs n later) ]
 
 abbrev held_by : Contents → ℕ → List Member
 held_by f n = entries_of (f n)
@@ -234,6 +222,30 @@ fenced_found f live leaf pc m tree alive is_leaf inside =
     subst (λ n. (member_at pc (entries_of (f n)) ≡ Some m) ↔
     (HasEntry f live m × IsTrue (contains m.span pc))) whole.0
     (lookup_finds f live tree pc (omega (arith, whole.2)) m)
+
+-- two entries of a tree that begin at one address are one
+pub one_at : (f : Contents) (live : ℕ → Bool) → IsTree f live → (m x : Member) → HasEntry f live m →
+    HasEntry f live x →
+    m.span.first ≡ x.span.first → m ≡ x
+one_at f live tree m x (n, (alive, held)) other same =
+    let at = contains_in (entries_of (f n)) m held in
+    let says = leaf_says (f n) (f n).body (tree.ordered n alive) m at in
+    let order = entry_ordered (f n).low (f n).high (entries_of (f n)) m says.1 at in
+    let led = leads f live tree m.span.first (f 0).level 0 (root_live f live tree) refl n
+    (live_node f live tree n alive) m at (omega arith) order in
+    let high = tree.root_high in
+    let found = lookup_finds f live tree m.span.first (omega (arith, led.2)) in
+    let k = other.0 in
+    let there = contains_in (entries_of (f k)) x other.1.1 in
+    let also = leaf_says (f k) (f k).body (tree.ordered k other.1.0) x there in
+    let order' = entry_ordered (f k).low (f k).high (entries_of (f k)) x also.1 there in
+    some_same m x
+    (sym ((found m).1 (
+      (n, (alive, held)),
+      contains_from m.span m.span.first (omega arith)
+          order,
+    ))
+    ∙ (found x).1 (other, contains_from x.span m.span.first (omega arith) (omega arith)))
 
 -- Fillings.
 branch_count : (level low : ℕ) (pairs : List Pair) → length (branches_from level low pairs) ≡ length pairs

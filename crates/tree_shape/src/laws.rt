@@ -1,17 +1,21 @@
 //! Laws of lawful trees. Each is the contract of a function that does nothing.
 
-ghost use Rattle.std.specs.Prelude.{◌≡◌, ℕ, ◌*◌, ◌-◌, ◌^◌, ◌<◌, ◌≤◌, ◌↔◌, Bool, Some, Contains, IsTrue, length};
+ghost use Rattle.std.specs.Prelude.{◌≡◌, ℕ, ◌*◌, ◌-◌, ◌^◌, ◌<◌, ◌≤◌, ◌↔◌, Bool, false, IsTrue};
+ghost use Rattle.std.specs.Prelude.{Option, Some, Contains, length};
 ghost use Rattle.std.specs.List.{AllByRecursion};
 ghost use Rattle.reg_model.specs.declared.span.Member.{Member};
+ghost use Rattle.reg_model.specs.declared.answer.Update.{Update};
 ghost use Rattle.tree_shape.specs.declared.pair.Pair.{Pair};
 ghost use Rattle.reg_model.specs.Interval.{contains};
 ghost use Rattle.reg_model.specs.Query.{member_at};
 ghost use Rattle.tree_shape.specs.Shapes.{IsLeaf, EntriesWithin, entries_of};
 ghost use Rattle.tree_shape.specs.Shapes.{IsInFences, LiesInFences};
-ghost use Rattle.tree_shape.specs.Trees.{Contents, within, nodes, entries, leaf_for, HasEntry};
+ghost use Rattle.tree_shape.specs.Trees.{Contents, nodes, entries, leaf_for, HasEntry};
 ghost use Rattle.tree_shape.specs.Lawful.{IsTree, IsLawful, IsFilled};
 ghost use Rattle.tree_shape.specs.Steps.{Keeps, IsSplit, IsJoin, IsShare, IsFenceMove, IsLift, Lifts, IsSink, IsPut, Adds, IsTake, Takes, with_node, without_node};
-ghost use Rattle.tree_shape.specs.LocalChange.{IsLocalChange, ChangesEntries, either, live_after};
+ghost use Rattle.tree_shape.specs.LocalChange.{IsLocalChange, reached_nodes, live_after};
+ghost use Rattle.tree_shape.specs.LocalChange.{IsLawfulChange, ChangesEntries, EntriesBecome};
+ghost use Rattle.tree_shape.specs.LocalChange.{IsSameChange};
 
 /// A lookup down the separators comes to a leaf, and finds there exactly what the tree holds.
 pub fn lookup()
@@ -51,20 +55,68 @@ pub fn fillings()
     ensures height { (f : Contents) (live : ℕ → Bool) → IsLawful f live → (f 0).level ≡ 12 → 16384 < length (nodes f) }
 {}
 
-/// A change of some nodes that keeps what these nodes say of themselves and of their neighbours keeps the whole tree.
-/// It changes the tree's entries by those of these nodes. Where the nodes that the top now reaches are filled, it keeps a
-/// lawful tree lawful.
+/// A change of some nodes that keeps what these nodes say of themselves and of their neighbours
+/// keeps the whole tree. It changes the tree's entries by those of these nodes, so what it makes of
+/// the changed leaves' entries it makes of the tree's. Where the nodes that the top now reaches are
+/// filled, it keeps a lawful tree lawful.
 pub fn local_change()
-    ensures tree { (f : Contents) (live : ℕ → Bool) (top : ℕ) (group fresh : ℕ → Bool) (g : Contents)
+    ensures tree { (f : Contents) (live : ℕ → Bool) (top : ℕ)
+        (group fresh : ℕ → Bool) (g : Contents)
         → IsTree f live → IsLocalChange f live top group fresh g
         → IsTree g (live_after live top group fresh g) }
-    ensures entries { (f : Contents) (live : ℕ → Bool) (top : ℕ) (group fresh : ℕ → Bool) (g : Contents)
+    ensures entries { (f : Contents) (live : ℕ → Bool) (top : ℕ)
+        (group fresh : ℕ → Bool) (g : Contents)
         → IsTree f live → IsLocalChange f live top group fresh g
         → ChangesEntries f live top group fresh g }
-    ensures lawful { (f : Contents) (live : ℕ → Bool) (top : ℕ) (group fresh : ℕ → Bool) (g : Contents)
+    ensures lawful { (f : Contents) (live : ℕ → Bool) (top : ℕ)
+        (group fresh : ℕ → Bool) (g : Contents)
         → IsLawful f live → IsLocalChange f live top group fresh g
-        → AllByRecursion (λ n. IsFilled n (g n)) (within (either group fresh) g (g top).level top)
+        → AllByRecursion (λ n. IsFilled n (g n)) (reached_nodes top group fresh g)
         → IsLawful g (live_after live top group fresh g) }
+    ensures update { (f : Contents) (live : ℕ → Bool) (top : ℕ)
+        (group fresh : ℕ → Bool) (g : Contents)
+        (update : Option Update) → IsLawful f live
+        → IsLawfulChange f live top group fresh g update
+        → EntriesBecome update (HasEntry f live) (HasEntry g (live_after live top group fresh g)) }
+{}
+
+/// A local change is one of all contents that agree on its nodes: so one who holds these nodes of a
+/// tree shows a change of the tree by the nodes that it holds, and the other way round.
+pub fn transfer()
+    ensures change { (top : ℕ) (group fresh : ℕ → Bool) (f : Contents) (live : ℕ → Bool)
+        (g f' : Contents) (live' : ℕ → Bool) (g' : Contents)
+        → IsLocalChange f live top group fresh g → IsSameChange top group fresh f g f' live' g'
+        → IsLocalChange f' live' top group fresh g' }
+    ensures lawful { (top : ℕ) (group fresh : ℕ → Bool) (f : Contents) (live : ℕ → Bool)
+        (g f' : Contents) (live' : ℕ → Bool) (g' : Contents) (update : Option Update)
+        → IsLawfulChange f live top group fresh g update
+        → IsSameChange top group fresh f g f' live' g'
+        → IsLawfulChange f' live' top group fresh g' update }
+    ensures reached { (top : ℕ) (group fresh : ℕ → Bool) (f : Contents) (live : ℕ → Bool)
+        (g f' : Contents) (live' : ℕ → Bool) (g' : Contents)
+        → IsLocalChange f live top group fresh g → IsSameChange top group fresh f g f' live' g'
+        → reached_nodes top group fresh g' ≡ reached_nodes top group fresh g }
+    ensures tests { (f : Contents) (live : ℕ → Bool) (top : ℕ)
+        (group fresh group' fresh' : ℕ → Bool) (g : Contents) (update : Option Update)
+        → ((n : ℕ) → group n ≡ group' n) → ((n : ℕ) → fresh n ≡ fresh' n)
+        → IsLawfulChange f live top group fresh g update
+        → IsLawfulChange f live top group' fresh' g update }
+{}
+
+/// A local change of a tree may have more fresh nodes: nothing that it reaches leads to them.
+pub fn widen()
+    ensures lawful { (f : Contents) (live : ℕ → Bool) (top : ℕ)
+        (group fresh more : ℕ → Bool) (g : Contents) (update : Option Update)
+        → IsTree f live → IsLawfulChange f live top group fresh g update
+        → ((n : ℕ) → IsTrue (fresh n) → IsTrue (more n))
+        → ((n : ℕ) → IsTrue (more n) → live n ≡ false)
+        → IsLawfulChange f live top group more g update }
+    ensures reached { (f : Contents) (live : ℕ → Bool) (top : ℕ)
+        (group fresh more : ℕ → Bool) (g : Contents)
+        → IsTree f live → IsLocalChange f live top group fresh g
+        → ((n : ℕ) → IsTrue (fresh n) → IsTrue (more n))
+        → ((n : ℕ) → IsTrue (more n) → live n ≡ false)
+        → reached_nodes top group more g ≡ reached_nodes top group fresh g }
 {}
 
 /// A child that is split, with its parent's new pair.

@@ -1,15 +1,13 @@
 -- When and how the settled contents of the nodes that a caller holds become what their words spell. Nothing is asked of the
 -- rest of the tree.
-use Rattle.std.specs.Prelude.{◌≡◌, ◌≢◌, ℕ, ◌≤◌, Bool, true, false, ◌&&◌, not, IsTrue, IsSome, is_some, List, ◌++◌, length, Option, Some, None, ◌⊎◌, ◌↔◌, map, if◌then◌else◌}
+use Rattle.std.specs.Prelude.{◌≡◌, ◌≢◌, ℕ, ◌≤◌, Bool, true, false, ◌&&◌, not, IsTrue, IsSome, is_some, List, ◌++◌, length, Option, Some, None, ◌⊎◌, map, if◌then◌else◌}
 use Rattle.std.specs.List.{AllByRecursion, filter}
-use Rattle.reg_model.specs.declared.span.Member.{Member}
 use Rattle.reg_model.specs.declared.answer.Update.{Update}
-use Rattle.reg_model.specs.declared.answer.Update.TheVariants.{Register, Deregister, Load, Unload}
 use Rattle.tree_shape.specs.Shapes.{Shape}
 use Rattle.tree_shape.specs.Trees.{Contents, within, HasEntry}
 use Rattle.tree_shape.specs.Numbers.{is_among}
 use Rattle.tree_shape.specs.Lawful.{IsFilled}
-use Rattle.tree_shape.specs.LocalChange.{either, IsLocalChange}
+use Rattle.tree_shape.specs.LocalChange.{either, IsLocalChange, EntriesBecome}
 use Rattle.word_rule.specs.declared.views.Log.{Log}
 use Rattle.word_rule.specs.declared.views.Holding.{Holding}
 use Rattle.word_rule.specs.declared.views.Mark.{Mark}
@@ -32,15 +30,6 @@ exchanged_in v group n = if either group (is_fresh v.held v.out) n then now_in v
 abbrev pub is_reached : Log → ℕ → (ℕ → Bool) → ℕ → Bool
 is_reached v top group n =
     is_among (within (either group (is_fresh v.held v.out)) (exchanged_in v group) (exchanged_in v group top).level top) n
-
--- What becomes of the entries: a release and a store keep them, a commit changes them by its update. A member is added that
--- was not there, and one is taken away that was.
-abbrev pub EntriesBecome : Option Update → (Member → Type 0) → (Member → Type 0) → Type 0
-EntriesBecome None before after = (m : Member) → after m ↔ before m
-EntriesBecome (Some (Register added)) before after = (¬ before added) × ((m : Member) → after m ↔ (before m ⊎ (m ≡ added)))
-EntriesBecome (Some (Deregister base)) before after = ((m : Member) × (before m × (m.span.first ≡ base))) × ((m : Member) → after m ↔ (before m × (m.span.first ≢ base)))
-EntriesBecome (Some (Load m)) before after = ⊥
-EntriesBecome (Some (Unload base)) before after = ⊥
 
 -- the nodes of a list that a test passes
 abbrev pub picked : (ℕ → Bool) → List ℕ → List ℕ

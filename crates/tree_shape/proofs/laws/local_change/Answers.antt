@@ -1,3 +1,4 @@
+use Rattle.tree_shape.proofs.Becomes.{tree_becomes}
 use Rattle.tree_shape.proofs.Local.{tree_after, filled_after, entries_after}
 use Rattle.tree_shape.proofs.laws.local_change.Goals as goal
 
@@ -12,3 +13,7 @@ returns-clause-lawful c f live top group fresh g lawful change filled = record {
   tree = tree_after f live top group fresh g lawful.tree change;
   filled = filled_after f live top group fresh g lawful.tree change (λ n alive outside. lawful.filled n alive) filled;
 }
+
+pub returns-clause-update : goal.returns-clause-update
+returns-clause-update c f live top group fresh g update lawful change =
+    tree_becomes f live top group fresh g lawful.tree change.change update change.entries
