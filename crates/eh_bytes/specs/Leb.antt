@@ -1,15 +1,19 @@
 -- LEB128 numbers, after DWARF 5, section 7.6: base 128, the lowest digit first, and the high bit
 -- set in every byte but the last.
-use Rattle.std.specs.Prelude.{ℕ, suc, ◌+◌, ◌*◌, ◌%◌, ◌^◌, ℤ, pos, negsuc, ◌+ℤ◌, ◌-ℤ◌, ◌*ℤ◌, List, [], ◌∷◌, take, Bool, Option, Some, None, Result, Ok, Err, nat_lt, if◌then◌else◌}
+use Rattle.std.specs.Prelude.{◌≡◌, ℕ, suc, ◌+◌, ◌*◌, ◌%◌, ◌^◌, ℤ, pos, negsuc, ◌+ℤ◌, ◌-ℤ◌, ◌*ℤ◌, List, [], ◌∷◌, length, take, Bool, Option, Some, None, Result, Ok, Err, nat_lt, if◌then◌else◌}
 use Rattle.std.specs.Option.{option_map}
 use Rattle.eh_bytes.specs.declared.fault.ByteFault.{ByteFault}
 use Rattle.eh_bytes.specs.declared.fault.ByteFault.TheVariants.{Short, TooWide}
-use Rattle.eh_bytes.specs.Rest.{Rest, after}
+use Rattle.eh_bytes.specs.Rest.{Rest, skipped}
 
 -- how many bytes there are up to the first whose high bit is clear, which is the number's last
 unfoldable pub leb_len : List ℕ → Option ℕ
 leb_len [] = None
 leb_len (b ∷ bs) = if nat_lt b 128 then Some 1 else option_map suc (leb_len bs)
+
+-- one LEB128 number, wholly: its only byte with a clear high bit is the last
+abbrev pub IsLeb : List ℕ → Type 0
+IsLeb text = leb_len text ≡ Some (length text)
 
 -- the number that whole bytes spell: each byte gives its low seven bits
 unfoldable pub uleb_value : List ℕ → ℕ
@@ -35,7 +39,7 @@ fits_signed (negsuc n) = nat_lt n (2 ^ 63)
 unfoldable pub uleb_of : Rest → Option ℕ → Result (ℕ × Rest) ByteFault
 uleb_of r None = Err (Short r.at)
 uleb_of r (Some n) =
-    if nat_lt (uleb_value (take n r.bytes)) (2 ^ 64) then Ok (uleb_value (take n r.bytes), after n r) else Err (TooWide r.at)
+    if nat_lt (uleb_value (take n r.bytes)) (2 ^ 64) then Ok (uleb_value (take n r.bytes), skipped n r) else Err (TooWide r.at)
 
 abbrev pub uleb_at : Rest → Result (ℕ × Rest) ByteFault
 uleb_at r = uleb_of r (leb_len r.bytes)
@@ -44,7 +48,7 @@ uleb_at r = uleb_of r (leb_len r.bytes)
 unfoldable pub sleb_of : Rest → Option ℕ → Result (ℤ × Rest) ByteFault
 sleb_of r None = Err (Short r.at)
 sleb_of r (Some n) =
-    if fits_signed (sleb_value (take n r.bytes)) then Ok (sleb_value (take n r.bytes), after n r) else Err (TooWide r.at)
+    if fits_signed (sleb_value (take n r.bytes)) then Ok (sleb_value (take n r.bytes), skipped n r) else Err (TooWide r.at)
 
 abbrev pub sleb_at : Rest → Result (ℤ × Rest) ByteFault
 sleb_at r = sleb_of r (leb_len r.bytes)

@@ -4,7 +4,8 @@ use Rattle.std.specs.Prelude.{ℕ, ◌+◌, ◌-◌, ◌*◌, ◌/◌, ◌%◌, 
 use Rattle.std.specs.Int.{w64, cast_unsigned}
 use Rattle.eh_bytes.specs.declared.fault.ByteFault.{ByteFault}
 use Rattle.eh_bytes.specs.declared.fault.ByteFault.TheVariants.{Encoding}
-use Rattle.eh_bytes.specs.Rest.{Rest, ◌>>=◌, fixed_at}
+use Rattle.eh_bytes.specs.Rest.{Rest, fixed_at}
+use Rattle.eh_bytes.specs.Results.{◌and_then◌}
 use Rattle.eh_bytes.specs.Leb.{uleb_at, sleb_at}
 
 -- the number of n bytes with its sign carried on to 64 bits
@@ -21,9 +22,9 @@ number_at f r =
     if f == 1 then uleb_at r
     else if f == 2 then fixed_at 2 r
     else if f == 3 then fixed_at 4 r
-    else if f == 9 then (sleb_at r >>= λ x. Ok (cast_unsigned w64 x.0, x.1))
-    else if f == 10 then (fixed_at 2 r >>= λ x. Ok (extended 2 x.0, x.1))
-    else if f == 11 then (fixed_at 4 r >>= λ x. Ok (extended 4 x.0, x.1))
+    else if f == 9 then (sleb_at r and_then λ x. Ok (cast_unsigned w64 x.0, x.1))
+    else if f == 10 then (fixed_at 2 r and_then λ x. Ok (extended 2 x.0, x.1))
+    else if f == 11 then (fixed_at 4 r and_then λ x. Ok (extended 4 x.0, x.1))
     else fixed_at 8 r
 
 -- the encodings that are read: a format, with nothing or with the field's address added
@@ -38,5 +39,5 @@ base_of e section at = if e / 16 % 8 == 1 then section + at else 0
 unfoldable pub pointer_at : ℕ → ℕ → Rest → Result (ℕ × Rest) ByteFault
 pointer_at e section r =
     if is_pointer e
-    then (number_at (e % 16) r >>= λ x. Ok ((x.0 + base_of e section r.at) % 2 ^ 64, x.1))
+    then (number_at (e % 16) r and_then λ x. Ok ((x.0 + base_of e section r.at) % 2 ^ 64, x.1))
     else Err (Encoding r.at e)

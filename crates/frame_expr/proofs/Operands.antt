@@ -5,7 +5,8 @@ use Rattle.std.proofs.lemmas.List.{length-drop}
 use Rattle.byteorder.specs.Endian.{little_number}
 use Rattle.eh_bytes.specs.declared.fault.ByteFault.{ByteFault}
 use Rattle.eh_bytes.specs.declared.fault.ByteFault.TheVariants as bytes
-use Rattle.eh_bytes.specs.Rest.{Rest, ◌>>=◌, after, fixed_at}
+use Rattle.eh_bytes.specs.Rest.{Rest, skipped, fixed_at}
+use Rattle.eh_bytes.specs.Results.{◌and_then◌}
 use Rattle.eh_bytes.specs.Leb.{leb_len, uleb_of, sleb_of, sleb_at}
 use Rattle.frame_expr.specs.declared.operation.Operand.{Operand}
 use Rattle.frame_expr.specs.declared.operation.Operand.TheVariants.{Absent, U8, U16, U32, U64, I8, I16, I32, I64, Uleb, Sleb}
@@ -19,28 +20,28 @@ fits_ok : {A : Type 0} (b : Bool) (d : ByteFault) (x y : A) → cond b (Ok x) (E
 fits_ok true d x y e = cc
 fits_ok false d x y e = absurd cc
 
-bind_ok : {A B : Type 0} (m : Result A ByteFault) (k : A → B) (y : B) → (m >>= λ x. Ok (k x)) ≡ Ok y → (x : A) × (m ≡ Ok x) × (k x ≡ y)
+bind_ok : {A B : Type 0} (m : Result A ByteFault) (k : A → B) (y : B) → (m and_then λ x. Ok (k x)) ≡ Ok y → (x : A) × (m ≡ Ok x) × (k x ≡ y)
 bind_ok (Ok x) k y e = (x, refl, cc)
 bind_ok (Err f) k y e = absurd cc
 
 -- ---- nothing grows
 
-after_shorter : (n : ℕ) (r : Rest) → length (after n r).bytes ≤ length r.bytes
+after_shorter : (n : ℕ) (r : Rest) → length (skipped n r).bytes ≤ length r.bytes
 after_shorter n r = omega (arith, length-drop n r.bytes)
 
 abbrev with_rest : {A : Type 0} → A → Rest → A × Rest
 with_rest x m = (x, m)
 
-to_rest : {A : Type 0} (n : ℕ) (r m : Rest) (x y : A) → with_rest x (after n r) ≡ with_rest y m → length m.bytes ≤ length r.bytes
+to_rest : {A : Type 0} (n : ℕ) (r m : Rest) (x y : A) → with_rest x (skipped n r) ≡ with_rest y m → length m.bytes ≤ length r.bytes
 to_rest {A} n r m x y e =
-    let same : after n r ≡ m = ap (λ (z : A × Rest). z.1) e in
+    let same : skipped n r ≡ m = ap (λ (z : A × Rest). z.1) e in
     subst (λ (k : Rest). length k.bytes ≤ length r.bytes) same (after_shorter n r)
 
 fixed_shorter : (n : ℕ) (r : Rest) (x : ℕ) (m : Rest) → fixed_at n r ≡ Ok (x, m) → length m.bytes ≤ length r.bytes
 fixed_shorter n r x m e =
-    to_rest n r m (little_number n r.bytes) x (guard_ok (nat_lt (length r.bytes) n) (bytes.Short r.at) (little_number n r.bytes, after n r) (x, m) e)
+    to_rest n r m (little_number n r.bytes) x (guard_ok (nat_lt (length r.bytes) n) (bytes.Short r.at) (little_number n r.bytes, skipped n r) (x, m) e)
 
-carried_shorter : (n : ℕ) (k : ℕ → ℕ) (r : Rest) (x : ℕ) (m : Rest) → (fixed_at n r >>= λ x. Ok (with_rest (k x.0) x.1)) ≡ Ok (with_rest x m) → length m.bytes ≤ length r.bytes
+carried_shorter : (n : ℕ) (k : ℕ → ℕ) (r : Rest) (x : ℕ) (m : Rest) → (fixed_at n r and_then λ x. Ok (with_rest (k x.0) x.1)) ≡ Ok (with_rest x m) → length m.bytes ≤ length r.bytes
 carried_shorter n k r x m e =
     let b = bind_ok (fixed_at n r) (λ x. with_rest (k x.0) x.1) (x, m) e in
     let same : b.0.1 ≡ m = ap (λ (z : ℕ × Rest). z.1) b.2 in
@@ -76,7 +77,7 @@ operand_shorter Sleb r n m e =
     let same : b.0.1 ≡ m = ap (λ (z : ℕ × Rest). z.1) b.2 in
     subst (λ (t : Rest). length t.bytes ≤ length r.bytes) same (sleb_shorter r (leb_len r.bytes) b.0.0 b.0.1 b.1)
 
-pub begins_shorter : (r : Rest) (b : ℕ) → Begins r b → length (after 1 r).bytes < length r.bytes
+pub begins_shorter : (r : Rest) (b : ℕ) → Begins r b → length (skipped 1 r).bytes < length r.bytes
 begins_shorter r b s =
     let whole : length r.bytes ≡ suc (length s.0) = ap length s.1 in
     omega (arith, length-drop 1 r.bytes, whole)
@@ -84,7 +85,7 @@ begins_shorter r b s =
 pub spells_shorter : (r : Rest) (o : _) (m : Rest) → Spells r o m → length m.bytes < length r.bytes
 spells_shorter r o m s =
     let first = begins_shorter r s.0 s.3 in
-    let more = operand_shorter (s.1).operand (after 1 r) s.2 m s.5 in
+    let more = operand_shorter (s.1).operand (skipped 1 r) s.2 m s.5 in
     omega (arith, first, more)
 
 -- ---- operands have no encodings
@@ -103,7 +104,7 @@ fits_plain : {A : Type 0} (b : Bool) (p : ℕ) (x : A) → is_encoding (cond b (
 fits_plain true p x = refl
 fits_plain false p x = refl
 
-bind_plain : {A B : Type 0} (m : Result A ByteFault) (k : A → B) → is_encoding m ≡ false → is_encoding (m >>= λ x. Ok (k x)) ≡ false
+bind_plain : {A B : Type 0} (m : Result A ByteFault) (k : A → B) → is_encoding m ≡ false → is_encoding (m and_then λ x. Ok (k x)) ≡ false
 bind_plain (Ok x) k e = refl
 bind_plain (Err (bytes.Short p)) k e = refl
 bind_plain (Err (bytes.TooWide p)) k e = refl
@@ -151,13 +152,13 @@ guard_both false d x y e = (refl, cc)
 one_number : (x : ℕ) (xs : List ℕ) → little_number 1 (x ∷ xs) ≡ x
 one_number x xs = omega arith
 
-pub first_byte : (r : Rest) (bs : List ℕ) (b : ℕ) (m : Rest) → r.bytes ≡ bs → fixed_at 1 r ≡ Ok (with_rest b m) → Begins r b × (m ≡ after 1 r)
+pub first_byte : (r : Rest) (bs : List ℕ) (b : ℕ) (m : Rest) → r.bytes ≡ bs → fixed_at 1 r ≡ Ok (with_rest b m) → Begins r b × (m ≡ skipped 1 r)
 first_byte r [] b m same e =
-    let g = guard_both (nat_lt (length r.bytes) 1) (bytes.Short r.at) (with_rest (little_number 1 r.bytes) (after 1 r)) (with_rest b m) e in
+    let g = guard_both (nat_lt (length r.bytes) 1) (bytes.Short r.at) (with_rest (little_number 1 r.bytes) (skipped 1 r)) (with_rest b m) e in
     let some : 1 ≤ length r.bytes = ltb-false _ _ g.0 in
     absurd (omega (arith, some, ap length same))
 first_byte r (x ∷ xs) b m same e =
-    let g = guard_both (nat_lt (length r.bytes) 1) (bytes.Short r.at) (with_rest (little_number 1 r.bytes) (after 1 r)) (with_rest b m) e in
+    let g = guard_both (nat_lt (length r.bytes) 1) (bytes.Short r.at) (with_rest (little_number 1 r.bytes) (skipped 1 r)) (with_rest b m) e in
     let number : little_number 1 r.bytes ≡ b = ap (λ (z : ℕ × Rest). z.0) g.1 in
     let is : x ≡ b = sym (one_number x xs) ∙ ap (little_number 1) (sym same) ∙ number in
     ((xs, same ∙ ap (λ (y : ℕ). y ∷ xs) is), sym (ap (λ (z : ℕ × Rest). z.1) g.1))

@@ -3,7 +3,7 @@ use Rattle.std.proofs.Common.{◌≡◌, ℕ, ◌<◌, List, [], ◌∷◌, leng
 use Rattle.std.specs.Prelude.{◌||◌}
 use Rattle.eh_bytes.specs.declared.fault.ByteFault.{ByteFault}
 use Rattle.eh_bytes.specs.declared.fault.ByteFault.TheVariants as bytes
-use Rattle.eh_bytes.specs.Rest.{Rest, after}
+use Rattle.eh_bytes.specs.Rest.{Rest, skipped}
 use Rattle.frame_expr.specs.declared.operation.Operation.{Operation}
 use Rattle.frame_expr.specs.declared.operation.Operation.TheVariants.{Nop, Constant, Breg, Deref, Dup, Drop, Over, Pick, Swap, Rot, Unary, PlusUconst, Binary, Compare}
 use Rattle.frame_expr.specs.declared.operation.Code.{Code}
@@ -96,9 +96,9 @@ code_ok : (d : ℕ) (r : Rest) (b : ℕ) (q : Option Code) (o : Operation) (k : 
     → Spells r o m × (fits d o ≡ true) × (k ≡ behind d o)
 code_ok d r b None o k m s known e = absurd cc
 code_ok d r b (Some c) o k m s known e =
-    let t = tested (byte_fits d c.operation) (with_number d r.at c (placed (operand_at c.operand (after 1 r)))) (faults.Depth r.at) (stepped o k m) e in
-    let n = number_ok d r.at c (placed (operand_at c.operand (after 1 r))) o k m t.1 in
-    let read = placed_ok (operand_at c.operand (after 1 r)) (n.number, m) n.read in
+    let t = tested (byte_fits d c.operation) (with_number d r.at c (placed (operand_at c.operand (skipped 1 r)))) (faults.Depth r.at) (stepped o k m) e in
+    let n = number_ok d r.at c (placed (operand_at c.operand (skipped 1 r))) o k m t.1 in
+    let read = placed_ok (operand_at c.operand (skipped 1 r)) (n.number, m) n.read in
     ((b, c, n.number, s, known, read, sym n.is), subst (λ (p : Operation). fits d p ≡ true) n.is n.fit, sym n.deep ∙ ap (behind d) n.is)
 
 pub step_ok : (d : ℕ) (r : Rest) (bs : List ℕ) (o : Operation) (k : ℕ) (m : Rest) → r.bytes ≡ bs → step d r bs ≡ went o k m → Spells r o m × (fits d o ≡ true) × (k ≡ behind d o)
@@ -111,12 +111,12 @@ fault_is : (f g : ExprFault) → stopped f ≡ stopped g → f ≡ g
 fault_is f g e = cc
 
 number_err : (d : ℕ) (r : Rest) (b : ℕ) (c : Code) (q : Result (ℕ × Rest) ByteFault) (f : ExprFault) → Begins r b → code_of b ≡ Some c → byte_fits d c.operation ≡ true
-    → operand_at c.operand (after 1 r) ≡ q → with_number d r.at c (placed q) ≡ stopped f → HasFault d r f
+    → operand_at c.operand (skipped 1 r) ≡ q → with_number d r.at c (placed q) ≡ stopped f → HasFault d r f
 number_err d r b c (Err (bytes.Short p)) f s known soon read e =
     subst (λ (g : ExprFault). HasFault d r g) (fault_is (faults.Short p) f e) (b, c, s, known, soon, read)
 number_err d r b c (Err (bytes.TooWide p)) f s known soon read e =
     subst (λ (g : ExprFault). HasFault d r g) (fault_is (faults.TooWide p) f e) (b, c, s, known, soon, read)
-number_err d r b c (Err (bytes.Encoding p x)) f s known soon read e = absurd (no_encoding c.operand (after 1 r) p x read)
+number_err d r b c (Err (bytes.Encoding p x)) f s known soon read e = absurd (no_encoding c.operand (skipped 1 r) p x read)
 number_err d r b c (Ok x) f s known soon read e = number_lacks (fits d (with_operand x.0 c)) refl e
   where
     number_lacks : (t : Bool) → fits d (with_operand x.0 c) ≡ t → checked t d r.at (with_operand x.0 c) x.1 ≡ stopped f → HasFault d r f
@@ -127,8 +127,8 @@ code_err : (d : ℕ) (r : Rest) (b : ℕ) (q : Option Code) (f : ExprFault) → 
 code_err d r b None f s known e = subst (λ (g : ExprFault). HasFault d r g) (fault_is (faults.Operation r.at b) f e) (refl, s, known)
 code_err d r b (Some c) f s known e = soon_or_not (byte_fits d c.operation) refl e
   where
-    soon_or_not : (t : Bool) → byte_fits d c.operation ≡ t → cond t (with_number d r.at c (placed (operand_at c.operand (after 1 r)))) (stopped (faults.Depth r.at)) ≡ stopped f → HasFault d r f
-    soon_or_not true soon e = number_err d r b c (operand_at c.operand (after 1 r)) f s known soon refl e
+    soon_or_not : (t : Bool) → byte_fits d c.operation ≡ t → cond t (with_number d r.at c (placed (operand_at c.operand (skipped 1 r)))) (stopped (faults.Depth r.at)) ≡ stopped f → HasFault d r f
+    soon_or_not true soon e = number_err d r b c (operand_at c.operand (skipped 1 r)) f s known soon refl e
     soon_or_not false soon e = subst (λ (g : ExprFault). HasFault d r g) (fault_is (faults.Depth r.at) f e) (refl, inr (b, c, s, known, inl soon))
 
 pub step_err : (d : ℕ) (r : Rest) (bs : List ℕ) (f : ExprFault) → r.bytes ≡ bs → 0 < length bs → step d r bs ≡ stopped f → HasFault d r f
@@ -156,17 +156,17 @@ spelled_step d r o m s fit =
     let c = s.1 in
     let p = with_operand s.2 c in
     let here : fits d p ≡ true = subst (λ (q : Operation). fits d q ≡ true) s.6 fit in
-    let read = by_byte d r s.0 (Some c) s.3 s.4 ∙ by_operand d r.at c (after 1 r) (numbered s.2 m) (early_fits d s.2 c here) s.5
+    let read = by_byte d r s.0 (Some c) s.3 s.4 ∙ by_operand d r.at c (skipped 1 r) (numbered s.2 m) (early_fits d s.2 c here) s.5
     ∙ by_depth true d r.at p m (fits d p) here in
     subst (λ (q : Operation). step d r r.bytes ≡ went q (behind d q) m) (sym s.6) read
 
 no_operand : (d : ℕ) (r : Rest) (f : ByteFault) (h : HasNoOperand d r f) → step d r r.bytes ≡ with_number d r.at h.1 (placed (Err f))
-no_operand d r f h = by_byte d r h.0 (Some h.1) h.2 h.3 ∙ by_operand d r.at h.1 (after 1 r) (Err f) h.4 h.5
+no_operand d r f h = by_byte d r h.0 (Some h.1) h.2 h.3 ∙ by_operand d r.at h.1 (skipped 1 r) (Err f) h.4 h.5
 
 lacking : (d : ℕ) (r : Rest) → LacksEntries d r → step d r r.bytes ≡ stopped (faults.Depth r.at)
-lacking d r (b, c, s, known, inl soon) = by_byte d r b (Some c) s known ∙ late d r.at c (after 1 r) soon
+lacking d r (b, c, s, known, inl soon) = by_byte d r b (Some c) s known ∙ late d r.at c (skipped 1 r) soon
 lacking d r (b, c, s, known, inr (soon, (n, m, read, fit))) =
-    by_byte d r b (Some c) s known ∙ by_operand d r.at c (after 1 r) (numbered n m) soon read
+    by_byte d r b (Some c) s known ∙ by_operand d r.at c (skipped 1 r) (numbered n m) soon read
     ∙ by_depth false d r.at (with_operand n c) m (fits d (with_operand n c)) fit
 
 pub fault_step : (d : ℕ) (r : Rest) (f : ExprFault) → HasFault d r f → 0 < length r.bytes → step d r r.bytes ≡ stopped f

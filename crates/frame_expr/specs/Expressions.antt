@@ -2,7 +2,7 @@
 use Rattle.std.specs.Prelude.{◌≡◌, ℕ, ◌<◌, ◌⊎◌, List, [], ◌∷◌, Bool, true, false, Option, Some, None, Result, Ok, Err, if◌then◌else◌}
 use Rattle.eh_bytes.specs.declared.fault.ByteFault.{ByteFault}
 use Rattle.eh_bytes.specs.declared.fault.ByteFault.TheVariants as bytes
-use Rattle.eh_bytes.specs.Rest.{Rest, after}
+use Rattle.eh_bytes.specs.Rest.{Rest, skipped}
 use Rattle.frame_expr.specs.declared.operation.Operation.{Operation}
 use Rattle.frame_expr.specs.declared.operation.Code.{Code}
 use Rattle.frame_expr.specs.declared.fault.ExprFault.{ExprFault}
@@ -28,13 +28,13 @@ IsExpr depth bytes os = (e : ℕ) × (rest : Rest) × AreOperations depth (whole
 
 -- the operand of the next operation can't be read, for this cause
 abbrev pub HasNoOperand : ℕ → Rest → ByteFault → Type 0
-HasNoOperand d r f = (b : ℕ) × (c : Code) × Begins r b × (code_of b ≡ Some c) × (byte_fits d c.operation ≡ true) × (operand_at c.operand (after 1 r) ≡ Err f)
+HasNoOperand d r f = (b : ℕ) × (c : Code) × Begins r b × (code_of b ≡ Some c) × (byte_fits d c.operation ≡ true) × (operand_at c.operand (skipped 1 r) ≡ Err f)
 
 -- The next operation doesn't find its entries, or leaves too many. Its byte tells, or with pick its operand.
 abbrev pub LacksEntries : ℕ → Rest → Type 0
 LacksEntries d r = (b : ℕ) × (c : Code) × Begins r b × (code_of b ≡ Some c)
     × ((byte_fits d c.operation ≡ false)
-    ⊎ ((byte_fits d c.operation ≡ true) × ((n : ℕ) × (rest : Rest) × (operand_at c.operand (after 1 r) ≡ Ok (n, rest)) × (fits d (with_operand n c) ≡ false))))
+    ⊎ ((byte_fits d c.operation ≡ true) × ((n : ℕ) × (rest : Rest) × (operand_at c.operand (skipped 1 r) ≡ Ok (n, rest)) × (fits d (with_operand n c) ≡ false))))
 
 -- with so many entries on the stack, what stands here is refused for this cause
 abbrev pub HasFault : ℕ → Rest → ExprFault → Type 0
@@ -70,7 +70,7 @@ coded d at c r = if byte_fits d c.operation then with_number d at c (placed (ope
 
 abbrev pub by_code : ℕ → Rest → ℕ → Option Code → Result ((Operation × ℕ) × Rest) ExprFault
 by_code d r b None = Err (faults.Operation r.at b)
-by_code d r b (Some c) = coded d r.at c (after 1 r)
+by_code d r b (Some c) = coded d r.at c (skipped 1 r)
 
 -- the next operation with the depth behind it, or its fault
 abbrev pub step : ℕ → Rest → List ℕ → Result ((Operation × ℕ) × Rest) ExprFault

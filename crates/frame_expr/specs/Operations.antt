@@ -2,7 +2,8 @@
 use Rattle.std.specs.Prelude.{◌≡◌, ℕ, ◌-◌, List, ◌∷◌, Bool, true, false, Option, Some, None, Result, Ok, nat_lt, ◌==◌, if◌then◌else◌}
 use Rattle.std.specs.Int.{w64, cast_unsigned}
 use Rattle.eh_bytes.specs.declared.fault.ByteFault.{ByteFault}
-use Rattle.eh_bytes.specs.Rest.{Rest, ◌>>=◌, fixed_at, after}
+use Rattle.eh_bytes.specs.Rest.{Rest, fixed_at, skipped}
+use Rattle.eh_bytes.specs.Results.{◌and_then◌}
 use Rattle.eh_bytes.specs.Leb.{uleb_at, sleb_at}
 use Rattle.eh_bytes.specs.Pointer.{extended}
 use Rattle.frame_expr.specs.declared.operation.Operand.{Operand}
@@ -96,12 +97,12 @@ operand_at U8 r = fixed_at 1 r
 operand_at U16 r = fixed_at 2 r
 operand_at U32 r = fixed_at 4 r
 operand_at U64 r = fixed_at 8 r
-operand_at I8 r = fixed_at 1 r >>= λ x. Ok (extended 1 x.0, x.1)
-operand_at I16 r = fixed_at 2 r >>= λ x. Ok (extended 2 x.0, x.1)
-operand_at I32 r = fixed_at 4 r >>= λ x. Ok (extended 4 x.0, x.1)
+operand_at I8 r = fixed_at 1 r and_then λ x. Ok (extended 1 x.0, x.1)
+operand_at I16 r = fixed_at 2 r and_then λ x. Ok (extended 2 x.0, x.1)
+operand_at I32 r = fixed_at 4 r and_then λ x. Ok (extended 4 x.0, x.1)
 operand_at I64 r = fixed_at 8 r
 operand_at Uleb r = uleb_at r
-operand_at Sleb r = sleb_at r >>= λ x. Ok (cast_unsigned w64 x.0, x.1)
+operand_at Sleb r = sleb_at r and_then λ x. Ok (cast_unsigned w64 x.0, x.1)
 
 abbrev pub is_absent : Operand → Bool
 is_absent Absent = true
@@ -144,4 +145,4 @@ Begins r b = (bs : List ℕ) × (r.bytes ≡ b ∷ bs)
 
 -- the next bytes spell an operation, and these are left behind it
 abbrev pub Spells : Rest → Operation → Rest → Type 0
-Spells r o rest = (b : ℕ) × (c : Code) × (n : ℕ) × Begins r b × (code_of b ≡ Some c) × (operand_at c.operand (after 1 r) ≡ Ok (n, rest)) × (o ≡ with_operand n c)
+Spells r o rest = (b : ℕ) × (c : Code) × (n : ℕ) × Begins r b × (code_of b ≡ Some c) × (operand_at c.operand (skipped 1 r) ≡ Ok (n, rest)) × (o ≡ with_operand n c)

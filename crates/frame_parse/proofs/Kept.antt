@@ -15,8 +15,9 @@ use Rattle.frame_parse.specs.declared.instruction.Operation.{Operation}
 use Rattle.frame_parse.specs.declared.instruction.Operation.TheVariants as operations
 use Rattle.frame_parse.specs.declared.instruction.Step.{Step}
 use Rattle.frame_parse.specs.declared.state.State.{State}
-use Rattle.frame_parse.specs.Part.{given, found}
-use Rattle.frame_parse.specs.Programs.{operation, plain_operation, effect_of, effect, step, top, below_top, AreSteps, initial_state, first_state, HasSteps, IsExtent, HasPrograms}
+use Rattle.eh_bytes.specs.Grammar.{given, found}
+use Rattle.frame_parse.specs.Programs.{operation, plain_operation, effect_of, effect, step, top, below_top, initial_state, first_state, HasSteps, IsExtent, HasPrograms}
+use Rattle.eh_bytes.specs.Steps.{AreSteps}
 use Rattle.frame_parse.specs.Sections.{AreRecords, fdes_of, IsSection, HasFdes, covers, first_cover}
 use Rattle.frame_parse.specs.Records.{cie, fde, cie_from, cie_behind, content, whole_record}
 

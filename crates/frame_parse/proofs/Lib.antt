@@ -1,14 +1,9 @@
-pub mod Exact
-pub mod Leaves
-pub mod Ends
 pub mod RecordParts
 pub mod Numbers
 pub mod Searches
 pub mod OneAnswer
 pub mod SoFar
 pub mod ProgramParts
-pub mod Wholes
-pub mod Steps
 pub mod RecordWholes
 pub mod StepsLeft
 pub mod Kept

@@ -4,18 +4,19 @@ use Rattle.std.specs.Prelude.{◌&&◌}
 use Rattle.eh_bytes.specs.declared.fault.ByteFault.{ByteFault}
 use Rattle.eh_bytes.specs.declared.fault.ByteFault.TheVariants as bytes
 use Rattle.eh_bytes.specs.Rest.{Rest, Reads}
-use Rattle.eh_bytes.specs.Rest as rest
+use Rattle.eh_bytes.specs.Results.{◌and_then◌}
 use Rattle.eh_bytes.specs.Pointer.{is_format, base_of, number_at, pointer_at}
 use Rattle.frame_parse.specs.declared.fault.FrameFault.{FrameFault}
 use Rattle.frame_parse.specs.declared.fault.FrameFault.TheVariants as faults
-use Rattle.frame_parse.specs.Part.{Gives, ◌>>=◌, give, here, check}
+use Rattle.eh_bytes.specs.Grammar.{◌>>=◌, give, here, check}
+use Rattle.eh_bytes.specs.Rest.{Gives}
 use Rattle.frame_parse.specs.Fields.{placed, by_format, number}
 
 placed-cond : {A : Type 0} (start : ℕ) (b : Bool) (m n : Result A ByteFault) → placed start (cond b m n) ≡ cond b (placed start m) (placed start n)
 placed-cond start true m n = refl
 placed-cond start false m n = refl
 
-placed-then : {A B : Type 0} (start : ℕ) (m : Result A ByteFault) (k : A → B) → placed start (rest.◌>>=◌ m (λ x. Ok (k x))) ≡ rest.◌>>=◌ (placed start m) (λ x. Ok (k x))
+placed-then : {A B : Type 0} (start : ℕ) (m : Result A ByteFault) (k : A → B) → placed start (◌and_then◌ m (λ x. Ok (k x))) ≡ ◌and_then◌ (placed start m) (λ x. Ok (k x))
 placed-then start (Ok x) k = refl
 placed-then start (Err e) k = refl
 
@@ -34,12 +35,12 @@ formats-alone f false lt = refl
 abbrev alike : ℕ × Rest → Result (ℕ × Rest) FrameFault
 alike x = Ok x
 
-same-then : {A B : Type 0} (m : Result A FrameFault) (k l : A → Result B FrameFault) → ((x : A) → k x ≡ l x) → rest.◌>>=◌ m k ≡ rest.◌>>=◌ m l
+same-then : {A B : Type 0} (m : Result A FrameFault) (k l : A → Result B FrameFault) → ((x : A) → k x ≡ l x) → ◌and_then◌ m k ≡ ◌and_then◌ m l
 same-then (Ok x) k l e = e x
 same-then (Err e) k l same = refl
 
 guarded-number : (start f : ℕ) (r : Rest) (b : Bool) → f < 16
-    → placed start (cond b (rest.◌>>=◌ (number_at f r) (λ x. Ok ((x.0 + base_of f 0 r.at) % 2 ^ 64, x.1))) (Err (bytes.Encoding r.at f)))
+    → placed start (cond b (◌and_then◌ (number_at f r) (λ x. Ok ((x.0 + base_of f 0 r.at) % 2 ^ 64, x.1))) (Err (bytes.Encoding r.at f)))
     ≡ (here >>= λ at. check b (faults.Encoding start at f) >>= λ _. by_format start f >>= λ x. give (x % 2 ^ 64)).read r
 guarded-number start f r true lt =
     let none : f / 16 % 8 ≡ 0 = omega arith in
@@ -47,7 +48,7 @@ guarded-number start f r true lt =
     let whole = placed-then start (number_at f r) (λ x. ((x.0 + base_of f 0 r.at) % 2 ^ 64, x.1)) in
     let plain : (x : ℕ × Rest) → alike ((x.0 + base_of f 0 r.at) % 2 ^ 64, x.1) ≡ alike (x.0 % 2 ^ 64, x.1) =
     λ x. ap (λ (n : ℕ). alike (n % 2 ^ 64, x.1)) (omega (arith, base)) in
-    whole ∙ ap (λ (m : Result (ℕ × Rest) FrameFault). rest.◌>>=◌ m (λ x. Ok ((x.0 + base_of f 0 r.at) % 2 ^ 64, x.1))) (placed-number start f r)
+    whole ∙ ap (λ (m : Result (ℕ × Rest) FrameFault). ◌and_then◌ m (λ x. Ok ((x.0 + base_of f 0 r.at) % 2 ^ 64, x.1))) (placed-number start f r)
     ∙ same-then ((by_format start f).read r) (λ x. alike ((x.0 + base_of f 0 r.at) % 2 ^ 64, x.1)) (λ x. alike (x.0 % 2 ^ 64, x.1)) plain
 guarded-number start f r false lt = refl
 

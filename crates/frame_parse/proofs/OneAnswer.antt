@@ -7,7 +7,7 @@ use Rattle.std.proofs.lemmas.List.{append-nil}
 use Rattle.byteorder.specs.Endian.{little_number}
 use Rattle.byteorder.specs.Numbers.{little_from-append}
 use Rattle.eh_bytes.specs.Rest.{Rest}
-use Rattle.eh_bytes.specs.Rest as rest
+use Rattle.eh_bytes.specs.Results.{◌and_then◌}
 use Rattle.frame_parse.specs.declared.fault.FrameFault.{FrameFault}
 use Rattle.frame_parse.specs.declared.record.CieRecord.{CieRecord}
 use Rattle.frame_parse.specs.declared.record.FdeRecord.{FdeRecord}
@@ -16,7 +16,8 @@ use Rattle.frame_parse.specs.declared.record.Record.TheVariants.{Cie, Fde}
 use Rattle.frame_parse.specs.Records.{content, record_length, whole_record}
 use Rattle.frame_parse.specs.Sections.{is_end, with_record, AreRecords, cies_of, IsSection, IsRefused, HasOneAnswer, HasFdes}
 use Rattle.frame_parse.specs.Reading.{read_all, section_of, IsAnswered}
-use Rattle.frame_parse.proofs.Exact.{left, Takes, ok_is, err_is}
+use Rattle.eh_bytes.proofs.Exact.{left, Takes}
+use Rattle.eh_bytes.proofs.Results.{ok_is, err_is}
 use Rattle.frame_parse.proofs.RecordWholes.{whole_record_exact}
 
 -- ---- a record has bytes, and is not the end
@@ -155,13 +156,13 @@ Outcome section earlier r (Ok rs) = EndsAt section earlier r rs
 Outcome section earlier r (Err f) = StopsAt section earlier r f
 
 outcome_of_next : (section : ℕ) (earlier : List CieRecord) (r : Rest) (x : Record) (mid : Rest) (m : Result (List Record) FrameFault) → Takes (whole_record section earlier) r x mid
-    → Outcome section (with_record earlier x) mid m → Outcome section earlier r (rest.◌>>=◌ m (λ rs. Ok (x ∷ rs)))
+    → Outcome section (with_record earlier x) mid m → Outcome section earlier r (◌and_then◌ m (λ rs. Ok (x ∷ rs)))
 outcome_of_next section earlier r x mid (Ok rs) t s = EndsAt-more section earlier r x mid rs t s
 outcome_of_next section earlier r x mid (Err f) t s = StopsAt-more section earlier r x mid f t s
 
 outcome_of_record : (n section : ℕ) (earlier : List CieRecord) (r : Rest) (m : Result (Record × Rest) FrameFault) → (whole_record section earlier).read r ≡ m → is_end r.bytes ≡ false → length r.bytes < suc n
     → ((x : Record) (mid : Rest) → length mid.bytes < n → Outcome section (with_record earlier x) mid (read_all n section (with_record earlier x) mid))
-    → Outcome section earlier r (rest.◌>>=◌ m (λ x. rest.◌>>=◌ (read_all n section (with_record earlier x.0) x.1) (λ rs. Ok (x.0 ∷ rs))))
+    → Outcome section earlier r (◌and_then◌ m (λ x. ◌and_then◌ (read_all n section (with_record earlier x.0) x.1) (λ rs. Ok (x.0 ∷ rs))))
 outcome_of_record n section earlier r (Ok x) e on lt more =
     let t = (whole_record_exact section earlier).takes r x.0 x.1 e in
     let grown = record_grows section r.at earlier t.front x.0 t.spells in
@@ -175,7 +176,7 @@ outcome_of_record n section earlier r (Err f) e on lt more =
 
 outcome_of_end : (n section : ℕ) (earlier : List CieRecord) (r : Rest) (b : Bool) → is_end r.bytes ≡ b → length r.bytes < suc n
     → ((x : Record) (mid : Rest) → length mid.bytes < n → Outcome section (with_record earlier x) mid (read_all n section (with_record earlier x) mid))
-    → Outcome section earlier r (cond b (Ok []) (rest.◌>>=◌ ((whole_record section earlier).read r) (λ x. rest.◌>>=◌ (read_all n section (with_record earlier x.0) x.1) (λ rs. Ok (x.0 ∷ rs)))))
+    → Outcome section earlier r (cond b (Ok []) (◌and_then◌ ((whole_record section earlier).read r) (λ x. ◌and_then◌ (read_all n section (with_record earlier x.0) x.1) (λ rs. Ok (x.0 ∷ rs)))))
 outcome_of_end n section earlier r true e lt more = ([], r.bytes, refl, refl, e)
 outcome_of_end n section earlier r false e lt more = outcome_of_record n section earlier r ((whole_record section earlier).read r) refl e lt more
 

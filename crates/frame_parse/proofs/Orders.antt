@@ -1,5 +1,5 @@
 -- What one step changes, and what therefore holds along the steps of a program.
-use Rattle.std.proofs.Common.{◌≡◌, ℕ, ◌+◌, ◌-◌, ◌*◌, ◌^◌, ◌≤◌, List, [], ◌∷◌, ◌++◌, length, Bool, true, false, cond, Ok, Err, nat_lt, nat_le, refl, sym, ap, subst, ◌∙◌, length-append, arith}
+use Rattle.std.proofs.Common.{◌≡◌, ℕ, ◌+◌, ◌-◌, ◌*◌, ◌^◌, List, [], ◌∷◌, ◌++◌, length, Bool, true, false, cond, Ok, Err, nat_lt, nat_le, refl, sym, ap, subst, ◌∙◌, length-append, arith}
 use Rattle.std.specs.Prelude.{◌&&◌}
 use Rattle.std.proofs.lemmas.Bool.{ltb-true, leb-true}
 use Rattle.std.proofs.lemmas.List.{length-take}
@@ -11,8 +11,9 @@ use Rattle.frame_parse.specs.declared.instruction.Operation.{Operation}
 use Rattle.frame_parse.specs.declared.instruction.Operation.TheVariants as operations
 use Rattle.frame_parse.specs.declared.instruction.Step.{Step}
 use Rattle.frame_parse.specs.declared.state.State.{State}
-use Rattle.frame_parse.specs.Part.{given}
-use Rattle.frame_parse.specs.Programs.{effect_of, effect, step, instruction_of, top, below_top, AreSteps, ProgramRest, HasSteps}
+use Rattle.eh_bytes.specs.Grammar.{given}
+use Rattle.frame_parse.specs.Programs.{effect_of, effect, step, instruction_of, top, below_top, ProgramRest, HasSteps}
+use Rattle.eh_bytes.specs.Steps.{AreSteps}
 use Rattle.frame_parse.specs.Order.{Moves, IsAscendingFrom, AreAt, MayStandAt, depth_behind, IsBalanced, AreOrdered}
 
 -- what a step does to the location and to the number of remembered states

@@ -5,25 +5,24 @@ use Rattle.frame_parse.specs.declared.fault.FrameFault.TheVariants as faults
 use Rattle.frame_parse.specs.declared.record.CieRecord.{CieRecord}
 use Rattle.frame_parse.specs.declared.state.State.{State}
 use Rattle.frame_parse.specs.Programs.{cfa_column, second_column, plain_operation, operation, effect, step}
-use Rattle.frame_parse.proofs.Exact.{IsExact, then_exact, give_exact, here_exact, refuse_exact, when_exact, check_exact, given_exact}
-use Rattle.frame_parse.proofs.Leaves.{fixed_exact}
-use Rattle.frame_parse.proofs.Steps.{AreSound}
+use Rattle.eh_bytes.proofs.Exact.{IsExact, then_exact, give_exact, here_exact, refuse_exact, when_exact, check_exact, given_exact}
+use Rattle.eh_bytes.proofs.Steps.{AreSound}
 use Rattle.frame_parse.specs.declared.instruction.Step.{Step}
-use Rattle.frame_parse.proofs.Ends.{uleb_exact, sleb_exact}
-use Rattle.frame_parse.proofs.RecordParts.{pointer_exact}
+use Rattle.eh_bytes.proofs.Fields.{fixed_exact, uleb_exact, sleb_exact}
+use Rattle.frame_parse.proofs.RecordParts.{field_exact, pointer_exact}
 
 cfa_column_exact : (start : ℕ) → IsExact (cfa_column start)
 unfolding cfa_column
 cfa_column_exact start =
     then_exact _ _ here_exact (λ at.
-    then_exact _ _ (uleb_exact start) (λ r.
+    then_exact _ _ (field_exact start _ uleb_exact) (λ r.
     then_exact _ _ (check_exact (nat_lt r 17) (faults.Column start at r)) (λ _. give_exact r)))
 
 second_column_exact : (start first : ℕ) → IsExact (second_column start first)
 unfolding second_column
 second_column_exact start first =
     then_exact _ _ here_exact (λ at.
-    then_exact _ _ (uleb_exact start) (λ r.
+    then_exact _ _ (field_exact start _ uleb_exact) (λ r.
     then_exact _ _ (check_exact (nat_lt 16 first || nat_lt r 17) (faults.Column start at r)) (λ _. give_exact r)))
 
 plain_operation_exact : (start section : ℕ) (c : CieRecord) (at b : ℕ) → IsExact (plain_operation start section c at b)
@@ -31,34 +30,34 @@ unfolding plain_operation
 plain_operation_exact start section c at b =
     when_exact _ _ _ (give_exact _)
     (when_exact _ _ _ (then_exact _ _ (pointer_exact start section c.augmentation.pointers) (λ a. give_exact _))
-    (when_exact _ _ _ (then_exact _ _ (fixed_exact start 1) (λ d. give_exact _))
-    (when_exact _ _ _ (then_exact _ _ (fixed_exact start 2) (λ d. give_exact _))
-    (when_exact _ _ _ (then_exact _ _ (fixed_exact start 4) (λ d. give_exact _))
-    (when_exact _ _ _ (then_exact _ _ (uleb_exact start) (λ r. then_exact _ _ (uleb_exact start) (λ n. give_exact _)))
-    (when_exact _ _ _ (then_exact _ _ (uleb_exact start) (λ r. give_exact _))
-    (when_exact _ _ _ (then_exact _ _ (uleb_exact start) (λ r. give_exact _))
-    (when_exact _ _ _ (then_exact _ _ (uleb_exact start) (λ r. give_exact _))
-    (when_exact _ _ _ (then_exact _ _ (uleb_exact start) (λ r. then_exact _ _ (second_column_exact start r) (λ q. give_exact _)))
+    (when_exact _ _ _ (then_exact _ _ (field_exact start _ (fixed_exact 1)) (λ d. give_exact _))
+    (when_exact _ _ _ (then_exact _ _ (field_exact start _ (fixed_exact 2)) (λ d. give_exact _))
+    (when_exact _ _ _ (then_exact _ _ (field_exact start _ (fixed_exact 4)) (λ d. give_exact _))
+    (when_exact _ _ _ (then_exact _ _ (field_exact start _ uleb_exact) (λ r. then_exact _ _ (field_exact start _ uleb_exact) (λ n. give_exact _)))
+    (when_exact _ _ _ (then_exact _ _ (field_exact start _ uleb_exact) (λ r. give_exact _))
+    (when_exact _ _ _ (then_exact _ _ (field_exact start _ uleb_exact) (λ r. give_exact _))
+    (when_exact _ _ _ (then_exact _ _ (field_exact start _ uleb_exact) (λ r. give_exact _))
+    (when_exact _ _ _ (then_exact _ _ (field_exact start _ uleb_exact) (λ r. then_exact _ _ (second_column_exact start r) (λ q. give_exact _)))
     (when_exact _ _ _ (give_exact _)
     (when_exact _ _ _ (give_exact _)
-    (when_exact _ _ _ (then_exact _ _ (cfa_column_exact start) (λ r. then_exact _ _ (uleb_exact start) (λ n. give_exact _)))
+    (when_exact _ _ _ (then_exact _ _ (cfa_column_exact start) (λ r. then_exact _ _ (field_exact start _ uleb_exact) (λ n. give_exact _)))
     (when_exact _ _ _ (then_exact _ _ (cfa_column_exact start) (λ r. give_exact _))
-    (when_exact _ _ _ (then_exact _ _ (uleb_exact start) (λ n. give_exact _))
-    (when_exact _ _ _ (then_exact _ _ (uleb_exact start) (λ r. then_exact _ _ (sleb_exact start) (λ n. give_exact _)))
-    (when_exact _ _ _ (then_exact _ _ (cfa_column_exact start) (λ r. then_exact _ _ (sleb_exact start) (λ n. give_exact _)))
-    (when_exact _ _ _ (then_exact _ _ (sleb_exact start) (λ n. give_exact _))
-    (when_exact _ _ _ (then_exact _ _ (uleb_exact start) (λ r. then_exact _ _ (uleb_exact start) (λ n. give_exact _)))
-    (when_exact _ _ _ (then_exact _ _ (uleb_exact start) (λ r. then_exact _ _ (sleb_exact start) (λ n. give_exact _)))
-    (when_exact _ _ _ (then_exact _ _ (uleb_exact start) (λ n. give_exact _))
+    (when_exact _ _ _ (then_exact _ _ (field_exact start _ uleb_exact) (λ n. give_exact _))
+    (when_exact _ _ _ (then_exact _ _ (field_exact start _ uleb_exact) (λ r. then_exact _ _ (field_exact start _ sleb_exact) (λ n. give_exact _)))
+    (when_exact _ _ _ (then_exact _ _ (cfa_column_exact start) (λ r. then_exact _ _ (field_exact start _ sleb_exact) (λ n. give_exact _)))
+    (when_exact _ _ _ (then_exact _ _ (field_exact start _ sleb_exact) (λ n. give_exact _))
+    (when_exact _ _ _ (then_exact _ _ (field_exact start _ uleb_exact) (λ r. then_exact _ _ (field_exact start _ uleb_exact) (λ n. give_exact _)))
+    (when_exact _ _ _ (then_exact _ _ (field_exact start _ uleb_exact) (λ r. then_exact _ _ (field_exact start _ sleb_exact) (λ n. give_exact _)))
+    (when_exact _ _ _ (then_exact _ _ (field_exact start _ uleb_exact) (λ n. give_exact _))
     (refuse_exact (faults.Opcode start at b))))))))))))))))))))))
 
 operation_exact : (start section : ℕ) (c : CieRecord) → IsExact (operation start section c)
 unfolding operation
 operation_exact start section c =
     then_exact _ _ here_exact (λ at.
-    then_exact _ _ (fixed_exact start 1) (λ b.
+    then_exact _ _ (field_exact start _ (fixed_exact 1)) (λ b.
     when_exact _ _ _ (give_exact _)
-    (when_exact _ _ _ (then_exact _ _ (uleb_exact start) (λ n. give_exact _))
+    (when_exact _ _ _ (then_exact _ _ (field_exact start _ uleb_exact) (λ n. give_exact _))
     (when_exact _ _ _ (give_exact _)
     (plain_operation_exact start section c at b)))))
 

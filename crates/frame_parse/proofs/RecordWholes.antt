@@ -6,12 +6,12 @@ use Rattle.frame_parse.specs.declared.record.CieRecord.{CieRecord}
 use Rattle.frame_parse.specs.declared.record.Record.TheVariants.{Cie, Fde}
 use Rattle.frame_parse.specs.Programs.{initial_state, first_state}
 use Rattle.frame_parse.specs.Records.{cie_behind, content, record_length, whole_record}
-use Rattle.frame_parse.proofs.Exact.{IsExact, then_exact, give_exact, here_exact, when_exact, found_exact}
-use Rattle.frame_parse.proofs.Wholes.{IsWhole, then_whole, give_whole, when_whole, filled_exact}
-use Rattle.frame_parse.proofs.Leaves.{fixed_exact, short_of_exact}
-use Rattle.frame_parse.proofs.RecordParts.{cie_exact, fde_exact}
+use Rattle.eh_bytes.proofs.Exact.{IsExact, then_exact, give_exact, here_exact, when_exact, found_exact}
+use Rattle.eh_bytes.proofs.Wholes.{IsWhole, then_whole, give_whole, when_whole, filled_exact}
+use Rattle.eh_bytes.proofs.Fields.{fixed_exact}
+use Rattle.frame_parse.proofs.RecordParts.{field_exact, short_of_exact, cie_exact, fde_exact}
 use Rattle.frame_parse.proofs.ProgramParts.{steps_sound}
-use Rattle.frame_parse.proofs.Steps.{steps_from_whole}
+use Rattle.eh_bytes.proofs.Steps.{steps_from_whole}
 
 -- ---- records
 
@@ -19,7 +19,7 @@ content_whole : (start section : ℕ) (earlier : List CieRecord) (end : ℕ) →
 unfolding content
 content_whole start section earlier end =
     then_whole _ _ here_exact (λ at.
-    then_whole _ _ (fixed_exact start 4) (λ id.
+    then_whole _ _ (field_exact start _ (fixed_exact 4)) (λ id.
     when_whole (id == 0) _ _
     (then_whole _ _ (cie_exact start section end) (λ c. give_whole _ (λ s. Cie (record c { offset = s.offset })) (steps_from_whole _ initial_state (steps_sound start section false c))))
     (then_whole _ _ (found_exact (cie_behind earlier at id) (NoCie start at)) (λ c. then_whole _ _ (fde_exact start section end c) (λ f. give_whole _ (λ s. Fde f) (steps_from_whole _ (first_state c f.first) (steps_sound start section true c)))))))

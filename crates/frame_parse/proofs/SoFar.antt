@@ -10,7 +10,7 @@ use Rattle.frame_parse.specs.declared.record.Record.{Record}
 use Rattle.frame_parse.specs.declared.record.Record.TheVariants.{Cie, Fde}
 use Rattle.frame_parse.specs.Records.{whole_record}
 use Rattle.frame_parse.specs.Sections.{is_end, with_record, AreRecords, cies_of, fdes_of, IsSection, IsRefused, HasFdes, starts, IsAscending}
-use Rattle.frame_parse.proofs.Exact.{left, Takes}
+use Rattle.eh_bytes.proofs.Exact.{left, Takes}
 use Rattle.frame_parse.proofs.RecordWholes.{whole_record_exact}
 use Rattle.frame_parse.proofs.OneAnswer.{cies-step, record_grows}
 use Rattle.frame_parse.proofs.Searches.{starts-length}

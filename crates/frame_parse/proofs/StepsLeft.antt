@@ -4,10 +4,10 @@ use Rattle.eh_bytes.specs.Rest.{Rest}
 use Rattle.frame_parse.specs.declared.fault.FrameFault.{FrameFault}
 use Rattle.frame_parse.specs.declared.instruction.Step.{Step}
 use Rattle.frame_parse.specs.declared.state.State.{State}
-use Rattle.frame_parse.specs.Part.{Gives}
+use Rattle.eh_bytes.specs.Rest.{Gives}
 use Rattle.frame_parse.specs.Programs.{step, ProgramRest, HasSteps}
 use Rattle.frame_parse.proofs.ProgramParts.{steps_sound}
-use Rattle.frame_parse.proofs.Steps.{no_steps, next_step, no_refusal}
+use Rattle.eh_bytes.proofs.Steps.{no_steps, next_step, no_refusal}
 
 pub nothing_left : (p : ProgramRest) (steps : List Step) → length p.rest.bytes ≤ 0 → HasSteps p steps → steps ≡ []
 unfolding HasSteps

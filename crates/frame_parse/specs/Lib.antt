@@ -1,4 +1,3 @@
-pub mod Part
 pub mod Fields
 pub mod Records
 pub mod Sections

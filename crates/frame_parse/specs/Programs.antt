@@ -1,8 +1,8 @@
 -- Call frame instructions, after DWARF 5, section 6.4.2, and the programs that they make.
-use Rattle.std.specs.Prelude.{slice_range, ◌≡◌, ℕ, zero, suc, ◌+◌, ◌-◌, ◌*◌, ◌/◌, ◌%◌, ◌^◌, ◌<◌, List, [], ◌∷◌, ◌++◌, length, take, get_or, Bool, true, false, Result, Ok, Err, nat_lt, nat_le, ◌==◌, ◌&&◌, ◌||◌, if◌then◌else◌}
+use Rattle.std.specs.Prelude.{slice_range, ◌≡◌, ℕ, ◌+◌, ◌-◌, ◌*◌, ◌/◌, ◌%◌, ◌^◌, List, [], ◌∷◌, ◌++◌, length, take, get_or, Bool, true, false, Result, Ok, Err, nat_lt, nat_le, ◌==◌, ◌&&◌, ◌||◌, if◌then◌else◌}
 use Rattle.std.specs.Int.{w64, cast_unsigned}
 use Rattle.eh_bytes.specs.Rest.{Rest}
-use Rattle.eh_bytes.specs.Rest as rest
+use Rattle.eh_bytes.specs.Steps.{AreSteps}
 use Rattle.frame_parse.specs.declared.fault.FrameFault.{FrameFault}
 use Rattle.frame_parse.specs.declared.fault.FrameFault.TheVariants as faults
 use Rattle.frame_parse.specs.declared.record.CieRecord.{CieRecord}
@@ -16,8 +16,9 @@ use Rattle.frame_parse.specs.declared.instruction.Step.{Step}
 use Rattle.frame_parse.specs.declared.instruction.Operation.{Operation}
 use Rattle.frame_parse.specs.declared.instruction.Operation.TheVariants as operations
 use Rattle.frame_parse.specs.declared.state.State.{State}
-use Rattle.frame_parse.specs.Part.{Part, ◌>>=◌, give, here, refuse, when, check, given}
-use Rattle.frame_parse.specs.Fields.{fixed, uleb, sleb, pointer}
+use Rattle.eh_bytes.specs.Grammar.{Part, ◌>>=◌, give, here, refuse, when, check, given}
+use Rattle.frame_parse.specs.Fields.{field, pointer}
+use Rattle.eh_bytes.specs.Fields.{fixed, uleb, sleb}
 
 -- ---- what one instruction spells
 
@@ -36,54 +37,54 @@ abbrev pub restored : ℕ → Instruction
 restored r = if nat_lt 16 r then Nop else Restore r
 
 -- a column of the CFA is at most 16
-unfoldable pub cfa_column : ℕ → Part ℕ
+unfoldable pub cfa_column : ℕ → Part FrameFault ℕ
 cfa_column start = do
   at ← here
-  r ← uleb start
+  r ← field start uleb
   _ ← check (nat_lt r 17) (faults.Column start at r)
   give r
 
 -- the second column of a register rule: where the first is at most 16, it is at most 16 too
-unfoldable pub second_column : ℕ → ℕ → Part ℕ
+unfoldable pub second_column : ℕ → ℕ → Part FrameFault ℕ
 second_column start first = do
   at ← here
-  r ← uleb start
+  r ← field start uleb
   _ ← check (nat_lt 16 first || nat_lt r 17) (faults.Column start at r)
   give r
 
 -- the instructions by their byte, below 64
-unfoldable pub plain_operation : ℕ → ℕ → CieRecord → ℕ → ℕ → Part Operation
+unfoldable pub plain_operation : ℕ → ℕ → CieRecord → ℕ → ℕ → Part FrameFault Operation
 plain_operation start section c at b =
     when (b == 0) (give (other Nop))
     (when (b == 1) (pointer start section c.augmentation.pointers >>= λ a. give (operations.SetLocation a))
-    (when (b == 2) (fixed start 1 >>= λ d. give (operations.Advance d))
-    (when (b == 3) (fixed start 2 >>= λ d. give (operations.Advance d))
-    (when (b == 4) (fixed start 4 >>= λ d. give (operations.Advance d))
-    (when (b == 5) (uleb start >>= λ r. uleb start >>= λ n. give (other (set r (rules.Offset (factored c n)))))
-    (when (b == 6) (uleb start >>= λ r. give (other (restored r)))
-    (when (b == 7) (uleb start >>= λ r. give (other (set r rules.Undefined)))
-    (when (b == 8) (uleb start >>= λ r. give (other (set r rules.Same)))
-    (when (b == 9) (uleb start >>= λ r. second_column start r >>= λ q. give (other (set r (rules.Register q))))
+    (when (b == 2) (field start (fixed 1) >>= λ d. give (operations.Advance d))
+    (when (b == 3) (field start (fixed 2) >>= λ d. give (operations.Advance d))
+    (when (b == 4) (field start (fixed 4) >>= λ d. give (operations.Advance d))
+    (when (b == 5) (field start uleb >>= λ r. field start uleb >>= λ n. give (other (set r (rules.Offset (factored c n)))))
+    (when (b == 6) (field start uleb >>= λ r. give (other (restored r)))
+    (when (b == 7) (field start uleb >>= λ r. give (other (set r rules.Undefined)))
+    (when (b == 8) (field start uleb >>= λ r. give (other (set r rules.Same)))
+    (when (b == 9) (field start uleb >>= λ r. second_column start r >>= λ q. give (other (set r (rules.Register q))))
     (when (b == 10) (give (other Remember))
     (when (b == 11) (give (other RestoreState))
-    (when (b == 12) (cfa_column start >>= λ r. uleb start >>= λ n. give (other (Cfa r n)))
+    (when (b == 12) (cfa_column start >>= λ r. field start uleb >>= λ n. give (other (Cfa r n)))
     (when (b == 13) (cfa_column start >>= λ r. give (other (CfaColumn r)))
-    (when (b == 14) (uleb start >>= λ n. give (other (CfaOffset n)))
-    (when (b == 17) (uleb start >>= λ r. sleb start >>= λ n. give (other (set r (rules.Offset (factored c (cast_unsigned w64 n))))))
-    (when (b == 18) (cfa_column start >>= λ r. sleb start >>= λ n. give (other (Cfa r (factored c (cast_unsigned w64 n)))))
-    (when (b == 19) (sleb start >>= λ n. give (other (CfaOffset (factored c (cast_unsigned w64 n)))))
-    (when (b == 20) (uleb start >>= λ r. uleb start >>= λ n. give (other (set r (rules.ValOffset (factored c n)))))
-    (when (b == 21) (uleb start >>= λ r. sleb start >>= λ n. give (other (set r (rules.ValOffset (factored c (cast_unsigned w64 n))))))
-    (when (b == 46) (uleb start >>= λ n. give (other Nop))
+    (when (b == 14) (field start uleb >>= λ n. give (other (CfaOffset n)))
+    (when (b == 17) (field start uleb >>= λ r. field start sleb >>= λ n. give (other (set r (rules.Offset (factored c (cast_unsigned w64 n))))))
+    (when (b == 18) (cfa_column start >>= λ r. field start sleb >>= λ n. give (other (Cfa r (factored c (cast_unsigned w64 n)))))
+    (when (b == 19) (field start sleb >>= λ n. give (other (CfaOffset (factored c (cast_unsigned w64 n)))))
+    (when (b == 20) (field start uleb >>= λ r. field start uleb >>= λ n. give (other (set r (rules.ValOffset (factored c n)))))
+    (when (b == 21) (field start uleb >>= λ r. field start sleb >>= λ n. give (other (set r (rules.ValOffset (factored c (cast_unsigned w64 n))))))
+    (when (b == 46) (field start uleb >>= λ n. give (other Nop))
     (refuse (faults.Opcode start at b))))))))))))))))))))))
 
 -- the two high bits of the byte are an instruction with an operand in the low six, or none
-unfoldable pub operation : ℕ → ℕ → CieRecord → Part Operation
+unfoldable pub operation : ℕ → ℕ → CieRecord → Part FrameFault Operation
 operation start section c = do
   at ← here
-  b ← fixed start 1
+  b ← field start (fixed 1)
   when (b / 64 == 1) (give (operations.Advance (b % 64)))
-      (when (b / 64 == 2) (uleb start >>= λ n. give (other (set (b % 64) (rules.Offset (factored c n)))))
+      (when (b / 64 == 2) (field start uleb >>= λ n. give (other (set (b % 64) (rules.Offset (factored c n)))))
       (when (b / 64 == 3) (give (other (restored (b % 64))))
       (plain_operation start section c at b)))
 
@@ -126,42 +127,21 @@ instruction_of (operations.SetLocation a) = Advance
 instruction_of (operations.Other i) = i
 
 -- the step of an operation, with the location that holds behind it, and the state behind it
-abbrev pub finished : ℕ → ℕ → Bool → CieRecord → State → Operation → Part (Step × State)
+abbrev pub finished : ℕ → ℕ → Bool → CieRecord → State → Operation → Part FrameFault (Step × State)
 finished start at moves c s o = given (effect start at moves c s o) >>= λ t. give (record { location = t.location; instruction = instruction_of o }, t)
 
 -- the step of an instruction whose byte is below 64
-abbrev pub plain_step : ℕ → ℕ → Bool → CieRecord → State → ℕ → ℕ → Part (Step × State)
+abbrev pub plain_step : ℕ → ℕ → Bool → CieRecord → State → ℕ → ℕ → Part FrameFault (Step × State)
 plain_step start section moves c s at b = plain_operation start section c at b >>= λ o. finished start at moves c s o
 
 -- an instruction with the location that holds when it is met, and the state behind it
-unfoldable pub step : ℕ → ℕ → Bool → CieRecord → State → Part (Step × State)
+unfoldable pub step : ℕ → ℕ → Bool → CieRecord → State → Part FrameFault (Step × State)
 step start section moves c s = do
   at ← here
   o ← operation start section c
   finished start at moves c s o
 
 -- ---- programs
-
--- The text, from place p on, spells these steps one after another, from one state to another. `one` is
--- what one step spells in a state.
-abbrev pub AreSteps : (State → Part (Step × State)) → ℕ → State → List ℕ → List Step → State → Type 0
-AreSteps one p s text [] t = (text ≡ []) × (s ≡ t)
-AreSteps one p s text (x ∷ xs) t =
-    (m : State) × (front : List ℕ) × (back : List ℕ) × (text ≡ front ++ back) × (one s).Spells p front (x, m) × AreSteps one (p + length front) m back xs t
-
--- reading steps to the end of the bytes, at most n of them
-unfoldable pub run : ℕ → (State → Part (Step × State)) → State → Rest → Result (State × Rest) FrameFault
-run zero one s r = Ok (s, r)
-run (suc n) one s r = if length r.bytes == 0 then Ok (s, r) else rest.◌>>=◌ ((one s).read r) (λ x. run n one x.0.1 x.1)
-
--- steps to the end of the bytes, and the state behind them
-abbrev pub steps_from : (State → Part (Step × State)) → State → Part State
-steps_from one s = record {
-  Spells = λ p text t. (steps : List Step) × AreSteps one p s text steps t;
-  Refuses = λ p bytes f. (steps : List Step) × (m : State) × (front : List ℕ) × (back : List ℕ) × (bytes ≡ front ++ back) × AreSteps one p s front steps m
-      × (0 < length back) × (one m).Refuses (p + length front) back f;
-  read = λ r. run (length r.bytes) one s r;
-}
 
 -- the state before any instruction: nothing is known of the CFA, and nothing is remembered
 abbrev pub initial_state : State

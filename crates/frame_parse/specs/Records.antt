@@ -1,6 +1,7 @@
 -- CIEs and FDEs, after the LSB on `.eh_frame`, field by field.
 use Rattle.std.specs.Prelude.{ℕ, ◌+◌, ◌-◌, ◌^◌, List, [], ◌∷◌, Bool, true, false, Option, Some, None, nat_lt, ◌==◌, ◌||◌, ◌&&◌, not, if◌then◌else◌}
 use Rattle.std.specs.List.{list_any}
+use Rattle.frame_parse.specs.declared.fault.FrameFault.{FrameFault}
 use Rattle.frame_parse.specs.declared.fault.FrameFault.TheVariants.{Short, NoCie, Version, Column, Range}
 use Rattle.frame_parse.specs.declared.fault.FrameFault.TheVariants as faults
 use Rattle.frame_parse.specs.declared.record.Augmentation.{Augmentation}
@@ -8,9 +9,11 @@ use Rattle.frame_parse.specs.declared.record.CieRecord.{CieRecord}
 use Rattle.frame_parse.specs.declared.record.FdeRecord.{FdeRecord}
 use Rattle.frame_parse.specs.declared.record.Record.{Record}
 use Rattle.frame_parse.specs.declared.record.Record.TheVariants.{Cie, Fde}
-use Rattle.frame_parse.specs.Part.{Part, ◌>>=◌, give, here, when, check, found, block, filled}
-use Rattle.frame_parse.specs.Programs.{step, steps_from, initial_state, first_state}
-use Rattle.frame_parse.specs.Fields.{fixed, uleb, sleb, text, number, is_negative, pointer, optional_pointer, is_code_encoding, is_data_encoding, encoding, short_of}
+use Rattle.eh_bytes.specs.Grammar.{Part, ◌>>=◌, give, here, when, check, found, block, filled}
+use Rattle.frame_parse.specs.Programs.{step, initial_state, first_state}
+use Rattle.eh_bytes.specs.Steps.{steps_from}
+use Rattle.frame_parse.specs.Fields.{field, number, is_negative, pointer, optional_pointer, is_code_encoding, is_data_encoding, encoding, short_of}
+use Rattle.eh_bytes.specs.Fields.{fixed, uleb, sleb, text}
 
 -- ---- augmentations
 
@@ -36,22 +39,22 @@ plain = record { pointers = 0; lsda = 255; personality = None; signal = false }
 
 -- what a letter says: L the encoding of LSDA pointers, P the personality, R the encoding of code
 -- addresses, S that the frame is a signal's
-unfoldable pub letter : ℕ → ℕ → ℕ → Augmentation → Part Augmentation
+unfoldable pub letter : ℕ → ℕ → ℕ → Augmentation → Part FrameFault Augmentation
 letter start section l a =
     when (l == 76) (encoding start is_data_encoding >>= λ e. give (record a { lsda = e }))
     (when (l == 80) (encoding start is_data_encoding >>= λ e. when (e == 255) (give None) (optional_pointer start section e) >>= λ q. give (record a { personality = q }))
     (when (l == 82) (encoding start is_code_encoding >>= λ e. give (record a { pointers = e }))
     (give (record a { signal = true }))))
 
-unfoldable pub letters : ℕ → ℕ → List ℕ → Augmentation → Part Augmentation
+unfoldable pub letters : ℕ → ℕ → List ℕ → Augmentation → Part FrameFault Augmentation
 letters start section [] a = give a
 letters start section (l ∷ ls) a = letter start section l a >>= λ b. letters start section ls b
 
 -- the augmentation data of a CIE: with z its length, and what the letters say
-unfoldable pub augmentation_data : ℕ → ℕ → List ℕ → Part Augmentation
+unfoldable pub augmentation_data : ℕ → ℕ → List ℕ → Part FrameFault Augmentation
 augmentation_data start section [] = give plain
 augmentation_data start section (z ∷ ls) = do
-  n ← uleb start
+  n ← field start uleb
   at ← here
   block (Short start at) n (letters start section ls plain)
 
@@ -61,33 +64,33 @@ abbrev pub has_data : List ℕ → Bool
 has_data [] = false
 has_data (z ∷ ls) = true
 
-unfoldable pub version : ℕ → Part ℕ
+unfoldable pub version : ℕ → Part FrameFault ℕ
 version start = do
   at ← here
-  v ← fixed start 1
+  v ← field start (fixed 1)
   _ ← check (v == 1 || v == 3) (Version start at v)
   give v
 
-unfoldable pub augmentation : ℕ → Part (List ℕ)
+unfoldable pub augmentation : ℕ → Part FrameFault (List ℕ)
 augmentation start = do
   at ← here
-  t ← text start
+  t ← field start text
   _ ← check (is_augmentation t) (faults.Augmentation start at)
   give t
 
-unfoldable pub return_column : ℕ → ℕ → Part (Unit {0})
+unfoldable pub return_column : ℕ → ℕ → Part FrameFault (Unit {0})
 return_column start v = do
   at ← here
-  c ← when (v == 1) (fixed start 1) (uleb start)
+  c ← when (v == 1) (field start (fixed 1)) (field start uleb)
   check (c == 16) (Column start at c)
 
 -- the fields of a CIE behind its id; nothing is known of the CFA before its instructions
-unfoldable pub cie : ℕ → ℕ → ℕ → Part CieRecord
+unfoldable pub cie : ℕ → ℕ → ℕ → Part FrameFault CieRecord
 cie start section end = do
   v ← version start
   t ← augmentation start
-  code ← uleb start
-  data_ ← sleb start
+  code ← field start uleb
+  data_ ← field start sleb
   _ ← return_column start v
   a ← augmentation_data start section t
   at ← here
@@ -105,7 +108,7 @@ abbrev pub cie_behind : List CieRecord → ℕ → ℕ → Option CieRecord
 cie_behind earlier at distance = if nat_lt at distance then None else cie_from earlier (at - distance)
 
 -- the range has its encoding's format; with it the last address is below 2 ^ 64
-unfoldable pub range : ℕ → ℕ → ℕ → Part ℕ
+unfoldable pub range : ℕ → ℕ → ℕ → Part FrameFault ℕ
 range start e first = do
   at ← here
   x ← number start e
@@ -114,14 +117,14 @@ range start e first = do
 
 -- the augmentation data of an FDE begins with the LSDA pointer, where its CIE has an encoding for it
 -- and there is data
-unfoldable pub lsda : ℕ → ℕ → CieRecord → Part (Option ℕ)
+unfoldable pub lsda : ℕ → ℕ → CieRecord → Part FrameFault (Option ℕ)
 lsda start section c = when c.has_data
-    (uleb start >>= λ n. here >>= λ at. block (Short start at) n
+    (field start uleb >>= λ n. here >>= λ at. block (Short start at) n
     (when (c.augmentation.lsda == 255 || n == 0) (give None) (optional_pointer start section c.augmentation.lsda)))
     (give None)
 
 -- the fields of an FDE behind its id
-unfoldable pub fde : ℕ → ℕ → ℕ → CieRecord → Part FdeRecord
+unfoldable pub fde : ℕ → ℕ → ℕ → CieRecord → Part FrameFault FdeRecord
 fde start section end c = do
   first ← pointer start section c.augmentation.pointers
   size ← range start c.augmentation.pointers first
@@ -133,22 +136,22 @@ fde start section end c = do
 
 -- An id of 0 is a CIE's; any other is the distance back to an FDE's. What is left behind the fields are
 -- instructions: those of a CIE don't move, those of an FDE start at its first address.
-unfoldable pub content : ℕ → ℕ → List CieRecord → ℕ → Part Record
+unfoldable pub content : ℕ → ℕ → List CieRecord → ℕ → Part FrameFault Record
 content start section earlier end = do
   at ← here
-  id ← fixed start 4
+  id ← field start (fixed 4)
   when (id == 0)
       (cie start section end >>= λ c. steps_from (step start section false c) initial_state >>= λ s. give (Cie (record c { offset = s.offset })))
       (found (cie_behind earlier at id) (NoCie start at) >>= λ c. fde start section end c >>= λ f. steps_from (step start section true c) (first_state c f.first) >>= λ s. give (Fde f))
 
 -- the length of a record: four bytes, or eight behind 0xffffffff
-unfoldable pub record_length : ℕ → Part ℕ
+unfoldable pub record_length : ℕ → Part FrameFault ℕ
 record_length start = do
   n ← short_of start 4
   when (n == 4294967295) (short_of start 8) (give n)
 
 -- a record: its length, and that many bytes
-unfoldable pub whole_record : ℕ → List CieRecord → Part Record
+unfoldable pub whole_record : ℕ → List CieRecord → Part FrameFault Record
 whole_record section earlier = do
   start ← here
   n ← record_length start

@@ -1,7 +1,7 @@
 //! The augmentation of a CIE: its letters, and the data that they speak of.
 
 ghost use Rattle.std.specs.Prelude.{◌≡◌};
-ghost use Rattle.frame_parse.specs.Part.{Gives};
+ghost use Rattle.eh_bytes.specs.Rest.{Gives};
 ghost use Rattle.frame_parse.specs.Records.{is_letter, is_among, are_letters, is_augmentation, letter, letters, augmentation_data};
 
 use crate::fault::FrameFault;

@@ -1,7 +1,7 @@
 //! The fields of a CIE.
 
 ghost use Rattle.std.specs.Prelude.{◌≡◌, IfOk};
-ghost use Rattle.frame_parse.specs.Part.{Gives};
+ghost use Rattle.eh_bytes.specs.Rest.{Gives};
 ghost use Rattle.frame_parse.specs.Records.{has_data, version, augmentation, return_column, cie};
 
 use crate::augmentation::{augmentation_data, is_augmentation};

@@ -1,7 +1,7 @@
 //! The fields of an FDE.
 
 ghost use Rattle.std.specs.Prelude.{◌≡◌};
-ghost use Rattle.frame_parse.specs.Part.{Gives};
+ghost use Rattle.eh_bytes.specs.Rest.{Gives};
 ghost use Rattle.frame_parse.specs.Records.{range, lsda, fde};
 
 use crate::fault::FrameFault;

@@ -2,9 +2,10 @@
 //! which each refusal names.
 
 ghost use Rattle.std.specs.Prelude.{◌≡◌, ◌%◌, ◌^◌};
-ghost use Rattle.frame_parse.specs.Part.{Gives, data_at};
+ghost use Rattle.eh_bytes.specs.Rest.{Gives, data_at};
 ghost use Rattle.eh_bytes.specs.Pointer.{base_of};
-ghost use Rattle.frame_parse.specs.Fields.{placed, fixed, uleb, sleb, text, number, pointer, optional_pointer, is_negative, is_code_encoding, is_data_encoding, encoding, short_of};
+ghost use Rattle.frame_parse.specs.Fields.{field, placed, number, pointer, optional_pointer, is_negative, is_code_encoding, is_data_encoding, encoding, short_of};
+ghost use Rattle.eh_bytes.specs.Fields.{fixed, uleb, sleb, text};
 
 use crate::fault::FrameFault;
 use eh_bytes::{ByteFault, Cursor, is_pointer};
@@ -24,7 +25,7 @@ fn placed<T: Drop>(start: usize, read: Result<T, ByteFault>) -> Result<T, FrameF
 
 #[inline(always)]
 pub(crate) fn byte(start: usize, cursor: &mut Cursor) -> Result<u8, FrameFault>
-    ensures { Gives (λ x. x) (fixed start 1).read cursor.old result cursor.new }
+    ensures { Gives (λ x. x) (field start (fixed 1)).read cursor.old result cursor.new }
 {
     placed(start, cursor.u8())
 }
@@ -32,26 +33,26 @@ pub(crate) fn byte(start: usize, cursor: &mut Cursor) -> Result<u8, FrameFault>
 /// The id of a record.
 #[inline(always)]
 pub(crate) fn id(start: usize, cursor: &mut Cursor) -> Result<u32, FrameFault>
-    ensures { Gives (λ x. x) (fixed start 4).read cursor.old result cursor.new }
+    ensures { Gives (λ x. x) (field start (fixed 4)).read cursor.old result cursor.new }
 {
     placed(start, cursor.u32())
 }
 
 #[inline(always)]
 pub(crate) fn uleb(start: usize, cursor: &mut Cursor) -> Result<u64, FrameFault>
-    ensures { Gives (λ x. x) (uleb start).read cursor.old result cursor.new }
+    ensures { Gives (λ x. x) (field start uleb).read cursor.old result cursor.new }
 {
     placed(start, cursor.uleb())
 }
 
 pub(crate) fn sleb(start: usize, cursor: &mut Cursor) -> Result<i64, FrameFault>
-    ensures { Gives (λ x. x) (sleb start).read cursor.old result cursor.new }
+    ensures { Gives (λ x. x) (field start sleb).read cursor.old result cursor.new }
 {
     placed(start, cursor.sleb())
 }
 
 pub(crate) fn text<'a>(start: usize, cursor: &mut Cursor<'a>) -> Result<&'a [u8], FrameFault>
-    ensures { Gives (λ t. t.now) (text start).read cursor.old result cursor.new }
+    ensures { Gives (λ t. t.now) (field start text).read cursor.old result cursor.new }
 {
     match cursor.text() {
         Ok(text) => Ok(text),
@@ -187,7 +188,7 @@ pub(crate) fn length8(start: usize, cursor: &mut Cursor) -> Result<u64, FrameFau
 /// Two bytes, the lowest first.
 #[inline(always)]
 pub(crate) fn pair(start: usize, cursor: &mut Cursor) -> Result<u16, FrameFault>
-    ensures { Gives (λ x. x) (fixed start 2).read cursor.old result cursor.new }
+    ensures { Gives (λ x. x) (field start (fixed 2)).read cursor.old result cursor.new }
 {
     placed(start, cursor.u16())
 }

@@ -2,10 +2,12 @@
 
 ghost use Rattle.std.specs.Prelude.{◌≡◌, ◌<◌, ◌≤◌, ◌+◌, ◌*◌, ◌%◌, ◌^◌, ◌⊎◌, length, false, nat_lt, if◌then◌else◌, Some, None, IfOk};
 ghost use Rattle.std.specs.Int.{w64, cast_unsigned};
-ghost use Rattle.frame_parse.specs.Part.{Gives, Leaves};
+ghost use Rattle.eh_bytes.specs.Results.{Leaves};
+ghost use Rattle.eh_bytes.specs.Rest.{Gives};
 ghost use Rattle.frame_parse.specs.declared.instruction.ReadRule.TheVariants as rules;
 ghost use Rattle.frame_parse.specs.Frequent.{is_frequent};
-ghost use Rattle.frame_parse.specs.Programs.{other, factored, set, restored, cfa_column, second_column, plain_operation, change_cfa, effect_of, effect, instruction_of, plain_step, step, steps_from, initial_state, first_state};
+ghost use Rattle.frame_parse.specs.Programs.{other, factored, set, restored, cfa_column, second_column, plain_operation, change_cfa, effect_of, effect, instruction_of, plain_step, step, initial_state, first_state};
+ghost use Rattle.eh_bytes.specs.Steps.{steps_from};
 
 use crate::fault::FrameFault;
 use crate::fields::{byte, id, pair, pointer, sleb, uleb};

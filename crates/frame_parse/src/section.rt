@@ -2,7 +2,7 @@
 
 ghost use Rattle.std.specs.Prelude.{◌≡◌, ◌≤◌, ◌<◌, ◌⊎◌, length, IfOk, IfErr, IfSome, OnOk, slice_get, Some, ℕ, List};
 ghost use Rattle.std.specs.Option.{option_map};
-ghost use Rattle.frame_parse.specs.Part.{Gives};
+ghost use Rattle.eh_bytes.specs.Rest.{Gives};
 ghost use Rattle.frame_parse.specs.Records.{content, record_length, whole_record};
 ghost use Rattle.frame_parse.specs.Sections.{is_end, starts, IsAscending, BeginsAt, HasFdes, IsRefused, first_cover, HasOneAnswer};
 ghost use Rattle.frame_parse.specs.Reading.{IsAnswered};

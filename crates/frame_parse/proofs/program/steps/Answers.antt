@@ -2,7 +2,7 @@ use Rattle.std.proofs.Common.{◌<◌, length, ◌∙◌, arith}
 use Rattle.std.proofs.lemmas.Result.{err_from_is_err_and}
 use Rattle.frame_parse.specs.Programs.{step}
 use Rattle.frame_parse.proofs.ProgramParts.{steps_sound}
-use Rattle.frame_parse.proofs.Steps.{read_step, read_refusal, read_end, step_shrinks}
+use Rattle.eh_bytes.proofs.Steps.{read_step, read_refusal, read_end, step_shrinks}
 use Rattle.frame_parse.proofs.program.steps.Goals as goal
 
 pub loop-cursor-smaller : goal.loop-cursor-smaller

@@ -1,5 +1,6 @@
 use Rattle.std.proofs.Common.{◌≡◌, length}
-use Rattle.frame_parse.specs.Programs.{step, steps_from}
+use Rattle.frame_parse.specs.Programs.{step}
+use Rattle.eh_bytes.specs.Steps.{steps_from}
 use Rattle.frame_parse.proofs.program.steps.Given as goal
 
 abbrev pub invariant-loop-cursor : goal.invariant-loop-cursor

@@ -1,7 +1,7 @@
 use Rattle.std.proofs.Common.{◌<◌, length, ap, arith}
 use Rattle.frame_parse.specs.Programs.{HasSteps, ProgramRest, step}
 use Rattle.frame_parse.proofs.ProgramParts.{steps_sound}
-use Rattle.frame_parse.proofs.Steps.{step_shrinks}
+use Rattle.eh_bytes.proofs.Steps.{step_shrinks}
 use Rattle.frame_parse.proofs.StepsLeft.{nothing_left, next_left, none_refused, left_by}
 use Rattle.frame_parse.proofs.handout.Program.next.Goals as goal
 use Rattle.frame_parse.proofs.handout.Program.next.Goals.{in-Ok, in-Err}

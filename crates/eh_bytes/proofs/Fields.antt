@@ -1,16 +1,49 @@
--- LEB128 numbers and texts are exact.
+-- The parts that are read at once are exact: numbers of fixed width, LEB128 numbers and texts.
 use Rattle.std.proofs.Common.{◌≡◌, ℕ, suc, ◌+◌, ◌^◌, ◌<◌, ◌≤◌, ◌⊎◌, ℤ, List, [], ◌∷◌, ◌++◌, length, take, drop, Bool, true, false, cond, Option, Some, None, Ok, Err, nat_lt, nat_eq, refl, sym, ap, subst, ◌∙◌, append_assoc, length-append, arith, inl, inr}
 use Rattle.std.specs.Option.{option_map}
 use Rattle.std.proofs.lemmas.Bool.{ltb-false, ltb-true, le-ltb, lt-ltb, eqb-true}
 use Rattle.std.proofs.lemmas.List.{take-append-drop, take_at, drop_at, length-take}
+use Rattle.byteorder.specs.Endian.{little_number}
+use Rattle.byteorder.specs.Numbers.{little_from-append}
 use Rattle.eh_bytes.specs.declared.fault.ByteFault.{ByteFault}
 use Rattle.eh_bytes.specs.declared.fault.ByteFault.TheVariants as bytes
-use Rattle.eh_bytes.specs.Rest.{Rest, after, text_len, text_of, text_at}
-use Rattle.eh_bytes.specs.Leb.{leb_len, uleb_value, sleb_value, fits_signed, uleb_of, uleb_at, sleb_of, sleb_at}
-use Rattle.frame_parse.specs.declared.fault.FrameFault.{FrameFault}
-use Rattle.frame_parse.specs.Fields.{fault_in, placed, IsLeb, uleb, sleb, text}
-use Rattle.frame_parse.proofs.Exact.{left, Takes, IsExact, ok_is}
-use Rattle.frame_parse.proofs.Leaves.{placed_ok, placed_err, fits_ok, fits_err}
+use Rattle.eh_bytes.specs.Rest.{Rest, skipped, text_len, text_of, text_at}
+use Rattle.eh_bytes.specs.Leb.{IsLeb, leb_len, uleb_value, sleb_value, fits_signed, uleb_of, sleb_of}
+use Rattle.eh_bytes.specs.Fields.{fixed, uleb, sleb, text}
+use Rattle.eh_bytes.proofs.Results.{ok_is, guard_ok, guard_err, fits_ok, fits_err}
+use Rattle.eh_bytes.proofs.Exact.{left, Takes, IsExact}
+
+-- ---- numbers of fixed width
+
+front_of : (n : ℕ) (r : Rest) → n ≤ length r.bytes → length (take n r.bytes) ≡ n
+front_of n r le = omega (arith, length-take n r.bytes)
+
+number_front : (n : ℕ) (bytes : List ℕ) → n ≤ length bytes → little_number n (take n bytes) ≡ little_number n bytes
+number_front n bytes le =
+    sym (little_from-append n (take n bytes) (drop n bytes) (omega (arith, length-take n bytes))) ∙ ap (little_number n) (take-append-drop n bytes)
+
+pub fixed_exact : (n : ℕ) → IsExact (fixed n)
+fixed_exact n = record {
+  takes = λ r x behind e.
+      let g = guard_ok (nat_lt (length r.bytes) n) (bytes.Short r.at) (little_number n r.bytes, skipped n r) (x, behind) e in
+      let long : n ≤ length r.bytes = ltb-false _ _ g.0 in
+      let made : Takes (fixed n) r (little_number n r.bytes) (skipped n r) = record {
+        front = take n r.bytes;
+        parts = sym (take-append-drop n r.bytes);
+        place = omega (arith, front_of n r long);
+        spells = (front_of n r long, number_front n r.bytes long);
+      } in
+      subst (λ (z : ℕ × Rest). Takes (fixed n) r z.0 z.1) g.1 made;
+  refuses = λ r f e.
+      let g = guard_err (nat_lt (length r.bytes) n) (bytes.Short r.at) f (little_number n r.bytes, skipped n r) e in
+      (ltb-true _ _ g.0, g.1);
+  again = λ p front back x s.
+      let long : nat_lt (length (front ++ back)) n ≡ false = le-ltb _ _ (omega (arith, s.0, length-append front back)) in
+      let behind : drop n (front ++ back) ≡ back = drop_at front back n s.0 in
+      let value : little_number n (front ++ back) ≡ x = little_from-append n front back (omega (arith, s.0)) ∙ s.1 in
+      rw (long, behind, value, s.0) refl;
+  refused = λ p bytes f s. let tooshort : nat_lt (length bytes) n ≡ true = lt-ltb _ _ s.0 in rw tooshort (ap (λ (v : ByteFault). Err v) (sym s.1));
+}
 
 -- ---- where a number ends
 
@@ -54,11 +87,11 @@ IsLeb-take xs n e =
 -- ---- unsigned numbers
 
 uleb_some : (r : Rest) (o : Option ℕ) (x : ℕ) (behind : Rest) → uleb_of r o ≡ Ok (x, behind)
-    → (n : ℕ) × (o ≡ Some n) × (nat_lt (uleb_value (take n r.bytes)) (2 ^ 64) ≡ true) × (let made : ℕ × Rest = (uleb_value (take n r.bytes), after n r) in made ≡ (x, behind))
+    → (n : ℕ) × (o ≡ Some n) × (nat_lt (uleb_value (take n r.bytes)) (2 ^ 64) ≡ true) × (let made : ℕ × Rest = (uleb_value (take n r.bytes), skipped n r) in made ≡ (x, behind))
 unfolding uleb_of
 uleb_some r None x behind e = absurd cc
 uleb_some r (Some n) x behind e =
-    let g = fits_ok (nat_lt (uleb_value (take n r.bytes)) (2 ^ 64)) (bytes.TooWide r.at) (uleb_value (take n r.bytes), after n r) (x, behind) e in
+    let g = fits_ok (nat_lt (uleb_value (take n r.bytes)) (2 ^ 64)) (bytes.TooWide r.at) (uleb_value (take n r.bytes), skipped n r) (x, behind) e in
     (n, refl, g.0, g.1)
 
 uleb_none : (r : Rest) (o : Option ℕ) (e : ByteFault) → uleb_of r o ≡ Err e
@@ -66,29 +99,28 @@ uleb_none : (r : Rest) (o : Option ℕ) (e : ByteFault) → uleb_of r o ≡ Err 
 unfolding uleb_of
 uleb_none r None e same = inl (refl, sym (let made : bytes.Short r.at ≡ e = cc in made))
 uleb_none r (Some n) e same =
-    let g = fits_err (nat_lt (uleb_value (take n r.bytes)) (2 ^ 64)) (bytes.TooWide r.at) e (uleb_value (take n r.bytes), after n r) same in
+    let g = fits_err (nat_lt (uleb_value (take n r.bytes)) (2 ^ 64)) (bytes.TooWide r.at) e (uleb_value (take n r.bytes), skipped n r) same in
     inr (n, refl, g.0, g.1)
 
-pub uleb_exact : (start : ℕ) → IsExact (uleb start)
+pub uleb_exact : IsExact uleb
 unfolding uleb_of
-uleb_exact start = record {
+uleb_exact = record {
   takes = λ r x behind e.
-      let a = uleb_some r (leb_len r.bytes) x behind (placed_ok start (uleb_at r) (x, behind) e) in
+      let a = uleb_some r (leb_len r.bytes) x behind e in
       let leb = IsLeb-take r.bytes a.0 a.1 in
-      let made : Takes (uleb start) r (uleb_value (take a.0 r.bytes)) (after a.0 r) = record {
+      let made : Takes uleb r (uleb_value (take a.0 r.bytes)) (skipped a.0 r) = record {
         front = take a.0 r.bytes;
         parts = sym (take-append-drop a.0 r.bytes);
         place = omega (arith, leb.0);
         spells = (leb.1, ltb-true _ _ a.2, refl);
       } in
-      subst (λ (z : ℕ × Rest). Takes (uleb start) r z.0 z.1) a.3 made;
+      subst (λ (z : ℕ × Rest). Takes uleb r z.0 z.1) a.3 made;
   refuses = λ r f e.
-      let p = placed_err start (uleb_at r) f e in
-      elim (uleb_none r (leb_len r.bytes) p.0 p.1) [
-        | inl a ↦ inl (a.0, p.2 ∙ ap (fault_in start) a.1)
+      elim (uleb_none r (leb_len r.bytes) f e) [
+        | inl a ↦ inl (a.0, a.1)
         | inr a ↦
             let leb = IsLeb-take r.bytes a.0 a.1 in
-            inr (take a.0 r.bytes, drop a.0 r.bytes, sym (take-append-drop a.0 r.bytes), leb.1, ltb-false _ _ a.2, p.2 ∙ ap (fault_in start) a.3)
+            inr (take a.0 r.bytes, drop a.0 r.bytes, sym (take-append-drop a.0 r.bytes), leb.1, ltb-false _ _ a.2, a.3)
       ];
   again = λ p front back x s.
       let ends = leb_len-append front back (length front) s.0 in
@@ -98,23 +130,23 @@ uleb_exact start = record {
       rw (ends, held, behind, fits, s.2) refl;
   refused = λ p bytes f s.
       elim s [
-        | inl a ↦ rw a.0 (ap (λ (v : FrameFault). Err v) (sym a.1))
+        | inl a ↦ rw a.0 (ap (λ (v : ByteFault). Err v) (sym a.1))
         | inr a ↦
             let ends : leb_len bytes ≡ Some (length a.0) = ap leb_len a.2 ∙ leb_len-append a.0 a.1 (length a.0) a.3 in
             let held : take (length a.0) bytes ≡ a.0 = ap (take (length a.0)) a.2 ∙ take_at a.0 a.1 (length a.0) refl in
             let wide : (nat_lt (uleb_value a.0) (2 ^ 64)) ≡ false = le-ltb _ _ a.4 in
-            rw (ends, held, wide) (ap (λ (v : FrameFault). Err v) (sym a.5))
+            rw (ends, held, wide) (ap (λ (v : ByteFault). Err v) (sym a.5))
       ];
 }
 
 -- ---- signed numbers
 
 sleb_some : (r : Rest) (o : Option ℕ) (x : ℤ) (behind : Rest) → sleb_of r o ≡ Ok (x, behind)
-    → (n : ℕ) × (o ≡ Some n) × (fits_signed (sleb_value (take n r.bytes)) ≡ true) × (let made : ℤ × Rest = (sleb_value (take n r.bytes), after n r) in made ≡ (x, behind))
+    → (n : ℕ) × (o ≡ Some n) × (fits_signed (sleb_value (take n r.bytes)) ≡ true) × (let made : ℤ × Rest = (sleb_value (take n r.bytes), skipped n r) in made ≡ (x, behind))
 unfolding sleb_of
 sleb_some r None x behind e = absurd cc
 sleb_some r (Some n) x behind e =
-    let g = fits_ok (fits_signed (sleb_value (take n r.bytes))) (bytes.TooWide r.at) (sleb_value (take n r.bytes), after n r) (x, behind) e in
+    let g = fits_ok (fits_signed (sleb_value (take n r.bytes))) (bytes.TooWide r.at) (sleb_value (take n r.bytes), skipped n r) (x, behind) e in
     (n, refl, g.0, g.1)
 
 sleb_none : (r : Rest) (o : Option ℕ) (e : ByteFault) → sleb_of r o ≡ Err e
@@ -122,29 +154,28 @@ sleb_none : (r : Rest) (o : Option ℕ) (e : ByteFault) → sleb_of r o ≡ Err 
 unfolding sleb_of
 sleb_none r None e same = inl (refl, sym (let made : bytes.Short r.at ≡ e = cc in made))
 sleb_none r (Some n) e same =
-    let g = fits_err (fits_signed (sleb_value (take n r.bytes))) (bytes.TooWide r.at) e (sleb_value (take n r.bytes), after n r) same in
+    let g = fits_err (fits_signed (sleb_value (take n r.bytes))) (bytes.TooWide r.at) e (sleb_value (take n r.bytes), skipped n r) same in
     inr (n, refl, g.0, g.1)
 
-pub sleb_exact : (start : ℕ) → IsExact (sleb start)
+pub sleb_exact : IsExact sleb
 unfolding sleb_of
-sleb_exact start = record {
+sleb_exact = record {
   takes = λ r x behind e.
-      let a = sleb_some r (leb_len r.bytes) x behind (placed_ok start (sleb_at r) (x, behind) e) in
+      let a = sleb_some r (leb_len r.bytes) x behind e in
       let leb = IsLeb-take r.bytes a.0 a.1 in
-      let made : Takes (sleb start) r (sleb_value (take a.0 r.bytes)) (after a.0 r) = record {
+      let made : Takes sleb r (sleb_value (take a.0 r.bytes)) (skipped a.0 r) = record {
         front = take a.0 r.bytes;
         parts = sym (take-append-drop a.0 r.bytes);
         place = omega (arith, leb.0);
         spells = (leb.1, a.2, refl);
       } in
-      subst (λ (z : ℤ × Rest). Takes (sleb start) r z.0 z.1) a.3 made;
+      subst (λ (z : ℤ × Rest). Takes sleb r z.0 z.1) a.3 made;
   refuses = λ r f e.
-      let p = placed_err start (sleb_at r) f e in
-      elim (sleb_none r (leb_len r.bytes) p.0 p.1) [
-        | inl a ↦ inl (a.0, p.2 ∙ ap (fault_in start) a.1)
+      elim (sleb_none r (leb_len r.bytes) f e) [
+        | inl a ↦ inl (a.0, a.1)
         | inr a ↦
             let leb = IsLeb-take r.bytes a.0 a.1 in
-            inr (take a.0 r.bytes, drop a.0 r.bytes, sym (take-append-drop a.0 r.bytes), leb.1, a.2, p.2 ∙ ap (fault_in start) a.3)
+            inr (take a.0 r.bytes, drop a.0 r.bytes, sym (take-append-drop a.0 r.bytes), leb.1, a.2, a.3)
       ];
   again = λ p front back x s.
       let ends = leb_len-append front back (length front) s.0 in
@@ -154,12 +185,12 @@ sleb_exact start = record {
       rw (ends, held, behind, fits, s.2) refl;
   refused = λ p bytes f s.
       elim s [
-        | inl a ↦ rw a.0 (ap (λ (v : FrameFault). Err v) (sym a.1))
+        | inl a ↦ rw a.0 (ap (λ (v : ByteFault). Err v) (sym a.1))
         | inr a ↦
             let ends : leb_len bytes ≡ Some (length a.0) = ap leb_len a.2 ∙ leb_len-append a.0 a.1 (length a.0) a.3 in
             let held : take (length a.0) bytes ≡ a.0 = ap (take (length a.0)) a.2 ∙ take_at a.0 a.1 (length a.0) refl in
             let wide : (fits_signed (sleb_value a.0)) ≡ false = a.4 in
-            rw (ends, held, wide) (ap (λ (v : FrameFault). Err v) (sym a.5))
+            rw (ends, held, wide) (ap (λ (v : ByteFault). Err v) (sym a.5))
       ];
 }
 
@@ -198,33 +229,32 @@ text_len-whole [] ys e = refl
 text_len-whole (b ∷ bs) ys e = text_step (nat_eq b 0) (text_len bs) (text_len (bs ++ 0 ∷ ys)) (length bs) (text_len-whole bs ys) e
 
 text_some : (r : Rest) (o : Option ℕ) (x : List ℕ) (behind : Rest) → text_of r o ≡ Ok (x, behind)
-    → (n : ℕ) × (o ≡ Some n) × (let made : List ℕ × Rest = (take n r.bytes, after (n + 1) r) in made ≡ (x, behind))
+    → (n : ℕ) × (o ≡ Some n) × (let made : List ℕ × Rest = (take n r.bytes, skipped (n + 1) r) in made ≡ (x, behind))
 unfolding text_of
 text_some r None x behind e = absurd cc
-text_some r (Some n) x behind e = (n, refl, ok_is {F = ByteFault} (take n r.bytes, after (n + 1) r) (x, behind) e)
+text_some r (Some n) x behind e = (n, refl, ok_is {F = ByteFault} (take n r.bytes, skipped (n + 1) r) (x, behind) e)
 
 text_none : (r : Rest) (o : Option ℕ) (e : ByteFault) → text_of r o ≡ Err e → (o ≡ None) × (e ≡ bytes.Short r.at)
 unfolding text_of
 text_none r None e same = (refl, sym (let made : bytes.Short r.at ≡ e = cc in made))
 text_none r (Some n) e same = absurd cc
 
-pub text_exact : (start : ℕ) → IsExact (text start)
+pub text_exact : IsExact text
 unfolding text_of
-text_exact start = record {
+text_exact = record {
   takes = λ r x behind e.
-      let a = text_some r (text_len r.bytes) x behind (placed_ok start (text_at r) (x, behind) e) in
+      let a = text_some r (text_len r.bytes) x behind e in
       let t = text_len-take r.bytes a.0 a.1 in
-      let made : Takes (text start) r (take a.0 r.bytes) (after (a.0 + 1) r) = record {
+      let made : Takes text r (take a.0 r.bytes) (skipped (a.0 + 1) r) = record {
         front = take a.0 r.bytes ++ 0 ∷ [];
         parts = t.2 ∙ sym (append_assoc (take a.0 r.bytes) (0 ∷ []) (drop (a.0 + 1) r.bytes));
         place = omega (arith, t.0, length-take a.0 r.bytes, length-append (take a.0 r.bytes) (0 ∷ []));
         spells = (t.1, refl);
       } in
-      subst (λ (z : List ℕ × Rest). Takes (text start) r z.0 z.1) a.2 made;
+      subst (λ (z : List ℕ × Rest). Takes text r z.0 z.1) a.2 made;
   refuses = λ r f e.
-      let p = placed_err start (text_at r) f e in
-      let a = text_none r (text_len r.bytes) p.0 p.1 in
-      (a.0, p.2 ∙ ap (fault_in start) a.1);
+      let a = text_none r (text_len r.bytes) f e in
+      (a.0, a.1);
   again = λ p front back x s.
       let regrouped : front ++ back ≡ x ++ 0 ∷ back = ap (λ (l : List ℕ). l ++ back) s.1 ∙ append_assoc x (0 ∷ []) back in
       let ends : text_len (x ++ 0 ∷ back) ≡ Some (length x) = text_len-whole x back s.0 in
@@ -232,7 +262,7 @@ text_exact start = record {
       let size : length front ≡ length x + 1 = ap length s.1 ∙ length-append x (0 ∷ []) in
       let behind : drop (length x + 1) (x ++ 0 ∷ back) ≡ back =
       ap (drop (length x + 1)) (sym (append_assoc x (0 ∷ []) back)) ∙ drop_at (x ++ 0 ∷ []) back (length x + 1) (length-append x (0 ∷ [])) in
-      let whole : placed start (text_at (left p (x ++ 0 ∷ back))) ≡ Ok (x, left (p + (length x + 1)) back) = rw (ends, held, behind) refl in
-      ap (λ (l : List ℕ). placed start (text_at (left p l))) regrouped ∙ whole ∙ ap (λ (k : ℕ). Ok (x, left (p + k) back)) (sym size);
-  refused = λ p bytes f s. rw s.0 (ap (λ (v : FrameFault). Err v) (sym s.1));
+      let whole : text_at (left p (x ++ 0 ∷ back)) ≡ Ok (x, left (p + (length x + 1)) back) = rw (ends, held, behind) refl in
+      ap (λ (l : List ℕ). text_at (left p l)) regrouped ∙ whole ∙ ap (λ (k : ℕ). Ok (x, left (p + k) back)) (sym size);
+  refused = λ p bytes f s. rw s.0 (ap (λ (v : ByteFault). Err v) (sym s.1));
 }

@@ -1,48 +1,32 @@
 -- A part is exact where reading it and its two relations agree. Each way to make parts keeps that.
-use Rattle.std.proofs.Common.{◌≡◌, ℕ, ◌+◌, ◌≤◌, ◌⊎◌, List, [], ◌∷◌, ◌++◌, length, take, drop, Bool, true, false, cond, Option, Some, None, Result, Ok, Err, nat_lt, refl, sym, ap, subst, ◌∙◌, append_assoc, length-append, arith, inl, inr}
+use Rattle.std.proofs.Common.{◌≡◌, ℕ, ◌+◌, ◌≤◌, List, [], ◌∷◌, ◌++◌, length, take, drop, Bool, true, false, Option, Some, None, Result, Ok, Err, nat_lt, refl, sym, ap, subst, ◌∙◌, append_assoc, length-append, arith, inl, inr}
 use Rattle.std.proofs.lemmas.Bool.{ltb-false, ltb-true, le-ltb, lt-ltb}
 use Rattle.std.proofs.lemmas.List.{take-append-drop, take_at, drop_at, length-take}
-use Rattle.eh_bytes.specs.Rest.{Rest, after}
-use Rattle.eh_bytes.specs.Rest as rest
-use Rattle.frame_parse.specs.declared.fault.FrameFault.{FrameFault}
-use Rattle.frame_parse.specs.Part.{Part, ◌>>=◌, give, here, refuse, when, check, found, given, block}
+use Rattle.eh_bytes.specs.Rest.{Rest, skipped}
+use Rattle.eh_bytes.specs.Results.{◌and_then◌}
+use Rattle.eh_bytes.specs.Grammar.{Part, ◌>>=◌, give, here, refuse, when, check, found, given, lift, block}
+use Rattle.eh_bytes.proofs.Results.{ok_is, err_is, bind_ok, bind_err, with_fault_ok, with_fault_err, cond_err, cond_errs, guarded}
 
 -- what is left at a place
 abbrev pub left : ℕ → List ℕ → Rest
 left p bytes = record { bytes = bytes; at = p }
 
 -- a text at the front spells x, and leads from r to what is left
-pub record Takes {A : Type 0} (g : Part A) (r : Rest) (x : A) (behind : Rest) : Type 0 where
+pub record Takes {F A : Type 0} (g : Part F A) (r : Rest) (x : A) (behind : Rest) : Type 0 where
   pub front : List ℕ
   pub parts : r.bytes ≡ front ++ behind.bytes
   pub place : behind.at ≡ r.at + length front
   pub spells : g.Spells r.at front x
 
-pub record IsExact {A : Type 0} (g : Part A) : Type 0 where
+pub record IsExact {F A : Type 0} (g : Part F A) : Type 0 where
   pub takes : (r : Rest) (x : A) (behind : Rest) → g.read r ≡ Ok (x, behind) → Takes g r x behind
-  pub refuses : (r : Rest) (f : FrameFault) → g.read r ≡ Err f → g.Refuses r.at r.bytes f
+  pub refuses : (r : Rest) (f : F) → g.read r ≡ Err f → g.Refuses r.at r.bytes f
   pub again : (p : ℕ) (front back : List ℕ) (x : A) → g.Spells p front x → g.read (left p (front ++ back)) ≡ Ok (x, left (p + length front) back)
-  pub refused : (p : ℕ) (bytes : List ℕ) (f : FrameFault) → g.Refuses p bytes f → g.read (left p bytes) ≡ Err f
-
--- ---- results
-
-pub bind_ok : {A B F : Type 0} (m : Result A F) (f : A → Result B F) (y : B) → rest.◌>>=◌ m f ≡ Ok y → (x : A) × (m ≡ Ok x) × (f x ≡ Ok y)
-bind_ok (Ok x) f y e = (x, refl, e)
-bind_ok (Err d) f y e = absurd cc
-
-pub bind_err : {A B F : Type 0} (m : Result A F) (f : A → Result B F) (d : F) → rest.◌>>=◌ m f ≡ Err d → (m ≡ Err d) ⊎ ((x : A) × (m ≡ Ok x) × (f x ≡ Err d))
-bind_err (Ok x) f d e = inr (x, refl, e)
-bind_err (Err c) f d e = inl (let same : c ≡ d = cc in ap (λ v. Err v) same)
-
-pub ok_is : {A F : Type 0} (x y : A) → (let made : A → Result A F = λ v. Ok v in made x ≡ made y) → x ≡ y
-ok_is x y e = cc
-
-pub err_is : {A F : Type 0} (x y : F) → (let made : F → Result A F = λ v. Err v in made x ≡ made y) → x ≡ y
-err_is x y e = cc
+  pub refused : (p : ℕ) (bytes : List ℕ) (f : F) → g.Refuses p bytes f → g.read (left p bytes) ≡ Err f
 
 -- ---- one part and then another
 
-Takes-then : {A B : Type 0} (g : Part A) (h : A → Part B) (r : Rest) (x : A) (mid : Rest) (y : B) (behind : Rest)
+Takes-then : {F A B : Type 0} (g : Part F A) (h : A → Part F B) (r : Rest) (x : A) (mid : Rest) (y : B) (behind : Rest)
     → Takes g r x mid → Takes (h x) mid y behind → Takes (g >>= h) r y behind
 Takes-then g h r x mid y behind s t =
     record {
@@ -52,8 +36,8 @@ Takes-then g h r x mid y behind s t =
       spells = (x, s.front, t.front, refl, s.spells, subst (λ (p : ℕ). (h x).Spells p t.front y) s.place t.spells);
     }
 
-pub then_exact : {A B : Type 0} (g : Part A) (h : A → Part B) → IsExact g → ((x : A) → IsExact (h x)) → IsExact (g >>= h)
-then_exact {A} {B} g h eg eh = record {
+pub then_exact : {F A B : Type 0} (g : Part F A) (h : A → Part F B) → IsExact g → ((x : A) → IsExact (h x)) → IsExact (g >>= h)
+then_exact {F} {A} {B} g h eg eh = record {
   takes = λ r y behind e.
       let a = bind_ok (g.read r) (λ z. (h z.0).read z.1) (y, behind) e in
       Takes-then g h r a.0.0 a.0.1 y behind (eg.takes r a.0.0 a.0.1 a.1) ((eh a.0.0).takes a.0.1 y behind a.2);
@@ -70,16 +54,16 @@ then_exact {A} {B} g h eg eh = record {
       let second = (eh s.0).again (p + length s.1) s.2 back y s.5 in
       let regrouped : front ++ back ≡ s.1 ++ (s.2 ++ back) = ap (λ (bs : List ℕ). bs ++ back) s.3 ∙ append_assoc s.1 s.2 back in
       let place : p + length s.1 + length s.2 ≡ p + length front = omega (arith, length-append s.1 s.2, ap length s.3) in
-      let whole : rest.◌>>=◌ (g.read (left p (s.1 ++ (s.2 ++ back)))) (λ z. (h z.0).read z.1) ≡ Ok (y, left (p + length s.1 + length s.2) back) = rw first second in
-      ap (λ (bs : List ℕ). rest.◌>>=◌ (g.read (left p bs)) (λ z. (h z.0).read z.1)) regrouped ∙ whole ∙ ap (λ (q : ℕ). Ok (y, left q back)) place;
+      let whole : ◌and_then◌ (g.read (left p (s.1 ++ (s.2 ++ back)))) (λ z. (h z.0).read z.1) ≡ Ok (y, left (p + length s.1 + length s.2) back) = rw first second in
+      ap (λ (bs : List ℕ). ◌and_then◌ (g.read (left p bs)) (λ z. (h z.0).read z.1)) regrouped ∙ whole ∙ ap (λ (q : ℕ). Ok (y, left q back)) place;
   refused = λ p bytes f s.
       elim s [
         | inl stopped ↦ rw (eg.refused p bytes f stopped) refl
         | inr a ↦
             let first = eg.again p a.1 a.2 a.0 a.4 in
             let second = (eh a.0).refused (p + length a.1) a.2 f a.5 in
-            let whole : rest.◌>>=◌ (g.read (left p (a.1 ++ a.2))) (λ z. (h z.0).read z.1) ≡ Err f = rw first second in
-            ap (λ (bs : List ℕ). rest.◌>>=◌ (g.read (left p bs)) (λ z. (h z.0).read z.1)) a.3 ∙ whole
+            let whole : ◌and_then◌ (g.read (left p (a.1 ++ a.2))) (λ z. (h z.0).read z.1) ≡ Err f = rw first second in
+            ap (λ (bs : List ℕ). ◌and_then◌ (g.read (left p bs)) (λ z. (h z.0).read z.1)) a.3 ∙ whole
       ];
 }
 
@@ -89,41 +73,40 @@ no_text : (p : ℕ) (front back : List ℕ) → front ≡ [] → left p (front +
 no_text p [] back e = ap (λ (q : ℕ). left q back) (omega arith)
 no_text p (b ∷ bs) back e = absurd cc
 
-stays : {A : Type 0} (g : Part A) (r : Rest) (x : A) → g.Spells r.at [] x → Takes g r x r
+stays : {F A : Type 0} (g : Part F A) (r : Rest) (x : A) → g.Spells r.at [] x → Takes g r x r
 stays g r x s = record { front = []; parts = refl; place = omega arith; spells = s }
 
-pub give_exact : {A : Type 0} (x : A) → IsExact (give x)
-give_exact {A} x = record {
+pub give_exact : {F A : Type 0} (x : A) → IsExact (give {F = F} x)
+give_exact {F} {A} x = record {
   takes = λ r y behind e.
-      let made : (A × Rest) → Result (A × Rest) FrameFault = λ z. Ok z in
-      let same : (x, r) ≡ (y, behind) = ok_is {F = FrameFault} (x, r) (y, behind) e in
-      subst (λ (z : A × Rest). Takes (give x) r z.0 z.1) same (stays (give x) r x (refl, refl));
+      let same : (x, r) ≡ (y, behind) = ok_is {F = F} (x, r) (y, behind) e in
+      subst (λ (z : A × Rest). Takes (give {F = F} x) r z.0 z.1) same (stays (give {F = F} x) r x (refl, refl));
   refuses = λ r f e. absurd cc;
   again = λ p front back y s. ap (λ (z : Rest). Ok (x, z)) (no_text p front back s.0) ∙ ap (λ (v : A). Ok (v, left (p + length front) back)) s.1;
   refused = λ p bytes f s. absurd s;
 }
 
-pub here_exact : IsExact here
-here_exact = record {
+pub here_exact : {F : Type 0} → IsExact (here {F = F})
+here_exact {F} = record {
   takes = λ r y behind e.
-      let same : (r.at, r) ≡ (y, behind) = ok_is {F = FrameFault} (r.at, r) (y, behind) e in
-      subst (λ (z : ℕ × Rest). Takes here r z.0 z.1) same (stays here r r.at (refl, refl));
+      let same : (r.at, r) ≡ (y, behind) = ok_is {F = F} (r.at, r) (y, behind) e in
+      subst (λ (z : ℕ × Rest). Takes (here {F = F}) r z.0 z.1) same (stays (here {F = F}) r r.at (refl, refl));
   refuses = λ r f e. absurd cc;
   again = λ p front back y s. ap (λ (z : Rest). Ok (p, z)) (no_text p front back s.0) ∙ ap (λ (v : ℕ). Ok (v, left (p + length front) back)) s.1;
   refused = λ p bytes f s. absurd s;
 }
 
-pub refuse_exact : {A : Type 0} (f : FrameFault) → IsExact (refuse {A = A} f)
-refuse_exact {A} f = record {
+pub refuse_exact : {F A : Type 0} (f : F) → IsExact (refuse {A = A} f)
+refuse_exact {F} {A} f = record {
   takes = λ r y behind e. absurd cc;
   refuses = λ r e same. sym (err_is {A = A × Rest} f e same);
   again = λ p front back y s. absurd s;
-  refused = λ p bytes e s. ap (λ (v : FrameFault). Err v) (sym s);
+  refused = λ p bytes e s. ap (λ (v : F). Err v) (sym s);
 }
 
 -- ---- choices
 
-pub when_exact : {A : Type 0} (b : Bool) (g h : Part A) → IsExact g → IsExact h → IsExact (when b g h)
+pub when_exact : {F A : Type 0} (b : Bool) (g h : Part F A) → IsExact g → IsExact h → IsExact (when b g h)
 when_exact true g h eg eh = record {
   takes = λ r y behind e. let t = eg.takes r y behind e in record { front = t.front; parts = t.parts; place = t.place; spells = inl (refl, t.spells) };
   refuses = λ r f e. inl (refl, eg.refuses r f e);
@@ -137,58 +120,60 @@ when_exact false g h eg eh = record {
   refused = λ p bytes f s. elim s [ inl t ↦ absurd (let no = t.0 in cc) | inr t ↦ eh.refused p bytes f t.1 ];
 }
 
-pub check_exact : (b : Bool) (f : FrameFault) → IsExact (check b f)
+pub check_exact : {F : Type 0} (b : Bool) (f : F) → IsExact (check b f)
 check_exact b f = when_exact b (give tt) (refuse f) (give_exact tt) (refuse_exact f)
 
-pub found_exact : {A : Type 0} (o : Option A) (f : FrameFault) → IsExact (found o f)
+pub found_exact : {F A : Type 0} (o : Option A) (f : F) → IsExact (found o f)
 found_exact None f = refuse_exact f
 found_exact (Some x) f = give_exact x
 
-pub given_exact : {A : Type 0} (m : Result A FrameFault) → IsExact (given m)
+pub given_exact : {F A : Type 0} (m : Result A F) → IsExact (given m)
 given_exact (Ok x) = give_exact x
 given_exact (Err f) = refuse_exact f
 
+-- ---- faults seen in another way
+
+pub lift_exact : {F G A : Type 0} (place : F → G) (g : Part F A) → IsExact g → IsExact (lift place g)
+lift_exact {F} {G} {A} place g eg = record {
+  takes = λ r y behind e.
+      let t = eg.takes r y behind (with_fault_ok place (g.read r) (y, behind) e) in
+      record { front = t.front; parts = t.parts; place = t.place; spells = t.spells };
+  refuses = λ r f e.
+      let p = with_fault_err place (g.read r) f e in
+      (p.0, eg.refuses r p.0 p.1, p.2);
+  again = λ p front back y s. rw (eg.again p front back y s) refl;
+  refused = λ p bytes f s. rw (eg.refused p bytes s.0 s.1) (ap (λ (v : G). Err v) (sym s.2));
+}
+
 -- ---- data of a stated length
 
-pub cond_err : {A F : Type 0} (b : Bool) (d : F) (m : Result A F) (x : A) → cond b (Err d) m ≡ Ok x → (b ≡ false) × (m ≡ Ok x)
-cond_err true d m x e = absurd cc
-cond_err false d m x e = (refl, e)
-
-pub cond_errs : {A F : Type 0} (b : Bool) (d : F) (m : Result A F) (f : F) → cond b (Err d) m ≡ Err f → ((b ≡ true) × (f ≡ d)) ⊎ ((b ≡ false) × (m ≡ Err f))
-cond_errs {A} true d m f e = inl (refl, sym (err_is {A = A} d f e))
-cond_errs false d m f e = inr (refl, e)
-
-pub guarded : {A B F : Type 0} (b : Bool) (d : F) (x : A) (k : A → Result B F) → rest.◌>>=◌ (cond b (Err d) (Ok x)) k ≡ cond b (Err d) (k x)
-guarded true d x k = refl
-guarded false d x k = refl
-
-pub block_exact : {A : Type 0} (short : FrameFault) (n : ℕ) (g : Part A) → IsExact g → IsExact (block short n g)
-block_exact {A} short n g eg = record {
+pub block_exact : {F A : Type 0} (short : F) (n : ℕ) (g : Part F A) → IsExact g → IsExact (block short n g)
+block_exact {F} {A} short n g eg = record {
   takes = λ r y behind e.
       let inside = left r.at (take n r.bytes) in
-      let opened = guarded (nat_lt (length r.bytes) n) short (inside, after n r) (λ d. rest.◌>>=◌ (g.read d.0) (λ z. Ok (z.0, d.1))) in
-      let a = cond_err (nat_lt (length r.bytes) n) short (rest.◌>>=◌ (g.read inside) (λ z. Ok (z.0, after n r))) (y, behind) (sym opened ∙ e) in
+      let opened = guarded {A = Rest × Rest} {B = A × Rest} (nat_lt (length r.bytes) n) short (inside, skipped n r) (λ d. ◌and_then◌ (g.read d.0) (λ z. Ok (z.0, d.1))) in
+      let a = cond_err (nat_lt (length r.bytes) n) short (◌and_then◌ (g.read inside) (λ z. Ok (z.0, skipped n r))) (y, behind) (sym opened ∙ e) in
       let long : n ≤ length r.bytes = ltb-false _ _ a.0 in
-      let b = bind_ok (g.read inside) (λ z. Ok (z.0, after n r)) (y, behind) a.1 in
+      let b = bind_ok (g.read inside) (λ z. Ok (z.0, skipped n r)) (y, behind) a.1 in
       let t = eg.takes inside b.0.0 b.0.1 b.1 in
       let size : length (take n r.bytes) ≡ n = omega (arith, length-take n r.bytes) in
-      let made : Takes (block short n g) r b.0.0 (after n r) = record {
+      let made : Takes (block short n g) r b.0.0 (skipped n r) = record {
         front = take n r.bytes;
         parts = sym (take-append-drop n r.bytes);
         place = omega (arith, size);
         spells = (size, (t.front, b.0.1.bytes, t.parts, t.spells));
       } in
-      let same : (b.0.0, after n r) ≡ (y, behind) = ok_is {F = FrameFault} (b.0.0, after n r) (y, behind) b.2 in
-      subst (λ (z : A × Rest). Takes (block short n g) r z.0 z.1) same made;
+      let same : (b.0.0, skipped n r) ≡ (y, behind) = ok_is {F = F} (b.0.0, skipped n r) (y, behind) b.2 in
+      subst (λ (z : A × Rest). Takes (block short n g) r z.0 z.1) {x = (b.0.0, skipped n r)} {y = (y, behind)} same made;
   refuses = λ r f e.
       let inside = left r.at (take n r.bytes) in
-      let opened = guarded (nat_lt (length r.bytes) n) short (inside, after n r) (λ d. rest.◌>>=◌ (g.read d.0) (λ z. Ok (z.0, d.1))) in
-      elim (cond_errs (nat_lt (length r.bytes) n) short (rest.◌>>=◌ (g.read inside) (λ z. Ok (z.0, after n r))) f (sym opened ∙ e)) [
+      let opened = guarded {A = Rest × Rest} {B = A × Rest} (nat_lt (length r.bytes) n) short (inside, skipped n r) (λ d. ◌and_then◌ (g.read d.0) (λ z. Ok (z.0, d.1))) in
+      elim (cond_errs (nat_lt (length r.bytes) n) short (◌and_then◌ (g.read inside) (λ z. Ok (z.0, skipped n r))) f (sym opened ∙ e)) [
         | inl a ↦ inl (ltb-true _ _ a.0, a.1)
         | inr a ↦
             let long : n ≤ length r.bytes = ltb-false _ _ a.0 in
             let size : length (take n r.bytes) ≡ n = omega (arith, length-take n r.bytes) in
-            elim (bind_err (g.read inside) (λ z. Ok (z.0, after n r)) f a.1) [
+            elim (bind_err (g.read inside) (λ z. Ok (z.0, skipped n r)) f a.1) [
               | inl stopped ↦ inr (take n r.bytes, drop n r.bytes, sym (take-append-drop n r.bytes), size, eg.refuses inside f stopped)
               | inr b ↦ absurd (let no = b.2 in cc)
             ]
@@ -202,7 +187,7 @@ block_exact {A} short n g eg = record {
       rw (long, held, behind, whole, s.0) refl;
   refused = λ p bytes f s.
       elim s [
-        | inl a ↦ let tooshort : nat_lt (length bytes) n ≡ true = lt-ltb _ _ a.0 in rw tooshort (ap (λ (v : FrameFault). Err v) (sym a.1))
+        | inl a ↦ let tooshort : nat_lt (length bytes) n ≡ true = lt-ltb _ _ a.0 in rw tooshort (ap (λ (v : F). Err v) (sym a.1))
         | inr a ↦
             let long : nat_lt (length bytes) n ≡ false = le-ltb _ _ (omega (arith, ap length a.2, length-append a.0 a.1, a.3)) in
             let held : take n bytes ≡ a.0 = ap (take n) a.2 ∙ take_at a.0 a.1 n a.3 in

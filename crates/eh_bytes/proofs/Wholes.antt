@@ -1,0 +1,195 @@
+-- A part is whole where it takes all that is left, and reading it and its two relations agree.
+use Rattle.std.proofs.Common.{◌≡◌, ℕ, ◌+◌, ◌≤◌, List, [], ◌++◌, length, take, drop, Bool, true, false, Result, Ok, Err, nat_lt, refl, sym, ap, subst, ◌∙◌, length-append, arith, inl, inr}
+use Rattle.std.proofs.lemmas.Bool.{ltb-false, ltb-true, le-ltb, lt-ltb}
+use Rattle.std.proofs.lemmas.List.{append-nil, take-append-drop, take_at, drop_at, length-take}
+use Rattle.eh_bytes.specs.Rest.{Rest, skipped}
+use Rattle.eh_bytes.specs.Results.{◌and_then◌}
+use Rattle.eh_bytes.specs.Grammar.{Part, ◌>>=◌, give, when, lift, filled, with_rest, ended}
+use Rattle.eh_bytes.proofs.Results.{ok_is, bind_ok, bind_err, with_fault_ok, with_fault_err, cond_err, cond_errs, guarded}
+use Rattle.eh_bytes.proofs.Exact.{left, Takes, IsExact}
+
+-- the part spells all that is left
+pub record TakesAll {F A : Type 0} (g : Part F A) (r : Rest) (x : A) (behind : Rest) : Type 0 where
+  pub nothing : behind ≡ left (r.at + length r.bytes) []
+  pub spells : g.Spells r.at r.bytes x
+
+pub record IsWhole {F A : Type 0} (g : Part F A) : Type 0 where
+  pub takes : (r : Rest) (x : A) (behind : Rest) → g.read r ≡ Ok (x, behind) → TakesAll g r x behind
+  pub refuses : (r : Rest) (f : F) → g.read r ≡ Err f → g.Refuses r.at r.bytes f
+  pub again : (p : ℕ) (text : List ℕ) (x : A) → g.Spells p text x → g.read (left p text) ≡ Ok (x, left (p + length text) [])
+  pub refused : (p : ℕ) (bytes : List ℕ) (f : F) → g.Refuses p bytes f → g.read (left p bytes) ≡ Err f
+
+-- ---- a part and then a whole one
+
+pub then_whole : {F A B : Type 0} (g : Part F A) (h : A → Part F B) → IsExact g → ((x : A) → IsWhole (h x)) → IsWhole (g >>= h)
+then_whole {F} {A} {B} g h eg eh = record {
+  takes = λ r y behind e.
+      let a = bind_ok (g.read r) (λ z. (h z.0).read z.1) (y, behind) e in
+      let s = eg.takes r a.0.0 a.0.1 a.1 in
+      let t = (eh a.0.0).takes a.0.1 y behind a.2 in
+      let size : a.0.1.at + length a.0.1.bytes ≡ r.at + length r.bytes = omega (arith, s.place, ap length s.parts, length-append s.front a.0.1.bytes) in
+      record {
+        nothing = t.nothing ∙ ap (λ (q : ℕ). left q []) size;
+        spells = (a.0.0, s.front, a.0.1.bytes, s.parts, s.spells, subst (λ (p : ℕ). (h a.0.0).Spells p a.0.1.bytes y) s.place t.spells);
+      };
+  refuses = λ r f e.
+      elim (bind_err (g.read r) (λ z. (h z.0).read z.1) f e) [
+        | inl stopped ↦ inl (eg.refuses r f stopped)
+        | inr a ↦
+            let s = eg.takes r a.0.0 a.0.1 a.1 in
+            let later = (eh a.0.0).refuses a.0.1 f a.2 in
+            inr (a.0.0, s.front, a.0.1.bytes, s.parts, s.spells, subst (λ (p : ℕ). (h a.0.0).Refuses p a.0.1.bytes f) s.place later)
+      ];
+  again = λ p text y s.
+      let first = eg.again p s.1 s.2 s.0 s.4 in
+      let second = (eh s.0).again (p + length s.1) s.2 y s.5 in
+      let place : p + length s.1 + length s.2 ≡ p + length text = omega (arith, length-append s.1 s.2, ap length s.3) in
+      let whole : ◌and_then◌ (g.read (left p (s.1 ++ s.2))) (λ z. (h z.0).read z.1) ≡ Ok (y, left (p + length s.1 + length s.2) []) = rw first second in
+      ap (λ (bs : List ℕ). ◌and_then◌ (g.read (left p bs)) (λ z. (h z.0).read z.1)) s.3 ∙ whole ∙ ap (λ (q : ℕ). Ok (y, left q [])) place;
+  refused = λ p bytes f s.
+      elim s [
+        | inl stopped ↦ rw (eg.refused p bytes f stopped) refl
+        | inr a ↦
+            let first = eg.again p a.1 a.2 a.0 a.4 in
+            let second = (eh a.0).refused (p + length a.1) a.2 f a.5 in
+            let whole : ◌and_then◌ (g.read (left p (a.1 ++ a.2))) (λ z. (h z.0).read z.1) ≡ Err f = rw first second in
+            ap (λ (bs : List ℕ). ◌and_then◌ (g.read (left p bs)) (λ z. (h z.0).read z.1)) a.3 ∙ whole
+      ];
+}
+
+-- a whole part, whose value is looked at in another way
+pub give_whole : {F A B : Type 0} (g : Part F A) (k : A → B) → IsWhole g → IsWhole (g >>= λ x. give (k x))
+give_whole {F} {A} {B} g k eg = record {
+  takes = λ r y behind e.
+      let a = bind_ok (g.read r) (λ z. Ok (k z.0, z.1)) (y, behind) e in
+      let t = eg.takes r a.0.0 a.0.1 a.1 in
+      let same : (k a.0.0, a.0.1) ≡ (y, behind) = ok_is {F = F} (k a.0.0, a.0.1) (y, behind) a.2 in
+      let made : TakesAll (g >>= λ x. give (k x)) r (k a.0.0) a.0.1 = record { nothing = t.nothing; spells = (a.0.0, r.bytes, [], sym (append-nil r.bytes), t.spells, (refl, refl)) } in
+      subst (λ (z : B × Rest). TakesAll (g >>= λ x. give (k x)) r z.0 z.1) same made;
+  refuses = λ r f e.
+      elim (bind_err (g.read r) (λ z. Ok (k z.0, z.1)) f e) [
+        | inl stopped ↦ inl (eg.refuses r f stopped)
+        | inr a ↦ absurd (let never = a.2 in cc)
+      ];
+  again = λ p text y s.
+      let whole : text ≡ s.1 = s.3 ∙ ap (λ (l : List ℕ). s.1 ++ l) s.5.0 ∙ append-nil s.1 in
+      let first = eg.again p s.1 s.0 s.4 in
+      let found : ◌and_then◌ (g.read (left p s.1)) (λ z. Ok (k z.0, z.1)) ≡ Ok (k s.0, left (p + length s.1) []) = rw first refl in
+      ap (λ (bs : List ℕ). ◌and_then◌ (g.read (left p bs)) (λ z. Ok (k z.0, z.1))) whole ∙ found ∙ ap (λ (v : B). Ok (v, left (p + length s.1) [])) s.5.1
+      ∙ ap (λ (q : ℕ). Ok (y, left (p + q) [])) (ap length (sym whole));
+  refused = λ p bytes f s. elim s [ inl stopped ↦ rw (eg.refused p bytes f stopped) refl | inr a ↦ absurd a.5 ];
+}
+
+pub when_whole : {F A : Type 0} (b : Bool) (g h : Part F A) → IsWhole g → IsWhole h → IsWhole (when b g h)
+when_whole true g h eg eh = record {
+  takes = λ r y behind e. let t = eg.takes r y behind e in record { nothing = t.nothing; spells = inl (refl, t.spells) };
+  refuses = λ r f e. inl (refl, eg.refuses r f e);
+  again = λ p text y s. elim s [ inl t ↦ eg.again p text y t.1 | inr t ↦ absurd (let never = t.0 in cc) ];
+  refused = λ p bytes f s. elim s [ inl t ↦ eg.refused p bytes f t.1 | inr t ↦ absurd (let never = t.0 in cc) ];
+}
+when_whole false g h eg eh = record {
+  takes = λ r y behind e. let t = eh.takes r y behind e in record { nothing = t.nothing; spells = inr (refl, t.spells) };
+  refuses = λ r f e. inr (refl, eh.refuses r f e);
+  again = λ p text y s. elim s [ inl t ↦ absurd (let never = t.0 in cc) | inr t ↦ eh.again p text y t.1 ];
+  refused = λ p bytes f s. elim s [ inl t ↦ absurd (let never = t.0 in cc) | inr t ↦ eh.refused p bytes f t.1 ];
+}
+
+pub lift_whole : {F G A : Type 0} (place : F → G) (g : Part F A) → IsWhole g → IsWhole (lift place g)
+lift_whole {F} {G} {A} place g eg = record {
+  takes = λ r y behind e.
+      let t = eg.takes r y behind (with_fault_ok place (g.read r) (y, behind) e) in
+      record { nothing = t.nothing; spells = t.spells };
+  refuses = λ r f e.
+      let p = with_fault_err place (g.read r) f e in
+      (p.0, eg.refuses r p.0 p.1, p.2);
+  again = λ p text y s. rw (eg.again p text y s) refl;
+  refused = λ p bytes f s. rw (eg.refused p bytes s.0 s.1) (ap (λ (v : G). Err v) (sym s.2));
+}
+
+-- ---- a test at the end
+
+with_rest_ok : {F A : Type 0} (m : Result A F) (r behind : Rest) (y : A) → with_rest m r ≡ Ok (y, behind) → (m ≡ Ok y) × (r ≡ behind)
+with_rest_ok {F} {A} (Ok x) r behind y e =
+    let same : (x, r) ≡ (y, behind) = ok_is {F = F} (x, r) (y, behind) e in
+    (ap (λ (z : A × Rest). Ok z.0) same, ap (λ (z : A × Rest). z.1) same)
+with_rest_ok {F} {A} (Err d) r behind y e = absurd cc
+
+with_rest_err : {F A : Type 0} (m : Result A F) (r : Rest) (f : F) → with_rest m r ≡ Err f → m ≡ Err f
+with_rest_err (Ok x) r f e = absurd cc
+with_rest_err (Err d) r f e = let same : d ≡ f = cc in ap (λ v. Err v) same
+
+pub ended_whole : {F A B : Type 0} (g : Part F A) (test : ℕ → A → Result B F) → IsWhole g → IsWhole (ended g test)
+ended_whole {F} {A} {B} g test eg = record {
+  takes = λ r y behind e.
+      let a = bind_ok (g.read r) (λ x. with_rest (test x.1.at x.0) x.1) (y, behind) e in
+      let t = eg.takes r a.0.0 a.0.1 a.1 in
+      let w = with_rest_ok (test a.0.1.at a.0.0) a.0.1 behind y a.2 in
+      let place : a.0.1.at ≡ r.at + length r.bytes = ap (λ (z : Rest). z.at) t.nothing in
+      record {
+        nothing = sym w.1 ∙ t.nothing;
+        spells = (a.0.0, t.spells, ap (λ (q : ℕ). test q a.0.0) (sym place) ∙ w.0);
+      };
+  refuses = λ r f e.
+      elim (bind_err (g.read r) (λ x. with_rest (test x.1.at x.0) x.1) f e) [
+        | inl stopped ↦ inl (eg.refuses r f stopped)
+        | inr a ↦
+            let t = eg.takes r a.0.0 a.0.1 a.1 in
+            let place : a.0.1.at ≡ r.at + length r.bytes = ap (λ (z : Rest). z.at) t.nothing in
+            inr (a.0.0, t.spells, ap (λ (q : ℕ). test q a.0.0) (sym place) ∙ with_rest_err (test a.0.1.at a.0.0) a.0.1 f a.2)
+      ];
+  again = λ p text y s. rw (eg.again p text s.0 s.1, s.2) refl;
+  refused = λ p bytes f s.
+      elim s [
+        | inl stopped ↦ rw (eg.refused p bytes f stopped) refl
+        | inr a ↦ rw (eg.again p bytes a.0 a.1, a.2) refl
+      ];
+}
+
+-- data that a whole part fills
+pub filled_exact : {F A : Type 0} (short : F) (n : ℕ) (g : Part F A) → IsWhole g → IsExact (filled short n g)
+filled_exact {F} {A} short n g eg = record {
+  takes = λ r y behind e.
+      let inside = left r.at (take n r.bytes) in
+      let opened = guarded {A = Rest × Rest} {B = A × Rest} (nat_lt (length r.bytes) n) short (inside, skipped n r) (λ d. ◌and_then◌ (g.read d.0) (λ z. Ok (z.0, d.1))) in
+      let a = cond_err (nat_lt (length r.bytes) n) short (◌and_then◌ (g.read inside) (λ z. Ok (z.0, skipped n r))) (y, behind) (sym opened ∙ e) in
+      let long : n ≤ length r.bytes = ltb-false _ _ a.0 in
+      let b = bind_ok (g.read inside) (λ z. Ok (z.0, skipped n r)) (y, behind) a.1 in
+      let t = eg.takes inside b.0.0 b.0.1 b.1 in
+      let size : length (take n r.bytes) ≡ n = omega (arith, length-take n r.bytes) in
+      let made : Takes (filled short n g) r b.0.0 (skipped n r) = record {
+        front = take n r.bytes;
+        parts = sym (take-append-drop n r.bytes);
+        place = omega (arith, size);
+        spells = (size, t.spells);
+      } in
+      let same : (b.0.0, skipped n r) ≡ (y, behind) = ok_is {F = F} (b.0.0, skipped n r) (y, behind) b.2 in
+      subst (λ (z : A × Rest). Takes (filled short n g) r z.0 z.1) {x = (b.0.0, skipped n r)} {y = (y, behind)} same made;
+  refuses = λ r f e.
+      let inside = left r.at (take n r.bytes) in
+      let opened = guarded {A = Rest × Rest} {B = A × Rest} (nat_lt (length r.bytes) n) short (inside, skipped n r) (λ d. ◌and_then◌ (g.read d.0) (λ z. Ok (z.0, d.1))) in
+      elim (cond_errs (nat_lt (length r.bytes) n) short (◌and_then◌ (g.read inside) (λ z. Ok (z.0, skipped n r))) f (sym opened ∙ e)) [
+        | inl a ↦ inl (ltb-true _ _ a.0, a.1)
+        | inr a ↦
+            let long : n ≤ length r.bytes = ltb-false _ _ a.0 in
+            let size : length (take n r.bytes) ≡ n = omega (arith, length-take n r.bytes) in
+            elim (bind_err (g.read inside) (λ z. Ok (z.0, skipped n r)) f a.1) [
+              | inl stopped ↦ inr (take n r.bytes, drop n r.bytes, sym (take-append-drop n r.bytes), size, eg.refuses inside f stopped)
+              | inr b ↦ absurd (let never = b.2 in cc)
+            ]
+      ];
+  again = λ p front back y s.
+      let long : nat_lt (length (front ++ back)) n ≡ false = le-ltb _ _ (omega (arith, s.0, length-append front back)) in
+      let held : take n (front ++ back) ≡ front = take_at front back n s.0 in
+      let behind : drop n (front ++ back) ≡ back = drop_at front back n s.0 in
+      let whole = eg.again p front y s.1 in
+      rw (long, held, behind, whole, s.0) refl;
+  refused = λ p bytes f s.
+      elim s [
+        | inl a ↦ let tooshort : nat_lt (length bytes) n ≡ true = lt-ltb _ _ a.0 in rw tooshort (ap (λ (v : F). Err v) (sym a.1))
+        | inr a ↦
+            let long : nat_lt (length bytes) n ≡ false = le-ltb _ _ (omega (arith, ap length a.2, length-append a.0 a.1, a.3)) in
+            let held : take n bytes ≡ a.0 = ap (take n) a.2 ∙ take_at a.0 a.1 n a.3 in
+            let stopped = eg.refused p a.0 f a.4 in
+            rw (long, held, stopped) refl
+      ];
+}
