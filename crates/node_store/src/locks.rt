@@ -5,6 +5,7 @@
 //! was set; others may sleep on, so one that has slept sets bit 1 again once it has the lock.
 ghost use Rattle.std.specs.Prelude.{◌≡◌, ◌*◌, ◌<◌, ◌%◌, None, IsSome};
 ghost use Rattle.word_rule.specs.Logs.{after_loader_release};
+ghost use Rattle.word_rule.specs.CallerData.{surplus};
 ghost use Rattle.node_store.specs.Locking.{Tries, Locks};
 
 use crossbeam_utils::Backoff;
@@ -81,7 +82,7 @@ pub fn unlock<R: Wait>(rt: &R, words: &Words, me: &mut Caller, lock: LockId)
     requires table { me.old.table ≡ words.now.table }
     requires lock { lock ≡ LockId.Loader }
     requires held { IsSome me.old.log.loader }
-    requires surplus { 64 * me.old.left < me.old.log.credit }
+    requires surplus { 0 < surplus me.old }
     ensures { me.new ≡ record me.old { log = after_loader_release me.old.log } }
 {
     let _ = rt;

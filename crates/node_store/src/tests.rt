@@ -1,4 +1,5 @@
 ghost use Rattle.std.specs.Prelude.{◌≡◌, ◌+◌, ◌*◌, ◌≤◌, [], None};
+ghost use Rattle.word_rule.specs.CallerData.{surplus};
 ghost use Rattle.node_store.specs.Locking.{Turns};
 
 use crate::{lock, unlock};
@@ -13,7 +14,7 @@ const TURNS: u32 = 100;
 fn take_turns<R: Wait>(rt: &R, words: &Words, mut me: Caller) -> Caller
     requires table { me.table ≡ words.now.table }
     requires free { me.log.loader ≡ None }
-    requires surplus { 64 * me.left + 100 ≤ me.log.credit }
+    requires surplus { 100 ≤ surplus me }
     ensures { Turns me result }
 {
     for turn in 0..TURNS {
@@ -31,17 +32,17 @@ fn side_by_side<R: Threads + Wait + Sync>(
 ) -> (Caller, Caller)
     requires tables { (a.table ≡ words.now.table) × (b.table ≡ words.now.table) }
     requires free { (a.log.loader ≡ None) × (b.log.loader ≡ None) }
-    requires surplus { (64 * a.left + 100 ≤ a.log.credit) × (64 * b.left + 100 ≤ b.log.credit) }
+    requires surplus { (100 ≤ surplus a) × (100 ≤ surplus b) }
     ensures { Turns a result.0 × Turns b result.1 }
 {
     join(
         rt,
         || -> Caller
-            requires { (a.table ≡ words.now.table) × (a.log.loader ≡ None) × (64 * a.left + 100 ≤ a.log.credit) }
+            requires { (a.table ≡ words.now.table) × (a.log.loader ≡ None) × (100 ≤ surplus a) }
             ensures { Turns a result }
         { take_turns(rt, words, a) },
         || -> Caller
-            requires { (b.table ≡ words.now.table) × (b.log.loader ≡ None) × (64 * b.left + 100 ≤ b.log.credit) }
+            requires { (b.table ≡ words.now.table) × (b.log.loader ≡ None) × (100 ≤ surplus b) }
             ensures { Turns b result }
         { take_turns(rt, words, b) },
     )

@@ -1,6 +1,7 @@
 -- One that is alone has all that was ever done.
 use Rattle.std.proofs.Common.{◌≡◌, ◌≢◌, ℕ, zero, suc, ◌+◌, ◌%◌, ◌<◌, ◌≤◌, List, [], ◌∷◌, ◌++◌, length, length-append, set, get_or, ne_eqb, sym, refl, ap, ◌∙◌, subst, ⊎_elim, arith, Option, Some, None, false, true, Bool, max, lt_of_not-le}
-use Rattle.std.specs.List.{AllByRecursion}
+use Rattle.std.specs.List.{AllByRecursion, count_by}
+use Rattle.std.proofs.lemmas.List.Sums.{sum_by-cons}
 use mathlib.Core.Option.{none, some, some-injective, some-ne-none}
 use native.Mathlib.Decide.{dec_le}
 use lib.ListN.{get_elem?}
@@ -10,79 +11,83 @@ use Rattle.atomic_table.proofs.Lists.{set_again}
 use Rattle.reg_model.specs.Receipt.{moment, accepted, AllHold}
 use Rattle.reg_model.specs.declared.answer.Update.{Update}
 use Rattle.reg_model.specs.declared.answer.Receipt.{Receipt}
-use Rattle.word_rule.specs.declared.views.Log.{Log}
-use Rattle.word_rule.specs.declared.views.Terms.{Terms}
-use Rattle.word_rule.specs.Names.{times, once, is_same}
-use Rattle.word_rule.specs.Rule.{total, Callers, LogHolds, KinHolds, IsRecord, IsAlone, IsWhole, done_as, dones, dones_of_all, dones_in, numbered, start}
-use Rattle.word_rule.specs.Table.{Table}
-use Rattle.word_rule.specs.Tells.{settles}
+use Rattle.word_rule.specs.declared.log.Log.{Log}
+use Rattle.word_rule.specs.declared.log.Terms.{Terms}
+use Rattle.word_rule.specs.Names.{name_count, is_same}
+use Rattle.tree_shape.specs.Numbers.{once}
+use Rattle.word_rule.specs.Logs.{is_spent}
+use Rattle.word_rule.specs.Callers.{total, CallersHold, LogHolds, LineageHolds, IsRecord, AreRecords, IsAlone, IsWhole, is_done_as, is_done, dones, dones_of_all, dones_in, number_of, start}
+use Rattle.word_rule.specs.TableInvariant.{TableInvariant}
+use Rattle.word_rule.specs.Plays.{confirms}
 use Rattle.word_rule.proofs.Facts.{part_of_total, all_of_total}
 use Rattle.word_rule.proofs.Names.{same_or}
-use Rattle.word_rule.proofs.Comings.{one_place, given_by_one}
+use Rattle.word_rule.proofs.Joins.{one_place, given_by_one}
 
 -- numbers are not above what was seen
-dones_within : (t : Terms) (past : List Update) (callers since n : ℕ) (rs : List Receipt) → length past < n → AllHold (start t) past t.nodes callers since rs → dones n rs ≡ 0
+dones_within : (t : Terms) (past : List Update) (callers since n : ℕ) (rs : List Receipt) → length past < n → AllHold (start t) past t.nodes callers since rs → count_by (is_done n) rs ≡ 0
 dones_within t past callers since n [] above h = refl
-dones_within t past callers since n (x ∷ rs) above h = let rest = dones_within t past callers (max since (moment x)) n rs above h.1 in let w = h.0.within in
-    let here = done_other (accepted x) (moment x) n (λ e. omega (arith, e, w, above)) in omega (arith, rest, here)
+dones_within t past callers since n (x ∷ rs) above h =
+    let c = sum_by-cons (λ r. once (is_done n r)) x rs in let rest = dones_within t past callers (max since (moment x)) n rs above h.1 in let w = h.0.within in
+    let here = done_other (accepted x) (moment x) n (λ e. omega (arith, e, w, above)) in omega (arith, c, rest, here)
   where
-    done_other : (a : Option Update) (m n : ℕ) → m ≢ n → done_as n m a ≡ 0
+    done_other : (a : Option Update) (m n : ℕ) → m ≢ n → once (is_done_as n m a) ≡ 0
     done_other None m n ne = refl
     done_other (Some u) m n ne = rw (ne_eqb m n ne) refl
 
 dones_all_within : (t : Terms) (past : List Update) (callers n : ℕ) (lists : List (List Receipt)) → length past < n → AllByRecursion (IsRecord t past callers) lists → dones_of_all n lists ≡ 0
 dones_all_within t past callers n [] above h = refl
-dones_all_within t past callers n (rs ∷ lists) above h = let a = dones_within t past callers 0 n rs above h.0.0 in let b = dones_all_within t past callers n lists above h.1 in omega (arith, a, b)
+dones_all_within t past callers n (rs ∷ lists) above h =
+    let c = sum_by-cons (λ receipts. count_by (is_done n) receipts) rs lists in let a = dones_within t past callers 0 n rs above h.0.0 in let b = dones_all_within t past callers n lists above h.1 in omega (arith, c, a, b)
 
-last_number : (n : ℕ) → 0 < n → numbered n n ≡ 1
+last_number : (n : ℕ) → 0 < n → number_of n n ≡ 1
 last_number n h = rw (le-leb 1 n h, le-leb n n (omega arith)) refl
 
 set_first : (words : List ℕ) → set words 0 (get_or words 0 0) ≡ words
 set_first [] = refl
 set_first (x ∷ words) = refl
 
-module _ (t : Terms) (words : List ℕ) (views : List Log) (history : List Update) (r : Callers t words views history) (id : ℕ) (v : Log) (at : get_elem? views id ≡ some v) (alone : IsAlone v.kin) where
-  kin_each : (j : ℕ) (u : Log) → get_elem? views j ≡ some u → KinHolds u.kin
-  kin_each j u e = (r.each j u e).kin
+module _ (t : Terms) (words : List ℕ) (views : List Log) (history : List Update) (r : CallersHold t words views history) (id : ℕ) (v : Log) (at : get_elem? views id ≡ some v) (alone : IsAlone v.lineage) where
+  lineage_each : (j : ℕ) (u : Log) → get_elem? views j ≡ some u → LineageHolds u.lineage
+  lineage_each j u e = (r.each j u e).lineage
 
   -- every name that came back to any came back to it, where it has the shorter ones
-  has_next : (x : List ℕ) → ((p : List ℕ) → length p < length x → 0 < total (λ u. times p u.kin.members) views → 0 < times p v.kin.members) → 0 < total (λ u. times x u.kin.members) views → 0 < times x v.kin.members
+  has_next : (x : List ℕ) → ((p : List ℕ) → length p < length x → 0 < total (λ u. name_count p u.lineage.gathered) views → 0 < name_count p v.lineage.gathered) → 0 < total (λ u. name_count x u.lineage.gathered) views → 0 < name_count x v.lineage.gathered
   has_next x shorter more = ⊎_elim
-      (λ (e : [] ≡ x). subst (λ y. 0 < times y v.kin.members) e
-      (let b = (kin_each id v at).balanced [] in let f = alone.first in let m : times [] v.kin.missing ≡ 0 = ap (times []) alone.all in omega (arith, b, f, m)))
+      (λ (e : [] ≡ x). subst (λ y. 0 < name_count y v.lineage.gathered) e
+      (let b = (lineage_each id v at).balanced [] in let f = alone.first in let m : name_count [] v.lineage.missing ≡ 0 = ap (name_count []) alone.all in omega (arith, b, f, m)))
       (λ (e : is_same [] x ≡ false).
-      let m = r.kindred.members x in let o : once (is_same [] x) ≡ 0 = rw e refl in
-      let g = given_by_one views kin_each r.kindred x (omega (arith, m, o, more)) in
+      let m = r.lineages.gathered x in let o : once (is_same [] x) ≡ 0 = rw e refl in
+      let g = given_by_one views lineage_each r.lineages x (omega (arith, m, o, more)) in
       let l = length-append g.0 (g.1 ∷ []) in let z : length x ≡ length (g.0 ++ g.1 ∷ []) = ap length g.4.1 in
-      let above = part_of_total (λ u. times g.0 u.kin.members) views g.2 g.3 g.4.0 in
-      let mine : 0 < times g.0 v.kin.members = shorter g.0 (omega (arith, l, z)) (omega (arith, above, g.4.2)) in
-      let here : g.2 ≡ id = one_place views kin_each r.kindred g.0 id g.2 v g.3 at g.4.0 mine g.4.2 in
+      let above = part_of_total (λ u. name_count g.0 u.lineage.gathered) views g.2 g.3 g.4.0 in
+      let mine : 0 < name_count g.0 v.lineage.gathered = shorter g.0 (omega (arith, l, z)) (omega (arith, above, g.4.2)) in
+      let here : g.2 ≡ id = one_place views lineage_each r.lineages g.0 id g.2 v g.3 at g.4.0 mine g.4.2 in
       let same : g.3 ≡ v = some-injective g.3 v (sym g.4.0 ∙ (ap (get_elem? views) here ∙ at)) in
-      let gave : 0 < times x v.kin.given = subst (λ u. 0 < times x u.kin.given) same g.4.3 in
-      let b = (kin_each id v at).balanced x in let n : times x v.kin.missing ≡ 0 = ap (times x) alone.all in omega (arith, b, gave, n)) (same_or [] x)
+      let gave : 0 < name_count x v.lineage.given = subst (λ u. 0 < name_count x u.lineage.given) same g.4.3 in
+      let b = (lineage_each id v at).balanced x in let n : name_count x v.lineage.missing ≡ 0 = ap (name_count x) alone.all in omega (arith, b, gave, n)) (same_or [] x)
 
   -- and so all of them, by induction on the length
-  has_all : (size : ℕ) (x : List ℕ) → length x < size → 0 < total (λ u. times x u.kin.members) views → 0 < times x v.kin.members
+  has_all : (size : ℕ) (x : List ℕ) → length x < size → 0 < total (λ u. name_count x u.lineage.gathered) views → 0 < name_count x v.lineage.gathered
   has_all zero x small more = absurd (omega (arith, small))
   has_all (suc size) x small more = has_next x (λ p less. has_all size p (omega (arith, small, less))) more
 
   -- every other log was joined away
-  pub others_spent : (j : ℕ) (u : Log) → j ≢ id → get_elem? views j ≡ some u → u.spent ≡ true
-  others_spent j u far there = go u.spent refl
+  pub others_spent : (j : ℕ) (u : Log) → j ≢ id → get_elem? views j ≡ some u → is_spent u.role ≡ true
+  others_spent j u far there = go (is_spent u.role) refl
     where
-      go : (b : Bool) → u.spent ≡ b → u.spent ≡ true
+      go : (b : Bool) → is_spent u.role ≡ b → is_spent u.role ≡ true
       go true e = e
       go false e =
-          let own = r.kindred.named j u there e in
-          let above = part_of_total (λ w. times u.kin.name w.kin.members) views j u there in
-          let mine = has_all (suc (length u.kin.name)) u.kin.name (omega arith) (omega (arith, own, above)) in
-          absurd (far (one_place views kin_each r.kindred u.kin.name id j v u at there mine own))
+          let own = r.lineages.named j u there e in
+          let above = part_of_total (λ w. name_count u.lineage.name w.lineage.gathered) views j u there in
+          let mine = has_all (suc (length u.lineage.name)) u.lineage.name (omega arith) (omega (arith, own, above)) in
+          absurd (far (one_place views lineage_each r.lineages u.lineage.name id j v u at there mine own))
 
   dones_all : (n : ℕ) → total (dones_in n) views ≡ dones_in n v
-  dones_all n = all_of_total (dones_in n) views id v at (λ j u far there. let s = r.kindred.spent j u there (others_spent j u far there) in (λ i. dones n (s.0 i) + dones_of_all n (s.1 i)))
+  dones_all n = all_of_total (dones_in n) views id v at (λ j u far there. let s = r.lineages.spent j u there (others_spent j u far there) in (λ i. dones n record { own = s.0 i; joined = s.1 i }))
 
   made_all : total (λ u. u.made) views ≡ v.made
-  made_all = all_of_total (λ u. u.made) views id v at (λ j u far there. (r.kindred.spent j u there (others_spent j u far there)).2)
+  made_all = all_of_total (λ u. u.made) views id v at (λ j u far there. (r.lineages.spent j u there (others_spent j u far there)).2)
 
   own_log : LogHolds t history (v.made + 1) v
   own_log = subst (λ m. LogHolds t history (m + 1) v) made_all (r.each id v at)
@@ -99,18 +104,17 @@ module _ (t : Terms) (words : List ℕ) (views : List Log) (history : List Updat
       go (no h) =
           let above : length v.past < length history = lt_of_not-le h in
           let n : ℕ = length history in
-          let a = dones_within t v.past (v.made + 1) 0 n v.own above own_log.own.0 in
-          let b = dones_all_within t v.past (v.made + 1) n v.joined above own_log.joined in
+          let a = dones_within t v.past (v.made + 1) 0 n v.receipts.own above own_log.receipts.own.0 in
+          let b = dones_all_within t v.past (v.made + 1) n v.receipts.joined above own_log.receipts.joined in
           let c = dones_all n in let d = r.numbers n in let e = last_number n (omega (arith, above)) in absurd (omega (arith, a, b, c, d, e))
 
-  pub whole : v.spent ≡ false → IsWhole v
+  pub whole : is_spent v.role ≡ false → IsWhole v
   whole stands = record {
-    numbers = λ n. sym (dones_all n) ∙ (r.numbers n ∙ ap (λ k. numbered k n) (sym seen_all));
-    own = subst (λ s. IsRecord s v.past (v.made + 1) v.own) (sym (own_log.terms stands)) own_log.own;
-    joined = subst (λ s. AllByRecursion (IsRecord s v.past (v.made + 1)) v.joined) (sym (own_log.terms stands)) own_log.joined;
+    numbers = λ n. sym (dones_all n) ∙ (r.numbers n ∙ ap (λ k. number_of k n) (sym seen_all));
+    receipts = subst (λ s. AreRecords s v.past (v.made + 1) v.receipts) (sym (own_log.terms stands)) own_log.receipts;
   }
 
-pub settles_loads : (t : Terms) (slots id : ℕ) (me : Me (Unit {0}) Log) → Allows (λ (s : State (Unit {0}) Log). Table t s.words s.views) slots id me 0 (λ n. n) (settles (step slots 0 0 0 none) me)
+pub settles_loads : (t : Terms) (slots id : ℕ) (me : Me (Unit {0}) Log) → Allows (λ (s : State (Unit {0}) Log). TableInvariant t s.words s.views) slots id me 0 (λ n. n) (confirms (step slots 0 0 0 none) me)
 settles_loads t slots id me s r deep at small =
     let same_views : set s.views id me.0 ≡ s.views = set_again s.views id me.0 at in
     let same_words : set s.words 0 (get_or s.words 0 0) ≡ s.words = set_first s.words in (
@@ -118,7 +122,7 @@ settles_loads t slots id me s r deep at small =
       keeps,
       tt,
       rw (same_words, same_views) r,
-      (refl, (let a = part_of_total (λ u. u.allowance) s.views id me.0 at in let o = r.callers.room in omega (arith, a, o)), λ stands alone. whole t s.words s.views r.history r.callers id me.0 at alone stands),
+      (refl, (let a = part_of_total (λ u. u.budget.allowance) s.views id me.0 at in let o = r.callers.room in omega (arith, a, o)), λ stands alone. whole t s.words s.views r.history r.callers id me.0 at alone stands),
     )
 
 first_word : (words : List ℕ) (n : ℕ) → get_elem? words 0 ≡ some n → get_or words 0 0 ≡ n
@@ -126,7 +130,7 @@ first_word [] n e = absurd (some-ne-none n (sym e))
 first_word (x ∷ words) n e = some-injective x n e
 
 -- what is found where one that is alone takes the words apart
-pub closes : (t : Terms) (words : List ℕ) (slots : List (Unit {0})) (id : ℕ) (v : Log) (n : ℕ) → v.spent ≡ false → IsAlone v.kin → Final (Seen (λ (s : State (Unit {0}) Log). Table t s.words s.views) id v) words slots → get_elem? words 0 ≡ some n
+pub closes : (t : Terms) (words : List ℕ) (slots : List (Unit {0})) (id : ℕ) (v : Log) (n : ℕ) → is_spent v.role ≡ false → IsAlone v.lineage → Final (Seen (λ (s : State (Unit {0}) Log). TableInvariant t s.words s.views) id v) words slots → get_elem? words 0 ≡ some n
     → (n % 4294967296 ≡ length v.past) × IsWhole v
 closes t words slots id v n stands alone final found =
     let s = final.0 in let r = final.1.0.callers in let history = final.1.0.history in

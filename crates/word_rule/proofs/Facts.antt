@@ -4,10 +4,10 @@ use mathlib.Core.Option.{some, some-injective, some-ne-none}
 use native.Mathlib.Decide.{ℕ_discrete}
 use lib.ListN.{get_elem?}
 use Rattle.atomic_table.proofs.Lists.{at_set, at_snoc}
-use Rattle.word_rule.specs.declared.views.Log.{Log}
-use Rattle.word_rule.specs.declared.views.Terms.{Terms}
+use Rattle.word_rule.specs.declared.log.Log.{Log}
+use Rattle.word_rule.specs.declared.log.Terms.{Terms}
 use Rattle.word_rule.specs.Places.{LOADER, node_counters, copy_at, copy_place, copy_words}
-use Rattle.word_rule.specs.Rule.{total}
+use Rattle.word_rule.specs.Callers.{total}
 
 -- one log changes
 pub total_set : (f : Log → ℕ) (views : List Log) (id : ℕ) (v w : Log) → get_elem? views id ≡ some v → total f (set views id w) + f v ≡ total f views + f w

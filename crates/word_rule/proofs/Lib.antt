@@ -1,10 +1,10 @@
 pub mod Facts
 pub mod Names
-pub mod Step
-pub mod Whole
-pub mod WholeSeats
+pub mod LoaderCallers
+pub mod LoaderFrame
+pub mod SeatFrame
 pub mod Loader
-pub mod Comings
+pub mod Joins
 pub mod Alone
-pub mod Begins
-pub mod WholeBegins
+pub mod InitialCallers
+pub mod InitialTable

@@ -10,23 +10,20 @@ use lib.ListN.{get_elem?}
 use prog.Atomic.{either}
 use Rattle.atomic_table.specs.Table.{State, Me, step, Act, keeps, stepped, carried_after, Valid, Allows}
 use Rattle.atomic_table.proofs.Lists.{set_here, set_else}
-use Rattle.word_rule.specs.declared.views.Log.{Log}
-use Rattle.word_rule.specs.declared.views.Terms.{Terms}
-use Rattle.word_rule.specs.declared.views.LoaderHolding.{LoaderHolding}
+use Rattle.word_rule.specs.declared.log.Log.{Log}
+use Rattle.word_rule.specs.declared.log.Terms.{Terms}
+use Rattle.word_rule.specs.declared.log.LoaderHolding.{LoaderHolding}
 use Rattle.word_rule.specs.Places.{copy_at, spare}
-use Rattle.word_rule.specs.Logs.{load_of, after_load, after_loader_lock, after_mark, after_loader_release, after_loader_release_same}
-use Rattle.word_rule.specs.Rule.{Callers, AtLoader, LoaderLock, IsLockedAt}
-use Rattle.word_rule.specs.Tells.{looks, locks, marks, releases, releases_same}
+use Rattle.word_rule.specs.Logs.{load_of, after_load, after_loader_lock, after_write, after_loader_release, after_loader_release_same}
+use Rattle.word_rule.specs.Callers.{CallersHold, AtLoader, LoaderLock, IsLockedAt}
+use Rattle.word_rule.specs.Plays.{Seated, looks, locks, marks, releases, releases_same}
 use Rattle.word_rule.proofs.Facts.{copy_at_set, after_step, within}
-use Rattle.word_rule.proofs.Step.{IsLike, loader_step}
-use Rattle.word_rule.proofs.Whole.{IsSame, nodes_step, active_stays, looks_step}
-use Rattle.word_rule.specs.Table.{Table}
+use Rattle.word_rule.proofs.LoaderCallers.{IsLike, loader_step}
+use Rattle.word_rule.proofs.LoaderFrame.{IsSame, nodes_step, active_stays, observations_step}
+use Rattle.word_rule.specs.TableInvariant.{TableInvariant}
 
 abbrev Sit : Type 0
 Sit = State (Unit {0}) Log
-
-abbrev Seated : Type 0
-Seated = Me (Unit {0}) Log
 
 -- a log's part in the lock stays where the words that it names do
 part_stays : (t : Terms) (words : List ℕ) (x : ℕ) (holder : Option ℕ) (j : ℕ) (part : Option LoaderHolding) → 2 < length words
@@ -55,7 +52,7 @@ lock_stays t words views x id v w (Some j) at same free room h = ⊎_elim
 
 module _ (t : Terms) (slots id : ℕ) (me : Seated) where
   abbrev Holds : Sit → Type 0
-  Holds s = Table t s.words s.views
+  Holds s = TableInvariant t s.words s.views
 
   abbrev mine_at : Sit → Type 0
   mine_at s = get_elem? s.views id ≡ some me.0
@@ -64,18 +61,18 @@ module _ (t : Terms) (slots id : ℕ) (me : Seated) where
   room_in s r = omega (arith, r.callers.wide)
 
   -- what is said of the rest stays
-  steps : (s : Sit) (r : Holds s) (w : Log) (x : ℕ) → mine_at s → IsSame me.0 w → Callers t (set s.words 2 x) (set s.views id w) r.history → Table t (set s.words 2 x) (set s.views id w)
+  steps : (s : Sit) (r : Holds s) (w : Log) (x : ℕ) → mine_at s → IsSame me.0 w → CallersHold t (set s.words 2 x) (set s.views id w) r.history → TableInvariant t (set s.words 2 x) (set s.views id w)
   steps s r w x at same callers = record {
     history = r.history;
     callers = callers;
     shadow = r.shadow;
     nodes = nodes_step t s.words s.views r.history r.shadow x id me.0 w at same r.nodes;
     active = active_stays t s.words x r.history r.active;
-    looks = looks_step t s.words s.views r.history r.shadow x id me.0 w at same r.looks;
+    observations = observations_step t s.words s.views r.history r.shadow x id me.0 w at same r.observations;
   }
 
   -- a step that leaves the word and the holder
-  idle : (s : Sit) (r : Holds s) (w : Log) → mine_at s → IsLike me.0 w → IsSame me.0 w → w.loader ≡ me.0.loader → w.credit ≡ me.0.credit → Table t (set s.words 2 (get_or s.words 2 0)) (set s.views id w)
+  idle : (s : Sit) (r : Holds s) (w : Log) → mine_at s → IsLike me.0 w → IsSame me.0 w → w.loader ≡ me.0.loader → w.budget.credit ≡ me.0.budget.credit → TableInvariant t (set s.words 2 (get_or s.words 2 0)) (set s.views id w)
   idle s r w at like as_was same credit = steps s r w (get_or s.words 2 0) at as_was (loader_step t s.words s.views r.history r.callers id me.0 w at like (get_or s.words 2 0) r.callers.holder (omega (arith, credit))
       (lock_stays t s.words s.views (get_or s.words 2 0) id me.0 w r.callers.holder at same (λ e. subst (LoaderLock t s.words s.views) e r.callers.loader) (room_in s r) r.callers.loader)
       (after_step (λ j u. AtLoader t (set s.words 2 (get_or s.words 2 0)) r.callers.holder j u.loader) s.views id w
@@ -83,7 +80,7 @@ module _ (t : Terms) (slots id : ℕ) (me : Seated) where
       (λ j u _ e. part_stays t s.words (get_or s.words 2 0) r.callers.holder j u.loader (room_in s r) (λ _ h. h) (r.callers.at_loader j u e))))
 
   as_it_was : (v : Log) → IsLike v v
-  as_it_was v = record { terms = refl; spent = refl; past = refl; own = refl; joined = refl; allowance = refl; made = refl; kin = refl }
+  as_it_was v = record { terms = refl; role = refl; past = refl; receipts = refl; allowance = refl; made = refl; lineage = refl }
 
   pub loads_loader : Allows Holds slots id me 2 (λ n. n) (looks (step slots 2 0 0 none) me)
   loads_loader s r deep at small =
@@ -91,7 +88,7 @@ module _ (t : Terms) (slots id : ℕ) (me : Seated) where
         w,
         keeps,
         tt,
-        idle s r w at (record { terms = refl; spent = refl; past = refl; own = refl; joined = refl; allowance = refl; made = refl; kin = refl }) (record { held = refl; out = refl; head = refl; sights = refl; copies = refl; own = refl; past = refl; loads = inr (load_of me.0 2 (get_or s.words 2 0), (refl, refl)) }) refl refl,
+        idle s r w at (record { terms = refl; role = refl; past = refl; receipts = refl; allowance = refl; made = refl; lineage = refl }) (record { holdings = refl; sights = refl; own = refl; past = refl; loads = inr (load_of me.0 2 (get_or s.words 2 0), (refl, refl)) }) refl refl,
         refl,
       )
 
@@ -138,14 +135,14 @@ module _ (t : Terms) (slots id : ℕ) (me : Seated) where
         w,
         keeps,
         tt,
-        steps s r w (seen + 1) at (record { held = refl; out = refl; head = refl; sights = refl; copies = refl; own = refl; past = refl; loads = inl refl }) (loader_step t s.words s.views r.history r.callers id me.0 w at (record { terms = refl; spent = refl; past = refl; own = refl; joined = refl; allowance = refl; made = refl; kin = refl }) (seen + 1) (Some id) (omega (arith, hit, four))
+        steps s r w (seen + 1) at (record { holdings = refl; sights = refl; own = refl; past = refl; loads = inl refl }) (loader_step t s.words s.views r.history r.callers id me.0 w at (record { terms = refl; role = refl; past = refl; receipts = refl; allowance = refl; made = refl; lineage = refl }) (seen + 1) (Some id) (omega (arith, hit, four))
             (w, record { version = seen; words = copy; stored = false }, (set_here s.views id w (within s.views id me.0 at), refl))
             (after_step (λ j u. AtLoader t (set s.words 2 (seen + 1)) (Some id) j u.loader) s.views id w
             (refl, ((four, inl here), sym (copy_at_set t s.words (seen + 1) (spare (get_or s.words 0 0))) ∙ ap (λ k. copy_at t (set s.words 2 (seen + 1)) (spare k)) (sym clock)))
             (λ j u _ e. nothing (set s.words 2 (seen + 1)) (Some id) j u.loader (no_part s.words r.callers.holder j u.loader (λ h. none-some j (sym free ∙ h)) (r.callers.at_loader j u e))))),
         (four, omega (arith, bound, hit), (copy, refl)),
       ))
-      (λ miss. (after_load 2 n me.0, keeps, tt, idle s r (after_load 2 n me.0) at (record { terms = refl; spent = refl; past = refl; own = refl; joined = refl; allowance = refl; made = refl; kin = refl }) (record { held = refl; out = refl; head = refl; sights = refl; copies = refl; own = refl; past = refl; loads = inr (load_of me.0 2 (get_or s.words 2 0), (refl, refl)) }) refl refl, refl))
+      (λ miss. (after_load 2 n me.0, keeps, tt, idle s r (after_load 2 n me.0) at (record { terms = refl; role = refl; past = refl; receipts = refl; allowance = refl; made = refl; lineage = refl }) (record { holdings = refl; sights = refl; own = refl; past = refl; loads = inr (load_of me.0 2 (get_or s.words 2 0), (refl, refl)) }) refl refl, refl))
 
   -- the low two bits of an odd word set
   abbrev marked : ℕ → ℕ
@@ -155,36 +152,36 @@ module _ (t : Terms) (slots id : ℕ) (me : Seated) where
   marks_loader seen odd s r deep at small =
       let n : ℕ = get_or s.words 2 0 in
       by_test n seen (λ b. (w : Log) × (a : Act (Unit {0})) × Valid s.homes me.1 a × Holds (stepped s 2 (either b (marked seen) n) id me.1 w a) × MatchBool b
-      (◌≡◌ {A = Seated} (w, carried_after me.1 a) (after_mark me.0, me.1)) (◌≡◌ {A = Seated} (w, carried_after me.1 a) (after_load 2 n me.0, me.1)))
+      (◌≡◌ {A = Seated} (w, carried_after me.1 a) (after_write me.0, me.1)) (◌≡◌ {A = Seated} (w, carried_after me.1 a) (after_load 2 n me.0, me.1)))
       (λ hit.
-      let w : Log = after_mark me.0 in
+      let w : Log = after_write me.0 in
       let keeps_lock : (version : ℕ) → IsLockedAt version (get_or s.words 2 0) → IsLockedAt version (marked seen) = λ version h. (h.0, inr (⊎_elim (λ (e : get_or s.words 2 0 ≡ version + 1). let z = h.0 in omega (arith, e, z, hit)) (λ (e : get_or s.words 2 0 ≡ version + 3). let z = h.0 in omega (arith, e, z, hit)) h.1)) in (
         w,
         keeps,
         tt,
-        steps s r w (marked seen) at (record { held = refl; out = refl; head = refl; sights = refl; copies = refl; own = refl; past = refl; loads = inl refl }) (loader_step t s.words s.views r.history r.callers id me.0 w at (record { terms = refl; spent = refl; past = refl; own = refl; joined = refl; allowance = refl; made = refl; kin = refl }) (marked seen) r.callers.holder (omega (arith, hit))
+        steps s r w (marked seen) at (record { holdings = refl; sights = refl; own = refl; past = refl; loads = inl refl }) (loader_step t s.words s.views r.history r.callers id me.0 w at (record { terms = refl; role = refl; past = refl; receipts = refl; allowance = refl; made = refl; lineage = refl }) (marked seen) r.callers.holder (omega (arith, hit))
             (lock_stays t s.words s.views (marked seen) id me.0 w r.callers.holder at refl (λ e. let z : get_or s.words 2 0 % 4 ≡ 0 = subst (LoaderLock t s.words s.views) e r.callers.loader in absurd (omega (arith, z, odd, hit))) (room_in s r) r.callers.loader)
             (after_step (λ j u. AtLoader t (set s.words 2 (marked seen)) r.callers.holder j u.loader) s.views id w
             (part_stays t s.words (marked seen) r.callers.holder id me.0.loader (room_in s r) keeps_lock (r.callers.at_loader id me.0 at))
             (λ j u _ e. part_stays t s.words (marked seen) r.callers.holder j u.loader (room_in s r) keeps_lock (r.callers.at_loader j u e)))),
         refl,
       ))
-      (λ miss. (after_load 2 n me.0, keeps, tt, idle s r (after_load 2 n me.0) at (record { terms = refl; spent = refl; past = refl; own = refl; joined = refl; allowance = refl; made = refl; kin = refl }) (record { held = refl; out = refl; head = refl; sights = refl; copies = refl; own = refl; past = refl; loads = inr (load_of me.0 2 (get_or s.words 2 0), (refl, refl)) }) refl refl, refl))
+      (λ miss. (after_load 2 n me.0, keeps, tt, idle s r (after_load 2 n me.0) at (record { terms = refl; role = refl; past = refl; receipts = refl; allowance = refl; made = refl; lineage = refl }) (record { holdings = refl; sights = refl; own = refl; past = refl; loads = inr (load_of me.0 2 (get_or s.words 2 0), (refl, refl)) }) refl refl, refl))
 
   -- a log that holds the lock: the word is its version, locked, and no other log holds it
   mine_held : (s : Sit) (r : Holds s) (h : LoaderHolding) → mine_at s → me.0.loader ≡ Some h → (r.callers.holder ≡ Some id) × IsLockedAt h.version (get_or s.words 2 0)
   mine_held s r h at is = let a : AtLoader t s.words r.callers.holder id (Some h) = subst (AtLoader t s.words r.callers.holder id) is (r.callers.at_loader id me.0 at) in (a.0, a.1.0)
 
   -- the lock is let go with a word that is a multiple of 4
-  lets_go : (s : Sit) (r : Holds s) (h : LoaderHolding) (w : Log) (x : ℕ) → mine_at s → me.0.loader ≡ Some h → IsLike me.0 w → IsSame me.0 w → w.loader ≡ None → x % 4 ≡ 0 → x / 4 + w.credit ≤ get_or s.words 2 0 / 4 + me.0.credit
-      → Table t (set s.words 2 x) (set s.views id w)
+  lets_go : (s : Sit) (r : Holds s) (h : LoaderHolding) (w : Log) (x : ℕ) → mine_at s → me.0.loader ≡ Some h → IsLike me.0 w → IsSame me.0 w → w.loader ≡ None → x % 4 ≡ 0 → x / 4 + w.budget.credit ≤ get_or s.words 2 0 / 4 + me.0.budget.credit
+      → TableInvariant t (set s.words 2 x) (set s.views id w)
   lets_go s r h w x at is like as_was gone four fewer =
       let mine = mine_held s r h at is in
       steps s r w x at as_was (loader_step t s.words s.views r.history r.callers id me.0 w at like x None fewer (rw (get_or-set_same s.words 2 x 0 (room_in s r)) four)
       (after_step (λ j u. AtLoader t (set s.words 2 x) None j u.loader) s.views id w (nothing (set s.words 2 x) None id w.loader gone)
       (λ j u other e. nothing (set s.words 2 x) None j u.loader (no_part s.words r.callers.holder j u.loader (λ held. other (same_Some _ _ (sym held ∙ mine.0))) (r.callers.at_loader j u e)))))
 
-  pub releases_loader : (h : LoaderHolding) → me.0.loader ≡ Some h → 0 < me.0.credit → Allows Holds slots id me 2 (λ _. h.version + 4) (releases (step slots 2 (h.version + 4) 0 none) me)
+  pub releases_loader : (h : LoaderHolding) → me.0.loader ≡ Some h → 0 < me.0.budget.credit → Allows Holds slots id me 2 (λ _. h.version + 4) (releases (step slots 2 (h.version + 4) 0 none) me)
   releases_loader h is some_credit s r deep at small =
       let w : Log = after_loader_release me.0 in
       let lock = (mine_held s r h at is).1 in
@@ -192,7 +189,7 @@ module _ (t : Terms) (slots id : ℕ) (me : Seated) where
         w,
         keeps,
         tt,
-        lets_go s r h w (h.version + 4) at is (record { terms = refl; spent = refl; past = refl; own = refl; joined = refl; allowance = refl; made = refl; kin = refl }) (record { held = refl; out = refl; head = refl; sights = refl; copies = refl; own = refl; past = refl; loads = inl refl }) refl (omega (arith, four))
+        lets_go s r h w (h.version + 4) at is (record { terms = refl; role = refl; past = refl; receipts = refl; allowance = refl; made = refl; lineage = refl }) (record { holdings = refl; sights = refl; own = refl; past = refl; loads = inl refl }) refl (omega (arith, four))
             (⊎_elim (λ (e : get_or s.words 2 0 ≡ h.version + 1). omega (arith, e, four, some_credit)) (λ (e : get_or s.words 2 0 ≡ h.version + 3). omega (arith, e, four, some_credit)) lock.1),
         (refl, subst (λ part. IfSome part (λ g. IsLockedAt g.version (get_or s.words 2 0))) (sym is) lock),
       )
@@ -205,7 +202,7 @@ module _ (t : Terms) (slots id : ℕ) (me : Seated) where
         w,
         keeps,
         tt,
-        lets_go s r h w h.version at is (record { terms = refl; spent = refl; past = refl; own = refl; joined = refl; allowance = refl; made = refl; kin = refl }) (record { held = refl; out = refl; head = refl; sights = refl; copies = refl; own = refl; past = refl; loads = inl refl }) refl four
+        lets_go s r h w h.version at is (record { terms = refl; role = refl; past = refl; receipts = refl; allowance = refl; made = refl; lineage = refl }) (record { holdings = refl; sights = refl; own = refl; past = refl; loads = inl refl }) refl four
             (⊎_elim (λ (e : get_or s.words 2 0 ≡ h.version + 1). omega (arith, e, four)) (λ (e : get_or s.words 2 0 ≡ h.version + 3). omega (arith, e, four)) lock.1),
         (refl, subst (λ part. IfSome part (λ g. IsLockedAt g.version (get_or s.words 2 0))) (sym is) lock),
       )
@@ -227,7 +224,7 @@ module _ (t : Terms) (slots id : ℕ) (me : Seated) where
   some_of None h = absurd (true≢false (sym h))
   some_of (Some a) h = (a, refl)
 
-  pub releases_kept : (version : ℕ) → IsSome me.0.loader → IfSome me.0.loader (λ h. (h.version ≡ version) × (h.version < 2 ^ 63)) → 0 < me.0.credit
+  pub releases_kept : (version : ℕ) → IsSome me.0.loader → IfSome me.0.loader (λ h. (h.version ≡ version) × (h.version < 2 ^ 63)) → 0 < me.0.budget.credit
       → Allows Holds slots id me 2 (λ _. version + 4) (releases (step slots 2 (version + 4) 0 none) me)
   releases_kept version held kept some_credit =
       let h = some_of me.0.loader held in let is = subst (λ part. IfSome part (λ g. (g.version ≡ version) × (g.version < 2 ^ 63))) h.1 kept in

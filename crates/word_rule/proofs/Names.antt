@@ -1,9 +1,11 @@
 -- Names, and how often they stand in lists.
 use Rattle.std.proofs.Common.{◌≡◌, ◌≢◌, ℕ, zero, suc, ◌+◌, ◌<◌, ◌≤◌, ◌⊎◌, List, [], ◌∷◌, ◌++◌, ◌||◌, length, sym, refl, ap, ◌∙◌, inl, inr, ⊎_elim, arith, Bool, true, false, true≢false, eq-eqb, append_assoc, append-nil, take, drop, get_or, remove, drop_of_length-le, take_all}
 use Rattle.std.specs.Cmp.Lexicographic.{same_text}
-use Rattle.word_rule.specs.declared.views.Kinship.{Kinship}
-use Rattle.word_rule.specs.Names.{is_same, once, times, is_in, without, come_back, go_out, all_come_back, all_go_out, child_name, newborn, after_birth, after_kin}
-use Rattle.word_rule.specs.Rule.{KinHolds}
+use Rattle.word_rule.specs.declared.log.Lineage.{Lineage}
+use Rattle.std.proofs.lemmas.List.Sums.{sum_by-cons, sum_by-append}
+use Rattle.tree_shape.specs.Numbers.{once}
+use Rattle.word_rule.specs.Names.{is_same, name_count, has_name, without_name, gather_name, give_name, gather_names, give_names, child_name, new_lineage, after_fork, joined_lineage}
+use Rattle.word_rule.specs.Callers.{LineageHolds}
 
 pub same_refl : (x : List ℕ) → is_same x x ≡ true
 same_refl [] = refl
@@ -30,70 +32,72 @@ pub once_small : (b : Bool) → once b ≤ 1
 once_small true = omega arith
 once_small false = omega arith
 
-pub times_append : (x : List ℕ) (xs ys : List (List ℕ)) → times x (xs ++ ys) ≡ times x xs + times x ys
-times_append x [] ys = omega arith
-times_append x (y ∷ xs) ys = let h = times_append x xs ys in omega (arith, h)
+pub count_cons : (x y : List ℕ) (names : List (List ℕ)) → name_count x (y ∷ names) ≡ once (is_same y x) + name_count x names
+count_cons x y names = sum_by-cons (λ z. once (is_same z x)) y names
+
+pub count_append : (x : List ℕ) (xs ys : List (List ℕ)) → name_count x (xs ++ ys) ≡ name_count x xs + name_count x ys
+count_append x xs ys = sum_by-append (λ z. once (is_same z x)) xs ys
 
 -- a list that has a name once more than nought has it
-pub without_times : (y x : List ℕ) (xs : List (List ℕ)) → is_in x xs ≡ true → times y (without x xs) + once (is_same x y) ≡ times y xs
-without_times y x [] h = absurd (true≢false (sym h))
-without_times y x (z ∷ xs) h = ⊎_elim
-    (λ (e : z ≡ x). let t = same_refl x in rw (e, t) (omega arith))
-    (λ (e : is_same z x ≡ false). let i = without_times y x xs (rw e at h) in rw e (omega (arith, i)))
+pub without_count : (y x : List ℕ) (xs : List (List ℕ)) → has_name x xs ≡ true → name_count y (without_name x xs) + once (is_same x y) ≡ name_count y xs
+without_count y x [] h = absurd (true≢false (sym h))
+without_count y x (z ∷ xs) h = ⊎_elim
+    (λ (e : z ≡ x). let t = same_refl x in let c = count_cons y x xs in rw (e, t) (omega (arith, c)))
+    (λ (e : is_same z x ≡ false). let i = without_count y x xs (rw e at h) in let c = count_cons y z xs in let d = count_cons y z (without_name x xs) in rw e (omega (arith, i, c, d)))
     (same_or z x)
 
 -- what comes back or goes out counts for its list, or against the other
-pub come_back_times : (y x : List ℕ) (p : List (List ℕ) × List (List ℕ)) → times y (come_back x p).1 + times y p.0 ≡ times y (come_back x p).0 + times y p.1 + once (is_same x y)
-come_back_times y x p = go (is_in x p.0) refl
+pub gather_count : (y x : List ℕ) (p : List (List ℕ) × List (List ℕ)) → name_count y (gather_name x p).1 + name_count y p.0 ≡ name_count y (gather_name x p).0 + name_count y p.1 + once (is_same x y)
+gather_count y x p = go (has_name x p.0) refl
   where
-    go : (b : Bool) → is_in x p.0 ≡ b → times y (come_back x p).1 + times y p.0 ≡ times y (come_back x p).0 + times y p.1 + once (is_same x y)
-    go true e = let w = without_times y x p.0 e in rw e (omega (arith, w))
-    go false e = let a = times_append y p.1 (x ∷ []) in rw e (omega (arith, a))
+    go : (b : Bool) → has_name x p.0 ≡ b → name_count y (gather_name x p).1 + name_count y p.0 ≡ name_count y (gather_name x p).0 + name_count y p.1 + once (is_same x y)
+    go true e = let w = without_count y x p.0 e in rw e (omega (arith, w))
+    go false e = let a = count_append y p.1 (x ∷ []) in rw e (omega (arith, a))
 
-pub go_out_times : (y x : List ℕ) (p : List (List ℕ) × List (List ℕ)) → times y (go_out x p).1 + times y p.0 + once (is_same x y) ≡ times y (go_out x p).0 + times y p.1
-go_out_times y x p = go (is_in x p.1) refl
+pub give_count : (y x : List ℕ) (p : List (List ℕ) × List (List ℕ)) → name_count y (give_name x p).1 + name_count y p.0 + once (is_same x y) ≡ name_count y (give_name x p).0 + name_count y p.1
+give_count y x p = go (has_name x p.1) refl
   where
-    go : (b : Bool) → is_in x p.1 ≡ b → times y (go_out x p).1 + times y p.0 + once (is_same x y) ≡ times y (go_out x p).0 + times y p.1
-    go true e = let w = without_times y x p.1 e in rw e (omega (arith, w))
-    go false e = let a = times_append y p.0 (x ∷ []) in rw e (omega (arith, a))
+    go : (b : Bool) → has_name x p.1 ≡ b → name_count y (give_name x p).1 + name_count y p.0 + once (is_same x y) ≡ name_count y (give_name x p).0 + name_count y p.1
+    go true e = let w = without_count y x p.1 e in rw e (omega (arith, w))
+    go false e = let a = count_append y p.0 (x ∷ []) in rw e (omega (arith, a))
 
-pub all_come_back_times : (y : List ℕ) (xs : List (List ℕ)) (p : List (List ℕ) × List (List ℕ)) → times y (all_come_back xs p).1 + times y p.0 ≡ times y (all_come_back xs p).0 + times y p.1 + times y xs
-all_come_back_times y [] p = omega arith
-all_come_back_times y (x ∷ xs) p = let i = all_come_back_times y xs p in let s = come_back_times y x (all_come_back xs p) in omega (arith, i, s)
+pub gather_all_count : (y : List ℕ) (xs : List (List ℕ)) (p : List (List ℕ) × List (List ℕ)) → name_count y (gather_names xs p).1 + name_count y p.0 ≡ name_count y (gather_names xs p).0 + name_count y p.1 + name_count y xs
+gather_all_count y [] p = omega arith
+gather_all_count y (x ∷ xs) p = let c = count_cons y x xs in let i = gather_all_count y xs p in let s = gather_count y x (gather_names xs p) in omega (arith, c, i, s)
 
-pub all_go_out_times : (y : List ℕ) (xs : List (List ℕ)) (p : List (List ℕ) × List (List ℕ)) → times y (all_go_out xs p).1 + times y p.0 + times y xs ≡ times y (all_go_out xs p).0 + times y p.1
-all_go_out_times y [] p = omega arith
-all_go_out_times y (x ∷ xs) p = let i = all_go_out_times y xs p in let s = go_out_times y x (all_go_out xs p) in omega (arith, i, s)
+pub give_all_count : (y : List ℕ) (xs : List (List ℕ)) (p : List (List ℕ) × List (List ℕ)) → name_count y (give_names xs p).1 + name_count y p.0 + name_count y xs ≡ name_count y (give_names xs p).0 + name_count y p.1
+give_all_count y [] p = omega arith
+give_all_count y (x ∷ xs) p = let c = count_cons y x xs in let i = give_all_count y xs p in let s = give_count y x (give_names xs p) in omega (arith, c, i, s)
 
 -- the first caller, and one that was just made
-pub newborn_holds : (x : List ℕ) → KinHolds (newborn x)
-newborn_holds x = record { balanced = λ y. omega arith; given_by = λ y h. absurd (omega arith) }
+pub new_lineage_holds : (x : List ℕ) → LineageHolds (new_lineage x)
+new_lineage_holds x = record { balanced = λ y. omega arith; given_by = λ y h. absurd (omega arith) }
 
 -- one that made another
-pub birth_holds : (k : Kinship) → 0 < times k.name k.members → KinHolds k → KinHolds (after_birth k)
-birth_holds k named h = record {
-  balanced = λ y. let a = times_append y k.missing (child_name k ∷ []) in let b = times_append y k.given (child_name k ∷ []) in let o = h.balanced y in omega (arith, a, b, o);
-  given_by = λ y more. let b = times_append y k.given (child_name k ∷ []) in ⊎_elim (λ (e : child_name k ≡ y). (k.name, k.born, (sym e, named))) (λ (e : is_same (child_name k) y ≡ false). h.given_by y (let z : once (is_same (child_name k) y) ≡ 0 = rw e refl in omega (arith, b, z, more))) (same_or (child_name k) y);
+pub fork_holds : (k : Lineage) → 0 < name_count k.name k.gathered → LineageHolds k → LineageHolds (after_fork k)
+fork_holds k named h = record {
+  balanced = λ y. let a = count_append y k.missing (child_name k ∷ []) in let b = count_append y k.given (child_name k ∷ []) in let o = h.balanced y in omega (arith, a, b, o);
+  given_by = λ y more. let b = count_append y k.given (child_name k ∷ []) in ⊎_elim (λ (e : child_name k ≡ y). (k.name, k.forks, (sym e, named))) (λ (e : is_same (child_name k) y ≡ false). h.given_by y (let z : once (is_same (child_name k) y) ≡ 0 = rw e refl in omega (arith, b, z, more))) (same_or (child_name k) y);
 }
 
 -- one into which another was joined
-pub kin_holds : (k l : Kinship) → KinHolds k → KinHolds l → KinHolds (after_kin k l)
-kin_holds k l h i = record {
-  balanced = λ y. let a = times_append y k.members l.members in let b = times_append y k.given l.given in let c = all_come_back_times y l.foreign (k.missing, k.foreign) in let d = all_go_out_times y l.missing (all_come_back l.foreign (k.missing, k.foreign)) in let o = h.balanced y in let p = i.balanced y in omega (arith, a, b, c, d, o, p);
-  given_by = λ y more. let b = times_append y k.given l.given in pick y more b (times y k.given) refl;
+pub join_holds : (k l : Lineage) → LineageHolds k → LineageHolds l → LineageHolds (joined_lineage k l)
+join_holds k l h i = record {
+  balanced = λ y. let a = count_append y k.gathered l.gathered in let b = count_append y k.given l.given in let c = gather_all_count y l.unmatched (k.missing, k.unmatched) in let d = give_all_count y l.missing (gather_names l.unmatched (k.missing, k.unmatched)) in let o = h.balanced y in let p = i.balanced y in omega (arith, a, b, c, d, o, p);
+  given_by = λ y more. let b = count_append y k.given l.given in pick y more b (name_count y k.given) refl;
 }
   where
-    more_members : (p : List ℕ) → times p (k.members ++ l.members) ≡ times p k.members + times p l.members
-    more_members p = times_append p k.members l.members
+    more_members : (p : List ℕ) → name_count p (k.gathered ++ l.gathered) ≡ name_count p k.gathered + name_count p l.gathered
+    more_members p = count_append p k.gathered l.gathered
 
-    pick : (y : List ℕ) → 0 < times y (k.given ++ l.given) → times y (k.given ++ l.given) ≡ times y k.given + times y l.given → (n : ℕ) → times y k.given ≡ n → (p : List ℕ) × (m : ℕ) × ((y ≡ p ++ m ∷ []) × (0 < times p (k.members ++ l.members)))
+    pick : (y : List ℕ) → 0 < name_count y (k.given ++ l.given) → name_count y (k.given ++ l.given) ≡ name_count y k.given + name_count y l.given → (n : ℕ) → name_count y k.given ≡ n → (p : List ℕ) × (m : ℕ) × ((y ≡ p ++ m ∷ []) × (0 < name_count p (k.gathered ++ l.gathered)))
     pick y more sum zero e = let g = i.given_by y (omega (arith, sum, e, more)) in (g.0, g.1, (g.2.0, (let q = more_members g.0 in let z = g.2.1 in omega (arith, q, z))))
     pick y more sum (suc n) e = let g = h.given_by y (omega (arith, e)) in (g.0, g.1, (g.2.0, (let q = more_members g.0 in let z = g.2.1 in omega (arith, q, z))))
 
 -- Looking through a list from its front: before the place i there was no such name.
 pub record IsPassed (x : List ℕ) (names : List (List ℕ)) (i : ℕ) : Type 0 where
-  pub found : is_in x names ≡ is_in x (drop i names)
-  pub left : without x names ≡ take i names ++ without x (drop i names)
+  pub found : has_name x names ≡ has_name x (drop i names)
+  pub left : without_name x names ≡ take i names ++ without_name x (drop i names)
 
 drop_here : (names : List (List ℕ)) (i : ℕ) (y : List ℕ) → i < length names → y ≡ get_or names i y → drop i names ≡ y ∷ drop (suc i) names
 drop_here [] i y h e = absurd (omega arith)
@@ -111,72 +115,72 @@ none_passed x names = record { found = refl; left = refl }
 pub passes : (x y : List ℕ) (names : List (List ℕ)) (i : ℕ) → i < length names → y ≡ get_or names i y → is_same y x ≡ false → IsPassed x names i → IsPassed x names (suc i)
 passes x y names i h e other p =
     let d = drop_here names i y h e in record {
-      found = p.found ∙ (ap (is_in x) d ∙ (rw other refl));
-      left = p.left ∙ (ap (λ r. take i names ++ without x r) d ∙ (rw (other, take_here names i y h e) (sym (append_assoc (take i names) (y ∷ []) (without x (drop (suc i) names))))));
+      found = p.found ∙ (ap (has_name x) d ∙ (rw other refl));
+      left = p.left ∙ (ap (λ r. take i names ++ without_name x r) d ∙ (rw (other, take_here names i y h e) (sym (append_assoc (take i names) (y ∷ []) (without_name x (drop (suc i) names))))));
     }
 
-pub finds : (x y : List ℕ) (names : List (List ℕ)) (i : ℕ) → i < length names → y ≡ get_or names i y → is_same y x ≡ true → IsPassed x names i → (true ≡ is_in x names) × (remove names i ≡ without x names)
+pub finds : (x y : List ℕ) (names : List (List ℕ)) (i : ℕ) → i < length names → y ≡ get_or names i y → is_same y x ≡ true → IsPassed x names i → (true ≡ has_name x names) × (remove names i ≡ without_name x names)
 finds x y names i h e same p =
     let d = drop_here names i y h e in
-    (sym (p.found ∙ (ap (is_in x) d ∙ (rw same refl))), sym (p.left ∙ (ap (λ r. take i names ++ without x r) d ∙ (rw same refl))))
+    (sym (p.found ∙ (ap (has_name x) d ∙ (rw same refl))), sym (p.left ∙ (ap (λ r. take i names ++ without_name x r) d ∙ (rw same refl))))
 
-pub passed_all : (x : List ℕ) (names : List (List ℕ)) (i : ℕ) → length names ≤ i → IsPassed x names i → (false ≡ is_in x names) × (names ≡ without x names)
+pub passed_all : (x : List ℕ) (names : List (List ℕ)) (i : ℕ) → length names ≤ i → IsPassed x names i → (false ≡ has_name x names) × (names ≡ without_name x names)
 passed_all x names i h p = let d = drop_of_length-le names h in let t = take_all i names h in
-    (sym (p.found ∙ ap (is_in x) d), sym (p.left ∙ (ap (λ r. take i names ++ without x r) d ∙ (append-nil (take i names) ∙ t))))
+    (sym (p.found ∙ ap (has_name x) d), sym (p.left ∙ (ap (λ r. take i names ++ without_name x r) d ∙ (append-nil (take i names) ∙ t))))
 
 -- the last of a list comes back, or goes out, first
-pub come_back_last : (names : List (List ℕ)) (x : List ℕ) (p : List (List ℕ) × List (List ℕ)) → all_come_back (names ++ x ∷ []) p ≡ all_come_back names (come_back x p)
-come_back_last [] x p = refl
-come_back_last (y ∷ names) x p = ap (come_back y) (come_back_last names x p)
+pub gather_last : (names : List (List ℕ)) (x : List ℕ) (p : List (List ℕ) × List (List ℕ)) → gather_names (names ++ x ∷ []) p ≡ gather_names names (gather_name x p)
+gather_last [] x p = refl
+gather_last (y ∷ names) x p = ap (gather_name y) (gather_last names x p)
 
-pub go_out_last : (names : List (List ℕ)) (x : List ℕ) (p : List (List ℕ) × List (List ℕ)) → all_go_out (names ++ x ∷ []) p ≡ all_go_out names (go_out x p)
-go_out_last [] x p = refl
-go_out_last (y ∷ names) x p = ap (go_out y) (go_out_last names x p)
+pub give_last : (names : List (List ℕ)) (x : List ℕ) (p : List (List ℕ) × List (List ℕ)) → give_names (names ++ x ∷ []) p ≡ give_names names (give_name x p)
+give_last [] x p = refl
+give_last (y ∷ names) x p = ap (give_name y) (give_last names x p)
 
 -- a name is in a list that has it at least once
-pub in_from_times : (x : List ℕ) (names : List (List ℕ)) → 0 < times x names → is_in x names ≡ true
-in_from_times x [] h = absurd (omega (arith, h))
-in_from_times x (y ∷ names) h = go (is_same y x) refl (in_from_times x names)
+pub has_from_count : (x : List ℕ) (names : List (List ℕ)) → 0 < name_count x names → has_name x names ≡ true
+has_from_count x [] h = absurd (omega (arith, h))
+has_from_count x (y ∷ names) h = go (is_same y x) refl (has_from_count x names)
   where
-    go : (b : Bool) → is_same y x ≡ b → (0 < times x names → is_in x names ≡ true) → (is_same y x || is_in x names) ≡ true
+    go : (b : Bool) → is_same y x ≡ b → (0 < name_count x names → has_name x names ≡ true) → (is_same y x || has_name x names) ≡ true
     go true e rest = rw e refl
-    go false e rest = let z : once (is_same y x) ≡ 0 = rw e refl in rw e (rest (omega (arith, h, z)))
+    go false e rest = let c = count_cons x y names in let z : once (is_same y x) ≡ 0 = rw e refl in rw e (rest (omega (arith, h, c, z)))
 
-pub times_from_in : (x : List ℕ) (names : List (List ℕ)) → is_in x names ≡ true → 0 < times x names
-times_from_in x [] h = absurd (true≢false (sym h))
-times_from_in x (y ∷ names) h = go (is_same y x) refl (times_from_in x names)
+pub count_from_has : (x : List ℕ) (names : List (List ℕ)) → has_name x names ≡ true → 0 < name_count x names
+count_from_has x [] h = absurd (true≢false (sym h))
+count_from_has x (y ∷ names) h = go (is_same y x) refl (count_from_has x names)
   where
-    go : (b : Bool) → is_same y x ≡ b → (is_in x names ≡ true → 0 < times x names) → 0 < times x (y ∷ names)
-    go true e rest = let z : once (is_same y x) ≡ 1 = rw e refl in omega (arith, z)
-    go false e rest = let r = rest (rw e at h) in omega (arith, r)
+    go : (b : Bool) → is_same y x ≡ b → (has_name x names ≡ true → 0 < name_count x names) → 0 < name_count x (y ∷ names)
+    go true e rest = let c = count_cons x y names in let z : once (is_same y x) ≡ 1 = rw e refl in omega (arith, c, z)
+    go false e rest = let c = count_cons x y names in let r = rest (rw e at h) in omega (arith, c, r)
 
 -- a list that has no such name stays as it is
-absent : (x : List ℕ) (names : List (List ℕ)) → is_in x names ≡ false → without x names ≡ names
+absent : (x : List ℕ) (names : List (List ℕ)) → has_name x names ≡ false → without_name x names ≡ names
 absent x [] h = refl
 absent x (y ∷ names) h = go (is_same y x) refl (absent x names)
   where
-    go : (b : Bool) → is_same y x ≡ b → (is_in x names ≡ false → without x names ≡ names) → without x (y ∷ names) ≡ y ∷ names
+    go : (b : Bool) → is_same y x ≡ b → (has_name x names ≡ false → without_name x names ≡ names) → without_name x (y ∷ names) ≡ y ∷ names
     go true e rest = absurd (true≢false (rw e at h))
     go false e rest = rw e (ap (λ r. y ∷ r) (rest (rw e at h)))
 
 module _ (x : List ℕ) (all names missing foreign missing' foreign' : List (List ℕ)) (last : all ≡ names ++ x ∷ []) where
   -- one round of the loops that bring names back and send them out
-  pub back_new : is_in x missing ≡ false → missing' ≡ without x missing → foreign' ≡ foreign ++ x ∷ [] → all_come_back names (missing', foreign') ≡ all_come_back all (missing, foreign)
+  pub back_new : has_name x missing ≡ false → missing' ≡ without_name x missing → foreign' ≡ foreign ++ x ∷ [] → gather_names names (missing', foreign') ≡ gather_names all (missing, foreign)
   back_new none m f =
-      let here : come_back x (missing, foreign) ≡ (missing', foreign') = rw none (λ i. (sym (m ∙ absent x missing none) i, sym f i)) in
-      sym (ap (λ a. all_come_back a (missing, foreign)) last ∙ (come_back_last names x (missing, foreign) ∙ ap (all_come_back names) here))
+      let here : gather_name x (missing, foreign) ≡ (missing', foreign') = rw none (λ i. (sym (m ∙ absent x missing none) i, sym f i)) in
+      sym (ap (λ a. gather_names a (missing, foreign)) last ∙ (gather_last names x (missing, foreign) ∙ ap (gather_names names) here))
 
-  pub back_known : is_in x missing ≡ true → missing' ≡ without x missing → foreign' ≡ foreign → all_come_back names (missing', foreign') ≡ all_come_back all (missing, foreign)
+  pub back_known : has_name x missing ≡ true → missing' ≡ without_name x missing → foreign' ≡ foreign → gather_names names (missing', foreign') ≡ gather_names all (missing, foreign)
   back_known here m f =
-      let step : come_back x (missing, foreign) ≡ (missing', foreign') = rw here (λ i. (sym m i, sym f i)) in
-      sym (ap (λ a. all_come_back a (missing, foreign)) last ∙ (come_back_last names x (missing, foreign) ∙ ap (all_come_back names) step))
+      let step : gather_name x (missing, foreign) ≡ (missing', foreign') = rw here (λ i. (sym m i, sym f i)) in
+      sym (ap (λ a. gather_names a (missing, foreign)) last ∙ (gather_last names x (missing, foreign) ∙ ap (gather_names names) step))
 
-  pub out_new : is_in x foreign ≡ false → foreign' ≡ without x foreign → missing' ≡ missing ++ x ∷ [] → all_go_out names (missing', foreign') ≡ all_go_out all (missing, foreign)
+  pub out_new : has_name x foreign ≡ false → foreign' ≡ without_name x foreign → missing' ≡ missing ++ x ∷ [] → give_names names (missing', foreign') ≡ give_names all (missing, foreign)
   out_new none f m =
-      let here : go_out x (missing, foreign) ≡ (missing', foreign') = rw none (λ i. (sym m i, sym (f ∙ absent x foreign none) i)) in
-      sym (ap (λ a. all_go_out a (missing, foreign)) last ∙ (go_out_last names x (missing, foreign) ∙ ap (all_go_out names) here))
+      let here : give_name x (missing, foreign) ≡ (missing', foreign') = rw none (λ i. (sym m i, sym (f ∙ absent x foreign none) i)) in
+      sym (ap (λ a. give_names a (missing, foreign)) last ∙ (give_last names x (missing, foreign) ∙ ap (give_names names) here))
 
-  pub out_known : is_in x foreign ≡ true → foreign' ≡ without x foreign → missing' ≡ missing → all_go_out names (missing', foreign') ≡ all_go_out all (missing, foreign)
+  pub out_known : has_name x foreign ≡ true → foreign' ≡ without_name x foreign → missing' ≡ missing → give_names names (missing', foreign') ≡ give_names all (missing, foreign)
   out_known here f m =
-      let step : go_out x (missing, foreign) ≡ (missing', foreign') = rw here (λ i. (sym m i, sym f i)) in
-      sym (ap (λ a. all_go_out a (missing, foreign)) last ∙ (go_out_last names x (missing, foreign) ∙ ap (all_go_out names) step))
+      let step : give_name x (missing, foreign) ≡ (missing', foreign') = rw here (λ i. (sym m i, sym f i)) in
+      sym (ap (λ a. give_names a (missing, foreign)) last ∙ (give_last names x (missing, foreign) ∙ ap (give_names names) step))

@@ -8,11 +8,11 @@ use Rattle.tree_shape.specs.Trees.{Contents, within, HasEntry}
 use Rattle.tree_shape.specs.Numbers.{is_among}
 use Rattle.tree_shape.specs.Lawful.{IsFilled}
 use Rattle.tree_shape.specs.LocalChange.{either, IsLocalChange, EntriesBecome}
-use Rattle.word_rule.specs.declared.views.Log.{Log}
-use Rattle.word_rule.specs.declared.views.Holding.{Holding}
-use Rattle.word_rule.specs.declared.views.Mark.{Mark}
+use Rattle.word_rule.specs.declared.log.Log.{Log}
+use Rattle.word_rule.specs.declared.log.Holding.{Holding}
+use Rattle.tree_shape.specs.declared.node.Frame.{Frame}
 use Rattle.word_rule.specs.Spelling.{spelled}
-use Rattle.word_rule.specs.Held.{held_of, is_listed, words_of, settled_in, now_in, now_of, marked_in, mark_of}
+use Rattle.word_rule.specs.Held.{held_of, words_of, settled_in, now_in, now_of, marked_in, frame_of}
 
 -- the words of a held node spell another content than its settled one
 abbrev pub Differs : Holding → Type 0
@@ -20,20 +20,16 @@ Differs h = spelled (words_of h) ≢ Some h.settled
 
 -- whether a held node is out
 abbrev pub is_fresh : List Holding → List ℕ → ℕ → Bool
-is_fresh held out n = is_some (held_of n held) && is_listed n out
+is_fresh held out n = is_some (held_of n held) && is_among out n
 
 -- the contents after the exchange of a group and of the nodes that are out
 abbrev pub exchanged_in : Log → (ℕ → Bool) → Contents
-exchanged_in v group n = if either group (is_fresh v.held v.out) n then now_in v.held n else settled_in v.held n
+exchanged_in v group n = if either group (is_fresh v.holdings.held v.holdings.out) n then now_in v.holdings.held n else settled_in v.holdings.held n
 
 -- whether the top reaches the node by ways inside the group and the nodes that are out, afterwards
 abbrev pub is_reached : Log → ℕ → (ℕ → Bool) → ℕ → Bool
 is_reached v top group n =
-    is_among (within (either group (is_fresh v.held v.out)) (exchanged_in v group) (exchanged_in v group top).level top) n
-
--- the nodes of a list that a test passes
-abbrev pub picked : (ℕ → Bool) → List ℕ → List ℕ
-picked test nodes = filter test nodes
+    is_among (within (either group (is_fresh v.holdings.held v.holdings.out)) (exchanged_in v group) (exchanged_in v group top).level top) n
 
 abbrev pub node_of : Holding → ℕ
 node_of h = h.node
@@ -41,34 +37,34 @@ node_of h = h.node
 -- the nodes out afterwards: those before that the top doesn't reach, and those of the group that it doesn't
 abbrev pub out_after : Log → ℕ → (ℕ → Bool) → List ℕ
 out_after v top group =
-    picked (λ n. not (is_fresh v.held v.out n && is_reached v top group n)) v.out
-    ++ picked (λ n. group n && not (is_reached v top group n)) (map node_of v.held)
+    filter (λ n. not (is_fresh v.holdings.held v.holdings.out n && is_reached v top group n)) v.holdings.out
+    ++ filter (λ n. group n && not (is_reached v top group n)) (map node_of v.holdings.held)
 
 -- The exchange of a group of held live nodes under one of them, the top, and of the held nodes that are out is lawful.
 pub record IsLawfulExchange (v : Log) (update : Option Update) (top : ℕ) (group : ℕ → Bool) : Type 0 where
   -- the words of every held node spell a node
-  pub spell : AllByRecursion (λ h. IsSome (spelled (words_of h))) v.held
+  pub spell : AllByRecursion (λ h. IsSome (spelled (words_of h))) v.holdings.held
   -- the group is of held live nodes, and has each that differs
-  pub grouped : (n : ℕ) → IsTrue (group n) → IsTrue (marked_in v.held n)
-  pub covers : AllByRecursion (λ h. IsSome h.mark → Differs h → IsTrue (group h.node)) v.held
+  pub grouped : (n : ℕ) → IsTrue (group n) → IsTrue (marked_in v.holdings.held n)
+  pub covers : AllByRecursion (λ h. IsSome h.mark → Differs h → IsTrue (group h.node)) v.holdings.held
   -- what the law of local change asks for, of these nodes alone
-  pub change : IsLocalChange (settled_in v.held) (marked_in v.held) top group (is_fresh v.held v.out) (exchanged_in v group)
+  pub change : IsLocalChange (settled_in v.holdings.held) (marked_in v.holdings.held) top group (is_fresh v.holdings.held v.holdings.out) (exchanged_in v group)
   pub filled : (n : ℕ) → IsTrue (is_reached v top group n) → IsFilled n (exchanged_in v group n)
   -- the entries of the group's leaves stay as they were, or change by the update
-  pub entries : EntriesBecome update (HasEntry (settled_in v.held) group) (HasEntry (exchanged_in v group) (is_reached v top group))
+  pub entries : EntriesBecome update (HasEntry (settled_in v.holdings.held) group) (HasEntry (exchanged_in v group) (is_reached v top group))
   -- each node that leaves the tree had a word stored under its lock
-  pub stored : AllByRecursion (λ h. IsTrue (group h.node) → is_reached v top group h.node ≡ false → h.stored ≡ true) v.held
+  pub stored : AllByRecursion (λ h. IsTrue (group h.node) → is_reached v top group h.node ≡ false → h.stored ≡ true) v.holdings.held
   pub room : length (out_after v top group) ≤ 4
 
 -- no held live node differs from its settled content, and no update is made
 abbrev pub IsQuiet : Log → Option Update → Type 0
-IsQuiet v None = AllByRecursion (λ h. IsSome h.mark → spelled (words_of h) ≡ Some h.settled) v.held
+IsQuiet v None = AllByRecursion (λ h. IsSome h.mark → spelled (words_of h) ≡ Some h.settled) v.holdings.held
 IsQuiet v (Some update) = ⊥
 
 -- A held node's settled content becomes what its words spell, where it is in the group or isn't live. It is marked where
 -- it is reached, and no more where it is of the group and isn't.
-abbrev pub mark_after : Shape → (ℕ → Bool) → (ℕ → Bool) → Holding → Option Mark
-mark_after now group reached h = if reached h.node then Some (mark_of now) else (if group h.node then None else h.mark)
+abbrev pub mark_after : Shape → (ℕ → Bool) → (ℕ → Bool) → Holding → Option Frame
+mark_after now group reached h = if reached h.node then Some (frame_of now) else (if group h.node then None else h.mark)
 
 abbrev pub exchange : (ℕ → Bool) → (ℕ → Bool) → Holding → Holding
 exchange group reached h = record h {
@@ -78,14 +74,14 @@ exchange group reached h = record h {
 
 -- the log after the exchange
 abbrev pub after_exchange : Log → ℕ → (ℕ → Bool) → Log
-after_exchange v top group = record v { held = map (exchange group (is_reached v top group)) v.held; out = out_after v top group }
+after_exchange v top group = record v { holdings = record v.holdings { held = map (exchange group (is_reached v top group)) v.holdings.held; out = out_after v top group } }
 
 -- the held nodes that aren't live settle to what their words spell, and no others
 abbrev pub nothing_reached : ℕ → Bool
 nothing_reached n = false
 
 abbrev pub settle_free : Log → Log
-settle_free v = record v { held = map (exchange nothing_reached nothing_reached) v.held }
+settle_free v = record v { holdings = record v.holdings { held = map (exchange nothing_reached nothing_reached) v.holdings.held } }
 
 -- some exchange is lawful
 abbrev pub MayExchange : Log → Option Update → Type 0

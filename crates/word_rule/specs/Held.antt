@@ -1,37 +1,29 @@
 -- The locks of nodes that a log has, by the node's number.
-use Rattle.std.specs.Prelude.{ℕ, Bool, false, ◌==◌, ◌||◌, ◌∷◌, List, [], Option, Some, None, is_some, if◌then◌else◌}
+use Rattle.std.specs.Prelude.{ℕ, Bool, false, ◌==◌, not, ◌∷◌, List, Option, Some, None, map, is_some, if◌then◌else◌}
+use Rattle.std.specs.List.{find, filter}
 use Rattle.tree_shape.specs.Shapes.{Shape, Link}
 use Rattle.tree_shape.specs.Trees.{Contents}
 use Rattle.word_rule.specs.Spelling.{spelled}
-use Rattle.word_rule.specs.declared.views.Holding.{Holding}
-use Rattle.word_rule.specs.declared.views.Mark.{Mark}
+use Rattle.word_rule.specs.declared.log.Holding.{Holding}
+use Rattle.tree_shape.specs.declared.node.Frame.{Frame}
 
 -- the lock of this node
 abbrev pub held_of : ℕ → List Holding → Option Holding
-held_of n [] = None
-held_of n (h ∷ held) = if h.node == n then Some h else held_of n held
+held_of n held = find (λ h. h.node == n) held
 
 -- the lock of this node changed
 abbrev pub edited : ℕ → (Holding → Holding) → List Holding → List Holding
-edited n f [] = []
-edited n f (h ∷ held) = (if h.node == n then f h else h) ∷ edited n f held
+edited n f held = map (λ h. if h.node == n then f h else h) held
 
 -- all locks but this node's
 abbrev pub without_lock : ℕ → List Holding → List Holding
-without_lock n [] = []
-without_lock n (h ∷ held) = if h.node == n then without_lock n held else (h ∷ without_lock n held)
+without_lock n held = filter (λ h. not (h.node == n)) held
 
--- whether a number is in a list
-abbrev pub is_listed : ℕ → List ℕ → Bool
-is_listed n [] = false
-is_listed n (m ∷ ms) = (m == n) || is_listed n ms
+-- a list of nodes without this one
+abbrev pub all_but : ℕ → List ℕ → List ℕ
+all_but n nodes = filter (λ m. not (m == n)) nodes
 
--- a list without a number
-abbrev pub without_node : ℕ → List ℕ → List ℕ
-without_node n [] = []
-without_node n (m ∷ ms) = if m == n then without_node n ms else (m ∷ without_node n ms)
-
--- all 36 words of a held node: word 0 stands for its version
+-- all words of a held node: word 0 stands for its version
 abbrev pub words_of : Holding → List ℕ
 words_of h = h.version ∷ h.words
 
@@ -68,5 +60,5 @@ abbrev pub marked_in : List Holding → ℕ → Bool
 marked_in held n = is_marked (held_of n held)
 
 -- the place in the tree that a content has
-abbrev pub mark_of : Shape → Mark
-mark_of s = record { level = s.level; low = s.low; high = s.high }
+abbrev pub frame_of : Shape → Frame
+frame_of s = record { level = s.level; low = s.low; high = s.high }

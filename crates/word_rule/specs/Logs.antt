@@ -1,137 +1,131 @@
--- What each step makes of its caller's log.
-use Rattle.std.specs.Prelude.{ℕ, ◌+◌, ◌-◌, ◌*◌, ◌/◌, List, [], ◌∷◌, ◌++◌, length, Some, None, nat_lt, false, true, if◌then◌else◌}
+-- What each step makes of its caller's log: loads, the loader's lock, and callers and notes that come and go.
+use Rattle.std.specs.Prelude.{ℕ, ◌+◌, ◌-◌, ◌*◌, ◌/◌, Bool, List, [], ◌∷◌, ◌++◌, length, Some, None, nat_lt, false, true, if◌then◌else◌}
 use Rattle.reg_model.specs.declared.answer.Update.{Update}
-use Rattle.word_rule.specs.declared.views.Terms.{Terms}
-use Rattle.word_rule.specs.declared.views.Log.{Log}
-use Rattle.word_rule.specs.declared.views.Load.{Load}
-use Rattle.word_rule.specs.Names.{newborn, child_name, after_birth, after_kin}
+use Rattle.word_rule.specs.declared.log.Terms.{Terms}
+use Rattle.word_rule.specs.declared.log.Role.{Role}
+use Rattle.word_rule.specs.declared.log.Role.TheVariants as role
+use Rattle.word_rule.specs.declared.log.Budget.{Budget}
+use Rattle.word_rule.specs.declared.log.LoadEvent.{LoadEvent}
+use Rattle.word_rule.specs.declared.log.Trace.{Trace}
+use Rattle.word_rule.specs.declared.log.Lineage.{Lineage}
+use Rattle.word_rule.specs.declared.log.Log.{Log}
+use Rattle.word_rule.specs.Names.{new_lineage, child_name, after_fork, joined_lineage}
+use Rattle.word_rule.specs.Places.{ALLOWANCE, CREDIT, CALL_CREDIT}
+
+-- whether a log was joined or learnt into another
+abbrev pub is_spent : Role → Bool
+is_spent role.Caller = false
+is_spent role.Note = false
+is_spent role.Spent = true
+
+-- how often the caller changed anything itself
+abbrev pub turns : Trace → ℕ
+turns t = t.writes + t.meetings
 
 -- a load, or a refused exchange, with what its caller has at that moment
-abbrev pub load_of : Log → ℕ → ℕ → Load
-load_of v word found = record { word = word; found = found; held = v.held; out = v.out; stores = v.stores; receipts = length v.own }
+abbrev pub load_of : Log → ℕ → ℕ → LoadEvent
+load_of v word found = record {
+  word = word;
+  found = found;
+  held = v.holdings.held;
+  out = v.holdings.out;
+  stores = v.trace.stores;
+  receipts = length v.receipts.own;
+  turns = turns v.trace;
+}
 
 -- a word was loaded, or an exchange refused
 abbrev pub after_load : ℕ → ℕ → Log → Log
-after_load word found v = record v { loads = v.loads ++ load_of v word found ∷ [] }
+after_load word found v = record v { trace = record v.trace { loads = v.trace.loads ++ load_of v word found ∷ [] } }
+
+-- one more step that changed a word
+abbrev pub after_write : Log → Log
+after_write v = record v { trace = record v.trace { writes = v.trace.writes + 1 } }
 
 -- the loader's lock was taken at a version, while the copy that is not active had these words
 abbrev pub after_loader_lock : ℕ → List ℕ → Log → Log
-after_loader_lock version words v = record v { loader = Some record { version = version; words = words; stored = false }; writes = v.writes + 1 }
+after_loader_lock version words v = record (after_write v) { loader = Some record { version = version; words = words; stored = false } }
 
--- the sleeping bit was set
-abbrev pub after_mark : Log → Log
-after_mark v = record v { writes = v.writes + 1 }
+-- one release less
+abbrev pub after_spending : Budget → Budget
+after_spending b = record b { credit = b.credit - 1 }
 
 -- the loader's lock was let go with the next version
 abbrev pub after_loader_release : Log → Log
-after_loader_release v = record v { loader = None; credit = v.credit - 1; writes = v.writes + 1 }
+after_loader_release v = record (after_write v) { loader = None; budget = after_spending v.budget }
 
 -- the loader's lock was let go with the version at which it was taken
 abbrev pub after_loader_release_same : Log → Log
-after_loader_release_same v = record v { loader = None; writes = v.writes + 1 }
+after_loader_release_same v = record (after_write v) { loader = None }
 
 -- the longer of two beginnings of the history
 abbrev pub longer : List Update → List Update → List Update
 longer a b = if nat_lt (length a) (length b) then b else a
 
+-- a log that has seen so much and done nothing
+abbrev pub new_log : Terms → Role → List Update → Budget → Lineage → Log
+new_log terms role past budget lineage = record {
+  terms = terms;
+  role = role;
+  past = past;
+  budget = budget;
+  receipts = record { own = []; joined = [] };
+  trace = record { loads = []; stores = []; writes = 0; meetings = 0 };
+  holdings = record { held = []; out = []; head = None };
+  loader = None;
+  sights = record { nodes = []; copies = None };
+  made = 0;
+  lineage = lineage;
+}
+
 -- what the first caller knows
 abbrev pub first_log : Terms → Log
-first_log t = record {
-  terms = t;
-  past = [];
-  allowance = 67108864;
-  credit = 1152921508901814272;
-  own = [];
-  joined = [];
-  loads = [];
-  stores = [];
-  writes = 0;
-  held = [];
-  loader = None;
-  out = [];
-  head = None;
-  sights = [];
-  copies = None;
-  made = 0;
-  kin = newborn [];
-  spent = false;
-}
+first_log t = new_log t role.Caller [] record { allowance = ALLOWANCE; credit = CREDIT } (new_lineage [])
 
--- What a caller that is split off or a note begins with: what its maker has seen, so many update calls and releases, and
--- a name.
-abbrev pub child_log : ℕ → ℕ → Log → Log
-child_log allowance credit v = record {
-  terms = v.terms;
-  past = v.past;
-  allowance = allowance;
-  credit = credit;
-  own = [];
-  joined = [];
-  loads = [];
-  stores = [];
-  writes = 0;
-  held = [];
-  loader = None;
-  out = [];
-  head = None;
-  sights = [];
-  copies = None;
-  made = 0;
-  kin = newborn (child_name v.kin);
-  spent = false;
-}
-
--- The releases that a split gives away with so many of the `left` update calls: 64 for each of them, and half of the
--- surplus, rounded down.
-abbrev pub credit_given : ℕ → ℕ → ℕ → ℕ
-credit_given credit left give = 64 * give + (credit - 64 * left) / 2
-
-abbrev pub after_split : ℕ → ℕ → Log → Log
-after_split left give v = record v { allowance = v.allowance - give; credit = v.credit - credit_given v.credit left give; made = v.made + 1; kin = after_birth v.kin }
-
-abbrev pub split_off : ℕ → ℕ → Log → Log
-split_off left give v = child_log give (credit_given v.credit left give) v
-
-abbrev pub after_note : Log → Log
-after_note v = record v { kin = after_birth v.kin }
-
-abbrev pub note_of : Log → Log
-note_of v = child_log 0 0 v
-
--- another caller was joined into this one
-abbrev pub after_join : Log → Log → Log
-after_join v other = record v {
-  past = longer v.past other.past;
-  allowance = v.allowance + other.allowance;
-  credit = v.credit + other.credit;
-  joined = v.joined ++ other.own ∷ other.joined;
-  made = v.made + other.made;
-  kin = after_kin v.kin other.kin;
-}
-
--- a note was learnt
-abbrev pub after_learn : Log → Log → Log
-after_learn v note = record v { past = longer v.past note.past; kin = after_kin v.kin note.kin }
+-- What a caller that is split off or a note begins with: what its maker has seen, so much to do, and a name.
+abbrev pub child_log : Role → Budget → Log → Log
+child_log role budget v = new_log v.terms role v.past budget (new_lineage (child_name v.lineage))
 
 -- what is left of a log that was joined or learnt into another
 abbrev pub spent_log : Log
-spent_log = record {
-  terms = record { nodes = 0; loads = 0; payloads = 0; fixed = [] };
-  past = [];
-  allowance = 0;
-  credit = 0;
-  own = [];
-  joined = [];
-  loads = [];
-  stores = [];
-  writes = 0;
-  held = [];
-  loader = None;
-  out = [];
-  head = None;
-  sights = [];
-  copies = None;
-  made = 0;
-  kin = record { name = []; born = 0; missing = []; foreign = []; members = []; given = [] };
-  spent = true;
+spent_log =
+    new_log record { nodes = 0; loads = 0; payloads = 0; fixed = [] } role.Spent [] record { allowance = 0; credit = 0 } record { name = []; forks = 0; missing = []; unmatched = []; gathered = []; given = [] }
+
+-- The releases that a split gives away with so many of the `left` update calls: those of the calls, and half of the
+-- surplus, rounded down.
+abbrev pub credit_given : ℕ → ℕ → ℕ → ℕ
+credit_given credit left give = CALL_CREDIT * give + (credit - CALL_CREDIT * left) / 2
+
+abbrev pub budget_given : ℕ → ℕ → Budget → Budget
+budget_given left give b = record { allowance = give; credit = credit_given b.credit left give }
+
+abbrev pub budget_kept : ℕ → ℕ → Budget → Budget
+budget_kept left give b = record { allowance = b.allowance - give; credit = b.credit - credit_given b.credit left give }
+
+-- a caller or a note came or went
+abbrev pub after_meeting : Trace → Trace
+after_meeting t = record t { meetings = t.meetings + 1 }
+
+abbrev pub after_split : ℕ → ℕ → Log → Log
+after_split left give v = record v { budget = budget_kept left give v.budget; trace = after_meeting v.trace; made = v.made + 1; lineage = after_fork v.lineage }
+
+abbrev pub split_off : ℕ → ℕ → Log → Log
+split_off left give v = child_log role.Caller (budget_given left give v.budget) v
+
+abbrev pub after_note : Log → Log
+after_note v = record v { trace = after_meeting v.trace; lineage = after_fork v.lineage }
+
+abbrev pub note_of : Log → Log
+note_of v = child_log role.Note record { allowance = 0; credit = 0 } v
+
+-- a note was learnt
+abbrev pub after_learn : Log → Log → Log
+after_learn v note = record v { past = longer v.past note.past; trace = after_meeting v.trace; lineage = joined_lineage v.lineage note.lineage }
+
+-- another caller was joined into this one
+abbrev pub after_join : Log → Log → Log
+after_join v other = record (after_learn v other) {
+  budget = record { allowance = v.budget.allowance + other.budget.allowance; credit = v.budget.credit + other.budget.credit };
+  receipts = record v.receipts { joined = v.receipts.joined ++ other.receipts.own ∷ other.receipts.joined };
+  made = v.made + other.made;
 }

@@ -1,6 +1,25 @@
 -- Where each word of the shared table stands. N is the number of nodes, G that of the segments of one copy.
-use Rattle.std.specs.Prelude.{ℕ, zero, suc, ◌+◌, ◌*◌, ◌/◌, ◌%◌, ◌^◌, ◌==◌, ◌||◌, List, [], ◌∷◌, ◌++◌, slice_index, slice_set, take, drop, replicate, if◌then◌else◌}
-use Rattle.word_rule.specs.declared.views.Terms.{Terms}
+use Rattle.std.specs.Prelude.{ℕ, zero, suc, ◌+◌, ◌*◌, ◌-◌, ◌/◌, ◌%◌, ◌^◌, ◌==◌, ◌||◌, List, [], ◌∷◌, ◌++◌, slice_index, slice_set, take, drop, replicate, if◌then◌else◌}
+use Rattle.word_rule.specs.declared.log.Terms.{Terms}
+
+-- the words of a node
+abbrev pub NODE_WORDS : ℕ
+NODE_WORDS = 36
+
+-- the update calls of one registry
+abbrev pub ALLOWANCE : ℕ
+ALLOWANCE = 2 ^ 26
+
+-- the releases of its first caller, and those of them that one update call may make
+abbrev pub CREDIT : ℕ
+CREDIT = 2 ^ 60 + 2 ^ 32
+
+abbrev pub CALL_CREDIT : ℕ
+CALL_CREDIT = 64
+
+-- the greatest address, at which the last fence stands
+abbrev pub TOP : ℕ
+TOP = 2 ^ 64 - 1
 
 -- the clock: publications of the loader in its upper half, accepted updates in its lower half
 abbrev pub CLOCK : ℕ
@@ -14,9 +33,9 @@ HEAD = 1
 abbrev pub LOADER : ℕ
 LOADER = 2
 
--- the version lock of a node, with which its 36 words begin
+-- the version lock of a node, with which its words begin
 abbrev pub node_place : ℕ → ℕ
-node_place n = 4 + 36 * n
+node_place n = 4 + NODE_WORDS * n
 
 -- the segments of a copy for so many loads, and their words with the two before them
 abbrev pub segments : ℕ → ℕ
@@ -27,11 +46,11 @@ copy_words t = 2 + 50 * segments t.loads
 
 -- copy 0 or 1
 abbrev pub copy_place : Terms → ℕ → ℕ
-copy_place t c = 4 + 36 * t.nodes + c * copy_words t
+copy_place t c = 4 + NODE_WORDS * t.nodes + c * copy_words t
 
 -- all words
 abbrev pub word_count : Terms → ℕ
-word_count t = 4 + 36 * t.nodes + 2 * copy_words t
+word_count t = 4 + NODE_WORDS * t.nodes + 2 * copy_words t
 
 -- how many updates were accepted, and how many of them by the loader
 abbrev pub lower : ℕ → ℕ
@@ -49,23 +68,23 @@ abbrev pub spare : ℕ → ℕ
 spare clock = (upper clock + 1) % 2
 
 -- A node's words at the start: the root is a leaf and the others are free, each linked to the next; all fences are open.
-abbrev pub opening_kind : ℕ → ℕ
-opening_kind n = if n == 0 then 1 else 2
+abbrev pub initial_kind : ℕ → ℕ
+initial_kind n = if n == 0 then 1 else 2
 
-abbrev pub opening_link : ℕ → ℕ → ℕ
-opening_link nodes n = if (n == 0) || (n + 1 == nodes) then 0 else (n + 1)
+abbrev pub initial_link : ℕ → ℕ → ℕ
+initial_link nodes n = if (n == 0) || (n + 1 == nodes) then 0 else (n + 1)
 
-abbrev pub opening_node : ℕ → ℕ → List ℕ
-opening_node nodes n = slice_set (slice_set (slice_set (replicate 36 0) 1 (opening_kind n)) 4 18446744073709551615) 6 (opening_link nodes n)
+abbrev pub initial_node : ℕ → ℕ → List ℕ
+initial_node nodes n = slice_set (slice_set (slice_set (replicate NODE_WORDS 0) 1 (initial_kind n)) 4 TOP) 6 (initial_link nodes n)
 
 -- the words of the nodes below n
-abbrev pub opening_nodes : ℕ → ℕ → List ℕ
-opening_nodes nodes zero = []
-opening_nodes nodes (suc n) = opening_nodes nodes n ++ opening_node nodes n
+abbrev pub initial_nodes : ℕ → ℕ → List ℕ
+initial_nodes nodes zero = []
+initial_nodes nodes (suc n) = initial_nodes nodes n ++ initial_node nodes n
 
 -- all words at the start: nothing was accepted, node 1 is the first free one, no lock is held, both copies are empty
-abbrev pub opening_words : Terms → List ℕ
-opening_words t = (0 ∷ 1 ∷ 0 ∷ 0 ∷ opening_nodes t.nodes t.nodes) ++ replicate (2 * copy_words t) 0
+abbrev pub initial_words : Terms → List ℕ
+initial_words t = (0 ∷ 1 ∷ 0 ∷ 0 ∷ initial_nodes t.nodes t.nodes) ++ replicate (2 * copy_words t) 0
 
 -- the counters of the version words of the nodes below n, added up
 abbrev pub node_counters : List ℕ → ℕ → ℕ

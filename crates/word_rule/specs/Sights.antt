@@ -1,5 +1,6 @@
 -- Sights: words of a node that were loaded under a version, and what each load makes of them.
-use Rattle.std.specs.Prelude.{ℕ, zero, suc, ◌+◌, ◌-◌, ◌*◌, ◌%◌, Bool, false, ◌&&◌, ◌==◌, nat_lt, nat_le, List, [], ◌∷◌, ◌++◌, length, map, Option, Some, None, option_map, is_some, if◌then◌else◌}
+use Rattle.std.specs.Prelude.{ℕ, zero, suc, ◌+◌, ◌-◌, ◌*◌, ◌%◌, Bool, false, not, ◌&&◌, ◌==◌, nat_lt, nat_le, List, [], ◌∷◌, ◌++◌, length, map, Option, Some, None, option_map, is_some, if◌then◌else◌}
+use Rattle.std.specs.List.{find, filter}
 use Rattle.reg_model.specs.History.{state_at}
 use Rattle.reg_model.specs.Query.{query}
 use Rattle.reg_model.specs.declared.span.Member.{Member}
@@ -10,43 +11,41 @@ use Rattle.reg_model.specs.declared.answer.Half.{Half}
 use Rattle.reg_model.specs.declared.answer.Half.TheVariants as half
 use Rattle.reg_model.specs.declared.answer.Receipt.{Receipt}
 use Rattle.reg_model.specs.declared.answer.Receipt.TheVariants.{Query}
-use Rattle.word_rule.specs.declared.views.Log.{Log}
-use Rattle.word_rule.specs.declared.views.Sight.{Sight}
-use Rattle.word_rule.specs.declared.views.CopySight.{CopySight}
-use Rattle.word_rule.specs.declared.views.Loaded.{Loaded}
-use Rattle.word_rule.specs.declared.views.Mark.{Mark}
-use Rattle.word_rule.specs.declared.views.Ask.{Ask}
-use Rattle.word_rule.specs.declared.views.Ask.TheVariants as ask
-use Rattle.word_rule.specs.Places.{node_place, lower, upper}
+use Rattle.word_rule.specs.declared.log.Log.{Log}
+use Rattle.word_rule.specs.declared.log.NodeSight.{NodeSight}
+use Rattle.word_rule.specs.declared.log.CopySight.{CopySight}
+use Rattle.word_rule.specs.declared.log.LoadedWord.{LoadedWord}
+use Rattle.tree_shape.specs.declared.node.Frame.{Frame}
+use Rattle.word_rule.specs.declared.log.Ask.{Ask}
+use Rattle.word_rule.specs.declared.log.Ask.TheVariants as ask
+use Rattle.word_rule.specs.Places.{CLOCK, TOP, node_place, lower, upper}
 use Rattle.word_rule.specs.Held.{held_of}
 use Rattle.word_rule.specs.Logs.{after_load}
-use Rattle.word_rule.specs.Rule.{start}
+use Rattle.word_rule.specs.Callers.{start}
 
 -- the sight of a node
-abbrev pub sight_of : ℕ → List Sight → Option Sight
-sight_of n [] = None
-sight_of n (s ∷ sights) = if s.node == n then Some s else sight_of n sights
+abbrev pub sight_of : ℕ → List NodeSight → Option NodeSight
+sight_of n sights = find (λ s. s.node == n) sights
 
-abbrev pub without_sight : ℕ → List Sight → List Sight
-without_sight n [] = []
-without_sight n (s ∷ sights) = if s.node == n then without_sight n sights else (s ∷ without_sight n sights)
+abbrev pub without_sight : ℕ → List NodeSight → List NodeSight
+without_sight n sights = filter (λ s. not (s.node == n)) sights
 
 -- the word at this place, where it was loaded: the last load of it
-abbrev pub loaded : ℕ → List Loaded → Option ℕ
-loaded at [] = None
-loaded at (w ∷ words) = if w.at == at then Some w.value else loaded at words
+abbrev pub loaded_word : ℕ → List LoadedWord → Option ℕ
+loaded_word at [] = None
+loaded_word at (w ∷ words) = if w.at == at then Some w.value else loaded_word at words
 
 -- The place in the tree of a sight that is marked live. The root is always live: its level is the one that was loaded.
-abbrev pub place_of : Sight → Option Mark
-place_of s = if s.node == 0 then option_map (λ level. record { level = level; low = 0; high = 18446744073709551615 }) (loaded 2 s.words) else s.mark
+abbrev pub place_of : NodeSight → Option Frame
+place_of s = if s.node == 0 then option_map (λ level. record { level = level; low = 0; high = TOP }) (loaded_word 2 s.words) else s.mark
 
 -- The place that a parent's sight gives to its i-th child: it needs the child's separator, and the one before or else the
 -- parent's low fence.
-abbrev pub low_of : Mark → ℕ → List Loaded → Option ℕ
+abbrev pub low_of : Frame → ℕ → List LoadedWord → Option ℕ
 low_of place zero words = Some place.low
-low_of place (suc i) words = option_map (λ separator. separator + 1) (loaded (7 + 2 * i) words)
+low_of place (suc i) words = option_map (λ separator. separator + 1) (loaded_word (7 + 2 * i) words)
 
-abbrev pub place_between : Mark → Option ℕ → Option ℕ → Option Mark
+abbrev pub place_between : Frame → Option ℕ → Option ℕ → Option Frame
 place_between place None high = None
 place_between place (Some low) None = None
 place_between place (Some low) (Some high) = Some record { level = place.level - 1; low = low; high = high }
@@ -57,10 +56,10 @@ is_loaded_as n None = false
 is_loaded_as n (Some m) = m == n
 
 -- of so many pairs, the first from the i-th on that is loaded and names the child gives its place
-abbrev pub named_place : ℕ → Mark → List Loaded → ℕ → ℕ → Option Mark
+abbrev pub named_place : ℕ → Frame → List LoadedWord → ℕ → ℕ → Option Frame
 named_place child place words i zero = None
 named_place child place words i (suc more) =
-    if is_loaded_as child (loaded (6 + 2 * i) words) then place_between place (low_of place i words) (loaded (7 + 2 * i) words) else named_place child place words (i + 1) more
+    if is_loaded_as child (loaded_word (6 + 2 * i) words) then place_between place (low_of place i words) (loaded_word (7 + 2 * i) words) else named_place child place words (i + 1) more
 
 -- the pairs that a sight's count allows, which must have been loaded
 abbrev pub pairs_in_sight : Option ℕ → ℕ
@@ -68,16 +67,16 @@ pairs_in_sight None = 0
 pairs_in_sight (Some count) = if nat_le count 15 then count else 0
 
 -- the place that an inner node's sight gives to this child
-abbrev pub place_under : ℕ → Sight → Option Mark → Option Mark
+abbrev pub place_under : ℕ → NodeSight → Option Frame → Option Frame
 place_under child s None = None
-place_under child s (Some place) = if nat_lt 0 place.level then named_place child place s.words 0 (pairs_in_sight (loaded 5 s.words)) else None
+place_under child s (Some place) = if nat_lt 0 place.level then named_place child place s.words 0 (pairs_in_sight (loaded_word 5 s.words)) else None
 
-abbrev pub or_mark : Option Mark → Option Mark → Option Mark
+abbrev pub or_mark : Option Frame → Option Frame → Option Frame
 or_mark None other = other
 or_mark (Some m) other = Some m
 
 -- The sight of a node was found to stand: each sight that began before and that it names is now marked live.
-abbrev pub mark_child : Sight → Sight → Sight
+abbrev pub mark_child : NodeSight → NodeSight → NodeSight
 mark_child parent child = if child.node == parent.node then child else record child { mark = or_mark (place_under child.node parent (place_of parent)) child.mark }
 
 -- the answer to a query in a state, at a stamp
@@ -89,48 +88,51 @@ abbrev pub query_receipt : Half → Log → ℕ → ℕ → Receipt
 query_receipt which v pc stamp = Query which pc (found_at (query which pc (state_at (start v.terms) v.past stamp)) stamp)
 
 -- whether a sight is of a live leaf whose fences hold the address
-abbrev pub is_leaf_for : ℕ → Option Mark → Bool
+abbrev pub is_leaf_for : ℕ → Option Frame → Bool
 is_leaf_for pc None = false
 is_leaf_for pc (Some place) = (place.level == 0) && nat_le place.low pc && nat_le pc place.high
 
 -- the receipt of a try, where its leaf's sight stands, and the clock was loaded since its version with all that was seen
-abbrev pub try_receipts : Log → Ask → Sight → Option ℕ → List Receipt
+abbrev pub try_receipts : Log → Ask → NodeSight → Option ℕ → List Receipt
 try_receipts v (ask.Registered pc) s (Some stamp) = if is_leaf_for pc (place_of s) && (stamp == length v.past) then (query_receipt half.Registered v pc stamp ∷ []) else []
 try_receipts v a s clock = []
 
 -- a sight begins with a version that is not locked
-abbrev pub sight_begun : ℕ → ℕ → Sight
+abbrev pub sight_begun : ℕ → ℕ → NodeSight
 sight_begun n version = record { node = n; version = version; words = []; clock = None; mark = None }
 
 -- the sights after the version of a node was found, where there was this sight of it
-abbrev pub sights_after_version : ℕ → ℕ → Option Sight → List Sight → List Sight
+abbrev pub sights_after_version : ℕ → ℕ → Option NodeSight → List NodeSight → List NodeSight
 sights_after_version n found None sights = if found % 2 == 0 then (sight_begun n found ∷ sights) else sights
 sights_after_version n found (Some s) sights =
     if s.version == found then map (mark_child s) sights else (if found % 2 == 0 then (sight_begun n found ∷ without_sight n sights) else sights)
 
-abbrev pub receipts_after_version : Log → Ask → ℕ → Option Sight → List Receipt
+abbrev pub receipts_after_version : Log → Ask → ℕ → Option NodeSight → List Receipt
 receipts_after_version v a found None = []
 receipts_after_version v a found (Some s) = if s.version == found then try_receipts v a s s.clock else []
 
+-- receipts are appended to a log's own
+abbrev pub with_receipts : List Receipt → Log → Log
+with_receipts receipts v = record v { receipts = record v.receipts { own = v.receipts.own ++ receipts } }
+
 -- The version of a node was loaded: a sight of it begins, or the one that there is was found to stand.
 abbrev pub after_node_version : Ask → ℕ → ℕ → Log → Log
-after_node_version a n found v = record (after_load (node_place n) found v) {
-  sights = sights_after_version n found (sight_of n v.sights) v.sights;
-  own = v.own ++ receipts_after_version v a found (sight_of n v.sights);
+after_node_version a n found v = record (with_receipts (receipts_after_version v a found (sight_of n v.sights.nodes)) (after_load (node_place n) found v)) {
+  sights = record v.sights { nodes = sights_after_version n found (sight_of n v.sights.nodes) v.sights.nodes };
 }
 
 -- a word joins the sight of its node
-abbrev pub with_word : ℕ → ℕ → ℕ → Sight → Sight
+abbrev pub with_word : ℕ → ℕ → ℕ → NodeSight → NodeSight
 with_word n at value s = if s.node == n then record s { words = record { at = at; value = value } ∷ s.words } else s
 
 -- A word of a node was loaded: where the caller holds the node it tells nothing of a sight.
 abbrev pub after_node_load : ℕ → ℕ → ℕ → Log → Log
 after_node_load n at value v = record (after_load (node_place n + at) value v) {
-  sights = if is_some (held_of n v.held) then v.sights else map (with_word n at value) v.sights;
+  sights = if is_some (held_of n v.holdings.held) then v.sights else record v.sights { nodes = map (with_word n at value) v.sights.nodes };
 }
 
 -- every sight knows when the clock was loaded after its version
-abbrev pub with_clock : ℕ → Sight → Sight
+abbrev pub with_clock : ℕ → NodeSight → NodeSight
 with_clock stamp s = record s { clock = Some stamp }
 
 -- the sight of the loader's copies goes on where the upper half is still its guard, else it begins anew
@@ -140,11 +142,9 @@ copies_after_clock found (Some s) = if s.guard == upper found then Some s else S
 
 -- The clock was loaded, by which this much of the history is seen; these receipts are appended.
 abbrev pub after_clock : ℕ → List Update → List Receipt → Log → Log
-after_clock found past receipts v = record (after_load 0 found v) {
+after_clock found past receipts v = record (with_receipts receipts (after_load CLOCK found v)) {
   past = past;
-  sights = map (with_clock (lower found)) v.sights;
-  copies = copies_after_clock found v.copies;
-  own = v.own ++ receipts;
+  sights = record { nodes = map (with_clock (lower found)) v.sights.nodes; copies = copies_after_clock found v.sights.copies };
 }
 
 -- the receipt of a walk over the loader's copy, where the upper half of the clock is still the walk's
@@ -157,4 +157,4 @@ abbrev pub with_copy_word : ℕ → ℕ → CopySight → CopySight
 with_copy_word at value s = record s { words = record { at = at; value = value } ∷ s.words }
 
 abbrev pub after_copy_load : ℕ → ℕ → Log → Log
-after_copy_load at value v = record (after_load at value v) { copies = option_map (with_copy_word at value) v.copies }
+after_copy_load at value v = record (after_load at value v) { sights = record v.sights { copies = option_map (with_copy_word at value) v.sights.copies } }

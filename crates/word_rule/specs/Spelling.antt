@@ -17,8 +17,8 @@ abbrev pub pairs_at : List ℕ → ℕ → ℕ → Option (List Pair)
 pairs_at words at zero = Some []
 pairs_at words at (suc count) = if is_short (slice_index words at) then option_map (λ pairs. pair_at words at ∷ pairs) (pairs_at words (at + 2) count) else None
 
-abbrev pub member_at : List ℕ → ℕ → Member
-member_at words at = record {
+abbrev pub entry_at : List ℕ → ℕ → Member
+entry_at words at = record {
   span = record { first = slice_index words at; last = slice_index words at + slice_index words (at + 1) - 1 };
   payload = slice_index words (at + 2);
 }
@@ -30,7 +30,7 @@ is_member_at words at = nat_le 1 (slice_index words (at + 1)) && nat_le (slice_i
 -- so many entries from a place on
 abbrev pub entries_at : List ℕ → ℕ → ℕ → Option (List Member)
 entries_at words at zero = Some []
-entries_at words at (suc count) = if is_member_at words at then option_map (λ entries. member_at words at ∷ entries) (entries_at words (at + 3) count) else None
+entries_at words at (suc count) = if is_member_at words at then option_map (λ entries. entry_at words at ∷ entries) (entries_at words (at + 3) count) else None
 
 abbrev pub body_of_kind : List ℕ → ℕ → ℕ → Option Body
 body_of_kind words kind count =
@@ -45,5 +45,5 @@ spelled words =
     then option_map (λ body. record { level = slice_index words 2; low = slice_index words 3; high = slice_index words 4; body = body }) (body_of_kind words (slice_index words 1) (slice_index words 5))
     else None
 
-abbrev pub Spells : List ℕ → Shape → Type 0
-Spells words shape = spelled words ≡ Some shape
+abbrev pub SpellsNode : List ℕ → Shape → Type 0
+SpellsNode words shape = spelled words ≡ Some shape

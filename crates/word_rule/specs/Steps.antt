@@ -12,77 +12,75 @@ use Rattle.reg_model.specs.declared.answer.Receipt.{Receipt}
 use Rattle.reg_model.specs.declared.answer.Receipt.TheVariants as receipt
 use Rattle.tree_shape.specs.Shapes.{Shape, Link}
 use Rattle.tree_shape.specs.Trees.{branches, Branch}
-use Rattle.word_rule.specs.declared.views.Log.{Log}
-use Rattle.word_rule.specs.declared.views.Holding.{Holding}
-use Rattle.word_rule.specs.declared.views.LoaderHolding.{LoaderHolding}
-use Rattle.word_rule.specs.declared.views.Mark.{Mark}
+use Rattle.word_rule.specs.declared.log.Log.{Log}
+use Rattle.word_rule.specs.declared.log.Holding.{Holding}
+use Rattle.word_rule.specs.declared.log.LoaderHolding.{LoaderHolding}
+use Rattle.tree_shape.specs.declared.node.Frame.{Frame}
 use Rattle.word_rule.specs.Places.{HEAD, copy_place}
 use Rattle.word_rule.specs.Spelling.{spelled}
-use Rattle.word_rule.specs.Held.{held_of, edited, without_lock, is_listed, without_node, words_of, marked_in}
+use Rattle.word_rule.specs.Held.{held_of, edited, without_lock, all_but, words_of, marked_in}
 use Rattle.word_rule.specs.Exchange.{Exchanges, ExchangesWhereLawful, MayExchange, Differs}
-use Rattle.word_rule.specs.Logs.{after_load}
-use Rattle.word_rule.specs.Rule.{start}
-
--- one more step that was done
-abbrev pub after_write : Log → Log
-after_write v = record v { writes = v.writes + 1 }
+use Rattle.tree_shape.specs.Numbers.{is_among}
+use Rattle.word_rule.specs.Logs.{after_load, after_write, after_spending}
+use Rattle.word_rule.specs.Sights.{with_receipts}
+use Rattle.word_rule.specs.Callers.{start}
 
 -- The mark of a node at its lock: the root is live, and so is one that the settled content of a held live node names, at
 -- the place that it is given there.
-abbrev pub place_in : ℕ → List Branch → Option Mark
+abbrev pub place_in : ℕ → List Branch → Option Frame
 place_in n [] = None
 place_in n (b ∷ bs) = if b.child == n then Some record { level = b.level; low = b.low; high = b.high } else place_in n bs
 
-abbrev pub place_by : ℕ → Option Mark → Holding → Option Mark
+abbrev pub place_by : ℕ → Option Frame → Holding → Option Frame
 place_by n None h = None
 place_by n (Some m) h = place_in n (branches (h.settled.level - 1) h.settled)
 
-abbrev pub first_mark : Option Mark → Option Mark → Option Mark
+abbrev pub first_mark : Option Frame → Option Frame → Option Frame
 first_mark None other = other
 first_mark (Some m) other = Some m
 
-abbrev pub place_by_held : ℕ → List Holding → Option Mark
+abbrev pub place_by_held : ℕ → List Holding → Option Frame
 place_by_held n [] = None
 place_by_held n (h ∷ held) = first_mark (place_by n h.mark h) (place_by_held n held)
 
-abbrev pub mark_at_lock : ℕ → Shape → List Holding → Option Mark
+abbrev pub mark_at_lock : ℕ → Shape → List Holding → Option Frame
 mark_at_lock n settled held = if n == 0 then Some record { level = settled.level; low = settled.low; high = settled.high } else place_by_held n held
 
 -- A node was locked at a version, while it had this settled content and these words.
 abbrev pub after_node_lock : ℕ → ℕ → Shape → List ℕ → Log → Log
 after_node_lock n version settled words v = record (after_write v) {
-  held = record { node = n; version = version; settled = settled; words = words; stored = false; mark = mark_at_lock n settled v.held } ∷ v.held;
+  holdings = record v.holdings { held = record { node = n; version = version; settled = settled; words = words; stored = false; mark = mark_at_lock n settled v.holdings.held } ∷ v.holdings.held };
 }
+
+-- A node under whose lock nothing was stored was let go with the version at which it was locked.
+abbrev pub after_node_release_same : ℕ → Log → Log
+after_node_release_same n v = record (after_write v) { holdings = record v.holdings { held = without_lock n v.holdings.held } }
 
 -- A node was let go with the next version: its content settled where that is lawful.
 abbrev pub AfterNodeRelease : ℕ → Log → Log → Type 0
-AfterNodeRelease n v w = (u : Log) × (ExchangesWhereLawful v u × (w ≡ record (after_write u) { held = without_lock n u.held; credit = u.credit - 1 }))
+AfterNodeRelease n v w = (u : Log) × (ExchangesWhereLawful v u × (w ≡ record (after_node_release_same n u) { budget = after_spending u.budget }))
 
 -- A release asks that the node's words spell a node, and, where it is live and they spell another content, for a lawful
 -- exchange.
 abbrev pub MayRelease : ℕ → Log → Type 0
-MayRelease n v = IsSomeAnd (held_of n v.held) (λ h. IsSome (spelled (words_of h)) × (IsSome h.mark → Differs h → MayExchange v None))
-
--- A node under whose lock nothing was stored was let go with the version at which it was locked.
-abbrev pub after_node_release_same : ℕ → Log → Log
-after_node_release_same n v = record (after_write v) { held = without_lock n v.held }
+MayRelease n v = IsSomeAnd (held_of n v.holdings.held) (λ h. IsSome (spelled (words_of h)) × (IsSome h.mark → Differs h → MayExchange v None))
 
 -- a word was stored in a held node, counted from its version word
 abbrev pub store_in : ℕ → ℕ → Holding → Holding
 store_in at value h = record h { words = slice_set h.words (at - 1) value; stored = true }
 
 abbrev pub stored_log : ℕ → ℕ → ℕ → Log → Log
-stored_log n at value v = record (after_write v) { held = edited n (store_in at value) v.held; stores = v.stores ++ n ∷ [] }
+stored_log n at value v = record v { trace = record v.trace { writes = v.trace.writes + 1; stores = v.trace.stores ++ n ∷ [] }; holdings = record v.holdings { held = edited n (store_in at value) v.holdings.held } }
 
 -- A word of a held node was stored. Where it made a live node free, the contents settle where that is lawful.
 abbrev pub AfterStore : ℕ → ℕ → ℕ → Log → Log → Type 0
 AfterStore n at value v w =
-    (((at ≡ 1) × (value ≡ 2) × IsTrue (marked_in v.held n)) × ExchangesWhereLawful (stored_log n at value v) w)
-    ⊎ ((¬ ((at ≡ 1) × (value ≡ 2) × IsTrue (marked_in v.held n))) × (w ≡ stored_log n at value v))
+    (((at ≡ 1) × (value ≡ 2) × IsTrue (marked_in v.holdings.held n)) × ExchangesWhereLawful (stored_log n at value v) w)
+    ⊎ ((¬ ((at ≡ 1) × (value ≡ 2) × IsTrue (marked_in v.holdings.held n))) × (w ≡ stored_log n at value v))
 
 -- a store asks that the node is held, and live or out
 abbrev pub MayStore : ℕ → Log → Type 0
-MayStore n v = IsSomeAnd (held_of n v.held) (λ h. IsSome h.mark ⊎ IsTrue (is_listed n v.out))
+MayStore n v = IsSomeAnd (held_of n v.holdings.held) (λ h. IsSome h.mark ⊎ IsTrue (is_among v.holdings.out n))
 
 -- the receipt of an update that was accepted with this number, in the state before it
 abbrev pub IsDone : Update → ℕ → State → Receipt → Type 0
@@ -94,7 +92,7 @@ IsDone (update.Unload base) n s r = IsSomeAnd (at_base base s.loaded) (λ m. r �
 -- An update was accepted: it is the last of the history, which is now seen; one call less is due. The receipt is the one of
 -- its number.
 abbrev pub after_update : Update → List Update → Receipt → Log → Log
-after_update u before r v = record (after_write v) { past = before ++ u ∷ []; allowance = v.allowance - 1; own = v.own ++ r ∷ [] }
+after_update u before r v = record (with_receipts (r ∷ []) (after_write v)) { past = before ++ u ∷ []; budget = record v.budget { allowance = v.budget.allowance - 1 } }
 
 -- A commit: the update of the tree was accepted, and the contents settled.
 abbrev pub AfterCommit : Update → Log → Log → Type 0
@@ -134,38 +132,38 @@ Answers u (receipt.Unload base answer) = u ≡ update.Unload base
 Answers u (receipt.Query which pc found) = ⊥
 
 -- the refusal of an update, right in a state, at a stamp
-abbrev pub IsRefusal : Update → State → ℕ → Receipt → Type 0
-IsRefusal u s stamp r = Answers u r × (accepted r ≡ None) × (moment r ≡ stamp) × IsRight s r
+abbrev pub IsRefusalOf : Update → State → ℕ → Receipt → Type 0
+IsRefusalOf u s stamp r = Answers u r × (accepted r ≡ None) × (moment r ≡ stamp) × IsRight s r
 
 -- The free head was loaded.
 abbrev pub after_head_load : ℕ → Log → Log
-after_head_load found v = record (after_load HEAD found v) { head = Some found }
+after_head_load found v = record (after_load HEAD found v) { holdings = record v.holdings { head = Some found } }
 
 -- The head was stored under the root's lock: it was taken off the free list and is out, or a node that was out was put there.
 abbrev pub after_take : ℕ → ℕ → Log → Log
-after_take taken next v = record (after_write v) { head = Some next; out = taken ∷ v.out }
+after_take taken next v = record (after_write v) { holdings = record v.holdings { head = Some next; out = taken ∷ v.holdings.out } }
 
 abbrev pub after_give : ℕ → Log → Log
-after_give n v = record (after_write v) { head = Some n; out = without_node n v.out }
+after_give n v = record (after_write v) { holdings = record v.holdings { head = Some n; out = all_but n v.holdings.out } }
 
 -- what the words of a held node spell: that it is free, and linked to this one
 abbrev pub IsFreeTo : ℕ → ℕ → Log → Type 0
-IsFreeTo n next v = IsSomeAnd (held_of n v.held) (λ h. IsSomeAnd (spelled (words_of h)) (λ s. s.body ≡ Link next))
+IsFreeTo n next v = IsSomeAnd (held_of n v.holdings.held) (λ h. IsSomeAnd (spelled (words_of h)) (λ s. s.body ≡ Link next))
 
 -- a store of the head takes the first node off the list, which the caller holds, or puts one there that was out
 abbrev pub MayStoreHead : ℕ → Log → Type 0
 MayStoreHead node v =
-    IsSome (held_of 0 v.held) × IsSomeAnd v.head (λ h. (IsFreeTo h node v × (length v.out < 4)) ⊎ (IsFreeTo node h v × IsTrue (is_listed node v.out)))
+    IsSome (held_of 0 v.holdings.held) × IsSomeAnd v.holdings.head (λ h. (IsFreeTo h node v × (length v.holdings.out < 4)) ⊎ (IsFreeTo node h v × IsTrue (is_among v.holdings.out node)))
 
 -- side by side: an exchange at the head takes a node off, or puts one there
 abbrev pub after_pop : ℕ → Log → Log
-after_pop n v = record (after_write v) { out = n ∷ v.out }
+after_pop n v = record (after_write v) { holdings = record v.holdings { out = n ∷ v.holdings.out } }
 
 abbrev pub after_push : ℕ → Log → Log
-after_push n v = record (after_write v) { out = without_node n v.out }
+after_push n v = record (after_write v) { holdings = record v.holdings { out = all_but n v.holdings.out } }
 
 abbrev pub MayPop : ℕ → ℕ → Log → Type 0
-MayPop n next v = IsFreeTo n next v × (length v.out < 4)
+MayPop n next v = IsFreeTo n next v × (length v.holdings.out < 4)
 
 abbrev pub MayPush : ℕ → ℕ → Log → Type 0
-MayPush n next v = IsFreeTo n next v × IsTrue (is_listed n v.out)
+MayPush n next v = IsFreeTo n next v × IsTrue (is_among v.holdings.out n)

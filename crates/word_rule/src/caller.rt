@@ -1,10 +1,11 @@
 //! Callers and notes.
 ghost use Rattle.std.specs.Prelude.{◌≡◌, ◌-◌, ◌<◌, ◌≤◌, ◌↔◌, length, IsTrue};
-ghost use Rattle.word_rule.specs.Known.{due, surplus};
-ghost use Rattle.word_rule.specs.Rule.{IsAlone};
+ghost use Rattle.word_rule.specs.CallerData.{due, surplus};
+ghost use Rattle.word_rule.specs.Callers.{IsAlone};
+ghost use Rattle.word_rule.specs.Places.{CALL_CREDIT};
 
-use crate::kin::Kin;
-use crate::views::Log;
+use crate::lineage::Names;
+use crate::log::Log;
 use atomic_table::Seat;
 use std::marker::Model;
 
@@ -16,19 +17,19 @@ pub struct Caller {
     pub(crate) seen: u32,
     /// The versions at which it took its locks: the loader's, and then the nodes'.
     pub(crate) versions: Vec<u64>,
-    pub(crate) kin: Kin,
+    pub(crate) names: Names,
 }
 
 impl Model for Caller {
-    ghost use Rattle.word_rule.specs.Known.{Known};
+    ghost use Rattle.word_rule.specs.CallerData.{CallerData};
 
-    ghost Value = { Known };
+    ghost Value = { CallerData };
 
-    ghost use Rattle.word_rule.specs.Own.{IsTied};
+    ghost use Rattle.word_rule.specs.CallerInvariant.{IsCaller};
 
     ghost view = { λ c. record { table = c.seat.table_id; left = c.left; log = c.seat.me.0 } };
 
-    ghost invariant = { λ c. IsTied c.left c.seen c.versions.items c.kin c.seat.me };
+    ghost invariant = { λ c. IsCaller c.left c.seen c.versions.items c.names c.seat.me };
 }
 
 /// What a caller had seen, to be told to another.
@@ -36,19 +37,19 @@ impl Model for Caller {
 pub struct Note {
     pub(crate) seat: Seat<(), Log>,
     pub(crate) seen: u32,
-    pub(crate) kin: Kin,
+    pub(crate) names: Names,
 }
 
 impl Model for Note {
-    ghost use Rattle.word_rule.specs.Known.{Noted};
+    ghost use Rattle.word_rule.specs.CallerData.{NoteData};
 
-    ghost Value = { Noted };
+    ghost Value = { NoteData };
 
-    ghost use Rattle.word_rule.specs.Own.{IsNoted};
+    ghost use Rattle.word_rule.specs.CallerInvariant.{KeepsNote};
 
     ghost view = { λ n. record { table = n.seat.table_id; log = n.seat.me.0 } };
 
-    ghost invariant = { λ n. IsNoted n.seen n.kin n.seat.me };
+    ghost invariant = { λ n. KeepsNote n.seen n.names n.seat.me };
 }
 
 impl Note {
@@ -77,16 +78,16 @@ impl Caller {
 
     /// Whether every other caller and every note that was ever made of these words was joined or learnt into it.
     pub fn alone(&self) -> bool
-        ensures { IsTrue result ↔ IsAlone self.now.log.kin }
+        ensures { IsTrue result ↔ IsAlone self.now.log.lineage }
     {
-        self.kin.is_alone()
+        self.names.is_alone()
     }
 
     /// Begins an update call, where one is left.
     pub fn use_one(&mut self) -> bool
         ensures answer { IsTrue result ↔ (0 < self.old.left) }
         ensures after { self.new ≡ record self.old { left = self.old.left - 1 } }
-        ensures may { IsTrue result → (0 < due self.new) × (64 ≤ surplus self.new) }
+        ensures may { IsTrue result → (0 < due self.new) × (CALL_CREDIT ≤ surplus self.new) }
     {
         if self.left == 0 {
             return false;

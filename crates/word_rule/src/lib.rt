@@ -3,12 +3,12 @@
 //! All that threads share is one table of words: the clock, the free head, the loader's version lock, the nodes of the tree
 //! and two copies of the loader's list. A thread steps on it with a `Caller`, which is passed by `&mut` beside the shared
 //! `&Words`. Each step is one sequentially consistent access to one word. What a caller has seen and done stands in its log,
-//! plain data that exists in the proofs alone (`views`); `specs/Logs`, `specs/Sights` and `specs/Steps` say what each step
-//! makes of it. What holds of all words and all logs between any two steps is the invariant in `specs/Rule` and
-//! `specs/Table`; `specs/Places` has where each word stands.
+//! plain data that exists in the proofs alone (`log`); `specs/Logs`, `specs/Sights` and `specs/Steps` say what each step
+//! makes of it. What holds of all words and all logs between any two steps is the table's invariant
+//! (`specs/TableInvariant`, and `specs/Callers` for callers); `specs/Places` has where each word stands.
 //!
 //! A caller splits off others and makes notes for them; a caller may join another, or learn a note. Each has a name, its
-//! maker's with a number, by which a caller knows whether it is alone (`kin`).
+//! maker's with a number, by which a caller knows whether it is alone (`lineage`).
 //!
 //! The layer above the model (reg_model: updates, histories, receipts) and the tree as pure values (tree_shape: what a node
 //! is, when contents are a lawful tree). From atomic_table it takes the steps, each proved to keep a rule that it is given.
@@ -17,18 +17,19 @@
 #![tactic(auto)]
 
 mod caller;
-mod kin;
-mod making;
-mod opening;
+mod initial;
+mod lifecycle;
+mod lineage;
+mod log;
 mod rule;
 mod seats;
 #[cfg(test)]
 mod tests;
-mod views;
 mod words;
 
 pub use caller::{Caller, Note};
-pub use views::{
-    Ask, CopySight, Holding, Kinship, Load, Loaded, LoaderHolding, LockId, Log, Mark, Sight, Terms,
+pub use log::{
+    Ask, Budget, CopySight, Holding, Holdings, Lineage, LoadEvent, LoadedWord, LoaderHolding,
+    LockId, Log, NodeSight, Receipts, Role, Sights, Terms, Trace,
 };
 pub use words::Words;

@@ -1,6 +1,6 @@
 //! The rule of the table, and what each step tells.
 
-use crate::views::Log;
+use crate::log::Log;
 use atomic_table::{Join, Play, Split, TableRule};
 use reg_model::Member;
 use std::marker::{Brand, PhantomData};
@@ -21,9 +21,9 @@ pub(crate) struct Law;
 impl TableRule<(), Log, Snapshot<Made>> for Law {
     ghost use Rattle.word_rule.specs.Key.{terms_of};
     ghost use Rattle.word_rule.specs.Logs.{first_log};
-    ghost use Rattle.word_rule.specs.Table.{Table};
+    ghost use Rattle.word_rule.specs.TableInvariant.{TableInvariant};
 
-    ghost holds = { λ key s. Table (terms_of key.value) s.words s.views };
+    ghost holds = { λ key s. TableInvariant (terms_of key.value) s.words s.views };
 
     ghost first = { λ key. first_log (terms_of key.value) };
 }
@@ -31,7 +31,7 @@ impl TableRule<(), Log, Snapshot<Made>> for Law {
 pub(crate) struct Looks;
 
 impl Play<(), Log> for Looks {
-    ghost use Rattle.word_rule.specs.Tells.{looks};
+    ghost use Rattle.word_rule.specs.Plays.{looks};
 
     ghost then = { looks };
 }
@@ -39,7 +39,7 @@ impl Play<(), Log> for Looks {
 pub(crate) struct Locks;
 
 impl Play<(), Log> for Locks {
-    ghost use Rattle.word_rule.specs.Tells.{locks};
+    ghost use Rattle.word_rule.specs.Plays.{locks};
 
     ghost then = { locks };
 }
@@ -47,7 +47,7 @@ impl Play<(), Log> for Locks {
 pub(crate) struct Marks;
 
 impl Play<(), Log> for Marks {
-    ghost use Rattle.word_rule.specs.Tells.{marks};
+    ghost use Rattle.word_rule.specs.Plays.{marks};
 
     ghost then = { marks };
 }
@@ -55,7 +55,7 @@ impl Play<(), Log> for Marks {
 pub(crate) struct Releases;
 
 impl Play<(), Log> for Releases {
-    ghost use Rattle.word_rule.specs.Tells.{releases};
+    ghost use Rattle.word_rule.specs.Plays.{releases};
 
     ghost then = { releases };
 }
@@ -63,17 +63,17 @@ impl Play<(), Log> for Releases {
 pub(crate) struct ReleasesSame;
 
 impl Play<(), Log> for ReleasesSame {
-    ghost use Rattle.word_rule.specs.Tells.{releases_same};
+    ghost use Rattle.word_rule.specs.Plays.{releases_same};
 
     ghost then = { releases_same };
 }
 
-pub(crate) struct Settles;
+pub(crate) struct Confirms;
 
-impl Play<(), Log> for Settles {
-    ghost use Rattle.word_rule.specs.Tells.{settles};
+impl Play<(), Log> for Confirms {
+    ghost use Rattle.word_rule.specs.Plays.{confirms};
 
-    ghost then = { settles };
+    ghost then = { confirms };
 }
 
 /// How much a split gives away, which only the call knows: of so many update calls, these.
@@ -91,11 +91,11 @@ impl Giving for Brand {
     ghost give = { 0 };
 }
 
-pub(crate) struct Cut<G> {
+pub(crate) struct Splits<G> {
     given: PhantomData<G>,
 }
 
-impl<G: Giving> Split<Log> for Cut<G> {
+impl<G: Giving> Split<Log> for Splits<G> {
     ghost use Rattle.word_rule.specs.Logs.{after_split, split_off};
 
     ghost left = { after_split G.left G.give };
@@ -113,9 +113,9 @@ impl Split<Log> for Notes {
     ghost right = { note_of };
 }
 
-pub(crate) struct Merges;
+pub(crate) struct Joins;
 
-impl Join<Log> for Merges {
+impl Join<Log> for Joins {
     ghost use Rattle.word_rule.specs.Logs.{after_join, spent_log};
 
     ghost both = { after_join };

@@ -1,11 +1,12 @@
 //! Callers and notes that come and go.
 ghost use Rattle.std.specs.Prelude.{◌≡◌, ◌≢◌, ◌+◌, ◌-◌, ◌*◌, ◌^◌, ◌<◌, ◌≤◌, [], length, None, OnErr, IfOk, IfErr, OnOk, false};
-ghost use Rattle.word_rule.specs.Logs.{after_split, split_off, after_note, note_of, after_join, after_learn};
-ghost use Rattle.word_rule.specs.Rule.{IsAlone, IsWhole};
+ghost use Rattle.word_rule.specs.Places.{ALLOWANCE, CALL_CREDIT};
+ghost use Rattle.word_rule.specs.Logs.{is_spent, after_split, split_off, after_note, note_of, after_join, after_learn};
+ghost use Rattle.word_rule.specs.Callers.{IsAlone, IsWhole};
 
 use crate::caller::{Caller, Note};
-use crate::rule::{Cut, Giving, Learns, Merges, Notes, Settles};
-use crate::views::Log;
+use crate::log::Log;
+use crate::rule::{Confirms, Giving, Joins, Learns, Notes, Splits};
 use crate::words::Words;
 use atomic_table::Seat;
 use reg_model::NoMemory;
@@ -16,17 +17,17 @@ use std::marker::Brand;
 const CLOCK_WORD: usize = 0;
 
 impl Words {
-    fn cut<G: Giving>(&self, seat: &mut Seat<(), Log>, left: u32, give: u32) -> Seat<(), Log>
+    fn split_seat<G: Giving>(&self, seat: &mut Seat<(), Log>, left: u32, give: u32) -> Seat<(), Log>
         requires table { seat.old.table_id ≡ self.now.table }
         requires about { (G.left ≡ left) × (G.give ≡ give) }
-        requires stands { seat.old.me.0.spent ≡ false }
-        requires room { (give ≤ left) × (left ≤ seat.old.me.0.allowance) × (64 * left ≤ seat.old.me.0.credit) }
+        requires stands { is_spent seat.old.me.0.role ≡ false }
+        requires room { (give ≤ left) × (left ≤ seat.old.me.0.budget.allowance) × (CALL_CREDIT * left ≤ seat.old.me.0.budget.credit) }
         ensures old { (seat.new.table_id ≡ seat.old.table_id) × (seat.new.id ≡ seat.old.id) × (seat.new.me ≡ (after_split left give seat.old.me.0, seat.old.me.1)) }
         ensures new { (result.table_id ≡ seat.old.table_id) × (result.me ≡ (split_off left give seat.old.me.0, [])) }
     {
         let _ = left;
         let _ = give;
-        self.table.shared.split_seat::<Cut<G>>(seat)
+        self.table.shared.split_seat::<Splits<G>>(seat)
     }
 
     /// Splits off a caller with so many of the update calls.
@@ -38,15 +39,15 @@ impl Words {
         ensures err { OnErr result (me.new ≡ me.old) }
     {
         let versions = vec![in alloc; 0u64; me.versions.len()]?;
-        let kin = me.kin.birth(alloc)?;
-        let seat = self.cut::<Brand>(&mut me.seat, me.left, give);
+        let names = me.names.fork(alloc)?;
+        let seat = self.split_seat::<Brand>(&mut me.seat, me.left, give);
         me.left -= give;
         Ok(Caller {
             seat,
             left: give,
             seen: me.seen,
             versions,
-            kin,
+            names,
         })
     }
 
@@ -57,20 +58,20 @@ impl Words {
         ensures me { OnOk result (me.new ≡ record me.old { log = after_note me.old.log }) }
         ensures err { OnErr result (me.new ≡ me.old) }
     {
-        let kin = me.kin.birth(alloc)?;
+        let names = me.names.fork(alloc)?;
         let seen = me.seen;
         let seat = self.table.shared.split_seat::<Notes>(&mut me.seat);
-        Ok(Note { seat, seen, kin })
+        Ok(Note { seat, seen, names })
     }
 
     // A load of the clock, by one into which another was joined: so it knows what it has now.
-    fn settle(&self, seat: &mut Seat<(), Log>)
+    fn confirm(&self, seat: &mut Seat<(), Log>)
         requires { seat.old.table_id ≡ self.now.table }
         ensures same { (seat.new.table_id ≡ seat.old.table_id) × (seat.new.id ≡ seat.old.id) × (seat.new.me ≡ seat.old.me) }
-        ensures allowance { seat.old.me.0.allowance ≤ 2 ^ 26 }
-        ensures whole { seat.old.me.0.spent ≡ false → IsAlone seat.old.me.0.kin → IsWhole seat.old.me.0 }
+        ensures allowance { seat.old.me.0.budget.allowance ≤ ALLOWANCE }
+        ensures whole { is_spent seat.old.me.0.role ≡ false → IsAlone seat.old.me.0.lineage → IsWhole seat.old.me.0 }
     {
-        self.table.shared.load::<Settles>(seat, CLOCK_WORD);
+        self.table.shared.load::<Confirms>(seat, CLOCK_WORD);
     }
 
     /// Joins another caller into this one: its update calls, what it has seen, and its receipts. It comes back where there
@@ -78,9 +79,9 @@ impl Words {
     pub fn join(&self, alloc: Global, me: &mut Caller, other: Caller) -> Result<(), Caller>
         requires table { me.old.table ≡ self.now.table }
         requires other { other.table ≡ self.now.table }
-        requires idle { (other.log.loader ≡ None) × (other.log.held ≡ []) × (other.log.out ≡ []) }
+        requires idle { (other.log.loader ≡ None) × (other.log.holdings.held ≡ []) × (other.log.holdings.out ≡ []) }
         ensures ok { OnOk result (me.new ≡ record { table = me.old.table; left = me.old.left + other.left; log = after_join me.old.log other.log }) }
-        ensures whole { OnOk result (IsAlone me.new.log.kin → IsWhole me.new.log) }
+        ensures whole { OnOk result (IsAlone me.new.log.lineage → IsWhole me.new.log) }
         ensures err { IfErr result (λ kept. (kept ≡ other) × (me.new ≡ me.old)) }
     {
         let _ = alloc;
@@ -89,19 +90,19 @@ impl Words {
             left,
             seen,
             versions,
-            kin,
+            names,
         } = other;
-        if let Err(kin) = me.kin.take_in(kin) {
+        if let Err(names) = me.names.join(names) {
             return Err(Caller {
                 seat,
                 left,
                 seen,
                 versions,
-                kin,
+                names,
             });
         }
-        self.table.shared.join_seat::<Merges>(&mut me.seat, seat);
-        self.settle(&mut me.seat);
+        self.table.shared.join_seat::<Joins>(&mut me.seat, seat);
+        self.confirm(&mut me.seat);
         me.left += left;
         me.seen = me.seen.max(seen);
         Ok(())
@@ -118,13 +119,13 @@ impl Words {
         let Note {
             seat,
             seen: noted,
-            kin,
+            names,
         } = note;
-        if let Err(kin) = me.kin.take_in(kin) {
+        if let Err(names) = me.names.join(names) {
             return Err(Note {
                 seat,
                 seen: noted,
-                kin,
+                names,
             });
         }
         self.table.shared.join_seat::<Learns>(&mut me.seat, seat);

@@ -1,12 +1,13 @@
 //! The words, and the steps on version locks.
 ghost use Rattle.std.specs.Prelude.{◌≡◌, ◌≢◌, ◌+◌, ◌*◌, ◌%◌, ◌<◌, ℕ, List, IfOk, IfErr, IfSome, IsSome, IsSomeAnd, false};
-ghost use Rattle.word_rule.specs.Logs.{after_load, after_loader_lock, after_mark, after_loader_release, after_loader_release_same};
+ghost use Rattle.word_rule.specs.Logs.{after_load, after_loader_lock, after_write, after_loader_release, after_loader_release_same};
+ghost use Rattle.word_rule.specs.CallerData.{surplus};
 ghost use Rattle.word_rule.specs.Places.{LOADER};
-ghost use Rattle.word_rule.specs.Rule.{IsLockedAt};
+ghost use Rattle.word_rule.specs.Callers.{IsLockedAt};
 
 use crate::caller::Caller;
+use crate::log::{Ask, LockId, Log};
 use crate::rule::{Law, Locks, Looks, Made, Marks, Releases, ReleasesSame};
-use crate::views::{Ask, LockId, Log};
 use atomic_table::Table;
 use reg_model::Member;
 use std::alloc::Global;
@@ -34,9 +35,9 @@ pub struct Words {
 
 impl Model for Words {
     ghost use Rattle.std.specs.Prelude.{◌≡◌};
-    ghost use Rattle.word_rule.specs.Known.{Board};
+    ghost use Rattle.word_rule.specs.CallerData.{WordsData};
 
-    ghost Value = { Board };
+    ghost Value = { WordsData };
 
     ghost use Rattle.word_rule.specs.Key.{terms_of};
     ghost use Rattle.word_rule.specs.Places.{word_count};
@@ -105,7 +106,7 @@ impl Words {
         requires table { me.old.table ≡ self.now.table }
         requires lock { lock ≡ LockId.Loader }
         requires locked { seen % 2 ≡ 1 }
-        ensures ok { IfOk result (λ _. me.new ≡ record me.old { log = after_mark me.old.log }) }
+        ensures ok { IfOk result (λ _. me.new ≡ record me.old { log = after_write me.old.log }) }
         ensures err { IfErr result (λ found. (found ≢ seen) × (me.new ≡ record me.old { log = after_load LOADER found me.old.log })) }
     {
         let _ = lock;
@@ -123,7 +124,7 @@ impl Words {
         requires table { me.old.table ≡ self.now.table }
         requires lock { lock ≡ LockId.Loader }
         requires held { IsSome me.old.log.loader }
-        requires surplus { 64 * me.old.left < me.old.log.credit }
+        requires surplus { 0 < surplus me.old }
         ensures log { me.new ≡ record me.old { log = after_loader_release me.old.log } }
         ensures before { IfSome me.old.log.loader (λ h. IsLockedAt h.version result) }
     {

@@ -1,16 +1,17 @@
 use Rattle.std.proofs.Common.{◌≡◌, sym, ap, ◌∙◌, subst, arith, None, []}
-use Rattle.word_rule.proofs.Comings.{joins}
+use Rattle.word_rule.specs.Logs.{is_spent}
+use Rattle.word_rule.proofs.Joins.{joins}
 use Rattle.word_rule.proofs.words.Words.join.Goals as goal
 
 pub invariant_of-result : goal.invariant_of-result
 invariant_of-result c = let i = c.other.invariant in record {
   bare = i.bare;
-  stands = i.stands;
+  role = i.role;
   seen_all = i.seen_all;
   allowed = i.allowed;
   most = i.most;
   credit = i.credit;
-  kin_is = (c.in-Err.ensures.err _ _ c.me.invariant.kin_is i.kin_is).1;
+  names_are = (c.in-Err.ensures.err _ _ c.me.invariant.names_are i.names_are).1;
   wide = i.wide;
   loader = i.loader;
 }
@@ -18,12 +19,12 @@ invariant_of-result c = let i = c.other.invariant in record {
 pub invariant_of-me : goal.invariant_of-me
 invariant_of-me c = let i = c.me.invariant in record {
   bare = i.bare;
-  stands = i.stands;
+  role = i.role;
   seen_all = i.seen_all;
   allowed = i.allowed;
   most = i.most;
   credit = i.credit;
-  kin_is = (c.in-Err.ensures.err _ _ i.kin_is c.other.invariant.kin_is).0;
+  names_are = (c.in-Err.ensures.err _ _ i.names_are c.other.invariant.names_are).0;
   wide = i.wide;
   loader = i.loader;
 }
@@ -34,6 +35,6 @@ join_seat-requires c = (
   ap (λ k. k.table) c.other.view_is ∙ (c.requires.other ∙ sym (ap (λ k. k.table) c.self.view_is)),
   c.other.invariant.bare,
   omega (arith, c.self.invariant.1),
-  joins _ _ _ c.me.invariant.stands _ _ c.other.invariant.stands (subst (λ k. k.log.loader ≡ None) (sym c.other.view_is) c.requires.idle.0)
-      (subst (λ k. k.log.held ≡ []) (sym c.other.view_is) c.requires.idle.1) (subst (λ k. k.log.out ≡ []) (sym c.other.view_is) c.requires.idle.2),
+  joins _ _ _ (ap is_spent c.me.invariant.role) _ _ (ap is_spent c.other.invariant.role) (subst (λ k. k.log.loader ≡ None) (sym c.other.view_is) c.requires.idle.0)
+      (subst (λ k. k.log.holdings.held ≡ []) (sym c.other.view_is) c.requires.idle.1) (subst (λ k. k.log.holdings.out ≡ []) (sym c.other.view_is) c.requires.idle.2),
 )

@@ -1,24 +1,25 @@
 use Rattle.std.proofs.Common.{sym, ap, ◌∙◌, arith}
-use Rattle.word_rule.proofs.Comings.{learns}
+use Rattle.word_rule.specs.Logs.{is_spent}
+use Rattle.word_rule.proofs.Joins.{learns}
 use Rattle.word_rule.proofs.words.Words.learn.Goals as goal
 
 pub invariant_of-result : goal.invariant_of-result
 invariant_of-result c = let i = c.note.invariant in record {
   bare = i.bare;
   seen_all = i.seen_all;
-  kin_is = (c.in-Err.ensures.err _ _ c.me.invariant.kin_is i.kin_is).1;
+  names_are = (c.in-Err.ensures.err _ _ c.me.invariant.names_are i.names_are).1;
   note = i.note;
 }
 
 pub invariant_of-me : goal.invariant_of-me
 invariant_of-me c = let i = c.me.invariant in record {
   bare = i.bare;
-  stands = i.stands;
+  role = i.role;
   seen_all = i.seen_all;
   allowed = i.allowed;
   most = i.most;
   credit = i.credit;
-  kin_is = (c.in-Err.ensures.err _ _ i.kin_is c.note.invariant.kin_is).0;
+  names_are = (c.in-Err.ensures.err _ _ i.names_are c.note.invariant.names_are).0;
   wide = i.wide;
   loader = i.loader;
 }
@@ -29,5 +30,5 @@ join_seat-requires c = (
   ap (λ k. k.table) c.note.view_is ∙ (c.requires.note ∙ sym (ap (λ k. k.table) c.self.view_is)),
   c.note.invariant.bare,
   omega (arith, c.self.invariant.1),
-  learns _ _ _ c.me.invariant.stands _ _ c.note.invariant.note,
+  learns _ _ _ (ap is_spent c.me.invariant.role) _ _ c.note.invariant.note,
 )

@@ -1,20 +1,21 @@
 use Rattle.std.proofs.Common.{sym, ap, ◌∙◌, arith}
-use Rattle.word_rule.proofs.Comings.{notes}
+use Rattle.word_rule.specs.Logs.{is_spent}
+use Rattle.word_rule.proofs.Joins.{notes}
 use Rattle.word_rule.proofs.words.Words.note.Goals as goal
 
 pub invariant_of-me : goal.invariant_of-me
 invariant_of-me c = let i = c.me.invariant in record {
   bare = i.bare;
-  stands = i.stands;
+  role = i.role;
   seen_all = i.seen_all;
   allowed = i.allowed;
   most = i.most;
   credit = i.credit;
-  kin_is = c.in_err-kin.ensures.err _ i.kin_is;
+  names_are = c.in_err-names.ensures.err _ i.names_are;
   wide = i.wide;
   loader = i.loader;
 }
 
 pub split_seat-seat-requires : goal.split_seat-seat-requires
 split_seat-seat-requires c =
-    (ap (λ k. k.table) c.me.view_is ∙ (c.requires ∙ sym (ap (λ k. k.table) c.self.view_is)), omega (arith, c.self.invariant.1), notes _ _ _ c.me.invariant.stands)
+    (ap (λ k. k.table) c.me.view_is ∙ (c.requires ∙ sym (ap (λ k. k.table) c.self.view_is)), omega (arith, c.self.invariant.1), notes _ _ _ (ap is_spent c.me.invariant.role))

@@ -1,10 +1,11 @@
 use Rattle.std.proofs.Common.{◌<◌, ◌*◌, sym, ap, ◌∙◌, subst, arith, IsSome}
+use Rattle.word_rule.specs.CallerData.{surplus}
 use Rattle.word_rule.proofs.Loader.{releases_kept, first_of, version_kept}
 use Rattle.word_rule.proofs.words.Words.release.Goals as goal
 
 pub swap-requires : goal.swap-requires
 swap-requires c =
-    let some_credit : 0 < c.me.inside.seat.me.0.credit = (let s = subst (λ k. 64 * k.left < k.log.credit) (sym c.me.view_is) c.requires.surplus in omega (arith, s)) in
+    let some_credit : 0 < c.me.inside.seat.me.0.budget.credit = (let s = subst (λ k. 0 < surplus k) (sym c.me.view_is) c.requires.surplus in omega (arith, s)) in
     let first = first_of c.me.inside.versions.items c.index.result.now (omega (arith, c.me.invariant.wide)) c.index.ensures in (
       ap (λ k. k.table) c.me.view_is ∙ (c.requires.table ∙ sym (ap (λ k. k.table) c.self.view_is)),
       omega (arith, c.self.invariant.1),

@@ -1,4 +1,4 @@
 use Rattle.word_rule.proofs.words.Words.split.Given as goal
 
-abbrev pub ghosts-cut : goal.ghosts-cut
-ghosts-cut a = record { left = a.left; give = a.give }
+abbrev pub ghosts-split_seat : goal.ghosts-split_seat
+ghosts-split_seat a = record { left = a.left; give = a.give }

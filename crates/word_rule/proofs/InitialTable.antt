@@ -1,0 +1,192 @@
+-- The whole invariant holds of the opening words.
+use Rattle.std.proofs.Common.{◌≡◌, ℕ, zero, suc, ◌+◌, ◌-◌, ◌*◌, ◌%◌, ◌<◌, ◌≤◌, ◌⊎◌, ◌↔◌, ◌||◌, ◌==◌, nat_lt, List, [], ◌∷◌, ◌++◌, length, get_or, set, take, drop, replicate, sym, refl, ap, ◌∙◌, subst, inl, inr, arith, Some, None, IsTrue, false, true, true≢false, Bool, Contains, append_assoc, get_or-append-add, eq-or-lt_of_le, eq-eqb, ne_eqb, lt_of_not-le, if◌then◌else◌}
+use Rattle.std.specs.List.{AllByRecursion}
+use native.Mathlib.Decide.{ℕ_discrete, dec_le}
+use borrow.Author.Tests.{lt-ltb, le-ltb}
+use lib.ListN.{get_or-append}
+use lib.Seq.{drop-append_seam, drop-append-add, take-append_seam}
+use Rattle.reg_model.specs.declared.span.Member.{Member}
+use Rattle.tree_shape.specs.Shapes.{Shape, Body, Link, Entries, entries_of}
+use Rattle.tree_shape.specs.Trees.{HasEntry, branches}
+use Rattle.tree_shape.specs.Numbers.{times, once}
+use Rattle.tree_shape.specs.Lawful.{IsLawful, IsOrdered, IsFilled, Fits}
+use Rattle.word_rule.specs.declared.log.Terms.{Terms}
+use Rattle.word_rule.specs.Places.{copy_words, copy_place, copy_at, initial_kind, initial_link, initial_node, initial_nodes, initial_words}
+use Rattle.word_rule.specs.Spelling.{spelled}
+use Rattle.word_rule.specs.Logs.{first_log}
+use Rattle.word_rule.specs.Callers.{AreTerms, start}
+use Rattle.word_rule.specs.TableInvariant.{TableInvariant, Shadow, ObservationsHold, IsChain, HoldsNode, node_words, version_of}
+use Rattle.word_rule.proofs.InitialCallers.{callers_begin, initial_nodes_length, initial_version, only}
+
+-- what the opening words spell: the root an empty leaf, all others free
+abbrev initial_body : ℕ → ℕ → Body
+initial_body nodes n = if n == 0 then Entries [] else Link (initial_link nodes n)
+
+abbrev initial_shape : ℕ → ℕ → Shape
+initial_shape nodes n = record { level = 0; low = 0; high = 18446744073709551615; body = initial_body nodes n }
+
+abbrev is_root : ℕ → Bool
+is_root n = n == 0
+
+root_only : (n : ℕ) → IsTrue (is_root n) → n ≡ 0
+root_only n h = go (ℕ_discrete n 0)
+  where
+    go : Dec (n ≡ 0) → n ≡ 0
+    go (yes e) = e
+    go (no ne) = absurd (true≢false (sym h ∙ ne_eqb n 0 ne))
+
+not_root : (n : ℕ) → is_root (suc n) ≡ false
+not_root n = ne_eqb (suc n) 0 (λ e. omega (arith, e))
+
+-- a link is a node's number, or 0
+link_small : (nodes n : ℕ) → n < nodes → initial_link nodes n ≤ n + 1
+link_small nodes n h = go ((n == 0) || (n + 1 == nodes))
+  where
+    go : (b : Bool) → (if b then 0 else (n + 1)) ≤ n + 1
+    go true = omega arith
+    go false = omega arith
+
+free_spells : (link : ℕ) → link < 4294967296 → spelled (set (set (set (replicate 36 0) 1 2) 4 18446744073709551615) 6 link) ≡ Some record { level = 0; low = 0; high = 18446744073709551615; body = Link link }
+free_spells link h = rw (lt-ltb link 4294967296 h) refl
+
+initial_spells : (nodes n : ℕ) → n < nodes → nodes ≤ 16384 → spelled (initial_node nodes n) ≡ Some (initial_shape nodes n)
+initial_spells nodes zero h small = refl
+initial_spells nodes (suc n) h small =
+    let l = link_small nodes (suc n) h in let other = not_root n in
+    let kind : initial_kind (suc n) ≡ 2 = rw other refl in
+    let body : initial_body nodes (suc n) ≡ Link (initial_link nodes (suc n)) = rw other refl in
+    let link_short : initial_link nodes (suc n) < 4294967296 = omega (arith, l, h, small) in
+    ap (λ k. spelled (set (set (set (replicate 36 0) 1 k) 4 18446744073709551615) 6 (initial_link nodes (suc n)))) kind
+    ∙ (free_spells (initial_link nodes (suc n)) link_short ∙ ap (λ b. Some record { level = 0; low = 0; high = 18446744073709551615; body = b }) (sym body))
+
+sum_zero : (n : ℕ) → once (n == 0) + 0 ≡ once (is_root n)
+sum_zero n = omega arith
+
+initial_lawful : (nodes : ℕ) → IsLawful (initial_shape nodes) is_root
+initial_lawful nodes = record {
+  tree = record {
+    root_low = refl;
+    root_high = refl;
+    height = omega arith;
+    reached = λ n. sum_zero n;
+    ordered = λ n h. subst (λ k. IsOrdered (initial_shape nodes k)) (sym (root_only n h)) (refl, tt);
+    fitting = λ n h. subst (λ k. AllByRecursion (Fits (initial_shape nodes)) (branches ((initial_shape nodes k).level - 1) (initial_shape nodes k))) (sym (root_only n h)) tt;
+  };
+  filled = λ n h. subst (λ k. IsFilled k (initial_shape nodes k)) (sym (root_only n h)) (omega arith, omega arith);
+}
+
+-- the words of a node, among all opening words
+nodes_at : (nodes m n : ℕ) → n < m → (rest : List ℕ) → take 36 (drop (36 * n) (initial_nodes nodes m ++ rest)) ≡ initial_node nodes n
+nodes_at nodes zero n h rest = absurd (omega (arith, h))
+nodes_at nodes (suc m) n h rest = go (eq-or-lt_of_le h) (nodes_at nodes m n)
+  where
+    len : length (initial_nodes nodes m) ≡ 36 * m
+    len = initial_nodes_length nodes m
+
+    go : (suc n ≡ suc m) ⊎ (suc n < suc m) → (n < m → (rest : List ℕ) → take 36 (drop (36 * n) (initial_nodes nodes m ++ rest)) ≡ initial_node nodes n)
+        → take 36 (drop (36 * n) ((initial_nodes nodes m ++ initial_node nodes m) ++ rest)) ≡ initial_node nodes n
+    go (inl e) before =
+        let l = len in let at : 36 * n ≡ length (initial_nodes nodes m) = omega (arith, e, l) in let same : n ≡ m = omega (arith, e) in
+        ap (λ z. take 36 (drop (36 * n) z)) (append_assoc (initial_nodes nodes m) (initial_node nodes m) rest)
+        ∙ (ap (λ k. take 36 (drop k (initial_nodes nodes m ++ (initial_node nodes m ++ rest)))) at
+        ∙ (ap (take 36) (drop-append_seam (initial_nodes nodes m) (initial_node nodes m ++ rest)) ∙ (take-append_seam (initial_node nodes m) rest ∙ ap (initial_node nodes) (sym same))))
+    go (inr less) before = ap (λ z. take 36 (drop (36 * n) z)) (append_assoc (initial_nodes nodes m) (initial_node nodes m) rest) ∙ before (omega (arith, less)) (initial_node nodes m ++ rest)
+
+node_at : (t : Terms) (n : ℕ) → n < t.nodes → node_words (initial_words t) n ≡ initial_node t.nodes n
+node_at t n h = ap (take 36) (drop-append-add (0 ∷ 1 ∷ 0 ∷ 0 ∷ []) (initial_nodes t.nodes t.nodes ++ replicate (2 * copy_words t) 0) (36 * n)) ∙ nodes_at t.nodes t.nodes n h (replicate (2 * copy_words t) 0)
+
+version_at : (t : Terms) (n : ℕ) → n < t.nodes → version_of (initial_words t) n ≡ 0
+version_at t n h =
+    let len = initial_nodes_length t.nodes t.nodes in
+    let room : 36 * n < length (initial_nodes t.nodes t.nodes) = omega (arith, len, h) in
+    get_or-append-add (0 ∷ 1 ∷ 0 ∷ 0 ∷ []) (initial_nodes t.nodes t.nodes ++ replicate (2 * copy_words t) 0) (36 * n) 0 ∙ (get_or-append (initial_nodes t.nodes t.nodes) (replicate (2 * copy_words t) 0) 0 (36 * n) room ∙ initial_version t.nodes t.nodes n h)
+
+-- the free nodes from n on, so many
+abbrev free_from : ℕ → ℕ → List ℕ
+free_from n zero = []
+free_from n (suc more) = n ∷ free_from (suc n) more
+
+link_is : (nodes n more : ℕ) → 0 < n → n + suc more ≡ nodes → initial_link nodes n ≡ (if more == 0 then 0 else (n + 1))
+link_is nodes n zero some_n all = rw (ne_eqb n 0 (λ e. omega (arith, e, some_n)), eq-eqb (n + 1) nodes (omega (arith, all))) refl
+link_is nodes n (suc more) some_n all = rw (ne_eqb n 0 (λ e. omega (arith, e, some_n)), ne_eqb (n + 1) nodes (λ e. omega (arith, e, all)), ne_eqb (suc more) 0 (λ e. omega (arith, e))) refl
+
+-- they are linked one to the next, the last one to 0
+chained : (nodes n more : ℕ) → 0 < n → n + more ≡ nodes → IsChain (initial_shape nodes) (if more == 0 then 0 else n) (free_from n more)
+chained nodes n zero some_n all = refl
+chained nodes n (suc more) some_n all =
+    let body : initial_body nodes n ≡ Link (initial_link nodes n) = rw (ne_eqb n 0 (λ e. omega (arith, e, some_n))) refl in
+    let link = link_is nodes n more some_n all in
+    let rest : IsChain (initial_shape nodes) (if more == 0 then 0 else suc n) (free_from (suc n) more) = chained nodes (suc n) more (omega arith) (omega (arith, all)) in
+    let next : (if more == 0 then 0 else suc n) ≡ (if more == 0 then 0 else (n + 1)) = (let e : suc n ≡ n + 1 = omega arith in ap (λ k. if more == 0 then 0 else k) e) in
+    rw (ne_eqb (suc more) 0 (λ e. omega (arith, e))) (refl, (λ e. omega (arith, e, some_n)), (initial_link nodes n, (body, subst (λ k. IsChain (initial_shape nodes) k (free_from (suc n) more)) (next ∙ sym link) rest)))
+
+-- each of them is there once, and no other number
+free_below : (k n more : ℕ) → k < n → times k (free_from n more) ≡ 0
+free_below k n zero less = refl
+free_below k n (suc more) less = let r = free_below k (suc n) more (omega (arith, less)) in rw (ne_eqb k n (λ e. omega (arith, e, less))) (omega (arith, r))
+
+free_above : (k n more : ℕ) → n + more ≤ k → times k (free_from n more) ≡ 0
+free_above k n zero above = refl
+free_above k n (suc more) above = let r = free_above k (suc n) more (omega (arith, above)) in rw (ne_eqb k n (λ e. omega (arith, e, above))) (omega (arith, r))
+
+free_once : (k n more : ℕ) → n ≤ k → k < n + more → times k (free_from n more) ≡ 1
+free_once k n zero from below = absurd (omega (arith, from, below))
+free_once k n (suc more) from below = go (ℕ_discrete k n) (free_once k (suc n) more)
+  where
+    go : Dec (k ≡ n) → (suc n ≤ k → k < suc n + more → times k (free_from (suc n) more) ≡ 1) → once (k == n) + times k (free_from (suc n) more) ≡ 1
+    go (yes e) later = let r = free_below k (suc n) more (omega (arith, e)) in rw (eq-eqb k n e) (omega (arith, r))
+    go (no ne) later = let r = later (omega (arith, from, ne)) (omega (arith, below)) in rw (ne_eqb k n ne) (omega (arith, r))
+
+abbrev initial_shadow : Terms → Shadow
+initial_shadow t = record { settled = initial_shape t.nodes; holder = λ n. None; stored = λ n. false; live = is_root; free = free_from 1 (t.nodes - 1) }
+
+initial_each : (nodes n : ℕ) → 4 ≤ nodes → once (is_root n) + times n (free_from 1 (nodes - 1)) + 0 ≡ once (nat_lt n nodes)
+initial_each nodes zero some_nodes = let r = free_below 0 1 (nodes - 1) (omega arith) in rw (lt-ltb 0 nodes (omega (arith, some_nodes))) (omega (arith, r))
+initial_each nodes (suc n) some_nodes = go (dec_le nodes (suc n))
+  where
+    go : Dec (nodes ≤ suc n) → once (is_root (suc n)) + times (suc n) (free_from 1 (nodes - 1)) + 0 ≡ once (nat_lt (suc n) nodes)
+    go (yes h) = let r = free_above (suc n) 1 (nodes - 1) (omega (arith, h, some_nodes)) in let z = not_root n in rw (z, le-ltb (suc n) nodes h) (omega (arith, r))
+    go (no h) = let less : suc n < nodes = lt_of_not-le h in let r = free_once (suc n) 1 (nodes - 1) (omega arith) (omega (arith, less)) in let z = not_root n in rw (z, lt-ltb (suc n) nodes less) (omega (arith, r))
+
+-- the root has no entries
+initial_entries : (t : Terms) (m : Member) → HasEntry (initial_shape t.nodes) is_root m ↔ Contains (start t).registered m
+initial_entries t m =
+    ((λ h. absurd (none h.0 h.1.1.0 (root_only h.0 h.1.0) h.1.1.1)), (λ h. absurd (omega (arith, h.1))))
+  where
+    none : (n k : ℕ) → n ≡ 0 → k < length (entries_of (initial_shape t.nodes n)) → ⊥
+    none n k e h = let z : k < 0 = subst (λ j. k < length (entries_of (initial_shape t.nodes j))) e h in omega (arith, z)
+
+zeros : (k n i : ℕ) → ◌≡◌ {A = ℕ} (get_or (take k (replicate n 0)) i 0) 0
+zeros zero n i = refl
+zeros (suc k) zero i = refl
+zeros (suc k) (suc n) zero = refl
+zeros (suc k) (suc n) (suc i) = zeros k n i
+
+initial_copy : (t : Terms) (i : ℕ) → get_or (copy_at t (initial_words t) 0) i 0 ≡ 0
+initial_copy t i =
+    let n = initial_nodes_length t.nodes t.nodes in
+    let at : copy_place t 0 ≡ length (0 ∷ 1 ∷ 0 ∷ 0 ∷ initial_nodes t.nodes t.nodes) = omega (arith, n) in
+    ap (λ k. get_or (take (copy_words t) (drop k (initial_words t))) i 0) at
+    ∙ (ap (λ z. get_or (take (copy_words t) z) i 0) (drop-append_seam (0 ∷ 1 ∷ 0 ∷ 0 ∷ initial_nodes t.nodes t.nodes) (replicate (2 * copy_words t) 0)) ∙ zeros (copy_words t) (2 * copy_words t) i)
+
+initial_chain : (nodes : ℕ) → 4 ≤ nodes → IsChain (initial_shape nodes) 1 (free_from 1 (nodes - 1))
+initial_chain nodes some_nodes = subst (λ h. IsChain (initial_shape nodes) h (free_from 1 (nodes - 1))) (rw (ne_eqb (nodes - 1) 0 (λ e. omega (arith, e, some_nodes))) refl) (chained nodes 1 (nodes - 1) (omega arith) (omega (arith, some_nodes)))
+
+pub table_begins : (t : Terms) → AreTerms t → TableInvariant t (initial_words t) (first_log t ∷ [])
+table_begins t terms = record {
+  history = [];
+  callers = callers_begin t terms;
+  shadow = initial_shadow t;
+  nodes = record {
+    lawful = initial_lawful t.nodes;
+    entries = initial_entries t;
+    unlocked = λ n h. (ap (λ k. k % 4) (version_at t n h), ap spelled (node_at t n h) ∙ initial_spells t.nodes n h terms.nodes.1);
+    held = only (λ id v. AllByRecursion (HoldsNode t (initial_words t) (initial_shadow t) id) v.holdings.held) (first_log t) tt;
+    holders = λ n. tt;
+    each_once = λ n. initial_each t.nodes n terms.nodes.0;
+    chain = initial_chain t.nodes terms.nodes.0;
+    few_out = only (λ _ v. length v.holdings.out ≤ 4) (first_log t) (omega arith);
+  };
+  active = ([], ((initial_copy t 0, initial_copy t 1, tt), λ m. ((λ h. h), (λ h. h)), refl));
+  observations = only (λ _ v. ObservationsHold t (initial_words t) [] (initial_shadow t) v) (first_log t) (record { sights = tt; copies = tt; filled = tt; head = λ h. absurd (true≢false (sym h)) });
+}

@@ -1,0 +1,416 @@
+-- Callers and notes that come and go keep the rule.
+use Rattle.std.proofs.Common.{◌≡◌, ◌≢◌, ℕ, zero, suc, ◌+◌, ◌*◌, ◌<◌, ◌≤◌, List, [], ◌∷◌, ◌++◌, length, length-append, set, sym, refl, ap, ◌∙◌, subst, ⊎_elim, arith, append-nil, lt_of_not-le, le_of_lt, Option, Some, None, false, true, true≢false, max}
+use Rattle.std.specs.List.{AllByRecursion, count_by}
+use Rattle.std.proofs.lemmas.List.Sums.{sum_by-cons, sum_by-append}
+use Rattle.word_rule.specs.declared.log.Role.TheVariants as role
+use Rattle.word_rule.specs.Places.{CALL_CREDIT}
+use mathlib.Core.Option.{some, some-injective}
+use mathlib.Core.List.{IsPrefix}
+use native.Mathlib.Decide.{dec_le}
+use Rattle.std.proofs.lemmas.Option.{none-some}
+use borrow.Author.Tests.{lt-ltb, le-ltb}
+use lib.ListN.{get_elem?}
+use Rattle.atomic_table.specs.Table.{State, Splits, Joins}
+use Rattle.atomic_table.proofs.Lists.{at_set, set_here, set_else, at_longer}
+use Rattle.reg_model.specs.Receipt.{moment, AllHold}
+use Rattle.reg_model.specs.declared.answer.Update.{Update}
+use Rattle.reg_model.specs.declared.answer.Receipt.{Receipt}
+use Rattle.reg_model.proofs.Receipts.{holds_on}
+use Rattle.word_rule.specs.declared.log.Role.{Role}
+use Rattle.word_rule.specs.declared.log.Budget.{Budget}
+use Rattle.word_rule.specs.declared.log.Receipts.{Receipts}
+use Rattle.word_rule.specs.declared.log.Log.{Log}
+use Rattle.word_rule.specs.declared.log.Terms.{Terms}
+use Rattle.tree_shape.specs.Numbers.{once}
+use Rattle.word_rule.specs.Names.{name_count, is_same, child_name, after_fork, joined_lineage}
+use Rattle.word_rule.specs.Logs.{is_spent, child_log, after_split, split_off, after_note, note_of, after_join, after_learn, spent_log, longer, budget_given}
+use Rattle.word_rule.specs.Callers.{total, CallersHold, LogHolds, LineageHolds, LineagesHold, AtLoader, LoaderLock, IsRecord, AreRecords, dones, dones_of_all, dones_in, is_done, start}
+use Rattle.word_rule.specs.CallerInvariant.{IsNote}
+use Rattle.word_rule.proofs.Facts.{total_set, total_snoc, part_of_total, two_of_total, some_of_total, total_set_two, after_step, within, decided, behind}
+use Rattle.word_rule.proofs.Names.{same_or, once_same, once_other, once_small, count_append, new_lineage_holds, fork_holds, join_holds}
+use Rattle.word_rule.specs.TableInvariant.{TableInvariant}
+use Rattle.word_rule.proofs.SeatFrame.{IsStill, nodes_fork, observations_fork, nodes_join, observations_join}
+
+snoc_is_long : (p : List ℕ) (n : ℕ) → p ++ n ∷ [] ≢ []
+snoc_is_long p n e = let l = length-append p (n ∷ []) in let z : length (p ++ n ∷ []) ≡ 0 = ap length e in omega (arith, l, z)
+
+abbrev head_of : List ℕ → ℕ
+head_of [] = 0
+head_of (x ∷ xs) = x
+
+abbrev tail_of : List ℕ → List ℕ
+tail_of [] = []
+tail_of (x ∷ xs) = xs
+
+snoc_parts : (p q : List ℕ) (m n : ℕ) → p ++ m ∷ [] ≡ q ++ n ∷ [] → (p ≡ q) × (m ≡ n)
+snoc_parts [] [] m n e = (refl, ap head_of e)
+snoc_parts [] (y ∷ q) m n e = absurd (snoc_is_long q n (sym (ap tail_of e)))
+snoc_parts (x ∷ p) [] m n e = absurd (snoc_is_long p m (ap tail_of e))
+snoc_parts (x ∷ p) (y ∷ q) m n e = let r = snoc_parts p q m n (ap tail_of e) in ((λ i. ap head_of e i ∷ r.0 i), r.1)
+
+module _ (views : List Log) (each : (id : ℕ) (v : Log) → get_elem? views id ≡ some v → LineageHolds v.lineage) (k : LineagesHold views) where
+  -- the empty name was given by nobody
+  first_not_given : total (λ v. name_count [] v.lineage.given) views ≡ 0
+  first_not_given = go (total (λ v. name_count [] v.lineage.given) views) refl
+    where
+      go : (n : ℕ) → total (λ v. name_count [] v.lineage.given) views ≡ n → total (λ v. name_count [] v.lineage.given) views ≡ 0
+      go zero e = e
+      go (suc n) e = let h = some_of_total (λ v. name_count [] v.lineage.given) views (omega (arith, e)) in let g = (each h.0 h.1 h.2.0).given_by [] h.2.1 in absurd (snoc_is_long g.0 g.1 (sym g.2.0))
+
+  -- each name came back to one log at most
+  pub gathered_once : (x : List ℕ) → total (λ v. name_count x v.lineage.gathered) views ≤ 1
+  gathered_once x = ⊎_elim
+      (λ (e : [] ≡ x). let m = k.gathered x in let f : total (λ v. name_count x v.lineage.given) views ≡ 0 = subst (λ y. total (λ v. name_count y v.lineage.given) views ≡ 0) e first_not_given in let o = once_small (is_same [] x) in omega (arith, m, f, o))
+      (λ (e : is_same [] x ≡ false). let m = k.gathered x in let o : once (is_same [] x) ≡ 0 = rw e refl in let g = k.given x in omega (arith, m, o, g))
+      (same_or [] x)
+
+  pub one_place : (x : List ℕ) (id j : ℕ) (v u : Log) → get_elem? views id ≡ some v → get_elem? views j ≡ some u → 0 < name_count x v.lineage.gathered → 0 < name_count x u.lineage.gathered → j ≡ id
+  one_place x id j v u at there a b = ⊎_elim (λ (e : j ≡ id). e)
+      (λ (ne : j ≢ id). let t = two_of_total (λ w. name_count x w.lineage.gathered) views id j v u at there ne in let m = gathered_once x in absurd (omega (arith, t, m, a, b))) (decided j id)
+
+  -- what was given has come back to some log, and its maker too
+  pub given_by_one : (x : List ℕ) → 0 < total (λ v. name_count x v.lineage.given) views → (p : List ℕ) × (n : ℕ) × (j : ℕ) × (u : Log) × ((get_elem? views j ≡ some u) × (x ≡ p ++ n ∷ []) × (0 < name_count p u.lineage.gathered) × (0 < name_count x u.lineage.given))
+  given_by_one x h = let s = some_of_total (λ v. name_count x v.lineage.given) views h in let g = (each s.0 s.1 s.2.0).given_by x s.2.1 in (g.0, g.1, s.0, s.1, (s.2.0, g.2.0, g.2.1, s.2.1))
+
+  -- a name with a number that its log is yet to give has no children
+  unused_childless : (id : ℕ) (v : Log) → get_elem? views id ≡ some v → is_spent v.role ≡ false → (n : ℕ) → total (λ w. name_count (child_name v.lineage ++ n ∷ []) w.lineage.given) views ≡ 0
+  unused_childless id v at stands n = go (total (λ w. name_count (child_name v.lineage ++ n ∷ []) w.lineage.given) views) refl
+    where
+      go : (m : ℕ) → total (λ w. name_count (child_name v.lineage ++ n ∷ []) w.lineage.given) views ≡ m → total (λ w. name_count (child_name v.lineage ++ n ∷ []) w.lineage.given) views ≡ 0
+      go zero e = e
+      go (suc m) e =
+          let g = given_by_one (child_name v.lineage ++ n ∷ []) (omega (arith, e)) in
+          let same = snoc_parts (child_name v.lineage) g.0 n g.1 g.4.1 in
+          let mine : 0 < name_count (child_name v.lineage) g.3.lineage.gathered = subst (λ y. 0 < name_count y g.3.lineage.gathered) (sym same.0) g.4.2 in
+          let all = part_of_total (λ w. name_count (child_name v.lineage) w.lineage.gathered) views g.2 g.3 g.4.0 in
+          let m = k.gathered (child_name v.lineage) in
+          let none = k.unused id v at stands v.lineage.forks (omega arith) in
+          let o = once_other [] (child_name v.lineage) (λ z. snoc_is_long v.lineage.name v.lineage.forks (sym z)) in
+          absurd (omega (arith, mine, all, m, none, o))
+
+-- receipts that hold go on to hold while the history grows and callers come
+pub holds_later : (t : Terms) (past more : List Update) (callers later since : ℕ) (rs : List Receipt) → AllHold (start t) past t.nodes callers since rs → AllHold (start t) (past ++ more) t.nodes later since rs
+holds_later t past more callers later since [] h = tt
+holds_later t past more callers later since (r ∷ rs) h = (holds_on (start t) past more t.nodes callers later since r h.0, holds_later t past more callers later (max since (moment r)) rs h.1)
+
+record_later : (t : Terms) (past past' : List Update) (callers later : ℕ) → IsPrefix past past' → (rs : List Receipt) → IsRecord t past callers rs → IsRecord t past' later rs
+record_later t past past' callers later pre rs h = (subst (λ p. AllHold (start t) p t.nodes later 0 rs) pre.1 (holds_later t past pre.0 callers later 0 rs h.0), h.1)
+
+records_later : (t : Terms) (past past' : List Update) (callers later : ℕ) → IsPrefix past past' → (lists : List (List Receipt)) → AllByRecursion (IsRecord t past callers) lists → AllByRecursion (IsRecord t past' later) lists
+records_later t past past' callers later pre [] h = tt
+records_later t past past' callers later pre (rs ∷ lists) h = (record_later t past past' callers later pre rs h.0, records_later t past past' callers later pre lists h.1)
+
+own_prefix : (past : List Update) → IsPrefix past past
+own_prefix past = ([], append-nil past)
+
+are_records_later : (t : Terms) (past past' : List Update) (callers later : ℕ) → IsPrefix past past' → (rs : Receipts) → AreRecords t past callers rs → AreRecords t past' later rs
+are_records_later t past past' callers later pre rs h = record { own = record_later t past past' callers later pre rs.own h.own; joined = records_later t past past' callers later pre rs.joined h.joined }
+
+-- more callers were made
+pub log_later : (t : Terms) (history : List Update) (callers later : ℕ) (v : Log) → LogHolds t history callers v → LogHolds t history later v
+log_later t history callers later v h = record {
+  terms = h.terms;
+  begins = h.begins;
+  receipts = are_records_later t v.past v.past callers later (own_prefix v.past) v.receipts h.receipts;
+  lineage = h.lineage;
+}
+
+-- What stays of one that forks off another: all but its budget, its count of callers and its names.
+pub record Forks (v w : Log) : Type 0 where
+  pub terms : w.terms ≡ v.terms
+  pub role : w.role ≡ v.role
+  pub past : w.past ≡ v.past
+  pub receipts : w.receipts ≡ v.receipts
+  pub loader : w.loader ≡ v.loader
+  pub lineage : w.lineage ≡ after_fork v.lineage
+
+module _ (t : Terms) (words : List ℕ) (views : List Log) (history : List Update) (r : CallersHold t words views history) (id : ℕ) (v w : Log) (role : Role) (budget : Budget) (at : get_elem? views id ≡ some v) (stands : is_spent v.role ≡ false) (lives : is_spent role ≡ false) (forks : Forks v w) where
+  abbrev child : Log
+  child = child_log role budget v
+
+  abbrev both : List Log
+  both = set views id w ++ child ∷ []
+
+  -- a number that the one that makes keeps, and that its child has none of
+  sums : (f : Log → ℕ) → f w + f child ≡ f v → total f both ≡ total f views
+  sums f e = let s = total_set f views id v w at in let n = total_snoc f (set views id w) child in omega (arith, s, n, e)
+
+  given_sum : (x : List ℕ) → total (λ u. name_count x u.lineage.given) both ≡ total (λ u. name_count x u.lineage.given) views + once (is_same (child_name v.lineage) x)
+  given_sum x =
+      let s = total_set (λ u. name_count x u.lineage.given) views id v w at in let n = total_snoc (λ u. name_count x u.lineage.given) (set views id w) child in
+      let b : name_count x w.lineage.given ≡ name_count x v.lineage.given + name_count x (child_name v.lineage ∷ []) = ap (λ k. name_count x k.given) forks.lineage ∙ count_append x v.lineage.given (child_name v.lineage ∷ []) in omega (arith, s, n, b)
+
+  gathered_sum : (x : List ℕ) → total (λ u. name_count x u.lineage.gathered) both ≡ total (λ u. name_count x u.lineage.gathered) views + once (is_same (child_name v.lineage) x)
+  gathered_sum x =
+      let s = total_set (λ u. name_count x u.lineage.gathered) views id v w at in let n = total_snoc (λ u. name_count x u.lineage.gathered) (set views id w) child in
+      let b : name_count x w.lineage.gathered ≡ name_count x v.lineage.gathered = ap (λ k. name_count x k.gathered) forks.lineage in omega (arith, s, n, b)
+
+  kin_each : (j : ℕ) (u : Log) → get_elem? views j ≡ some u → LineageHolds u.lineage
+  kin_each j u e = (r.each j u e).lineage
+
+  own_name : 0 < name_count v.lineage.name v.lineage.gathered
+  own_name = r.lineages.named id v at stands
+
+  -- a name that is yet to be given is another than the child's
+  other_name : (q : List ℕ) (n : ℕ) → q ++ n ∷ [] ≢ child_name v.lineage → total (λ u. name_count (q ++ n ∷ []) u.lineage.given) views ≡ 0 → total (λ u. name_count (q ++ n ∷ []) u.lineage.given) both ≡ 0
+  other_name q n ne none = let g = given_sum (q ++ n ∷ []) in let o = once_other (child_name v.lineage) (q ++ n ∷ []) (λ e. ne (sym e)) in omega (arith, g, o, none)
+
+  pub lineages_fork : LineagesHold both
+  lineages_fork = record {
+    gathered = λ x. let m = gathered_sum x in let g = given_sum x in let o = r.lineages.gathered x in omega (arith, m, g, o);
+    given = λ x. ⊎_elim
+        (λ (e : child_name v.lineage ≡ x). let g = given_sum x in let n = subst (λ y. total (λ u. name_count y u.lineage.given) views ≡ 0) e (r.lineages.unused id v at stands v.lineage.forks (omega arith)) in let o = once_small (is_same (child_name v.lineage) x) in omega (arith, g, n, o))
+        (λ (e : is_same (child_name v.lineage) x ≡ false). let g = given_sum x in let z : once (is_same (child_name v.lineage) x) ≡ 0 = rw e refl in let o = r.lineages.given x in omega (arith, g, z, o)) (same_or (child_name v.lineage) x);
+    named = behind (λ _ u. is_spent u.role ≡ false → 0 < name_count u.lineage.name u.lineage.gathered) (set views id w) child
+        (after_step (λ _ u. is_spent u.role ≡ false → 0 < name_count u.lineage.name u.lineage.gathered) views id w (λ s. subst (λ k. 0 < name_count k.name k.gathered) (sym forks.lineage) own_name) (λ j u _ e. r.lineages.named j u e))
+        (λ _ s. let o = once_same (child_name v.lineage) in omega (arith, o));
+    unused = behind (λ _ u. is_spent u.role ≡ false → (n : ℕ) → u.lineage.forks ≤ n → total (λ z. name_count (u.lineage.name ++ n ∷ []) z.lineage.given) both ≡ 0) (set views id w) child
+        (after_step (λ _ u. is_spent u.role ≡ false → (n : ℕ) → u.lineage.forks ≤ n → total (λ z. name_count (u.lineage.name ++ n ∷ []) z.lineage.given) both ≡ 0) views id w
+        (λ s. subst (λ k. (n : ℕ) → k.forks ≤ n → total (λ z. name_count (k.name ++ n ∷ []) z.lineage.given) both ≡ 0) (sym forks.lineage)
+        (λ n late. other_name v.lineage.name n (λ e. let p = snoc_parts v.lineage.name v.lineage.name n v.lineage.forks e in let q = p.1 in omega (arith, q, late)) (r.lineages.unused id v at stands n (omega (arith, late)))))
+        (λ j u ne e s n late. other_name u.lineage.name n
+        (λ h. let p = snoc_parts u.lineage.name v.lineage.name n v.lineage.forks h in ne (one_place views kin_each r.lineages v.lineage.name id j v u at e own_name (subst (λ y. 0 < name_count y u.lineage.gathered) p.0 (r.lineages.named j u e s))))
+        (r.lineages.unused j u e s n late)))
+        (λ _ s n late. other_name (child_name v.lineage) n (λ e. let l = length-append (child_name v.lineage) (n ∷ []) in let z : length (child_name v.lineage ++ n ∷ []) ≡ length (child_name v.lineage) = ap length e in omega (arith, l, z)) (unused_childless views kin_each r.lineages id v at stands n));
+    spent = behind (λ _ u. is_spent u.role ≡ true → (u.receipts.own ≡ []) × (u.receipts.joined ≡ []) × (u.made ≡ 0)) (set views id w) child
+        (after_step (λ _ u. is_spent u.role ≡ true → (u.receipts.own ≡ []) × (u.receipts.joined ≡ []) × (u.made ≡ 0)) views id w (λ s. absurd (true≢false (sym s ∙ (ap is_spent forks.role ∙ stands)))) (λ j u _ e. r.lineages.spent j u e)) (λ _ s. absurd (true≢false (sym s ∙ lives)));
+  }
+
+  loader_fork : (holder : Option ℕ) → LoaderLock t words views holder → LoaderLock t words both holder
+  loader_fork None h = h
+  loader_fork (Some j) h = ⊎_elim
+      (λ (is : j ≡ id). (w, h.1, (at_longer (set views id w) (child ∷ []) j w (subst (λ k. get_elem? (set views id w) k ≡ some w) (sym is) (set_here views id w (within views id v at))), forks.loader ∙ (ap (λ u. u.loader) (some-injective v h.0 (sym at ∙ (ap (get_elem? views) (sym is) ∙ h.2.0))) ∙ h.2.1))))
+      (λ (is : j ≢ id). (h.0, h.1, (at_longer (set views id w) (child ∷ []) j h.0 (set_else views id j w is ∙ h.2.0), h.2.1))) (decided j id)
+
+  pub callers_fork : w.budget.allowance + budget.allowance ≡ v.budget.allowance → w.budget.credit + budget.credit ≡ v.budget.credit → CallersHold t words both history
+  callers_fork allowed credited = record {
+    holder = r.holder;
+    wide = r.wide;
+    lawful = r.lawful;
+    terms = r.terms;
+    payloads = r.payloads;
+    updates = r.updates;
+    published = r.published;
+    room = (let s = sums (λ u. u.budget.allowance) allowed in let o = r.room in omega (arith, s, o));
+    numbers = λ n. sums (dones_in n) (let e : dones_in n w ≡ dones_in n v = ap (dones n) forks.receipts in omega (arith, e)) ∙ r.numbers n;
+    each = behind (λ _ u. LogHolds t history (total (λ y. y.made) both + 1) u) (set views id w) child
+        (after_step (λ _ u. LogHolds t history (total (λ y. y.made) both + 1) u) views id w ((let h = log_later t history _ (total (λ y. y.made) both + 1) v (r.each id v at) in record {
+          terms = λ s. forks.terms ∙ h.terms stands;
+          begins = subst (λ p. IsPrefix p history) (sym forks.past) h.begins;
+          receipts = subst (λ p. AreRecords t p (total (λ y. y.made) both + 1) w.receipts) (sym forks.past) (subst (AreRecords t v.past (total (λ y. y.made) both + 1)) (sym forks.receipts) h.receipts);
+          lineage = subst LineageHolds (sym forks.lineage) (fork_holds v.lineage own_name h.lineage);
+        })) (λ j u _ e. log_later t history _ (total (λ y. y.made) both + 1) u (r.each j u e)))
+        (λ _. record { terms = λ _. (r.each id v at).terms stands; begins = (r.each id v at).begins; receipts = record { own = (tt, tt); joined = tt }; lineage = new_lineage_holds (child_name v.lineage) });
+    loader = loader_fork r.holder r.loader;
+    at_loader = behind (λ j u. AtLoader t words r.holder j u.loader) (set views id w) child
+        (after_step (λ j u. AtLoader t words r.holder j u.loader) views id w (subst (AtLoader t words r.holder id) (sym forks.loader) (r.at_loader id v at)) (λ j u _ e. r.at_loader j u e)) (λ _. tt);
+    counted = (let s = sums (λ u. u.budget.credit) credited in let o = r.counted in omega (arith, s, o));
+    lineages = lineages_fork;
+  }
+
+abbrev first_or : {A : Type 0} → A → List A → A
+first_or d [] = d
+first_or d (x ∷ xs) = x
+
+abbrev rest_of : {A : Type 0} → List A → List A
+rest_of [] = []
+rest_of (x ∷ xs) = xs
+
+-- of two beginnings of one list the shorter begins the longer
+begins_longer : (a b r s : List Update) → a ++ r ≡ b ++ s → length a ≤ length b → IsPrefix a b
+begins_longer [] b r s e h = (b, refl)
+begins_longer (x ∷ a) [] r s e h = absurd (omega (arith, h))
+begins_longer (x ∷ a) (y ∷ b) r s e h = let i = begins_longer a b r s (ap rest_of e) (omega (arith, h)) in (i.0, (λ k. ap (first_or x) e k ∷ i.1 k))
+
+pub in_longer : (a b history : List Update) → IsPrefix a history → IsPrefix b history → IsPrefix a (longer a b) × IsPrefix b (longer a b) × IsPrefix (longer a b) history
+in_longer a b history p q = go (dec_le (length b) (length a))
+  where
+    go : Dec (length b ≤ length a) → IsPrefix a (longer a b) × IsPrefix b (longer a b) × IsPrefix (longer a b) history
+    go (yes h) = rw (le-ltb (length a) (length b) h) (own_prefix a, begins_longer b a q.0 p.0 (q.1 ∙ sym p.1) h, p)
+    go (no n) = rw (lt-ltb (length a) (length b) (lt_of_not-le n)) (begins_longer a b p.0 q.0 (p.1 ∙ sym q.1) (le_of_lt (lt_of_not-le n)), own_prefix b, q)
+
+-- lists of receipts side by side
+records_append : (t : Terms) (past : List Update) (callers : ℕ) (xs ys : List (List Receipt)) → AllByRecursion (IsRecord t past callers) xs → AllByRecursion (IsRecord t past callers) ys → AllByRecursion (IsRecord t past callers) (xs ++ ys)
+records_append t past callers [] ys h i = i
+records_append t past callers (x ∷ xs) ys h i = (h.0, records_append t past callers xs ys h.1 i)
+
+dones_append : (n : ℕ) (xs ys : List (List Receipt)) → dones_of_all n (xs ++ ys) ≡ dones_of_all n xs + dones_of_all n ys
+dones_append n xs ys = sum_by-append (λ receipts. count_by (is_done n) receipts) xs ys
+
+-- What is told of one into which another was joined or learnt. `lists` are the lists of receipts that it gained.
+pub record Gains (v u b : Log) (lists : List (List Receipt)) : Type 0 where
+  pub terms : b.terms ≡ v.terms
+  pub role : b.role ≡ v.role
+  pub past : b.past ≡ longer v.past u.past
+  pub own : b.receipts.own ≡ v.receipts.own
+  pub joined : b.receipts.joined ≡ v.receipts.joined ++ lists
+  pub loader : b.loader ≡ v.loader
+  pub allowance : b.budget.allowance ≡ v.budget.allowance + u.budget.allowance
+  pub credit : b.budget.credit ≡ v.budget.credit + u.budget.credit
+  pub made : b.made ≡ v.made + u.made
+  pub lineage : b.lineage ≡ joined_lineage v.lineage u.lineage
+  pub counts : (n : ℕ) → dones_of_all n lists ≡ dones_in n u
+
+module _ (t : Terms) (words : List ℕ) (views : List Log) (history : List Update) (r : CallersHold t words views history) (id other : ℕ) (v u b : Log) (lists : List (List Receipt)) (at : get_elem? views id ≡ some v) (ne : other ≢ id)
+    (there : get_elem? (set views id b) other ≡ some u) (stands : is_spent v.role ≡ false) (stood : is_spent u.role ≡ false) (free : u.loader ≡ None) (gains : Gains v u b lists) where
+  abbrev one : List Log
+  one = set views id b
+
+  abbrev after : List Log
+  after = set one other spent_log
+
+  was_there : get_elem? views other ≡ some u
+  was_there = sym (set_else views id other b ne) ∙ there
+
+  -- a number that is added up
+  sums_join : (f : Log → ℕ) → f b + f spent_log ≡ f v + f u → total f after ≡ total f views
+  sums_join f e = let s = total_set_two f views id other v b u spent_log at there in omega (arith, s, e)
+
+  made_is : total (λ x. x.made) after ≡ total (λ x. x.made) views
+  made_is = sums_join (λ x. x.made) (let m = gains.made in omega (arith, m))
+
+  given_is : (x : List ℕ) → total (λ z. name_count x z.lineage.given) after ≡ total (λ z. name_count x z.lineage.given) views
+  given_is x = sums_join (λ z. name_count x z.lineage.given) (let e : name_count x b.lineage.given ≡ name_count x v.lineage.given + name_count x u.lineage.given = ap (λ k. name_count x k.given) gains.lineage ∙ count_append x v.lineage.given u.lineage.given in omega (arith, e))
+
+  gathered_is : (x : List ℕ) → total (λ z. name_count x z.lineage.gathered) after ≡ total (λ z. name_count x z.lineage.gathered) views
+  gathered_is x = sums_join (λ z. name_count x z.lineage.gathered) (let e : name_count x b.lineage.gathered ≡ name_count x v.lineage.gathered + name_count x u.lineage.gathered = ap (λ k. name_count x k.gathered) gains.lineage ∙ count_append x v.lineage.gathered u.lineage.gathered in omega (arith, e))
+
+  everywhere : (P : ℕ → Log → Type 0) → P other spent_log → P id b → ((j : ℕ) (x : Log) → j ≢ other → j ≢ id → get_elem? views j ≡ some x → P j x) → (j : ℕ) (x : Log) → get_elem? after j ≡ some x → P j x
+  everywhere P gone mine rest = after_step P one other spent_log gone
+      (λ j x far e. ⊎_elim (λ (h : (j ≡ id) × (b ≡ x)). subst (λ (z : ℕ × Log). P z.0 z.1) (λ i. (sym h.0 i, h.1 i)) mine) (λ (h : (j ≢ id) × (get_elem? views j ≡ some x)). rest j x far h.0 h.1) (at_set views id j b x e))
+
+  lineages_join : LineagesHold after
+  lineages_join = record {
+    gathered = λ x. let m = gathered_is x in let g = given_is x in let o = r.lineages.gathered x in omega (arith, m, g, o);
+    given = λ x. let g = given_is x in let o = r.lineages.given x in omega (arith, g, o);
+    named = everywhere (λ _ x. is_spent x.role ≡ false → 0 < name_count x.lineage.name x.lineage.gathered) (λ s. absurd (true≢false s))
+        (λ _. let h = r.lineages.named id v at stands in let m = count_append v.lineage.name v.lineage.gathered u.lineage.gathered in subst (λ k. 0 < name_count k.name k.gathered) (sym gains.lineage) (omega (arith, h, m)))
+        (λ j x _ _ e. r.lineages.named j x e);
+    unused = everywhere (λ _ x. is_spent x.role ≡ false → (n : ℕ) → x.lineage.forks ≤ n → total (λ z. name_count (x.lineage.name ++ n ∷ []) z.lineage.given) after ≡ 0) (λ s. absurd (true≢false s))
+        (λ _. subst (λ k. (n : ℕ) → k.forks ≤ n → total (λ z. name_count (k.name ++ n ∷ []) z.lineage.given) after ≡ 0) (sym gains.lineage) (λ n late. given_is (v.lineage.name ++ n ∷ []) ∙ r.lineages.unused id v at stands n late))
+        (λ j x _ _ e s n late. given_is (x.lineage.name ++ n ∷ []) ∙ r.lineages.unused j x e s n late);
+    spent = everywhere (λ _ x. is_spent x.role ≡ true → (x.receipts.own ≡ []) × (x.receipts.joined ≡ []) × (x.made ≡ 0)) (λ _. (refl, refl, refl)) (λ s. absurd (true≢false (sym s ∙ (ap is_spent gains.role ∙ stands)))) (λ j x _ _ e. r.lineages.spent j x e);
+  }
+
+  loader_join : (holder : Option ℕ) → LoaderLock t words views holder → LoaderLock t words after holder
+  loader_join None h = h
+  loader_join (Some j) h = ⊎_elim
+      (λ (is : j ≡ id). (
+        b,
+        h.1,
+        (
+          set_else one other j spent_log (λ e. ne (sym e ∙ is)) ∙ subst (λ k. get_elem? one k ≡ some b) (sym is) (set_here views id b (within views id v at)),
+          gains.loader ∙ (ap (λ x. x.loader) (some-injective v h.0 (sym at ∙ (ap (get_elem? views) (sym is) ∙ h.2.0))) ∙ h.2.1),
+        ),
+      ))
+      (λ (far : j ≢ id). (h.0, h.1, (set_else one other j spent_log (λ is. none-some h.1 (sym free ∙ (ap (λ x. x.loader) (some-injective u h.0 (sym was_there ∙ (ap (get_elem? views) (sym is) ∙ h.2.0))) ∙ h.2.1))) ∙ (set_else views id j b far ∙ h.2.0), h.2.1))) (decided j id)
+
+  abbrev count : ℕ
+  count = total (λ x. x.made) after + 1
+
+  lengthened : IsPrefix v.past (longer v.past u.past) × IsPrefix u.past (longer v.past u.past) × IsPrefix (longer v.past u.past) history
+  lengthened = in_longer v.past u.past history (r.each id v at).begins (r.each other u was_there).begins
+
+  pub callers_join : (AllByRecursion (IsRecord t (longer v.past u.past) count) (u.receipts.own ∷ u.receipts.joined) → AllByRecursion (IsRecord t (longer v.past u.past) count) lists) → CallersHold t words after history
+  callers_join gained = record {
+    holder = r.holder;
+    wide = r.wide;
+    lawful = r.lawful;
+    terms = r.terms;
+    payloads = r.payloads;
+    updates = r.updates;
+    published = r.published;
+    room = (let s = sums_join (λ x. x.budget.allowance) (let a = gains.allowance in omega (arith, a)) in let o = r.room in omega (arith, s, o));
+    numbers = λ n. sums_join (dones_in n) (let e : dones_in n b ≡ dones n record { own = v.receipts.own; joined = v.receipts.joined ++ lists } = (λ i. dones n record { own = gains.own i; joined = gains.joined i }) in let a = dones_append n v.receipts.joined lists in let c = gains.counts n in omega (arith, e, a, c)) ∙ r.numbers n;
+    each = everywhere (λ _ x. LogHolds t history count x)
+        (record { terms = λ s. absurd (true≢false s); begins = (history, refl); receipts = record { own = (tt, tt); joined = tt }; lineage = record { balanced = λ x. refl; given_by = λ x h. absurd (omega arith) } })
+        (let h = r.each id v at in let i = r.each other u was_there in record {
+          terms = λ s. gains.terms ∙ h.terms stands;
+          begins = subst (λ p. IsPrefix p history) (sym gains.past) lengthened.2;
+          receipts = subst (λ p. AreRecords t p count b.receipts) (sym gains.past) record {
+            own = subst (IsRecord t (longer v.past u.past) count) (sym gains.own) (record_later t v.past (longer v.past u.past) _ count lengthened.0 v.receipts.own h.receipts.own);
+            joined = subst (AllByRecursion (IsRecord t (longer v.past u.past) count)) (sym gains.joined)
+                (records_append t (longer v.past u.past) count v.receipts.joined lists (records_later t v.past (longer v.past u.past) _ count lengthened.0 v.receipts.joined h.receipts.joined)
+                (gained (record_later t u.past (longer v.past u.past) _ count lengthened.1 u.receipts.own i.receipts.own, records_later t u.past (longer v.past u.past) _ count lengthened.1 u.receipts.joined i.receipts.joined)));
+          };
+          lineage = subst LineageHolds (sym gains.lineage) (join_holds v.lineage u.lineage h.lineage i.lineage);
+        })
+        (λ j x _ _ e. log_later t history _ count x (r.each j x e));
+    loader = loader_join r.holder r.loader;
+    at_loader = everywhere (λ j x. AtLoader t words r.holder j x.loader) tt (subst (AtLoader t words r.holder id) (sym gains.loader) (r.at_loader id v at)) (λ j x _ _ e. r.at_loader j x e);
+    counted = (let s = sums_join (λ x. x.budget.credit) (let a = gains.credit in omega (arith, a)) in let o = r.counted in omega (arith, s, o));
+    lineages = lineages_join;
+  }
+
+-- the rest of the invariant, where one comes or goes
+module _ (t : Terms) (id : ℕ) (v : Log) (stands : is_spent v.role ≡ false) where
+  forked_table : (s : State (Unit {0}) Log) (r : TableInvariant t s.words s.views) (w : Log) (role : Role) (budget : Budget) → is_spent role ≡ false → get_elem? s.views id ≡ some v → Forks v w → IsStill v w
+      → w.budget.allowance + budget.allowance ≡ v.budget.allowance → w.budget.credit + budget.credit ≡ v.budget.credit → TableInvariant t s.words (set s.views id w ++ child_log role budget v ∷ [])
+  forked_table s r w role budget lives at forks still allowed credited = record {
+    history = r.history;
+    callers = callers_fork t s.words s.views r.history r.callers id v w role budget at stands lives forks allowed credited;
+    shadow = r.shadow;
+    nodes = nodes_fork t s.words s.views r.history r.shadow id role budget v w at still forks.past r.nodes;
+    active = r.active;
+    observations = observations_fork t s.words s.views r.history r.shadow id role budget v w at still forks.past r.observations;
+  }
+
+  pub splits : (left give : ℕ) → give ≤ left → left ≤ v.budget.allowance → CALL_CREDIT * left ≤ v.budget.credit
+      → Splits (λ (s : State (Unit {0}) Log). TableInvariant t s.words s.views) id v (after_split left give v) (split_off left give v)
+  splits left give enough allowed credited s r at = forked_table s r (after_split left give v) role.Caller (budget_given left give v.budget) refl at
+      (record { terms = refl; role = refl; past = refl; receipts = refl; loader = refl; lineage = refl }) (record { holdings = refl; sights = refl; own = refl; loads = refl })
+      (omega (arith, enough, allowed)) (omega (arith, enough, credited))
+
+  pub notes : Splits (λ (s : State (Unit {0}) Log). TableInvariant t s.words s.views) id v (after_note v) (note_of v)
+  notes s r at = forked_table s r (after_note v) role.Note (record { allowance = 0; credit = 0 }) refl at
+      (record { terms = refl; role = refl; past = refl; receipts = refl; loader = refl; lineage = refl }) (record { holdings = refl; sights = refl; own = refl; loads = refl })
+      (omega arith) (omega arith)
+
+  joined_table : (s : State (Unit {0}) Log) (r : TableInvariant t s.words s.views) (other : ℕ) (u b : Log) (lists : List (List Receipt)) → get_elem? s.views id ≡ some v → (ne : other ≢ id) → get_elem? (set s.views id b) other ≡ some u
+      → is_spent u.role ≡ false → u.loader ≡ None → u.holdings.held ≡ [] → u.holdings.out ≡ [] → (gains : Gains v u b lists) → IsStill v b
+      → ((callers : ℕ) → AllByRecursion (IsRecord t (longer v.past u.past) callers) (u.receipts.own ∷ u.receipts.joined) → AllByRecursion (IsRecord t (longer v.past u.past) callers) lists)
+      → TableInvariant t s.words (set (set s.views id b) other spent_log)
+  joined_table s r other u b lists at ne there stood free held out gains still gained =
+      let was : get_elem? s.views other ≡ some u = sym (set_else s.views id other b ne) ∙ there in
+      let longer_past = in_longer v.past u.past r.history (r.callers.each id v at).begins (r.callers.each other u was).begins in record {
+        history = r.history;
+        callers = callers_join t s.words s.views r.history r.callers id other v u b lists at ne there stands stood free gains (gained _);
+        shadow = r.shadow;
+        nodes = nodes_join t s.words s.views r.history r.shadow id other v u b at ne there still (subst (IsPrefix v.past) (sym gains.past) longer_past.0) held out r.nodes;
+        active = r.active;
+        observations = observations_join t s.words s.views r.history r.shadow id other v u b at ne there still (subst (IsPrefix v.past) (sym gains.past) longer_past.0) held out r.observations;
+      }
+
+  -- a caller that holds no lock and has no node out is joined into another
+  pub joins : (other : ℕ) (u : Log) → is_spent u.role ≡ false → u.loader ≡ None → u.holdings.held ≡ [] → u.holdings.out ≡ []
+      → Joins (λ (s : State (Unit {0}) Log). TableInvariant t s.words s.views) id v other u (after_join v u) spent_log
+  joins other u stood free held out s r at ne there = joined_table s r other u (after_join v u) (u.receipts.own ∷ u.receipts.joined) at ne there stood free held out
+      (record {
+        terms = refl;
+        role = refl;
+        past = refl;
+        own = refl;
+        joined = refl;
+        loader = refl;
+        allowance = refl;
+        credit = refl;
+        made = refl;
+        lineage = refl;
+        counts = λ n. sum_by-cons (λ receipts. count_by (is_done n) receipts) u.receipts.own u.receipts.joined;
+      }) (record { holdings = refl; sights = refl; own = refl; loads = refl }) (λ c h. h)
+
+  pub learns : (other : ℕ) (u : Log) → IsNote u → Joins (λ (s : State (Unit {0}) Log). TableInvariant t s.words s.views) id v other u (after_learn v u) spent_log
+  learns other u note s r at ne there = joined_table s r other u (after_learn v u) [] at ne there (ap is_spent note.role) note.loader note.held note.out
+      (record {
+        terms = refl;
+        role = refl;
+        past = refl;
+        own = refl;
+        joined = sym (append-nil v.receipts.joined);
+        loader = refl;
+        allowance = (let a = note.allowance in omega (arith, a));
+        credit = (let a = note.credit in omega (arith, a));
+        made = (let a = note.made in omega (arith, a));
+        lineage = refl;
+        counts = λ n. let e : dones_in n u ≡ 0 = (λ i. dones n record { own = note.own i; joined = note.joined i }) in sym e;
+      }) (record { holdings = refl; sights = refl; own = refl; loads = refl }) (λ c h. tt)

@@ -1,0 +1,170 @@
+-- What holds of the shared words and of all callers' logs between any two steps: the callers and the loader's lock.
+use Rattle.std.specs.Prelude.{◌≡◌, ℕ, ◌+◌, ◌<◌, ◌≤◌, ◌%◌, ◌⊎◌, Bool, List, [], ◌∷◌, ◌++◌, length, ◌==◌, ◌&&◌, nat_le, slice_index, Option, Some, None, true, false}
+use Rattle.std.specs.List.{AllByRecursion, sum_by, count_by}
+use mathlib.Core.Option.{some}
+use mathlib.Core.List.{IsPrefix}
+use lib.ListN.{get_elem?}
+use Rattle.reg_model.specs.State.{State, opening}
+use Rattle.reg_model.specs.declared.span.Member.{Member}
+use Rattle.reg_model.specs.History.{IsHistory}
+use Rattle.reg_model.specs.Receipt.{moment, accepted, AllHold, AreInOrder}
+use Rattle.reg_model.specs.declared.answer.Update.{Update}
+use Rattle.reg_model.specs.declared.answer.Update.TheVariants.{Register, Deregister, Load, Unload}
+use Rattle.reg_model.specs.declared.answer.Receipt.{Receipt}
+use Rattle.segment_array.specs.Ascending.{AscendFrom}
+use Rattle.tree_shape.specs.Numbers.{once}
+use Rattle.word_rule.specs.declared.log.Terms.{Terms}
+use Rattle.word_rule.specs.declared.log.Receipts.{Receipts}
+use Rattle.word_rule.specs.declared.log.Lineage.{Lineage}
+use Rattle.word_rule.specs.declared.log.LoaderHolding.{LoaderHolding}
+use Rattle.word_rule.specs.declared.log.Log.{Log}
+use Rattle.word_rule.specs.Names.{name_count, is_same}
+use Rattle.word_rule.specs.Logs.{is_spent}
+use Rattle.word_rule.specs.Places.{ALLOWANCE, CREDIT, CLOCK, LOADER, word_count, lower, upper, copy_at, spare, counters}
+
+-- a number of each log, added up
+abbrev pub total : (Log → ℕ) → List Log → ℕ
+total f [] = 0
+total f (v ∷ views) = f v + total f views
+
+-- the state before the first update
+abbrev pub start : Terms → State
+start t = opening t.fixed t.loads
+
+-- whether an update is the loader's
+abbrev pub is_of_loader : Update → Bool
+is_of_loader (Register m) = false
+is_of_loader (Deregister base) = false
+is_of_loader (Load m) = true
+is_of_loader (Unload base) = true
+
+-- the updates of the loader in a history
+abbrev pub publications : List Update → ℕ
+publications updates = count_by is_of_loader updates
+
+-- the payload of a member that is made known is one of those that there are
+abbrev pub HasPayload : Terms → Member → Type 0
+HasPayload t m = m.payload < t.payloads
+
+abbrev pub IsOfTerms : Terms → Update → Type 0
+IsOfTerms t (Register m) = HasPayload t m
+IsOfTerms t (Load m) = HasPayload t m
+IsOfTerms t (Deregister base) = Unit {0}
+IsOfTerms t (Unload base) = Unit {0}
+
+-- With what words may be made.
+pub record AreTerms (t : Terms) : Type 0 where
+  pub nodes : (4 ≤ t.nodes) × (t.nodes ≤ 16384)
+  pub loads : (1 ≤ t.loads) × (t.loads ≤ 1024)
+  pub fixed : AscendFrom 0 t.fixed
+  pub payloads : AllByRecursion (HasPayload t) t.fixed
+
+-- whether an answer is the n-th update's
+abbrev pub is_done_as : ℕ → ℕ → Option Update → Bool
+is_done_as n m None = false
+is_done_as n m (Some u) = m == n
+
+abbrev pub is_done : ℕ → Receipt → Bool
+is_done n r = is_done_as n (moment r) (accepted r)
+
+-- how many receipts of a log say that the n-th update was accepted
+abbrev pub dones_of_all : ℕ → List (List Receipt) → ℕ
+dones_of_all n lists = sum_by (λ receipts. count_by (is_done n) receipts) lists
+
+abbrev pub dones : ℕ → Receipts → ℕ
+dones n r = count_by (is_done n) r.own + dones_of_all n r.joined
+
+abbrev pub dones_in : ℕ → Log → ℕ
+dones_in n v = dones n v.receipts
+
+-- 1 for the numbers of a history of this length
+abbrev pub number_of : ℕ → ℕ → ℕ
+number_of len n = once (nat_le 1 n && nat_le n len)
+
+-- the receipts of a list hold in this history, and along it stamps and numbers never fall
+abbrev pub IsRecord : Terms → List Update → ℕ → List Receipt → Type 0
+IsRecord t history callers receipts = AllHold (start t) history t.nodes callers 0 receipts × AreInOrder 0 receipts
+
+-- each list of a log is such a record
+pub record AreRecords (t : Terms) (history : List Update) (callers : ℕ) (r : Receipts) : Type 0 where
+  pub own : IsRecord t history callers r.own
+  pub joined : AllByRecursion (IsRecord t history callers) r.joined
+
+-- Of any name, what was gathered and what was given stand against each other, but for what is unmatched and what is
+-- missing. Each name given is that of a child of one that was gathered.
+pub record LineageHolds (l : Lineage) : Type 0 where
+  pub balanced : (x : List ℕ) → name_count x l.unmatched + name_count x l.given ≡ name_count x l.missing + name_count x l.gathered
+  pub given_by : (x : List ℕ) → 0 < name_count x l.given → (p : List ℕ) × (n : ℕ) × ((x ≡ p ++ n ∷ []) × (0 < name_count p l.gathered))
+
+-- The first caller's name was gathered, and no name is missing.
+pub record IsAlone (l : Lineage) : Type 0 where
+  pub first : 0 < name_count [] l.unmatched
+  pub all : l.missing ≡ []
+
+-- What is said of one log alone, where there is this history and so many callers were ever made.
+pub record LogHolds (t : Terms) (history : List Update) (callers : ℕ) (v : Log) : Type 0 where
+  -- it has the terms of its words, unless it was joined away
+  pub terms : is_spent v.role ≡ false → v.terms ≡ t
+  -- the history begins with what was seen
+  pub begins : IsPrefix v.past history
+  -- each of its receipts holds in what it has seen
+  pub receipts : AreRecords t v.past callers v.receipts
+  pub lineage : LineageHolds v.lineage
+
+-- The log has each number of what it has seen, once, and each of its receipts holds in it, the callers being those that it
+-- made, directly or through others, and the first.
+pub record IsWhole (v : Log) : Type 0 where
+  pub numbers : (n : ℕ) → dones_in n v ≡ number_of (length v.past) n
+  pub receipts : AreRecords v.terms v.past (v.made + 1) v.receipts
+
+-- the version word of a lock that was taken at a version: locked, and perhaps with sleepers
+abbrev pub IsLockedAt : ℕ → ℕ → Type 0
+IsLockedAt version word = (version % 4 ≡ 0) × ((word ≡ version + 1) ⊎ (word ≡ version + 3))
+
+-- the loader's lock, where this log has it
+abbrev pub HoldsLoader : Terms → List ℕ → LoaderHolding → Type 0
+HoldsLoader t words h = IsLockedAt h.version (slice_index words LOADER) × (h.words ≡ copy_at t words (spare (slice_index words CLOCK)))
+
+-- one log's part in the loader's lock
+abbrev pub AtLoader : Terms → List ℕ → Option ℕ → ℕ → Option LoaderHolding → Type 0
+AtLoader t words holder id None = Unit {0}
+AtLoader t words holder id (Some h) = (holder ≡ Some id) × HoldsLoader t words h
+
+-- where nobody holds it, the version word is a multiple of 4; where one does, that one's log has it
+abbrev pub LoaderLock : Terms → List ℕ → List Log → Option ℕ → Type 0
+LoaderLock t words views None = slice_index words LOADER % 4 ≡ 0
+LoaderLock t words views (Some id) = (v : Log) × (h : LoaderHolding) × ((get_elem? views id ≡ some v) × (v.loader ≡ Some h))
+
+-- How the logs were forked from one another.
+pub record LineagesHold (views : List Log) : Type 0 where
+  -- each name given was gathered by one log at most; but the first caller's was given by none
+  pub gathered : (x : List ℕ) → total (λ v. name_count x v.lineage.gathered) views ≡ total (λ v. name_count x v.lineage.given) views + once (is_same [] x)
+  pub given : (x : List ℕ) → total (λ v. name_count x v.lineage.given) views ≤ 1
+  -- a log that stands has its own name
+  pub named : (id : ℕ) (v : Log) → get_elem? views id ≡ some v → is_spent v.role ≡ false → 0 < name_count v.lineage.name v.lineage.gathered
+  -- and has not given the names that it is yet to give; nor has another
+  pub unused : (id : ℕ) (v : Log) → get_elem? views id ≡ some v → is_spent v.role ≡ false → (n : ℕ) → v.lineage.forks ≤ n → total (λ w. name_count (v.lineage.name ++ n ∷ []) w.lineage.given) views ≡ 0
+  -- what was joined away keeps nothing
+  pub spent : (id : ℕ) (v : Log) → get_elem? views id ≡ some v → is_spent v.role ≡ true → (v.receipts.own ≡ []) × (v.receipts.joined ≡ []) × (v.made ≡ 0)
+
+-- What holds of the callers and of the loader's lock, where this is the history.
+pub record CallersHold (t : Terms) (words : List ℕ) (views : List Log) (history : List Update) : Type 0 where
+  pub holder : Option ℕ
+  pub wide : length words ≡ word_count t
+  -- the clock counts the updates, and those of the loader
+  pub lawful : IsHistory (start t) history
+  pub updates : lower (slice_index words CLOCK) ≡ length history
+  pub published : upper (slice_index words CLOCK) ≡ publications history
+  pub terms : AreTerms t
+  pub payloads : AllByRecursion (IsOfTerms t) history
+  -- made, begun and still allowed: no more updates than a registry takes
+  pub room : length history + total (λ v. v.budget.allowance) views ≤ ALLOWANCE
+  -- each number stands in one log, once
+  pub numbers : (n : ℕ) → total (dones_in n) views ≡ number_of (length history) n
+  pub each : (id : ℕ) (v : Log) → get_elem? views id ≡ some v → LogHolds t history (total (λ w. w.made) views + 1) v
+  -- one caller at most holds the loader's lock
+  pub loader : LoaderLock t words views holder
+  pub at_loader : (id : ℕ) (v : Log) → get_elem? views id ≡ some v → AtLoader t words holder id v.loader
+  -- a version never returns: its counter has the credits above it
+  pub counted : counters t words + total (λ v. v.budget.credit) views ≤ CREDIT
+  pub lineages : LineagesHold views
