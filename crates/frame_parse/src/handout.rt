@@ -1,6 +1,6 @@
 //! The instructions of a program, one by one.
 
-ghost use Rattle.std.specs.Prelude.{◌≡◌, ◌<◌, ◌∷◌, [], List, MatchOption, OnSome, length};
+ghost use Rattle.std.specs.Prelude.{◌≡◌, ◌<◌, ◌∷◌, [], List, IfNone, MatchOption, OnSome, length};
 ghost use Rattle.frame_parse.specs.Programs.{HasSteps};
 ghost use Rattle.frame_parse.specs.declared.instruction.Step.{Step};
 
@@ -77,6 +77,8 @@ impl<'a> Program<'a> {
         ensures steps { (steps : List Step) → HasSteps self.old steps
             → MatchOption result (steps ≡ []) (λ x. (more : List Step) × (steps ≡ x ∷ more) × HasSteps self.new more) }
         ensures shrinks { OnSome result (length self.new.rest.bytes < length self.old.rest.bytes) }
+        // So there is none after the end either.
+        ensures end { IfNone result (self.new ≡ self.old) }
     {
         if self.cursor.left() == 0 {
             return None;

@@ -1,6 +1,6 @@
-//! The rules that a restore gives back, worked out where one is met: few programs restore a column.
+//! The rules that a restore gives back, worked out where the first one is met: few programs restore a column.
 
-ghost use Rattle.std.specs.Prelude.{◌≡◌, slice_index_or};
+ghost use Rattle.std.specs.Prelude.{◌≡◌, slice_index_or, None, IfSome};
 ghost use Rattle.frame_rows.specs.declared.row.Row.{Row};
 ghost use Rattle.frame_rows.specs.Rows.{IsBaseRow, unset};
 
@@ -13,26 +13,65 @@ pub(crate) trait Base {
     // The rows whose rules it tells.
     ghost gives: { Self → Row → Type 0 };
 
-    fn rule(&self, column: u8) -> Rule
-        ensures { (given : Row) → gives self.now given → result ≡ slice_index_or given.columns column Rule.Unset };
+    fn rule(&mut self, column: u8) -> Rule
+        ensures rule { (given : Row) → gives self.old given
+            → result ≡ slice_index_or given.columns column Rule.Unset }
+        // It goes on to tell the rules of the same rows.
+        ensures same { (given : Row) → gives self.old given → gives self.new given };
 }
 
 /// Inside the initial instructions: nothing is set before them.
+#[derive(Drop)]
 pub(crate) struct NothingSet;
 
 impl Base for NothingSet {
     ghost gives = { λ s given. given ≡ unset };
 
-    fn rule(&self, _column: u8) -> Rule {
+    #[inline(always)]
+    fn rule(&mut self, _column: u8) -> Rule {
         Rule::Unset
     }
 }
 
-/// Among its own instructions: the row that the initial ones leave.
-impl Base for Fde<'_> {
-    ghost gives = { IsBaseRow };
+/// Among an FDE's own instructions: the row that the initial ones leave, which is kept from the first restore on.
+#[derive(Drop)]
+pub(crate) struct InitialRow<'f, 'a> {
+    fde: &'f Fde<'a>,
+    row: Option<Row>,
+}
 
-    fn rule(&self, column: u8) -> Rule {
-        initial_row(self).rule(column)
+impl<'f, 'a> InitialRow<'f, 'a> {
+    pub(crate) fn new(fde: &'f Fde<'a>) -> InitialRow<'f, 'a>
+        ensures fde { result.fde.now ≡ fde.now }
+        ensures row { result.row ≡ None }
+    {
+        InitialRow { fde, row: None }
+    }
+
+    /// The rule for the first restore, which is rare.
+    #[cold]
+    #[inline(never)]
+    fn first_rule(&mut self, column: u8) -> Rule
+        ensures fde { self.new.fde.now ≡ self.old.fde.now }
+        ensures rule { (given : Row) → IsBaseRow self.old.fde.now given
+            → result ≡ slice_index_or given.columns column Rule.Unset }
+        ensures row { (given : Row) → IsBaseRow self.old.fde.now given
+            → IfSome self.new.row (λ row. row ≡ given) }
+    {
+        let row = initial_row(self.fde);
+        self.row = Some(row);
+        row.rule(column)
+    }
+}
+
+impl Base for InitialRow<'_, '_> {
+    ghost gives = { λ s given. IsBaseRow s.fde.now given × IfSome s.row (λ row. row ≡ given) };
+
+    #[inline(always)]
+    fn rule(&mut self, column: u8) -> Rule {
+        match &self.row {
+            Some(row) => row.rule(column),
+            None => self.first_rule(column),
+        }
     }
 }

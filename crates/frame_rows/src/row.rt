@@ -110,8 +110,10 @@ fn rule_of(read: ReadRule) -> Rule
 
 /// What an instruction makes of a row by itself.
 #[inline(always)]
-pub(crate) fn apply<B: Base>(row: &mut Row, base: &B, instruction: Instruction)
-    ensures { (given : Row) → B.gives base.now given → row.new ≡ applied given row.old instruction }
+pub(crate) fn apply<B: Base>(row: &mut Row, base: &mut B, instruction: Instruction)
+    ensures row { (given : Row) → B.gives base.old given
+        → row.new ≡ applied given row.old instruction }
+    ensures base { (given : Row) → B.gives base.old given → B.gives base.new given }
 {
     match instruction {
         Instruction::Set { column, rule } => row.set(column, rule_of(rule)),

@@ -135,6 +135,13 @@ fn initial_instructions(rt: HostRuntime) -> Result<(), Fail> {
     Ok(())
 }
 
+/// Several restores in one program, of two columns.
+#[test]
+fn restores(rt: HostRuntime) -> Result<(), Fail> {
+    assert!(rt; are_there(&read(rt.alloc(), 0x2000, &RESTORES)?, &RESTORES_ROWS));
+    Ok(())
+}
+
 /// Nothing says where the CFA is.
 #[test]
 fn missing_cfa(rt: HostRuntime) -> Result<(), Fail> {

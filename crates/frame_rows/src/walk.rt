@@ -7,7 +7,7 @@ ghost use Rattle.frame_rows.specs.Columns.{HasInitial, HasProgram, rule_at, cfa_
 ghost use Rattle.frame_rows.specs.Rows.{base_row, beside, rows_behind, unset};
 ghost use Rattle.frame_rows.specs.Walk.{GoesOn, Walks};
 
-use crate::base::{Base, NothingSet};
+use crate::base::{Base, InitialRow, NothingSet};
 use crate::row::{Row, apply};
 use frame_parse::{Fde, Instruction, Program, steps_are_ordered};
 
@@ -23,10 +23,11 @@ enum Stop {
 /// Goes on from a row. What is remembered on the way is kept by a walk of its own, so that a program that
 /// remembers nothing pays for no other row.
 #[cycle(walk)]
-fn walk<B: Base>(program: &mut Program<'_>, pc: u64, base: &B, row: &mut Row) -> Stop
+fn walk<B: Base>(program: &mut Program<'_>, pc: u64, base: &mut B, row: &mut Row) -> Stop
     ensures shorter { result ≡ Stop.Restored → length program.new.rest.bytes ≤ length program.old.rest.bytes }
-    ensures walks { (given : Row) → B.gives base.now given
+    ensures walks { (given : Row) → B.gives base.old given
         → Walks given pc program.old row.old result program.new row.new }
+    ensures base { (given : Row) → B.gives base.old given → B.gives base.new given }
 {
     while let Some(step) = program.next() {
         match step.instruction {
@@ -49,10 +50,11 @@ fn walk<B: Base>(program: &mut Program<'_>, pc: u64, base: &B, row: &mut Row) ->
 /// Goes on from a row that is remembered, and takes it back where it is restored.
 #[cycle(walk)]
 #[inline(never)]
-fn walk_back<B: Base>(program: &mut Program<'_>, pc: u64, base: &B, row: &mut Row) -> Stop
+fn walk_back<B: Base>(program: &mut Program<'_>, pc: u64, base: &mut B, row: &mut Row) -> Stop
     ensures shorter { result ≡ Stop.Restored → length program.new.rest.bytes ≤ length program.old.rest.bytes }
-    ensures walks { (given : Row) → B.gives base.now given
+    ensures walks { (given : Row) → B.gives base.old given
         → Walks given pc program.old row.old result program.new row.new }
+    ensures base { (given : Row) → B.gives base.old given → B.gives base.new given }
     ensures kept { result ≡ Stop.Restored → row.new ≡ row.old }
 {
     let kept = *row;
@@ -64,8 +66,8 @@ fn walk_back<B: Base>(program: &mut Program<'_>, pc: u64, base: &B, row: &mut Ro
 }
 
 /// Goes from a row on to the one behind all steps of a program up to an address.
-fn go_through<B: Base>(mut program: Program<'_>, pc: u64, base: &B, row: &mut Row)
-    ensures { (given : Row) → B.gives base.now given → (steps : List Step) → GoesOn program.entry pc 0 steps
+fn go_through<B: Base>(mut program: Program<'_>, pc: u64, base: &mut B, row: &mut Row)
+    ensures { (given : Row) → B.gives base.old given → (steps : List Step) → GoesOn program.entry pc 0 steps
         → row.new ≡ (rows_behind given pc (beside row.old []) steps).row }
 {
     walk(&mut program, pc, base, row);
@@ -80,10 +82,10 @@ fn set_initial(fde: &Fde<'_>, row: &mut Row)
         → row.new ≡ base_row fde.now.entry.first initial }
 {
     steps_are_ordered();
-    go_through(fde.initial(), fde.first(), &NothingSet, row);
+    go_through(fde.initial(), fde.first(), &mut NothingSet, row);
 }
 
-/// The row that the initial instructions leave, for a restore. These are rare, so it is worked out again.
+/// The row that the initial instructions leave, for the restores of a program.
 #[inline(never)]
 pub(crate) fn initial_row(fde: &Fde<'_>) -> Row
     ensures { (initial : List Step) → HasInitial fde.now initial
@@ -110,7 +112,7 @@ pub fn row_at(fde: &Fde<'_>, pc: u64) -> Row
     set_initial(fde, &mut row);
     let program = fde.program();
     if fde.first() <= pc {
-        go_through(program, pc, fde, &mut row);
+        go_through(program, pc, &mut InitialRow::new(fde), &mut row);
     }
     row
 }

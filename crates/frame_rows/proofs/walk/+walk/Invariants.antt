@@ -10,7 +10,11 @@ abbrev pub decreases-walk_back : goal.decreases-walk_back
 decreases-walk_back g l = 2 * length l.program.now.rest.bytes + 1
 
 abbrev pub invariant-walk-loop-step : goal.invariant-walk-loop-step
-invariant-walk-loop-step g l = (length l.program.rest.bytes ≤ length l.fn.program.rest.bytes) × ((given : Row) → g.B.Base.gives l.base given → LeadsTo given l.pc l.fn.program l.fn.row l.program l.row)
+invariant-walk-loop-step g l = record {
+  shorter : length l.program.rest.bytes ≤ length l.fn.program.rest.bytes;
+  leads : (given : Row) → g.B.Base.gives l.fn.base given → LeadsTo given l.pc l.fn.program l.fn.row l.program l.row;
+  base : (given : Row) → g.B.Base.gives l.fn.base given → g.B.Base.gives l.base given;
+}
 
 abbrev pub decreases-walk-loop-step : goal.decreases-walk-loop-step
 decreases-walk-loop-step g l = length l.program.rest.bytes

@@ -42,3 +42,13 @@ returns-clause-shrinks c =
           rw w.result-is (omega (arith, shorter, ap (λ (k : ProgramRest). length k.rest.bytes) c.self.view_is))
       | in-Err w ↦ rw w.result-is tt
     ]
+
+pub returns-clause-end : goal.returns-clause-end
+returns-clause-end c =
+    let p = c.self.inside in
+    let was : ProgramRest = record { start = p.start; section = p.section; moves = p.moves; cie = p.cie.now; state = p.state; rest = p.cursor } in
+    let some : 0 < length p.cursor.bytes = omega (arith, c.left.ensures, c.if-left-eq0.false) in
+    elim c.match-step.branch [
+      | in-Ok w ↦ rw w.result-is tt
+      | in-Err w ↦ absurd (none_refused was c.self.invariant.0 w.in-Err.field-0 some c.self.invariant.1 w.in-Err.ensures)
+    ]
