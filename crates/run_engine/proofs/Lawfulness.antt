@@ -1,23 +1,19 @@
 -- A walk through a script's events is a lawful journal.
-use Rattle.std.proofs.Common.{◌≡◌, ℕ, ◌+◌, ◌^◌, ◌<◌, ◌≤◌, List, [], ◌∷◌, length, map, refl, sym, ◌∙◌, ap, subst, arith}
-use Rattle.std.specs.List.{All, AllByRecursion, AllZip, flat_map}
-use Rattle.std.proofs.lemmas.List.Elements.{All-from_recursion, All-map, All-weaker}
+use Rattle.std.proofs.Common.{◌≡◌, ℕ, ◌+◌, List, [], ◌∷◌, length, map, refl, sym, ◌∙◌, ap, subst, arith}
+use Rattle.std.specs.List.{AllByRecursion, AllZip, flat_map}
+use Rattle.std.proofs.lemmas.List.Elements.{All-from_recursion}
 use Rattle.reg_model.specs.Interval.{Interval}
 use Rattle.reg_model.specs.State.{State}
 use Rattle.reg_model.specs.Receipt.{AllHold, AreInOrder}
 use Rattle.reg_model.specs.Current.{Current, LeadsTo}
 use Rattle.reg_model.specs.declared.answer.Update.{Update}
 use Rattle.reg_model.specs.declared.answer.Receipt.{Receipt}
-use Rattle.event_script.specs.ScriptData.{ScriptData, IsThread, IsRound}
-use Rattle.event_script.specs.declared.script.Event.{Event}
-use Rattle.std.proofs.lemmas.List.{length-map}
-use Rattle.run_engine.specs.Counts.{HasCounts}
+use Rattle.event_script.specs.ScriptData.{ScriptData}
 use Rattle.event_script.specs.JournalData.{JournalData}
-use Rattle.event_script.specs.Text.{IsPrintable}
 use Rattle.event_script.specs.Lawful.{IsLawful, AnswersEvent, receipts_of, thread_receipts, in_one, start_of, RoundsHold, AreInRounds, history_of}
 use Rattle.event_script.specs.declared.journal.Answer.{Answer}
 use Rattle.run_engine.specs.Walk.{Walks}
-use Rattle.run_engine.proofs.Lists.{AllByRecursion-parts, AllZip-map, AllZip-weaker, AllZip-length, AllZip-beside, flat_map-map, flat_map-same}
+use Rattle.run_engine.proofs.Lists.{AllByRecursion-parts, AllZip-map, AllZip-weaker, flat_map-map, flat_map-same}
 use Rattle.run_engine.proofs.Walks.{Walks-parts, HoldsAlways, all_made, walk_leads, walk_holds, walk_rises, walk_in_order, AllHold-from_always, IsBetween, done_count}
 use Rattle.run_engine.proofs.Numbers.{count_of_number, history_of_walk}
 
@@ -93,28 +89,3 @@ lawful_play {T} {U} answers_of threads_of script rounds updates end answered sam
     lawful_walk script (record { rounds = map round_of rounds; updates = updates }) end
     (AllZip-map (AllZip (AllZip AnswersEvent)) round_of script.rounds rounds threads_answered)
     same (subst P (sym all) walk)
-
-pub printable_play : {T U : Type 0} (answers_of : T → List Answer) (threads_of : U → List T) (rounds : List U) → All (λ round. All (λ thread. All IsPrintable (answers_of thread)) (threads_of round)) rounds → All (All (All IsPrintable)) (map (λ round. map answers_of (threads_of round)) rounds)
-printable_play {T} {U} answers_of threads_of rounds all =
-    let P : U → Type 0 = λ round. All (λ thread. All IsPrintable (answers_of thread)) (threads_of round) in
-    let Q : U → Type 0 = λ round. All (All IsPrintable) (map answers_of (threads_of round)) in
-    All-map (All (All IsPrintable)) (λ round. map answers_of (threads_of round)) rounds
-    (All-weaker P Q (λ round each. All-map (All IsPrintable) answers_of (threads_of round) each) rounds all)
-
--- as few answers as events, so that they can be numbered
-pub counted_play : {T U : Type 0} (answers_of : T → List Answer) (threads_of : U → List T) (images : ℕ) (script_rounds : List (List (List Event))) (rounds : List U) → (length script_rounds ≤ 64) × All (IsRound images) script_rounds → AllZip (λ threads round. AllZip (λ events thread. AllZip AnswersEvent events (answers_of thread)) threads (threads_of round)) script_rounds rounds → HasCounts (map (λ round. map answers_of (threads_of round)) rounds)
-counted_play {T} {U} answers_of threads_of images script_rounds rounds few answered =
-    let count = AllZip-length _ script_rounds rounds answered in
-    let Short : List Answer → Type 0 = λ answers. length answers < 2 ^ 32 in
-    let thread_short : (events : List Event) (thread : T) → AllZip AnswersEvent events (answers_of thread) → IsThread images events → Short (answers_of thread) =
-    λ events thread zipped is. (let same = AllZip-length AnswersEvent events (answers_of thread) zipped in let short = is.0 in omega arith) in
-    let round_short : (threads : List (List Event)) (round : U) → AllZip (λ events thread. AllZip AnswersEvent events (answers_of thread)) threads (threads_of round) → IsRound images threads → (length (map answers_of (threads_of round)) < 2 ^ 32) × All Short (map answers_of (threads_of round)) =
-    λ threads round zipped is. (let same = AllZip-length _ threads (threads_of round) zipped in let short = is.0 in (
-      rw length-map (omega arith),
-      All-map Short answers_of (threads_of round) (AllZip-beside _ (IsThread images) (λ thread. Short (answers_of thread)) thread_short threads (threads_of round) zipped is.1),
-    )) in
-    let short = few.0 in (
-      rw length-map (omega arith),
-      All-map (λ threads. (length threads < 2 ^ 32) × All Short threads) (λ round. map answers_of (threads_of round)) rounds
-          (AllZip-beside _ (IsRound images) (λ round. (length (map answers_of (threads_of round)) < 2 ^ 32) × All Short (map answers_of (threads_of round))) round_short script_rounds rounds answered few.1),
-    )

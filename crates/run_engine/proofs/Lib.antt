@@ -1,7 +1,7 @@
 pub mod Bytes
 pub mod Pieces
 pub mod Numbered
-pub mod JournalTexts
+pub mod Played
 pub mod Lists
 pub mod Walks
 pub mod Numbers

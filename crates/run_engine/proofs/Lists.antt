@@ -1,5 +1,5 @@
 -- Lists beside lists.
-use Rattle.std.proofs.Common.{◌≡◌, List, [], ◌∷◌, ◌++◌, length, map, refl, ap, arith}
+use Rattle.std.proofs.Common.{◌≡◌, ◌≤◌, ℕ, take, length-take, List, [], ◌∷◌, ◌++◌, length, map, refl, ap, arith}
 use Rattle.std.specs.List.{All, AllZip, AllByRecursion, flat_map}
 use Rattle.std.proofs.lemmas.List.Elements.{All-cons, All-head, All-tail}
 
@@ -38,6 +38,10 @@ AllZip-length R [] [] all = refl
 AllZip-length R (x ∷ xs) (y ∷ ys) all = (let rest = AllZip-length R xs ys all.1 in omega arith)
 AllZip-length R [] (y ∷ ys) all = absurd all
 AllZip-length R (x ∷ xs) [] all = absurd all
+
+-- beside the first items, at most as many as all of them
+pub AllZip-front : {A B : Type 0} (R : A → B → Type 0) (i : ℕ) (xs : List A) (ys : List B) → AllZip R (take i xs) ys → length ys ≤ length xs
+AllZip-front R i xs ys all = (let same = AllZip-length R (take i xs) ys all in let front = length-take i xs in omega arith)
 
 -- what holds of each, of the items beside them
 pub AllZip-beside : {A B : Type 0} (R : A → B → Type 0) (P : A → Type 0) (Q : B → Type 0) → ((x : A) (y : B) → R x y → P x → Q y) → (xs : List A) (ys : List B) → AllZip R xs ys → All P xs → All Q ys

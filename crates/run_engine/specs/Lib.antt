@@ -3,4 +3,4 @@ pub mod Devices
 pub mod Statuses
 pub mod Outcome
 pub mod Walk
-pub mod Counts
+pub mod Played

@@ -1,5 +1,5 @@
 -- What sources hand out, what sinks take, and when a count of faults rose.
-use Rattle.std.specs.Prelude.{◌≡◌, ◌⊎◌, ℕ, ◌-◌, ◌^◌, ◌<◌, List, ◌++◌, Option, Some, MatchOption}
+use Rattle.std.specs.Prelude.{◌≡◌, ◌⊎◌, ℕ, ◌-◌, ◌^◌, ◌<◌, ◌≤◌, List, ◌++◌, length, Option, Some, MatchOption}
 
 -- a count rose, or stands at its last value
 abbrev pub Rose : ℕ → ℕ → Type 0
@@ -8,6 +8,10 @@ Rose old new = (old < new) ⊎ (new ≡ 2 ^ 64 - 1)
 -- a source that tells its bytes handed out these
 abbrev pub Hands : Option (List ℕ) → Option (List ℕ) → List ℕ → Type 0
 Hands old new bytes = MatchOption old (Unit {0}) (λ had. MatchOption new ⊥ (λ left. had ≡ bytes ++ left))
+
+-- a source that tells its bytes handed out at most so many
+abbrev pub HandsUpTo : ℕ → Option (List ℕ) → Option (List ℕ) → Type 0
+HandsUpTo most old new = (bytes : List ℕ) × (length bytes ≤ most) × Hands old new bytes
 
 -- a sink that tells its bytes gained these
 abbrev pub Gains : Option (List ℕ) → Option (List ℕ) → List ℕ → Type 0

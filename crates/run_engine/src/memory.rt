@@ -48,6 +48,8 @@ impl Source for MemorySource {
 
     ghost faults = { λ s. s.faults };
 
+    ghost can_read = { λ _. Unit {0} };
+
     fn read(&mut self, buffer: &mut [u8]) -> Result<usize, Failed>
         ensures count { IfOk result (λ count. count ≤ length buffer.old) }
         ensures bytes { IfOk result (λ count. self.old.rest ≡ take count buffer.new ++ self.new.rest) }
@@ -123,6 +125,8 @@ impl Source for SureSource {
     ghost remaining = { λ s. Some s };
 
     ghost faults = { λ _. 0 };
+
+    ghost can_read = { λ _. Unit {0} };
 
     fn read(&mut self, buffer: &mut [u8]) -> Result<usize, Failed>
         ensures count { IfOk result (λ count. count ≤ length buffer.old) }

@@ -5,8 +5,7 @@ ghost use Rattle.std.specs.List.{AllZip};
 ghost use Rattle.reg_model.specs.Interval.{Interval};
 ghost use Rattle.event_script.specs.ScriptData.{IsEvent, IsThread, IsRound};
 ghost use Rattle.event_script.specs.Lawful.{AnswersEvent, receipts_of, IsLawful};
-ghost use Rattle.event_script.specs.Text.{IsPrintable};
-ghost use Rattle.run_engine.specs.Counts.{HasCounts};
+ghost use Rattle.run_engine.specs.Played.{IsPlain, IsPlayedThread, IsPlayed};
 ghost use Rattle.run_engine.specs.Walk.{Walks};
 
 use crate::gate::Gate;
@@ -25,7 +24,7 @@ fn play_event(
     requires room { registry.old.updates < 2 ^ 26 }
     ensures answered { IfOk result (λ answer. AnswersEvent event answer) }
     ensures walks { IfOk result (λ answer. Walks registry.old (receipts_of images.now answer) registry.new) }
-    ensures printable { IfOk result IsPrintable }
+    ensures plain { IfOk result IsPlain }
     ensures room { IfOk result (λ _. registry.new.updates ≤ registry.old.updates + 1) }
 {
     Ok(match event {
@@ -69,7 +68,7 @@ fn play_thread<R: Wait, G: Gate>(
     requires room { registry.old.updates + length events.now ≤ 2 ^ 26 }
     ensures answered { IfOk result (λ answers. AllZip AnswersEvent events.now answers.items) }
     ensures walks { IfOk result (λ answers. Walks registry.old (flat_map (receipts_of images.now) answers.items) registry.new) }
-    ensures printable { IfOk result (λ answers. All IsPrintable answers.items) }
+    ensures played { IfOk result (λ answers. IsPlayedThread answers.items) }
     ensures room { IfOk result (λ _. registry.new.updates ≤ registry.old.updates + length events.now) }
 {
     let ThreadNumber { round, thread } = number;
@@ -98,7 +97,7 @@ fn play_round<R: Wait, G: Gate>(
     requires room { registry.old.updates + 4096 * length threads.now ≤ 2 ^ 26 }
     ensures answered { IfOk result (λ answers. AllZip (λ events thread. AllZip AnswersEvent events thread.items) threads.now answers.items) }
     ensures walks { IfOk result (λ answers. Walks registry.old (flat_map (λ thread. flat_map (receipts_of images.now) thread.items) answers.items) registry.new) }
-    ensures printable { IfOk result (λ answers. All (λ thread. All IsPrintable thread.items) answers.items) }
+    ensures played { IfOk result (λ answers. (length answers.items ≤ 16) × All (λ thread. IsPlayedThread thread.items) answers.items) }
     ensures room { IfOk result (λ _. registry.new.updates ≤ registry.old.updates + 4096 * length threads.now) }
 {
     let mut answers = Vec::new(alloc);
@@ -126,7 +125,7 @@ fn play_rounds<R: Wait, G: Gate>(
     requires room { registry.old.updates ≡ 0 }
     ensures answered { IfOk result (λ answers. AllZip (λ threads round. AllZip (λ events thread. AllZip AnswersEvent events thread.items) threads round.items) rounds.now answers.items) }
     ensures walks { IfOk result (λ answers. Walks registry.old (flat_map (λ round. flat_map (λ thread. flat_map (receipts_of images.now) thread.items) round.items) answers.items) registry.new) }
-    ensures printable { IfOk result (λ answers. All (λ round. All (λ thread. All IsPrintable thread.items) round.items) answers.items) }
+    ensures played { IfOk result (λ answers. (length answers.items ≤ 64) × All (λ round. (length round.items ≤ 16) × All (λ thread. IsPlayedThread thread.items) round.items) answers.items) }
 {
     let mut answers = Vec::new(alloc);
     for (index, round) in rounds.iter().enumerate() {
@@ -146,8 +145,7 @@ pub fn play<R: Wait, G: Gate>(
     script: &Script,
 ) -> Result<Journal, NoMemory>
     ensures lawful { IfOk result (λ journal. IsLawful script.now journal) }
-    ensures printable { IfOk result (λ journal. All (All (All IsPrintable)) journal.rounds) }
-    ensures counted { IfOk result (λ journal. HasCounts journal.rounds) }
+    ensures played { IfOk result (λ journal. IsPlayed journal.rounds) }
 {
     let mut registry = PlainRegistry::new(alloc, Vec::new(alloc), script.loads);
     let rounds = play_rounds(

@@ -1,6 +1,6 @@
 //! Where bytes come from and where they go, with their faults counted.
 
-ghost use Rattle.std.specs.Prelude.{◌≡◌, ℕ, ◌<◌, ◌≤◌, ◌++◌, List, [], Option, length, take, IfOk, IfSome, OnErr, IsErr, Err, option_map};
+ghost use Rattle.std.specs.Prelude.{◌≡◌, ◌≢◌, ℕ, ◌<◌, ◌≤◌, List, [], Option, length, take, IfOk, IfSome, OnOk, OnErr, IsErr, Err};
 ghost use Rattle.run_engine.specs.Ports.{Rose, Hands, Gains};
 
 /// A read failed.
@@ -22,12 +22,21 @@ pub trait Source {
     /// How many reads have failed. It stands still at its last value, 2^64 - 1.
     ghost faults: { Self → ℕ };
 
-    /// Reads some bytes to the front of the buffer. None for a buffer that has room is the end.
+    /// It may be read: it has neither failed nor said its end.
+    ghost can_read: { Self → Type 0 };
+
+    /// Reads some bytes to the front of the buffer. None for a buffer that has room is the end. An `Err` hands out nothing.
     fn read(&mut self, buffer: &mut [u8]) -> Result<usize, Failed>
+        requires { can_read self.old }
         ensures count { IfOk result (λ count. count ≤ length buffer.old) }
         ensures bytes { IfOk result (λ count. Hands (remaining self.old) (remaining self.new) (take count buffer.new)) }
         ensures end { IfOk result (λ count. count ≡ 0 → 0 < length buffer.old → IfSome (remaining self.old) (λ bytes. bytes ≡ [])) }
+        ensures goes_on { IfOk result (λ count. 0 < count → can_read self.new) }
+        ensures kept { OnErr result (remaining self.new ≡ remaining self.old) }
+
+        // The count of faults rises where a read fails, and only there.
         ensures err { IsErr result → Rose (faults self.old) (faults self.new) }
+        ensures sound { OnOk result (faults self.new ≡ faults self.old) }
         ensures counted { faults self.old ≤ faults self.new };
 }
 
@@ -45,6 +54,9 @@ pub trait Sink {
         ensures some { IfOk result (λ count. 0 < length piece.now → 0 < count) }
         ensures bytes { IfOk result (λ count. Gains (written self.old) (written self.new) (take count piece.now)) }
         ensures err { OnErr result (written self.new ≡ written self.old) }
+
+        // The count of faults rises where a write fails, and only there.
         ensures failed { result ≡ Err SinkFault.Failed → Rose (faults self.old) (faults self.new) }
+        ensures sound { result ≢ Err SinkFault.Failed → faults self.new ≡ faults self.old }
         ensures counted { faults self.old ≤ faults self.new };
 }

@@ -1,7 +1,7 @@
 //! Takes a source to its end.
 
-ghost use Rattle.std.specs.Prelude.{◌≡◌, ℕ, ◌+◌, ◌≤◌, IfOk, IfSome, Err, vec_len};
-ghost use Rattle.run_engine.specs.Ports.{Rose, Hands};
+ghost use Rattle.std.specs.Prelude.{◌≡◌, ◌≢◌, ℕ, ◌+◌, ◌≤◌, IfOk, IfSome, Err, vec_len};
+ghost use Rattle.run_engine.specs.Ports.{Rose, Hands, HandsUpTo};
 ghost use Rattle.run_engine.specs.declared.reading.TheConstants.{LIMIT};
 
 use crate::ports::{Failed, Source};
@@ -20,12 +20,16 @@ pub enum TakeFault {
     NoMemory,
 }
 
-/// The bytes of a source up to its end, or one more of them than a script may have.
+/// The bytes of a source up to its end, or one more of them than a script may have. A source that failed, or said its end,
+/// is not asked again.
 pub fn take_all<S: Source>(alloc: Global, source: &mut S) -> Result<Vec<u8>, TakeFault>
+    requires { S.can_read source.old }
     ensures handed { IfOk result (λ bytes. Hands (S.remaining source.old) (S.remaining source.new) bytes.items) }
     ensures limit { IfOk result (λ bytes. vec_len bytes ≤ LIMIT + 1) }
     ensures all { IfOk result (λ bytes. vec_len bytes ≤ LIMIT → IfSome (S.remaining source.old) (λ had. had ≡ bytes.items)) }
+    ensures taken { HandsUpTo (LIMIT + 1) (S.remaining source.old) (S.remaining source.new) }
     ensures failed { result ≡ Err TakeFault.Failed → Rose (S.faults source.old) (S.faults source.new) }
+    ensures sound { result ≢ Err TakeFault.Failed → S.faults source.new ≡ S.faults source.old }
 {
     let mut bytes = Vec::new(alloc);
     let mut buffer = [0u8; PIECE];

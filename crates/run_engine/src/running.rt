@@ -1,11 +1,11 @@
 //! From the words of the command line to a status.
 
-ghost use Rattle.std.specs.Prelude.{◌≡◌, ◌⊎◌, ℕ, ◌≤◌, ◌↔◌, length, map, IsTrue, IfSome};
+ghost use Rattle.std.specs.Prelude.{◌≡◌, ◌≢◌, ◌⊎◌, ◌+◌, ℕ, ◌≤◌, ◌↔◌, length, map, IsTrue, IfSome};
 ghost use Rattle.event_script.specs.ScriptData.{ScriptData};
 ghost use Rattle.event_script.specs.Spelling.{IsScript};
 ghost use Rattle.event_script.specs.FaultText.{fault_text};
 ghost use Rattle.std.specs.String.{string_bytes};
-ghost use Rattle.run_engine.specs.Ports.{Rose};
+ghost use Rattle.run_engine.specs.Ports.{Rose, HandsUpTo};
 ghost use Rattle.run_engine.specs.Outcome.{AreTaken, Writes, WritesPart, Ends, Concludes, limit};
 
 use crate::gate::Gate;
@@ -22,7 +22,8 @@ use std::sync::Wait;
 /// Takes the words of the command line, reads a script from the source, plays it, and writes its journal to the sink.
 ///
 /// Each status but ReadFault has a text that is due with it: for Done the journal's, else one line that says why. Where
-/// the text can't be written, the status is WriteFault. Memory may be wanted at any time.
+/// the text can't be written, the status is WriteFault. Memory may be wanted at any time. A source that failed, or said its
+/// end, is not asked again.
 pub fn run<R: Wait, S: Source, K: Sink, G: Gate + Sync>(
     rt: &R,
     alloc: Global,
@@ -31,13 +32,21 @@ pub fn run<R: Wait, S: Source, K: Sink, G: Gate + Sync>(
     sink: &mut K,
     gate: &G,
 ) -> Status
-    // The journal theorem: the text of one lawful journal of the script that was read.
+    requires { S.can_read source.old }
+
+    // The journal theorem: the text of one lawful journal of the script that was read, of which no answer is Full.
     ensures done { result ≡ Status.Done → Writes (map string_bytes words.now) (S.remaining source.old) Status.Done (K.written sink.old) (K.written sink.new) }
     ensures usage { result ≡ Status.Usage → Writes (map string_bytes words.now) (S.remaining source.old) Status.Usage (K.written sink.old) (K.written sink.new) }
     ensures too_long { result ≡ Status.TooLong → Writes (map string_bytes words.now) (S.remaining source.old) Status.TooLong (K.written sink.old) (K.written sink.new) }
     ensures script { result ≡ Status.Script → Writes (map string_bytes words.now) (S.remaining source.old) Status.Script (K.written sink.old) (K.written sink.new) }
 
-    // Faults come only where a count rose in this call, and leave nothing, or a front of what was due.
+    // What is taken of the source: nothing for other words, and else one byte more than a script may have at the most.
+    ensures unread { ¬ AreTaken (map string_bytes words.now) → source.new ≡ source.old }
+    ensures taken { HandsUpTo (limit + 1) (S.remaining source.old) (S.remaining source.new) }
+
+    // Faults come exactly where a count rose in this call, and leave nothing, or a front of what was due.
+    ensures reads { result ≢ Status.ReadFault → S.faults source.new ≡ S.faults source.old }
+    ensures writes { result ≢ Status.WriteFault → K.faults sink.new ≡ K.faults sink.old }
     ensures read_fault { result ≡ Status.ReadFault → AreTaken (map string_bytes words.now) × Rose (S.faults source.old) (S.faults source.new) × (K.written sink.new ≡ K.written sink.old) }
     ensures write_fault { result ≡ Status.WriteFault → Rose (K.faults sink.old) (K.faults sink.new) × WritesPart (map string_bytes words.now) (S.remaining source.old) (K.written sink.old) (K.written sink.new) }
     ensures no_memory { result ≡ Status.NoMemory → WritesPart (map string_bytes words.now) (S.remaining source.old) (K.written sink.old) (K.written sink.new) }
@@ -52,7 +61,7 @@ pub fn run<R: Wait, S: Source, K: Sink, G: Gate + Sync>(
     end_of(rt, alloc, words, source, sink, gate)
 }
 
-/// The run, with one clause for each status.
+/// The run, with one clause for how it ends.
 fn end_of<R: Wait, S: Source, K: Sink, G: Gate + Sync>(
     rt: &R,
     alloc: Global,
@@ -61,7 +70,12 @@ fn end_of<R: Wait, S: Source, K: Sink, G: Gate + Sync>(
     sink: &mut K,
     gate: &G,
 ) -> Status
-    ensures { Ends (map string_bytes words.now) (S.remaining source.old)
+    requires { S.can_read source.old }
+    ensures unread { ¬ AreTaken (map string_bytes words.now) → source.new ≡ source.old }
+    ensures taken { HandsUpTo (limit + 1) (S.remaining source.old) (S.remaining source.new) }
+    ensures reads { result ≢ Status.ReadFault → S.faults source.new ≡ S.faults source.old }
+    ensures writes { result ≢ Status.WriteFault → K.faults sink.new ≡ K.faults sink.old }
+    ensures ends { Ends (map string_bytes words.now) (S.remaining source.old)
         (record {
           reads = S.faults source.old;
           reads_after = S.faults source.new;
@@ -114,7 +128,8 @@ fn are_taken(words: &[String]) -> bool
 
 /// Writes the line that is due with a status.
 fn conclude<K: Sink>(sink: &mut K, line: &[u8], status: Status) -> Status
-    ensures { Concludes line.now status
+    ensures sound { result ≢ Status.WriteFault → K.faults sink.new ≡ K.faults sink.old }
+    ensures concludes { Concludes line.now status
         (record {
           reads = 0;
           reads_after = 0;
@@ -133,7 +148,8 @@ fn conclude<K: Sink>(sink: &mut K, line: &[u8], status: Status) -> Status
 
 /// Writes the line that tells of a bad line of the script.
 fn refuse<K: Sink>(alloc: Global, sink: &mut K, line: u32, reason: Reason) -> Status
-    ensures { Concludes (fault_text line reason) Status.Script
+    ensures sound { result ≢ Status.WriteFault → K.faults sink.new ≡ K.faults sink.old }
+    ensures concludes { Concludes (fault_text line reason) Status.Script
         (record {
           reads = 0;
           reads_after = 0;

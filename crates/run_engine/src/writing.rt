@@ -1,9 +1,9 @@
 //! Writes a journal, a piece for each line.
 
-ghost use Rattle.std.specs.Prelude.{◌≡◌, ℕ, ◌^◌, ◌<◌, ◌≤◌, length, map, All, OnOk, OnErr, Err};
-ghost use Rattle.event_script.specs.Text.{IsPrintable, numbered, answer_text, thread_text, round_text, journal_text};
+ghost use Rattle.std.specs.Prelude.{◌≡◌, ◌≢◌, ℕ, ◌≤◌, length, map, All, OnOk, OnErr, Err};
+ghost use Rattle.event_script.specs.Text.{numbered, answer_text, thread_text, round_text, journal_text};
 ghost use Rattle.run_engine.specs.Ports.{Rose, Gains, GainsPart};
-ghost use Rattle.run_engine.specs.Counts.{HasCounts};
+ghost use Rattle.run_engine.specs.Played.{IsPlain, IsPlayedThread, IsPlayed};
 
 use crate::play::ThreadNumber;
 use crate::ports::{Sink, SinkFault};
@@ -15,7 +15,7 @@ pub fn write_piece<K: Sink>(sink: &mut K, piece: &[u8]) -> Result<(), SinkFault>
     ensures ok { OnOk result (Gains (K.written sink.old) (K.written sink.new) piece.now) }
     ensures err { OnErr result (GainsPart (K.written sink.old) (K.written sink.new) piece.now) }
     ensures failed { result ≡ Err SinkFault.Failed → Rose (K.faults sink.old) (K.faults sink.new) }
-    ensures counted { K.faults sink.old ≤ K.faults sink.new }
+    ensures sound { result ≢ Err SinkFault.Failed → K.faults sink.new ≡ K.faults sink.old }
 {
     let mut at = 0;
     while at < piece.len() {
@@ -35,11 +35,11 @@ fn write_answer<K: Sink>(
     event: u32,
     answer: &Answer,
 ) -> Result<(), SinkFault>
-    requires { IsPrintable answer.now }
+    requires { IsPlain answer.now }
     ensures ok { OnOk result (Gains (K.written sink.old) (K.written sink.new) (answer_text number.round number.thread event answer.now)) }
     ensures err { OnErr result (GainsPart (K.written sink.old) (K.written sink.new) (answer_text number.round number.thread event answer.now)) }
     ensures failed { result ≡ Err SinkFault.Failed → Rose (K.faults sink.old) (K.faults sink.new) }
-    ensures counted { K.faults sink.old ≤ K.faults sink.new }
+    ensures sound { result ≢ Err SinkFault.Failed → K.faults sink.new ≡ K.faults sink.old }
 {
     match print_answer(alloc, number.round, number.thread, event, answer) {
         Ok(text) => write_piece(sink, &text),
@@ -54,12 +54,11 @@ fn write_thread<K: Sink>(
     number: ThreadNumber,
     answers: &[Answer],
 ) -> Result<(), SinkFault>
-    requires printable { All IsPrintable answers.now }
-    requires few { length answers.now < 2 ^ 32 }
+    requires { IsPlayedThread answers.now }
     ensures ok { OnOk result (Gains (K.written sink.old) (K.written sink.new) (thread_text number.round number.thread answers.now)) }
     ensures err { OnErr result (GainsPart (K.written sink.old) (K.written sink.new) (thread_text number.round number.thread answers.now)) }
     ensures failed { result ≡ Err SinkFault.Failed → Rose (K.faults sink.old) (K.faults sink.new) }
-    ensures counted { K.faults sink.old ≤ K.faults sink.new }
+    ensures sound { result ≢ Err SinkFault.Failed → K.faults sink.new ≡ K.faults sink.old }
 {
     for (index, answer) in answers.iter().enumerate() {
         match write_answer(alloc, sink, number, index as u32 + 1, answer) {
@@ -77,12 +76,11 @@ fn write_round<K: Sink>(
     round: u32,
     threads: &[Vec<Answer>],
 ) -> Result<(), SinkFault>
-    requires printable { All (λ answers. All IsPrintable answers.items) threads.now }
-    requires few { (length threads.now < 2 ^ 32) × All (λ answers. length answers.items < 2 ^ 32) threads.now }
+    requires { (length threads.now ≤ 16) × All (λ answers. IsPlayedThread answers.items) threads.now }
     ensures ok { OnOk result (Gains (K.written sink.old) (K.written sink.new) (numbered (λ thread answers. thread_text round thread answers.items) 1 threads.now)) }
     ensures err { OnErr result (GainsPart (K.written sink.old) (K.written sink.new) (numbered (λ thread answers. thread_text round thread answers.items) 1 threads.now)) }
     ensures failed { result ≡ Err SinkFault.Failed → Rose (K.faults sink.old) (K.faults sink.new) }
-    ensures counted { K.faults sink.old ≤ K.faults sink.new }
+    ensures sound { result ≢ Err SinkFault.Failed → K.faults sink.new ≡ K.faults sink.old }
 {
     for (index, answers) in threads.iter().enumerate() {
         let number = ThreadNumber {
@@ -103,12 +101,11 @@ fn write_rounds<K: Sink>(
     sink: &mut K,
     rounds: &[Vec<Vec<Answer>>],
 ) -> Result<(), SinkFault>
-    requires printable { All (λ threads. All (λ answers. All IsPrintable answers.items) threads.items) rounds.now }
-    requires few { (length rounds.now < 2 ^ 32) × All (λ threads. (length threads.items < 2 ^ 32) × All (λ answers. length answers.items < 2 ^ 32) threads.items) rounds.now }
+    requires { (length rounds.now ≤ 64) × All (λ threads. (length threads.items ≤ 16) × All (λ answers. IsPlayedThread answers.items) threads.items) rounds.now }
     ensures ok { OnOk result (Gains (K.written sink.old) (K.written sink.new) (numbered (λ round threads. numbered (λ thread answers. thread_text round thread answers.items) 1 threads.items) 1 rounds.now)) }
     ensures err { OnErr result (GainsPart (K.written sink.old) (K.written sink.new) (numbered (λ round threads. numbered (λ thread answers. thread_text round thread answers.items) 1 threads.items) 1 rounds.now)) }
     ensures failed { result ≡ Err SinkFault.Failed → Rose (K.faults sink.old) (K.faults sink.new) }
-    ensures counted { K.faults sink.old ≤ K.faults sink.new }
+    ensures sound { result ≢ Err SinkFault.Failed → K.faults sink.new ≡ K.faults sink.old }
 {
     for (index, threads) in rounds.iter().enumerate() {
         match write_round(alloc, sink, index as u32 + 1, threads) {
@@ -125,11 +122,11 @@ pub fn write_journal<K: Sink>(
     sink: &mut K,
     journal: &Journal,
 ) -> Result<(), SinkFault>
-    requires printable { All (All (All IsPrintable)) journal.now.rounds }
-    requires few { HasCounts journal.now.rounds }
+    requires { IsPlayed journal.now.rounds }
     ensures ok { OnOk result (Gains (K.written sink.old) (K.written sink.new) (journal_text journal.now)) }
     ensures err { OnErr result (GainsPart (K.written sink.old) (K.written sink.new) (journal_text journal.now)) }
     ensures failed { result ≡ Err SinkFault.Failed → Rose (K.faults sink.old) (K.faults sink.new) }
+    ensures sound { result ≢ Err SinkFault.Failed → K.faults sink.new ≡ K.faults sink.old }
 {
     match write_rounds(alloc, sink, &journal.rounds) {
         Ok(()) => {}

@@ -23,6 +23,8 @@ impl<R: Read> Source for StandardInput<R> {
 
     ghost faults = { λ s. s.faults };
 
+    ghost can_read = { λ _. Unit {0} };
+
     fn read(&mut self, buffer: &mut [u8]) -> Result<usize, Failed> {
         match self.reader.read(buffer) {
             Ok(count) => Ok(count),

@@ -34,6 +34,8 @@ impl Source for SlowSource {
 
     ghost faults = { λ _. 0 };
 
+    ghost can_read = { λ _. Unit {0} };
+
     fn read(&mut self, buffer: &mut [u8]) -> Result<usize, Failed> {
         match (buffer.first_mut(), self.bytes.get(self.at)) {
             (Some(first), Some(byte)) => {

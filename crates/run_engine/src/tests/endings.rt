@@ -3,8 +3,8 @@
 ghost use Rattle.std.specs.Prelude.{None};
 
 use super::cases::{ONE_RANGE, ONE_RANGE_JOURNAL};
-use super::{run_on, words_of};
-use crate::{Failed, MemorySink, NoGate, Source, Status, run};
+use super::{run_on, text_of, words_of};
+use crate::{Failed, MemorySink, MemorySource, NoGate, Source, Status, run};
 use std::alloc::Global;
 use std::process::Abort;
 use std::sync::Wait;
@@ -37,27 +37,44 @@ fn words_other_than_run_show_the_usage(rt: HostRuntime) -> Result<(), Fail> {
     ends(&rt, rt.alloc(), &["Run"], &[], &[], 2, USAGE)
 }
 
+/// A script of three pieces of 16,384 bytes at most, the last of which is not full.
+fn three_pieces(alloc: Global) -> Result<Vec<u8>, Fail> {
+    let mut text = text_of(alloc, &["frames 1\nnodes 4\nloads 1\nround\nthread\n"])?;
+    for _ in 0..4_000 {
+        text.extend_from_slice(b"find 1010\n")?;
+    }
+    text.extend_from_slice(b"end\n")?;
+    Ok(text)
+}
+
 #[test]
 fn failed_reads_write_nothing(rt: HostRuntime) -> Result<(), Fail> {
-    ends(&rt, rt.alloc(), &["run"], &[1], &[], 4, "")?;
-    // The second read would have found the end.
-    ends(&rt, rt.alloc(), &["run"], &[2], &[], 4, "")?;
-    ends(&rt, rt.alloc(), &["run"], &[3], &[], 0, ONE_RANGE_JOURNAL)?;
-    ends(&rt, rt.alloc(), &["gen"], &[1], &[], 2, USAGE)
+    let alloc = rt.alloc();
+    let words = words_of(alloc, &["run"])?;
+    // The fourth read would have found the end, and there is no fifth one.
+    for (read, code) in [(1, 4), (2, 4), (3, 4), (4, 4), (5, 0)] {
+        let mut source = MemorySource::new(three_pieces(alloc)?, vec![in alloc; read]?);
+        let mut sink = MemorySink::new(alloc, Vec::new(alloc));
+        let status = run(&rt, alloc, &words, &mut source, &mut sink, &NoGate);
+        assert_eq!(rt; status.code(), code, "with read {read} failing");
+        assert_eq!(rt;
+            sink.bytes().is_empty(),
+            code == 4,
+            "with read {read} failing"
+        );
+    }
+    ends(&rt, alloc, &["gen"], &[1], &[], 2, USAGE)
 }
 
 #[test]
 fn failed_writes_leave_the_lines_before(rt: HostRuntime) -> Result<(), Fail> {
-    ends(&rt, rt.alloc(), &["run"], &[], &[1], 5, "")?;
-    ends(
-        &rt,
-        rt.alloc(),
-        &["run"],
-        &[],
-        &[2],
-        5,
-        "1.1.1 register 0 done 1\n",
-    )?;
+    // How many bytes the lines before each of the six have.
+    for (write, left) in [(1, 0), (2, 24), (3, 58), (4, 112), (5, 149), (6, 203)] {
+        let (status, sink) = run_on(&rt, rt.alloc(), &["run"], &[ONE_RANGE], &[], &[write])?;
+        assert_eq!(rt; status, Status::WriteFault, "with write {write} failing");
+        assert_eq!(rt; sink.bytes().len(), left, "with write {write} failing");
+        assert!(rt; ONE_RANGE_JOURNAL.as_bytes().starts_with(sink.bytes()));
+    }
     ends(&rt, rt.alloc(), &["run"], &[], &[7], 0, ONE_RANGE_JOURNAL)?;
     ends(&rt, rt.alloc(), &["gen"], &[], &[1], 5, "")
 }
@@ -72,6 +89,8 @@ impl Source for Letters {
     ghost remaining = { λ _. None };
 
     ghost faults = { λ _. 0 };
+
+    ghost can_read = { λ _. Unit {0} };
 
     fn read(&mut self, buffer: &mut [u8]) -> Result<usize, Failed> {
         let count = buffer.len().min(self.left);

@@ -1,6 +1,7 @@
-use Rattle.std.proofs.Common.{ap, ◌∙◌, length}
+use Rattle.std.proofs.Common.{ap, ◌∙◌}
 use Rattle.reg_model.specs.State.{opening}
-use Rattle.run_engine.proofs.Lawfulness.{lawful_play, printable_play, counted_play}
+use Rattle.run_engine.proofs.Lawfulness.{lawful_play}
+use Rattle.run_engine.proofs.Played.{played_play}
 use Rattle.run_engine.proofs.play.play.Goals as goal
 
 pub returns-clause-lawful : goal.returns-clause-lawful
@@ -12,9 +13,5 @@ returns-clause-lawful g c =
     c.updates-updates.ensures
     (rw (← c.deref.ensures.value, ← first) c.in_ok-rounds.ensures.walks))
 
-pub returns-clause-printable : goal.returns-clause-printable
-returns-clause-printable g c = printable_play (λ thread. thread.items) (λ round. round.items) c.in_ok-rounds.rounds.items c.in_ok-rounds.ensures.printable
-
-pub returns-clause-counted : goal.returns-clause-counted
-returns-clause-counted g c =
-    counted_play (λ thread. thread.items) (λ round. round.items) (length c.script.inside.images.items) c.script.inside.rounds.items c.in_ok-rounds.rounds.items c.script.invariant.rounds (rw (← c.deref-2.ensures.value) c.in_ok-rounds.ensures.answered)
+pub returns-clause-played : goal.returns-clause-played
+returns-clause-played g c = played_play (λ thread. thread.items) (λ round. round.items) c.in_ok-rounds.rounds.items c.in_ok-rounds.ensures.played

@@ -1,12 +1,12 @@
 use Rattle.std.proofs.Common.{◌≡◌, ◌+◌, ◌≤◌, ◌++◌, ◌∷◌, [], List, length, take, ap, sym, ◌∙◌, subst, arith}
-use Rattle.std.specs.List.{All, AllZip, flat_map}
+use Rattle.std.specs.List.{AllZip, flat_map}
 use Rattle.std.proofs.lemmas.List.{take_more}
 use Rattle.std.proofs.lemmas.List.Elements.{All-push, All-get_or}
 use Rattle.event_script.specs.ScriptData.{IsThread}
 use Rattle.event_script.specs.Lawful.{AnswersEvent, receipts_of}
-use Rattle.event_script.specs.Text.{IsPrintable}
 use Rattle.event_script.specs.declared.script.Event.{Event}
-use Rattle.run_engine.proofs.Lists.{AllZip-more}
+use Rattle.run_engine.specs.Played.{IsPlayedThread}
+use Rattle.run_engine.proofs.Lists.{AllZip-more, AllZip-front}
 use Rattle.run_engine.proofs.Walks.{Walks-push}
 use Rattle.run_engine.proofs.play.play_round.Goals as goal
 
@@ -26,6 +26,11 @@ loop-index-preserved g c =
     rw c.in_ok-push.ensures.items (record {
       answered = rw grown (AllZip-more (λ events thread. AllZip AnswersEvent events thread.items) passed answers item played before.answered (rw (← events) c.in_ok-played.ensures.answered));
       walks = Walks-push (λ thread. flat_map (receipts_of c.args.images.now) thread.items) _ _ _ answers played before.walks c.in_ok-played.ensures.walks;
-      printable = All-push (λ thread. All IsPrintable thread.items) answers played before.printable c.in_ok-played.ensures.printable;
+      played = All-push (λ thread. IsPlayedThread thread.items) answers played before.played c.in_ok-played.ensures.played;
       room = (let room = before.room in let more = c.in_ok-played.ensures.room in omega arith);
     })
+
+pub returns-clause-played : goal.returns-clause-played
+returns-clause-played g c =
+    let count = AllZip-front (λ events thread. AllZip AnswersEvent events thread.items) c.loop-index.index c.args.threads.now c.loop-index.answers.items c.loop-index.invariant.answered in
+    (let few = c.requires.round.0 in omega arith, c.loop-index.invariant.played)

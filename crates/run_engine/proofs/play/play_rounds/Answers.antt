@@ -4,9 +4,9 @@ use Rattle.std.proofs.lemmas.List.{take_more}
 use Rattle.std.proofs.lemmas.List.Elements.{All-push, All-get_or}
 use Rattle.event_script.specs.ScriptData.{IsRound}
 use Rattle.event_script.specs.Lawful.{AnswersEvent, receipts_of}
-use Rattle.event_script.specs.Text.{IsPrintable}
 use Rattle.event_script.specs.declared.script.Event.{Event}
-use Rattle.run_engine.proofs.Lists.{AllZip-more}
+use Rattle.run_engine.specs.Played.{IsPlayedThread}
+use Rattle.run_engine.proofs.Lists.{AllZip-more, AllZip-front}
 use Rattle.run_engine.proofs.Walks.{Walks-push}
 use Rattle.run_engine.proofs.play.play_rounds.Goals as goal
 
@@ -26,6 +26,11 @@ loop-index-preserved g c =
     rw c.in_ok-push.ensures.items (record {
       answered = rw grown (AllZip-more (λ threads round. AllZip (λ events thread. AllZip AnswersEvent events thread.items) threads round.items) passed answers item played before.answered (rw (← threads) c.in_ok-played.ensures.answered));
       walks = Walks-push (λ round. flat_map (λ thread. flat_map (receipts_of c.args.images.now) thread.items) round.items) _ _ _ answers played before.walks c.in_ok-played.ensures.walks;
-      printable = All-push (λ round. All (λ thread. All IsPrintable thread.items) round.items) answers played before.printable c.in_ok-played.ensures.printable;
+      played = All-push (λ round. (length round.items ≤ 16) × All (λ thread. IsPlayedThread thread.items) round.items) answers played before.played c.in_ok-played.ensures.played;
       room = (let room = before.room in let more = c.in_ok-played.ensures.room in omega arith);
     })
+
+pub returns-clause-played : goal.returns-clause-played
+returns-clause-played g c =
+    let count = AllZip-front (λ threads round. AllZip (λ events thread. AllZip AnswersEvent events thread.items) threads round.items) c.loop-index.index c.args.rounds.now c.loop-index.answers.items c.loop-index.invariant.answered in
+    (let few = c.requires.rounds.0 in omega arith, c.loop-index.invariant.played)

@@ -1,7 +1,7 @@
 use Rattle.std.proofs.Common.{◌+◌, ◌≤◌, take}
 use Rattle.std.specs.List.{All, AllZip, flat_map}
 use Rattle.event_script.specs.Lawful.{AnswersEvent, receipts_of}
-use Rattle.event_script.specs.Text.{IsPrintable}
+use Rattle.run_engine.specs.Played.{IsPlain}
 use Rattle.run_engine.specs.Walk.{Walks}
 use Rattle.run_engine.proofs.play.play_thread.Given as goal
 
@@ -10,6 +10,6 @@ abbrev pub invariant-loop-index : goal.invariant-loop-index
 invariant-loop-index g l = record {
   answered : AllZip AnswersEvent (take l.index l.events) l.answers.items;
   walks : Walks l.fn.registry (flat_map (receipts_of l.images) l.answers.items) l.registry;
-  printable : All IsPrintable l.answers.items;
+  plain : All IsPlain l.answers.items;
   room : l.registry.updates ≤ l.fn.registry.updates + l.index;
 }

@@ -9,7 +9,8 @@ invariant-pieces g l = record {
   handed : Hands (g.S.Source.remaining l.fn.source) (g.S.Source.remaining l.source) l.bytes.items;
   limit : vec_len l.bytes ≤ LIMIT + 1;
   buffer : length l.buffer ≡ PIECE;
-  counted : g.S.Source.faults l.fn.source ≤ g.S.Source.faults l.source;
+  can : g.S.Source.can_read l.source;
+  sound : g.S.Source.faults l.source ≡ g.S.Source.faults l.fn.source;
 }
 
 abbrev pub decreases-pieces : goal.decreases-pieces

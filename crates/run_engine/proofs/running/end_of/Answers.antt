@@ -6,32 +6,33 @@ use Rattle.event_script.specs.Text.{journal_text}
 use Rattle.run_engine.specs.Outcome.{limit}
 use Rattle.run_engine.specs.declared.status.Status.TheVariants as status
 use Rattle.run_engine.proofs.Endings.{ends_concluded}
+use Rattle.run_engine.proofs.Played.{played_unfilled}
 use Rattle.run_engine.proofs.Pieces.{Hands-longer, IfSome-same}
 use Rattle.run_engine.proofs.running.end_of.Goals as goal
 
-pub returns-then-not-are_taken : goal.returns-then-not-are_taken
-returns-then-not-are_taken g c =
-    ends_concluded _ _ _ _ status.Usage _ (λ taken. false≢true (sym c.if-not-are_taken.true ∙ c.are_taken.ensures.1 taken), refl) c.conclude.ensures
+pub returns-then-not-are_taken-clause-ends : goal.returns-then-not-are_taken-clause-ends
+returns-then-not-are_taken-clause-ends g c =
+    ends_concluded _ _ _ _ status.Usage _ (λ taken. false≢true (sym c.if-not-are_taken.true ∙ c.are_taken.ensures.1 taken), refl) c.conclude.ensures.concludes
 
-pub returns-then-len-gt-LIMIT : goal.returns-then-len-gt-LIMIT
-returns-then-len-gt-LIMIT g c =
+pub returns-then-len-gt-LIMIT-clause-ends : goal.returns-then-len-gt-LIMIT-clause-ends
+returns-then-len-gt-LIMIT-clause-ends g c =
     let long : limit < length c.in-Ok.bytes.items = (let count = c.len.ensures in let above = c.if-len-gt-LIMIT.true in omega (arith, c.in-Ok.bytes.ok.0)) in
     ends_concluded _ _ _ _ status.TooLong _
     (c.are_taken.ensures.0 c.if-not-are_taken.false, Hands-longer limit _ _ c.in-Ok.bytes.items c.in-Ok.ensures.handed long, refl)
-    c.conclude-then-len-gt-LIMIT.ensures
+    c.conclude-then-len-gt-LIMIT.ensures.concludes
 
-pub returns-in-Err-Bad : goal.returns-in-Err-Bad
-returns-in-Err-Bad g c =
+pub returns-in-Err-Bad-clause-ends : goal.returns-in-Err-Bad-clause-ends
+returns-in-Err-Bad-clause-ends g c =
     let bytes = c.in-Ok.bytes in
     let short : length bytes.items ≤ limit = (let count = c.len.ensures in let below = c.if-len-gt-LIMIT.false in omega (arith, bytes.ok.0)) in
     let within : vec_len bytes ≤ limit = (let count = c.len.ensures in let below = c.if-len-gt-LIMIT.false in omega arith) in
     let P : List ℕ → Type 0 = λ had. (length had ≤ limit) × IsFirstBad had c.in-Err-Bad.line c.in-Err-Bad.reason in
     ends_concluded _ _ _ _ status.Script _
     (c.are_taken.ensures.0 c.if-not-are_taken.false, record { line = c.in-Err-Bad.line; reason = c.in-Err-Bad.reason; first = IfSome-same _ bytes.items P (c.in-Ok.ensures.all within) (short, rw (← c.deref.ensures.value) (rw c.in-Err-Bad.field-0-is at c.in-Err-Bad.ensures.bad)); text_is = refl })
-    c.refuse.ensures
+    c.refuse.ensures.concludes
 
-pub returns-in-Err-Failed-write_journal : goal.returns-in-Err-Failed-write_journal
-returns-in-Err-Failed-write_journal g c =
+pub returns-in-Err-Failed-write_journal-clause-ends : goal.returns-in-Err-Failed-write_journal-clause-ends
+returns-in-Err-Failed-write_journal-clause-ends g c =
     let bytes = c.in-Ok.bytes in
     let short : length bytes.items ≤ limit = (let count = c.len.ensures in let below = c.if-len-gt-LIMIT.false in omega (arith, bytes.ok.0)) in
     let within : vec_len bytes ≤ limit = (let count = c.len.ensures in let below = c.if-len-gt-LIMIT.false in omega arith) in
@@ -48,6 +49,7 @@ returns-in-Err-Failed-write_journal g c =
             journal = c.in-Ok-play.journal;
             spelled = IfSome-same _ bytes.items P (c.in-Ok.ensures.all within) (short, rw (← c.deref.ensures.value) c.in-Ok-read.ensures.ok);
             lawful = c.in-Ok-play.ensures.lawful;
+            unfilled = played_unfilled _ c.in-Ok-play.ensures.played;
             text_is = refl;
           },
         ),
@@ -55,8 +57,8 @@ returns-in-Err-Failed-write_journal g c =
       ),
     )
 
-pub returns : goal.returns
-returns g c =
+pub returns-clause-ends : goal.returns-clause-ends
+returns-clause-ends g c =
     let bytes = c.in-Ok.bytes in
     let short : length bytes.items ≤ limit = (let count = c.len.ensures in let below = c.if-len-gt-LIMIT.false in omega (arith, bytes.ok.0)) in
     let within : vec_len bytes ≤ limit = (let count = c.len.ensures in let below = c.if-len-gt-LIMIT.false in omega arith) in
@@ -71,6 +73,7 @@ returns g c =
           journal = c.in-Ok-play.journal;
           spelled = IfSome-same _ bytes.items P (c.in-Ok.ensures.all within) (short, rw (← c.deref.ensures.value) c.in-Ok-read.ensures.ok);
           lawful = c.in-Ok-play.ensures.lawful;
+          unfilled = played_unfilled _ c.in-Ok-play.ensures.played;
           text_is = refl;
         },
       ),

@@ -2,18 +2,13 @@ use Rattle.std.proofs.Common.{◌≡◌, ◌∙◌}
 use Rattle.std.proofs.lemmas.Result.{on_ok_weaker, on_err_weaker}
 use Rattle.event_script.specs.Text.{updates_text}
 use Rattle.event_script.proofs.Numbered.{rounds_text_is}
-use Rattle.event_script.proofs.Answered.{printable_is}
-use Rattle.run_engine.proofs.JournalTexts.{counts_is}
+use Rattle.run_engine.proofs.Played.{played_is}
 use Rattle.run_engine.proofs.Pieces.{Gains-more, GainsPart-more, GainsPart-wider, GainsPart-all}
 use Rattle.run_engine.proofs.writing.write_journal.Goals as goal
 
-pub write_rounds-requires-clause-printable : goal.write_rounds-requires-clause-printable
-write_rounds-requires-clause-printable g c =
-    rw c.deref.ensures.value (printable_is (λ answers. answers.items) (λ threads. threads.items) c.journal.inside.rounds.items (rw (← c.journal.view_is) at c.requires.printable))
-
-pub write_rounds-requires-clause-few : goal.write_rounds-requires-clause-few
-write_rounds-requires-clause-few g c =
-    rw c.deref.ensures.value (counts_is (λ answers. answers.items) (λ threads. threads.items) c.journal.inside.rounds.items (rw (← c.journal.view_is) at c.requires.few))
+pub write_rounds-requires : goal.write_rounds-requires
+write_rounds-requires g c =
+    rw c.deref.ensures.value (played_is (λ answers. answers.items) (λ threads. threads.items) c.journal.inside.rounds.items (rw (← c.journal.view_is) at c.requires))
 
 pub returns-in-Err-clause-err : goal.returns-in-Err-clause-err
 returns-in-Err-clause-err g c =

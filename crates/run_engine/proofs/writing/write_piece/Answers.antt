@@ -1,4 +1,4 @@
-use Rattle.std.proofs.Common.{◌≡◌, ◌-◌, length, take, drop, take-append-drop, length-drop, sym, arith}
+use Rattle.std.proofs.Common.{◌≡◌, ◌-◌, length, take, drop, take-append-drop, length-drop, sym, ◌∙◌, arith}
 use Rattle.std.proofs.lemmas.List.{take_rest}
 use Rattle.std.proofs.Math.Seq.{take-add}
 use Rattle.run_engine.proofs.Pieces.{Gains-more}
@@ -12,13 +12,11 @@ loop-at-preserved g c =
     let rest : take (length piece - at) (drop at piece) ≡ drop at piece = take_rest piece at in
     let taken = rw rest at c.in-Ok.ensures.bytes in
     let within = rw (rest, length-drop) at c.in-Ok.ensures.count in
-    let counted = c.in-Ok.ensures.counted in
-    let counted_before = before.counted in
     let here = c.loop-at-test.true in
     record {
       within = omega arith;
       gained = rw (take-add at c.in-Ok.count piece) (Gains-more (g.K.Sink.written c.args.sink.now) (g.K.Sink.written c.loop-at.sink) (g.K.Sink.written c.write.new.self) (take at piece) (take c.in-Ok.count (drop at piece)) before.gained taken);
-      counted = omega arith;
+      sound = c.in-Ok.ensures.sound (λ is. cc) ∙ before.sound;
     }
 
 pub returns-in-Err-clause-err : goal.returns-in-Err-clause-err

@@ -1,4 +1,4 @@
-use Rattle.std.proofs.Common.{◌≤◌, take}
+use Rattle.std.proofs.Common.{◌≡◌, take}
 use Rattle.event_script.specs.Text.{thread_text}
 use Rattle.run_engine.specs.Ports.{Gains}
 use Rattle.run_engine.proofs.writing.write_thread.Given as goal
@@ -7,5 +7,5 @@ use Rattle.run_engine.proofs.writing.write_thread.Given as goal
 abbrev pub invariant-loop-index : goal.invariant-loop-index
 invariant-loop-index g l = record {
   gained : Gains (g.K.Sink.written l.fn.sink) (g.K.Sink.written l.sink) (thread_text l.number.round l.number.thread (take l.index l.answers));
-  counted : g.K.Sink.faults l.fn.sink ≤ g.K.Sink.faults l.sink;
+  sound : g.K.Sink.faults l.sink ≡ g.K.Sink.faults l.fn.sink;
 }
