@@ -1,30 +1,10 @@
 -- What a lawful change makes of the entries of the whole tree.
-use Rattle.std.proofs.Common.{
-  ◌≡◌,
-  ℕ,
-  ◌⊎◌,
-  ◌↔◌,
-  refl,
-  sym,
-  ◌∙◌,
-  subst,
-  Bool,
-  false,
-  IsTrue,
-  inl,
-  inr,
-}
+use Rattle.std.proofs.Common.{◌≡◌, ℕ, ◌⊎◌, ◌↔◌, refl, sym, ◌∙◌, subst, Bool, false, IsTrue, inl}
+use Rattle.std.proofs.Common.{inr}
 use Rattle.std.specs.Prelude.{Option, Some, None}
 use Rattle.std.specs.List.{Contains}
-use Rattle.std.proofs.lemmas.Bool.{
-  cases_Bool,
-  cond-true,
-  cond-false,
-  or_left,
-  or_from,
-  ltb-true,
-  both_ways,
-}
+use Rattle.std.proofs.lemmas.Bool.{cases_Bool, cond-true, cond-false, or_left, or_from, ltb-true}
+use Rattle.std.proofs.lemmas.Bool.{both_ways}
 use Rattle.reg_model.specs.declared.span.Member.{Member}
 use Rattle.reg_model.specs.declared.answer.Update.{Update}
 use Rattle.reg_model.specs.declared.answer.Update.TheVariants.{Register, Deregister, Load, Unload}
@@ -32,13 +12,8 @@ use Rattle.tree_shape.specs.Numbers.{times, is_among}
 use Rattle.tree_shape.specs.Shapes.{entries_of}
 use Rattle.tree_shape.specs.Trees.{Contents, HasEntry}
 use Rattle.tree_shape.specs.Lawful.{IsTree}
-use Rattle.tree_shape.specs.LocalChange.{
-  IsLocalChange,
-  EntriesBecome,
-  either,
-  live_after,
-  reached_nodes,
-}
+use Rattle.tree_shape.specs.LocalChange.{IsLocalChange, EntriesBecome, either, live_after}
+use Rattle.tree_shape.specs.LocalChange.{reached_nodes}
 use Rattle.tree_shape.proofs.Reach.{within_set}
 use Rattle.tree_shape.proofs.Living.{live_within}
 use Rattle.tree_shape.proofs.Leads.{contains_in, one_leaf}

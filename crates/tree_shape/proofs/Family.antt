@@ -1,21 +1,27 @@
 -- A node and some of its children: what they reach, and when new contents of theirs are a local change.
-use Rattle.std.proofs.Common.{◌≡◌, ◌≢◌, ℕ, zero, suc, ◌+◌, ◌-◌, ◌<◌, ◌≤◌, ◌↔◌, List, [], ◌∷◌, ◌++◌, map, refl, ap, sym, ◌∙◌, subst, arith, Bool, false, cond, ◌||◌, IsTrue, eqb, inl, inr, ◌⊎◌}
+use Rattle.std.proofs.Common.{◌≡◌, ◌≢◌, ℕ, zero, suc, ◌+◌, ◌-◌, ◌<◌, ◌≤◌, ◌↔◌, List, [], ◌∷◌, ◌++◌}
+use Rattle.std.proofs.Common.{map, refl, ap, sym, ◌∙◌, subst, arith, Bool, false, cond, ◌||◌}
+use Rattle.std.proofs.Common.{IsTrue, eqb, inl, inr}
 use Rattle.std.specs.List.{flat_map, AllByRecursion}
-use Rattle.std.proofs.lemmas.Bool.{cases_eq, cases_Bool, eq-eqb, eqb-true, or_left, or_right, or_from, or_cases, lt-ltb, ltb-true, both_ways}
+use Rattle.std.proofs.lemmas.Bool.{cases_eq, cases_Bool, eq-eqb, eqb-true, or_left, or_right}
+use Rattle.std.proofs.lemmas.Bool.{or_from, or_cases, lt-ltb, ltb-true, both_ways}
 use Rattle.std.proofs.lemmas.List.Concat.{flat_map-append}
 use Rattle.std.proofs.lemmas.List.{append-nil}
 use Rattle.reg_model.specs.declared.span.Member.{Member}
 use Rattle.tree_shape.specs.declared.pair.Pair.{Pair}
 use Rattle.tree_shape.specs.Numbers.{times, once, is_among}
 use Rattle.tree_shape.specs.Shapes.{entries_of, pairs_of}
-use Rattle.tree_shape.specs.Trees.{Contents, Branch, branches_from, branches, nodes, within, leaving, HasEntry}
+use Rattle.tree_shape.specs.Trees.{Contents, Branch, branches_from, branches, nodes, within}
+use Rattle.tree_shape.specs.Trees.{leaving, HasEntry}
 use Rattle.tree_shape.specs.Lawful.{IsTree, IsOrdered, Fits}
-use Rattle.tree_shape.specs.LocalChange.{IsLocalChange, either, live_after}
-use Rattle.tree_shape.proofs.Times.{In, all_from, in_append, in_left, in_right, in_flat_map, in_flat_map_from, times_head, times_cases, times_under, once_same, once_other}
+use Rattle.tree_shape.specs.LocalChange.{IsLocalChange, either, reached_nodes}
+use Rattle.tree_shape.proofs.Times.{In, all_from, in_append, in_left, in_right, in_flat_map}
+use Rattle.tree_shape.proofs.Times.{in_flat_map_from, times_head, times_cases, times_under}
+use Rattle.tree_shape.proofs.Times.{once_same, once_other}
 use Rattle.tree_shape.proofs.Reach.{children, branch_level, onward, outward}
-use Rattle.tree_shape.proofs.Living.{own_branches, own_at, no_branches, root_live, child_live, child_fits, live_node, one_way, parents}
-use Rattle.tree_shape.proofs.Leads.{contains_in, in_contains, one_leaf, leaf_says}
-use Rattle.tree_shape.proofs.Local.{entries_after}
+use Rattle.tree_shape.proofs.Living.{own_branches, own_at, no_branches, root_live, child_live}
+use Rattle.tree_shape.proofs.Living.{child_fits, live_node, one_way, parents}
+use Rattle.tree_shape.proofs.Leads.{contains_in, in_contains, leaf_says}
 
 -- the children's numbers
 abbrev pub numbers : List Branch → List ℕ
@@ -49,12 +55,14 @@ exits_of f zero n = []
 exits_of f (suc level) n = branches level (f n)
 
 -- branches to nodes outside a set
-quiet_onward : (set : ℕ → Bool) (f : Contents) (level : ℕ) (bs : List Branch) → ((b : Branch) → In b bs → set b.child ≡ false) → flat_map (onward set f level) bs ≡ []
+pub quiet_onward : (set : ℕ → Bool) (f : Contents) (level : ℕ) (bs : List Branch) →
+    ((b : Branch) → In b bs → set b.child ≡ false) → flat_map (onward set f level) bs ≡ []
 quiet_onward set f level [] quiet = refl
 quiet_onward set f level (b ∷ bs) quiet =
     ap (λ v. cond v (within set f level b.child) [] ++ flat_map (onward set f level) bs) (quiet b (inl refl)) ∙ quiet_onward set f level bs (λ c there. quiet c (inr there))
 
-quiet_outward : (set : ℕ → Bool) (f : Contents) (level : ℕ) (bs : List Branch) → ((b : Branch) → In b bs → set b.child ≡ false) → flat_map (outward set f level) bs ≡ bs
+pub quiet_outward : (set : ℕ → Bool) (f : Contents) (level : ℕ) (bs : List Branch) →
+    ((b : Branch) → In b bs → set b.child ≡ false) → flat_map (outward set f level) bs ≡ bs
 quiet_outward set f level [] quiet = refl
 quiet_outward set f level (b ∷ bs) quiet =
     ap (λ v. cond v (leaving set f level b.child) (b ∷ []) ++ flat_map (outward set f level) bs) (quiet b (inl refl))
@@ -315,59 +323,59 @@ module _ (f : Contents) (live : ℕ → Bool) (tree : IsTree f live) (n level : 
             ]
           ]
 
-  -- where the new children hold what the old ones held, the tree's entries stay
-  pub same_entries : flat_map (λ (b : Branch). entries_of (g b.child)) new ≡ flat_map (λ (b : Branch). entries_of (f b.child)) old →
-      (m : Member) → HasEntry g (live_after live n (family n old) fresh g) m ↔ HasEntry f live m
-  same_entries same m = (now, then')
+  inner_none : (m : Member) (h : Contents) → IsOrdered (h n) → (h n).level ≡ suc level →
+      In m (entries_of (h n)) → ⊥
+  inner_none m h ordered at held = omega (arith, leaf_says (h n) (h n).body ordered m held)
+
+  -- where the new children hold what the old ones held, the family's entries stay
+  pub family_entries : flat_map (λ (b : Branch). entries_of (g b.child)) new ≡ flat_map
+      (λ (b : Branch). entries_of (f b.child)) old →
+      (m : Member) → HasEntry g (is_among (reached_nodes n (family n old) fresh g)) m ↔
+      HasEntry f (family n old) m
+  family_entries same m = (now, then')
     where
-      inner_none : (h : Contents) → IsOrdered (h n) → (h n).level ≡ suc level → In m (entries_of (h n)) → ⊥
-      inner_none h ordered at held = omega (arith, leaf_says (h n) (h n).body ordered m held)
-
-      changes : HasEntry g (live_after live n (family n old) fresh g) m ↔
-          ((HasEntry f live m × ¬ HasEntry f (family n old) m) ⊎ HasEntry g (is_among (within (either (family n old) fresh) g (g n).level n)) m)
-      changes = entries_after f live n (family n old) fresh g tree regroups m
-
-      from_new : HasEntry g (is_among (within (either (family n old) fresh) g (g n).level n)) m → HasEntry f live m
-      from_new (x, (among, held)) =
-          let there : 0 < times x (n ∷ numbers new) = subst (λ l. 0 < times x l) reached_now (ltb-true 0 (times x (within (either (family n old) fresh) g (g n).level n)) among) in
+      now : HasEntry g (is_among (reached_nodes n (family n old) fresh g)) m →
+          HasEntry f (family n old) m
+      now (x, (among, held)) =
+          let there : 0 < times x (n ∷ numbers new) =
+          subst (λ l. 0 < times x l) reached_now
+          (ltb-true 0 (times x (reached_nodes n (family n old) fresh g)) among) in
           let at = contains_in (entries_of (g x)) m held in
           elim (times_cases x n (numbers new) there) [
-            | inl e ↦ absurd (inner_none g r.top_ordered r.still_at (subst (λ y. In m (entries_of (g y))) e at))
+            | inl e ↦ absurd (inner_none m g r.top_ordered r.still_at
+                (subst (λ y. In m (entries_of (g y))) e at))
             | inr later ↦
                 let found = numbers_in new x later in
                 let all = in_flat_map_from (λ (b : Branch). entries_of (g b.child)) new found.0 m found.1.0 (subst (λ y. In m (entries_of (g y))) (sym found.1.1) at) in
-                let back' = in_flat_map (λ (b : Branch). entries_of (f b.child)) old m (subst (λ es. In m es) same all) in
-                (back'.0.child, ((live_of f live tree n level front old back fresh side) back'.0 ((in_old f live tree n level front old back fresh side) back'.0 back'.1.0), in_contains (entries_of (f back'.0.child)) m back'.1.1))
+                let back' = in_flat_map (λ (b : Branch). entries_of (f b.child)) old m (subst (λ es. In m es) same all) in (
+                  back'.0.child,
+                  (
+                    old_inside f live tree n level front old back fresh side back'.0 back'.1.0,
+                    in_contains (entries_of (f back'.0.child)) m back'.1.1,
+                  ),
+                )
           ]
 
-      now : HasEntry g (live_after live n (family n old) fresh g) m → HasEntry f live m
-      now has = elim (changes.0 has) [ inl kept ↦ kept.0 | inr new' ↦ from_new new' ]
-
-      then' : HasEntry f live m → HasEntry g (live_after live n (family n old) fresh g) m
-      then' (x, (alive, held)) =
+      then' : HasEntry f (family n old) m →
+          HasEntry g (is_among (reached_nodes n (family n old) fresh g)) m
+      then' (x, (inside, held)) =
           let at = contains_in (entries_of (f x)) m held in
-          elim (cases_Bool (family n old x)) [
-            | inl inside ↦ elim (or_cases (eqb x n) (is_among (numbers old) x) inside) [
-              | inl e ↦ absurd (inner_none f (tree.ordered n r.alive) r.at (subst (λ y. In m (entries_of (f y))) (eqb-true x n e) at))
-              | inr among ↦
-                  let found = numbers_in old x (ltb-true 0 (times x (numbers old)) among) in
-                  let all = in_flat_map_from (λ (b : Branch). entries_of (f b.child)) old found.0 m found.1.0 (subst (λ y. In m (entries_of (f y))) (sym found.1.1) at) in
-                  let on = in_flat_map (λ (b : Branch). entries_of (g b.child)) new m (subst (λ es. In m es) (sym same) all) in
-                  let reached : 0 < times on.0.child (within (either (family n old) fresh) g (g n).level n) =
-                  subst (λ l. 0 < times on.0.child l) (sym reached_now) (omega (arith, numbers_from new on.0 on.1.0)) in
-                  changes.1 (inr (on.0.child, (lt-ltb 0 (times on.0.child (within (either (family n old) fresh) g (g n).level n)) reached, in_contains (entries_of (g on.0.child)) m on.1.1)))
-            ]
-            | inr outside ↦ changes.1 (inl (
-              (x, (alive, held)),
-              λ other.
-                  let same_leaf = one_leaf f live tree x other.0 alive (family_live other.0 other.1.0) m at (contains_in (entries_of (f other.0)) m other.1.1) in
-                  both_ways (family n old x) outside (subst (λ y. IsTrue (family n old y)) (sym same_leaf) other.1.0),
-            ))
-          ]
-        where
-          family_live : (y : ℕ) → IsTrue (family n old y) → IsTrue (live y)
-          family_live y inside = elim (or_cases (eqb y n) (is_among (numbers old) y) inside) [
-            | inl e ↦ subst (λ z. IsTrue (live z)) (sym (eqb-true y n e)) r.alive
-            | inr among ↦ let found = numbers_in old y (ltb-true 0 (times y (numbers old)) among) in
-                subst (λ z. IsTrue (live z)) found.1.1 ((live_of f live tree n level front old back fresh side) found.0 ((in_old f live tree n level front old back fresh side) found.0 found.1.0))
+          elim (or_cases (eqb x n) (is_among (numbers old) x) inside) [
+            | inl e ↦ absurd (inner_none m f (tree.ordered n r.alive) r.at
+                (subst (λ y. In m (entries_of (f y))) (eqb-true x n e) at))
+            | inr among ↦
+                let found = numbers_in old x (ltb-true 0 (times x (numbers old)) among) in
+                let all = in_flat_map_from (λ (b : Branch). entries_of (f b.child)) old found.0 m
+                found.1.0 (subst (λ y. In m (entries_of (f y))) (sym found.1.1) at) in
+                let on = in_flat_map (λ (b : Branch). entries_of (g b.child)) new m
+                (subst (λ es. In m es) (sym same) all) in
+                let reached : 0 < times on.0.child (reached_nodes n (family n old) fresh g) =
+                subst (λ l. 0 < times on.0.child l) (sym reached_now)
+                (omega (arith, numbers_from new on.0 on.1.0)) in (
+                  on.0.child,
+                  (
+                    lt-ltb 0 (times on.0.child (reached_nodes n (family n old) fresh g)) reached,
+                    in_contains (entries_of (g on.0.child)) m on.1.1,
+                  ),
+                )
           ]

@@ -1,25 +1,32 @@
 -- The law of a moved fence.
-use Rattle.std.proofs.Common.{◌≡◌, ◌≢◌, ℕ, zero, suc, ◌+◌, ◌-◌, ◌<◌, ◌≤◌, List, [], ◌∷◌, ◌++◌, length, map, refl, ap, sym, ◌∙◌, subst, arith, Bool, true, IsTrue, eqb, inl, inr}
+use Rattle.std.proofs.Common.{◌≡◌, ◌≢◌, ℕ, zero, suc, ◌+◌, ◌-◌, ◌<◌, ◌≤◌, List, [], ◌∷◌, ◌++◌}
+use Rattle.std.proofs.Common.{length, map, refl, ap, sym, ◌∙◌, subst, arith, Bool, true, IsTrue}
+use Rattle.std.proofs.Common.{eqb, inl, inr}
 use Rattle.std.specs.List.{flat_map, AllByRecursion, Contains}
 use Rattle.std.proofs.lemmas.Bool.{cases_eq}
 use Rattle.std.proofs.lemmas.List.{length-append, length-map}
 use Rattle.std.proofs.lemmas.List.Concat.{flat_map-append}
 use Rattle.tree_shape.specs.declared.pair.Pair.{Pair}
 use Rattle.tree_shape.specs.Numbers.{times, once}
-use Rattle.tree_shape.specs.Shapes.{Shape, Body, Pairs, Entries, Link, entries_of, entries_in, pairs_of, Cut}
+use Rattle.tree_shape.specs.Shapes.{Shape, Body, Pairs, Entries, Link, entries_of, entries_in}
+use Rattle.tree_shape.specs.Shapes.{pairs_of, Cut}
 use Rattle.tree_shape.specs.Changes.{at_slot, separate_at, ends_at, up_to, after}
-use Rattle.tree_shape.specs.Trees.{Contents, Branch, branches_from, branches, nodes_under, nodes, within}
+use Rattle.tree_shape.specs.Trees.{Contents, Branch, branches_from, branches, nodes_under, nodes}
+use Rattle.tree_shape.specs.Trees.{within}
 use Rattle.tree_shape.specs.Lawful.{IsTree, IsLawful, IsOrdered, IsFilled, IsFilledAs, Fits}
-use Rattle.tree_shape.specs.Steps.{Keeps, IsFenceMove, first_child, last_spine, first_spine, LiesAbove}
-use Rattle.tree_shape.proofs.Times.{In, in_append, in_left, in_right, all_at, all_from, all_times, once_same, times-append, times_head, times_flat_map_from, flat_map_same}
+use Rattle.tree_shape.specs.Steps.{Keeps, IsFenceMove, last_spine, first_spine, LiesAbove}
+use Rattle.tree_shape.proofs.Times.{In, in_append, in_left, in_right, all_at, all_from, all_times}
+use Rattle.tree_shape.proofs.Times.{once_same, times-append, times_flat_map_from, flat_map_same}
 use Rattle.tree_shape.proofs.Reach.{children, within_parent, under_within}
-use Rattle.tree_shape.proofs.Living.{own_branches, one_way, root_no_child, child_fits, live_within, one_parent, own_child}
+use Rattle.tree_shape.proofs.Living.{own_branches, one_way, root_no_child, child_fits, live_within}
+use Rattle.tree_shape.proofs.Living.{one_parent, own_child}
 use Rattle.tree_shape.proofs.Local.{under_live}
 use Rattle.tree_shape.proofs.Runs.{next_low, branches-append}
 use Rattle.tree_shape.proofs.Slotted.{filled_pairs}
 use Rattle.tree_shape.proofs.Joins.{Neighbours, neighbours, cut_separated}
 use Rattle.tree_shape.proofs.Slots.{some_left}
-use Rattle.tree_shape.proofs.Spines.{Stands, stands_live, stands_same, stands_says, last_under, first_under, left_stands, right_stands}
+use Rattle.tree_shape.proofs.Spines.{Stands, stands_live, stands_same, stands_says, first_top}
+use Rattle.tree_shape.proofs.Spines.{last_under, first_under, left_stands, right_stands}
 
 -- the children's numbers, and how much a node holds, stay
 separated_numbers : (fence slot : ℕ) (pairs : List Pair) → map (λ (p : Pair). p.child) (at_slot (separate_at fence) slot pairs) ≡ map (λ (p : Pair). p.child) pairs
@@ -33,11 +40,11 @@ raised_numbers fence (p ∷ []) = refl
 raised_numbers fence (p ∷ q ∷ pairs) = ap (λ l. p.child ∷ l) (raised_numbers fence (q ∷ pairs))
 
 -- A shape that is as another but for its fences and separators.
-record Alike (s t : Shape) : Type 0 where
-  level : t.level ≡ s.level
-  numbers : map (λ (p : Pair). p.child) (pairs_of t) ≡ map (λ (p : Pair). p.child) (pairs_of s)
-  members : entries_of t ≡ entries_of s
-  filled : (n : ℕ) → IsFilled n s → IsFilled n t
+pub record Alike (s t : Shape) : Type 0 where
+  pub level : t.level ≡ s.level
+  pub numbers : map (λ (p : Pair). p.child) (pairs_of t) ≡ map (λ (p : Pair). p.child) (pairs_of s)
+  pub members : entries_of t ≡ entries_of s
+  pub filled : (n : ℕ) → IsFilled n s → IsFilled n t
 
 alike_raised : (s : Shape) (fence : ℕ) → Alike s (up_to fence s)
 alike_raised s fence = by_body s.body
@@ -87,40 +94,40 @@ module _ (f : Contents) (live : ℕ → Bool) (lawful : IsLawful f live) (n slot
   abbrev tree : IsTree f live
   tree = lawful.tree
 
-  at : Neighbours f live n slot p q
+  pub at : Neighbours f live n slot p q
   at = neighbours f live tree n slot p q move.live_parent move.at move.next
 
-  abbrev level : ℕ
+  abbrev pub level : ℕ
   level = at.left.level
 
-  abbrev left_spine : List ℕ
+  abbrev pub left_spine : List ℕ
   left_spine = last_spine f (f p.child).level p.child
 
-  abbrev right_spine : List ℕ
+  abbrev pub right_spine : List ℕ
   right_spine = first_spine f (f q.child).level q.child
 
-  abbrev under : Branch → List ℕ
+  abbrev pub under : Branch → List ℕ
   under b = nodes_under f level b.child
 
-  abbrev one : Branch
+  abbrev pub one : Branch
   one = record { child = p.child; level = level; low = next_low (f n).low at.front; high = p.separator }
 
-  abbrev two : Branch
+  abbrev pub two : Branch
   two = record { child = q.child; level = level; low = p.separator + 1; high = q.separator }
 
-  abbrev one' : Branch
+  abbrev pub one' : Branch
   one' = record { child = p.child; level = level; low = next_low (f n).low at.front; high = fence }
 
-  abbrev two' : Branch
+  abbrev pub two' : Branch
   two' = record { child = q.child; level = level; low = fence + 1; high = q.separator }
 
   abbrev new : List Branch
   new = branches_from level (f n).low at.front ++ (one' ∷ two' ∷ branches_from level (q.separator + 1) at.back)
 
-  left_level : (f p.child).level ≡ level
+  pub left_level : (f p.child).level ≡ level
   left_level = at.left.fits.level
 
-  right_level : (f q.child).level ≡ level
+  pub right_level : (f q.child).level ≡ level
   right_level = at.fits.level
 
   left_order : (f p.child).low ≤ (f p.child).high
@@ -129,22 +136,23 @@ module _ (f : Contents) (live : ℕ → Bool) (lawful : IsLawful f live) (n slot
   right_order : (f q.child).low ≤ (f q.child).high
   right_order = let order = at.right_order in let low = at.fits.low in let high = at.fits.high in omega arith
 
-  left_before : Stands f level p.child (f p.child).low (f p.child).high
+  pub left_before : Stands f level p.child (f p.child).low (f p.child).high
   left_before = stands_live f live tree level p.child at.left.alive left_level left_order
 
-  right_before : Stands f level q.child (f q.child).low (f q.child).high
+  pub right_before : Stands f level q.child (f q.child).low (f q.child).high
   right_before = stands_live f live tree level q.child at.alive right_level right_order
 
-  left_in : (x : ℕ) → times x left_spine ≤ times x (nodes_under f level p.child)
+  pub left_in : (x : ℕ) → times x left_spine ≤ times x (nodes_under f level p.child)
   left_in x = let same : times x left_spine ≡ times x (last_spine f level p.child) = ap (λ l. times x (last_spine f l p.child)) left_level in
       omega (arith, last_under f level p.child (f p.child).low (f p.child).high left_before x)
 
-  right_in : (x : ℕ) → times x right_spine ≤ times x (nodes_under f level q.child)
+  pub right_in : (x : ℕ) → times x right_spine ≤ times x (nodes_under f level q.child)
   right_in x = let same : times x right_spine ≡ times x (first_spine f level q.child) = ap (λ l. times x (first_spine f l q.child)) right_level in
       omega (arith, first_under f level q.child (f q.child).low (f q.child).high right_before x)
 
   -- the nodes below the parent, part by part, each once
-  parts : (x : ℕ) → once (eqb x n) + (times x (flat_map under (branches_from level (f n).low at.front))
+  pub parts : (x : ℕ) →
+      once (eqb x n) + (times x (flat_map under (branches_from level (f n).low at.front))
       + (times x (nodes_under f level p.child) + (times x (nodes_under f level q.child) + times x (flat_map under (branches_from level (q.separator + 1) at.back))))) ≤ 1
   parts x =
       let whole : times x (nodes_under f (suc level) n) ≤ times x (nodes f) = part_of_whole x in
@@ -164,7 +172,10 @@ module _ (f : Contents) (live : ℕ → Bool) (lawful : IsLawful f live) (n slot
   out_of : (x : ℕ) → times x (nodes_under f level p.child) ≡ 0 → times x (nodes_under f level q.child) ≡ 0 → x ≢ n → g x ≡ f x
   out_of x not_left not_right other = move.others x other (omega (arith, left_in x)) (omega (arith, right_in x))
 
-  not_parent : (x : ℕ) → 0 < times x (flat_map under (branches_from level (f n).low at.front)) + (times x (nodes_under f level p.child) + (times x (nodes_under f level q.child) + times x (flat_map under (branches_from level (q.separator + 1) at.back)))) → x ≢ n
+  pub not_parent : (x : ℕ) →
+      0 < times x (flat_map under (branches_from level (f n).low at.front)) + (times x
+      (nodes_under f level p.child) + (times x (nodes_under f level q.child) + times x
+      (flat_map under (branches_from level (q.separator + 1) at.back)))) → x ≢ n
   not_parent x some e =
       let one : once (eqb x n) ≡ 1 = ap (λ y. once (eqb x y)) (sym e) ∙ once_same x in
       omega (arith, parts x)
@@ -186,13 +197,10 @@ module _ (f : Contents) (live : ℕ → Bool) (lawful : IsLawful f live) (n slot
       (subst (λ l. times x (first_spine f l q.child) ≡ 0) (sym right_level) none))
       (λ x. omega (arith, parts x))
 
-  first_top : (level m : ℕ) → 0 < times m (first_spine f level m)
-  first_top zero m = times_head m []
-  first_top (suc l) m = times_head m (first_spine f l (first_child 0 (pairs_of (f m))))
-
   fence_below : fence < q.separator
   fence_below =
-      let low = all_times (λ y. (fence < (f y).high) × LiesAbove fence (f y).body) right_spine q.child move.below (first_top (f q.child).level q.child) in
+      let low = all_times (λ y. (fence < (f y).high) × LiesAbove fence (f y).body) right_spine
+      q.child move.below (first_top f (f q.child).level q.child) in
       let high = at.fits.high in omega (arith, low.0)
 
   fence_above : next_low (f n).low at.front ≤ fence
@@ -201,7 +209,7 @@ module _ (f : Contents) (live : ℕ → Bool) (lawful : IsLawful f live) (n slot
   pairs_now : pairs_of (g n) ≡ at.front ++ separate_at fence p (q ∷ at.back)
   pairs_now = ap pairs_of move.above ∙ at.changed (separate_at fence)
 
-  branches_now : branches level (g n) ≡ branches_from level (f n).low at.front
+  pub branches_now : branches level (g n) ≡ branches_from level (f n).low at.front
       ++ (record { child = p.child; level = level; low = next_low (f n).low at.front; high = fence } ∷ record { child = q.child; level = level; low = fence + 1; high = q.separator } ∷ branches_from level (q.separator + 1) at.back)
   branches_now = ap (branches_from level (g n).low) pairs_now ∙ ap (λ l. branches_from level l (at.front ++ separate_at fence p (q ∷ at.back))) (ap (λ s. s.low) move.above)
       ∙ branches-append level (f n).low at.front (separate_at fence p (q ∷ at.back))
@@ -265,7 +273,7 @@ module _ (f : Contents) (live : ℕ → Bool) (lawful : IsLawful f live) (n slot
       ]
 
   -- all contents are alike
-  alike : (x : ℕ) → Alike (f x) (g x)
+  pub alike : (x : ℕ) → Alike (f x) (g x)
   alike x = elim (cases_eq x n) [
     | inl e ↦ subst (λ y. Alike (f y) (g y)) (sym e) (subst (Alike (f n)) (sym move.above) separated)
     | inr other ↦ elim (cases_eq (times x left_spine) 0) [

@@ -1,24 +1,35 @@
 -- The laws of joining two children, and of giving them even shares.
-use Rattle.std.proofs.Common.{◌≡◌, ◌≢◌, ℕ, zero, suc, ◌+◌, ◌/◌, ◌<◌, ◌≤◌, List, [], ◌∷◌, ◌++◌, length, map, refl, ap, sym, ◌∙◌, subst, arith, Bool, false, ◌||◌, IsTrue, eqb, inl, inr, Some}
+use Rattle.std.proofs.Common.{◌≡◌, ◌≢◌, ℕ, zero, suc, ◌+◌, ◌/◌, ◌<◌, ◌≤◌, List, [], ◌∷◌, ◌++◌}
+use Rattle.std.proofs.Common.{length, map, refl, ap, sym, ◌∙◌, subst, arith, Bool, false, ◌||◌}
+use Rattle.std.proofs.Common.{IsTrue, eqb, inl, inr, Some}
+use Rattle.std.specs.Prelude.{None}
 use Rattle.std.specs.List.{slice_get}
-use Rattle.std.proofs.lemmas.Bool.{cases_eq, cond-true, cond-false, eq-eqb, eqb-true, eqb-false, ne_eqb, or_left, or_right, or_cases, or_parts, both_ways}
+use Rattle.std.proofs.lemmas.Bool.{cases_eq, eqb-true, eqb-false, or_left, or_right, or_cases}
+use Rattle.std.proofs.lemmas.Bool.{or_parts, both_ways}
 use Rattle.std.proofs.lemmas.List.{append-nil, length-append, map-append}
 use Rattle.std.proofs.Math.Numerals.{add-one}
 use Rattle.tree_shape.specs.declared.pair.Pair.{Pair}
 use Rattle.tree_shape.specs.Numbers.{times, once, is_among}
 use Rattle.tree_shape.specs.Shapes.{Shape, entries_of, pairs_of, Cut}
-use Rattle.tree_shape.specs.Changes.{first_half, joined, at_slot, swallow_next, separate_at, first_part, end_of, size}
+use Rattle.tree_shape.specs.Changes.{first_half, joined, at_slot, swallow_next, separate_at}
+use Rattle.tree_shape.specs.Changes.{first_part, end_of, size}
 use Rattle.tree_shape.specs.Trees.{Contents, Branch, branches_from, branches, nodes}
 use Rattle.tree_shape.specs.Lawful.{IsTree, IsLawful, IsOrdered, IsFilled, Fits}
-use Rattle.tree_shape.specs.LocalChange.{either}
+use Rattle.tree_shape.specs.LocalChange.{IsChangeOf, either}
 use Rattle.tree_shape.specs.Steps.{Keeps, IsJoin, IsShare, without_node}
-use Rattle.tree_shape.proofs.Times.{In, once_same, once_other, once_most, times-append, times_head, times_under, in_right}
+use Rattle.tree_shape.proofs.Times.{In, some_same, once_same, once_other, once_most, times-append}
+use Rattle.tree_shape.proofs.Times.{times_head, times_under, in_right}
 use Rattle.tree_shape.proofs.Reach.{children}
-use Rattle.tree_shape.proofs.Living.{root_live, own_branches, own_at, child_live, child_fits, live_node, one_way, parents, root_no_child, own_child}
-use Rattle.tree_shape.proofs.Runs.{SameKind, next_low, branches-append, JoinsTo, joins, CutsTo, cuts}
+use Rattle.tree_shape.proofs.Living.{root_live, own_branches, own_at, child_live, child_fits}
+use Rattle.tree_shape.proofs.Living.{live_node, one_way, parents, root_no_child, own_child}
+use Rattle.tree_shape.proofs.Runs.{SameKind, next_low, branches-append, JoinsTo, joins, CutsTo}
+use Rattle.tree_shape.proofs.Runs.{cuts}
 use Rattle.tree_shape.proofs.Family.{numbers, family, exits_of, Regroups}
-use Rattle.tree_shape.proofs.Slotted.{around_slot, some_same, ordered_pairs, Slotted, slotted, family_keeps}
-use Rattle.tree_shape.proofs.Halves.{among, not_among, not_one, one_of, two_of, once_two, second, third, pairs_filled, fit_kind, overfill_kind, joined_filled, shares, shares_filled}
+use Rattle.tree_shape.proofs.Slotted.{around_slot, ordered_pairs, Slotted, slotted, family_changes}
+use Rattle.tree_shape.proofs.Listed.{keeps_now, without_other, without_itself}
+use Rattle.tree_shape.proofs.Halves.{among, not_among, not_one, one_of, two_of, once_two, second}
+use Rattle.tree_shape.proofs.Halves.{third, pairs_filled, fit_kind, overfill_kind, joined_filled}
+use Rattle.tree_shape.proofs.Halves.{shares, shares_filled}
 
 -- a node is a child of a live node once at most
 pub one_child : (f : Contents) (live : ℕ → Bool) → IsTree f live → (n x : ℕ) → IsTrue (live n) → times x (children f n) ≤ 1
@@ -141,8 +152,11 @@ one_of_three P n c d pn pc pd x touched = elim (or_cases (eqb x n || is_among (c
   ]
 ]
 
-pub join_keeps : (f : Contents) (live : ℕ → Bool) → IsLawful f live → (n slot : ℕ) (p q : Pair) (g : Contents) → IsJoin f live n slot p q g → Keeps f live g (without_node q.child live)
-join_keeps f live lawful n slot p q g join =
+pub join_changes : (f : Contents) (live : ℕ → Bool) → IsLawful f live →
+    (n slot : ℕ) (p q : Pair) (g : Contents) →
+    IsJoin f live n slot p q g → IsChangeOf f live n (n ∷ p.child ∷ q.child ∷ []) [] g None
+    (n ∷ p.child ∷ [])
+join_changes f live lawful n slot p q g join =
     let at = neighbours f live lawful.tree n slot p q join.live_parent join.at join.next in
     let left = at.left.fits in
     let right = at.fits in
@@ -186,20 +200,44 @@ join_keeps f live lawful n slot p q g join =
         high = ap (λ x. x.high) join.left ∙ right.high;
       });
     } in
-    let leaves : (x : ℕ) → x ≢ q.child → without_node q.child live x ≡ live x = λ x other. cond-false (eqb x q.child) false (live x) (ne_eqb x q.child other) in
-    family_keeps f live lawful.tree n level (branches_from level (f n).low at.front) (one ∷ two ∷ []) (both' ∷ []) (branches_from level (q.separator + 1) at.back) (λ _. false) g (without_node q.child live)
-    regroup
+    family_changes f live lawful.tree n level (branches_from level (f n).low at.front)
+    (one ∷ two ∷ []) (both' ∷ []) (branches_from level (q.separator + 1) at.back) (λ _. false)
+    [] g
+    regroup (λ x. refl)
     (append-nil (entries_of (g p.child)) ∙ sym piece.members ∙ ap (λ l. entries_of (f p.child) ++ l) (sym (append-nil (entries_of (f q.child)))))
-    (λ x alive outside. lawful.filled x alive)
     (subst (IsFilled n) (sym join.above) (omega arith, omega arith))
     (one_of (λ b. IsFilled b.child (g b.child)) both'
     (subst (IsFilled p.child) (sym join.left) (joined_filled p.child (f p.child).body (f q.child).body join.fit (lawful.filled p.child at.left.alive))))
-    (one_of_three (λ x. without_node q.child live x ≡ is_among (n ∷ p.child ∷ []) x) n p.child q.child
-    (leaves n (λ e. at.no_parent (sym e)) ∙ join.live_parent ∙ sym (among (n ∷ p.child ∷ []) n (times_head n (p.child ∷ []))))
-    (leaves p.child at.different ∙ at.left.alive ∙ sym (among (n ∷ p.child ∷ []) p.child (second n p.child [])))
-    (cond-true (eqb q.child q.child) false (live q.child) (eq-eqb q.child q.child refl)
-    ∙ sym (not_among (n ∷ p.child ∷ []) q.child (omega (arith, once_other q.child n at.no_parent, once_other q.child p.child (λ e. at.different (sym e)))))))
-    (λ x untouched. leaves x (none_of n p.child q.child x (one ∷ two ∷ []) refl untouched).2)
+
+pub join_keeps : (f : Contents) (live : ℕ → Bool) → IsLawful f live →
+    (n slot : ℕ) (p q : Pair) (g : Contents) →
+    IsJoin f live n slot p q g → Keeps f live g (without_node q.child live)
+join_keeps f live lawful n slot p q g join =
+    let at = neighbours f live lawful.tree n slot p q join.live_parent join.at join.next in
+    let group = n ∷ p.child ∷ q.child ∷ [] in
+    let now = n ∷ p.child ∷ [] in
+    keeps_now f live (without_node q.child live) n group [] g now lawful
+    (join_changes f live lawful n slot p q g join) (
+      without_other live q.child n (λ e. at.no_parent (sym e)) ∙ join.live_parent
+          ∙ sym (among now n (times_head n (p.child ∷ []))),
+      (
+        without_other live q.child p.child at.different ∙ at.left.alive
+            ∙ sym (among now p.child (second n p.child [])),
+        (
+          without_itself live q.child
+              ∙ sym (not_among now q.child
+              (omega (
+                arith,
+                once_other q.child n at.no_parent,
+                once_other q.child p.child (λ e. at.different (sym e)),
+              ))),
+          tt,
+        ),
+      ),
+    )
+    tt
+    (λ x not_group not_fresh. without_other live q.child x
+    (not_one group x q.child not_group (third n p.child q.child [])))
 
 share_exits : (f g : Contents) (level c d : ℕ) (s : Shape) → JoinsTo (f c) (f d) s → CutsTo s (g c) (g d) →
     exits_of g level c ++ (exits_of g level d ++ []) ≡ exits_of f level c ++ (exits_of f level d ++ [])
@@ -208,8 +246,11 @@ share_exits f g (suc level) c d s join cut =
     ap (λ l. branches level (g c) ++ l) (append-nil (branches level (g d))) ∙ cut.children level
     ∙ sym (join.children level) ∙ ap (λ l. branches level (f c) ++ l) (sym (append-nil (branches level (f d))))
 
-pub share_keeps : (f : Contents) (live : ℕ → Bool) → IsLawful f live → (n slot : ℕ) (p q : Pair) (g : Contents) → IsShare f live n slot p q g → Keeps f live g live
-share_keeps f live lawful n slot p q g share =
+pub share_changes : (f : Contents) (live : ℕ → Bool) → IsLawful f live →
+    (n slot : ℕ) (p q : Pair) (g : Contents) →
+    IsShare f live n slot p q g → IsChangeOf f live n (n ∷ p.child ∷ q.child ∷ []) [] g None
+    (n ∷ p.child ∷ q.child ∷ [])
+share_changes f live lawful n slot p q g share =
     let at = neighbours f live lawful.tree n slot p q share.live_parent share.at share.next in
     let left = at.left.fits in
     let right = at.fits in
@@ -261,15 +302,27 @@ share_keeps f live lawful n slot p q g share =
     } in
     let filled = shares_filled p.child q.child p.child q.child (f p.child).body (f q.child).body at.left.no_root at.no_root share.overfill
     (lawful.filled p.child at.left.alive) (lawful.filled q.child at.alive) in
-    family_keeps f live lawful.tree n level (branches_from level (f n).low at.front) (one ∷ two ∷ []) (one' ∷ two' ∷ []) (branches_from level (q.separator + 1) at.back) (λ _. false) g live
-    regroup
+    family_changes f live lawful.tree n level (branches_from level (f n).low at.front)
+    (one ∷ two ∷ []) (one' ∷ two' ∷ []) (branches_from level (q.separator + 1) at.back)
+    (λ _. false) [] g
+    regroup (λ x. refl)
     (ap (λ l. entries_of (g p.child) ++ l) (append-nil (entries_of (g q.child))) ∙ pieces.members ∙ sym whole.members
     ∙ ap (λ l. entries_of (f p.child) ++ l) (sym (append-nil (entries_of (f q.child)))))
-    (λ x alive outside. lawful.filled x alive)
     (subst (IsFilled n) (sym share.above) (omega arith, omega arith))
     (two_of (λ b. IsFilled b.child (g b.child)) one' two' (subst (IsFilled p.child) (sym share.left) filled.0) (subst (IsFilled q.child) (sym share.right) filled.1))
-    (one_of_three (λ x. live x ≡ is_among (n ∷ p.child ∷ q.child ∷ []) x) n p.child q.child
-    (share.live_parent ∙ sym (among (n ∷ p.child ∷ q.child ∷ []) n (times_head n (p.child ∷ q.child ∷ []))))
-    (at.left.alive ∙ sym (among (n ∷ p.child ∷ q.child ∷ []) p.child (second n p.child (q.child ∷ []))))
-    (at.alive ∙ sym (among (n ∷ p.child ∷ q.child ∷ []) q.child (third n p.child q.child []))))
-    (λ x untouched. refl)
+
+pub share_keeps : (f : Contents) (live : ℕ → Bool) → IsLawful f live →
+    (n slot : ℕ) (p q : Pair) (g : Contents) →
+    IsShare f live n slot p q g → Keeps f live g live
+share_keeps f live lawful n slot p q g share =
+    let at = neighbours f live lawful.tree n slot p q share.live_parent share.at share.next in
+    let group = n ∷ p.child ∷ q.child ∷ [] in
+    keeps_now f live live n group [] g group lawful (share_changes f live lawful n slot p q g share) (
+      share.live_parent ∙ sym (among group n (times_head n (p.child ∷ q.child ∷ []))),
+      (
+        at.left.alive ∙ sym (among group p.child (second n p.child (q.child ∷ []))),
+        (at.alive ∙ sym (among group q.child (third n p.child q.child [])), tt),
+      ),
+    )
+    tt
+    (λ x not_group not_fresh. refl)

@@ -1,24 +1,20 @@
 -- The separators lead to the leaf that holds an address, and only to it.
-use Rattle.std.proofs.Common.{◌≡◌, ℕ, zero, suc, ◌+◌, ◌<◌, ◌≤◌, List, [], ◌∷◌, refl, ap, sym, ◌∙◌, subst, arith, Bool, IsTrue, leb, inl, inr}
+use Rattle.std.proofs.Common.{◌≡◌, ℕ, zero, suc, ◌+◌, ◌<◌, ◌≤◌, List, [], ◌∷◌, refl, ap, sym, ◌∙◌}
+use Rattle.std.proofs.Common.{subst, arith, Bool, IsTrue, leb, inl, inr}
 use Rattle.std.specs.List.{flat_map, Contains}
 use Rattle.std.proofs.lemmas.Bool.{cases_lt, cond-true, cond-false, le-leb, lt-leb}
 use Rattle.reg_model.specs.declared.span.Member.{Member}
 use Rattle.tree_shape.specs.declared.pair.Pair.{Pair}
 use Rattle.tree_shape.specs.Numbers.{times}
-use Rattle.tree_shape.specs.Shapes.{Shape, Body, Pairs, Entries, Link, pairs_of, pairs_in, entries_of, entries_in, EntriesWithin, Cut}
-use Rattle.tree_shape.specs.Trees.{Contents, Branch, branches_from, branches, nodes_under, child_for, leaf_under}
+use Rattle.tree_shape.specs.Shapes.{Shape, Body, Pairs, Entries, Link, pairs_of, pairs_in}
+use Rattle.tree_shape.specs.Shapes.{entries_of, entries_in, EntriesWithin, Cut}
+use Rattle.tree_shape.specs.Trees.{Contents, Branch, branches_from, branches, nodes_under}
+use Rattle.tree_shape.specs.Trees.{child_for, leaf_under}
 use Rattle.tree_shape.specs.Lawful.{IsTree, IsOrderedAs}
 use Rattle.tree_shape.proofs.Times.{In, times_cases, times_flat_map}
 use Rattle.tree_shape.proofs.Reach.{branch_level}
-use Rattle.tree_shape.proofs.Living.{
-  own_branches,
-  own_at,
-  live_node,
-  live_under,
-  root_live,
-  child_live,
-  child_fits,
-}
+use Rattle.tree_shape.proofs.Living.{own_branches, own_at, live_node, live_under, root_live}
+use Rattle.tree_shape.proofs.Living.{child_live, child_fits}
 
 -- `Contains` counts places, `In` goes by cases
 pub contains_in : {X : Type 0} (xs : List X) (x : X) → Contains xs x → In x xs

@@ -1,9 +1,15 @@
 -- The laws of putting an entry into a leaf and of taking one.
-use Rattle.std.proofs.Common.{◌≡◌, ◌≢◌, ℕ, suc, ◌+◌, ◌-◌, ◌<◌, ◌≤◌, List, [], ◌∷◌, length, refl, ap, sym, ◌∙◌, subst, arith, Bool, true, false, cond, not, IsTrue, eqb, ltb, inl, inr, ◌⊎◌, Some}
+use Rattle.std.proofs.Common.{◌≡◌, ◌↔◌, ◌≢◌, ℕ, suc, ◌+◌, ◌-◌, ◌<◌, ◌≤◌, List, [], ◌∷◌, length}
+use Rattle.std.proofs.Common.{refl, ap, sym, ◌∙◌, subst, arith, Bool, true, false, cond, not}
+use Rattle.std.proofs.Common.{IsTrue, eqb, ltb, inl, inr, ◌⊎◌, Some}
+use Rattle.std.specs.Prelude.{Option}
 use Rattle.std.specs.List.{AllByRecursion, filter}
-use Rattle.std.proofs.lemmas.Bool.{cases_eq, cases_lt, cases_Bool, cond-true, cond-false, eq-eqb, eqb-true, eqb-false, ne_eqb, ltb-true, ltb-false, or_cases, or_parts}
+use Rattle.std.proofs.lemmas.Bool.{cases_lt, cases_Bool, cond-true, cond-false, eq-eqb, eqb-true}
+use Rattle.std.proofs.lemmas.Bool.{eqb-false, ne_eqb, ltb-true, ltb-false, or_cases, or_parts}
 use Rattle.std.proofs.lemmas.List.Elements.{recursion_from_All}
 use Rattle.reg_model.specs.declared.span.Member.{Member}
+use Rattle.reg_model.specs.declared.answer.Update.{Update}
+use Rattle.reg_model.specs.declared.answer.Update.TheVariants.{Register, Deregister}
 use Rattle.reg_model.specs.Interval.{Overlaps}
 use Rattle.reg_model.specs.State.{at_base}
 use Rattle.reg_model.specs.History.{without}
@@ -12,15 +18,20 @@ use Rattle.tree_shape.specs.Numbers.{times, is_among}
 use Rattle.tree_shape.specs.Shapes.{Shape, Entries, entries_of, EntriesWithin, IsLeaf}
 use Rattle.tree_shape.specs.Changes.{with_entry}
 use Rattle.tree_shape.specs.Trees.{Contents, branches, within, leaving, HasEntry}
-use Rattle.tree_shape.specs.Lawful.{IsTree, IsLawful, IsOrdered, IsOrderedAs, IsFilled, IsFilledAs, Fits, fewest_entries}
-use Rattle.tree_shape.specs.LocalChange.{IsLocalChange, either, live_after}
+use Rattle.tree_shape.specs.Lawful.{IsTree, IsLawful, IsOrdered, IsOrderedAs, IsFilled, IsFilledAs}
+use Rattle.tree_shape.specs.Lawful.{Fits, fewest_entries}
+use Rattle.tree_shape.specs.LocalChange.{IsLocalChange, IsChangeOf, EntriesBecome, either}
+use Rattle.tree_shape.specs.LocalChange.{live_after, reached_nodes}
 use Rattle.tree_shape.specs.Steps.{IsPut, Adds, IsTake, Takes}
-use Rattle.tree_shape.proofs.Times.{In, times_head, once_most}
-use Rattle.tree_shape.proofs.Leads.{contains_in, in_contains, one_leaf}
-use Rattle.tree_shape.proofs.Local.{tree_after, filled_after, entries_after}
+use Rattle.tree_shape.proofs.Times.{In, some_same, all_at, listed_one, times_head, once_most}
+use Rattle.tree_shape.proofs.Leads.{contains_in, in_contains}
+use Rattle.tree_shape.proofs.Local.{tree_after}
+use Rattle.tree_shape.proofs.Wholes.{one_at}
+use Rattle.tree_shape.proofs.Transfers.{become_same}
+use Rattle.tree_shape.proofs.Becomes.{tree_becomes}
+use Rattle.tree_shape.proofs.Listed.{tree_same, entry_same, named, live_now, lawful_now}
 use Rattle.tree_shape.proofs.Runs.{entries_lower}
 use Rattle.tree_shape.proofs.Slots.{none_at}
-use Rattle.tree_shape.proofs.Slotted.{tree_same, entry_same, some_same}
 use Rattle.tree_shape.proofs.Halves.{among, only}
 
 -- one node as a test
@@ -91,31 +102,63 @@ module _ (f : Contents) (live : ℕ → Bool) (tree : IsTree f live) (n : ℕ) (
   rewritten_tree : IsTree g live
   rewritten_tree = tree_same g (live_after live n (alone n) nothing g) live same_live (tree_after f live n (alone n) nothing g tree rewrites)
 
-  rewritten_filled : ((x : ℕ) → IsTrue (live x) → IsFilled x (f x)) → IsFilled n (g n) → (x : ℕ) → IsTrue (live x) → IsFilled x (g x)
-  rewritten_filled before now x alive =
-      filled_after f live n (alone n) nothing g tree rewrites (λ y there outside. before y there) (subst (AllByRecursion (λ y. IsFilled y (g y))) (sym new_alone) (now, tt)) x (same_live x ∙ alive)
+  -- the leaf's entries, before and after
+  old_entries : (m : Member) → HasEntry f (alone n) m ↔ In m (entries_of (f n))
+  old_entries m = (
+    λ h. subst (λ y. In m (entries_of (f y))) (eqb-true h.0 n h.1.0) (contains_in
+        (entries_of (f h.0)) m h.1.1),
+    λ there. (n, (eq-eqb n n refl, in_contains (entries_of (f n)) m there)),
+  )
 
-  -- the entries: those of the other leaves, and the new ones of this leaf
-  rewritten_now : (m : Member) → HasEntry g live m → (HasEntry f live m × ¬ In m (entries_of (f n))) ⊎ In m entries
-  rewritten_now m has = elim ((entries_after f live n (alone n) nothing g tree rewrites m).0 (entry_same g live (live_after live n (alone n) nothing g) (λ x. sym (same_live x)) m has)) [
-    | inl kept ↦ inl (kept.0, λ held. kept.1 (n, (eq-eqb n n refl, in_contains (entries_of (f n)) m held)))
-    | inr (x, (there, held)) ↦
-        let e : x ≡ n = only n x (ap (λ l. is_among l x) (sym new_alone) ∙ there) in
-        inr (subst (λ s. In m (entries_of s)) (ap g e ∙ r.above) (contains_in (entries_of (g x)) m held))
-  ]
+  new_entries : (m : Member) → HasEntry g (is_among (reached_nodes n (alone n) nothing g)) m ↔
+      In m entries
+  new_entries m = (
+    λ h.
+        let e : h.0 ≡ n = only n h.0 (ap (λ l. is_among l h.0) (sym new_alone) ∙ h.1.0) in
+        subst (λ s. In m (entries_of s)) (ap g e ∙ r.above) (contains_in
+        (entries_of (g h.0)) m h.1.1),
+    λ there. (
+      n,
+      (
+        subst (λ l. is_among l n ≡ true) (sym new_alone) (among (n ∷ []) n (times_head n [])),
+        in_contains (entries_of (g n)) m (subst (λ s. In m (entries_of s)) (sym r.above) there),
+      ),
+    ),
+  )
 
-  rewritten_then : (m : Member) → (HasEntry f live m × ¬ In m (entries_of (f n))) ⊎ In m entries → HasEntry g live m
-  rewritten_then m h = entry_same g (live_after live n (alone n) nothing g) live same_live m ((entries_after f live n (alone n) nothing g tree rewrites m).1 (elim h [
-    | inl kept ↦ inl (kept.0, λ other. kept.1 (subst (λ y. In m (entries_of (f y))) (eqb-true other.0 n other.1.0) (contains_in (entries_of (f other.0)) m other.1.1)))
-    | inr new' ↦ inr (n, (subst (λ l. is_among l n ≡ true) (sym new_alone) (among (n ∷ []) n (times_head n [])), in_contains (entries_of (g n)) m (subst (λ s. In m (entries_of s)) (sym r.above) new')))
-  ]))
+  become : (update : Option Update) → EntriesBecome update (λ m. In m (entries_of (f n)))
+      (λ m. In m entries) →
+      EntriesBecome update (HasEntry f (alone n))
+      (HasEntry g (is_among (reached_nodes n (alone n) nothing g)))
+  become update becomes = become_same update (λ m. In m (entries_of (f n))) (λ m. In m entries)
+      (HasEntry f (alone n))
+      (HasEntry g (is_among (reached_nodes n (alone n) nothing g))) old_entries new_entries becomes
 
-  -- an entry of the leaf, or of another
-  entry_cases : (m : Member) → HasEntry f live m → In m (entries_of (f n)) ⊎ (HasEntry f live m × ¬ In m (entries_of (f n)))
-  entry_cases m (x, (alive, held)) = elim (cases_eq x n) [
-    | inl e ↦ inl (subst (λ y. In m (entries_of (f y))) e (contains_in (entries_of (f x)) m held))
-    | inr other ↦ inr ((x, (alive, held)), λ here. other (one_leaf f live tree x n alive r.alive m (contains_in (entries_of (f x)) m held) here))
-  ]
+  rewritten_changes : (update : Option Update) → EntriesBecome update (λ m. In m (entries_of (f n)))
+      (λ m. In m entries) →
+      IsFilled n (g n) → IsChangeOf f live n (n ∷ []) [] g update (n ∷ [])
+  rewritten_changes update becomes filled = named f live n (alone n) nothing (n ∷ []) [] g update
+      (n ∷ []) (listed_one n) (λ x. refl)
+      (record {
+        change = rewrites;
+        filled = subst (AllByRecursion (λ y. IsFilled y (g y))) (sym new_alone) (filled, tt);
+        entries = become update becomes;
+      })
+      new_alone
+
+  rewritten_entries : (update : Option Update) → EntriesBecome update (λ m. In m (entries_of (f n)))
+      (λ m. In m entries) →
+      EntriesBecome update (HasEntry f live) (HasEntry g live)
+  rewritten_entries update becomes =
+      let after' = live_after live n (alone n) nothing g in
+      become_same update (HasEntry f live) (HasEntry g after') (HasEntry f live) (HasEntry g live)
+      (λ m. (λ h. h, λ h. h))
+      (λ m. (
+        entry_same g live after' (λ x. sym (same_live x)) m,
+        entry_same g after' live same_live
+            m,
+      ))
+      (tree_becomes f live n (alone n) nothing g tree rewrites update (become update becomes))
 
 -- a span apart from ordered entries, put among them
 put_within : (low high : ℕ) (entries : List Member) (m : Member) → EntriesWithin low high entries → low ≤ m.span.first → m.span.first ≤ m.span.last → m.span.last ≤ high →
@@ -170,40 +213,74 @@ put_length (e ∷ entries) m =
       | false ↦ ap suc (put_length entries m)
     ]
 
-pub put_adds : (f : Contents) (live : ℕ → Bool) → IsLawful f live → (n : ℕ) (member : Member) (g : Contents) → IsPut f live n member g → Adds f live member g
-put_adds f live lawful n member g put =
+put_rewrites : (f : Contents) (live : ℕ → Bool) → IsLawful f live →
+    (n : ℕ) (member : Member) (g : Contents) →
+    IsPut f live n member g → Rewrites f live n (with_entry member (entries_of (f n))) g
+put_rewrites f live lawful n member g put =
     let before = leaf_ordered (f n) put.is_leaf (lawful.tree.ordered n put.live_leaf) in
-    let r : Rewrites f live n (with_entry member (entries_of (f n))) g = record {
+    record {
       alive = put.live_leaf;
       leaf = put.is_leaf;
       above = put.above;
       others = put.others;
       within = put_within (f n).low (f n).high (entries_of (f n)) member before.1 put.low put.span.ordered put.high
           (recursion_from_All (λ e. ¬ Overlaps e.span member.span) (entries_of (f n)) put.free);
-    } in
-    let es = with_entry member (entries_of (f n)) in
+    }
+
+put_becomes : (f : Contents) (live : ℕ → Bool) (n : ℕ) (member : Member) (g : Contents) →
+    IsPut f live n member g →
+    EntriesBecome (Some (Register member)) (λ m. In m (entries_of (f n)))
+    (λ m. In m (with_entry member (entries_of (f n))))
+put_becomes f live n member g put = (
+  λ there.
+      let apart = all_at (λ e. ¬ Overlaps e.span member.span) (entries_of (f n)) member
+      (recursion_from_All (λ e. ¬ Overlaps e.span member.span) (entries_of (f n)) put.free) there in
+      let order = put.span.ordered in
+      let hit = contains_from member.span member.span.first (omega arith) order in
+      apart (member.span.first, (hit, hit)),
+  λ m. (
+    λ there. elim (put_in (entries_of (f n)) member m there)
+        [ inl old ↦ inl old | inr e ↦ inr (sym e) ],
+    λ h. elim h [
+      | inl old ↦ put_old (entries_of (f n)) member m old
+      | inr e ↦ subst (λ x. In x (with_entry member (entries_of (f n)))) (sym e)
+          (put_new (entries_of (f n)) member)
+    ],
+  ),
+)
+
+pub put_changes : (f : Contents) (live : ℕ → Bool) → IsLawful f live →
+    (n : ℕ) (member : Member) (g : Contents) →
+    IsPut f live n member g → IsChangeOf f live n (n ∷ []) [] g (Some (Register member)) (n ∷ [])
+put_changes f live lawful n member g put =
     let filled = leaf_filled n (f n) put.is_leaf (lawful.filled n put.live_leaf) in
     let len = put_length (entries_of (f n)) member in
     let room = put.room in
-    record {
-      lawful = record {
-        tree = rewritten_tree f live lawful.tree n es g r;
-        filled = rewritten_filled f live lawful.tree n es g r lawful.filled (subst (IsFilled n) (sym put.above) (omega arith, omega arith));
-      };
-      entries = λ m. (
-        λ has. elim (rewritten_now f live lawful.tree n es g r m has) [
-          | inl kept ↦ inl kept.0
-          | inr there ↦ elim (put_in (entries_of (f n)) member m there) [
-            | inl old ↦ inl (n, (put.live_leaf, in_contains (entries_of (f n)) m old))
-            | inr e ↦ inr (sym e)
-          ]
-        ],
-        λ h. rewritten_then f live lawful.tree n es g r m (elim h [
-          | inl has ↦ elim (entry_cases f live lawful.tree n es g r m has) [ inl here ↦ inr (put_old (entries_of (f n)) member m here) | inr kept ↦ inl kept ]
-          | inr e ↦ inr (subst (λ x. In x es) (sym e) (put_new (entries_of (f n)) member))
-        ]),
-      );
-    }
+    rewritten_changes f live lawful.tree n (with_entry member (entries_of (f n))) g
+    (put_rewrites f live lawful n member g put)
+    (Some (Register member)) (put_becomes f live n member g put)
+    (subst (IsFilled n) (sym put.above) (omega arith, omega arith))
+
+-- the tree after a leaf's change that stays lawful
+leaf_lawful : (f : Contents) (live : ℕ → Bool) → IsLawful f live → (n : ℕ) → IsTrue (live n) →
+    (g : Contents) (update : Option Update) →
+    IsChangeOf f live n (n ∷ []) [] g update (n ∷ []) → IsLawful g live
+leaf_lawful f live lawful n alive g update change =
+    (lawful_now f live live n (n ∷ []) [] g update (n ∷ []) lawful change
+    (live_now live live n (n ∷ []) [] g (n ∷ []) change.reaches
+    (alive ∙ sym (among (n ∷ []) n (times_head n [])), tt) tt (λ x not_group not_fresh. refl))).0
+
+pub put_adds : (f : Contents) (live : ℕ → Bool) → IsLawful f live →
+    (n : ℕ) (member : Member) (g : Contents) →
+    IsPut f live n member g → Adds f live member g
+put_adds f live lawful n member g put = record {
+  lawful = leaf_lawful f live lawful n put.live_leaf g (Some (Register member))
+      (put_changes f live lawful n member g put);
+  entries =
+      (rewritten_entries f live lawful.tree n (with_entry member (entries_of (f n))) g
+      (put_rewrites f live lawful n member g put)
+      (Some (Register member)) (put_becomes f live n member g put)).1;
+}
 
 -- what is left of ordered entries is ordered
 left_within : (test : Member → Bool) (low high : ℕ) (entries : List Member) → EntriesWithin low high entries → EntriesWithin low high (filter test entries)
@@ -255,22 +332,6 @@ at_base_first base (e ∷ entries) m at = elim (cases_Bool (eqb e.span.first bas
       (inr rest.0, rest.1)
 ]
 
-only_at_base : (base low high : ℕ) (entries : List Member) (m x : Member) → EntriesWithin low high entries → at_base base entries ≡ Some m → In x entries → x.span.first ≡ base → x ≡ m
-only_at_base base low high [] m x within at there first = absurd there
-only_at_base base low high (e ∷ entries) m x within at there first = elim (cases_Bool (eqb e.span.first base)) [
-  | inl same ↦
-      let is : e ≡ m = some_same e m (subst (λ v. cond v (Some e) (at_base base entries) ≡ Some m) same at) in
-      let none = none_at base (e.span.last + 1) high entries within.3 (omega (arith, eqb-true e.span.first base same)) in
-      elim there [
-        | inl is_e ↦ sym is_e ∙ is
-        | inr later ↦ let kept : In x (without base entries) = subst (λ es. In x es) (sym none.others) later in absurd ((left_in base entries x kept).1 first)
-      ]
-  | inr other ↦ elim there [
-    | inl is_e ↦ absurd (eqb-false e.span.first base other (ap (λ (y : Member). y.span.first) is_e ∙ first))
-    | inr later ↦ only_at_base base (e.span.last + 1) high entries m x within.3 (subst (λ v. cond v (Some e) (at_base base entries) ≡ Some m) other at) later first
-  ]
-]
-
 left_length : (base low high : ℕ) (entries : List Member) → EntriesWithin low high entries → (length (without base entries) ≤ length entries) × (length entries ≤ suc (length (without base entries)))
 left_length base low high [] within = (omega arith, omega arith)
 left_length base low high (e ∷ entries) within = elim (cases_Bool (eqb e.span.first base)) [
@@ -285,36 +346,61 @@ left_length base low high (e ∷ entries) within = elim (cases_Bool (eqb e.span.
       (omega (arith, rest.0), omega (arith, rest.1))
 ]
 
-pub take_takes : (f : Contents) (live : ℕ → Bool) → IsLawful f live → (n base : ℕ) (member : Member) (g : Contents) → IsTake f live n base member g → Takes f live n member g
-take_takes f live lawful n base member g take' =
+take_rewrites : (f : Contents) (live : ℕ → Bool) → IsLawful f live →
+    (n base : ℕ) (member : Member) (g : Contents) →
+    IsTake f live n base member g → Rewrites f live n (without base (entries_of (f n))) g
+take_rewrites f live lawful n base member g take' =
     let before = leaf_ordered (f n) take'.is_leaf (lawful.tree.ordered n take'.live_leaf) in
-    let es = without base (entries_of (f n)) in
-    let r : Rewrites f live n es g = record {
+    record {
       alive = take'.live_leaf;
       leaf = take'.is_leaf;
       above = take'.above;
       others = take'.others;
       within = left_within (λ m. not (eqb m.span.first base)) (f n).low (f n).high (entries_of (f n)) before.1;
-    } in
+    }
+
+take_becomes : (f : Contents) (live : ℕ → Bool) (n base : ℕ) (member : Member) (g : Contents) →
+    IsTake f live n base member g →
+    EntriesBecome (Some (Deregister base)) (λ m. In m (entries_of (f n)))
+    (λ m. In m (without base (entries_of (f n))))
+take_becomes f live n base member g take' =
+    let named' = at_base_first base (entries_of (f n)) member take'.held in (
+      (member, named'),
+      λ m. (left_in base (entries_of (f n)) m, λ h. left_from base (entries_of (f n)) m h.0 h.1),
+    )
+
+pub take_changes : (f : Contents) (live : ℕ → Bool) → IsLawful f live →
+    (n base : ℕ) (member : Member) (g : Contents) →
+    IsTake f live n base member g → fewest_entries n < length (entries_of (f n)) →
+    IsChangeOf f live n (n ∷ []) [] g (Some (Deregister base)) (n ∷ [])
+take_changes f live lawful n base member g take' spare =
+    let before = leaf_ordered (f n) take'.is_leaf (lawful.tree.ordered n take'.live_leaf) in
     let filled = leaf_filled n (f n) take'.is_leaf (lawful.filled n take'.live_leaf) in
     let len = left_length base (f n).low (f n).high (entries_of (f n)) before.1 in
-    let named = at_base_first base (entries_of (f n)) member take'.held in
+    rewritten_changes f live lawful.tree n (without base (entries_of (f n))) g
+    (take_rewrites f live lawful n base member g take')
+    (Some (Deregister base)) (take_becomes f live n base member g take')
+    (subst (IsFilled n) (sym take'.above) (omega (arith, len.1), omega (arith, len.0)))
+
+pub take_takes : (f : Contents) (live : ℕ → Bool) → IsLawful f live →
+    (n base : ℕ) (member : Member) (g : Contents) →
+    IsTake f live n base member g → Takes f live n member g
+take_takes f live lawful n base member g take' =
+    let r = take_rewrites f live lawful n base member g take' in
+    let es = without base (entries_of (f n)) in
+    let entries = rewritten_entries f live lawful.tree n es g r (Some (Deregister base))
+    (take_becomes f live n base member g take') in
+    let taken = at_base_first base (entries_of (f n)) member take'.held in
+    let held : HasEntry f live member =
+    (n, (take'.live_leaf, in_contains (entries_of (f n)) member taken.0)) in
     record {
       tree = rewritten_tree f live lawful.tree n es g r;
-      lawful = λ spare. record {
-        tree = rewritten_tree f live lawful.tree n es g r;
-        filled = rewritten_filled f live lawful.tree n es g r lawful.filled (subst (IsFilled n) (sym take'.above) (omega (arith, len.1), omega (arith, len.0)));
-      };
+      lawful = λ spare. leaf_lawful f live lawful n take'.live_leaf g (Some (Deregister base))
+          (take_changes f live lawful n base member g take' spare);
       entries = λ m. (
-        λ has. elim (rewritten_now f live lawful.tree n es g r m has) [
-          | inl kept ↦ (kept.0, λ e. kept.1 (subst (λ x. In x (entries_of (f n))) (sym e) named.0))
-          | inr there ↦
-              let left = left_in base (entries_of (f n)) m there in
-              ((n, (take'.live_leaf, in_contains (entries_of (f n)) m left.0)), λ e. left.1 (ap (λ (x : Member). x.span.first) e ∙ named.1))
-        ],
-        λ h. rewritten_then f live lawful.tree n es g r m (elim (entry_cases f live lawful.tree n es g r m h.0) [
-          | inl here ↦ inr (left_from base (entries_of (f n)) m here (λ first. h.1 (only_at_base base (f n).low (f n).high (entries_of (f n)) member m before.1 take'.held here first)))
-          | inr kept ↦ inl kept
-        ]),
+        λ has. (let old = (entries.1 m).0 has in
+            (old.0, λ e. old.1 (ap (λ (x : Member). x.span.first) e ∙ taken.1))),
+        λ h. (entries.1 m).1
+            (h.0, λ first. h.1 (one_at f live lawful.tree m member h.0 held (first ∙ sym taken.1))),
       );
     }

@@ -20,3 +20,7 @@ pub mod Spines
 pub mod Fences
 pub mod Transfers
 pub mod Becomes
+pub mod Listed
+pub mod RootSplits
+pub mod SpineWays
+pub mod FenceChange

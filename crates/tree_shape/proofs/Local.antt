@@ -1,17 +1,26 @@
 -- The law of local change. Each number of the tree stands above and beside the top (`around`), is reached from it by ways
 -- inside the group, or lies below the branches that leave the group. A change replaces the middle part and leaves the others.
-use Rattle.std.proofs.Common.{◌≡◌, ◌≢◌, ℕ, zero, suc, ◌+◌, ◌-◌, ◌<◌, ◌≤◌, ◌↔◌, List, [], ◌∷◌, ◌++◌, refl, ap, sym, ◌∙◌, subst, arith, Bool, true, false, not, IsTrue, eqb, ltb, inl, inr, ◌⊎◌}
+use Rattle.std.proofs.Common.{◌≡◌, ◌≢◌, ℕ, zero, suc, ◌+◌, ◌-◌, ◌<◌, ◌≤◌, ◌↔◌, List, [], ◌∷◌, ◌++◌}
+use Rattle.std.proofs.Common.{refl, ap, sym, ◌∙◌, subst, arith, Bool, true, false, not, IsTrue, eqb}
+use Rattle.std.proofs.Common.{ltb, inl, inr, ◌⊎◌}
 use Rattle.std.specs.List.{flat_map, AllByRecursion, Contains}
-use Rattle.std.proofs.lemmas.Bool.{cases_eq, cases_Bool, cond-true, cond-false, eq-eqb, ne_eqb, or_left, or_cases, lt-ltb, ltb-true, not_from_true, not_from_false, both_ways}
+use Rattle.std.proofs.lemmas.Bool.{cases_eq, cases_Bool, cond-true, cond-false, eq-eqb, ne_eqb}
+use Rattle.std.proofs.lemmas.Bool.{or_left, or_cases, lt-ltb, ltb-true, not_from_true}
+use Rattle.std.proofs.lemmas.Bool.{not_from_false, both_ways}
 use Rattle.reg_model.specs.declared.span.Member.{Member}
 use Rattle.tree_shape.specs.Numbers.{times, once, is_among}
 use Rattle.tree_shape.specs.Shapes.{entries_of}
-use Rattle.tree_shape.specs.Trees.{Contents, Branch, branches, nodes_under, nodes, within, leaving, HasEntry}
+use Rattle.tree_shape.specs.Trees.{Contents, Branch, branches, nodes_under, nodes, within, leaving}
+use Rattle.tree_shape.specs.Trees.{HasEntry}
 use Rattle.tree_shape.specs.Lawful.{IsTree, IsOrdered, IsFilled, Fits}
 use Rattle.tree_shape.specs.LocalChange.{IsLocalChange, either, live_after, reached_nodes}
-use Rattle.tree_shape.proofs.Times.{In, all_at, all_from, all_times, times-append, times_flat_map_from, flat_map_same}
-use Rattle.tree_shape.proofs.Reach.{children, below, within_set, within_under, within_parent, within_top, under_top, reached_parts, same_within, same_under}
-use Rattle.tree_shape.proofs.Living.{own_branches, Sound, goes_on, leaves_from, live_node, one_way, root_live, child_live, child_fits, live_within, live_under, sound_at, root_no_child, one_parent, own_child}
+use Rattle.tree_shape.proofs.Times.{In, all_at, all_from, all_times, times-append}
+use Rattle.tree_shape.proofs.Times.{times_flat_map_from, flat_map_same}
+use Rattle.tree_shape.proofs.Reach.{children, below, within_set, within_under, within_parent}
+use Rattle.tree_shape.proofs.Reach.{within_top, under_top, reached_parts, same_within, same_under}
+use Rattle.tree_shape.proofs.Living.{own_branches, Sound, goes_on, leaves_from, live_node, one_way}
+use Rattle.tree_shape.proofs.Living.{root_live, child_live, child_fits, live_within, live_under}
+use Rattle.tree_shape.proofs.Living.{sound_at, root_no_child, one_parent, own_child}
 use Rattle.tree_shape.proofs.Leads.{contains_in, one_leaf}
 
 -- all numbers but one

@@ -1,7 +1,12 @@
 -- The laws of lifting the root and of sinking it.
-use Rattle.std.proofs.Common.{◌≡◌, ◌≢◌, ℕ, zero, suc, ◌+◌, ◌-◌, ◌<◌, ◌≤◌, [], ◌∷◌, ◌++◌, length, map, refl, ap, sym, ◌∙◌, subst, arith, Bool, true, false, IsTrue, eqb, inl, inr}
+use Rattle.std.proofs.Common.{◌≡◌, ◌≢◌, ℕ, zero, suc, ◌+◌, ◌-◌, ◌<◌, ◌≤◌, [], ◌∷◌, ◌++◌, length}
+use Rattle.std.proofs.Common.{map, refl, ap, sym, ◌∙◌, subst, arith, Bool, true, false, IsTrue, eqb}
+use Rattle.std.proofs.Common.{inl, inr}
+use Rattle.std.specs.Prelude.{None}
 use Rattle.std.specs.List.{flat_map, AllByRecursion, Contains, slice_get}
-use Rattle.std.proofs.lemmas.Bool.{cases_eq, cases_Bool, cond-true, cond-false, eq-eqb, eqb-true, eqb-false, ne_eqb, or_left, or_right, or_cases, or_parts, or_from, both_ways}
+use Rattle.std.proofs.lemmas.Bool.{cases_eq, cases_Bool, cond-true, cond-false, eq-eqb, eqb-true}
+use Rattle.std.proofs.lemmas.Bool.{eqb-false, ne_eqb, or_left, or_right, or_cases, or_parts}
+use Rattle.std.proofs.lemmas.Bool.{or_from, both_ways}
 use Rattle.std.proofs.lemmas.List.{append-nil, length-append}
 use Rattle.std.proofs.Math.Numerals.{add-one}
 use Rattle.reg_model.specs.declared.span.Member.{Member}
@@ -11,18 +16,24 @@ use Rattle.tree_shape.specs.Shapes.{Body, Pairs, Entries, Link, entries_of, pair
 use Rattle.tree_shape.specs.Changes.{joined, both, FitAs}
 use Rattle.tree_shape.specs.Trees.{Contents, Branch, branches, within, leaving, HasEntry}
 use Rattle.tree_shape.specs.Lawful.{IsLawful, IsOrdered, IsFilled, IsFilledAs, Fits}
-use Rattle.tree_shape.specs.LocalChange.{IsLocalChange, either, live_after}
-use Rattle.tree_shape.specs.Steps.{Keeps, IsLift, Lifts, IsSplit, IsSink, IsFull, with_node, without_node}
-use Rattle.tree_shape.proofs.Times.{In, all_from, in_append, in_flat_map, in_left, in_right, times_head, once_other, once_most}
-use Rattle.tree_shape.proofs.Living.{own_branches, own_at, no_branches, root_live, root_no_child, child_live, own_child}
+use Rattle.tree_shape.specs.LocalChange.{IsLocalChange, IsChangeOf, either, live_after}
+use Rattle.tree_shape.specs.LocalChange.{reached_nodes}
+use Rattle.tree_shape.specs.Steps.{Keeps, IsLift, Lifts, IsSink, IsFull, with_node, without_node}
+use Rattle.tree_shape.proofs.Times.{In, listed_family, all_from, in_append, in_flat_map, in_left}
+use Rattle.tree_shape.proofs.Times.{in_right, times_head, once_other, once_most}
+use Rattle.tree_shape.proofs.Living.{own_branches, own_at, no_branches, root_live, root_no_child}
+use Rattle.tree_shape.proofs.Living.{child_live, own_child}
 use Rattle.tree_shape.proofs.Leads.{contains_in, in_contains, leaf_says}
-use Rattle.tree_shape.proofs.Local.{tree_after, filled_after, entries_after}
+use Rattle.tree_shape.proofs.Local.{tree_after, entries_after}
 use Rattle.tree_shape.proofs.Runs.{JoinsTo}
-use Rattle.tree_shape.proofs.Family.{family, alone, two_levels, exits_of, Grouped, grandchild, untouched, old_ways}
-use Rattle.tree_shape.proofs.Slotted.{ordered_pairs, Slotted, tree_same, entry_same, slotted}
-use Rattle.tree_shape.proofs.Splits.{split_fills}
+use Rattle.tree_shape.proofs.Family.{family, alone, two_levels, exits_of, Grouped, grandchild}
+use Rattle.tree_shape.proofs.Family.{untouched, old_inside, old_ways}
+use Rattle.tree_shape.proofs.Slotted.{ordered_pairs, Slotted, slotted}
+use Rattle.tree_shape.proofs.Listed.{tree_same, entry_same, named, keeps_now, without_other}
+use Rattle.tree_shape.proofs.Listed.{without_itself}
 use Rattle.tree_shape.proofs.Joins.{Neighbours, neighbours, neighbours_join, none_of, one_of_three}
-use Rattle.tree_shape.proofs.Halves.{among, not_among, only, second, third, fewest_below, fewest_pairs_some, fit_kind}
+use Rattle.tree_shape.proofs.Halves.{among, not_among, not_one, only, second, third, fewest_below}
+use Rattle.tree_shape.proofs.Halves.{fewest_pairs_some, fit_kind}
 
 -- a full node is filled wherever it stands
 full_filled : (n : ℕ) (b : Body) → n ≢ 0 → IsFull b → IsFilledAs n b
@@ -31,11 +42,13 @@ full_filled n (Entries entries) below full = (omega (arith, (fewest_below n belo
 full_filled n (Link next) below full = absurd full
 
 -- a branch of a node at its own level is one of its own
-exit_own : (f : Contents) (level n : ℕ) (c : Branch) → (f n).level ≡ level → In c (exits_of f level n) → In c (own_branches f n)
+pub exit_own : (f : Contents) (level n : ℕ) (c : Branch) → (f n).level ≡ level →
+    In c (exits_of f level n) → In c (own_branches f n)
 exit_own f zero n c at there = absurd there
 exit_own f (suc level) n c at there = subst (λ bs. In c bs) (sym (own_at f n level at)) there
 
-own_exit : (f : Contents) (level n : ℕ) (c : Branch) → IsOrdered (f n) → (f n).level ≡ level → In c (own_branches f n) → In c (exits_of f level n)
+pub own_exit : (f : Contents) (level n : ℕ) (c : Branch) → IsOrdered (f n) → (f n).level ≡ level →
+    In c (own_branches f n) → In c (exits_of f level n)
 own_exit f zero n c ordered at own = no_branches (f n) ((f n).level - 1) c ordered at own
 own_exit f (suc level) n c ordered at own = subst (λ bs. In c bs) (own_at f n level at) own
 
@@ -187,17 +200,6 @@ module _ (f : Contents) (live : ℕ → Bool) (lawful : IsLawful f live) (a : �
     entries = λ m. (lift_now m, lift_then m);
   }
 
--- The split that follows a lift makes the tree lawful.
-pub lift_split_keeps : (f : Contents) (live : ℕ → Bool) → IsLawful f live → (a : ℕ) (h : Contents) → IsLift f live a h → (p : Pair) (r : ℕ) (g : Contents) → IsSplit h (with_node a live) 0 0 p r g →
-    Keeps f live g (with_node r (with_node a live))
-lift_split_keeps f live lawful a h lift p r g split =
-    let lifted = lifts f live lawful a h lift in
-    let kept = split_fills h (with_node a live) lifted.tree 0 0 p r g split lifted.filled (omega (arith, lifted.one_pair)) in
-    record {
-      lawful = kept.lawful;
-      entries = λ m. (λ has. (lifted.entries m).0 ((kept.entries m).0 has), λ has. (kept.entries m).1 ((lifted.entries m).1 has));
-    }
-
 root_joined : (n : ℕ) (b c : Body) → FitAs b c → IsFilledAs n b → IsFilledAs 0 (both b c)
 root_joined n (Pairs left) (Pairs right) fit filled = let len = length-append left right in (omega (arith, filled.0, fewest_pairs_some n), omega arith)
 root_joined n (Pairs left) (Entries right) fit filled = absurd fit
@@ -310,75 +312,92 @@ module _ (f : Contents) (live : ℕ → Bool) (lawful : IsLawful f live) (p q : 
           (times_head 0 (p.child ∷ q.child ∷ [])) (second 0 p.child (q.child ∷ [])) (third 0 p.child q.child [])
           x (or_left (family 0 (one ∷ two ∷ []) x) false inside)
 
-  outside_three : (x : ℕ) → x ≢ p.child → x ≢ q.child → without_node p.child (without_node q.child live) x ≡ live x
-  outside_three x not_p not_q =
-      cond-false (eqb x p.child) false (without_node q.child live x) (ne_eqb x p.child not_p) ∙ cond-false (eqb x q.child) false (live x) (ne_eqb x q.child not_q)
-
-  sink_live : (x : ℕ) → live_after live 0 (family 0 (one ∷ two ∷ [])) (λ _. false) g x ≡ without_node p.child (without_node q.child live) x
-  sink_live x = elim (cases_Bool (either (family 0 (one ∷ two ∷ [])) (λ _. false) x)) [
-    | inl touched ↦
-        cond-true (either (family 0 (one ∷ two ∷ [])) (λ _. false) x) (is_among (within (either (family 0 (one ∷ two ∷ [])) (λ _. false)) g (g 0).level 0) x) (live x) touched
-        ∙ ap (λ l. is_among l x) reached_sink
-        ∙ one_of_three (λ y. is_among (0 ∷ []) y ≡ without_node p.child (without_node q.child live) y) 0 p.child q.child
-        (among (0 ∷ []) 0 (times_head 0 []) ∙ sym (outside_three 0 (λ e. left.no_root (sym e)) (λ e. at.no_root (sym e)) ∙ root_live f live lawful.tree))
-        (not_among (0 ∷ []) p.child (omega (arith, once_other p.child 0 left.no_root)) ∙ sym (cond-true (eqb p.child p.child) false (without_node q.child live p.child) (eq-eqb p.child p.child refl)))
-        (not_among (0 ∷ []) q.child (omega (arith, once_other q.child 0 at.no_root))
-        ∙ sym (cond-false (eqb q.child p.child) false (without_node q.child live q.child) (ne_eqb q.child p.child (λ e. at.different (sym e)))
-        ∙ cond-true (eqb q.child q.child) false (live q.child) (eq-eqb q.child q.child refl)))
-        x touched
-    | inr untouched' ↦
-        let apart = none_of 0 p.child q.child x (one ∷ two ∷ []) refl untouched' in
-        cond-false (either (family 0 (one ∷ two ∷ [])) (λ _. false) x) (is_among (within (either (family 0 (one ∷ two ∷ [])) (λ _. false)) g (g 0).level 0) x) (live x) untouched'
-        ∙ sym (outside_three x apart.1 apart.2)
-  ]
-
   members_now : entries_of (f p.child) ++ entries_of (f q.child) ≡ entries_of (g 0)
   members_now = joined_now.members ∙ ap entries_of (sym new_root)
-
-  sink_now : (m : Member) → HasEntry g (without_node p.child (without_node q.child live)) m → HasEntry f live m
-  sink_now m has = elim ((entries_after f live 0 (family 0 (one ∷ two ∷ [])) (λ _. false) g lawful.tree sink_change m).0
-      (entry_same g (without_node p.child (without_node q.child live)) (live_after live 0 (family 0 (one ∷ two ∷ [])) (λ _. false) g) (λ x. sym (sink_live x)) m has)) [
-        | inl kept ↦ kept.0
-        | inr (x, (there, held)) ↦
-            let is_root = only 0 x (ap (λ l. is_among l x) (sym reached_sink) ∙ there) in
-            let here : In m (entries_of (f p.child) ++ entries_of (f q.child)) =
-            subst (λ es. In m es) (sym members_now) (subst (λ y. In m (entries_of (g y))) is_root (contains_in (entries_of (g x)) m held)) in
-            elim (in_append (entries_of (f p.child)) (entries_of (f q.child)) m here) [
-              | inl first ↦ (p.child, (left.alive, in_contains (entries_of (f p.child)) m first))
-              | inr last ↦ (q.child, (at.alive, in_contains (entries_of (f q.child)) m last))
-            ]
-      ]
 
   root_has_none : (m : Member) → In m (entries_of (f 0)) → ⊥
   root_has_none m held =
       let says = leaf_says (f 0) (f 0).body (lawful.tree.ordered 0 (root_live f live lawful.tree)) m held in
       let up = left.at in omega (arith, says.0)
 
-  sink_then : (m : Member) → HasEntry f live m → HasEntry g (without_node p.child (without_node q.child live)) m
-  sink_then m (x, (alive, held)) =
-      let here = contains_in (entries_of (f x)) m held in
-      let new_holder : In m (entries_of (g 0)) → HasEntry g (without_node p.child (without_node q.child live)) m =
-      λ there. (0, (outside_three 0 (λ e. left.no_root (sym e)) (λ e. at.no_root (sym e)) ∙ root_live f live lawful.tree, in_contains (entries_of (g 0)) m there)) in
-      elim (cases_eq x p.child) [
-        | inl e ↦ new_holder (subst (λ es. In m es) members_now (in_left (entries_of (f p.child)) (entries_of (f q.child)) m (subst (λ y. In m (entries_of (f y))) e here)))
-        | inr not_p ↦ elim (cases_eq x q.child) [
-          | inl e ↦ new_holder (subst (λ es. In m es) members_now (in_right (entries_of (f p.child)) (entries_of (f q.child)) m (subst (λ y. In m (entries_of (f y))) e here)))
-          | inr not_q ↦ elim (cases_eq x 0) [
-            | inl e ↦ absurd (root_has_none m (subst (λ y. In m (entries_of (f y))) e here))
-            | inr not_root ↦ (x, (outside_three x not_p not_q ∙ alive, subst (λ s. Contains (entries_of s) m) (sym (sink.others x not_root not_p not_q)) held))
-          ]
-        ]
+  sink_now : (m : Member) →
+      HasEntry g (is_among (reached_nodes 0 (family 0 (one ∷ two ∷ [])) (λ _. false) g)) m →
+      HasEntry f (family 0 (one ∷ two ∷ [])) m
+  sink_now m (x, (there, held)) =
+      let is_root = only 0 x (ap (λ l. is_among l x) (sym reached_sink) ∙ there) in
+      let here : In m (entries_of (f p.child) ++ entries_of (f q.child)) =
+      subst (λ es. In m es) (sym members_now)
+      (subst (λ y. In m (entries_of (g y))) is_root (contains_in (entries_of (g x)) m held)) in
+      let inside = old_inside f live lawful.tree 0 left.level [] (one ∷ two ∷ []) [] (λ _. false)
+      sink_side in
+      elim (in_append (entries_of (f p.child)) (entries_of (f q.child)) m here) [
+        | inl first
+            ↦ (p.child, (inside one (inl refl), in_contains (entries_of (f p.child)) m first))
+        | inr last
+            ↦ (q.child, (inside two (inr (inl refl)), in_contains (entries_of (f q.child)) m last))
       ]
 
+  sink_then : (m : Member) → HasEntry f (family 0 (one ∷ two ∷ [])) m →
+      HasEntry g (is_among (reached_nodes 0 (family 0 (one ∷ two ∷ [])) (λ _. false) g)) m
+  sink_then m (x, (inside, held)) =
+      let new_holder : In m (entries_of (f p.child) ++ entries_of (f q.child)) →
+      HasEntry g (is_among (reached_nodes 0 (family 0 (one ∷ two ∷ [])) (λ _. false) g)) m =
+      λ there. (
+        0,
+        (
+          subst (λ l. is_among l 0 ≡ true) (sym reached_sink) (among (0 ∷ []) 0 (times_head 0 [])),
+          in_contains (entries_of (g 0)) m (subst (λ es. In m es) members_now there),
+        ),
+      ) in
+      one_of_three (λ y. In m (entries_of (f y)) →
+      HasEntry g (is_among (reached_nodes 0 (family 0 (one ∷ two ∷ [])) (λ _. false) g)) m) 0
+      p.child q.child
+      (λ here. absurd (root_has_none m here))
+      (λ here. new_holder (in_left (entries_of (f p.child)) (entries_of (f q.child)) m here))
+      (λ here. new_holder (in_right (entries_of (f p.child)) (entries_of (f q.child)) m here))
+      x (or_left (family 0 (one ∷ two ∷ []) x) false inside) (contains_in (entries_of (f x)) m held)
+
+  pub sink_changes : IsChangeOf f live 0 (0 ∷ p.child ∷ q.child ∷ []) [] g None (0 ∷ [])
+  sink_changes = named f live 0 (family 0 (one ∷ two ∷ [])) (λ _. false)
+      (0 ∷ p.child ∷ q.child ∷ []) [] g None (0 ∷ [])
+      (listed_family 0 (p.child ∷ q.child ∷ [])) (λ x. refl)
+      (record {
+        change = sink_change;
+        filled = subst (AllByRecursion (λ y. IsFilled y (g y))) (sym reached_sink) (
+          subst (IsFilled 0) (sym new_root)
+              (root_joined p.child (f p.child).body (f q.child).body sink.fit
+              (lawful.filled p.child left.alive)),
+          tt,
+        );
+        entries = λ m. (sink_now m, sink_then m);
+      })
+      reached_sink
+
+  outside_three : (x : ℕ) → x ≢ p.child → x ≢ q.child →
+      without_node p.child (without_node q.child live) x ≡ live x
+  outside_three x not_p not_q = without_other (without_node q.child live) p.child x not_p
+      ∙ without_other live q.child x not_q
+
   pub sink_keeps : Keeps f live g (without_node p.child (without_node q.child live))
-  sink_keeps = record {
-    lawful = record {
-      tree = tree_same g (live_after live 0 (family 0 (one ∷ two ∷ [])) (λ _. false) g) (without_node p.child (without_node q.child live)) sink_live
-          (tree_after f live 0 (family 0 (one ∷ two ∷ [])) (λ _. false) g lawful.tree sink_change);
-      filled = λ x alive. filled_after f live 0 (family 0 (one ∷ two ∷ [])) (λ _. false) g lawful.tree sink_change (λ y there outside. lawful.filled y there)
-          (subst (AllByRecursion (λ y. IsFilled y (g y))) (sym reached_sink)
-          (subst (IsFilled 0) (sym new_root) (root_joined p.child (f p.child).body (f q.child).body sink.fit (lawful.filled p.child left.alive)), tt))
-          x (sink_live x ∙ alive);
-    };
-    entries = λ m. (sink_now m, sink_then m);
-  }
+  sink_keeps =
+      let group = 0 ∷ p.child ∷ q.child ∷ [] in
+      keeps_now f live (without_node p.child (without_node q.child live)) 0 group [] g (0 ∷ [])
+      lawful sink_changes (
+        outside_three 0 (λ e. left.no_root (sym e)) (λ e. at.no_root (sym e))
+            ∙ root_live f live lawful.tree
+            ∙ sym (among (0 ∷ []) 0 (times_head 0 [])),
+        (
+          without_itself (without_node q.child live) p.child
+              ∙ sym (not_among (0 ∷ []) p.child (omega (arith, once_other p.child 0 left.no_root))),
+          (
+            without_other (without_node q.child live) p.child q.child (λ e. at.different (sym e))
+                ∙ without_itself live q.child
+                ∙ sym (not_among (0 ∷ []) q.child (omega (arith, once_other q.child 0 at.no_root))),
+            tt,
+          ),
+        ),
+      )
+      tt
+      (λ x not_group not_fresh. outside_three x
+      (not_one group x p.child not_group (second 0 p.child (q.child ∷ [])))
+      (not_one group x q.child not_group (third 0 p.child q.child [])))

@@ -1,23 +1,24 @@
 -- A slot of a live node: the pairs before it and after it, and its child.
-use Rattle.std.proofs.Common.{◌≡◌, ◌≢◌, ℕ, zero, suc, ◌+◌, ◌-◌, ◌<◌, List, [], ◌∷◌, ◌++◌, length, map, refl, ap, sym, ◌∙◌, subst, arith, Bool, false, IsTrue, inl, inr, Some}
+use Rattle.std.proofs.Common.{◌≡◌, ◌≢◌, ℕ, zero, suc, ◌+◌, ◌-◌, ◌<◌, List, [], ◌∷◌, ◌++◌, length}
+use Rattle.std.proofs.Common.{map, refl, ap, sym, ◌∙◌, subst, arith, Bool, IsTrue, inl, inr, Some}
 use Rattle.std.specs.List.{flat_map, AllByRecursion, slice_get}
-use Rattle.std.specs.Option.{option_map_or}
-use Rattle.std.proofs.lemmas.Bool.{cases_Bool, cond-true, cond-false}
+use Rattle.std.specs.Prelude.{None}
 use Rattle.std.proofs.lemmas.List.{length-append}
-use Rattle.reg_model.specs.declared.span.Member.{Member}
 use Rattle.tree_shape.specs.declared.pair.Pair.{Pair}
-use Rattle.tree_shape.specs.Numbers.{times, once, is_among}
-use Rattle.tree_shape.specs.Shapes.{Shape, Body, Pairs, Entries, Link, entries_of, pairs_of, pairs_in, Cut}
+use Rattle.tree_shape.specs.Numbers.{times, is_among}
+use Rattle.tree_shape.specs.Shapes.{Shape, Body, Pairs, Entries, Link, entries_of, pairs_of}
+use Rattle.tree_shape.specs.Shapes.{pairs_in, Cut}
 use Rattle.tree_shape.specs.Changes.{at_slot}
-use Rattle.tree_shape.specs.Trees.{Contents, Branch, branches_from, branches, within, HasEntry}
+use Rattle.tree_shape.specs.Trees.{Contents, Branch, branches_from, branches}
 use Rattle.tree_shape.specs.Lawful.{IsTree, IsOrderedAs, IsFilled, Fits}
-use Rattle.tree_shape.specs.LocalChange.{either, live_after}
-use Rattle.tree_shape.specs.Steps.{Keeps}
-use Rattle.tree_shape.proofs.Times.{In, in_right}
-use Rattle.tree_shape.proofs.Living.{own_branches, own_at, child_live, child_fits, root_no_child, own_child}
-use Rattle.tree_shape.proofs.Local.{tree_after, filled_after}
+use Rattle.tree_shape.specs.LocalChange.{IsChangeOf}
+use Rattle.tree_shape.proofs.Times.{In, in_right, some_same, listed_family}
+use Rattle.tree_shape.proofs.Living.{own_branches, own_at, child_live, child_fits, root_no_child}
+use Rattle.tree_shape.proofs.Living.{own_child}
+use Rattle.tree_shape.proofs.Listed.{named}
 use Rattle.tree_shape.proofs.Runs.{next_low, branches-append}
-use Rattle.tree_shape.proofs.Family.{numbers, family, Regroups, regroups, reached_now, same_entries}
+use Rattle.tree_shape.proofs.Family.{numbers, family, Regroups, regroups, reached_now}
+use Rattle.tree_shape.proofs.Family.{family_entries}
 
 -- the pairs around a slot
 pub record Around (pairs : List Pair) (slot : ℕ) (p : Pair) : Type 0 where
@@ -26,9 +27,6 @@ pub record Around (pairs : List Pair) (slot : ℕ) (p : Pair) : Type 0 where
   pub is : pairs ≡ front ++ p ∷ back
   pub changed : (change : Pair → List Pair → List Pair) → at_slot change slot pairs ≡ front ++ change p back
   pub next : slice_get pairs (suc slot) ≡ slice_get back 0
-
-pub some_same : {X : Type 0} (x y : X) → Some x ≡ Some y → x ≡ y
-some_same x y e = ap (λ o. option_map_or (λ z. z) o x) e
 
 pub around_slot : (pairs : List Pair) (slot : ℕ) (p : Pair) → slice_get pairs slot ≡ Some p → Around pairs slot p
 around_slot [] slot p at = absurd (cc)
@@ -64,54 +62,27 @@ filled_pairs n s filled some = is s.body some
     is (Entries entries) some = absurd (omega arith)
     is (Link next) some = absurd (omega arith)
 
--- the same nodes are live
-pub tree_same : (g : Contents) (a b : ℕ → Bool) → ((x : ℕ) → a x ≡ b x) → IsTree g a → IsTree g b
-tree_same g a b same tree = record {
-  root_low = tree.root_low;
-  root_high = tree.root_high;
-  height = tree.height;
-  reached = λ x. tree.reached x ∙ ap once (same x);
-  ordered = λ x alive. tree.ordered x (same x ∙ alive);
-  fitting = λ x alive. tree.fitting x (same x ∙ alive);
-}
-
-pub entry_same : (g : Contents) (a b : ℕ → Bool) → ((x : ℕ) → a x ≡ b x) → (m : Member) → HasEntry g a m → HasEntry g b m
-entry_same g a b same m (x, (alive, held)) = (x, (sym (same x) ∙ alive, held))
-
--- A family that is regrouped, with the new children's entries those of the old ones, keeps the tree.
-pub family_keeps : (f : Contents) (live : ℕ → Bool) → IsTree f live → (n level : ℕ) (front old new back : List Branch) (fresh : ℕ → Bool) (g : Contents) (live' : ℕ → Bool) →
+-- A family that is regrouped, with the new children's entries those of the old ones, is a lawful
+-- change.
+pub family_changes : (f : Contents) (live : ℕ → Bool) → IsTree f live →
+    (n level : ℕ) (front old new back : List Branch)
+    (fresh : ℕ → Bool) (fresh_nodes : List ℕ) (g : Contents) →
     Regroups f live n level front old new back fresh g →
+    ((x : ℕ) → fresh x ≡ is_among fresh_nodes x) →
     flat_map (λ (b : Branch). entries_of (g b.child)) new ≡ flat_map (λ (b : Branch). entries_of (f b.child)) old →
-    ((x : ℕ) → IsTrue (live x) → either (family n old) fresh x ≡ false → IsFilled x (f x)) →
     IsFilled n (g n) → ((b : Branch) → In b new → IsFilled b.child (g b.child)) →
-    ((x : ℕ) → IsTrue (either (family n old) fresh x) → live' x ≡ is_among (n ∷ numbers new) x) →
-    ((x : ℕ) → either (family n old) fresh x ≡ false → live' x ≡ live x) →
-    Keeps f live g live'
-family_keeps f live tree n level front old new back fresh g live' r members before filled each inside outside =
-    let change = regroups f live tree n level front old new back fresh g r in
+    IsChangeOf f live n (n ∷ numbers old) fresh_nodes g None (n ∷ numbers new)
+family_changes f live tree n level front old new back fresh fresh_nodes g r tests members filled
+    each =
     let reached = reached_now f live tree n level front old new back fresh g r in
-    let same : (x : ℕ) → live_after live n (family n old) fresh g x ≡ live' x =
-    λ x. elim (cases_Bool (either (family n old) fresh x)) [
-      | inl touched ↦
-          cond-true (either (family n old) fresh x) (is_among (within (either (family n old) fresh) g (g n).level n) x) (live x) touched
-          ∙ ap (λ l. is_among l x) reached ∙ sym (inside x touched)
-      | inr untouched ↦
-          cond-false (either (family n old) fresh x) (is_among (within (either (family n old) fresh) g (g n).level n) x) (live x) untouched ∙ sym (outside x untouched)
-    ] in
-    let filled_now : AllByRecursion (λ x. IsFilled x (g x)) (within (either (family n old) fresh) g (g n).level n) =
-    subst (AllByRecursion (λ x. IsFilled x (g x))) (sym reached) (filled, over new each) in
-    let entries = same_entries f live tree n level front old new back fresh g r members in
-    let back' : (x : ℕ) → live' x ≡ live_after live n (family n old) fresh g x = λ x. sym (same x) in
-    record {
-      lawful = record {
-        tree = tree_same g (live_after live n (family n old) fresh g) live' same (tree_after f live n (family n old) fresh g tree change);
-        filled = λ x alive. filled_after f live n (family n old) fresh g tree change before filled_now x (same x ∙ alive);
-      };
-      entries = λ m. (
-        λ has. (entries m).0 (entry_same g live' (live_after live n (family n old) fresh g) back' m has),
-        λ has. entry_same g (live_after live n (family n old) fresh g) live' same m ((entries m).1 has),
-      );
-    }
+    named f live n (family n old) fresh (n ∷ numbers old) fresh_nodes g None (n ∷ numbers new)
+    (λ x. listed_family n (numbers old) x) tests
+    (record {
+      change = regroups f live tree n level front old new back fresh g r;
+      filled = subst (AllByRecursion (λ x. IsFilled x (g x))) (sym reached) (filled, over new each);
+      entries = family_entries f live tree n level front old new back fresh g r members;
+    })
+    reached
   where
     over : (bs : List Branch) → ((b : Branch) → In b bs → IsFilled b.child (g b.child)) → AllByRecursion (λ x. IsFilled x (g x)) (numbers bs)
     over [] each = tt

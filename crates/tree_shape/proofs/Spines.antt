@@ -1,15 +1,18 @@
 -- What stands below a node, and what a fence that is raised along a spine makes of it.
-use Rattle.std.proofs.Common.{◌≡◌, ◌≢◌, ℕ, zero, suc, ◌+◌, ◌-◌, ◌<◌, ◌≤◌, List, [], ◌∷◌, refl, ap, sym, ◌∙◌, subst, arith, Bool, IsTrue, inl, inr}
+use Rattle.std.proofs.Common.{◌≡◌, ◌≢◌, ℕ, zero, suc, ◌+◌, ◌-◌, ◌<◌, ◌≤◌, List, [], ◌∷◌, refl, ap}
+use Rattle.std.proofs.Common.{sym, ◌∙◌, subst, arith, Bool, IsTrue, inl, inr}
 use Rattle.std.specs.List.{flat_map, AllByRecursion}
 use Rattle.reg_model.specs.declared.span.Member.{Member}
 use Rattle.tree_shape.specs.declared.pair.Pair.{Pair}
 use Rattle.tree_shape.specs.Numbers.{times}
-use Rattle.tree_shape.specs.Shapes.{Shape, Body, Pairs, Entries, Link, pairs_of, pairs_in, EntriesWithin, Cut}
+use Rattle.tree_shape.specs.Shapes.{Shape, Body, Pairs, Entries, Link, pairs_of, pairs_in}
+use Rattle.tree_shape.specs.Shapes.{EntriesWithin, Cut}
 use Rattle.tree_shape.specs.Changes.{ends_at, ends_at_as, up_to, after}
 use Rattle.tree_shape.specs.Trees.{Contents, Branch, branches_from, branches, nodes_under, within}
 use Rattle.tree_shape.specs.Lawful.{IsTree, IsOrdered, IsOrderedAs, Fits}
 use Rattle.tree_shape.specs.Steps.{last_child, first_child, last_spine, first_spine, LiesAbove}
-use Rattle.tree_shape.proofs.Times.{In, all_at, all_from, once_same, once_other, times-append, times_head, times_cases, times_flat_map, times_flat_map_from}
+use Rattle.tree_shape.proofs.Times.{In, all_at, all_from, once_same, once_other, times-append}
+use Rattle.tree_shape.proofs.Times.{times_head, times_cases, times_flat_map, times_flat_map_from}
 use Rattle.tree_shape.proofs.Reach.{branch_level, under_top}
 use Rattle.tree_shape.proofs.Living.{own_branches, own_at, no_branches, child_live, child_fits}
 use Rattle.tree_shape.proofs.Leads.{branch_inside, inner_above}
@@ -81,8 +84,18 @@ stands_says h (suc level) n low high stands x there = elim (times_cases x n (fla
       stands_says h level found.0.child found.0.low found.0.high (all_at (λ b. Stands h level b.child b.low b.high) (branches level (h n)) found.0 stands.1 found.1.0) x found.1.1
 ]
 
-ordered_cut : (s : Shape) (b : Body) → IsOrderedAs s b → 0 < s.level → (high : ℕ) → s.high ≡ high → Cut s.low high (pairs_in b)
+pub ordered_cut : (s : Shape) (b : Body) → IsOrderedAs s b → 0 < s.level → (high : ℕ) →
+    s.high ≡ high → Cut s.low high (pairs_in b)
 ordered_cut s b ordered above high is = subst (λ h. Cut s.low h (pairs_in b)) is (inner_above s b ordered above)
+
+-- a spine has its top
+pub last_top : (f : Contents) (level n : ℕ) → 0 < times n (last_spine f level n)
+last_top f zero n = times_head n []
+last_top f (suc level) n = times_head n (last_spine f level (last_child 0 (pairs_of (f n))))
+
+pub first_top : (f : Contents) (level n : ℕ) → 0 < times n (first_spine f level n)
+first_top f zero n = times_head n []
+first_top f (suc level) n = times_head n (first_spine f level (first_child 0 (pairs_of (f n))))
 
 -- the spines lie below their tops
 last_of_pairs_with : (f : Contents) (level x low high : ℕ) (pairs : List Pair) (start : ℕ) → Cut low high pairs → low ≤ high → AllByRecursion (λ b. Stands f level b.child b.low b.high) (branches_from level low pairs) →
@@ -104,7 +117,9 @@ last_under f (suc level) n low high stands x =
           (omega (arith, stands.0.1, stands.0.4)) stands.1 (λ m l h below. last_under f level m l h below x),
     )
 
-last_of_pairs : (f : Contents) (level x low high : ℕ) (pairs : List Pair) (start : ℕ) → Cut low high pairs → low ≤ high → AllByRecursion (λ b. Stands f level b.child b.low b.high) (branches_from level low pairs) →
+pub last_of_pairs : (f : Contents) (level x low high : ℕ) (pairs : List Pair) (start : ℕ) →
+    Cut low high pairs → low ≤ high → AllByRecursion (λ b. Stands f level b.child b.low b.high)
+    (branches_from level low pairs) →
     times x (last_spine f level (last_child start pairs)) ≤ times x (flat_map (λ (b : Branch). nodes_under f level b.child) (branches_from level low pairs))
 last_of_pairs f level x low high pairs start cut order all = last_of_pairs_with f level x low high pairs start cut order all (λ m l h below. last_under f level m l h below x)
 
@@ -158,7 +173,8 @@ shortened_ordered s (Pairs pairs) fence ordered order above = (ordered.0, cut_lo
 shortened_ordered s (Entries es) fence ordered order above = (ordered.0, entries_after_fence s.low s.high fence es ordered.1 above)
 shortened_ordered s (Link next) fence ordered order above = absurd ordered
 
-ends_at_pairs : (fence : ℕ) (b : Body) → pairs_in (ends_at_as fence b) ≡ ends_at fence (pairs_in b)
+pub ends_at_pairs : (fence : ℕ) (b : Body) → pairs_in
+    (ends_at_as fence b) ≡ ends_at fence (pairs_in b)
 ends_at_pairs fence (Pairs pairs) = refl
 ends_at_pairs fence (Entries es) = refl
 ends_at_pairs fence (Link next) = refl

@@ -1,21 +1,26 @@
 -- The law of splitting a child.
-use Rattle.std.proofs.Common.{◌≡◌, ◌≢◌, ℕ, zero, suc, ◌+◌, ◌<◌, ◌≤◌, List, [], ◌∷◌, ◌++◌, length, refl, ap, sym, ◌∙◌, subst, arith, Bool, true, false, IsTrue, eqb, inl, inr}
-use Rattle.std.proofs.lemmas.Bool.{cases_Bool, cond-true, cond-false, eq-eqb, eqb-true, eqb-false, or_left, or_right, or_cases, or_parts, both_ways}
+use Rattle.std.proofs.Common.{◌≡◌, ◌≢◌, ℕ, zero, suc, ◌+◌, ◌<◌, ◌≤◌, List, [], ◌∷◌, ◌++◌, length}
+use Rattle.std.proofs.Common.{refl, ap, sym, ◌∙◌, subst, arith, Bool, false, IsTrue, eqb}
+use Rattle.std.specs.Prelude.{None}
+use Rattle.std.proofs.lemmas.Bool.{eq-eqb, eqb-true, eqb-false, or_left, or_right, or_parts}
+use Rattle.std.proofs.lemmas.Bool.{both_ways}
 use Rattle.std.proofs.lemmas.List.{append-nil, length-append}
 use Rattle.tree_shape.specs.declared.pair.Pair.{Pair}
-use Rattle.tree_shape.specs.Numbers.{times, is_among}
+use Rattle.tree_shape.specs.Numbers.{is_among}
 use Rattle.tree_shape.specs.Shapes.{entries_of, pairs_of, Cut}
 use Rattle.tree_shape.specs.Changes.{first_half, at_slot, divide, first_part, end_of}
 use Rattle.tree_shape.specs.Trees.{Contents, Branch, branches_from, branches}
-use Rattle.tree_shape.specs.Lawful.{IsTree, IsLawful, IsOrdered, IsFilled, Fits, fewest_pairs}
-use Rattle.tree_shape.specs.LocalChange.{either}
+use Rattle.tree_shape.specs.Lawful.{IsLawful, IsOrdered, IsFilled, Fits}
+use Rattle.tree_shape.specs.LocalChange.{IsChangeOf, either}
 use Rattle.tree_shape.specs.Steps.{Keeps, IsSplit, with_node, middle}
-use Rattle.tree_shape.proofs.Times.{times_head}
+use Rattle.tree_shape.proofs.Times.{listed_one, times_head}
 use Rattle.tree_shape.proofs.Living.{root_live}
 use Rattle.tree_shape.proofs.Runs.{next_low, branches-append, CutsTo, cuts}
 use Rattle.tree_shape.proofs.Family.{family, exits_of, Regroups}
-use Rattle.tree_shape.proofs.Slotted.{around_slot, ordered_pairs, slotted, family_keeps}
-use Rattle.tree_shape.proofs.Halves.{among, not_one, only, two_of, once_two, second, third, full_middle, pairs_filled, halves_filled}
+use Rattle.tree_shape.proofs.Slotted.{around_slot, ordered_pairs, slotted, family_changes}
+use Rattle.tree_shape.proofs.Listed.{keeps_now, with_fresh, with_itself, with_other}
+use Rattle.tree_shape.proofs.Halves.{among, not_one, two_of, once_two, second, third, full_middle}
+use Rattle.tree_shape.proofs.Halves.{pairs_filled, halves_filled}
 
 -- the addresses of a slot, cut at a new separator
 pub cut_divided : (low high : ℕ) (front back : List Pair) (p : Pair) (separator child : ℕ) → Cut low high (front ++ p ∷ back) → next_low low front ≤ separator → separator < p.separator →
@@ -28,10 +33,13 @@ pub cut_exits : (f g : Contents) (level c r : ℕ) → CutsTo (f c) (g c) (g r) 
 cut_exits f g zero c r cut = refl
 cut_exits f g (suc level) c r cut = ap (λ l. branches level (g c) ++ l) (append-nil (branches level (g r))) ∙ cut.children level ∙ sym (append-nil (branches level (f c)))
 
--- The law, for a tree whose nodes but the parent are filled, and whose parent has enough pairs with one more.
-pub split_fills : (f : Contents) (live : ℕ → Bool) → IsTree f live → (n slot : ℕ) (p : Pair) (r : ℕ) (g : Contents) → IsSplit f live n slot p r g →
-    ((x : ℕ) → IsTrue (live x) → x ≢ n → IsFilled x (f x)) → fewest_pairs n ≤ suc (length (pairs_of (f n))) → Keeps f live g (with_node r live)
-split_fills f live tree n slot p r g split filled enough =
+-- A live node of which a child is split: what the law's two parts both use.
+pub split_changes : (f : Contents) (live : ℕ → Bool) → IsLawful f live →
+    (n slot : ℕ) (p : Pair) (r : ℕ) (g : Contents) →
+    IsSplit f live n slot p r g → IsChangeOf f live n (n ∷ p.child ∷ []) (r ∷ []) g None
+    (n ∷ p.child ∷ r ∷ [])
+split_changes f live lawful n slot p r g split =
+    let tree = lawful.tree in
     let s = f p.child in
     let h = middle s.body in
     let fence = end_of (first_part h s.body) in
@@ -86,37 +94,34 @@ split_fills f live tree n slot p r g split filled enough =
     let count : length (at_slot (divide fence r) slot (pairs_of (f n))) ≡ length place.front + suc (suc (length place.back)) =
     ap length (place.changed (divide fence r)) ∙ length-append place.front (divide fence r p place.back) in
     let room = split.room in
+    let before = pairs_filled n (f n).body (lawful.filled n split.live_parent) (omega (arith, len))
+    in
     let full' = halves_filled p.child r s at.no_root (r_other 0 (root_live f live tree)) split.full in
-    let touched_live : (x : ℕ) → IsTrue (either (family n (old ∷ [])) (λ y. eqb y r) x) → with_node r live x ≡ is_among (n ∷ p.child ∷ r ∷ []) x =
-    λ x touched. elim (cases_Bool (eqb x r)) [
-      | inl is_r ↦ cond-true (eqb x r) true (live x) is_r ∙ sym (among (n ∷ p.child ∷ r ∷ []) x (subst (λ y. 0 < times y (n ∷ p.child ∷ r ∷ [])) (sym (eqb-true x r is_r)) (third n p.child r [])))
-      | inr not_r ↦
-          let known : live x ≡ is_among (n ∷ p.child ∷ r ∷ []) x =
-          elim (or_cases (family n (old ∷ []) x) (eqb x r) touched) [
-            | inr is_r ↦ absurd (both_ways (eqb x r) not_r is_r)
-            | inl inside ↦ elim (or_cases (eqb x n) (is_among (p.child ∷ []) x) inside) [
-              | inl is_n ↦ subst (λ y. live y ≡ is_among (n ∷ p.child ∷ r ∷ []) y) (sym (eqb-true x n is_n))
-                  (split.live_parent ∙ sym (among (n ∷ p.child ∷ r ∷ []) n (times_head n (p.child ∷ r ∷ []))))
-              | inr is_c ↦
-                  let e = only (p.child) x is_c in
-                  subst (λ y. live y ≡ is_among (n ∷ p.child ∷ r ∷ []) y) (sym e)
-                  (at.alive ∙ sym (among (n ∷ p.child ∷ r ∷ []) p.child (second n p.child (r ∷ []))))
-            ]
-          ] in
-          cond-false (eqb x r) true (live x) not_r ∙ known
-    ] in
-    family_keeps f live tree n at.level (branches_from at.level (f n).low place.front) (old ∷ []) (one ∷ two ∷ []) (branches_from at.level (p.separator + 1) place.back) (λ x. eqb x r) g (with_node r live)
-    regroup
+    family_changes f live tree n at.level (branches_from at.level (f n).low place.front) (old ∷ [])
+    (one ∷ two ∷ []) (branches_from at.level (p.separator + 1) place.back) (λ x. eqb x r)
+    (r ∷ []) g
+    regroup (listed_one r)
     (ap (λ l. entries_of (g p.child) ++ l) (append-nil (entries_of (g r))) ∙ pieces.members ∙ sym (append-nil (entries_of s)))
-    (λ x alive outside. filled x alive (eqb-false x n (or_parts (eqb x n) (is_among (p.child ∷ []) x) (or_parts (family n (old ∷ []) x) (eqb x r) outside).0).0))
-    (subst (IsFilled n) (sym split.above) (omega arith, omega arith))
+    (subst (IsFilled n) (sym split.above) (omega (arith, before.0), omega arith))
     (two_of (λ b. IsFilled b.child (g b.child)) one two (subst (IsFilled p.child) (sym split.left) full'.0) (subst (IsFilled r) (sym split.right) full'.1))
-    touched_live
-    (λ x untouched. cond-false (eqb x r) true (live x) (or_parts (family n (old ∷ []) x) (eqb x r) untouched).1)
 
-pub split_keeps : (f : Contents) (live : ℕ → Bool) → IsLawful f live → (n slot : ℕ) (p : Pair) (r : ℕ) (g : Contents) → IsSplit f live n slot p r g → Keeps f live g (with_node r live)
+pub split_keeps : (f : Contents) (live : ℕ → Bool) → IsLawful f live →
+    (n slot : ℕ) (p : Pair) (r : ℕ) (g : Contents) →
+    IsSplit f live n slot p r g → Keeps f live g (with_node r live)
 split_keeps f live lawful n slot p r g split =
     let place = around_slot (pairs_of (f n)) slot p split.at in
-    let len : length (pairs_of (f n)) ≡ length place.front + suc (length place.back) = ap length place.is ∙ length-append place.front (p ∷ place.back) in
-    let before = pairs_filled n (f n).body (lawful.filled n split.live_parent) (omega arith) in
-    split_fills f live lawful.tree n slot p r g split (λ x alive other. lawful.filled x alive) (omega (arith, before.0))
+    let at = slotted f live lawful.tree n split.live_parent place.front p place.back place.is in
+    let now = n ∷ p.child ∷ r ∷ [] in
+    keeps_now f live (with_node r live) n (n ∷ p.child ∷ []) (r ∷ []) g now lawful
+    (split_changes f live lawful n slot p r g split) (
+      with_fresh live r split.free n split.live_parent
+          ∙ sym (among now n (times_head n (p.child ∷ r ∷ []))),
+      (
+        with_fresh live r split.free p.child at.alive
+            ∙ sym (among now p.child (second n p.child (r ∷ []))),
+        tt,
+      ),
+    )
+    (with_itself live r ∙ sym (among now r (third n p.child r [])), tt)
+    (λ x not_group not_fresh. with_other live r x
+    (not_one (r ∷ []) x r not_fresh (times_head r [])))

@@ -1,8 +1,11 @@
 -- How often numbers stand in lists, and what stands in a list.
-use Rattle.std.proofs.Common.{◌≡◌, ◌≢◌, ℕ, ◌+◌, ◌<◌, ◌≤◌, List, [], ◌∷◌, ◌++◌, refl, ap, sym, ◌∙◌, subst, arith, Bool, true, false, IsTrue, eqb, inl, inr, ◌⊎◌}
+use Rattle.std.proofs.Common.{◌≡◌, ◌≢◌, ℕ, ◌+◌, ◌<◌, ◌≤◌, List, [], ◌∷◌, ◌++◌, refl, ap, sym, ◌∙◌}
+use Rattle.std.proofs.Common.{subst, arith, Bool, true, false, IsTrue, eqb, inl, inr, ◌⊎◌, Some}
+use Rattle.std.proofs.Common.{ltb, ◌||◌}
 use Rattle.std.specs.List.{flat_map, AllByRecursion}
-use Rattle.std.proofs.lemmas.Bool.{eq-eqb, ne_eqb, cases_eq}
-use Rattle.tree_shape.specs.Numbers.{times, once}
+use Rattle.std.proofs.lemmas.Bool.{eq-eqb, ne_eqb, cases_eq, ltb-true, lt-ltb}
+use Rattle.std.specs.Option.{option_map_or}
+use Rattle.tree_shape.specs.Numbers.{times, once, is_among}
 
 -- x stands in the list
 abbrev pub In : {X : Type 0} → X → List X → Type 0
@@ -134,3 +137,21 @@ times_two h (z ∷ zs) x y n there also other =
 pub flat_map_same : {X A : Type 0} (h k : X → List A) (xs : List X) → ((x : X) → In x xs → h x ≡ k x) → flat_map h xs ≡ flat_map k xs
 flat_map_same h k [] each = refl
 flat_map_same h k (x ∷ xs) each = ap (λ l. l ++ flat_map h xs) (each x (inl refl)) ∙ ap (λ l. k x ++ l) (flat_map_same h k xs (λ y there. each y (inr there)))
+
+pub some_same : {X : Type 0} (x y : X) → Some x ≡ Some y → x ≡ y
+some_same x y e = ap (λ o. option_map_or (λ z. z) o x) e
+
+-- what holds of each number of a list, by the list's test
+pub all_among : (P : ℕ → Type 0) (xs : List ℕ) (x : ℕ) → AllByRecursion P xs →
+    IsTrue (is_among xs x) → P x
+all_among P xs x all there = all_times P xs x all (ltb-true 0 (times x xs) there)
+
+-- a test for one number and for some is the test of their list
+pub listed_one : (n x : ℕ) → eqb x n ≡ is_among (n ∷ []) x
+listed_one n x = elim (eqb x n) as (λ v. v ≡ ltb 0 (once v + 0)) [ true ↦ refl | false ↦ refl ]
+
+pub listed_family : (n : ℕ) (xs : List ℕ) (x : ℕ) → (eqb x n || is_among xs x) ≡ is_among (n ∷ xs) x
+listed_family n xs x = elim (eqb x n) as (λ v. (v || is_among xs x) ≡ ltb 0 (once v + times x xs)) [
+  | true ↦ sym (lt-ltb 0 (1 + times x xs) (omega arith))
+  | false ↦ ap (ltb 0) (omega arith)
+]

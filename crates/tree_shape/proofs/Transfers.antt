@@ -1,41 +1,10 @@
 -- A local change of other contents that agree on its nodes, and one with more fresh nodes.
-use Rattle.std.proofs.Common.{
-  ◌≡◌,
-  ℕ,
-  zero,
-  suc,
-  ◌-◌,
-  ◌<◌,
-  ◌≤◌,
-  ◌↔◌,
-  List,
-  [],
-  ◌∷◌,
-  refl,
-  ap,
-  sym,
-  ◌∙◌,
-  subst,
-  arith,
-  Bool,
-  false,
-  cond,
-  IsTrue,
-  inl,
-  inr,
-}
+use Rattle.std.proofs.Common.{◌≡◌, ℕ, zero, suc, ◌-◌, ◌<◌, ◌≤◌, ◌↔◌, List, [], ◌∷◌, refl, ap, sym}
+use Rattle.std.proofs.Common.{◌∙◌, subst, arith, Bool, false, cond, IsTrue, inl, inr}
 use mathlib.Core.Path.{fun_ext}
 use Rattle.std.specs.List.{AllByRecursion, Contains}
-use Rattle.std.proofs.lemmas.Bool.{
-  cases_Bool,
-  or_left,
-  or_right,
-  or_cases,
-  or_parts,
-  or_from,
-  lt-ltb,
-  both_ways,
-}
+use Rattle.std.proofs.lemmas.Bool.{cases_Bool, or_left, or_right, or_cases, or_parts, or_from}
+use Rattle.std.proofs.lemmas.Bool.{lt-ltb, both_ways}
 use Rattle.std.specs.Prelude.{Option, Some, None}
 use Rattle.reg_model.specs.declared.span.Member.{Member}
 use Rattle.reg_model.specs.declared.answer.Update.{Update}
@@ -44,43 +13,14 @@ use Rattle.tree_shape.specs.Numbers.{times, is_among}
 use Rattle.tree_shape.specs.Shapes.{entries_of}
 use Rattle.tree_shape.specs.Trees.{Contents, Branch, branches, within, leaving, HasEntry}
 use Rattle.tree_shape.specs.Lawful.{IsTree, IsOrdered, IsFilled, Fits}
-use Rattle.tree_shape.specs.LocalChange.{
-  IsLocalChange,
-  IsLawfulChange,
-  IsSameChange,
-  EntriesBecome,
-  either,
-  reached_nodes,
-}
-use Rattle.tree_shape.proofs.Times.{
-  In,
-  all_from,
-  all_times,
-  in_times,
-  times_flat_map_from,
-  flat_map_same,
-}
-use Rattle.tree_shape.proofs.Reach.{
-  onward,
-  outward,
-  onward_from,
-  same_cond,
-  within_set,
-  within_top,
-  same_within,
-}
-use Rattle.tree_shape.proofs.Living.{
-  own_branches,
-  own_at,
-  Sound,
-  sound_below,
-  child_level,
-  goes_on,
-  leaves_from,
-  child_live,
-  live_within,
-  sound_at,
-}
+use Rattle.tree_shape.specs.LocalChange.{IsLocalChange, IsLawfulChange, IsSameChange, EntriesBecome}
+use Rattle.tree_shape.specs.LocalChange.{either, reached_nodes}
+use Rattle.tree_shape.proofs.Times.{In, all_from, all_times, in_times, times_flat_map_from}
+use Rattle.tree_shape.proofs.Times.{flat_map_same}
+use Rattle.tree_shape.proofs.Reach.{onward, outward, onward_from, same_cond, within_set, within_top}
+use Rattle.tree_shape.proofs.Reach.{same_within}
+use Rattle.tree_shape.proofs.Living.{own_branches, own_at, Sound, sound_below, child_level, goes_on}
+use Rattle.tree_shape.proofs.Living.{leaves_from, child_live, live_within, sound_at}
 use Rattle.tree_shape.proofs.Local.{sound_change}
 
 -- entries of contents that agree on a set
@@ -91,7 +31,7 @@ entries_agree set f g m agree (n, (inside, held)) =
     (n, (inside, subst (λ s. Contains (entries_of s) m) (sym (agree n inside)) held))
 
 -- what becomes of entries, where others are the same before and after
-become_same : (update : Option Update) (before after before' after' : Member → Type 0) →
+pub become_same : (update : Option Update) (before after before' after' : Member → Type 0) →
     ((m : Member) → before' m ↔ before m) → ((m : Member) → after' m ↔ after m) →
     EntriesBecome update before after → EntriesBecome update before' after'
 become_same None before after before' after' b a becomes =

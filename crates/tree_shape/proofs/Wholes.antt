@@ -1,5 +1,7 @@
 -- Laws of whole trees: entries in order, lookups, and fillings.
-use Rattle.std.proofs.Common.{◌≡◌, ◌≢◌, ℕ, zero, suc, ◌+◌, ◌-◌, ◌*◌, ◌^◌, ◌<◌, ◌≤◌, ◌↔◌, List, [], ◌∷◌, ◌++◌, length, map, refl, ap, sym, ◌∙◌, subst, arith, Bool, IsTrue, inl, inr, Some}
+use Rattle.std.proofs.Common.{◌≡◌, ◌≢◌, ℕ, zero, suc, ◌+◌, ◌-◌, ◌*◌, ◌^◌, ◌<◌, ◌≤◌, ◌↔◌, List, []}
+use Rattle.std.proofs.Common.{◌∷◌, ◌++◌, length, map, refl, ap, sym, ◌∙◌, subst, arith, Bool}
+use Rattle.std.proofs.Common.{IsTrue, inl, inr, Some}
 use Rattle.std.specs.List.{flat_map, Contains}
 use Rattle.std.proofs.lemmas.Bool.{cases_Bool, cond-true, cond-false}
 use Rattle.std.proofs.lemmas.List.{append-nil, length-append}
@@ -11,42 +13,22 @@ use Rattle.reg_model.specs.Query.{member_at}
 use Rattle.reg_model.proofs.Spans.{contains_bounds, contains_from}
 use Rattle.tree_shape.specs.declared.pair.Pair.{Pair}
 use Rattle.tree_shape.specs.Numbers.{times}
-use Rattle.tree_shape.specs.Shapes.{
-  Shape,
-  Body,
-  Pairs,
-  Entries,
-  Link,
-  entries_of,
-  entries_in,
-  pairs_of,
-  pairs_in,
-  EntriesWithin,
-  Cut,
-  IsLeaf,
-  IsInFences,
-  LiesInFences,
-}
-use Rattle.tree_shape.specs.Trees.{Contents, Branch, branches_from, branches, nodes_under, nodes, entries, leaf_for, HasEntry}
-use Rattle.tree_shape.specs.Lawful.{IsTree, IsLawful, IsOrderedAs, IsFilledAs, fewest_pairs, fewest_entries}
-use Rattle.tree_shape.proofs.Times.{In, in_times, times_in, in_flat_map, in_flat_map_from}
+use Rattle.tree_shape.specs.Shapes.{Shape, Body, Pairs, Entries, Link, entries_of, entries_in}
+use Rattle.tree_shape.specs.Shapes.{pairs_of, pairs_in, EntriesWithin, Cut, IsLeaf, IsInFences}
+use Rattle.tree_shape.specs.Shapes.{LiesInFences}
+use Rattle.tree_shape.specs.Trees.{Contents, Branch, branches_from, branches, nodes_under, nodes}
+use Rattle.tree_shape.specs.Trees.{entries, leaf_for, HasEntry}
+use Rattle.tree_shape.specs.Lawful.{IsTree, IsLawful, IsOrderedAs, IsFilledAs, fewest_pairs}
+use Rattle.tree_shape.specs.Lawful.{fewest_entries}
+use Rattle.tree_shape.proofs.Times.{In, some_same, in_times, times_in, in_flat_map}
+use Rattle.tree_shape.proofs.Times.{in_flat_map_from}
 use Rattle.tree_shape.proofs.Reach.{branch_level}
-use Rattle.tree_shape.proofs.Living.{own_branches, own_at, live_node, node_live, root_live, root_no_child, child_live, child_fits, own_child}
-use Rattle.tree_shape.proofs.Leads.{
-  contains_in,
-  in_contains,
-  entry_inside,
-  entry_ordered,
-  last_below,
-  leaf_says,
-  leaf_at_zero,
-  inner_above,
-  leads_inside,
-  leads,
-  leads_to,
-}
+use Rattle.tree_shape.proofs.Living.{own_branches, own_at, live_node, node_live, root_live}
+use Rattle.tree_shape.proofs.Living.{root_no_child, child_live, child_fits, own_child}
+use Rattle.tree_shape.proofs.Leads.{contains_in, in_contains, entry_inside, entry_ordered}
+use Rattle.tree_shape.proofs.Leads.{last_below, leaf_says, leaf_at_zero, inner_above, leads_inside}
+use Rattle.tree_shape.proofs.Leads.{leads, leads_to}
 use Rattle.tree_shape.proofs.Runs.{entries_join}
-use Rattle.tree_shape.proofs.Slotted.{some_same}
 use Rattle.tree_shape.proofs.Halves.{fewest_below, fewest_pairs_some}
 
 abbrev held_by : Contents → ℕ → List Member

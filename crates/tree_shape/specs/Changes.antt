@@ -4,6 +4,10 @@ use Rattle.reg_model.specs.declared.span.Member.{Member}
 use Rattle.tree_shape.specs.declared.pair.Pair.{Pair}
 use Rattle.tree_shape.specs.Shapes.{Shape, Body, Pairs, Entries, Link}
 
+-- a child with its separator
+abbrev pub pair : ℕ → ℕ → Pair
+pair child separator = record { child = child; separator = separator }
+
 -- the last address of the last entry, where `start` stands for an empty list
 abbrev pub entries_end : ℕ → List Member → ℕ
 entries_end start [] = start

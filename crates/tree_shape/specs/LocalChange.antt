@@ -1,23 +1,6 @@
 -- When a change of the contents of some nodes, seen from these nodes alone, keeps the tree lawful.
-use Rattle.std.specs.Prelude.{
-  ◌≡◌,
-  ◌≢◌,
-  ℕ,
-  ◌-◌,
-  ◌<◌,
-  ◌≤◌,
-  ◌↔◌,
-  ◌⊎◌,
-  Bool,
-  false,
-  ◌||◌,
-  IsTrue,
-  List,
-  Option,
-  Some,
-  None,
-  if◌then◌else◌,
-}
+use Rattle.std.specs.Prelude.{◌≡◌, ◌≢◌, ℕ, ◌-◌, ◌<◌, ◌≤◌, ◌↔◌, ◌⊎◌, Bool, false, ◌||◌, IsTrue, List}
+use Rattle.std.specs.Prelude.{Option, Some, None, if◌then◌else◌}
 use Rattle.std.specs.List.{AllByRecursion}
 use Rattle.reg_model.specs.declared.span.Member.{Member}
 use Rattle.reg_model.specs.declared.answer.Update.{Update}
@@ -94,6 +77,13 @@ pub record IsLawfulChange (f : Contents) (live : ℕ → Bool) (top : ℕ) (grou
   pub filled : AllByRecursion (λ n. IsFilled n (g n)) (reached_nodes top group fresh g)
   pub entries : EntriesBecome update
       (HasEntry f group) (HasEntry g (is_among (reached_nodes top group fresh g)))
+
+-- The same with the nodes listed: those of the group, the fresh ones, and those that the top then
+-- reaches.
+pub record IsChangeOf (f : Contents) (live : ℕ → Bool) (top : ℕ) (group fresh : List ℕ)
+    (g : Contents) (update : Option Update) (reached : List ℕ) : Type 0 where
+  pub lawful : IsLawfulChange f live top (is_among group) (is_among fresh) g update
+  pub reaches : reached_nodes top (is_among group) (is_among fresh) g ≡ reached
 
 -- contents that agree on the nodes of a set
 abbrev pub AgreeOn : (ℕ → Bool) → Contents → Contents → Type 0

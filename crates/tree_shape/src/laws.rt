@@ -1,28 +1,32 @@
 //! Laws of lawful trees. Each is the contract of a function that does nothing.
 
 ghost use Rattle.std.specs.Prelude.{◌≡◌, ℕ, ◌*◌, ◌-◌, ◌^◌, ◌<◌, ◌≤◌, ◌↔◌, Bool, false, IsTrue};
-ghost use Rattle.std.specs.Prelude.{Option, Some, Contains, length};
+ghost use Rattle.std.specs.Prelude.{Option, None, Some, [], ◌∷◌, Contains, length};
 ghost use Rattle.std.specs.List.{AllByRecursion};
 ghost use Rattle.reg_model.specs.declared.span.Member.{Member};
 ghost use Rattle.reg_model.specs.declared.answer.Update.{Update};
+ghost use Rattle.reg_model.specs.declared.answer.Update.TheVariants.{Register, Deregister};
 ghost use Rattle.tree_shape.specs.declared.pair.Pair.{Pair};
 ghost use Rattle.reg_model.specs.Interval.{contains};
 ghost use Rattle.reg_model.specs.Query.{member_at};
 ghost use Rattle.tree_shape.specs.Shapes.{IsLeaf, EntriesWithin, entries_of};
 ghost use Rattle.tree_shape.specs.Shapes.{IsInFences, LiesInFences};
 ghost use Rattle.tree_shape.specs.Trees.{Contents, nodes, entries, leaf_for, HasEntry};
-ghost use Rattle.tree_shape.specs.Lawful.{IsTree, IsLawful, IsFilled};
-ghost use Rattle.tree_shape.specs.Steps.{Keeps, IsSplit, IsJoin, IsShare, IsFenceMove, IsLift, Lifts, IsSink, IsPut, Adds, IsTake, Takes, with_node, without_node};
+ghost use Rattle.tree_shape.specs.Lawful.{IsTree, IsLawful, IsFilled, fewest_entries};
 ghost use Rattle.tree_shape.specs.LocalChange.{IsLocalChange, reached_nodes, live_after};
 ghost use Rattle.tree_shape.specs.LocalChange.{IsLawfulChange, ChangesEntries, EntriesBecome};
-ghost use Rattle.tree_shape.specs.LocalChange.{IsSameChange};
+ghost use Rattle.tree_shape.specs.LocalChange.{IsChangeOf, IsSameChange};
+ghost use Rattle.tree_shape.specs.Steps.{Keeps, IsSplit, IsJoin, IsShare, with_node, without_node};
+ghost use Rattle.tree_shape.specs.Steps.{IsFenceMove, fence_nodes, IsLift, Lifts, IsRootSplit};
+ghost use Rattle.tree_shape.specs.Steps.{IsSink, IsPut, Adds, IsTake, Takes};
 
 /// A lookup down the separators comes to a leaf, and finds there exactly what the tree holds.
 pub fn lookup()
     ensures leaf { (f : Contents) (live : ℕ → Bool) (pc : ℕ) → IsTree f live → pc ≤ 2 ^ 64 - 1
         → IsTrue (live (leaf_for f pc)) × IsLeaf (f (leaf_for f pc)) }
-    ensures found { (f : Contents) (live : ℕ → Bool) (pc : ℕ) (m : Member) → IsTree f live → pc ≤ 2 ^ 64 - 1
-        → (member_at pc (entries_of (f (leaf_for f pc))) ≡ Some m) ↔ (HasEntry f live m × IsTrue (contains m.span pc)) }
+    ensures found { (f : Contents) (live : ℕ → Bool) (pc : ℕ) (m : Member) → IsTree f live
+        → pc ≤ 2 ^ 64 - 1 → (member_at pc (entries_of (f (leaf_for f pc))) ≡ Some m)
+        ↔ (HasEntry f live m × IsTrue (contains m.span pc)) }
 {}
 
 /// A live leaf holds exactly the tree's entries inside its fences, and an address leads to the leaf
@@ -44,15 +48,19 @@ pub fn leaf_fences()
 
 /// A tree's entries from left to right are those of its live nodes, and ascend.
 pub fn order()
-    ensures entries { (f : Contents) (live : ℕ → Bool) (m : Member) → IsTree f live → Contains (entries f) m ↔ HasEntry f live m }
-    ensures ascending { (f : Contents) (live : ℕ → Bool) → IsTree f live → EntriesWithin 0 (2 ^ 64 - 1) (entries f) }
+    ensures entries { (f : Contents) (live : ℕ → Bool) (m : Member) → IsTree f live
+        → Contains (entries f) m ↔ HasEntry f live m }
+    ensures ascending { (f : Contents) (live : ℕ → Bool) → IsTree f live
+        → EntriesWithin 0 (2 ^ 64 - 1) (entries f) }
 {}
 
-/// A lawful tree of two nodes or more has at least twice as many entries as nodes, and one whose root has level 12 has more
-/// than 16,384 nodes.
+/// A lawful tree of two nodes or more has at least twice as many entries as nodes, and one whose
+/// root has level 12 has more than 16,384 nodes.
 pub fn fillings()
-    ensures entries { (f : Contents) (live : ℕ → Bool) → IsLawful f live → 2 ≤ length (nodes f) → 2 * length (nodes f) ≤ length (entries f) }
-    ensures height { (f : Contents) (live : ℕ → Bool) → IsLawful f live → (f 0).level ≡ 12 → 16384 < length (nodes f) }
+    ensures entries { (f : Contents) (live : ℕ → Bool) → IsLawful f live → 2 ≤ length (nodes f)
+        → 2 * length (nodes f) ≤ length (entries f) }
+    ensures height { (f : Contents) (live : ℕ → Bool) → IsLawful f live → (f 0).level ≡ 12
+        → 16384 < length (nodes f) }
 {}
 
 /// A change of some nodes that keeps what these nodes say of themselves and of their neighbours
@@ -74,8 +82,7 @@ pub fn local_change()
         → AllByRecursion (λ n. IsFilled n (g n)) (reached_nodes top group fresh g)
         → IsLawful g (live_after live top group fresh g) }
     ensures update { (f : Contents) (live : ℕ → Bool) (top : ℕ)
-        (group fresh : ℕ → Bool) (g : Contents)
-        (update : Option Update) → IsLawful f live
+        (group fresh : ℕ → Bool) (g : Contents) (update : Option Update) → IsLawful f live
         → IsLawfulChange f live top group fresh g update
         → EntriesBecome update (HasEntry f live) (HasEntry g (live_after live top group fresh g)) }
 {}
@@ -121,51 +128,98 @@ pub fn widen()
 
 /// A child that is split, with its parent's new pair.
 pub fn split()
-    ensures { (f : Contents) (live : ℕ → Bool) (parent slot : ℕ) (p : Pair) (fresh : ℕ) (g : Contents)
-        → IsLawful f live → IsSplit f live parent slot p fresh g → Keeps f live g (with_node fresh live) }
+    ensures kept { (f : Contents) (live : ℕ → Bool) (parent slot : ℕ) (p : Pair)
+        (fresh : ℕ) (g : Contents)
+        → IsLawful f live → IsSplit f live parent slot p fresh g
+        → Keeps f live g (with_node fresh live) }
+    ensures change { (f : Contents) (live : ℕ → Bool) (parent slot : ℕ) (p : Pair)
+        (fresh : ℕ) (g : Contents)
+        → IsLawful f live → IsSplit f live parent slot p fresh g
+        → IsChangeOf f live parent (parent ∷ p.child ∷ []) (fresh ∷ []) g None
+        (parent ∷ p.child ∷ fresh ∷ []) }
 {}
 
 /// Two children that are joined, with their parent's pair less.
 pub fn join()
-    ensures { (f : Contents) (live : ℕ → Bool) (parent slot : ℕ) (p q : Pair) (g : Contents)
-        → IsLawful f live → IsJoin f live parent slot p q g → Keeps f live g (without_node q.child live) }
+    ensures kept { (f : Contents) (live : ℕ → Bool) (parent slot : ℕ) (p q : Pair) (g : Contents)
+        → IsLawful f live → IsJoin f live parent slot p q g
+        → Keeps f live g (without_node q.child live) }
+    ensures change { (f : Contents) (live : ℕ → Bool) (parent slot : ℕ) (p q : Pair) (g : Contents)
+        → IsLawful f live → IsJoin f live parent slot p q g
+        → IsChangeOf f live parent (parent ∷ p.child ∷ q.child ∷ []) [] g None
+        (parent ∷ p.child ∷ []) }
 {}
 
 /// Two children that are given even shares, with their parent's new separator.
 pub fn share()
-    ensures { (f : Contents) (live : ℕ → Bool) (parent slot : ℕ) (p q : Pair) (g : Contents)
+    ensures kept { (f : Contents) (live : ℕ → Bool) (parent slot : ℕ) (p q : Pair) (g : Contents)
         → IsLawful f live → IsShare f live parent slot p q g → Keeps f live g live }
+    ensures change { (f : Contents) (live : ℕ → Bool) (parent slot : ℕ) (p q : Pair) (g : Contents)
+        → IsLawful f live → IsShare f live parent slot p q g
+        → IsChangeOf f live parent (parent ∷ p.child ∷ q.child ∷ []) [] g None
+        (parent ∷ p.child ∷ q.child ∷ []) }
 {}
 
 /// A fence that is moved, on both spines and in the node above them.
 pub fn move_fence()
-    ensures { (f : Contents) (live : ℕ → Bool) (parent slot : ℕ) (p q : Pair) (fence : ℕ) (g : Contents)
+    ensures kept { (f : Contents) (live : ℕ → Bool) (parent slot : ℕ) (p q : Pair)
+        (fence : ℕ) (g : Contents)
         → IsLawful f live → IsFenceMove f live parent slot p q fence g → Keeps f live g live }
+    ensures change { (f : Contents) (live : ℕ → Bool) (parent slot : ℕ) (p q : Pair)
+        (fence : ℕ) (g : Contents)
+        → IsLawful f live → IsFenceMove f live parent slot p q fence g
+        → IsChangeOf f live parent (fence_nodes f parent p q) [] g None (fence_nodes f parent p q) }
 {}
 
-/// The root that is lifted leaves a tree that is lawful but for its one pair; the split that follows makes it lawful.
+/// The root that is lifted leaves a tree that is lawful but for its one pair; the split that
+/// follows makes it lawful.
 pub fn lift()
     ensures lifted { (f : Contents) (live : ℕ → Bool) (fresh : ℕ) (g : Contents)
         → IsLawful f live → IsLift f live fresh g → Lifts f live g (with_node fresh live) }
-    ensures split { (f : Contents) (live : ℕ → Bool) (moved : ℕ) (h : Contents) (p : Pair) (fresh : ℕ) (g : Contents)
+    ensures split { (f : Contents) (live : ℕ → Bool) (moved : ℕ) (h : Contents) (p : Pair)
+        (fresh : ℕ) (g : Contents)
         → IsLawful f live → IsLift f live moved h → IsSplit h (with_node moved live) 0 0 p fresh g
         → Keeps f live g (with_node fresh (with_node moved live)) }
 {}
 
+/// The root that is lifted and split in one step.
+pub fn split_root()
+    ensures kept { (f : Contents) (live : ℕ → Bool) (left right : ℕ) (g : Contents)
+        → IsLawful f live → IsRootSplit f live left right g
+        → Keeps f live g (with_node right (with_node left live)) }
+    ensures change { (f : Contents) (live : ℕ → Bool) (left right : ℕ) (g : Contents)
+        → IsLawful f live → IsRootSplit f live left right g
+        → IsChangeOf f live 0 (0 ∷ []) (left ∷ right ∷ []) g None (0 ∷ left ∷ right ∷ []) }
+{}
+
 /// The root that takes the place of its only two children.
 pub fn sink()
-    ensures { (f : Contents) (live : ℕ → Bool) (p q : Pair) (g : Contents)
-        → IsLawful f live → IsSink f live p q g → Keeps f live g (without_node p.child (without_node q.child live)) }
+    ensures kept { (f : Contents) (live : ℕ → Bool) (p q : Pair) (g : Contents)
+        → IsLawful f live → IsSink f live p q g
+        → Keeps f live g (without_node p.child (without_node q.child live)) }
+    ensures change { (f : Contents) (live : ℕ → Bool) (p q : Pair) (g : Contents)
+        → IsLawful f live → IsSink f live p q g
+        → IsChangeOf f live 0 (0 ∷ p.child ∷ q.child ∷ []) [] g None (0 ∷ []) }
 {}
 
 /// A leaf that gets one more entry adds exactly this member.
 pub fn put()
-    ensures { (f : Contents) (live : ℕ → Bool) (leaf : ℕ) (member : Member) (g : Contents)
+    ensures added { (f : Contents) (live : ℕ → Bool) (leaf : ℕ) (member : Member) (g : Contents)
         → IsLawful f live → IsPut f live leaf member g → Adds f live member g }
+    ensures change { (f : Contents) (live : ℕ → Bool) (leaf : ℕ) (member : Member) (g : Contents)
+        → IsLawful f live → IsPut f live leaf member g
+        → IsChangeOf f live leaf (leaf ∷ []) [] g (Some (Register member)) (leaf ∷ []) }
 {}
 
-/// A leaf that loses an entry takes exactly the member that begins at the address.
+/// A leaf that loses an entry takes exactly the member that begins at the address. The tree stays
+/// lawful where the leaf is the root or had an entry to spare.
 pub fn take()
-    ensures { (f : Contents) (live : ℕ → Bool) (leaf base : ℕ) (member : Member) (g : Contents)
+    ensures taken { (f : Contents) (live : ℕ → Bool) (leaf base : ℕ) (member : Member)
+        (g : Contents)
         → IsLawful f live → IsTake f live leaf base member g → Takes f live leaf member g }
+    ensures change { (f : Contents) (live : ℕ → Bool) (leaf base : ℕ) (member : Member)
+        (g : Contents)
+        → IsLawful f live → IsTake f live leaf base member g
+        → fewest_entries leaf < length (entries_of (f leaf))
+        → IsChangeOf f live leaf (leaf ∷ []) [] g (Some (Deregister base)) (leaf ∷ []) }
 {}

@@ -1,4 +1,5 @@
-use Rattle.tree_shape.proofs.Roots.{lifts, lift_split_keeps}
+use Rattle.tree_shape.proofs.Roots.{lifts}
+use Rattle.tree_shape.proofs.RootSplits.{lift_split_keeps}
 use Rattle.tree_shape.proofs.laws.lift.Goals as goal
 
 pub returns-clause-lifted : goal.returns-clause-lifted
