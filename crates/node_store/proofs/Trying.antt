@@ -5,6 +5,7 @@ use Rattle.word_rule.specs.CallerData.{CallerData}
 use Rattle.word_rule.specs.Places.{LOADER}
 use Rattle.word_rule.specs.Logs.{load_of, after_load, after_loader_lock, after_write}
 use Rattle.word_rule.specs.declared.log.LoadEvent.{LoadEvent}
+use Rattle.word_rule.specs.declared.log.LoaderHolding.{LoaderHolding}
 use Rattle.word_rule.specs.declared.log.Log.{Log}
 use Rattle.node_store.specs.Locking.{IsOfLoader, tried, Tries, Locks}
 
@@ -37,17 +38,17 @@ tries_table a b p = ap (λ k. k.table) p.2.1
 pub tries_free : (a b : CallerData) → Tries a b → b.log.loader ≡ a.log.loader
 tries_free a b p = ap (λ k. k.log.loader) p.2.1
 
-pub takes : (a b c : CallerData) (version : ℕ) (copy : List ℕ) → Tries a b → c ≡ record b { log = after_loader_lock version copy b.log } → Locks a c
-takes a b c version copy p e =
-    let step : CallerData → CallerData = λ k. record k { log = after_loader_lock version copy k.log } in
-    (p.0, p.1, version, copy, (p.2.0, e ∙ ap step p.2.1))
+pub takes : (a b c : CallerData) (h : LoaderHolding) → Tries a b → c ≡ record b { log = after_loader_lock h b.log } → Locks a c
+takes a b c h p e =
+    let step : CallerData → CallerData = λ k. record k { log = after_loader_lock h k.log } in
+    (p.0, p.1, h, (p.2.0, e ∙ ap step p.2.1))
 
 pub takes_then : (a b c : CallerData) → Locks a b → Tries b c → Locks a c
 takes_then a b c p q =
-    let both : tried_by (record a { log = after_loader_lock p.2 p.3 (tried p.0 p.1 a.log) }) q.0 q.1 ≡ record a { log = after_loader_lock p.2 p.3 (tried (p.0 ++ q.0) (p.1 + q.1) a.log) } =
+    let both : tried_by (record a { log = after_loader_lock p.2 (tried p.0 p.1 a.log) }) q.0 q.1 ≡ record a { log = after_loader_lock p.2 (tried (p.0 ++ q.0) (p.1 + q.1) a.log) } =
     (let w : a.log.trace.writes + p.1 + 1 + q.1 ≡ a.log.trace.writes + (p.1 + q.1) + 1 = omega arith in
-    (λ i. record a { log = record (counted (append_assoc a.log.trace.loads p.0 q.0 i) (w i) a.log) { loader = Some record { version = p.2; words = p.3; stored = false } } })) in
-    (p.0 ++ q.0, p.1 + q.1, p.2, p.3, (all_append p.0 q.0 p.4.0 q.2.0, q.2.1 ∙ (ap (λ k. tried_by k q.0 q.1) p.4.1 ∙ both)))
+    (λ i. record a { log = record (counted (append_assoc a.log.trace.loads p.0 q.0 i) (w i) a.log) { loader = Some p.2 } })) in
+    (p.0 ++ q.0, p.1 + q.1, p.2, (all_append p.0 q.0 p.3.0 q.2.0, q.2.1 ∙ (ap (λ k. tried_by k q.0 q.1) p.3.1 ∙ both)))
 
 tries_mark : (a b : CallerData) → b ≡ record a { log = after_write a.log } → Tries a b
 tries_mark a b e = ([], 1, (tt, e ∙ (λ i. record a { log = counted (sym (append-nil a.log.trace.loads) i) (a.log.trace.writes + 1) a.log })))

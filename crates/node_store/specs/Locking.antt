@@ -4,6 +4,7 @@ use Rattle.std.specs.List.{AllByRecursion}
 use Rattle.word_rule.specs.CallerData.{CallerData}
 use Rattle.word_rule.specs.Places.{LOADER}
 use Rattle.word_rule.specs.Logs.{after_loader_lock}
+use Rattle.word_rule.specs.declared.log.LoaderHolding.{LoaderHolding}
 use Rattle.word_rule.specs.declared.log.Log.{Log}
 use Rattle.word_rule.specs.declared.log.LoadEvent.{LoadEvent}
 
@@ -20,12 +21,11 @@ abbrev pub Tries : CallerData → CallerData → Type 0
 Tries k k' = (more : List LoadEvent) × (marks : ℕ) ×
     (AllByRecursion IsOfLoader more × (k' ≡ record k { log = tried more marks k.log }))
 
--- The loader's lock was taken, at some version and while the copy that is not active had some words; all else was such
--- loads and marks.
+-- The loader's lock was taken; all else was such loads and marks.
 abbrev pub Locks : CallerData → CallerData → Type 0
-Locks k k' = (more : List LoadEvent) × (marks : ℕ) × (version : ℕ) × (copy : List ℕ) ×
+Locks k k' = (more : List LoadEvent) × (marks : ℕ) × (h : LoaderHolding) ×
     (AllByRecursion IsOfLoader more
-    × (k' ≡ record k { log = after_loader_lock version copy (tried more marks k.log) }))
+    × (k' ≡ record k { log = after_loader_lock h (tried more marks k.log) }))
 
 -- A caller took turns at a lock: it holds what it held before, and its names and its calls are as they were.
 pub record Turns (k k' : CallerData) : Type 0 where

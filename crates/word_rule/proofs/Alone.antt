@@ -21,7 +21,9 @@ use Rattle.word_rule.specs.TableInvariant.{TableInvariant}
 use Rattle.word_rule.specs.Plays.{confirms}
 use Rattle.word_rule.proofs.Facts.{part_of_total, all_of_total}
 use Rattle.word_rule.proofs.Names.{same_or}
-use Rattle.word_rule.proofs.Joins.{one_place, given_by_one}
+use Rattle.word_rule.specs.Memory.{Memory, memory_of}
+use Rattle.word_rule.proofs.Lineages.{others_spent}
+use Rattle.word_rule.proofs.Memories.{set_same}
 
 -- numbers are not above what was seen
 dones_within : (t : Terms) (past : List Update) (callers since n : ℕ) (rs : List Receipt) → length past < n → AllHold (start t) past t.nodes callers since rs → count_by (is_done n) rs ≡ 0
@@ -42,52 +44,15 @@ dones_all_within t past callers n (rs ∷ lists) above h =
 last_number : (n : ℕ) → 0 < n → number_of n n ≡ 1
 last_number n h = rw (le-leb 1 n h, le-leb n n (omega arith)) refl
 
-set_first : (words : List ℕ) → set words 0 (get_or words 0 0) ≡ words
-set_first [] = refl
-set_first (x ∷ words) = refl
-
-module _ (t : Terms) (words : List ℕ) (views : List Log) (history : List Update) (r : CallersHold t words views history) (id : ℕ) (v : Log) (at : get_elem? views id ≡ some v) (alone : IsAlone v.lineage) where
-  lineage_each : (j : ℕ) (u : Log) → get_elem? views j ≡ some u → LineageHolds u.lineage
-  lineage_each j u e = (r.each j u e).lineage
-
-  -- every name that came back to any came back to it, where it has the shorter ones
-  has_next : (x : List ℕ) → ((p : List ℕ) → length p < length x → 0 < total (λ u. name_count p u.lineage.gathered) views → 0 < name_count p v.lineage.gathered) → 0 < total (λ u. name_count x u.lineage.gathered) views → 0 < name_count x v.lineage.gathered
-  has_next x shorter more = ⊎_elim
-      (λ (e : [] ≡ x). subst (λ y. 0 < name_count y v.lineage.gathered) e
-      (let b = (lineage_each id v at).balanced [] in let f = alone.first in let m : name_count [] v.lineage.missing ≡ 0 = ap (name_count []) alone.all in omega (arith, b, f, m)))
-      (λ (e : is_same [] x ≡ false).
-      let m = r.lineages.gathered x in let o : once (is_same [] x) ≡ 0 = rw e refl in
-      let g = given_by_one views lineage_each r.lineages x (omega (arith, m, o, more)) in
-      let l = length-append g.0 (g.1 ∷ []) in let z : length x ≡ length (g.0 ++ g.1 ∷ []) = ap length g.4.1 in
-      let above = part_of_total (λ u. name_count g.0 u.lineage.gathered) views g.2 g.3 g.4.0 in
-      let mine : 0 < name_count g.0 v.lineage.gathered = shorter g.0 (omega (arith, l, z)) (omega (arith, above, g.4.2)) in
-      let here : g.2 ≡ id = one_place views lineage_each r.lineages g.0 id g.2 v g.3 at g.4.0 mine g.4.2 in
-      let same : g.3 ≡ v = some-injective g.3 v (sym g.4.0 ∙ (ap (get_elem? views) here ∙ at)) in
-      let gave : 0 < name_count x v.lineage.given = subst (λ u. 0 < name_count x u.lineage.given) same g.4.3 in
-      let b = (lineage_each id v at).balanced x in let n : name_count x v.lineage.missing ≡ 0 = ap (name_count x) alone.all in omega (arith, b, gave, n)) (same_or [] x)
-
-  -- and so all of them, by induction on the length
-  has_all : (size : ℕ) (x : List ℕ) → length x < size → 0 < total (λ u. name_count x u.lineage.gathered) views → 0 < name_count x v.lineage.gathered
-  has_all zero x small more = absurd (omega (arith, small))
-  has_all (suc size) x small more = has_next x (λ p less. has_all size p (omega (arith, small, less))) more
-
-  -- every other log was joined away
-  pub others_spent : (j : ℕ) (u : Log) → j ≢ id → get_elem? views j ≡ some u → is_spent u.role ≡ true
-  others_spent j u far there = go (is_spent u.role) refl
-    where
-      go : (b : Bool) → is_spent u.role ≡ b → is_spent u.role ≡ true
-      go true e = e
-      go false e =
-          let own = r.lineages.named j u there e in
-          let above = part_of_total (λ w. name_count u.lineage.name w.lineage.gathered) views j u there in
-          let mine = has_all (suc (length u.lineage.name)) u.lineage.name (omega arith) (omega (arith, own, above)) in
-          absurd (far (one_place views lineage_each r.lineages u.lineage.name id j v u at there mine own))
+module _ (t : Terms) (m : Memory) (views : List Log) (history : List Update) (r : CallersHold t m views history) (id : ℕ) (v : Log) (at : get_elem? views id ≡ some v) (alone : IsAlone v.lineage) where
+  spent_others : (j : ℕ) (u : Log) → j ≢ id → get_elem? views j ≡ some u → is_spent u.role ≡ true
+  spent_others = others_spent views (λ j u e. (r.each j u e).lineage) r.lineages id v at alone
 
   dones_all : (n : ℕ) → total (dones_in n) views ≡ dones_in n v
-  dones_all n = all_of_total (dones_in n) views id v at (λ j u far there. let s = r.lineages.spent j u there (others_spent j u far there) in (λ i. dones n record { own = s.0 i; joined = s.1 i }))
+  dones_all n = all_of_total (dones_in n) views id v at (λ j u far there. let s = r.lineages.spent j u there (spent_others j u far there) in (λ i. dones n record { own = s.0 i; joined = s.1 i }))
 
   made_all : total (λ u. u.made) views ≡ v.made
-  made_all = all_of_total (λ u. u.made) views id v at (λ j u far there. (r.lineages.spent j u there (others_spent j u far there)).2)
+  made_all = all_of_total (λ u. u.made) views id v at (λ j u far there. (r.lineages.spent j u there (spent_others j u far there)).2)
 
   own_log : LogHolds t history (v.made + 1) v
   own_log = subst (λ m. LogHolds t history (m + 1) v) made_all (r.each id v at)
@@ -117,12 +82,12 @@ module _ (t : Terms) (words : List ℕ) (views : List Log) (history : List Updat
 pub settles_loads : (t : Terms) (slots id : ℕ) (me : Me (Unit {0}) Log) → Allows (λ (s : State (Unit {0}) Log). TableInvariant t s.words s.views) slots id me 0 (λ n. n) (confirms (step slots 0 0 0 none) me)
 settles_loads t slots id me s r deep at small =
     let same_views : set s.views id me.0 ≡ s.views = set_again s.views id me.0 at in
-    let same_words : set s.words 0 (get_or s.words 0 0) ≡ s.words = set_first s.words in (
+    let same_words : set s.words 0 (get_or s.words 0 0) ≡ s.words = set_same s.words 0 in (
       me.0,
       keeps,
       tt,
       rw (same_words, same_views) r,
-      (refl, (let a = part_of_total (λ u. u.budget.allowance) s.views id me.0 at in let o = r.callers.room in omega (arith, a, o)), λ stands alone. whole t s.words s.views r.history r.callers id me.0 at alone stands),
+      (refl, (let a = part_of_total (λ u. u.budget.allowance) s.views id me.0 at in let o = r.memory.callers.room in omega (arith, a, o)), λ stands alone. whole t (memory_of t s.words) s.views r.memory.history r.memory.callers id me.0 at alone stands),
     )
 
 first_word : (words : List ℕ) (n : ℕ) → get_elem? words 0 ≡ some n → get_or words 0 0 ≡ n
@@ -133,6 +98,6 @@ first_word (x ∷ words) n e = some-injective x n e
 pub closes : (t : Terms) (words : List ℕ) (slots : List (Unit {0})) (id : ℕ) (v : Log) (n : ℕ) → is_spent v.role ≡ false → IsAlone v.lineage → Final (Seen (λ (s : State (Unit {0}) Log). TableInvariant t s.words s.views) id v) words slots → get_elem? words 0 ≡ some n
     → (n % 4294967296 ≡ length v.past) × IsWhole v
 closes t words slots id v n stands alone final found =
-    let s = final.0 in let r = final.1.0.callers in let history = final.1.0.history in
+    let s = final.0 in let r = final.1.0.memory.callers in let history = final.1.0.memory.history in
     let clock : get_or s.words 0 0 ≡ n = ap (λ w. get_or w 0 0) final.2 ∙ first_word words n found in
-    (ap (λ k. k % 4294967296) (sym clock) ∙ (r.updates ∙ sym (seen_all t s.words s.views history r id v final.1.1 alone)), whole t s.words s.views history r id v final.1.1 alone stands)
+    (ap (λ k. k % 4294967296) (sym clock) ∙ (r.updates ∙ sym (seen_all t (memory_of t s.words) s.views history r id v final.1.1 alone)), whole t (memory_of t s.words) s.views history r id v final.1.1 alone stands)

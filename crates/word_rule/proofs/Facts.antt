@@ -1,12 +1,11 @@
 -- Numbers of logs added up, and words that a step doesn't touch.
-use Rattle.std.proofs.Common.{◌≡◌, ◌≢◌, ℕ, zero, suc, ◌+◌, ◌*◌, ◌<◌, ◌≤◌, ◌⊎◌, inl, inr, ⊎_elim, subst, List, [], ◌∷◌, ◌++◌, length, get_or, set, take, drop, sym, refl, ap, arith, get_or-set_other}
+use Rattle.std.proofs.Common.{◌≡◌, ◌≢◌, ℕ, zero, suc, ◌+◌, ◌*◌, ◌<◌, ◌≤◌, ◌⊎◌, inl, inr, ⊎_elim, subst, List, [], ◌∷◌, ◌++◌, length, set, sym, refl, ap, arith, ◌/◌, eq-eqb, ne_eqb}
 use mathlib.Core.Option.{some, some-injective, some-ne-none}
 use native.Mathlib.Decide.{ℕ_discrete}
 use lib.ListN.{get_elem?}
 use Rattle.atomic_table.proofs.Lists.{at_set, at_snoc}
 use Rattle.word_rule.specs.declared.log.Log.{Log}
-use Rattle.word_rule.specs.declared.log.Terms.{Terms}
-use Rattle.word_rule.specs.Places.{LOADER, node_counters, copy_at, copy_place, copy_words}
+use Rattle.word_rule.specs.Memory.{updated, node_counters}
 use Rattle.word_rule.specs.Callers.{total}
 
 -- one log changes
@@ -30,23 +29,24 @@ part_of_total f [] id v at = absurd (some-ne-none v (sym at))
 part_of_total f (x ∷ views) zero v at = let e : f x ≡ f v = ap f (some-injective x v at) in omega (arith, e)
 part_of_total f (x ∷ views) (suc id) v at = let e = part_of_total f views id v at in omega (arith, e)
 
--- the versions of nodes stand apart from the loader's lock
-pub node_counters_set : (words : List ℕ) (x n : ℕ) → node_counters (set words LOADER x) n ≡ node_counters words n
-node_counters_set words x zero = refl
-node_counters_set words x (suc n) =
-    let apart : 4 + 36 * n ≢ 2 = (λ e. omega (arith, e)) in
-    let here : get_or (set words 2 x) (4 + 36 * n) 0 ≡ get_or words (4 + 36 * n) 0 = rw get_or-set_other in
-    let rest = node_counters_set words x n in rw (here, rest) refl
+-- the counters of all versions but one
+pub node_counters_above : (versions : ℕ → ℕ) (n x k : ℕ) → k ≤ n → node_counters (updated versions n x) k ≡ node_counters versions k
+node_counters_above versions n x zero h = refl
+node_counters_above versions n x (suc k) h =
+    let here : updated versions n x k ≡ versions k = rw (ne_eqb k n (λ e. omega (arith, e, h))) refl in
+    let rest = node_counters_above versions n x k (omega (arith, h)) in rw (here, rest) refl
 
-drop_set : (words : List ℕ) (i x k : ℕ) → i < k → drop k (set words i x) ≡ drop k words
-drop_set [] i x k h = refl
-drop_set (y ∷ words) i x zero h = absurd (omega arith)
-drop_set (y ∷ words) zero x (suc k) h = refl
-drop_set (y ∷ words) (suc i) x (suc k) h = drop_set words i x k (omega arith)
-
--- so do the copies
-pub copy_at_set : (t : Terms) (words : List ℕ) (x c : ℕ) → copy_at t (set words LOADER x) c ≡ copy_at t words c
-copy_at_set t words x c = ap (take (copy_words t)) (drop_set words 2 x (copy_place t c) (omega arith))
+pub node_counters_at : (versions : ℕ → ℕ) (n x k : ℕ) → n < k → node_counters (updated versions n x) k + versions n / 4 ≡ node_counters versions k + x / 4
+node_counters_at versions n x zero h = absurd (omega (arith, h))
+node_counters_at versions n x (suc k) h = go (ℕ_discrete k n) (node_counters_at versions n x k)
+  where
+    go : Dec (k ≡ n) → (n < k → node_counters (updated versions n x) k + versions n / 4 ≡ node_counters versions k + x / 4)
+        → updated versions n x k / 4 + node_counters (updated versions n x) k + versions n / 4 ≡ versions k / 4 + node_counters versions k + x / 4
+    go (yes e) rest =
+        let here : updated versions n x k ≡ x = rw (eq-eqb k n e) refl in let below = node_counters_above versions n x k (omega (arith, e)) in
+        let same : versions k ≡ versions n = ap versions e in rw (here, below, same) (omega arith)
+    go (no ne) rest =
+        let here : updated versions n x k ≡ versions k = rw (ne_eqb k n ne) refl in let r = rest (omega (arith, h, ne)) in rw here (omega (arith, r))
 
 -- two of them together are at most all
 pub two_of_total : (f : Log → ℕ) (views : List Log) (id j : ℕ) (v u : Log) → get_elem? views id ≡ some v → get_elem? views j ≡ some u → j ≢ id → f v + f u ≤ total f views

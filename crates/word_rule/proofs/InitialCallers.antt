@@ -6,7 +6,9 @@ use borrow.Author.Tests.{le-leb, lt-leb}
 use Rattle.word_rule.specs.declared.log.Log.{Log}
 use Rattle.word_rule.specs.declared.log.Terms.{Terms}
 use Rattle.word_rule.specs.Names.{name_count}
-use Rattle.word_rule.specs.Places.{word_count, copy_words, initial_node, initial_nodes, initial_words, node_counters}
+use Rattle.word_rule.specs.Places.{word_count, copy_words, initial_node, initial_nodes, initial_words}
+use Rattle.word_rule.specs.Memory.{memory_of, node_counters}
+use Rattle.word_rule.proofs.Memories.{load_version_at}
 use Rattle.word_rule.specs.Logs.{first_log, is_spent}
 use Rattle.word_rule.specs.Callers.{total, CallersHold, LogHolds, AreTerms, AtLoader, number_of}
 use Rattle.word_rule.proofs.Names.{new_lineage_holds}
@@ -32,14 +34,15 @@ initial_version nodes (suc m) n h = go (eq-or-lt_of_le h) (initial_version nodes
     go (inl e) before = let l = len in let at : 36 * n ≡ length (initial_nodes nodes m) + 0 = omega (arith, e, l) in rw at (get_or-append-add (initial_nodes nodes m) (initial_node nodes m) 0 0)
     go (inr less) before = let l = len in let room : 36 * n < length (initial_nodes nodes m) = omega (arith, less, l) in get_or-append (initial_nodes nodes m) (initial_node nodes m) 0 (36 * n) room ∙ before (omega (arith, less))
 
-pub initial_counters : (t : Terms) (n : ℕ) → n ≤ t.nodes → node_counters (initial_words t) n ≡ 0
+pub initial_counters : (t : Terms) (n : ℕ) → n ≤ t.nodes → node_counters (memory_of t (initial_words t)).nodes.versions n ≡ 0
 initial_counters t zero h = refl
 initial_counters t (suc n) h =
     let len = initial_nodes_length t.nodes t.nodes in
     let room : 36 * n < length (initial_nodes t.nodes t.nodes) = omega (arith, len, h) in
     let here : get_or (initial_words t) (4 + 36 * n) 0 ≡ 0 =
     get_or-append-add (0 ∷ 1 ∷ 0 ∷ 0 ∷ []) (initial_nodes t.nodes t.nodes ++ replicate (2 * copy_words t) 0) (36 * n) 0 ∙ (get_or-append (initial_nodes t.nodes t.nodes) (replicate (2 * copy_words t) 0) 0 (36 * n) room ∙ initial_version t.nodes t.nodes n h) in
-    let rest = initial_counters t n (omega (arith, h)) in rw (here, rest) refl
+    let version : (memory_of t (initial_words t)).nodes.versions n ≡ 0 = load_version_at t (initial_words t) n (omega (arith, h)) ∙ here in
+    let rest = initial_counters t n (omega (arith, h)) in rw (version, rest) refl
 
 pub no_numbers : (n : ℕ) → 0 ≡ number_of 0 n
 no_numbers zero = refl
@@ -53,20 +56,20 @@ at_first v w (suc j) e = absurd (some-ne-none w (sym e))
 pub only : (P : ℕ → Log → Type 0) (v : Log) → P 0 v → (j : ℕ) (w : Log) → get_elem? (v ∷ []) j ≡ some w → P j w
 only P v h j w e = let a = at_first v w j e in subst (λ (z : ℕ × Log). P z.0 z.1) (λ i. (sym a.0 i, a.1 i)) h
 
-pub callers_begin : (t : Terms) → AreTerms t → CallersHold t (initial_words t) (first_log t ∷ []) []
+pub callers_begin : (t : Terms) → AreTerms t → CallersHold t (memory_of t (initial_words t)) (first_log t ∷ []) []
 callers_begin t terms = record {
   holder = None;
-  wide = initial_length t;
   lawful = tt;
   updates = refl;
   published = refl;
   terms = terms;
-  payloads = tt;
+  members = tt;
   room = omega arith;
   numbers = λ n. no_numbers n;
-  each = only (λ _ v. LogHolds t [] 1 v) (first_log t) (record { terms = λ _. refl; begins = ([], refl); receipts = record { own = (tt, tt); joined = tt }; lineage = new_lineage_holds [] });
+  each = only (λ _ v. LogHolds t [] 1 v) (first_log t) (record { terms = λ _. refl; begins = ([], refl); receipts = record { own = (tt, tt); joined = tt }; lineage = new_lineage_holds []; idle = λ zero_weight. absurd (omega (arith, zero_weight)) });
+  weights = omega arith;
   loader = refl;
-  at_loader = only (λ j v. AtLoader t (initial_words t) None j v.loader) (first_log t) tt;
+  at_loader = only (λ j v. AtLoader (memory_of t (initial_words t)) None j v.loader) (first_log t) tt;
   counted = (let c = initial_counters t t.nodes (omega arith) in rw c (omega arith));
   lineages = record {
     gathered = λ x. omega arith;

@@ -11,12 +11,18 @@ use Rattle.tree_shape.specs.Trees.{HasEntry, branches}
 use Rattle.tree_shape.specs.Numbers.{times, once}
 use Rattle.tree_shape.specs.Lawful.{IsLawful, IsOrdered, IsFilled, Fits}
 use Rattle.word_rule.specs.declared.log.Terms.{Terms}
-use Rattle.word_rule.specs.Places.{copy_words, copy_place, copy_at, initial_kind, initial_link, initial_node, initial_nodes, initial_words}
-use Rattle.word_rule.specs.Spelling.{spelled}
+use Rattle.word_rule.specs.Places.{copy_words, copy_place, initial_kind, initial_link, initial_node, initial_nodes, initial_words}
+use Rattle.word_rule.specs.Memory.{memory_of, part, copy_of}
+use Rattle.word_rule.specs.Spelling.{word_at, spelled}
 use Rattle.word_rule.specs.Logs.{first_log}
 use Rattle.word_rule.specs.Callers.{AreTerms, start}
-use Rattle.word_rule.specs.TableInvariant.{TableInvariant, Shadow, ObservationsHold, IsChain, HoldsNode, node_words, version_of}
-use Rattle.word_rule.proofs.InitialCallers.{callers_begin, initial_nodes_length, initial_version, only}
+use Rattle.word_rule.specs.Callers.{IsAlone}
+use Rattle.word_rule.specs.Nodes.{Shadow, HoldingsHold, IsChain}
+use Rattle.word_rule.specs.Observations.{ObservationsHold}
+use Rattle.word_rule.specs.TableInvariant.{TableInvariant, IsStill}
+use Rattle.word_rule.proofs.Memories.{load_version_at}
+use Rattle.word_rule.proofs.SeatNodes.{holds_nothing}
+use Rattle.word_rule.proofs.InitialCallers.{callers_begin, initial_length, initial_nodes_length, initial_version, only}
 
 -- what the opening words spell: the root an empty leaf, all others free
 abbrev initial_body : ℕ → ℕ → Body
@@ -46,17 +52,17 @@ link_small nodes n h = go ((n == 0) || (n + 1 == nodes))
     go true = omega arith
     go false = omega arith
 
-free_spells : (link : ℕ) → link < 4294967296 → spelled (set (set (set (replicate 36 0) 1 2) 4 18446744073709551615) 6 link) ≡ Some record { level = 0; low = 0; high = 18446744073709551615; body = Link link }
+free_spells : (link : ℕ) → link < 4294967296 → spelled (drop 1 (set (set (set (replicate 36 0) 1 2) 4 18446744073709551615) 6 link)) ≡ Some record { level = 0; low = 0; high = 18446744073709551615; body = Link link }
 free_spells link h = rw (lt-ltb link 4294967296 h) refl
 
-initial_spells : (nodes n : ℕ) → n < nodes → nodes ≤ 16384 → spelled (initial_node nodes n) ≡ Some (initial_shape nodes n)
+initial_spells : (nodes n : ℕ) → n < nodes → nodes ≤ 16384 → spelled (drop 1 (initial_node nodes n)) ≡ Some (initial_shape nodes n)
 initial_spells nodes zero h small = refl
 initial_spells nodes (suc n) h small =
     let l = link_small nodes (suc n) h in let other = not_root n in
     let kind : initial_kind (suc n) ≡ 2 = rw other refl in
     let body : initial_body nodes (suc n) ≡ Link (initial_link nodes (suc n)) = rw other refl in
     let link_short : initial_link nodes (suc n) < 4294967296 = omega (arith, l, h, small) in
-    ap (λ k. spelled (set (set (set (replicate 36 0) 1 k) 4 18446744073709551615) 6 (initial_link nodes (suc n)))) kind
+    ap (λ k. spelled (drop 1 (set (set (set (replicate 36 0) 1 k) 4 18446744073709551615) 6 (initial_link nodes (suc n))))) kind
     ∙ (free_spells (initial_link nodes (suc n)) link_short ∙ ap (λ b. Some record { level = 0; low = 0; high = 18446744073709551615; body = b }) (sym body))
 
 sum_zero : (n : ℕ) → once (n == 0) + 0 ≡ once (is_root n)
@@ -92,14 +98,24 @@ nodes_at nodes (suc m) n h rest = go (eq-or-lt_of_le h) (nodes_at nodes m n)
         ∙ (ap (take 36) (drop-append_seam (initial_nodes nodes m) (initial_node nodes m ++ rest)) ∙ (take-append_seam (initial_node nodes m) rest ∙ ap (initial_node nodes) (sym same))))
     go (inr less) before = ap (λ z. take 36 (drop (36 * n) z)) (append_assoc (initial_nodes nodes m) (initial_node nodes m) rest) ∙ before (omega (arith, less)) (initial_node nodes m ++ rest)
 
-node_at : (t : Terms) (n : ℕ) → n < t.nodes → node_words (initial_words t) n ≡ initial_node t.nodes n
-node_at t n h = ap (take 36) (drop-append-add (0 ∷ 1 ∷ 0 ∷ 0 ∷ []) (initial_nodes t.nodes t.nodes ++ replicate (2 * copy_words t) 0) (36 * n)) ∙ nodes_at t.nodes t.nodes n h (replicate (2 * copy_words t) 0)
+tail_part : (words : List ℕ) (k : ℕ) → part 35 (suc k) words ≡ drop 1 (part 36 k words)
+tail_part [] zero = refl
+tail_part [] (suc k) = refl
+tail_part (y ∷ words) zero = refl
+tail_part (y ∷ words) (suc k) = tail_part words k
 
-version_at : (t : Terms) (n : ℕ) → n < t.nodes → version_of (initial_words t) n ≡ 0
+node_at : (t : Terms) (n : ℕ) → n < t.nodes → (memory_of t (initial_words t)).nodes.contents n ≡ drop 1 (initial_node t.nodes n)
+node_at t n h =
+    let e : 4 + 36 * n + 1 ≡ suc (4 + 36 * n) = omega arith in
+    let all : take 36 (drop (4 + 36 * n) (initial_words t)) ≡ initial_node t.nodes n = ap (take 36) (drop-append-add (0 ∷ 1 ∷ 0 ∷ 0 ∷ []) (initial_nodes t.nodes t.nodes ++ replicate (2 * copy_words t) 0) (36 * n)) ∙ nodes_at t.nodes t.nodes n h (replicate (2 * copy_words t) 0) in
+    rw (lt-ltb n t.nodes h) (ap (λ k. part 35 k (initial_words t)) e ∙ (tail_part (initial_words t) (4 + 36 * n) ∙ ap (drop 1) all))
+
+version_at : (t : Terms) (n : ℕ) → n < t.nodes → (memory_of t (initial_words t)).nodes.versions n ≡ 0
 version_at t n h =
     let len = initial_nodes_length t.nodes t.nodes in
     let room : 36 * n < length (initial_nodes t.nodes t.nodes) = omega (arith, len, h) in
-    get_or-append-add (0 ∷ 1 ∷ 0 ∷ 0 ∷ []) (initial_nodes t.nodes t.nodes ++ replicate (2 * copy_words t) 0) (36 * n) 0 ∙ (get_or-append (initial_nodes t.nodes t.nodes) (replicate (2 * copy_words t) 0) 0 (36 * n) room ∙ initial_version t.nodes t.nodes n h)
+    load_version_at t (initial_words t) n h
+    ∙ (get_or-append-add (0 ∷ 1 ∷ 0 ∷ 0 ∷ []) (initial_nodes t.nodes t.nodes ++ replicate (2 * copy_words t) 0) (36 * n) 0 ∙ (get_or-append (initial_nodes t.nodes t.nodes) (replicate (2 * copy_words t) 0) 0 (36 * n) room ∙ initial_version t.nodes t.nodes n h))
 
 -- the free nodes from n on, so many
 abbrev free_from : ℕ → ℕ → List ℕ
@@ -111,14 +127,15 @@ link_is nodes n zero some_n all = rw (ne_eqb n 0 (λ e. omega (arith, e, some_n)
 link_is nodes n (suc more) some_n all = rw (ne_eqb n 0 (λ e. omega (arith, e, some_n)), ne_eqb (n + 1) nodes (λ e. omega (arith, e, all)), ne_eqb (suc more) 0 (λ e. omega (arith, e))) refl
 
 -- they are linked one to the next, the last one to 0
-chained : (nodes n more : ℕ) → 0 < n → n + more ≡ nodes → IsChain (initial_shape nodes) (if more == 0 then 0 else n) (free_from n more)
-chained nodes n zero some_n all = refl
-chained nodes n (suc more) some_n all =
-    let body : initial_body nodes n ≡ Link (initial_link nodes n) = rw (ne_eqb n 0 (λ e. omega (arith, e, some_n))) refl in
-    let link = link_is nodes n more some_n all in
-    let rest : IsChain (initial_shape nodes) (if more == 0 then 0 else suc n) (free_from (suc n) more) = chained nodes (suc n) more (omega arith) (omega (arith, all)) in
+chained : (nodes : ℕ) (contents : ℕ → List ℕ) → ((n : ℕ) → n < nodes → contents n ≡ drop 1 (initial_node nodes n)) → (n more : ℕ) → 0 < n → n + more ≡ nodes → IsChain contents (if more == 0 then 0 else n) (free_from n more)
+chained nodes contents known n zero some_n all = refl
+chained nodes contents known n (suc more) some_n all =
+    let words : contents n ≡ drop 1 (initial_node nodes n) = known n (omega (arith, all)) in
+    let kind : word_at (contents n) 1 ≡ 2 = ap (λ ws. word_at ws 1) words ∙ rw (ne_eqb n 0 (λ e. omega (arith, e, some_n))) refl in
+    let link : word_at (contents n) 6 ≡ (if more == 0 then 0 else (n + 1)) = ap (λ ws. word_at ws 6) words ∙ link_is nodes n more some_n all in
+    let rest : IsChain contents (if more == 0 then 0 else suc n) (free_from (suc n) more) = chained nodes contents known (suc n) more (omega arith) (omega (arith, all)) in
     let next : (if more == 0 then 0 else suc n) ≡ (if more == 0 then 0 else (n + 1)) = (let e : suc n ≡ n + 1 = omega arith in ap (λ k. if more == 0 then 0 else k) e) in
-    rw (ne_eqb (suc more) 0 (λ e. omega (arith, e))) (refl, (λ e. omega (arith, e, some_n)), (initial_link nodes n, (body, subst (λ k. IsChain (initial_shape nodes) k (free_from (suc n) more)) (next ∙ sym link) rest)))
+    rw (ne_eqb (suc more) 0 (λ e. omega (arith, e))) (refl, (λ e. omega (arith, e, some_n)), kind, subst (λ k. IsChain contents k (free_from (suc n) more)) (next ∙ sym link) rest)
 
 -- each of them is there once, and no other number
 free_below : (k n more : ℕ) → k < n → times k (free_from n more) ≡ 0
@@ -162,31 +179,35 @@ zeros (suc k) zero i = refl
 zeros (suc k) (suc n) zero = refl
 zeros (suc k) (suc n) (suc i) = zeros k n i
 
-initial_copy : (t : Terms) (i : ℕ) → get_or (copy_at t (initial_words t) 0) i 0 ≡ 0
+initial_copy : (t : Terms) (i : ℕ) → get_or (copy_of t (initial_words t) 0) i 0 ≡ 0
 initial_copy t i =
     let n = initial_nodes_length t.nodes t.nodes in
     let at : copy_place t 0 ≡ length (0 ∷ 1 ∷ 0 ∷ 0 ∷ initial_nodes t.nodes t.nodes) = omega (arith, n) in
     ap (λ k. get_or (take (copy_words t) (drop k (initial_words t))) i 0) at
     ∙ (ap (λ z. get_or (take (copy_words t) z) i 0) (drop-append_seam (0 ∷ 1 ∷ 0 ∷ 0 ∷ initial_nodes t.nodes t.nodes) (replicate (2 * copy_words t) 0)) ∙ zeros (copy_words t) (2 * copy_words t) i)
 
-initial_chain : (nodes : ℕ) → 4 ≤ nodes → IsChain (initial_shape nodes) 1 (free_from 1 (nodes - 1))
-initial_chain nodes some_nodes = subst (λ h. IsChain (initial_shape nodes) h (free_from 1 (nodes - 1))) (rw (ne_eqb (nodes - 1) 0 (λ e. omega (arith, e, some_nodes))) refl) (chained nodes 1 (nodes - 1) (omega arith) (omega (arith, some_nodes)))
+initial_chain : (t : Terms) → 4 ≤ t.nodes → IsChain (memory_of t (initial_words t)).nodes.contents 1 (free_from 1 (t.nodes - 1))
+initial_chain t some_nodes = subst (λ h. IsChain (memory_of t (initial_words t)).nodes.contents h (free_from 1 (t.nodes - 1))) (rw (ne_eqb (t.nodes - 1) 0 (λ e. omega (arith, e, some_nodes))) refl)
+    (chained t.nodes (memory_of t (initial_words t)).nodes.contents (node_at t) 1 (t.nodes - 1) (omega arith) (omega (arith, some_nodes)))
 
 pub table_begins : (t : Terms) → AreTerms t → TableInvariant t (initial_words t) (first_log t ∷ [])
 table_begins t terms = record {
-  history = [];
-  callers = callers_begin t terms;
-  shadow = initial_shadow t;
-  nodes = record {
-    lawful = initial_lawful t.nodes;
-    entries = initial_entries t;
-    unlocked = λ n h. (ap (λ k. k % 4) (version_at t n h), ap spelled (node_at t n h) ∙ initial_spells t.nodes n h terms.nodes.1);
-    held = only (λ id v. AllByRecursion (HoldsNode t (initial_words t) (initial_shadow t) id) v.holdings.held) (first_log t) tt;
-    holders = λ n. tt;
-    each_once = λ n. initial_each t.nodes n terms.nodes.0;
-    chain = initial_chain t.nodes terms.nodes.0;
-    few_out = only (λ _ v. length v.holdings.out ≤ 4) (first_log t) (omega arith);
+  wide = initial_length t;
+  memory = record {
+    history = [];
+    callers = callers_begin t terms;
+    shadow = initial_shadow t;
+    nodes = record {
+      lawful = initial_lawful t.nodes;
+      entries = initial_entries t;
+      unlocked = λ n h. (ap (λ k. k % 4) (version_at t n h), ap spelled (node_at t n h) ∙ initial_spells t.nodes n h terms.nodes.1);
+      holdings = only (λ id v. HoldingsHold t (memory_of t (initial_words t)).nodes (initial_shadow t) id v.holdings) (first_log t) (holds_nothing t (memory_of t (initial_words t)).nodes (initial_shadow t) 0);
+      holders = λ n. tt;
+      each_once = λ n. initial_each t.nodes n terms.nodes.0;
+      chain = initial_chain t terms.nodes.0;
+    };
+    active = record { members = []; lists = (initial_copy t 0, initial_copy t 1, tt); same = λ m. ((λ h. h), (λ h. h)) };
+    observations = only (λ _ v. ObservationsHold t (memory_of t (initial_words t)) [] 1 (initial_shadow t) v) (first_log t) (record { sights = tt; copies = tt; full = tt; earlier = tt });
   };
-  active = ([], ((initial_copy t 0, initial_copy t 1, tt), λ m. ((λ h. h), (λ h. h)), refl));
-  observations = only (λ _ v. ObservationsHold t (initial_words t) [] (initial_shadow t) v) (first_log t) (record { sights = tt; copies = tt; filled = tt; head = λ h. absurd (true≢false (sym h)) });
+  alone = only (λ _ v. IsAlone v.lineage → IsStill (initial_words t) v) (first_log t) (λ _. tt);
 }

@@ -1,5 +1,5 @@
 -- Callers and notes that come and go keep the rule.
-use Rattle.std.proofs.Common.{◌≡◌, ◌≢◌, ℕ, zero, suc, ◌+◌, ◌*◌, ◌<◌, ◌≤◌, List, [], ◌∷◌, ◌++◌, length, length-append, set, sym, refl, ap, ◌∙◌, subst, ⊎_elim, arith, append-nil, lt_of_not-le, le_of_lt, Option, Some, None, false, true, true≢false, max}
+use Rattle.std.proofs.Common.{◌≡◌, ◌≢◌, ℕ, zero, suc, ◌+◌, ◌*◌, ◌<◌, ◌≤◌, List, [], ◌∷◌, ◌++◌, length, length-append, set, sym, refl, ap, ◌∙◌, subst, ⊎_elim, arith, append-nil, lt_of_not-le, le_of_lt, Option, Some, None, false, true, true≢false, max, IfSome}
 use Rattle.std.specs.List.{AllByRecursion, count_by}
 use Rattle.std.proofs.lemmas.List.Sums.{sum_by-cons, sum_by-append}
 use Rattle.word_rule.specs.declared.log.Role.TheVariants as role
@@ -23,70 +23,20 @@ use Rattle.word_rule.specs.declared.log.Log.{Log}
 use Rattle.word_rule.specs.declared.log.Terms.{Terms}
 use Rattle.tree_shape.specs.Numbers.{once}
 use Rattle.word_rule.specs.Names.{name_count, is_same, child_name, after_fork, joined_lineage}
-use Rattle.word_rule.specs.Logs.{is_spent, child_log, after_split, split_off, after_note, note_of, after_join, after_learn, spent_log, longer, budget_given}
-use Rattle.word_rule.specs.Callers.{total, CallersHold, LogHolds, LineageHolds, LineagesHold, AtLoader, LoaderLock, IsRecord, AreRecords, dones, dones_of_all, dones_in, is_done, start}
+use Rattle.word_rule.specs.Logs.{is_spent, weight, turns, child_log, after_split, split_off, after_note, note_of, after_join, after_learn, spent_log, longer, budget_given}
+use Rattle.word_rule.specs.Callers.{total, CallersHold, IsIdle, IsAlone, LogHolds, LineageHolds, LineagesHold, AtLoader, LoaderLock, IsRecord, AreRecords, dones, dones_of_all, dones_in, is_done, start}
 use Rattle.word_rule.specs.CallerInvariant.{IsNote}
 use Rattle.word_rule.proofs.Facts.{total_set, total_snoc, part_of_total, two_of_total, some_of_total, total_set_two, after_step, within, decided, behind}
 use Rattle.word_rule.proofs.Names.{same_or, once_same, once_other, once_small, count_append, new_lineage_holds, fork_holds, join_holds}
-use Rattle.word_rule.specs.TableInvariant.{TableInvariant}
-use Rattle.word_rule.proofs.SeatFrame.{IsStill, nodes_fork, observations_fork, nodes_join, observations_join}
-
-snoc_is_long : (p : List ℕ) (n : ℕ) → p ++ n ∷ [] ≢ []
-snoc_is_long p n e = let l = length-append p (n ∷ []) in let z : length (p ++ n ∷ []) ≡ 0 = ap length e in omega (arith, l, z)
-
-abbrev head_of : List ℕ → ℕ
-head_of [] = 0
-head_of (x ∷ xs) = x
-
-abbrev tail_of : List ℕ → List ℕ
-tail_of [] = []
-tail_of (x ∷ xs) = xs
-
-snoc_parts : (p q : List ℕ) (m n : ℕ) → p ++ m ∷ [] ≡ q ++ n ∷ [] → (p ≡ q) × (m ≡ n)
-snoc_parts [] [] m n e = (refl, ap head_of e)
-snoc_parts [] (y ∷ q) m n e = absurd (snoc_is_long q n (sym (ap tail_of e)))
-snoc_parts (x ∷ p) [] m n e = absurd (snoc_is_long p m (ap tail_of e))
-snoc_parts (x ∷ p) (y ∷ q) m n e = let r = snoc_parts p q m n (ap tail_of e) in ((λ i. ap head_of e i ∷ r.0 i), r.1)
-
-module _ (views : List Log) (each : (id : ℕ) (v : Log) → get_elem? views id ≡ some v → LineageHolds v.lineage) (k : LineagesHold views) where
-  -- the empty name was given by nobody
-  first_not_given : total (λ v. name_count [] v.lineage.given) views ≡ 0
-  first_not_given = go (total (λ v. name_count [] v.lineage.given) views) refl
-    where
-      go : (n : ℕ) → total (λ v. name_count [] v.lineage.given) views ≡ n → total (λ v. name_count [] v.lineage.given) views ≡ 0
-      go zero e = e
-      go (suc n) e = let h = some_of_total (λ v. name_count [] v.lineage.given) views (omega (arith, e)) in let g = (each h.0 h.1 h.2.0).given_by [] h.2.1 in absurd (snoc_is_long g.0 g.1 (sym g.2.0))
-
-  -- each name came back to one log at most
-  pub gathered_once : (x : List ℕ) → total (λ v. name_count x v.lineage.gathered) views ≤ 1
-  gathered_once x = ⊎_elim
-      (λ (e : [] ≡ x). let m = k.gathered x in let f : total (λ v. name_count x v.lineage.given) views ≡ 0 = subst (λ y. total (λ v. name_count y v.lineage.given) views ≡ 0) e first_not_given in let o = once_small (is_same [] x) in omega (arith, m, f, o))
-      (λ (e : is_same [] x ≡ false). let m = k.gathered x in let o : once (is_same [] x) ≡ 0 = rw e refl in let g = k.given x in omega (arith, m, o, g))
-      (same_or [] x)
-
-  pub one_place : (x : List ℕ) (id j : ℕ) (v u : Log) → get_elem? views id ≡ some v → get_elem? views j ≡ some u → 0 < name_count x v.lineage.gathered → 0 < name_count x u.lineage.gathered → j ≡ id
-  one_place x id j v u at there a b = ⊎_elim (λ (e : j ≡ id). e)
-      (λ (ne : j ≢ id). let t = two_of_total (λ w. name_count x w.lineage.gathered) views id j v u at there ne in let m = gathered_once x in absurd (omega (arith, t, m, a, b))) (decided j id)
-
-  -- what was given has come back to some log, and its maker too
-  pub given_by_one : (x : List ℕ) → 0 < total (λ v. name_count x v.lineage.given) views → (p : List ℕ) × (n : ℕ) × (j : ℕ) × (u : Log) × ((get_elem? views j ≡ some u) × (x ≡ p ++ n ∷ []) × (0 < name_count p u.lineage.gathered) × (0 < name_count x u.lineage.given))
-  given_by_one x h = let s = some_of_total (λ v. name_count x v.lineage.given) views h in let g = (each s.0 s.1 s.2.0).given_by x s.2.1 in (g.0, g.1, s.0, s.1, (s.2.0, g.2.0, g.2.1, s.2.1))
-
-  -- a name with a number that its log is yet to give has no children
-  unused_childless : (id : ℕ) (v : Log) → get_elem? views id ≡ some v → is_spent v.role ≡ false → (n : ℕ) → total (λ w. name_count (child_name v.lineage ++ n ∷ []) w.lineage.given) views ≡ 0
-  unused_childless id v at stands n = go (total (λ w. name_count (child_name v.lineage ++ n ∷ []) w.lineage.given) views) refl
-    where
-      go : (m : ℕ) → total (λ w. name_count (child_name v.lineage ++ n ∷ []) w.lineage.given) views ≡ m → total (λ w. name_count (child_name v.lineage ++ n ∷ []) w.lineage.given) views ≡ 0
-      go zero e = e
-      go (suc m) e =
-          let g = given_by_one (child_name v.lineage ++ n ∷ []) (omega (arith, e)) in
-          let same = snoc_parts (child_name v.lineage) g.0 n g.1 g.4.1 in
-          let mine : 0 < name_count (child_name v.lineage) g.3.lineage.gathered = subst (λ y. 0 < name_count y g.3.lineage.gathered) (sym same.0) g.4.2 in
-          let all = part_of_total (λ w. name_count (child_name v.lineage) w.lineage.gathered) views g.2 g.3 g.4.0 in
-          let m = k.gathered (child_name v.lineage) in
-          let none = k.unused id v at stands v.lineage.forks (omega arith) in
-          let o = once_other [] (child_name v.lineage) (λ z. snoc_is_long v.lineage.name v.lineage.forks (sym z)) in
-          absurd (omega (arith, mine, all, m, none, o))
+use Rattle.word_rule.specs.Memory.{Memory, memory_of}
+use Rattle.word_rule.specs.Nodes.{Shadow}
+use Rattle.word_rule.specs.Copies.{CopySightHolds}
+use Rattle.word_rule.specs.Observations.{SightHolds, WasFull, ObservationsHold}
+use Rattle.word_rule.specs.TableInvariant.{TableInvariant, IsStill}
+use Rattle.word_rule.proofs.Lineages.{snoc_is_long, snoc_parts, one_place, unused_childless, none_alone}
+use Rattle.word_rule.proofs.SeatNodes.{nodes_fork, nodes_join}
+use Rattle.word_rule.proofs.ObservationsFrame.{no_more, observations_over, observations_same}
+use Rattle.word_rule.proofs.Frames.{still_after_turn}
 
 -- receipts that hold go on to hold while the history grows and callers come
 pub holds_later : (t : Terms) (past more : List Update) (callers later since : ℕ) (rs : List Receipt) → AllHold (start t) past t.nodes callers since rs → AllHold (start t) (past ++ more) t.nodes later since rs
@@ -113,6 +63,7 @@ log_later t history callers later v h = record {
   begins = h.begins;
   receipts = are_records_later t v.past v.past callers later (own_prefix v.past) v.receipts h.receipts;
   lineage = h.lineage;
+  idle = h.idle;
 }
 
 -- What stays of one that forks off another: all but its budget, its count of callers and its names.
@@ -124,7 +75,7 @@ pub record Forks (v w : Log) : Type 0 where
   pub loader : w.loader ≡ v.loader
   pub lineage : w.lineage ≡ after_fork v.lineage
 
-module _ (t : Terms) (words : List ℕ) (views : List Log) (history : List Update) (r : CallersHold t words views history) (id : ℕ) (v w : Log) (role : Role) (budget : Budget) (at : get_elem? views id ≡ some v) (stands : is_spent v.role ≡ false) (lives : is_spent role ≡ false) (forks : Forks v w) where
+module _ (t : Terms) (m : Memory) (views : List Log) (history : List Update) (r : CallersHold t m views history) (id : ℕ) (v w : Log) (role : Role) (budget : Budget) (at : get_elem? views id ≡ some v) (stands : is_spent v.role ≡ false) (lives : is_spent role ≡ false) (forks : Forks v w) (idle : weight w.role ≡ 0 → IsIdle w) where
   abbrev child : Log
   child = child_log role budget v
 
@@ -176,19 +127,18 @@ module _ (t : Terms) (words : List ℕ) (views : List Log) (history : List Updat
         (after_step (λ _ u. is_spent u.role ≡ true → (u.receipts.own ≡ []) × (u.receipts.joined ≡ []) × (u.made ≡ 0)) views id w (λ s. absurd (true≢false (sym s ∙ (ap is_spent forks.role ∙ stands)))) (λ j u _ e. r.lineages.spent j u e)) (λ _ s. absurd (true≢false (sym s ∙ lives)));
   }
 
-  loader_fork : (holder : Option ℕ) → LoaderLock t words views holder → LoaderLock t words both holder
+  loader_fork : (holder : Option ℕ) → LoaderLock m.loader views holder → LoaderLock m.loader both holder
   loader_fork None h = h
   loader_fork (Some j) h = ⊎_elim
       (λ (is : j ≡ id). (w, h.1, (at_longer (set views id w) (child ∷ []) j w (subst (λ k. get_elem? (set views id w) k ≡ some w) (sym is) (set_here views id w (within views id v at))), forks.loader ∙ (ap (λ u. u.loader) (some-injective v h.0 (sym at ∙ (ap (get_elem? views) (sym is) ∙ h.2.0))) ∙ h.2.1))))
       (λ (is : j ≢ id). (h.0, h.1, (at_longer (set views id w) (child ∷ []) j h.0 (set_else views id j w is ∙ h.2.0), h.2.1))) (decided j id)
 
-  pub callers_fork : w.budget.allowance + budget.allowance ≡ v.budget.allowance → w.budget.credit + budget.credit ≡ v.budget.credit → CallersHold t words both history
-  callers_fork allowed credited = record {
+  pub callers_fork : w.made ≡ weight role + v.made → w.budget.allowance + budget.allowance ≡ v.budget.allowance → w.budget.credit + budget.credit ≡ v.budget.credit → CallersHold t m both history
+  callers_fork made allowed credited = record {
     holder = r.holder;
-    wide = r.wide;
     lawful = r.lawful;
     terms = r.terms;
-    payloads = r.payloads;
+    members = r.members;
     updates = r.updates;
     published = r.published;
     room = (let s = sums (λ u. u.budget.allowance) allowed in let o = r.room in omega (arith, s, o));
@@ -199,11 +149,13 @@ module _ (t : Terms) (words : List ℕ) (views : List Log) (history : List Updat
           begins = subst (λ p. IsPrefix p history) (sym forks.past) h.begins;
           receipts = subst (λ p. AreRecords t p (total (λ y. y.made) both + 1) w.receipts) (sym forks.past) (subst (AreRecords t v.past (total (λ y. y.made) both + 1)) (sym forks.receipts) h.receipts);
           lineage = subst LineageHolds (sym forks.lineage) (fork_holds v.lineage own_name h.lineage);
+          idle = idle;
         })) (λ j u _ e. log_later t history _ (total (λ y. y.made) both + 1) u (r.each j u e)))
-        (λ _. record { terms = λ _. (r.each id v at).terms stands; begins = (r.each id v at).begins; receipts = record { own = (tt, tt); joined = tt }; lineage = new_lineage_holds (child_name v.lineage) });
+        (λ _. record { terms = λ _. (r.each id v at).terms stands; begins = (r.each id v at).begins; receipts = record { own = (tt, tt); joined = tt }; lineage = new_lineage_holds (child_name v.lineage); idle = λ _. record { held = refl; out = refl; loader = refl } });
     loader = loader_fork r.holder r.loader;
-    at_loader = behind (λ j u. AtLoader t words r.holder j u.loader) (set views id w) child
-        (after_step (λ j u. AtLoader t words r.holder j u.loader) views id w (subst (AtLoader t words r.holder id) (sym forks.loader) (r.at_loader id v at)) (λ j u _ e. r.at_loader j u e)) (λ _. tt);
+    at_loader = behind (λ j u. AtLoader m r.holder j u.loader) (set views id w) child
+        (after_step (λ j u. AtLoader m r.holder j u.loader) views id w (subst (AtLoader m r.holder id) (sym forks.loader) (r.at_loader id v at)) (λ j u _ e. r.at_loader j u e)) (λ _. tt);
+    weights = (let a = total_set (λ u. weight u.role) views id v w at in let b = total_snoc (λ u. weight u.role) (set views id w) child in let c = total_set (λ u. u.made) views id v w at in let d = total_snoc (λ u. u.made) (set views id w) child in let e : weight w.role ≡ weight v.role = ap weight forks.role in let o = r.weights in omega (arith, a, b, c, d, e, made, o));
     counted = (let s = sums (λ u. u.budget.credit) credited in let o = r.counted in omega (arith, s, o));
     lineages = lineages_fork;
   }
@@ -251,8 +203,8 @@ pub record Gains (v u b : Log) (lists : List (List Receipt)) : Type 0 where
   pub lineage : b.lineage ≡ joined_lineage v.lineage u.lineage
   pub counts : (n : ℕ) → dones_of_all n lists ≡ dones_in n u
 
-module _ (t : Terms) (words : List ℕ) (views : List Log) (history : List Update) (r : CallersHold t words views history) (id other : ℕ) (v u b : Log) (lists : List (List Receipt)) (at : get_elem? views id ≡ some v) (ne : other ≢ id)
-    (there : get_elem? (set views id b) other ≡ some u) (stands : is_spent v.role ≡ false) (stood : is_spent u.role ≡ false) (free : u.loader ≡ None) (gains : Gains v u b lists) where
+module _ (t : Terms) (m : Memory) (views : List Log) (history : List Update) (r : CallersHold t m views history) (id other : ℕ) (v u b : Log) (lists : List (List Receipt)) (at : get_elem? views id ≡ some v) (ne : other ≢ id)
+    (there : get_elem? (set views id b) other ≡ some u) (stands : is_spent v.role ≡ false) (stood : is_spent u.role ≡ false) (free : u.loader ≡ None) (gains : Gains v u b lists) (idle : weight b.role ≡ 0 → IsIdle b) where
   abbrev one : List Log
   one = set views id b
 
@@ -292,7 +244,7 @@ module _ (t : Terms) (words : List ℕ) (views : List Log) (history : List Updat
     spent = everywhere (λ _ x. is_spent x.role ≡ true → (x.receipts.own ≡ []) × (x.receipts.joined ≡ []) × (x.made ≡ 0)) (λ _. (refl, refl, refl)) (λ s. absurd (true≢false (sym s ∙ (ap is_spent gains.role ∙ stands)))) (λ j x _ _ e. r.lineages.spent j x e);
   }
 
-  loader_join : (holder : Option ℕ) → LoaderLock t words views holder → LoaderLock t words after holder
+  loader_join : (holder : Option ℕ) → LoaderLock m.loader views holder → LoaderLock m.loader after holder
   loader_join None h = h
   loader_join (Some j) h = ⊎_elim
       (λ (is : j ≡ id). (
@@ -311,19 +263,18 @@ module _ (t : Terms) (words : List ℕ) (views : List Log) (history : List Updat
   lengthened : IsPrefix v.past (longer v.past u.past) × IsPrefix u.past (longer v.past u.past) × IsPrefix (longer v.past u.past) history
   lengthened = in_longer v.past u.past history (r.each id v at).begins (r.each other u was_there).begins
 
-  pub callers_join : (AllByRecursion (IsRecord t (longer v.past u.past) count) (u.receipts.own ∷ u.receipts.joined) → AllByRecursion (IsRecord t (longer v.past u.past) count) lists) → CallersHold t words after history
+  pub callers_join : (AllByRecursion (IsRecord t (longer v.past u.past) count) (u.receipts.own ∷ u.receipts.joined) → AllByRecursion (IsRecord t (longer v.past u.past) count) lists) → CallersHold t m after history
   callers_join gained = record {
     holder = r.holder;
-    wide = r.wide;
     lawful = r.lawful;
     terms = r.terms;
-    payloads = r.payloads;
+    members = r.members;
     updates = r.updates;
     published = r.published;
     room = (let s = sums_join (λ x. x.budget.allowance) (let a = gains.allowance in omega (arith, a)) in let o = r.room in omega (arith, s, o));
     numbers = λ n. sums_join (dones_in n) (let e : dones_in n b ≡ dones n record { own = v.receipts.own; joined = v.receipts.joined ++ lists } = (λ i. dones n record { own = gains.own i; joined = gains.joined i }) in let a = dones_append n v.receipts.joined lists in let c = gains.counts n in omega (arith, e, a, c)) ∙ r.numbers n;
     each = everywhere (λ _ x. LogHolds t history count x)
-        (record { terms = λ s. absurd (true≢false s); begins = (history, refl); receipts = record { own = (tt, tt); joined = tt }; lineage = record { balanced = λ x. refl; given_by = λ x h. absurd (omega arith) } })
+        (record { terms = λ s. absurd (true≢false s); begins = (history, refl); receipts = record { own = (tt, tt); joined = tt }; lineage = record { balanced = λ x. refl; given_by = λ x h. absurd (omega arith) }; idle = λ _. record { held = refl; out = refl; loader = refl } })
         (let h = r.each id v at in let i = r.each other u was_there in record {
           terms = λ s. gains.terms ∙ h.terms stands;
           begins = subst (λ p. IsPrefix p history) (sym gains.past) lengthened.2;
@@ -334,51 +285,105 @@ module _ (t : Terms) (words : List ℕ) (views : List Log) (history : List Updat
                 (gained (record_later t u.past (longer v.past u.past) _ count lengthened.1 u.receipts.own i.receipts.own, records_later t u.past (longer v.past u.past) _ count lengthened.1 u.receipts.joined i.receipts.joined)));
           };
           lineage = subst LineageHolds (sym gains.lineage) (join_holds v.lineage u.lineage h.lineage i.lineage);
+          idle = idle;
         })
         (λ j x _ _ e. log_later t history _ count x (r.each j x e));
     loader = loader_join r.holder r.loader;
-    at_loader = everywhere (λ j x. AtLoader t words r.holder j x.loader) tt (subst (AtLoader t words r.holder id) (sym gains.loader) (r.at_loader id v at)) (λ j x _ _ e. r.at_loader j x e);
+    at_loader = everywhere (λ j x. AtLoader m r.holder j x.loader) tt (subst (AtLoader m r.holder id) (sym gains.loader) (r.at_loader id v at)) (λ j x _ _ e. r.at_loader j x e);
+    weights = (let s = total_set_two (λ x. weight x.role) views id other v b u spent_log at there in let e : weight b.role ≡ weight v.role = ap weight gains.role in let made = made_is in let o = r.weights in omega (arith, s, e, made, o));
     counted = (let s = sums_join (λ x. x.budget.credit) (let a = gains.credit in omega (arith, a)) in let o = r.counted in omega (arith, s, o));
     lineages = lineages_join;
   }
 
+-- What a step that only meets others leaves of its log: its turns grow.
+pub record Meets (v w : Log) : Type 0 where
+  pub holdings : w.holdings ≡ v.holdings
+  pub sights : w.sights ≡ v.sights
+  pub own : w.receipts.own ≡ v.receipts.own
+  pub loads : w.trace.loads ≡ v.trace.loads
+  pub turn : turns v.trace < turns w.trace
+
 -- the rest of the invariant, where one comes or goes
-module _ (t : Terms) (id : ℕ) (v : Log) (stands : is_spent v.role ≡ false) where
-  forked_table : (s : State (Unit {0}) Log) (r : TableInvariant t s.words s.views) (w : Log) (role : Role) (budget : Budget) → is_spent role ≡ false → get_elem? s.views id ≡ some v → Forks v w → IsStill v w
-      → w.budget.allowance + budget.allowance ≡ v.budget.allowance → w.budget.credit + budget.credit ≡ v.budget.credit → TableInvariant t s.words (set s.views id w ++ child_log role budget v ∷ [])
-  forked_table s r w role budget lives at forks still allowed credited = record {
-    history = r.history;
-    callers = callers_fork t s.words s.views r.history r.callers id v w role budget at stands lives forks allowed credited;
-    shadow = r.shadow;
-    nodes = nodes_fork t s.words s.views r.history r.shadow id role budget v w at still forks.past r.nodes;
-    active = r.active;
-    observations = observations_fork t s.words s.views r.history r.shadow id role budget v w at still forks.past r.observations;
+module _ (t : Terms) (id : ℕ) (v : Log) (caller : v.role ≡ role.Caller) where
+  stands : is_spent v.role ≡ false
+  stands = ap is_spent caller
+
+  busy : (w : Log) → w.role ≡ v.role → weight w.role ≡ 0 → IsIdle w
+  busy w same zero_weight = absurd (let one : weight w.role ≡ 1 = ap weight (same ∙ caller) in omega (arith, zero_weight, one))
+
+  module _ (s : State (Unit {0}) Log) (r : TableInvariant t s.words s.views) (w : Log) (at : get_elem? s.views id ≡ some v) (meets : Meets v w) where
+    -- what a log has observed stays where callers are made
+    later : (callers : ℕ) → total (λ u. u.made) s.views + 1 ≤ callers → (u : Log) → ObservationsHold t (memory_of t s.words) r.memory.history (total (λ u. u.made) s.views + 1) r.memory.shadow u → ObservationsHold t (memory_of t s.words) r.memory.history callers r.memory.shadow u
+    later callers more u o = observations_over t (memory_of t s.words) (memory_of t s.words) r.memory.history r.memory.history (total (λ u. u.made) s.views + 1) callers r.memory.shadow r.memory.shadow (λ _ h. h) (λ _ h. h) (own_prefix r.memory.history) more u o
+
+    mine : (callers : ℕ) → total (λ u. u.made) s.views + 1 ≤ callers → ObservationsHold t (memory_of t s.words) r.memory.history callers r.memory.shadow w
+    mine callers more = observations_same t (memory_of t s.words) r.memory.history callers r.memory.shadow v w [] (no_more v w meets.own (let m = meets.turn in omega (arith, m)) meets.loads) meets.sights tt tt (later callers more v (r.memory.observations id v at))
+
+    still : IsStill s.words w
+    still = still_after_turn s.words v w meets.turn meets.loads (r.memory.observations id v at).earlier
+
+    others : (j : ℕ) (u : Log) → j ≢ id → get_elem? s.views j ≡ some u → IsAlone u.lineage → IsStill s.words u
+    others j u far there alone = absurd (none_alone s.views (λ k z e. (r.memory.callers.each k z e).lineage) r.memory.callers.lineages id j v u at stands there far alone)
+
+  -- one that has observed nothing
+  fresh : (m : Memory) (history : List Update) (callers : ℕ) (shadow : Shadow) (u : Log) → u.sights ≡ record { nodes = []; copies = None } → u.trace.loads ≡ [] → ObservationsHold t m history callers shadow u
+  fresh m history callers shadow u sights loads = record {
+    sights = subst (λ k. AllByRecursion (SightHolds t m.nodes history shadow) k.nodes) (sym sights) tt;
+    copies = subst (λ k. IfSome k.copies (CopySightHolds t m.clock m.copies)) (sym sights) tt;
+    full = subst (AllByRecursion (WasFull t history callers u.receipts.own)) (sym loads) tt;
+    earlier = subst (AllByRecursion (λ l. (l.turns ≤ turns u.trace) × (l.receipts ≤ length u.receipts.own))) (sym loads) tt;
   }
+
+  forked_table : (s : State (Unit {0}) Log) (r : TableInvariant t s.words s.views) (w : Log) (role : Role) (budget : Budget) → is_spent role ≡ false → get_elem? s.views id ≡ some v → Forks v w → Meets v w → w.made ≡ weight role + v.made
+      → w.budget.allowance + budget.allowance ≡ v.budget.allowance → w.budget.credit + budget.credit ≡ v.budget.credit → TableInvariant t s.words (set s.views id w ++ child_log role budget v ∷ [])
+  forked_table s r w role budget lives at forks meets made allowed credited =
+      let callers : ℕ = total (λ u. u.made) (set s.views id w ++ child_log role budget v ∷ []) + 1 in
+      let more : total (λ u. u.made) s.views + 1 ≤ callers = (let a = total_set (λ u. u.made) s.views id v w at in let b = total_snoc (λ u. u.made) (set s.views id w) (child_log role budget v) in omega (arith, a, b, made)) in record {
+        wide = r.wide;
+        memory = record {
+          history = r.memory.history;
+          callers = callers_fork t (memory_of t s.words) s.views r.memory.history r.memory.callers id v w role budget at stands lives forks (busy w forks.role) made allowed credited;
+          shadow = r.memory.shadow;
+          nodes = nodes_fork t (memory_of t s.words).nodes s.views r.memory.history r.memory.shadow id role budget v w at meets.holdings r.memory.nodes;
+          active = r.memory.active;
+          observations = behind (λ _ u. ObservationsHold t (memory_of t s.words) r.memory.history callers r.memory.shadow u) (set s.views id w) (child_log role budget v)
+              (after_step (λ _ u. ObservationsHold t (memory_of t s.words) r.memory.history callers r.memory.shadow u) s.views id w (mine s r w at meets callers more) (λ j u _ there. later s r w at meets callers more u (r.memory.observations j u there)))
+              (λ _. fresh (memory_of t s.words) r.memory.history callers r.memory.shadow (child_log role budget v) refl refl);
+        };
+        alone = behind (λ _ u. IsAlone u.lineage → IsStill s.words u) (set s.views id w) (child_log role budget v)
+            (after_step (λ _ u. IsAlone u.lineage → IsStill s.words u) s.views id w (λ _. still s r w at meets) (others s r w at meets)) (λ _ _. tt);
+      }
 
   pub splits : (left give : ℕ) → give ≤ left → left ≤ v.budget.allowance → CALL_CREDIT * left ≤ v.budget.credit
       → Splits (λ (s : State (Unit {0}) Log). TableInvariant t s.words s.views) id v (after_split left give v) (split_off left give v)
   splits left give enough allowed credited s r at = forked_table s r (after_split left give v) role.Caller (budget_given left give v.budget) refl at
-      (record { terms = refl; role = refl; past = refl; receipts = refl; loader = refl; lineage = refl }) (record { holdings = refl; sights = refl; own = refl; loads = refl })
-      (omega (arith, enough, allowed)) (omega (arith, enough, credited))
+      (record { terms = refl; role = refl; past = refl; receipts = refl; loader = refl; lineage = refl }) (record { holdings = refl; sights = refl; own = refl; loads = refl; turn = omega arith })
+      (omega arith) (omega (arith, enough, allowed)) (omega (arith, enough, credited))
 
   pub notes : Splits (λ (s : State (Unit {0}) Log). TableInvariant t s.words s.views) id v (after_note v) (note_of v)
   notes s r at = forked_table s r (after_note v) role.Note (record { allowance = 0; credit = 0 }) refl at
-      (record { terms = refl; role = refl; past = refl; receipts = refl; loader = refl; lineage = refl }) (record { holdings = refl; sights = refl; own = refl; loads = refl })
-      (omega arith) (omega arith)
+      (record { terms = refl; role = refl; past = refl; receipts = refl; loader = refl; lineage = refl }) (record { holdings = refl; sights = refl; own = refl; loads = refl; turn = omega arith })
+      (omega arith) (omega arith) (omega arith)
 
   joined_table : (s : State (Unit {0}) Log) (r : TableInvariant t s.words s.views) (other : ℕ) (u b : Log) (lists : List (List Receipt)) → get_elem? s.views id ≡ some v → (ne : other ≢ id) → get_elem? (set s.views id b) other ≡ some u
-      → is_spent u.role ≡ false → u.loader ≡ None → u.holdings.held ≡ [] → u.holdings.out ≡ [] → (gains : Gains v u b lists) → IsStill v b
+      → is_spent u.role ≡ false → u.loader ≡ None → u.holdings.held ≡ [] → u.holdings.out ≡ [] → (gains : Gains v u b lists) → Meets v b
       → ((callers : ℕ) → AllByRecursion (IsRecord t (longer v.past u.past) callers) (u.receipts.own ∷ u.receipts.joined) → AllByRecursion (IsRecord t (longer v.past u.past) callers) lists)
       → TableInvariant t s.words (set (set s.views id b) other spent_log)
-  joined_table s r other u b lists at ne there stood free held out gains still gained =
-      let was : get_elem? s.views other ≡ some u = sym (set_else s.views id other b ne) ∙ there in
-      let longer_past = in_longer v.past u.past r.history (r.callers.each id v at).begins (r.callers.each other u was).begins in record {
-        history = r.history;
-        callers = callers_join t s.words s.views r.history r.callers id other v u b lists at ne there stands stood free gains (gained _);
-        shadow = r.shadow;
-        nodes = nodes_join t s.words s.views r.history r.shadow id other v u b at ne there still (subst (IsPrefix v.past) (sym gains.past) longer_past.0) held out r.nodes;
-        active = r.active;
-        observations = observations_join t s.words s.views r.history r.shadow id other v u b at ne there still (subst (IsPrefix v.past) (sym gains.past) longer_past.0) held out r.observations;
+  joined_table s r other u b lists at ne there stood free held out gains meets gained =
+      let callers : ℕ = total (λ z. z.made) (set (set s.views id b) other spent_log) + 1 in
+      let more : total (λ z. z.made) s.views + 1 ≤ callers = (let a = total_set_two (λ z. z.made) s.views id other v b u spent_log at there in let m = gains.made in omega (arith, a, m)) in record {
+        wide = r.wide;
+        memory = record {
+          history = r.memory.history;
+          callers = callers_join t (memory_of t s.words) s.views r.memory.history r.memory.callers id other v u b lists at ne there stands stood free gains (busy b gains.role) (gained _);
+          shadow = r.memory.shadow;
+          nodes = nodes_join t (memory_of t s.words).nodes s.views r.memory.history r.memory.shadow id other v u b at ne there meets.holdings held out r.memory.nodes;
+          active = r.memory.active;
+          observations = after_step (λ _ z. ObservationsHold t (memory_of t s.words) r.memory.history callers r.memory.shadow z) (set s.views id b) other spent_log (fresh (memory_of t s.words) r.memory.history callers r.memory.shadow spent_log refl refl)
+              (λ j x _ e. after_step (λ _ z. ObservationsHold t (memory_of t s.words) r.memory.history callers r.memory.shadow z) s.views id b (mine s r b at meets callers more) (λ k z _ f. later s r b at meets callers more z (r.memory.observations k z f)) j x e);
+        };
+        alone = after_step (λ _ z. IsAlone z.lineage → IsStill s.words z) (set s.views id b) other spent_log (λ _. tt)
+            (λ j x _ e. after_step (λ _ z. IsAlone z.lineage → IsStill s.words z) s.views id b (λ _. still s r b at meets) (others s r b at meets) j x e);
       }
 
   -- a caller that holds no lock and has no node out is joined into another
@@ -397,7 +402,7 @@ module _ (t : Terms) (id : ℕ) (v : Log) (stands : is_spent v.role ≡ false) w
         made = refl;
         lineage = refl;
         counts = λ n. sum_by-cons (λ receipts. count_by (is_done n) receipts) u.receipts.own u.receipts.joined;
-      }) (record { holdings = refl; sights = refl; own = refl; loads = refl }) (λ c h. h)
+      }) (record { holdings = refl; sights = refl; own = refl; loads = refl; turn = omega arith }) (λ c h. h)
 
   pub learns : (other : ℕ) (u : Log) → IsNote u → Joins (λ (s : State (Unit {0}) Log). TableInvariant t s.words s.views) id v other u (after_learn v u) spent_log
   learns other u note s r at ne there = joined_table s r other u (after_learn v u) [] at ne there (ap is_spent note.role) note.loader note.held note.out
@@ -413,4 +418,4 @@ module _ (t : Terms) (id : ℕ) (v : Log) (stands : is_spent v.role ≡ false) w
         made = (let a = note.made in omega (arith, a));
         lineage = refl;
         counts = λ n. let e : dones_in n u ≡ 0 = (λ i. dones n record { own = note.own i; joined = note.joined i }) in sym e;
-      }) (record { holdings = refl; sights = refl; own = refl; loads = refl }) (λ c h. tt)
+      }) (record { holdings = refl; sights = refl; own = refl; loads = refl; turn = omega arith }) (λ c h. tt)

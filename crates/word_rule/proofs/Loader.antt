@@ -1,5 +1,6 @@
 -- Steps on the loader's lock keep the rule.
-use Rattle.std.proofs.Common.{◌≡◌, ◌≢◌, ℕ, ◌+◌, ◌-◌, ◌/◌, ◌%◌, ◌^◌, ◌<◌, ◌≤◌, ◌⊎◌, List, [], ◌∷◌, length, get_or, set, sym, refl, ap, ◌∙◌, subst, inl, inr, ⊎_elim, arith, get_or-set_other, get_or-set_same, eq-eqb, ne_eqb, ◌==◌, MatchBool, IfSome, IsSome, IsSomeAnd, bit_or, true≢false, Option, Some, None, false, true, Bool}
+use Rattle.std.proofs.Common.{◌≡◌, ◌≢◌, ℕ, ◌+◌, ◌-◌, ◌/◌, ◌%◌, ◌^◌, ◌<◌, ◌≤◌, ◌⊎◌, List, [], ◌∷◌, ◌++◌, length, get_or, set, sym, refl, ap, ◌∙◌, subst, inl, inr, ⊎_elim, arith, eq-eqb, ne_eqb, ◌==◌, MatchBool, IfSome, IsSome, IsSomeAnd, bit_or, true≢false, Option, Some, None, false, true, Bool, length-set}
+use Rattle.std.specs.List.{AllByRecursion}
 use Rattle.std.proofs.lemmas.Option.{none-some, same_Some}
 use Rattle.std.proofs.lemmas.Nat.{or_disjoint}
 use Rattle.std.specs.Int.Bits.{or_add_and}
@@ -10,87 +11,85 @@ use lib.ListN.{get_elem?}
 use prog.Atomic.{either}
 use Rattle.atomic_table.specs.Table.{State, Me, step, Act, keeps, stepped, carried_after, Valid, Allows}
 use Rattle.atomic_table.proofs.Lists.{set_here, set_else}
+use Rattle.word_rule.specs.declared.log.Role.TheVariants as role
 use Rattle.word_rule.specs.declared.log.Log.{Log}
 use Rattle.word_rule.specs.declared.log.Terms.{Terms}
+use Rattle.word_rule.specs.declared.log.LoadEvent.{LoadEvent}
 use Rattle.word_rule.specs.declared.log.LoaderHolding.{LoaderHolding}
-use Rattle.word_rule.specs.Places.{copy_at, spare}
-use Rattle.word_rule.specs.Logs.{load_of, after_load, after_loader_lock, after_write, after_loader_release, after_loader_release_same}
-use Rattle.word_rule.specs.Callers.{CallersHold, AtLoader, LoaderLock, IsLockedAt}
+use Rattle.word_rule.specs.Places.{spare, upper, copy_words}
+use Rattle.word_rule.specs.Memory.{Memory, memory_of, part, copy_of}
+use Rattle.word_rule.specs.Logs.{is_spent, weight, turns, load_of, IsTaken, after_load, after_loader_lock, after_write, after_loader_release, after_loader_release_same}
+use Rattle.word_rule.specs.Callers.{total, CallersHold, IsIdle, HoldsLoader, AtLoader, LoaderLock, IsLockedAt}
+use Rattle.word_rule.specs.Observations.{ObservationsHold, WasFull}
+use Rattle.word_rule.specs.TableInvariant.{TableInvariant, IsStill}
 use Rattle.word_rule.specs.Plays.{Seated, looks, locks, marks, releases, releases_same}
-use Rattle.word_rule.proofs.Facts.{copy_at_set, after_step, within}
-use Rattle.word_rule.proofs.LoaderCallers.{IsLike, loader_step}
-use Rattle.word_rule.proofs.LoaderFrame.{IsSame, nodes_step, active_stays, observations_step}
-use Rattle.word_rule.specs.TableInvariant.{TableInvariant}
+use Rattle.word_rule.proofs.Facts.{after_step, within, decided}
+use Rattle.word_rule.proofs.Each.{all_map, some_of}
+use Rattle.word_rule.proofs.Memories.{set_loader, set_same, copy_length}
+use Rattle.word_rule.proofs.CallersFrame.{IsLike, callers_step, lock_stays}
+use Rattle.word_rule.proofs.ObservationsFrame.{Loads, no_more, observations_same, of_loader}
+use Rattle.word_rule.proofs.Frames.{table_step, loader_memory, still_after_turn, still_after_load}
 
 abbrev Sit : Type 0
 Sit = State (Unit {0}) Log
 
--- a log's part in the lock stays where the words that it names do
-part_stays : (t : Terms) (words : List ℕ) (x : ℕ) (holder : Option ℕ) (j : ℕ) (part : Option LoaderHolding) → 2 < length words
-    → ((version : ℕ) → IsLockedAt version (get_or words 2 0) → IsLockedAt version x) → AtLoader t words holder j part → AtLoader t (set words 2 x) holder j part
-part_stays t words x holder j None room keeps_lock h = tt
-part_stays t words x holder j (Some g) room keeps_lock h =
-    let here : get_or (set words 2 x) 2 0 ≡ x = get_or-set_same words 2 x 0 room in
-    let clock : get_or (set words 2 x) 0 0 ≡ get_or words 0 0 = get_or-set_other words 2 0 x 0 (λ e. omega (arith, e)) in
-    (h.0, (subst (IsLockedAt g.version) (sym here) (keeps_lock g.version h.1.0), h.1.1 ∙ (sym (copy_at_set t words x (spare (get_or words 0 0))) ∙ ap (λ k. copy_at t (set words 2 x) (spare k)) (sym clock))))
+-- a log's part in the lock stays where the word goes on to be its version, locked
+part_stays : (m : Memory) (x : ℕ) (holder : Option ℕ) (j : ℕ) (mine : Option LoaderHolding) → ((version : ℕ) → IsLockedAt version m.loader → IsLockedAt version x) → AtLoader m holder j mine → AtLoader (record m { loader = x }) holder j mine
+part_stays m x holder j None keeps_lock h = tt
+part_stays m x holder j (Some g) keeps_lock h = (h.0, record { locked = keeps_lock g.version h.1.locked; published = h.1.published; active = h.1.active; spare = h.1.spare })
 
--- the lock stays held, or free
-lock_stays : (t : Terms) (words : List ℕ) (views : List Log) (x id : ℕ) (v w : Log) (holder : Option ℕ) → get_elem? views id ≡ some v → w.loader ≡ v.loader → (holder ≡ None → x % 4 ≡ 0) → 2 < length words
-    → LoaderLock t words views holder → LoaderLock t (set words 2 x) (set views id w) holder
-lock_stays t words views x id v w None at same free room h = rw (get_or-set_same words 2 x 0 room) (free refl)
-lock_stays t words views x id v w (Some j) at same free room h = ⊎_elim
-    (λ (is : j ≡ id). (w, h.1, (subst (λ k. get_elem? (set views id w) k ≡ some w) (sym is) (set_here views id w (within views id v at)), same ∙ (ap (λ u. u.loader) (mine is) ∙ h.2.1))))
-    (λ (is : j ≢ id). (h.0, h.1, (set_else views id j w is ∙ h.2.0, h.2.1)))
-    (decided (ℕ_discrete j id))
-  where
-    decided : Dec (j ≡ id) → (j ≡ id) ⊎ (j ≢ id)
-    decided (yes e) = inl e
-    decided (no n) = inr n
-
-    mine : j ≡ id → v ≡ h.0
-    mine is = some-injective v h.0 (sym at ∙ (ap (get_elem? views) (sym is) ∙ h.2.0))
-
-module _ (t : Terms) (slots id : ℕ) (me : Seated) where
+module _ (t : Terms) (slots id : ℕ) (me : Seated) (caller : me.0.role ≡ role.Caller) where
   abbrev Holds : Sit → Type 0
   Holds s = TableInvariant t s.words s.views
 
   abbrev mine_at : Sit → Type 0
   mine_at s = get_elem? s.views id ≡ some me.0
 
-  room_in : (s : Sit) → Holds s → 2 < length s.words
-  room_in s r = omega (arith, r.callers.wide)
+  stands : is_spent me.0.role ≡ false
+  stands = ap is_spent caller
 
-  -- what is said of the rest stays
-  steps : (s : Sit) (r : Holds s) (w : Log) (x : ℕ) → mine_at s → IsSame me.0 w → CallersHold t (set s.words 2 x) (set s.views id w) r.history → TableInvariant t (set s.words 2 x) (set s.views id w)
-  steps s r w x at same callers = record {
-    history = r.history;
-    callers = callers;
-    shadow = r.shadow;
-    nodes = nodes_step t s.words s.views r.history r.shadow x id me.0 w at same r.nodes;
-    active = active_stays t s.words x r.history r.active;
-    observations = observations_step t s.words s.views r.history r.shadow x id me.0 w at same r.observations;
-  }
+  busy : (w : Log) → weight me.0.role ≡ 0 → IsIdle w
+  busy w zero_weight = absurd (let one : weight me.0.role ≡ 1 = ap weight caller in omega (arith, zero_weight, one))
 
-  -- a step that leaves the word and the holder
-  idle : (s : Sit) (r : Holds s) (w : Log) → mine_at s → IsLike me.0 w → IsSame me.0 w → w.loader ≡ me.0.loader → w.budget.credit ≡ me.0.budget.credit → TableInvariant t (set s.words 2 (get_or s.words 2 0)) (set s.views id w)
-  idle s r w at like as_was same credit = steps s r w (get_or s.words 2 0) at as_was (loader_step t s.words s.views r.history r.callers id me.0 w at like (get_or s.words 2 0) r.callers.holder (omega (arith, credit))
-      (lock_stays t s.words s.views (get_or s.words 2 0) id me.0 w r.callers.holder at same (λ e. subst (LoaderLock t s.words s.views) e r.callers.loader) (room_in s r) r.callers.loader)
-      (after_step (λ j u. AtLoader t (set s.words 2 (get_or s.words 2 0)) r.callers.holder j u.loader) s.views id w
-      (rw same (part_stays t s.words (get_or s.words 2 0) r.callers.holder id me.0.loader (room_in s r) (λ _ h. h) (r.callers.at_loader id me.0 at)))
-      (λ j u _ e. part_stays t s.words (get_or s.words 2 0) r.callers.holder j u.loader (room_in s r) (λ _ h. h) (r.callers.at_loader j u e))))
+  -- what the log has observed stays where a step on the lock's word changes it
+  observed : (s : Sit) (r : Holds s) (w : Log) (more : List LoadEvent) → mine_at s → w.sights ≡ me.0.sights → Loads me.0 w more
+      → AllByRecursion (λ l. (l.word ≡ 2) × (l.turns ≤ turns w.trace) × (l.receipts ≤ length me.0.receipts.own)) more → ObservationsHold t (memory_of t s.words) r.memory.history (total (λ u. u.made) s.views + 1) r.memory.shadow w
+  observed s r w more at sights loads told = observations_same t (memory_of t s.words) r.memory.history (total (λ u. u.made) s.views + 1) r.memory.shadow me.0 w more loads sights
+      (all_map (λ l. (l.word ≡ 2) × (l.turns ≤ turns w.trace) × (l.receipts ≤ length me.0.receipts.own)) (WasFull t r.memory.history (total (λ u. u.made) s.views + 1) me.0.receipts.own)
+      (λ l h. of_loader t r.memory.history (total (λ u. u.made) s.views + 1) me.0.receipts.own l h.0) more told)
+      (all_map (λ l. (l.word ≡ 2) × (l.turns ≤ turns w.trace) × (l.receipts ≤ length me.0.receipts.own)) (λ l. (l.turns ≤ turns w.trace) × (l.receipts ≤ length me.0.receipts.own)) (λ l h. (h.1, h.2)) more told)
+      (r.memory.observations id me.0 at)
 
-  as_it_was : (v : Log) → IsLike v v
-  as_it_was v = record { terms = refl; role = refl; past = refl; receipts = refl; allowance = refl; made = refl; lineage = refl }
+  -- a step that changes the lock's word to x
+  writes : (s : Sit) (r : Holds s) (w : Log) (x : ℕ) (holder : Option ℕ) → mine_at s → IsLike me.0 w → w.holdings ≡ me.0.holdings → w.sights ≡ me.0.sights → w.trace.loads ≡ me.0.trace.loads → turns me.0.trace < turns w.trace
+      → x / 4 + w.budget.credit ≤ get_or s.words 2 0 / 4 + me.0.budget.credit → LoaderLock x (set s.views id w) holder
+      → ((j : ℕ) (u : Log) → get_elem? (set s.views id w) j ≡ some u → AtLoader (record (memory_of t s.words) { loader = x }) holder j u.loader) → TableInvariant t (set s.words 2 x) (set s.views id w)
+  writes s r w x holder at like holdings sights loads turn fewer lock at_lock =
+      table_step t s.words s.views r id me.0 w at stands (set s.words 2 x) (record (memory_of t s.words) { loader = x }) (length-set s.words 2 x) (set_loader t s.words r.wide x)
+      (loader_memory t s.words s.views r id me.0 w at stands x holdings like.made
+      (callers_step t (memory_of t s.words) s.views r.memory.history r.memory.callers id me.0 w at like (record (memory_of t s.words) { loader = x }) holder refl (omega (arith, fewer)) lock at_lock (λ zero_weight. busy w (ap weight (sym like.role) ∙ zero_weight)))
+      (observed s r w [] at sights (no_more me.0 w (ap (λ k. k.own) like.receipts) (omega (arith, turn)) loads) tt))
+      (λ _. still_after_turn (set s.words 2 x) me.0 w turn loads (r.memory.observations id me.0 at).earlier)
+
+  -- a load of the lock's word
+  loaded : (s : Sit) (r : Holds s) → mine_at s → TableInvariant t (set s.words 2 (get_or s.words 2 0)) (set s.views id (after_load 2 (get_or s.words 2 0) me.0))
+  loaded s r at =
+      let x : ℕ = get_or s.words 2 0 in
+      let w : Log = after_load 2 x me.0 in
+      let m : Memory = memory_of t s.words in
+      let like : IsLike me.0 w = record { terms = refl; role = refl; past = refl; receipts = refl; allowance = refl; made = refl; lineage = refl } in
+      table_step t s.words s.views r id me.0 w at stands (set s.words 2 x) (record m { loader = x }) (length-set s.words 2 x) (set_loader t s.words r.wide x)
+      (loader_memory t s.words s.views r id me.0 w at stands x refl refl
+      (callers_step t m s.views r.memory.history r.memory.callers id me.0 w at like (record m { loader = x }) r.memory.callers.holder refl (omega arith)
+      (lock_stays s.views x x id me.0 w r.memory.callers.holder at refl (λ e. subst (LoaderLock x s.views) e r.memory.callers.loader) r.memory.callers.loader)
+      (after_step (λ j u. AtLoader (record m { loader = x }) r.memory.callers.holder j u.loader) s.views id w
+      (part_stays m x r.memory.callers.holder id me.0.loader (λ _ h. h) (r.memory.callers.at_loader id me.0 at))
+      (λ j u _ e. part_stays m x r.memory.callers.holder j u.loader (λ _ h. h) (r.memory.callers.at_loader j u e))) (busy w))
+      (observed s r w (load_of me.0 2 x ∷ []) at refl (record { own = refl; turns = omega arith; loads = refl }) ((refl, omega arith, omega arith), tt)))
+      (λ alone. subst (λ ws. IsStill ws w) (sym (set_same s.words 2)) (still_after_load s.words me.0 w (load_of me.0 2 x) refl refl refl (r.alone id me.0 at alone)))
 
   pub loads_loader : Allows Holds slots id me 2 (λ n. n) (looks (step slots 2 0 0 none) me)
-  loads_loader s r deep at small =
-      let w = after_load 2 (get_or s.words 2 0) me.0 in (
-        w,
-        keeps,
-        tt,
-        idle s r w at (record { terms = refl; role = refl; past = refl; receipts = refl; allowance = refl; made = refl; lineage = refl }) (record { holdings = refl; sights = refl; own = refl; past = refl; loads = inr (load_of me.0 2 (get_or s.words 2 0), (refl, refl)) }) refl refl,
-        refl,
-      )
+  loads_loader s r deep at small = (after_load 2 (get_or s.words 2 0) me.0, keeps, tt, loaded s r at, refl)
 
   by_test : (n old : ℕ) (P : Bool → Type 0) → (n ≡ old → P true) → (n ≢ old → P false) → P (n == old)
   by_test n old P hit miss = go (ℕ_discrete n old)
@@ -100,49 +99,56 @@ module _ (t : Terms) (slots id : ℕ) (me : Seated) where
       go (no ne) = subst P (sym (ne_eqb n old ne)) (miss ne)
 
   -- nobody holds a lock whose word is even
-  even_is_free : (s : Sit) (r : Holds s) → get_or s.words 2 0 % 2 ≡ 0 → r.callers.holder ≡ None
-  even_is_free s r even = go r.callers.holder r.callers.loader (λ j u e. r.callers.at_loader j u e)
+  even_is_free : (s : Sit) (r : Holds s) → get_or s.words 2 0 % 2 ≡ 0 → r.memory.callers.holder ≡ None
+  even_is_free s r even = go r.memory.callers.holder r.memory.callers.loader (λ j u e. r.memory.callers.at_loader j u e)
     where
-      go : (holder : Option ℕ) → LoaderLock t s.words s.views holder → ((j : ℕ) (u : Log) → get_elem? s.views j ≡ some u → AtLoader t s.words holder j u.loader) → holder ≡ None
+      go : (holder : Option ℕ) → LoaderLock (get_or s.words 2 0) s.views holder → ((j : ℕ) (u : Log) → get_elem? s.views j ≡ some u → AtLoader (memory_of t s.words) holder j u.loader) → holder ≡ None
       go None h all = refl
-      go (Some j) h all = let a : AtLoader t s.words (Some j) j (Some h.1) = subst (AtLoader t s.words (Some j) j) h.2.1 (all j h.0 h.2.0) in
-          absurd (⊎_elim (λ (e : get_or s.words 2 0 ≡ h.1.version + 1). let z = a.1.0.0 in omega (arith, e, z, even)) (λ (e : get_or s.words 2 0 ≡ h.1.version + 3). let z = a.1.0.0 in omega (arith, e, z, even)) a.1.0.1)
+      go (Some j) h all = let a : AtLoader (memory_of t s.words) (Some j) j (Some h.1) = subst (AtLoader (memory_of t s.words) (Some j) j) h.2.1 (all j h.0 h.2.0) in
+          let locked = a.1.locked in
+          absurd (⊎_elim (λ (e : get_or s.words 2 0 ≡ h.1.version + 1). let z = locked.0 in omega (arith, e, z, even)) (λ (e : get_or s.words 2 0 ≡ h.1.version + 3). let z = locked.0 in omega (arith, e, z, even)) locked.1)
 
   -- where nobody holds it, no log has it
-  no_part : (words : List ℕ) (holder : Option ℕ) (j : ℕ) (part : Option LoaderHolding) → holder ≢ Some j → AtLoader t words holder j part → part ≡ None
-  no_part words holder j None other h = refl
-  no_part words holder j (Some g) other h = absurd (other h.0)
+  no_part : (m : Memory) (holder : Option ℕ) (j : ℕ) (mine : Option LoaderHolding) → holder ≢ Some j → AtLoader m holder j mine → mine ≡ None
+  no_part m holder j None other h = refl
+  no_part m holder j (Some g) other h = absurd (other h.0)
 
-  nothing : (words : List ℕ) (holder : Option ℕ) (j : ℕ) (part : Option LoaderHolding) → part ≡ None → AtLoader t words holder j part
-  nothing words holder j part is = subst (AtLoader t words holder j) (sym is) tt
+  nothing : (m : Memory) (holder : Option ℕ) (j : ℕ) (mine : Option LoaderHolding) → mine ≡ None → AtLoader m holder j mine
+  nothing m holder j mine is = subst (AtLoader m holder j) (sym is) tt
 
   counter_bound : (s : Sit) (r : Holds s) → get_or s.words 2 0 / 4 ≤ 2 ^ 60 + 2 ^ 32
-  counter_bound s r = let c = r.callers.counted in omega (arith, c)
+  counter_bound s r = let c = r.memory.callers.counted in omega (arith, c)
 
   pub locks_loader : (seen : ℕ) → seen % 2 ≡ 0 → Allows Holds slots id me 2 (λ n. either (n == seen) (seen + 1) n) (locks (step slots 2 seen (seen + 1) none) me)
   locks_loader seen even s r deep at small =
       let n : ℕ = get_or s.words 2 0 in
       by_test n seen (λ b. (w : Log) × (a : Act (Unit {0})) × Valid s.homes me.1 a × Holds (stepped s 2 (either b (seen + 1) n) id me.1 w a) × MatchBool b
-      ((seen % 4 ≡ 0) × (seen < 2 ^ 63) × ((copy : List ℕ) × (◌≡◌ {A = Seated} (w, carried_after me.1 a) (after_loader_lock seen copy me.0, me.1)))) (◌≡◌ {A = Seated} (w, carried_after me.1 a) (after_load 2 n me.0, me.1)))
+      ((seen % 4 ≡ 0) × (seen < 2 ^ 63) × ((h : LoaderHolding) × (IsTaken me.0.terms seen h × ◌≡◌ {A = Seated} (w, carried_after me.1 a) (after_loader_lock h me.0, me.1))))
+      (◌≡◌ {A = Seated} (w, carried_after me.1 a) (after_load 2 n me.0, me.1)))
       (λ hit.
-      let free : r.callers.holder ≡ None = even_is_free s r (rw hit even) in
-      let four : seen % 4 ≡ 0 = rw hit at (subst (LoaderLock t s.words s.views) free r.callers.loader) in
+      let free : r.memory.callers.holder ≡ None = even_is_free s r (rw hit even) in
+      let four : seen % 4 ≡ 0 = rw hit at (subst (LoaderLock n s.views) free r.memory.callers.loader) in
       let bound = counter_bound s r in
-      let copy : List ℕ = copy_at t s.words (spare (get_or s.words 0 0)) in
-      let w : Log = after_loader_lock seen copy me.0 in
-      let here : get_or (set s.words 2 (seen + 1)) 2 0 ≡ seen + 1 = get_or-set_same s.words 2 (seen + 1) 0 (room_in s r) in
-      let clock : get_or (set s.words 2 (seen + 1)) 0 0 ≡ get_or s.words 0 0 = get_or-set_other s.words 2 0 (seen + 1) 0 (λ e. omega (arith, e)) in (
+      let m : Memory = memory_of t s.words in
+      let u : ℕ = upper (get_or s.words 0 0) in
+      let h : LoaderHolding = record { version = seen; published = u; active = copy_of t s.words (u % 2); spare = copy_of t s.words (spare (get_or s.words 0 0)); stored = false } in
+      let w : Log = after_loader_lock h me.0 in
+      let terms : me.0.terms ≡ t = (r.memory.callers.each id me.0 at).terms stands in (
         w,
         keeps,
         tt,
-        steps s r w (seen + 1) at (record { holdings = refl; sights = refl; own = refl; past = refl; loads = inl refl }) (loader_step t s.words s.views r.history r.callers id me.0 w at (record { terms = refl; role = refl; past = refl; receipts = refl; allowance = refl; made = refl; lineage = refl }) (seen + 1) (Some id) (omega (arith, hit, four))
-            (w, record { version = seen; words = copy; stored = false }, (set_here s.views id w (within s.views id me.0 at), refl))
-            (after_step (λ j u. AtLoader t (set s.words 2 (seen + 1)) (Some id) j u.loader) s.views id w
-            (refl, ((four, inl here), sym (copy_at_set t s.words (seen + 1) (spare (get_or s.words 0 0))) ∙ ap (λ k. copy_at t (set s.words 2 (seen + 1)) (spare k)) (sym clock)))
-            (λ j u _ e. nothing (set s.words 2 (seen + 1)) (Some id) j u.loader (no_part s.words r.callers.holder j u.loader (λ h. none-some j (sym free ∙ h)) (r.callers.at_loader j u e))))),
-        (four, omega (arith, bound, hit), (copy, refl)),
+        writes s r w (seen + 1) (Some id) at (record { terms = refl; role = refl; past = refl; receipts = refl; allowance = refl; made = refl; lineage = refl }) refl refl refl (omega arith) (omega (arith, hit, four))
+            (w, h, (set_here s.views id w (within s.views id me.0 at), refl))
+            (after_step (λ j z. AtLoader (record m { loader = seen + 1 }) (Some id) j z.loader) s.views id w
+            (refl, record { locked = (four, inl refl); published = refl; active = refl; spare = refl })
+            (λ j z _ e. nothing (record m { loader = seen + 1 }) (Some id) j z.loader (no_part m r.memory.callers.holder j z.loader (λ k. none-some j (sym free ∙ k)) (r.memory.callers.at_loader j z e)))),
+        (
+          four,
+          omega (arith, bound, hit),
+          (h, (subst (λ k. IsTaken k seen h) (sym terms) (record { taken = refl; active = copy_length t s.words r.wide (u % 2) (omega arith); spare = copy_length t s.words r.wide (spare (get_or s.words 0 0)) (omega arith); clean = refl }), refl)),
+        ),
       ))
-      (λ miss. (after_load 2 n me.0, keeps, tt, idle s r (after_load 2 n me.0) at (record { terms = refl; role = refl; past = refl; receipts = refl; allowance = refl; made = refl; lineage = refl }) (record { holdings = refl; sights = refl; own = refl; past = refl; loads = inr (load_of me.0 2 (get_or s.words 2 0), (refl, refl)) }) refl refl, refl))
+      (λ miss. (after_load 2 n me.0, keeps, tt, loaded s r at, refl))
 
   -- the low two bits of an odd word set
   abbrev marked : ℕ → ℕ
@@ -155,31 +161,33 @@ module _ (t : Terms) (slots id : ℕ) (me : Seated) where
       (◌≡◌ {A = Seated} (w, carried_after me.1 a) (after_write me.0, me.1)) (◌≡◌ {A = Seated} (w, carried_after me.1 a) (after_load 2 n me.0, me.1)))
       (λ hit.
       let w : Log = after_write me.0 in
+      let m : Memory = memory_of t s.words in
       let keeps_lock : (version : ℕ) → IsLockedAt version (get_or s.words 2 0) → IsLockedAt version (marked seen) = λ version h. (h.0, inr (⊎_elim (λ (e : get_or s.words 2 0 ≡ version + 1). let z = h.0 in omega (arith, e, z, hit)) (λ (e : get_or s.words 2 0 ≡ version + 3). let z = h.0 in omega (arith, e, z, hit)) h.1)) in (
         w,
         keeps,
         tt,
-        steps s r w (marked seen) at (record { holdings = refl; sights = refl; own = refl; past = refl; loads = inl refl }) (loader_step t s.words s.views r.history r.callers id me.0 w at (record { terms = refl; role = refl; past = refl; receipts = refl; allowance = refl; made = refl; lineage = refl }) (marked seen) r.callers.holder (omega (arith, hit))
-            (lock_stays t s.words s.views (marked seen) id me.0 w r.callers.holder at refl (λ e. let z : get_or s.words 2 0 % 4 ≡ 0 = subst (LoaderLock t s.words s.views) e r.callers.loader in absurd (omega (arith, z, odd, hit))) (room_in s r) r.callers.loader)
-            (after_step (λ j u. AtLoader t (set s.words 2 (marked seen)) r.callers.holder j u.loader) s.views id w
-            (part_stays t s.words (marked seen) r.callers.holder id me.0.loader (room_in s r) keeps_lock (r.callers.at_loader id me.0 at))
-            (λ j u _ e. part_stays t s.words (marked seen) r.callers.holder j u.loader (room_in s r) keeps_lock (r.callers.at_loader j u e)))),
+        writes s r w (marked seen) r.memory.callers.holder at (record { terms = refl; role = refl; past = refl; receipts = refl; allowance = refl; made = refl; lineage = refl }) refl refl refl (omega arith) (omega (arith, hit))
+            (lock_stays s.views n (marked seen) id me.0 w r.memory.callers.holder at refl (λ e. let z : get_or s.words 2 0 % 4 ≡ 0 = subst (LoaderLock n s.views) e r.memory.callers.loader in absurd (omega (arith, z, odd, hit))) r.memory.callers.loader)
+            (after_step (λ j u. AtLoader (record m { loader = marked seen }) r.memory.callers.holder j u.loader) s.views id w
+            (part_stays m (marked seen) r.memory.callers.holder id me.0.loader keeps_lock (r.memory.callers.at_loader id me.0 at))
+            (λ j u _ e. part_stays m (marked seen) r.memory.callers.holder j u.loader keeps_lock (r.memory.callers.at_loader j u e))),
         refl,
       ))
-      (λ miss. (after_load 2 n me.0, keeps, tt, idle s r (after_load 2 n me.0) at (record { terms = refl; role = refl; past = refl; receipts = refl; allowance = refl; made = refl; lineage = refl }) (record { holdings = refl; sights = refl; own = refl; past = refl; loads = inr (load_of me.0 2 (get_or s.words 2 0), (refl, refl)) }) refl refl, refl))
+      (λ miss. (after_load 2 n me.0, keeps, tt, loaded s r at, refl))
 
   -- a log that holds the lock: the word is its version, locked, and no other log holds it
-  mine_held : (s : Sit) (r : Holds s) (h : LoaderHolding) → mine_at s → me.0.loader ≡ Some h → (r.callers.holder ≡ Some id) × IsLockedAt h.version (get_or s.words 2 0)
-  mine_held s r h at is = let a : AtLoader t s.words r.callers.holder id (Some h) = subst (AtLoader t s.words r.callers.holder id) is (r.callers.at_loader id me.0 at) in (a.0, a.1.0)
+  mine_held : (s : Sit) (r : Holds s) (h : LoaderHolding) → mine_at s → me.0.loader ≡ Some h → (r.memory.callers.holder ≡ Some id) × IsLockedAt h.version (get_or s.words 2 0)
+  mine_held s r h at is = let a : AtLoader (memory_of t s.words) r.memory.callers.holder id (Some h) = subst (AtLoader (memory_of t s.words) r.memory.callers.holder id) is (r.memory.callers.at_loader id me.0 at) in (a.0, a.1.locked)
 
   -- the lock is let go with a word that is a multiple of 4
-  lets_go : (s : Sit) (r : Holds s) (h : LoaderHolding) (w : Log) (x : ℕ) → mine_at s → me.0.loader ≡ Some h → IsLike me.0 w → IsSame me.0 w → w.loader ≡ None → x % 4 ≡ 0 → x / 4 + w.budget.credit ≤ get_or s.words 2 0 / 4 + me.0.budget.credit
-      → TableInvariant t (set s.words 2 x) (set s.views id w)
-  lets_go s r h w x at is like as_was gone four fewer =
+  lets_go : (s : Sit) (r : Holds s) (h : LoaderHolding) (w : Log) (x : ℕ) → mine_at s → me.0.loader ≡ Some h → IsLike me.0 w → w.holdings ≡ me.0.holdings → w.sights ≡ me.0.sights → w.trace.loads ≡ me.0.trace.loads → turns me.0.trace < turns w.trace → w.loader ≡ None → x % 4 ≡ 0
+      → x / 4 + w.budget.credit ≤ get_or s.words 2 0 / 4 + me.0.budget.credit → TableInvariant t (set s.words 2 x) (set s.views id w)
+  lets_go s r h w x at is like holdings sights loads turn gone four fewer =
       let mine = mine_held s r h at is in
-      steps s r w x at as_was (loader_step t s.words s.views r.history r.callers id me.0 w at like x None fewer (rw (get_or-set_same s.words 2 x 0 (room_in s r)) four)
-      (after_step (λ j u. AtLoader t (set s.words 2 x) None j u.loader) s.views id w (nothing (set s.words 2 x) None id w.loader gone)
-      (λ j u other e. nothing (set s.words 2 x) None j u.loader (no_part s.words r.callers.holder j u.loader (λ held. other (same_Some _ _ (sym held ∙ mine.0))) (r.callers.at_loader j u e)))))
+      let m : Memory = memory_of t s.words in
+      writes s r w x None at like holdings sights loads turn fewer four
+      (after_step (λ j u. AtLoader (record m { loader = x }) None j u.loader) s.views id w (nothing (record m { loader = x }) None id w.loader gone)
+      (λ j u other e. nothing (record m { loader = x }) None j u.loader (no_part m r.memory.callers.holder j u.loader (λ held. other (same_Some _ _ (sym held ∙ mine.0))) (r.memory.callers.at_loader j u e))))
 
   pub releases_loader : (h : LoaderHolding) → me.0.loader ≡ Some h → 0 < me.0.budget.credit → Allows Holds slots id me 2 (λ _. h.version + 4) (releases (step slots 2 (h.version + 4) 0 none) me)
   releases_loader h is some_credit s r deep at small =
@@ -189,7 +197,7 @@ module _ (t : Terms) (slots id : ℕ) (me : Seated) where
         w,
         keeps,
         tt,
-        lets_go s r h w (h.version + 4) at is (record { terms = refl; role = refl; past = refl; receipts = refl; allowance = refl; made = refl; lineage = refl }) (record { holdings = refl; sights = refl; own = refl; past = refl; loads = inl refl }) refl (omega (arith, four))
+        lets_go s r h w (h.version + 4) at is (record { terms = refl; role = refl; past = refl; receipts = refl; allowance = refl; made = refl; lineage = refl }) refl refl refl (omega arith) refl (omega (arith, four))
             (⊎_elim (λ (e : get_or s.words 2 0 ≡ h.version + 1). omega (arith, e, four, some_credit)) (λ (e : get_or s.words 2 0 ≡ h.version + 3). omega (arith, e, four, some_credit)) lock.1),
         (refl, subst (λ part. IfSome part (λ g. IsLockedAt g.version (get_or s.words 2 0))) (sym is) lock),
       )
@@ -202,7 +210,7 @@ module _ (t : Terms) (slots id : ℕ) (me : Seated) where
         w,
         keeps,
         tt,
-        lets_go s r h w h.version at is (record { terms = refl; role = refl; past = refl; receipts = refl; allowance = refl; made = refl; lineage = refl }) (record { holdings = refl; sights = refl; own = refl; past = refl; loads = inl refl }) refl four
+        lets_go s r h w h.version at is (record { terms = refl; role = refl; past = refl; receipts = refl; allowance = refl; made = refl; lineage = refl }) refl refl refl (omega arith) refl four
             (⊎_elim (λ (e : get_or s.words 2 0 ≡ h.version + 1). omega (arith, e, four)) (λ (e : get_or s.words 2 0 ≡ h.version + 3). omega (arith, e, four)) lock.1),
         (refl, subst (λ part. IfSome part (λ g. IsLockedAt g.version (get_or s.words 2 0))) (sym is) lock),
       )
@@ -220,10 +228,6 @@ module _ (t : Terms) (slots id : ℕ) (me : Seated) where
       subst (λ x. Allows Holds slots id me 2 (λ n. either (n == seen) x n) (marks (step slots 2 seen x none) me)) set_bits (marks_loader seen odd)
 
   -- and the version is the one that the caller keeps
-  some_of : {A : Type 0} (o : Option A) → IsSome o → (a : A) × (o ≡ Some a)
-  some_of None h = absurd (true≢false (sym h))
-  some_of (Some a) h = (a, refl)
-
   pub releases_kept : (version : ℕ) → IsSome me.0.loader → IfSome me.0.loader (λ h. (h.version ≡ version) × (h.version < 2 ^ 63)) → 0 < me.0.budget.credit
       → Allows Holds slots id me 2 (λ _. version + 4) (releases (step slots 2 (version + 4) 0 none) me)
   releases_kept version held kept some_credit =

@@ -1,10 +1,11 @@
 -- What holds of the shared words and of all callers' logs between any two steps: the callers and the loader's lock.
-use Rattle.std.specs.Prelude.{◌≡◌, ℕ, ◌+◌, ◌<◌, ◌≤◌, ◌%◌, ◌⊎◌, Bool, List, [], ◌∷◌, ◌++◌, length, ◌==◌, ◌&&◌, nat_le, slice_index, Option, Some, None, true, false}
+use Rattle.std.specs.Prelude.{◌≡◌, ℕ, ◌+◌, ◌<◌, ◌≤◌, ◌%◌, ◌⊎◌, Bool, List, [], ◌∷◌, ◌++◌, length, ◌==◌, ◌&&◌, nat_le, ◌^◌, Option, Some, None, true, false}
 use Rattle.std.specs.List.{AllByRecursion, sum_by, count_by}
 use mathlib.Core.Option.{some}
 use mathlib.Core.List.{IsPrefix}
 use lib.ListN.{get_elem?}
 use Rattle.reg_model.specs.State.{State, opening}
+use Rattle.reg_model.specs.Interval.{IsSpan}
 use Rattle.reg_model.specs.declared.span.Member.{Member}
 use Rattle.reg_model.specs.History.{IsHistory}
 use Rattle.reg_model.specs.Receipt.{moment, accepted, AllHold, AreInOrder}
@@ -19,8 +20,9 @@ use Rattle.word_rule.specs.declared.log.Lineage.{Lineage}
 use Rattle.word_rule.specs.declared.log.LoaderHolding.{LoaderHolding}
 use Rattle.word_rule.specs.declared.log.Log.{Log}
 use Rattle.word_rule.specs.Names.{name_count, is_same}
-use Rattle.word_rule.specs.Logs.{is_spent}
-use Rattle.word_rule.specs.Places.{ALLOWANCE, CREDIT, CLOCK, LOADER, word_count, lower, upper, copy_at, spare, counters}
+use Rattle.word_rule.specs.Logs.{is_spent, weight}
+use Rattle.word_rule.specs.Memory.{Memory, counters}
+use Rattle.word_rule.specs.Places.{ALLOWANCE, CREDIT, lower, upper, spare}
 
 -- a number of each log, added up
 abbrev pub total : (Log → ℕ) → List Log → ℕ
@@ -42,13 +44,13 @@ is_of_loader (Unload base) = true
 abbrev pub publications : List Update → ℕ
 publications updates = count_by is_of_loader updates
 
--- the payload of a member that is made known is one of those that there are
-abbrev pub HasPayload : Terms → Member → Type 0
-HasPayload t m = m.payload < t.payloads
+-- a member that may be made known: a span, and one of the payloads that there are
+abbrev pub IsMemberOf : Terms → Member → Type 0
+IsMemberOf t m = IsSpan m.span × (m.payload < t.payloads)
 
 abbrev pub IsOfTerms : Terms → Update → Type 0
-IsOfTerms t (Register m) = HasPayload t m
-IsOfTerms t (Load m) = HasPayload t m
+IsOfTerms t (Register m) = IsMemberOf t m
+IsOfTerms t (Load m) = IsMemberOf t m
 IsOfTerms t (Deregister base) = Unit {0}
 IsOfTerms t (Unload base) = Unit {0}
 
@@ -57,7 +59,8 @@ pub record AreTerms (t : Terms) : Type 0 where
   pub nodes : (4 ≤ t.nodes) × (t.nodes ≤ 16384)
   pub loads : (1 ≤ t.loads) × (t.loads ≤ 1024)
   pub fixed : AscendFrom 0 t.fixed
-  pub payloads : AllByRecursion (HasPayload t) t.fixed
+  pub payloads : t.payloads < 2 ^ 32
+  pub members : AllByRecursion (IsMemberOf t) t.fixed
 
 -- whether an answer is the n-th update's
 abbrev pub is_done_as : ℕ → ℕ → Option Update → Bool
@@ -101,6 +104,12 @@ pub record IsAlone (l : Lineage) : Type 0 where
   pub first : 0 < name_count [] l.unmatched
   pub all : l.missing ≡ []
 
+-- it holds no lock, and has no node out
+pub record IsIdle (v : Log) : Type 0 where
+  pub held : v.holdings.held ≡ []
+  pub out : v.holdings.out ≡ []
+  pub loader : v.loader ≡ None
+
 -- What is said of one log alone, where there is this history and so many callers were ever made.
 pub record LogHolds (t : Terms) (history : List Update) (callers : ℕ) (v : Log) : Type 0 where
   -- it has the terms of its words, unless it was joined away
@@ -110,6 +119,8 @@ pub record LogHolds (t : Terms) (history : List Update) (callers : ℕ) (v : Log
   -- each of its receipts holds in what it has seen
   pub receipts : AreRecords t v.past callers v.receipts
   pub lineage : LineageHolds v.lineage
+  -- one that is no caller's holds no lock and has no node out
+  pub idle : weight v.role ≡ 0 → IsIdle v
 
 -- The log has each number of what it has seen, once, and each of its receipts holds in it, the callers being those that it
 -- made, directly or through others, and the first.
@@ -121,19 +132,23 @@ pub record IsWhole (v : Log) : Type 0 where
 abbrev pub IsLockedAt : ℕ → ℕ → Type 0
 IsLockedAt version word = (version % 4 ≡ 0) × ((word ≡ version + 1) ⊎ (word ≡ version + 3))
 
--- the loader's lock, where this log has it
-abbrev pub HoldsLoader : Terms → List ℕ → LoaderHolding → Type 0
-HoldsLoader t words h = IsLockedAt h.version (slice_index words LOADER) × (h.words ≡ copy_at t words (spare (slice_index words CLOCK)))
+-- The loader's lock, where this log has it. Only its holder stores in copies and publishes, so it knows both copies and how
+-- many updates of the loader there were.
+pub record HoldsLoader (m : Memory) (h : LoaderHolding) : Type 0 where
+  pub locked : IsLockedAt h.version m.loader
+  pub published : h.published ≡ upper m.clock
+  pub active : h.active ≡ m.copies (upper m.clock % 2)
+  pub spare : h.spare ≡ m.copies (spare m.clock)
 
 -- one log's part in the loader's lock
-abbrev pub AtLoader : Terms → List ℕ → Option ℕ → ℕ → Option LoaderHolding → Type 0
-AtLoader t words holder id None = Unit {0}
-AtLoader t words holder id (Some h) = (holder ≡ Some id) × HoldsLoader t words h
+abbrev pub AtLoader : Memory → Option ℕ → ℕ → Option LoaderHolding → Type 0
+AtLoader m holder id None = Unit {0}
+AtLoader m holder id (Some h) = (holder ≡ Some id) × HoldsLoader m h
 
 -- where nobody holds it, the version word is a multiple of 4; where one does, that one's log has it
-abbrev pub LoaderLock : Terms → List ℕ → List Log → Option ℕ → Type 0
-LoaderLock t words views None = slice_index words LOADER % 4 ≡ 0
-LoaderLock t words views (Some id) = (v : Log) × (h : LoaderHolding) × ((get_elem? views id ≡ some v) × (v.loader ≡ Some h))
+abbrev pub LoaderLock : ℕ → List Log → Option ℕ → Type 0
+LoaderLock word views None = word % 4 ≡ 0
+LoaderLock word views (Some id) = (v : Log) × (h : LoaderHolding) × ((get_elem? views id ≡ some v) × (v.loader ≡ Some h))
 
 -- How the logs were forked from one another.
 pub record LineagesHold (views : List Log) : Type 0 where
@@ -148,23 +163,24 @@ pub record LineagesHold (views : List Log) : Type 0 where
   pub spent : (id : ℕ) (v : Log) → get_elem? views id ≡ some v → is_spent v.role ≡ true → (v.receipts.own ≡ []) × (v.receipts.joined ≡ []) × (v.made ≡ 0)
 
 -- What holds of the callers and of the loader's lock, where this is the history.
-pub record CallersHold (t : Terms) (words : List ℕ) (views : List Log) (history : List Update) : Type 0 where
+pub record CallersHold (t : Terms) (m : Memory) (views : List Log) (history : List Update) : Type 0 where
   pub holder : Option ℕ
-  pub wide : length words ≡ word_count t
   -- the clock counts the updates, and those of the loader
   pub lawful : IsHistory (start t) history
-  pub updates : lower (slice_index words CLOCK) ≡ length history
-  pub published : upper (slice_index words CLOCK) ≡ publications history
+  pub updates : lower m.clock ≡ length history
+  pub published : upper m.clock ≡ publications history
   pub terms : AreTerms t
-  pub payloads : AllByRecursion (IsOfTerms t) history
+  pub members : AllByRecursion (IsOfTerms t) history
   -- made, begun and still allowed: no more updates than a registry takes
   pub room : length history + total (λ v. v.budget.allowance) views ≤ ALLOWANCE
   -- each number stands in one log, once
   pub numbers : (n : ℕ) → total (dones_in n) views ≡ number_of (length history) n
   pub each : (id : ℕ) (v : Log) → get_elem? views id ≡ some v → LogHolds t history (total (λ w. w.made) views + 1) v
+  -- there are no more callers than were ever made, and the first
+  pub weights : total (λ v. weight v.role) views ≤ total (λ v. v.made) views + 1
   -- one caller at most holds the loader's lock
-  pub loader : LoaderLock t words views holder
-  pub at_loader : (id : ℕ) (v : Log) → get_elem? views id ≡ some v → AtLoader t words holder id v.loader
+  pub loader : LoaderLock m.loader views holder
+  pub at_loader : (id : ℕ) (v : Log) → get_elem? views id ≡ some v → AtLoader m holder id v.loader
   -- a version never returns: its counter has the credits above it
-  pub counted : counters t words + total (λ v. v.budget.credit) views ≤ CREDIT
+  pub counted : counters t m + total (λ v. v.budget.credit) views ≤ CREDIT
   pub lineages : LineagesHold views

@@ -12,11 +12,11 @@ use Rattle.word_rule.specs.declared.log.Log.{Log}
 use Rattle.word_rule.specs.declared.log.Holding.{Holding}
 use Rattle.tree_shape.specs.declared.node.Frame.{Frame}
 use Rattle.word_rule.specs.Spelling.{spelled}
-use Rattle.word_rule.specs.Held.{held_of, words_of, settled_in, now_in, now_of, marked_in, frame_of}
+use Rattle.word_rule.specs.Held.{held_of, settled_in, now_in, now_of, marked_in, frame_of}
 
 -- the words of a held node spell another content than its settled one
 abbrev pub Differs : Holding → Type 0
-Differs h = spelled (words_of h) ≢ Some h.settled
+Differs h = spelled (h.words) ≢ Some h.settled
 
 -- whether a held node is out
 abbrev pub is_fresh : List Holding → List ℕ → ℕ → Bool
@@ -43,7 +43,7 @@ out_after v top group =
 -- The exchange of a group of held live nodes under one of them, the top, and of the held nodes that are out is lawful.
 pub record IsLawfulExchange (v : Log) (update : Option Update) (top : ℕ) (group : ℕ → Bool) : Type 0 where
   -- the words of every held node spell a node
-  pub spell : AllByRecursion (λ h. IsSome (spelled (words_of h))) v.holdings.held
+  pub spell : AllByRecursion (λ h. IsSome (spelled (h.words))) v.holdings.held
   -- the group is of held live nodes, and has each that differs
   pub grouped : (n : ℕ) → IsTrue (group n) → IsTrue (marked_in v.holdings.held n)
   pub covers : AllByRecursion (λ h. IsSome h.mark → Differs h → IsTrue (group h.node)) v.holdings.held
@@ -58,7 +58,7 @@ pub record IsLawfulExchange (v : Log) (update : Option Update) (top : ℕ) (grou
 
 -- no held live node differs from its settled content, and no update is made
 abbrev pub IsQuiet : Log → Option Update → Type 0
-IsQuiet v None = AllByRecursion (λ h. IsSome h.mark → spelled (words_of h) ≡ Some h.settled) v.holdings.held
+IsQuiet v None = AllByRecursion (λ h. IsSome h.mark → spelled (h.words) ≡ Some h.settled) v.holdings.held
 IsQuiet v (Some update) = ⊥
 
 -- A held node's settled content becomes what its words spell, where it is in the group or isn't live. It is marked where
@@ -68,8 +68,8 @@ mark_after now group reached h = if reached h.node then Some (frame_of now) else
 
 abbrev pub exchange : (ℕ → Bool) → (ℕ → Bool) → Holding → Holding
 exchange group reached h = record h {
-  settled = if group h.node then now_of h (spelled (words_of h)) else (if is_some h.mark then h.settled else now_of h (spelled (words_of h)));
-  mark = mark_after (now_of h (spelled (words_of h))) group reached h;
+  settled = if group h.node then now_of h (spelled (h.words)) else (if is_some h.mark then h.settled else now_of h (spelled (h.words)));
+  mark = mark_after (now_of h (spelled (h.words))) group reached h;
 }
 
 -- the log after the exchange

@@ -1,11 +1,11 @@
 -- The locks of nodes that a log has, by the node's number.
-use Rattle.std.specs.Prelude.{ℕ, Bool, false, ◌==◌, not, ◌∷◌, List, Option, Some, None, map, is_some, if◌then◌else◌}
+use Rattle.std.specs.Prelude.{ℕ, Bool, false, ◌==◌, not, List, Option, Some, None, map, is_some, if◌then◌else◌}
 use Rattle.std.specs.List.{find, filter}
+use Rattle.tree_shape.specs.declared.node.Frame.{Frame}
 use Rattle.tree_shape.specs.Shapes.{Shape, Link}
 use Rattle.tree_shape.specs.Trees.{Contents}
 use Rattle.word_rule.specs.Spelling.{spelled}
 use Rattle.word_rule.specs.declared.log.Holding.{Holding}
-use Rattle.tree_shape.specs.declared.node.Frame.{Frame}
 
 -- the lock of this node
 abbrev pub held_of : ℕ → List Holding → Option Holding
@@ -22,10 +22,6 @@ without_lock n held = filter (λ h. not (h.node == n)) held
 -- a list of nodes without this one
 abbrev pub all_but : ℕ → List ℕ → List ℕ
 all_but n nodes = filter (λ m. not (m == n)) nodes
-
--- all words of a held node: word 0 stands for its version
-abbrev pub words_of : Holding → List ℕ
-words_of h = h.version ∷ h.words
 
 -- what stands in for a node that is not held
 abbrev pub no_shape : Shape
@@ -46,7 +42,7 @@ now_of h (Some shape) = shape
 
 abbrev pub now_shape : Option Holding → Shape
 now_shape None = no_shape
-now_shape (Some h) = now_of h (spelled (words_of h))
+now_shape (Some h) = now_of h (spelled h.words)
 
 abbrev pub now_in : List Holding → Contents
 now_in held n = now_shape (held_of n held)

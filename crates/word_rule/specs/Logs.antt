@@ -1,22 +1,29 @@
 -- What each step makes of its caller's log: loads, the loader's lock, and callers and notes that come and go.
-use Rattle.std.specs.Prelude.{ℕ, ◌+◌, ◌-◌, ◌*◌, ◌/◌, Bool, List, [], ◌∷◌, ◌++◌, length, Some, None, nat_lt, false, true, if◌then◌else◌}
+use Rattle.std.specs.Prelude.{◌≡◌, ℕ, ◌+◌, ◌-◌, ◌*◌, ◌/◌, Bool, List, [], ◌∷◌, ◌++◌, length, Some, None, nat_lt, false, true, if◌then◌else◌}
 use Rattle.reg_model.specs.declared.answer.Update.{Update}
 use Rattle.word_rule.specs.declared.log.Terms.{Terms}
 use Rattle.word_rule.specs.declared.log.Role.{Role}
 use Rattle.word_rule.specs.declared.log.Role.TheVariants as role
 use Rattle.word_rule.specs.declared.log.Budget.{Budget}
+use Rattle.word_rule.specs.declared.log.LoaderHolding.{LoaderHolding}
 use Rattle.word_rule.specs.declared.log.LoadEvent.{LoadEvent}
 use Rattle.word_rule.specs.declared.log.Trace.{Trace}
 use Rattle.word_rule.specs.declared.log.Lineage.{Lineage}
 use Rattle.word_rule.specs.declared.log.Log.{Log}
 use Rattle.word_rule.specs.Names.{new_lineage, child_name, after_fork, joined_lineage}
-use Rattle.word_rule.specs.Places.{ALLOWANCE, CREDIT, CALL_CREDIT}
+use Rattle.word_rule.specs.Places.{ALLOWANCE, CREDIT, CALL_CREDIT, copy_words}
 
 -- whether a log was joined or learnt into another
 abbrev pub is_spent : Role → Bool
 is_spent role.Caller = false
 is_spent role.Note = false
 is_spent role.Spent = true
+
+-- 1 for a caller, and 0 for a note and for what was joined away
+abbrev pub weight : Role → ℕ
+weight role.Caller = 1
+weight role.Note = 0
+weight role.Spent = 0
 
 -- how often the caller changed anything itself
 abbrev pub turns : Trace → ℕ
@@ -42,9 +49,15 @@ after_load word found v = record v { trace = record v.trace { loads = v.trace.lo
 abbrev pub after_write : Log → Log
 after_write v = record v { trace = record v.trace { writes = v.trace.writes + 1 } }
 
--- the loader's lock was taken at a version, while the copy that is not active had these words
-abbrev pub after_loader_lock : ℕ → List ℕ → Log → Log
-after_loader_lock version words v = record (after_write v) { loader = Some record { version = version; words = words; stored = false } }
+-- the loader's lock, just taken at a version, after so many publications, with the words of both copies
+pub record IsTaken (t : Terms) (version : ℕ) (h : LoaderHolding) : Type 0 where
+  pub taken : h.version ≡ version
+  pub active : length h.active ≡ copy_words t
+  pub spare : length h.spare ≡ copy_words t
+  pub clean : h.stored ≡ false
+
+abbrev pub after_loader_lock : LoaderHolding → Log → Log
+after_loader_lock h v = record (after_write v) { loader = Some h }
 
 -- one release less
 abbrev pub after_spending : Budget → Budget

@@ -1,10 +1,14 @@
 -- Where each word of the shared table stands. N is the number of nodes, G that of the segments of one copy.
-use Rattle.std.specs.Prelude.{ℕ, zero, suc, ◌+◌, ◌*◌, ◌-◌, ◌/◌, ◌%◌, ◌^◌, ◌==◌, ◌||◌, List, [], ◌∷◌, ◌++◌, slice_index, slice_set, take, drop, replicate, if◌then◌else◌}
+use Rattle.std.specs.Prelude.{ℕ, zero, suc, ◌+◌, ◌*◌, ◌-◌, ◌/◌, ◌%◌, ◌^◌, ◌==◌, ◌||◌, ◌&&◌, Bool, nat_le, nat_lt, List, [], ◌∷◌, ◌++◌, slice_set, replicate, if◌then◌else◌}
 use Rattle.word_rule.specs.declared.log.Terms.{Terms}
 
 -- the words of a node
 abbrev pub NODE_WORDS : ℕ
 NODE_WORDS = 36
+
+-- those after its version word
+abbrev pub CONTENT_WORDS : ℕ
+CONTENT_WORDS = 35
 
 -- the update calls of one registry
 abbrev pub ALLOWANCE : ℕ
@@ -59,9 +63,9 @@ lower clock = clock % 2 ^ 32
 abbrev pub upper : ℕ → ℕ
 upper clock = clock / 2 ^ 32
 
--- the words of copy c
-abbrev pub copy_at : Terms → List ℕ → ℕ → List ℕ
-copy_at t words c = take (copy_words t) (drop (copy_place t c) words)
+-- whether a word of the table is one of copy c
+abbrev pub is_of_copy : Terms → ℕ → ℕ → Bool
+is_of_copy t c at = nat_le (copy_place t c) at && nat_lt at (copy_place t c + copy_words t)
 
 -- the copy that is not active
 abbrev pub spare : ℕ → ℕ
@@ -85,12 +89,3 @@ initial_nodes nodes (suc n) = initial_nodes nodes n ++ initial_node nodes n
 -- all words at the start: nothing was accepted, node 1 is the first free one, no lock is held, both copies are empty
 abbrev pub initial_words : Terms → List ℕ
 initial_words t = (0 ∷ 1 ∷ 0 ∷ 0 ∷ initial_nodes t.nodes t.nodes) ++ replicate (2 * copy_words t) 0
-
--- the counters of the version words of the nodes below n, added up
-abbrev pub node_counters : List ℕ → ℕ → ℕ
-node_counters words zero = 0
-node_counters words (suc n) = slice_index words (node_place n) / 4 + node_counters words n
-
--- the counters of all version words
-abbrev pub counters : Terms → List ℕ → ℕ
-counters t words = slice_index words LOADER / 4 + node_counters words t.nodes

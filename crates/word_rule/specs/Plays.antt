@@ -1,9 +1,16 @@
 -- What each step tells its caller.
-use Rattle.std.specs.Prelude.{◌≡◌, ℕ, ◌%◌, ◌<◌, ◌^◌, ◌==◌, ◌≤◌, List, MatchBool, IfSome, false}
+use Rattle.std.specs.Prelude.{◌≡◌, ℕ, ◌%◌, ◌<◌, ◌^◌, ◌==◌, ◌≤◌, List, length, MatchBool, IfSome, false}
 use Rattle.atomic_table.specs.Table.{Me, Step}
+use Rattle.reg_model.specs.declared.answer.Update.{Update}
+use Rattle.tree_shape.specs.Shapes.{Shape}
 use Rattle.word_rule.specs.declared.log.Log.{Log}
-use Rattle.word_rule.specs.Places.{ALLOWANCE}
-use Rattle.word_rule.specs.Logs.{is_spent, after_load, after_loader_lock, after_write, after_loader_release, after_loader_release_same}
+use Rattle.word_rule.specs.declared.log.LoaderHolding.{LoaderHolding}
+use Rattle.word_rule.specs.declared.log.Ask.{Ask}
+use Rattle.word_rule.specs.Places.{ALLOWANCE, CONTENT_WORDS}
+use Rattle.word_rule.specs.Spelling.{SpellsNode}
+use Rattle.word_rule.specs.Sights.{after_node_version, after_node_load, after_copy_load}
+use Rattle.word_rule.specs.Steps.{after_node_lock, after_give, after_copy_store, AfterPublish}
+use Rattle.word_rule.specs.Logs.{is_spent, IsTaken, after_load, after_loader_lock, after_write, after_loader_release, after_loader_release_same}
 use Rattle.word_rule.specs.Callers.{IsLockedAt, IsAlone, IsWhole}
 
 abbrev pub Seated : Type 0
@@ -19,7 +26,7 @@ looks st me found me' = me' ≡ (after_load st.word found me.0, me.1)
 -- an exchange at the loader's lock for one with bit 0: the lock is taken, or another word was found
 abbrev pub locks : Stepped → Seated → ℕ → Seated → Type 0
 locks st me found me' = MatchBool (found == st.first)
-    ((st.first % 4 ≡ 0) × (st.first < 2 ^ 63) × ((copy : List ℕ) × (me' ≡ (after_loader_lock st.first copy me.0, me.1))))
+    ((st.first % 4 ≡ 0) × (st.first < 2 ^ 63) × ((h : LoaderHolding) × (IsTaken me.0.terms st.first h × (me' ≡ (after_loader_lock h me.0, me.1)))))
     (me' ≡ (after_load st.word found me.0, me.1))
 
 -- an exchange at the loader's lock for one with bit 1
@@ -40,3 +47,33 @@ releases_same st me found me' = (me' ≡ (after_loader_release_same me.0, me.1))
 -- alone, that its log has all that was ever done.
 abbrev pub confirms : Stepped → Seated → ℕ → Seated → Type 0
 confirms st me found me' = (me' ≡ me) × (me.0.budget.allowance ≤ ALLOWANCE) × (is_spent me.0.role ≡ false → IsAlone me.0.lineage → IsWhole me.0)
+
+-- a word of a copy was loaded
+abbrev pub loads_copy : Stepped → Seated → ℕ → Seated → Type 0
+loads_copy st me found me' = me' ≡ (after_copy_load st.word found me.0, me.1)
+
+-- a word of a node was loaded
+abbrev pub loads_node : ℕ → ℕ → Stepped → Seated → ℕ → Seated → Type 0
+loads_node n at st me found me' = me' ≡ (after_node_load n at found me.0, me.1)
+
+-- a node's version was loaded
+abbrev pub loads_version : Ask → ℕ → Stepped → Seated → ℕ → Seated → Type 0
+loads_version ask n st me found me' = me' ≡ (after_node_version ask n found me.0, me.1)
+
+-- an exchange at a node's version word for one with bit 0: the node is held, or another word was found
+abbrev pub locks_node : ℕ → Stepped → Seated → ℕ → Seated → Type 0
+locks_node n st me found me' = MatchBool (found == st.first)
+    ((st.first % 4 ≡ 0) × (st.first < 2 ^ 63) × ((settled : Shape) × (words : List ℕ) × (SpellsNode words settled × (length words ≡ CONTENT_WORDS) × (me' ≡ (after_node_lock n st.first settled words me.0, me.1)))))
+    (me' ≡ (after_load st.word found me.0, me.1))
+
+-- a node was put back on the free list
+abbrev pub gives_node : Stepped → Seated → ℕ → Seated → Type 0
+gives_node st me found me' = me' ≡ (after_give st.first me.0, me.1)
+
+-- a word of the copy that is not active was stored
+abbrev pub stores_copy : ℕ → Stepped → Seated → ℕ → Seated → Type 0
+stores_copy at st me found me' = me' ≡ (after_copy_store at st.first me.0, me.1)
+
+-- an update of the loader was published
+abbrev pub publishes : Update → Stepped → Seated → ℕ → Seated → Type 0
+publishes u st me found me' = AfterPublish u me.0 me'.0 × (me'.1 ≡ me.1)

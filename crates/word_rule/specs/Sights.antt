@@ -11,6 +11,7 @@ use Rattle.reg_model.specs.declared.answer.Half.{Half}
 use Rattle.reg_model.specs.declared.answer.Half.TheVariants as half
 use Rattle.reg_model.specs.declared.answer.Receipt.{Receipt}
 use Rattle.reg_model.specs.declared.answer.Receipt.TheVariants.{Query}
+use Rattle.word_rule.specs.declared.log.Terms.{Terms}
 use Rattle.word_rule.specs.declared.log.Log.{Log}
 use Rattle.word_rule.specs.declared.log.NodeSight.{NodeSight}
 use Rattle.word_rule.specs.declared.log.CopySight.{CopySight}
@@ -18,7 +19,7 @@ use Rattle.word_rule.specs.declared.log.LoadedWord.{LoadedWord}
 use Rattle.tree_shape.specs.declared.node.Frame.{Frame}
 use Rattle.word_rule.specs.declared.log.Ask.{Ask}
 use Rattle.word_rule.specs.declared.log.Ask.TheVariants as ask
-use Rattle.word_rule.specs.Places.{CLOCK, TOP, node_place, lower, upper}
+use Rattle.word_rule.specs.Places.{CLOCK, TOP, node_place, is_of_copy, lower, upper}
 use Rattle.word_rule.specs.Held.{held_of}
 use Rattle.word_rule.specs.Logs.{after_load}
 use Rattle.word_rule.specs.Callers.{start}
@@ -152,9 +153,9 @@ abbrev pub walk_receipts : Log → ℕ → ℕ → Option CopySight → List Rec
 walk_receipts seen found pc None = []
 walk_receipts seen found pc (Some s) = if s.guard == upper found then (query_receipt half.Loaded seen pc (lower found) ∷ []) else []
 
--- a word of a copy was loaded
-abbrev pub with_copy_word : ℕ → ℕ → CopySight → CopySight
-with_copy_word at value s = record s { words = record { at = at; value = value } ∷ s.words }
+-- a word of a copy was loaded: it joins the sight where it is of the sight's own copy
+abbrev pub with_copy_word : Terms → ℕ → ℕ → CopySight → CopySight
+with_copy_word t at value s = if is_of_copy t (s.guard % 2) at then record s { words = record { at = at; value = value } ∷ s.words } else s
 
 abbrev pub after_copy_load : ℕ → ℕ → Log → Log
-after_copy_load at value v = record (after_load at value v) { sights = record v.sights { copies = option_map (with_copy_word at value) v.sights.copies } }
+after_copy_load at value v = record (after_load at value v) { sights = record v.sights { copies = option_map (with_copy_word v.terms at value) v.sights.copies } }

@@ -1,48 +1,58 @@
--- What the 36 words of a node spell: word 0 its version, 1 its kind, 2 its level, 3 and 4 its fences, 5 its count, and from 6
--- on its pairs, its entries, or the next free node.
+-- What the words of a node after its version word spell: word 1 is its kind, 2 its level, 3 and 4
+-- its fences, 5 its count, and from 6 on stand its pairs, its entries, or the next free node.
 use Rattle.std.specs.Prelude.{◌≡◌, ℕ, zero, suc, ◌+◌, ◌-◌, ◌^◌, Bool, ◌&&◌, ◌==◌, nat_lt, nat_le, List, [], ◌∷◌, Option, Some, None, option_map, slice_index, if◌then◌else◌}
 use Rattle.reg_model.specs.declared.span.Member.{Member}
 use Rattle.tree_shape.specs.declared.pair.Pair.{Pair}
 use Rattle.tree_shape.specs.Shapes.{Shape, Body, Pairs, Entries, Link}
+use Rattle.word_rule.specs.Places.{TOP}
+
+-- the word of a node with this number, where these are the words after its version word
+abbrev pub word_at : List ℕ → ℕ → ℕ
+word_at words at = slice_index words (at - 1)
 
 -- a number of 32 bits, as nodes, levels and payloads are
 abbrev pub is_short : ℕ → Bool
 is_short n = nat_lt n (2 ^ 32)
 
 abbrev pub pair_at : List ℕ → ℕ → Pair
-pair_at words at = record { child = slice_index words at; separator = slice_index words (at + 1) }
+pair_at words at = record { child = word_at words at; separator = word_at words (at + 1) }
 
 -- so many pairs from a place on
 abbrev pub pairs_at : List ℕ → ℕ → ℕ → Option (List Pair)
 pairs_at words at zero = Some []
-pairs_at words at (suc count) = if is_short (slice_index words at) then option_map (λ pairs. pair_at words at ∷ pairs) (pairs_at words (at + 2) count) else None
+pairs_at words at (suc count) =
+    if is_short (word_at words at) then option_map (λ pairs. pair_at words at ∷ pairs) (pairs_at words (at + 2) count) else None
 
 abbrev pub entry_at : List ℕ → ℕ → Member
 entry_at words at = record {
-  span = record { first = slice_index words at; last = slice_index words at + slice_index words (at + 1) - 1 };
-  payload = slice_index words (at + 2);
+  span = record { first = word_at words at; last = word_at words at + word_at words (at + 1) - 1 };
+  payload = word_at words (at + 2);
 }
 
 -- a base and a size with an address above the last one, and a payload
-abbrev pub is_member_at : List ℕ → ℕ → Bool
-is_member_at words at = nat_le 1 (slice_index words (at + 1)) && nat_le (slice_index words at + slice_index words (at + 1)) (2 ^ 64 - 1) && is_short (slice_index words (at + 2))
+abbrev pub is_entry_at : List ℕ → ℕ → Bool
+is_entry_at words at =
+    nat_le 1 (word_at words (at + 1)) && nat_le (word_at words at + word_at words (at + 1)) TOP && is_short (word_at words (at + 2))
 
 -- so many entries from a place on
 abbrev pub entries_at : List ℕ → ℕ → ℕ → Option (List Member)
 entries_at words at zero = Some []
-entries_at words at (suc count) = if is_member_at words at then option_map (λ entries. entry_at words at ∷ entries) (entries_at words (at + 3) count) else None
+entries_at words at (suc count) =
+    if is_entry_at words at then option_map (λ entries. entry_at words at ∷ entries) (entries_at words (at + 3) count) else None
 
+-- what a node of this kind with this count holds
 abbrev pub body_of_kind : List ℕ → ℕ → ℕ → Option Body
 body_of_kind words kind count =
     if kind == 0 then (if nat_le count 15 then option_map Pairs (pairs_at words 6 count) else None)
     else (if kind == 1 then (if nat_le count 10 then option_map Entries (entries_at words 6 count) else None)
-    else (if (kind == 2) && is_short (slice_index words 6) then Some (Link (slice_index words 6)) else None))
+    else (if (kind == 2) && is_short (word_at words 6) then Some (Link (word_at words 6)) else None))
 
 -- the node that the words spell, if they spell one
 abbrev pub spelled : List ℕ → Option Shape
 spelled words =
-    if is_short (slice_index words 2)
-    then option_map (λ body. record { level = slice_index words 2; low = slice_index words 3; high = slice_index words 4; body = body }) (body_of_kind words (slice_index words 1) (slice_index words 5))
+    if is_short (word_at words 2)
+    then option_map (λ body. record { level = word_at words 2; low = word_at words 3; high = word_at words 4; body = body })
+    (body_of_kind words (word_at words 1) (word_at words 5))
     else None
 
 abbrev pub SpellsNode : List ℕ → Shape → Type 0

@@ -1,7 +1,9 @@
 -- What the steps on nodes, on the loader's copies, on the clock and on the free head make of a log, and what they ask for.
-use Rattle.std.specs.Prelude.{◌≡◌, ℕ, ◌+◌, ◌-◌, ◌<◌, ◌⊎◌, true, false, ◌==◌, IsTrue, List, [], ◌∷◌, ◌++◌, length, Option, Some, None, IsSome, IsSomeAnd, slice_set, if◌then◌else◌}
+use Rattle.std.specs.Prelude.{◌≡◌, ◌≢◌, ◌↔◌, Contains, is_some, option_map, ℕ, ◌+◌, ◌-◌, ◌<◌, ◌⊎◌, true, false, ◌==◌, IsTrue, List, [], ◌∷◌, ◌++◌, length, Option, Some, None, IsSome, IsSomeAnd, slice_set, if◌then◌else◌}
+use Rattle.std.specs.List.{find}
 use Rattle.reg_model.specs.History.{state_after}
-use Rattle.reg_model.specs.State.{State, at_base}
+use Rattle.reg_model.specs.State.{State, IsFree, at_base}
+use Rattle.reg_model.specs.declared.span.Member.{Member}
 use Rattle.reg_model.specs.Receipt.{moment, accepted, IsRight}
 use Rattle.reg_model.specs.declared.answer.Update.{Update}
 use Rattle.reg_model.specs.declared.answer.Update.TheVariants as update
@@ -16,20 +18,21 @@ use Rattle.word_rule.specs.declared.log.Log.{Log}
 use Rattle.word_rule.specs.declared.log.Holding.{Holding}
 use Rattle.word_rule.specs.declared.log.LoaderHolding.{LoaderHolding}
 use Rattle.tree_shape.specs.declared.node.Frame.{Frame}
-use Rattle.word_rule.specs.Places.{HEAD, copy_place}
+use Rattle.word_rule.specs.Places.{HEAD}
 use Rattle.word_rule.specs.Spelling.{spelled}
-use Rattle.word_rule.specs.Held.{held_of, edited, without_lock, all_but, words_of, marked_in}
+use Rattle.word_rule.specs.Held.{held_of, edited, without_lock, all_but, marked_in}
 use Rattle.word_rule.specs.Exchange.{Exchanges, ExchangesWhereLawful, MayExchange, Differs}
 use Rattle.tree_shape.specs.Numbers.{is_among}
 use Rattle.word_rule.specs.Logs.{after_load, after_write, after_spending}
 use Rattle.word_rule.specs.Sights.{with_receipts}
-use Rattle.word_rule.specs.Callers.{start}
+use Rattle.word_rule.specs.declared.log.Terms.{Terms}
+use Rattle.word_rule.specs.Callers.{IsOfTerms, start}
+use Rattle.word_rule.specs.Copies.{ListsMembers}
 
 -- The mark of a node at its lock: the root is live, and so is one that the settled content of a held live node names, at
 -- the place that it is given there.
 abbrev pub place_in : ℕ → List Branch → Option Frame
-place_in n [] = None
-place_in n (b ∷ bs) = if b.child == n then Some record { level = b.level; low = b.low; high = b.high } else place_in n bs
+place_in n bs = option_map (λ b. record { level = b.level; low = b.low; high = b.high }) (find (λ b. b.child == n) bs)
 
 abbrev pub place_by : ℕ → Option Frame → Holding → Option Frame
 place_by n None h = None
@@ -46,15 +49,22 @@ place_by_held n (h ∷ held) = first_mark (place_by n h.mark h) (place_by_held n
 abbrev pub mark_at_lock : ℕ → Shape → List Holding → Option Frame
 mark_at_lock n settled held = if n == 0 then Some record { level = settled.level; low = settled.low; high = settled.high } else place_by_held n held
 
+-- the head that is kept counts only under one lock of the root
+abbrev pub head_without : ℕ → Option ℕ → Option ℕ
+head_without n head = if n == 0 then None else head
+
 -- A node was locked at a version, while it had this settled content and these words.
 abbrev pub after_node_lock : ℕ → ℕ → Shape → List ℕ → Log → Log
 after_node_lock n version settled words v = record (after_write v) {
-  holdings = record v.holdings { held = record { node = n; version = version; settled = settled; words = words; stored = false; mark = mark_at_lock n settled v.holdings.held } ∷ v.holdings.held };
+  holdings = record v.holdings {
+    held = record { node = n; version = version; settled = settled; words = words; stored = false; mark = mark_at_lock n settled v.holdings.held } ∷ v.holdings.held;
+    head = head_without n v.holdings.head;
+  };
 }
 
 -- A node under whose lock nothing was stored was let go with the version at which it was locked.
 abbrev pub after_node_release_same : ℕ → Log → Log
-after_node_release_same n v = record (after_write v) { holdings = record v.holdings { held = without_lock n v.holdings.held } }
+after_node_release_same n v = record (after_write v) { holdings = record v.holdings { held = without_lock n v.holdings.held; head = head_without n v.holdings.head } }
 
 -- A node was let go with the next version: its content settled where that is lawful.
 abbrev pub AfterNodeRelease : ℕ → Log → Log → Type 0
@@ -63,7 +73,7 @@ AfterNodeRelease n v w = (u : Log) × (ExchangesWhereLawful v u × (w ≡ record
 -- A release asks that the node's words spell a node, and, where it is live and they spell another content, for a lawful
 -- exchange.
 abbrev pub MayRelease : ℕ → Log → Type 0
-MayRelease n v = IsSomeAnd (held_of n v.holdings.held) (λ h. IsSome (spelled (words_of h)) × (IsSome h.mark → Differs h → MayExchange v None))
+MayRelease n v = IsSomeAnd (held_of n v.holdings.held) (λ h. IsSome (spelled (h.words)) × (IsSome h.mark → Differs h → MayExchange v None))
 
 -- a word was stored in a held node, counted from its version word
 abbrev pub store_in : ℕ → ℕ → Holding → Holding
@@ -103,25 +113,43 @@ AfterCommit u v w = (before : List Update) × (r : Receipt) × (settled : Log) �
 abbrev pub MayCommit : Update → Log → Type 0
 MayCommit u v = MayExchange v (Some u)
 
--- A word of the copy that is not active was stored, counted in the whole table.
+-- A word of the copy that is not active was stored, counted from the copy's first.
 abbrev pub store_in_copy : ℕ → ℕ → LoaderHolding → LoaderHolding
-store_in_copy at value h = record h { words = slice_set h.words at value; stored = true }
+store_in_copy at value h = record h { spare = slice_set h.spare at value; stored = true }
 
-abbrev pub copy_stored : ℕ → ℕ → Option LoaderHolding → Option LoaderHolding
-copy_stored at value None = None
-copy_stored at value (Some h) = Some (store_in_copy at value h)
+abbrev pub after_copy_store : ℕ → ℕ → Log → Log
+after_copy_store at value v = record (after_write v) { loader = option_map (store_in_copy at value) v.loader }
 
-abbrev pub after_copy_store : ℕ → ℕ → ℕ → Log → Log
-after_copy_store copy at value v = record (after_write v) { loader = copy_stored (at - copy_place v.terms copy) value v.loader }
+-- A publication: the update of the loader was accepted, and the copy that was stored is the active one now.
+abbrev pub exchange_copies : LoaderHolding → LoaderHolding
+exchange_copies h = record h { published = h.published + 1; active = h.spare; spare = h.active }
 
--- A publication: the update of the loader was accepted, and the words kept with its lock are now those of the other copy.
-abbrev pub other_copy : List ℕ → Option LoaderHolding → Option LoaderHolding
-other_copy words None = None
-other_copy words (Some h) = Some record h { words = words }
+abbrev pub after_publish : Update → List Update → Receipt → Log → Log
+after_publish u before r v = record (after_update u before r v) { loader = option_map exchange_copies v.loader }
+
+-- what a publication makes of the loaded members
+abbrev pub Publishes : Terms → Update → List Member → List Member → Type 0
+Publishes t (update.Load m) before after =
+    IsFree m.span (t.fixed ++ before) × (length before < t.loads) × ((x : Member) → Contains after x ↔ (Contains before x ⊎ (m ≡ x)))
+Publishes t (update.Unload base) before after =
+    IsSome (at_base base before) × ((x : Member) → Contains after x ↔ (Contains before x × (x.span.first ≢ base)))
+Publishes t (update.Register m) before after = ⊥
+Publishes t (update.Deregister base) before after = ⊥
+
+-- A publication asks for one of the update calls that were begun, for a member that may be made known, and that the copy
+-- that was stored lists what the active one lists, with the update made.
+pub record MayPublish (t : Terms) (allowance : ℕ) (u : Update) (h : LoaderHolding) : Type 0 where
+  pub before : List Member
+  pub after : List Member
+  pub due : 0 < allowance
+  pub member : IsOfTerms t u
+  pub active : ListsMembers h.active before
+  pub spare : ListsMembers h.spare after
+  pub publishes : Publishes t u before after
 
 abbrev pub AfterPublish : Update → Log → Log → Type 0
-AfterPublish u v w = (before : List Update) × (r : Receipt) × (other : List ℕ) ×
-    (IsDone u (length before + 1) (state_after (start v.terms) before) r × (w ≡ record (after_update u before r v) { loader = other_copy other v.loader }))
+AfterPublish u v w = (before : List Update) × (r : Receipt) ×
+    (IsDone u (length before + 1) (state_after (start v.terms) before) r × (w ≡ after_publish u before r v))
 
 -- what a receipt answers
 abbrev pub Answers : Update → Receipt → Type 0
@@ -135,9 +163,9 @@ Answers u (receipt.Query which pc found) = ⊥
 abbrev pub IsRefusalOf : Update → State → ℕ → Receipt → Type 0
 IsRefusalOf u s stamp r = Answers u r × (accepted r ≡ None) × (moment r ≡ stamp) × IsRight s r
 
--- The free head was loaded.
+-- The free head was loaded. It is kept under the root's lock.
 abbrev pub after_head_load : ℕ → Log → Log
-after_head_load found v = record (after_load HEAD found v) { holdings = record v.holdings { head = Some found } }
+after_head_load found v = record (after_load HEAD found v) { holdings = record v.holdings { head = if is_some (held_of 0 v.holdings.held) then Some found else None } }
 
 -- The head was stored under the root's lock: it was taken off the free list and is out, or a node that was out was put there.
 abbrev pub after_take : ℕ → ℕ → Log → Log
@@ -148,12 +176,12 @@ after_give n v = record (after_write v) { holdings = record v.holdings { head = 
 
 -- what the words of a held node spell: that it is free, and linked to this one
 abbrev pub IsFreeTo : ℕ → ℕ → Log → Type 0
-IsFreeTo n next v = IsSomeAnd (held_of n v.holdings.held) (λ h. IsSomeAnd (spelled (words_of h)) (λ s. s.body ≡ Link next))
+IsFreeTo n next v = IsSomeAnd (held_of n v.holdings.held) (λ h. IsSomeAnd (spelled (h.words)) (λ s. s.body ≡ Link next))
 
 -- a store of the head takes the first node off the list, which the caller holds, or puts one there that was out
 abbrev pub MayStoreHead : ℕ → Log → Type 0
 MayStoreHead node v =
-    IsSome (held_of 0 v.holdings.held) × IsSomeAnd v.holdings.head (λ h. (IsFreeTo h node v × (length v.holdings.out < 4)) ⊎ (IsFreeTo node h v × IsTrue (is_among v.holdings.out node)))
+    IsSome (held_of 0 v.holdings.held) × IsSomeAnd v.holdings.head (λ h. ((h ≢ 0) × IsFreeTo h node v × (length v.holdings.out < 4)) ⊎ (IsFreeTo node h v × IsTrue (is_among v.holdings.out node)))
 
 -- side by side: an exchange at the head takes a node off, or puts one there
 abbrev pub after_pop : ℕ → Log → Log
@@ -163,7 +191,7 @@ abbrev pub after_push : ℕ → Log → Log
 after_push n v = record (after_write v) { holdings = record v.holdings { out = all_but n v.holdings.out } }
 
 abbrev pub MayPop : ℕ → ℕ → Log → Type 0
-MayPop n next v = IsFreeTo n next v × (length v.holdings.out < 4)
+MayPop n next v = (n ≢ 0) × IsFreeTo n next v × (length v.holdings.out < 4)
 
 abbrev pub MayPush : ℕ → ℕ → Log → Type 0
 MayPush n next v = IsFreeTo n next v × IsTrue (is_among v.holdings.out n)

@@ -1,6 +1,7 @@
 //! How the words are made and taken apart.
 ghost use Rattle.std.specs.Prelude.{◌≡◌, ◌+◌, ◌*◌, ◌^◌, ◌<◌, ◌≤◌, [], length, None, IfOk};
 ghost use Rattle.std.specs.List.{AllByRecursion};
+ghost use Rattle.reg_model.specs.Interval.{IsSpan};
 ghost use Rattle.segment_array.specs.Ascending.{AscendFrom};
 ghost use Rattle.word_rule.specs.Logs.{first_log};
 ghost use Rattle.word_rule.specs.Places.{ALLOWANCE};
@@ -34,7 +35,7 @@ impl Words {
         requires nodes { (4 ≤ nodes) × (nodes ≤ 16384) }
         requires loads { (1 ≤ loads) × (loads ≤ 1024) }
         requires ascending { AscendFrom 0 fixed.items }
-        requires payloads { AllByRecursion (λ m. m.payload < payloads) fixed.items }
+        requires members { AllByRecursion (λ m. IsSpan m.span × (m.payload < payloads)) fixed.items }
         ensures terms { IfOk result (λ made. made.0.terms ≡ record { nodes = nodes; loads = loads; payloads = payloads; fixed = fixed.items }) }
         ensures caller { IfOk result (λ made. made.1 ≡ record { table = made.0.table; left = ALLOWANCE; log = first_log made.0.terms }) }
     {

@@ -76,8 +76,12 @@ pub struct Holdings {
 pub struct LoaderHolding {
     /// The version at which it was locked.
     pub version: u64,
-    /// The words of the copy that is not active, as they are now.
-    pub words: LinkedList<u64>,
+    /// How often the loader published.
+    pub published: u64,
+    /// The words of the active copy.
+    pub active: LinkedList<u64>,
+    /// Those of the other copy, as they are now.
+    pub spare: LinkedList<u64>,
     /// Whether a word was stored since it was locked.
     pub stored: bool,
 }

@@ -5,7 +5,7 @@ ghost use Rattle.word_rule.specs.Logs.{is_spent, after_split, split_off, after_n
 ghost use Rattle.word_rule.specs.Callers.{IsAlone, IsWhole};
 
 use crate::caller::{Caller, Note};
-use crate::log::Log;
+use crate::log::{Log, Role};
 use crate::rule::{Confirms, Giving, Joins, Learns, Notes, Splits};
 use crate::words::Words;
 use atomic_table::Seat;
@@ -20,7 +20,7 @@ impl Words {
     fn split_seat<G: Giving>(&self, seat: &mut Seat<(), Log>, left: u32, give: u32) -> Seat<(), Log>
         requires table { seat.old.table_id ≡ self.now.table }
         requires about { (G.left ≡ left) × (G.give ≡ give) }
-        requires stands { is_spent seat.old.me.0.role ≡ false }
+        requires caller { seat.old.me.0.role ≡ Role.Caller }
         requires room { (give ≤ left) × (left ≤ seat.old.me.0.budget.allowance) × (CALL_CREDIT * left ≤ seat.old.me.0.budget.credit) }
         ensures old { (seat.new.table_id ≡ seat.old.table_id) × (seat.new.id ≡ seat.old.id) × (seat.new.me ≡ (after_split left give seat.old.me.0, seat.old.me.1)) }
         ensures new { (result.table_id ≡ seat.old.table_id) × (result.me ≡ (split_off left give seat.old.me.0, [])) }

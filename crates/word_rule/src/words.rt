@@ -1,6 +1,7 @@
 //! The words, and the steps on version locks.
 ghost use Rattle.std.specs.Prelude.{◌≡◌, ◌≢◌, ◌+◌, ◌*◌, ◌%◌, ◌<◌, ℕ, List, IfOk, IfErr, IfSome, IsSome, IsSomeAnd, false};
-ghost use Rattle.word_rule.specs.Logs.{after_load, after_loader_lock, after_write, after_loader_release, after_loader_release_same};
+ghost use Rattle.word_rule.specs.Logs.{IsTaken, after_load, after_loader_lock, after_write, after_loader_release, after_loader_release_same};
+ghost use Rattle.word_rule.specs.declared.log.LoaderHolding.{LoaderHolding};
 ghost use Rattle.word_rule.specs.CallerData.{surplus};
 ghost use Rattle.word_rule.specs.Places.{LOADER};
 ghost use Rattle.word_rule.specs.Callers.{IsLockedAt};
@@ -86,7 +87,7 @@ impl Words {
         requires table { me.old.table ≡ self.now.table }
         requires lock { lock ≡ LockId.Loader }
         requires unlocked { seen % 2 ≡ 0 }
-        ensures ok { IfOk result (λ _. (copy : List ℕ) × (me.new ≡ record me.old { log = after_loader_lock seen copy me.old.log })) }
+        ensures ok { IfOk result (λ _. (h : LoaderHolding) × (IsTaken me.old.log.terms seen h × (me.new ≡ record me.old { log = after_loader_lock h me.old.log }))) }
         ensures err { IfErr result (λ found. (found ≢ seen) × (me.new ≡ record me.old { log = after_load LOADER found me.old.log })) }
     {
         let _ = lock;

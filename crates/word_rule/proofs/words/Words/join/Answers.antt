@@ -35,6 +35,6 @@ join_seat-requires c = (
   ap (λ k. k.table) c.other.view_is ∙ (c.requires.other ∙ sym (ap (λ k. k.table) c.self.view_is)),
   c.other.invariant.bare,
   omega (arith, c.self.invariant.1),
-  joins _ _ _ (ap is_spent c.me.invariant.role) _ _ (ap is_spent c.other.invariant.role) (subst (λ k. k.log.loader ≡ None) (sym c.other.view_is) c.requires.idle.0)
+  joins _ _ _ c.me.invariant.role _ _ (ap is_spent c.other.invariant.role) (subst (λ k. k.log.loader ≡ None) (sym c.other.view_is) c.requires.idle.0)
       (subst (λ k. k.log.holdings.held ≡ []) (sym c.other.view_is) c.requires.idle.1) (subst (λ k. k.log.holdings.out ≡ []) (sym c.other.view_is) c.requires.idle.2),
 )

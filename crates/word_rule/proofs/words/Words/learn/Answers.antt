@@ -30,5 +30,5 @@ join_seat-requires c = (
   ap (λ k. k.table) c.note.view_is ∙ (c.requires.note ∙ sym (ap (λ k. k.table) c.self.view_is)),
   c.note.invariant.bare,
   omega (arith, c.self.invariant.1),
-  learns _ _ _ (ap is_spent c.me.invariant.role) _ _ c.note.invariant.note,
+  learns _ _ _ c.me.invariant.role _ _ c.note.invariant.note,
 )

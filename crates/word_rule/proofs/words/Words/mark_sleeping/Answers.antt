@@ -4,4 +4,4 @@ use Rattle.word_rule.proofs.words.Words.mark_sleeping.Goals as goal
 
 pub compare_exchange-found-requires : goal.compare_exchange-found-requires
 compare_exchange-found-requires c =
-    (ap (λ k. k.table) c.me.view_is ∙ (c.requires.table ∙ sym (ap (λ k. k.table) c.self.view_is)), omega (arith, c.self.invariant.1), marks_by_bits _ _ _ _ _ c.requires.locked)
+    (ap (λ k. k.table) c.me.view_is ∙ (c.requires.table ∙ sym (ap (λ k. k.table) c.self.view_is)), omega (arith, c.self.invariant.1), marks_by_bits _ _ _ _ c.me.invariant.role _ c.requires.locked)

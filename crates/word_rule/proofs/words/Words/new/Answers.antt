@@ -1,4 +1,4 @@
-use Rattle.std.proofs.Common.{length, List, ℕ, [], ◌∷◌, sym, ap, ◌∙◌, subst}
+use Rattle.std.proofs.Common.{length, List, ℕ, [], ◌∷◌, sym, ap, ◌∙◌, subst, arith}
 use Rattle.word_rule.specs.declared.rule.Made.{Made}
 use Rattle.word_rule.specs.declared.log.Terms.{Terms}
 use Rattle.word_rule.specs.Key.{terms_of}
@@ -13,7 +13,7 @@ of_words-requires c =
     let t : Terms = record { nodes = c.args.nodes; loads = c.args.loads; payloads = c.args.payloads; fixed = c.args.fixed.items } in
     subst (λ (m : Made). TableInvariant (terms_of m) c.as_slice.result.now (first_log (terms_of m) ∷ [])) (sym c.of-key.ensures)
     (subst (λ (w : List ℕ). TableInvariant t w (first_log t ∷ [])) (sym (c.as_slice.ensures.value ∙ c.in_ok-words.ensures))
-    (table_begins t (record { nodes = c.requires.nodes; loads = c.requires.loads; fixed = c.requires.ascending; payloads = c.requires.payloads })))
+    (table_begins t (record { nodes = c.requires.nodes; loads = c.requires.loads; fixed = c.requires.ascending; payloads = omega (arith, c.ranges.payloads); members = c.requires.members })))
 
 pub invariant_of-result : goal.invariant_of-result
 invariant_of-result c =

@@ -18,4 +18,4 @@ invariant_of-me c = let i = c.me.invariant in record {
 
 pub split_seat-seat-requires : goal.split_seat-seat-requires
 split_seat-seat-requires c =
-    (ap (λ k. k.table) c.me.view_is ∙ (c.requires ∙ sym (ap (λ k. k.table) c.self.view_is)), omega (arith, c.self.invariant.1), notes _ _ _ (ap is_spent c.me.invariant.role))
+    (ap (λ k. k.table) c.me.view_is ∙ (c.requires ∙ sym (ap (λ k. k.table) c.self.view_is)), omega (arith, c.self.invariant.1), notes _ _ _ c.me.invariant.role)

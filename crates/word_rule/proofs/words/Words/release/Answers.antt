@@ -9,5 +9,5 @@ swap-requires c =
     let first = first_of c.me.inside.versions.items c.index.result.now (omega (arith, c.me.invariant.wide)) c.index.ensures in (
       ap (λ k. k.table) c.me.view_is ∙ (c.requires.table ∙ sym (ap (λ k. k.table) c.self.view_is)),
       omega (arith, c.self.invariant.1),
-      releases_kept _ _ _ _ c.index.result.now (subst (λ k. IsSome k.log.loader) (sym c.me.view_is) c.requires.held) (version_kept _ _ _ first c.me.invariant.loader) some_credit,
+      releases_kept _ _ _ _ c.me.invariant.role c.index.result.now (subst (λ k. IsSome k.log.loader) (sym c.me.view_is) c.requires.held) (version_kept _ _ _ first c.me.invariant.loader) some_credit,
     )

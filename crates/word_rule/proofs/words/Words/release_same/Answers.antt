@@ -7,5 +7,5 @@ swap-requires c =
     let first = first_of c.me.inside.versions.items c.index-same.result.now (omega (arith, c.me.invariant.wide)) c.index-same.ensures in (
       ap (λ k. k.table) c.me.view_is ∙ (c.requires.table ∙ sym (ap (λ k. k.table) c.self.view_is)),
       omega (arith, c.self.invariant.1),
-      releases_same_kept _ _ _ _ c.index-same.result.now (is_held _ (subst (λ k. IsSomeAnd k.log.loader (λ h. h.stored ≡ false)) (sym c.me.view_is) c.requires.held)) (version_kept _ _ _ first c.me.invariant.loader),
+      releases_same_kept _ _ _ _ c.me.invariant.role c.index-same.result.now (is_held _ (subst (λ k. IsSomeAnd k.log.loader (λ h. h.stored ≡ false)) (sym c.me.view_is) c.requires.held)) (version_kept _ _ _ first c.me.invariant.loader),
     )

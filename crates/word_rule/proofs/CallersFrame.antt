@@ -1,0 +1,90 @@
+-- What is said of callers stays over a step that changes one log and not what it has seen or received.
+use Rattle.std.proofs.Common.{◌≡◌, ℕ, ◌+◌, ◌<◌, ◌≤◌, List, [], ◌∷◌, ◌++◌, set, sym, refl, ap, ◌∙◌, subst, arith, ⊎_elim, ◌≢◌, ◌%◌, Option, Some, None, Bool, false, true}
+use mathlib.Core.Option.{some, some-injective}
+use lib.ListN.{get_elem?}
+use Rattle.atomic_table.proofs.Lists.{set_here, set_else}
+use Rattle.reg_model.specs.declared.answer.Update.{Update}
+use Rattle.word_rule.specs.declared.log.Log.{Log}
+use Rattle.word_rule.specs.declared.log.Terms.{Terms}
+use Rattle.word_rule.specs.Memory.{Memory, counters}
+use Rattle.word_rule.specs.Names.{name_count}
+use Rattle.word_rule.specs.Logs.{is_spent, weight}
+use Rattle.word_rule.specs.Callers.{total, CallersHold, LogHolds, LineagesHold, IsIdle, AtLoader, LoaderLock, dones, dones_in}
+use Rattle.word_rule.proofs.Facts.{total_set, total_same, after_step, within, decided}
+
+-- What such a step leaves as it is in its log.
+pub record IsLike (v w : Log) : Type 0 where
+  pub terms : w.terms ≡ v.terms
+  pub role : w.role ≡ v.role
+  pub past : w.past ≡ v.past
+  pub receipts : w.receipts ≡ v.receipts
+  pub allowance : w.budget.allowance ≡ v.budget.allowance
+  pub made : w.made ≡ v.made
+  pub lineage : w.lineage ≡ v.lineage
+
+-- the lock stays held, or free
+pub lock_stays : (views : List Log) (word x id : ℕ) (v w : Log) (holder : Option ℕ) → get_elem? views id ≡ some v → w.loader ≡ v.loader → (holder ≡ None → x % 4 ≡ 0) → LoaderLock word views holder → LoaderLock x (set views id w) holder
+lock_stays views word x id v w None at same free h = free refl
+lock_stays views word x id v w (Some j) at same free h = ⊎_elim
+    (λ (is : j ≡ id). (w, h.1, (subst (λ k. get_elem? (set views id w) k ≡ some w) (sym is) (set_here views id w (within views id v at)), same ∙ (ap (λ u. u.loader) (mine is) ∙ h.2.1))))
+    (λ (is : j ≢ id). (h.0, h.1, (set_else views id j w is ∙ h.2.0, h.2.1)))
+    (decided j id)
+  where
+    mine : j ≡ id → v ≡ h.0
+    mine is = some-injective v h.0 (sym at ∙ (ap (get_elem? views) (sym is) ∙ h.2.0))
+
+-- how logs were forked stays where one keeps its role, its names and its count of callers
+module _ (views : List Log) (lineages : LineagesHold views) (id : ℕ) (v w : Log) (at : get_elem? views id ≡ some v) (role : w.role ≡ v.role) (lineage : w.lineage ≡ v.lineage) (gone : is_spent w.role ≡ true → (w.receipts.own ≡ []) × (w.receipts.joined ≡ []) × (w.made ≡ 0)) where
+  had_role : {b : Bool} → is_spent w.role ≡ b → is_spent v.role ≡ b
+  had_role s = sym (ap is_spent role) ∙ s
+
+  pub lineages_over : LineagesHold (set views id w)
+  lineages_over = record {
+    gathered = λ x. rw (total_same (λ u. name_count x u.lineage.gathered) views id v w at (ap (λ k. name_count x k.gathered) lineage), total_same (λ u. name_count x u.lineage.given) views id v w at (ap (λ k. name_count x k.given) lineage)) (lineages.gathered x);
+    given = λ x. rw (total_same (λ u. name_count x u.lineage.given) views id v w at (ap (λ k. name_count x k.given) lineage)) (lineages.given x);
+    named = after_step (λ _ u. is_spent u.role ≡ false → 0 < name_count u.lineage.name u.lineage.gathered) views id w (λ s. rw lineage (lineages.named id v at (had_role s))) (λ j u _ e. lineages.named j u e);
+    unused = after_step (λ _ u. is_spent u.role ≡ false → (n : ℕ) → u.lineage.forks ≤ n → total (λ z. name_count (u.lineage.name ++ n ∷ []) z.lineage.given) (set views id w) ≡ 0) views id w
+        (λ s n b. subst (λ k. total (λ z. name_count (k.name ++ n ∷ []) z.lineage.given) (set views id w) ≡ 0) (sym lineage)
+        (total_same (λ z. name_count (v.lineage.name ++ n ∷ []) z.lineage.given) views id v w at (ap (λ k. name_count (v.lineage.name ++ n ∷ []) k.given) lineage) ∙ lineages.unused id v at (had_role s) n (subst (λ k. k.forks ≤ n) lineage b)))
+        (λ j u _ e s n b. rw (total_same (λ z. name_count (u.lineage.name ++ n ∷ []) z.lineage.given) views id v w at (ap (λ k. name_count (u.lineage.name ++ n ∷ []) k.given) lineage)) (lineages.unused j u e s n b));
+    spent = after_step (λ _ u. is_spent u.role ≡ true → (u.receipts.own ≡ []) × (u.receipts.joined ≡ []) × (u.made ≡ 0)) views id w gone (λ j u _ e. lineages.spent j u e);
+  }
+
+module _ (t : Terms) (m : Memory) (views : List Log) (history : List Update) (r : CallersHold t m views history) (id : ℕ) (v w : Log) (at : get_elem? views id ≡ some v) (like : IsLike v w) where
+  was_spent : {b : Bool} → is_spent w.role ≡ b → is_spent v.role ≡ b
+  was_spent s = sym (ap is_spent like.role) ∙ s
+
+  like_log : (c : ℕ) → (weight w.role ≡ 0 → IsIdle w) → LogHolds t history c v → LogHolds t history c w
+  like_log c idle h = record {
+    terms = λ s. like.terms ∙ h.terms (was_spent s);
+    begins = rw like.past h.begins;
+    receipts = rw (like.past, like.receipts) h.receipts;
+    lineage = rw like.lineage h.lineage;
+    idle = idle;
+  }
+
+  lineages_stay : LineagesHold (set views id w)
+  lineages_stay = lineages_over views r.lineages id v w at like.role like.lineage
+      (λ s. let h = r.lineages.spent id v at (was_spent s) in (ap (λ k. k.own) like.receipts ∙ h.0, ap (λ k. k.joined) like.receipts ∙ h.1, like.made ∙ h.2))
+
+  -- no counter rises by more than the credit falls
+  pub callers_step : (m' : Memory) (holder : Option ℕ) → m'.clock ≡ m.clock → counters t m' + w.budget.credit ≤ counters t m + v.budget.credit → LoaderLock m'.loader (set views id w) holder
+      → ((j : ℕ) (u : Log) → get_elem? (set views id w) j ≡ some u → AtLoader m' holder j u.loader) → (weight w.role ≡ 0 → IsIdle w) → CallersHold t m' (set views id w) history
+  callers_step m' holder clock fewer lock at_lock idle =
+      let made : total (λ u. u.made) (set views id w) ≡ total (λ u. u.made) views = total_same (λ u. u.made) views id v w at like.made in
+      record {
+        holder = holder;
+        lawful = r.lawful;
+        terms = r.terms;
+        members = r.members;
+        updates = rw clock r.updates;
+        published = rw clock r.published;
+        room = rw (total_same (λ u. u.budget.allowance) views id v w at like.allowance) r.room;
+        numbers = λ n. rw (total_same (dones_in n) views id v w at (ap (dones n) like.receipts)) (r.numbers n);
+        each = λ j u e. rw made (after_step (λ _ z. LogHolds t history (total (λ y. y.made) views + 1) z) views id w (like_log _ idle (r.each id v at)) (λ j u _ e. r.each j u e) j u e);
+        weights = (let s = total_same (λ u. weight u.role) views id v w at (ap weight like.role) in let o = r.weights in omega (arith, s, made, o));
+        loader = lock;
+        at_loader = at_lock;
+        counted = (let c = total_set (λ u. u.budget.credit) views id v w at in let o = r.counted in omega (arith, c, o, fewer));
+        lineages = lineages_stay;
+      }

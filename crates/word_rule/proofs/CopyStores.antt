@@ -1,0 +1,117 @@
+-- A store in the copy that is not active keeps the rule.
+use Rattle.std.proofs.Common.{◌≡◌, ◌≢◌, ℕ, ◌+◌, ◌-◌, ◌*◌, ◌/◌, ◌%◌, ◌<◌, ◌≤◌, List, [], ◌∷◌, length, get_or, set, length-set, sym, refl, ap, ◌∙◌, subst, arith, false, Option, Some, None, option_map, IfSome, append-nil}
+use Rattle.std.proofs.lemmas.Option.{same_Some}
+use Rattle.std.specs.List.{AllByRecursion}
+use mathlib.Core.Option.{none, some}
+use lib.ListN.{get_elem?}
+use Rattle.atomic_table.specs.Table.{State, Me, step, Act, keeps, Allows}
+use Rattle.atomic_table.proofs.Lists.{set_here}
+use Rattle.word_rule.specs.declared.log.Role.TheVariants as role
+use Rattle.word_rule.specs.declared.log.Terms.{Terms}
+use Rattle.word_rule.specs.declared.log.LoaderHolding.{LoaderHolding}
+use Rattle.word_rule.specs.declared.log.CopySight.{CopySight}
+use Rattle.word_rule.specs.declared.log.Log.{Log}
+use Rattle.word_rule.specs.Places.{copy_place, copy_words, upper, spare}
+use Rattle.word_rule.specs.Memory.{Memory, memory_of, updated}
+use Rattle.word_rule.specs.Logs.{is_spent, weight, turns}
+use Rattle.word_rule.specs.Steps.{store_in_copy, after_copy_store}
+use Rattle.reg_model.specs.History.{state_after}
+use Rattle.word_rule.specs.Callers.{total, IsIdle, HoldsLoader, AtLoader, LoaderLock, start}
+use Rattle.word_rule.specs.Copies.{ListsAll, ActiveCopy, AreOfCopy, CopySightHolds}
+use Rattle.word_rule.specs.TableInvariant.{TableInvariant}
+use Rattle.word_rule.specs.Plays.{Seated, stores_copy}
+use Rattle.word_rule.proofs.Facts.{after_step, within}
+use Rattle.word_rule.proofs.Memories.{set_copy}
+use Rattle.word_rule.proofs.CallersFrame.{IsLike, callers_step}
+use Rattle.word_rule.proofs.NodesFrame.{nodes_same}
+use Rattle.word_rule.proofs.Writes.{written}
+use Rattle.word_rule.proofs.NodeLocks.{updated_here, updated_other}
+
+abbrev Sit : Type 0
+Sit = State (Unit {0}) Log
+
+-- where another holds the lock, a log has no part in it
+pub other_loader : (m m' : Memory) (holder : Option ℕ) (j : ℕ) (o : Option LoaderHolding) → holder ≢ Some j → AtLoader m holder j o → AtLoader m' holder j o
+other_loader m m' holder j None far h = tt
+other_loader m m' holder j (Some g) far h = absurd (far h.0)
+
+-- a log that has the loader's lock
+pub loader_held : (m : Memory) (holder : Option ℕ) (id : ℕ) (o : Option LoaderHolding) (h : LoaderHolding) → o ≡ Some h → AtLoader m holder id o → (holder ≡ Some id) × HoldsLoader m h
+loader_held m holder id o h is a = subst (AtLoader m holder id) is a
+
+module _ (t : Terms) (slots id : ℕ) (me : Seated) (caller : me.0.role ≡ role.Caller) where
+  abbrev Holds : Sit → Type 0
+  Holds s = TableInvariant t s.words s.views
+
+  stands : is_spent me.0.role ≡ false
+  stands = ap is_spent caller
+
+  busy : (w : Log) → weight me.0.role ≡ 0 → IsIdle w
+  busy w zero_weight = absurd (let one : weight me.0.role ≡ 1 = ap weight caller in omega (arith, zero_weight, one))
+
+  module _ (h : LoaderHolding) (is : me.0.loader ≡ Some h) (k x : ℕ) (inside : k < copy_words t) (s : Sit) (r : Holds s) (at : get_elem? s.views id ≡ some me.0) where
+    abbrev m : Memory
+    m = memory_of t s.words
+
+    -- the number of the copy that is not active
+    c : ℕ
+    c = spare (get_or s.words 0 0)
+
+    abbrev copies' : ℕ → List ℕ
+    copies' = updated (memory_of t s.words).copies (spare (get_or s.words 0 0)) (set ((memory_of t s.words).copies (spare (get_or s.words 0 0))) k x)
+
+    abbrev m' : Memory
+    m' = record (memory_of t s.words) { copies = copies' }
+
+    abbrev w : Log
+    w = after_copy_store k x me.0
+
+    mine : (r.memory.callers.holder ≡ Some id) × HoldsLoader (memory_of t s.words) h
+    mine = loader_held (memory_of t s.words) r.memory.callers.holder id me.0.loader h is (r.memory.callers.at_loader id me.0 at)
+
+    now : w.loader ≡ Some (store_in_copy k x h)
+    now = ap (option_map (store_in_copy k x)) is
+
+    -- the active copy is the other one
+    active_stays : copies' (upper (get_or s.words 0 0) % 2) ≡ (memory_of t s.words).copies (upper (get_or s.words 0 0) % 2)
+    active_stays = updated_other (memory_of t s.words).copies (spare (get_or s.words 0 0)) (set ((memory_of t s.words).copies (spare (get_or s.words 0 0))) k x) (upper (get_or s.words 0 0) % 2) (λ e. omega (arith, e))
+
+    lock : LoaderLock (memory_of t s.words).loader (set s.views id w) r.memory.callers.holder
+    lock = subst (LoaderLock (memory_of t s.words).loader (set s.views id w)) (sym mine.0) (w, store_in_copy k x h, (set_here s.views id w (within s.views id me.0 at), now))
+
+    at_lock : (j : ℕ) (u : Log) → get_elem? (set s.views id w) j ≡ some u → AtLoader m' r.memory.callers.holder j u.loader
+    at_lock = after_step (λ j u. AtLoader m' r.memory.callers.holder j u.loader) s.views id w
+        (subst (AtLoader m' r.memory.callers.holder id) (sym now) (
+          mine.0,
+          record {
+            locked = mine.1.locked;
+            published = mine.1.published;
+            active = mine.1.active ∙ sym active_stays;
+            spare = ap (λ ws. set ws k x) mine.1.spare ∙ sym (updated_here (memory_of t s.words).copies (spare (get_or s.words 0 0)) (set ((memory_of t s.words).copies (spare (get_or s.words 0 0))) k x) (spare (get_or s.words 0 0)) refl);
+          },
+        ))
+        (λ j u far there. other_loader (memory_of t s.words) m' r.memory.callers.holder j u.loader (λ e. far (same_Some _ _ (sym e ∙ mine.0))) (r.memory.callers.at_loader j u there))
+
+    copies : (g : CopySight) → CopySightHolds t (memory_of t s.words).clock (memory_of t s.words).copies g → CopySightHolds t (memory_of t s.words).clock copies' g
+    copies g p = record {
+      earlier = p.earlier;
+      own = p.own;
+      loaded = λ guard. subst (λ ws. AllByRecursion (λ a. get_or ws (a.at - copy_place t (g.guard % 2)) 0 ≡ a.value) g.words) (sym (updated_other (memory_of t s.words).copies (spare (get_or s.words 0 0)) (set ((memory_of t s.words).copies (spare (get_or s.words 0 0))) k x) (g.guard % 2) (λ e. omega (arith, e, guard)))) (p.loaded guard);
+    }
+
+    pub stored : TableInvariant t (set s.words (copy_place t (spare (get_or s.words 0 0)) + k) x) (set s.views id w)
+    stored =
+        let like : IsLike me.0 w = record { terms = refl; role = refl; past = refl; receipts = refl; allowance = refl; made = refl; lineage = refl } in
+        written t s.words s.views r id me.0 w at stands (set s.words (copy_place t (spare (get_or s.words 0 0)) + k) x) m' r.memory.history r.memory.shadow (length-set s.words (copy_place t (spare (get_or s.words 0 0)) + k) x)
+        (set_copy t s.words r.wide x (spare (get_or s.words 0 0)) k (omega arith) inside) ([], append-nil r.memory.history)
+        (callers_step t (memory_of t s.words) s.views r.memory.history r.memory.callers id me.0 w at like m' r.memory.callers.holder refl (omega arith) lock at_lock (busy w))
+        (nodes_same s.views id me.0 w at t (memory_of t s.words).nodes r.memory.history r.memory.shadow refl r.memory.nodes)
+        (subst (λ ws. ListsAll ws (state_after (start t) r.memory.history).loaded) (sym active_stays) r.memory.active) refl (λ _ p. p) copies (record { own = refl; sights = refl; loads = refl; turn = omega arith })
+
+  -- the place of the word is known from the log: its copy is the one that the lock's publications say
+  pub stores_spare : (h : LoaderHolding) → me.0.loader ≡ Some h → (k x : ℕ) → k < copy_words t → Allows Holds slots id me (copy_place t ((h.published + 1) % 2) + k) (λ _. x) (stores_copy k (step slots (copy_place t ((h.published + 1) % 2) + k) x 0 none) me)
+  stores_spare h is k x inside s r deep at small =
+      let mine = loader_held (memory_of t s.words) r.memory.callers.holder id me.0.loader h is (r.memory.callers.at_loader id me.0 at) in
+      let same : (h.published + 1) % 2 ≡ spare (get_or s.words 0 0) = ap (λ u. (u + 1) % 2) mine.1.published in
+      let w : Log = after_copy_store k x me.0 in
+      (w, keeps, tt, subst (λ d. TableInvariant t (set s.words (copy_place t d + k) x) (set s.views id w)) (sym same) (stored h is k x inside s r at), refl)

@@ -1,0 +1,191 @@
+-- Loads of words of nodes and copies keep the rule.
+use Rattle.std.proofs.Common.{◌≡◌, ◌≢◌, ℕ, ◌+◌, ◌-◌, ◌*◌, ◌<◌, ◌≤◌, ◌%◌, ◌⊎◌, List, [], ◌∷◌, ◌++◌, length, get_or, set, take, take_all, sym, refl, ap, ◌∙◌, subst, inl, inr, ⊎_elim, arith, ◌&&◌, nat_le, nat_lt, Bool, true, false, IsTrue, true≢false, Option, Some, None, IfSome, IsSome, is_some, option_map, max, Contains, if◌then◌else◌, ◌↔◌, ◌^◌, lt_of_not-le}
+use Rattle.std.specs.List.{AllByRecursion}
+use Rattle.std.proofs.lemmas.Bool.{and_parts}
+use mathlib.Core.Option.{none, some}
+use mathlib.Core.List.{IsPrefix}
+use native.Mathlib.Decide.{dec_le}
+use borrow.Author.Tests.{lt-leb, le-ltb}
+use lib.ListN.{get_elem?}
+use Rattle.atomic_table.specs.Table.{State, Me, step, Act, keeps, Allows}
+use Rattle.reg_model.specs.History.{state_after, state_at}
+use Rattle.reg_model.specs.Receipt.{moment, AllHold}
+use Rattle.reg_model.specs.declared.answer.Update.{Update}
+use Rattle.reg_model.specs.declared.answer.Receipt.{Receipt}
+use Rattle.reg_model.specs.declared.span.Member.{Member}
+use Rattle.tree_shape.specs.Shapes.{EntriesWithin, pairs_of, entries_of}
+use Rattle.tree_shape.specs.Trees.{Contents, entries, HasEntry}
+use Rattle.tree_shape.specs.Lawful.{IsTree, IsLawful}
+use Rattle.word_rule.specs.declared.log.Role.TheVariants as role
+use Rattle.word_rule.specs.declared.log.Terms.{Terms}
+use Rattle.word_rule.specs.declared.log.Holding.{Holding}
+use Rattle.word_rule.specs.declared.log.LoadEvent.{LoadEvent}
+use Rattle.word_rule.specs.declared.log.CopySight.{CopySight}
+use Rattle.word_rule.specs.declared.log.Log.{Log}
+use Rattle.word_rule.specs.Places.{is_of_copy, copy_place, copy_words}
+use Rattle.word_rule.specs.Memory.{NodeWords, Memory, memory_of, copy_of}
+use Rattle.word_rule.specs.Spelling.{word_at, SpellsNode}
+use Rattle.word_rule.specs.Held.{held_of}
+use Rattle.word_rule.specs.Logs.{is_spent, weight, turns, load_of, after_load}
+use Rattle.word_rule.specs.Sights.{with_copy_word, after_copy_load, after_node_load}
+use Rattle.word_rule.specs.Callers.{total, CallersHold, IsIdle, IsAlone, IsRecord, start}
+use Rattle.word_rule.specs.Nodes.{Shadow, HoldsNode, IsPlaced}
+use Rattle.word_rule.specs.Copies.{CopySightHolds, AreOfCopy}
+use Rattle.word_rule.specs.Observations.{last_moment, HadMembers, IsFullCount, IsFullBody, WasFull, ObservationsHold}
+use Rattle.word_rule.specs.TableInvariant.{TableInvariant, IsStill}
+use Rattle.word_rule.specs.Plays.{Seated, loads_copy, loads_node}
+use Rattle.word_rule.proofs.Each.{all_map, held_is}
+use Rattle.word_rule.proofs.Members.{ascending_fit}
+use Rattle.word_rule.proofs.Memories.{load_content_at, load_copy_at}
+use Rattle.word_rule.proofs.Spells.{reads_full}
+use Rattle.word_rule.proofs.CallersFrame.{IsLike}
+use Rattle.word_rule.proofs.ObservationsFrame.{Loads, observations_own, observations_same, longer_length}
+use Rattle.word_rule.proofs.Frames.{still_after_load}
+use Rattle.word_rule.proofs.Quiet.{quiet}
+
+abbrev Sit : Type 0
+Sit = State (Unit {0}) Log
+
+pub leb_true : (a b : ℕ) → nat_le a b ≡ true → a ≤ b
+leb_true a b h = go (dec_le a b)
+  where
+    go : Dec (a ≤ b) → a ≤ b
+    go (yes l) = l
+    go (no n) = absurd (true≢false (sym h ∙ lt-leb a b (lt_of_not-le n)))
+
+pub ltb_true : (a b : ℕ) → nat_lt a b ≡ true → a < b
+ltb_true a b h = go (dec_le b a)
+  where
+    go : Dec (b ≤ a) → a < b
+    go (yes l) = absurd (true≢false (sym h ∙ le-ltb a b l))
+    go (no n) = lt_of_not-le n
+
+-- the greatest stamp or number of receipts that hold is at most the length of what was seen
+last_within : (t : Terms) (past : List Update) (callers since : ℕ) (rs : List Receipt) → since ≤ length past → AllHold (start t) past t.nodes callers since rs → last_moment since rs ≤ length past
+last_within t past callers since [] low h = low
+last_within t past callers since (r ∷ rs) low h = let w = h.0.within in last_within t past callers (max since (moment r)) rs (omega (arith, low, w)) h.1
+
+-- a live node that is full has ten members in the tree: a law of tree_shape
+abbrev pub FullLaw : Type 0
+FullLaw = (f : Contents) (live : ℕ → Bool) (n : ℕ) → IsLawful f live → IsTrue (live n) → (15 ≤ length (pairs_of (f n))) ⊎ (10 ≤ length (entries_of (f n))) → 10 ≤ length (entries f)
+
+-- the entries of a tree ascend, and are those of its live nodes: a law of tree_shape
+pub record OrderLaw : Type 0 where
+  pub members : (f : Contents) (live : ℕ → Bool) (m : Member) → IsTree f live → Contains (entries f) m ↔ HasEntry f live m
+  pub ascending : (f : Contents) (live : ℕ → Bool) → IsTree f live → EntriesWithin 0 (2 ^ 64 - 1) (entries f)
+
+module _ (t : Terms) (slots id : ℕ) (me : Seated) (caller : me.0.role ≡ role.Caller) where
+  abbrev Holds : Sit → Type 0
+  Holds s = TableInvariant t s.words s.views
+
+  stands : is_spent me.0.role ≡ false
+  stands = ap is_spent caller
+
+  busy : (w : Log) → weight me.0.role ≡ 0 → IsIdle w
+  busy w zero_weight = absurd (let one : weight me.0.role ≡ 1 = ap weight caller in omega (arith, zero_weight, one))
+
+  -- a word that joins a sight of its own copy
+  joins_copy : (s : Sit) (r : Holds s) (at : ℕ) (o : Option CopySight) → IfSome o (CopySightHolds t (get_or s.words 0 0) (copy_of t s.words)) → IfSome (option_map (with_copy_word t at (get_or s.words at 0)) o) (CopySightHolds t (get_or s.words 0 0) (copy_of t s.words))
+  joins_copy s r at None h = tt
+  joins_copy s r at (Some c) h = go (is_of_copy t (c.guard % 2) at) refl
+    where
+      go : (b : Bool) → is_of_copy t (c.guard % 2) at ≡ b → CopySightHolds t (get_or s.words 0 0) (copy_of t s.words) (if b then record c { words = record { at = at; value = get_or s.words at 0 } ∷ c.words } else c)
+      go true is =
+          let parts = and_parts (nat_le (copy_place t (c.guard % 2)) at) (nat_lt at (copy_place t (c.guard % 2) + copy_words t)) is in record {
+            earlier = h.earlier;
+            own = (is, h.own);
+            loaded = λ guard. (load_copy_at t s.words (c.guard % 2) at (omega arith) (leb_true _ _ parts.0) (ltb_true _ _ parts.1), h.loaded guard);
+          }
+      go false is = h
+
+  -- the copies stand after the nodes, so a load there tells nothing of fullness
+  past_nodes : (s : Sit) (r : Holds s) (at : ℕ) → get_elem? s.views id ≡ some me.0 → 4 + 36 * t.nodes ≤ at → WasFull t r.memory.history (total (λ u. u.made) s.views + 1) me.0.receipts.own (load_of me.0 at (get_or s.words at 0))
+  past_nodes s r at here far = record {
+    count = λ _. all_map (HoldsNode t (memory_of t s.words).nodes r.memory.shadow id) (λ h. IsFullCount (load_of me.0 at (get_or s.words at 0)) h → HadMembers t r.memory.history me.0.receipts.own 10)
+        (λ h holds full. absurd (let e = full.0 in let w = holds.within in omega (arith, e, w, far))) me.0.holdings.held (r.memory.nodes.holdings id me.0 here).each;
+    head = λ _ is _ _. absurd (omega (arith, is, far));
+  }
+
+  pub loads_copy_word : (at : ℕ) → 4 + 36 * t.nodes ≤ at → Allows Holds slots id me at (λ n. n) (loads_copy (step slots at 0 0 none) me)
+  loads_copy_word at far s r deep here small =
+      let found : ℕ = get_or s.words at 0 in
+      let w : Log = after_copy_load at found me.0 in
+      let m : Memory = memory_of t s.words in
+      let callers : ℕ = total (λ u. u.made) s.views + 1 in
+      let terms : me.0.terms ≡ t = (r.memory.callers.each id me.0 here).terms stands in
+      let o = r.memory.observations id me.0 here in
+      let copies = subst (λ k. IfSome (option_map (with_copy_word k at found) me.0.sights.copies) (CopySightHolds t m.clock m.copies)) (sym terms) (joins_copy s r at me.0.sights.copies o.copies) in (
+        w,
+        keeps,
+        tt,
+        quiet t s.words s.views r id me.0 w here stands at (record { terms = refl; role = refl; past = refl; receipts = refl; allowance = refl; made = refl; lineage = refl }) refl refl (busy w)
+            (r.memory.nodes.holdings id me.0 here) (λ _ h. h) (λ _. refl)
+            (observations_own t m r.memory.history callers r.memory.shadow me.0 w (load_of me.0 at found ∷ []) (record { own = refl; turns = omega arith; loads = refl }) o.sights copies (past_nodes s r at here far, tt) ((omega arith, omega arith), tt) o)
+            (λ alone. still_after_load s.words me.0 w (load_of me.0 at found) refl refl refl (r.alone id me.0 here alone)),
+        refl,
+      )
+
+  -- a full node's count, loaded under its lock
+  full_count : (law : FullLaw) (order : OrderLaw) (s : Sit) (r : Holds s) (n at : ℕ) → get_elem? s.views id ≡ some me.0 → 1 ≤ at → at ≤ 35
+      → WasFull t r.memory.history (total (λ u. u.made) s.views + 1) me.0.receipts.own (load_of me.0 (4 + 36 * n + at) (get_or s.words (4 + 36 * n + at) 0))
+  full_count law order s r n at here low high = record {
+    count = λ _. all_map (HoldsNode t (memory_of t s.words).nodes r.memory.shadow id) (λ h. IsFullCount (load_of me.0 (4 + 36 * n + at) (get_or s.words (4 + 36 * n + at) 0)) h → HadMembers t r.memory.history me.0.receipts.own 10) told me.0.holdings.held (r.memory.nodes.holdings id me.0 here).each;
+    head = λ _ is _ _. absurd (omega (arith, is));
+  }
+    where
+      history : List Update
+      history = r.memory.history
+
+      shadow : Shadow
+      shadow = r.memory.shadow
+
+      -- what is marked is live
+      live_of : (h : Holding) → IsSome h.mark → IfSome h.mark (λ f. IsTrue (r.memory.shadow.live h.node) × IsPlaced h.settled f) → IsTrue (r.memory.shadow.live h.node)
+      live_of h some_mark marked = go h.mark some_mark marked
+        where
+          go : (o : Option _) → IsSome o → IfSome o (λ f. IsTrue (r.memory.shadow.live h.node) × IsPlaced h.settled f) → IsTrue (r.memory.shadow.live h.node)
+          go None none_there p = absurd (true≢false (sym none_there))
+          go (Some f) there p = p.0
+
+      members : 10 ≤ length (entries r.memory.shadow.settled) → HadMembers t r.memory.history me.0.receipts.own 10
+      members ten =
+          let log = r.memory.callers.each id me.0 here in
+          let seen = longer_length me.0.past r.memory.history log.begins in
+          let last = last_within t me.0.past (total (λ u. u.made) s.views + 1) 0 me.0.receipts.own (omega arith) log.receipts.own.0 in
+          let tree = r.memory.nodes.lawful.tree in
+          let fit = ascending_fit 0 (2 ^ 64 - 1) (entries r.memory.shadow.settled) (state_after (start t) r.memory.history).registered (order.ascending r.memory.shadow.settled r.memory.shadow.live tree)
+          (λ x there. (r.memory.nodes.entries x).0 ((order.members r.memory.shadow.settled r.memory.shadow.live x tree).0 there)) in
+          let all : state_at (start t) r.memory.history (length r.memory.history) ≡ state_after (start t) r.memory.history = ap (state_after (start t)) (take_all (length r.memory.history) r.memory.history (omega arith)) in
+          (length r.memory.history, (omega (arith, last, seen), omega arith, subst (λ st. 10 ≤ length st.registered) (sym all) (omega (arith, ten, fit))))
+
+      told : (h : Holding) → HoldsNode t (memory_of t s.words).nodes r.memory.shadow id h → IsFullCount (load_of me.0 (4 + 36 * n + at) (get_or s.words (4 + 36 * n + at) 0)) h → HadMembers t r.memory.history me.0.receipts.own 10
+      told h holds full =
+          let place = full.0 in
+          let five : at ≡ 5 = omega (arith, place, low, high) in
+          let node : h.node ≡ n = omega (arith, place, five) in
+          let w = holds.within in
+          let found : get_or s.words (4 + 36 * n + at) 0 ≡ word_at h.words 5 =
+          sym (load_content_at t s.words n at (omega (arith, w, node)) low high) ∙ (ap (λ k. get_or ((memory_of t s.words).nodes.contents n) (k - 1) 0) five ∙ ap (λ ws. word_at ws 5) (ap (memory_of t s.words).nodes.contents (sym node) ∙ sym holds.as_now)) in
+          let size = reads_full h.words h.settled (get_or s.words (4 + 36 * n + at) 0) full.2 found full.3 in
+          let live = live_of h full.1 holds.marked in
+          members (law r.memory.shadow.settled r.memory.shadow.live h.node r.memory.nodes.lawful live
+          (⊎_elim (λ (e : length (pairs_of h.settled) ≡ 15). inl (let z : length (pairs_of (r.memory.shadow.settled h.node)) ≡ 15 = ap (λ k. length (pairs_of k)) (sym holds.settled) ∙ e in omega (arith, z)))
+          (λ (e : length (entries_of h.settled) ≡ 10). inr (let z : length (entries_of (r.memory.shadow.settled h.node)) ≡ 10 = ap (λ k. length (entries_of k)) (sym holds.settled) ∙ e in omega (arith, z))) size))
+
+  pub loads_held_word : FullLaw → OrderLaw → (n at : ℕ) (h : Holding) → held_of n me.0.holdings.held ≡ Some h → 1 ≤ at → at ≤ 35 → Allows Holds slots id me (4 + 36 * n + at) (λ k. k) (loads_node n at (step slots (4 + 36 * n + at) 0 0 none) me)
+  loads_held_word law order n at h held low high s r deep here small =
+      let found : ℕ = get_or s.words (4 + 36 * n + at) 0 in
+      let w : Log = after_node_load n at found me.0 in
+      let m : Memory = memory_of t s.words in
+      let callers : ℕ = total (λ u. u.made) s.views + 1 in
+      let o = r.memory.observations id me.0 here in
+      let same : w.sights ≡ me.0.sights = rw held refl in (
+        w,
+        keeps,
+        tt,
+        quiet t s.words s.views r id me.0 w here stands (4 + 36 * n + at) (record { terms = refl; role = refl; past = refl; receipts = refl; allowance = refl; made = refl; lineage = refl }) refl refl (busy w)
+            (r.memory.nodes.holdings id me.0 here) (λ _ k. k) (λ _. refl)
+            (observations_same t m r.memory.history callers r.memory.shadow me.0 w (load_of me.0 (4 + 36 * n + at) found ∷ []) (record { own = refl; turns = omega arith; loads = refl }) same (full_count law order s r n at here low high, tt) ((omega arith, omega arith), tt) o)
+            (λ alone. still_after_load s.words me.0 w (load_of me.0 (4 + 36 * n + at) found) refl refl refl (r.alone id me.0 here alone)),
+        refl,
+      )
