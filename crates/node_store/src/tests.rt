@@ -1,11 +1,11 @@
-ghost use Rattle.std.specs.Prelude.{◌≡◌, ◌+◌, ◌*◌, ◌≤◌, [], None};
+ghost use Rattle.std.specs.Prelude.{◌≡◌, ◌+◌, ◌*◌, ◌≤◌, ◌<◌, [], None, IsSome};
 ghost use Rattle.word_rule.specs.CallerData.{surplus};
-ghost use Rattle.node_store.specs.Locking.{Turns};
+ghost use Rattle.node_store.specs.Locking.{Tries, Turns};
 
 use crate::{lock, unlock};
 use std::sync::Wait;
 use std::test::Fail;
-use std::thread::{Threads, join};
+use std::thread::{self, Threads, join};
 use word_rule::{Ask, Caller, LockId, Words};
 
 const TURNS: u32 = 100;
@@ -62,5 +62,133 @@ fn two_threads_take_the_loaders_lock_in_turn(rt: HostRuntime) -> Result<(), Fail
     assert!(rt; alone);
     let accepted = words.close(a);
     assert!(rt; accepted == 0);
+    Ok(())
+}
+
+// How often a thread looks whether another sleeps.
+const LOOKS: u32 = 1_000_000;
+
+// How often it lets others run before it lets go.
+const PAUSES: u32 = 20_000;
+
+// How often a sleep may end for no reason.
+const WAKES: u32 = 10;
+
+const LOCKED: u64 = 1;
+
+const LOCKED_WITH_SLEEPERS: u64 = 3;
+
+fn someone_sleeps(words: &Words, me: &mut Caller) -> bool
+    requires { me.old.table ≡ words.now.table }
+    ensures { Tries me.old me.new }
+{
+    for look in 0..LOOKS {
+        if words.load_version(me, LockId::Loader, Ask::Nothing) == LOCKED_WITH_SLEEPERS {
+            return true;
+        }
+        thread::yield_now();
+    }
+    false
+}
+
+fn pause() {
+    for step in 0..PAUSES {
+        thread::yield_now();
+    }
+}
+
+// Lets go of the lock long after another sleeps on it, and says whether one did.
+fn let_go_late<R: Wait>(rt: &R, words: &Words, mut me: Caller) -> bool
+    requires table { me.table ≡ words.now.table }
+    requires held { IsSome me.log.loader }
+    requires surplus { 0 < surplus me }
+{
+    let slept = someone_sleeps(words, &mut me);
+    pause();
+    unlock(rt, words, &mut me, LockId::Loader);
+    slept
+}
+
+fn wait_for_it<R: Wait>(rt: &R, words: &Words, mut me: Caller)
+    requires table { me.table ≡ words.now.table }
+    requires free { me.log.loader ≡ None }
+    requires surplus { 0 < surplus me }
+{
+    lock(rt, words, &mut me, LockId::Loader);
+    unlock(rt, words, &mut me, LockId::Loader);
+}
+
+// Sleeps on the lock, which another holds, and says whether it slept on until the word changed.
+fn sleep_on_it<R: Wait>(rt: &R, words: &Words, mut me: Caller) -> bool
+    requires table { me.table ≡ words.now.table }
+{
+    if words
+        .mark_sleeping(&mut me, LockId::Loader, LOCKED)
+        .is_err()
+    {
+        return false;
+    }
+    for wake in 0..WAKES {
+        words.sleep(rt, LockId::Loader, LOCKED_WITH_SLEEPERS);
+        if words.load_version(&mut me, LockId::Loader, Ask::Nothing) != LOCKED_WITH_SLEEPERS {
+            return true;
+        }
+    }
+    false
+}
+
+fn one_waits<R: Threads + Wait + Sync>(rt: &R, words: &Words, a: Caller, b: Caller) -> bool
+    requires tables { (a.table ≡ words.now.table) × (b.table ≡ words.now.table) }
+    requires held { IsSome a.log.loader }
+    requires free { b.log.loader ≡ None }
+    requires surplus { (0 < surplus a) × (0 < surplus b) }
+{
+    let (slept, _) = join(
+        rt,
+        || -> bool
+            requires { (a.table ≡ words.now.table) × IsSome a.log.loader × (0 < surplus a) }
+        { let_go_late(rt, words, a) },
+        || -> ()
+            requires { (b.table ≡ words.now.table) × (b.log.loader ≡ None) × (0 < surplus b) }
+        { wait_for_it(rt, words, b) },
+    );
+    slept
+}
+
+fn one_sleeps<R: Threads + Wait + Sync>(rt: &R, words: &Words, a: Caller, b: Caller) -> (bool, bool)
+    requires tables { (a.table ≡ words.now.table) × (b.table ≡ words.now.table) }
+    requires held { IsSome a.log.loader }
+    requires surplus { 0 < surplus a }
+{
+    join(
+        rt,
+        || -> bool
+            requires { (a.table ≡ words.now.table) × IsSome a.log.loader × (0 < surplus a) }
+        { let_go_late(rt, words, a) },
+        || -> bool
+            requires { b.table ≡ words.now.table }
+        { sleep_on_it(rt, words, b) },
+    )
+}
+
+#[test]
+fn who_lets_go_wakes_who_waits(rt: HostRuntime) -> Result<(), Fail> {
+    let alloc = rt.alloc();
+    let (words, mut a) = Words::new(alloc, 4, 1, 1, Vec::new(alloc))?;
+    let b = words.split(alloc, &mut a, 1)?;
+    lock(&rt, &words, &mut a, LockId::Loader);
+    let slept = one_waits(&rt, &words, a, b);
+    assert!(rt; slept);
+    Ok(())
+}
+
+#[test]
+fn a_sleep_goes_on_until_the_word_changes(rt: HostRuntime) -> Result<(), Fail> {
+    let alloc = rt.alloc();
+    let (words, mut a) = Words::new(alloc, 4, 1, 1, Vec::new(alloc))?;
+    let b = words.split(alloc, &mut a, 1)?;
+    lock(&rt, &words, &mut a, LockId::Loader);
+    let (slept, woken) = one_sleeps(&rt, &words, a, b);
+    assert!(rt; slept && woken);
     Ok(())
 }

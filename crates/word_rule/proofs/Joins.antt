@@ -43,10 +43,10 @@ pub holds_later : (t : Terms) (past more : List Update) (callers later since : �
 holds_later t past more callers later since [] h = tt
 holds_later t past more callers later since (r ∷ rs) h = (holds_on (start t) past more t.nodes callers later since r h.0, holds_later t past more callers later (max since (moment r)) rs h.1)
 
-record_later : (t : Terms) (past past' : List Update) (callers later : ℕ) → IsPrefix past past' → (rs : List Receipt) → IsRecord t past callers rs → IsRecord t past' later rs
+pub record_later : (t : Terms) (past past' : List Update) (callers later : ℕ) → IsPrefix past past' → (rs : List Receipt) → IsRecord t past callers rs → IsRecord t past' later rs
 record_later t past past' callers later pre rs h = (subst (λ p. AllHold (start t) p t.nodes later 0 rs) pre.1 (holds_later t past pre.0 callers later 0 rs h.0), h.1)
 
-records_later : (t : Terms) (past past' : List Update) (callers later : ℕ) → IsPrefix past past' → (lists : List (List Receipt)) → AllByRecursion (IsRecord t past callers) lists → AllByRecursion (IsRecord t past' later) lists
+pub records_later : (t : Terms) (past past' : List Update) (callers later : ℕ) → IsPrefix past past' → (lists : List (List Receipt)) → AllByRecursion (IsRecord t past callers) lists → AllByRecursion (IsRecord t past' later) lists
 records_later t past past' callers later pre [] h = tt
 records_later t past past' callers later pre (rs ∷ lists) h = (record_later t past past' callers later pre rs h.0, records_later t past past' callers later pre lists h.1)
 

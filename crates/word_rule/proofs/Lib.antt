@@ -18,9 +18,11 @@ pub mod Loader
 pub mod NodeLoads
 pub mod HeadPlays
 pub mod NodeLocks
+pub mod NodeVersions
 pub mod CopyStores
 pub mod SeatNodes
 pub mod Joins
+pub mod Publishing
 pub mod Alone
 pub mod InitialCallers
 pub mod InitialTable

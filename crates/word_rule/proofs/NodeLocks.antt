@@ -73,7 +73,7 @@ module _ (t : Terms) (slots id : ℕ) (me : Seated) (caller : me.0.role ≡ role
   busy w zero_weight = absurd (let one : weight me.0.role ≡ 1 = ap weight caller in omega (arith, zero_weight, one))
 
   -- a load of a node's version word tells nothing of fullness
-  of_version : (s : Sit) (r : Holds s) (n : ℕ) → WasFull t r.memory.history (total (λ u. u.made) s.views + 1) me.0.receipts.own (load_of me.0 (4 + 36 * n) (get_or s.words (4 + 36 * n) 0))
+  pub of_version : (s : Sit) (r : Holds s) (n : ℕ) → WasFull t r.memory.history (total (λ u. u.made) s.views + 1) me.0.receipts.own (load_of me.0 (4 + 36 * n) (get_or s.words (4 + 36 * n) 0))
   of_version s r n = record {
     count = λ _. all_of (λ h. IsFullCount (load_of me.0 (4 + 36 * n) (get_or s.words (4 + 36 * n) 0)) h → HadMembers t r.memory.history me.0.receipts.own 10) (λ h full. absurd (let e = full.0 in omega (arith, e))) me.0.holdings.held;
     head = λ _ is _ _. absurd (omega (arith, is));

@@ -76,5 +76,13 @@ fn each_step_on_the_loaders_lock(rt: HostRuntime) -> Result<(), Fail> {
     };
     assert!(rt; words.release_same(&mut a, lock) == 5);
     assert!(rt; words.load_version(&mut a, lock, Ask::Nothing) == 4);
+    let Ok(()) = words.try_lock(&mut a, lock, 4) else {
+        panic!(rt; "the lock is free")
+    };
+    let Ok(()) = words.mark_sleeping(&mut a, lock, 5) else {
+        panic!(rt; "nobody else is here")
+    };
+    assert!(rt; words.release_same(&mut a, lock) == 7);
+    assert!(rt; words.load_version(&mut a, lock, Ask::Nothing) == 4);
     Ok(())
 }

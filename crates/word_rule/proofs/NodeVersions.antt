@@ -1,0 +1,280 @@
+-- A load of a node's version keeps the rule: a sight begins, or one that is found to stand marks those that it names.
+use Rattle.std.proofs.Common.{◌≡◌, ◌≢◌, ℕ, zero, suc, ◌+◌, ◌-◌, ◌*◌, ◌%◌, ◌<◌, ◌≤◌, ◌⊎◌, List, [], ◌∷◌, ◌++◌, length, get_or, map, sym, refl, ap, ◌∙◌, subst, inl, inr, arith, ◌==◌, not, nat_le, nat_lt, Bool, true, false, IsTrue, true≢false, Option, Some, None, IfSome, IsSome, option_map, append-nil, eq-eqb, ne_eqb, if◌then◌else◌}
+use Rattle.std.proofs.lemmas.Option.{none-some, same_Some}
+use Rattle.std.specs.List.{AllByRecursion, find, filter}
+use mathlib.Core.Option.{none, some}
+use native.Mathlib.Decide.{ℕ_discrete}
+use lib.ListN.{get_elem?}
+use Rattle.atomic_table.specs.Table.{State, Me, step, Act, keeps, Allows}
+use Rattle.reg_model.specs.declared.span.Member.{Member}
+use Rattle.reg_model.specs.declared.answer.Update.{Update}
+use Rattle.reg_model.specs.declared.answer.Receipt.{Receipt}
+use Rattle.tree_shape.specs.declared.node.Frame.{Frame}
+use Rattle.tree_shape.specs.declared.pair.Pair.{Pair}
+use Rattle.tree_shape.specs.Shapes.{Shape, Body, Pairs, Entries, Link, pairs_of, pairs_in}
+use Rattle.tree_shape.specs.Trees.{Contents, Branch, branches, branches_from}
+use Rattle.tree_shape.specs.Lawful.{IsTree, IsOrdered, IsOrderedAs, Fits}
+use Rattle.word_rule.specs.declared.log.Role.TheVariants as role
+use Rattle.word_rule.specs.declared.log.Ask.{Ask}
+use Rattle.word_rule.specs.declared.log.Ask.TheVariants as ask
+use Rattle.word_rule.specs.declared.log.Terms.{Terms}
+use Rattle.word_rule.specs.declared.log.Receipts.{Receipts}
+use Rattle.word_rule.specs.declared.log.LoadedWord.{LoadedWord}
+use Rattle.word_rule.specs.declared.log.NodeSight.{NodeSight}
+use Rattle.word_rule.specs.declared.log.Log.{Log}
+use Rattle.word_rule.specs.Memory.{NodeWords, Memory, memory_of}
+use Rattle.word_rule.specs.Spelling.{word_at, is_short, pair_at, pairs_at, SpellsNode}
+use Rattle.word_rule.specs.Logs.{is_spent, weight, turns, load_of, after_load}
+use Rattle.word_rule.specs.Sights.{sight_of, without_sight, loaded_word, place_of, low_of, place_between, is_loaded_as, named_place, pairs_in_sight, place_under, or_mark, mark_child, sight_begun, sights_after_version, receipts_after_version, after_node_version}
+use Rattle.word_rule.specs.Callers.{total, IsIdle}
+use Rattle.word_rule.specs.Nodes.{Shadow, NodesHold, IsOpen, IsPlaced}
+use Rattle.word_rule.specs.Observations.{Stands, AreOfNode, SightHolds, ObservationsHold}
+use Rattle.word_rule.specs.TableInvariant.{TableInvariant}
+use Rattle.word_rule.specs.Plays.{Seated, loads_version}
+use Rattle.word_rule.proofs.Each.{all_map}
+use Rattle.word_rule.proofs.Memories.{load_version_at}
+use Rattle.word_rule.proofs.Spells.{Reads, reads, reads_pairs}
+use Rattle.word_rule.proofs.Standing.{even_is_open, stands_spells}
+use Rattle.word_rule.proofs.CallersFrame.{IsLike}
+use Rattle.word_rule.proofs.ObservationsFrame.{Loads, observations_own}
+use Rattle.word_rule.proofs.Frames.{still_after_load}
+use Rattle.word_rule.proofs.Quiet.{quiet}
+use Rattle.word_rule.proofs.NodeLoads.{ltb_true}
+use Rattle.word_rule.proofs.NodeLocks.{of_version}
+
+abbrev Sit : Type 0
+Sit = State (Unit {0}) Log
+
+-- the children of a live node are live, and as it names them: a law of tree_shape
+abbrev pub ChildrenLaw : Type 0
+ChildrenLaw = (f : Contents) (live : ℕ → Bool) (n : ℕ) → IsTree f live → IsTrue (live n) → AllByRecursion (λ b. IsTrue (live b.child) × Fits f b) (branches ((f n).level - 1) (f n))
+
+-- a loaded word is the node's
+loaded_is : (words : List ℕ) (loaded : List LoadedWord) (at x : ℕ) → AreOfNode words loaded → loaded_word at loaded ≡ Some x → word_at words at ≡ x
+loaded_is words [] at x all e = absurd (none-some x e)
+loaded_is words (w ∷ loaded) at x all e = go (ℕ_discrete w.at at) (loaded_is words loaded at x all.1)
+  where
+    go : Dec (w.at ≡ at) → (loaded_word at loaded ≡ Some x → word_at words at ≡ x) → word_at words at ≡ x
+    go (yes same) rest = ap (word_at words) (sym same) ∙ (all.0 ∙ same_Some _ _ (rw (eq-eqb w.at at same) at e))
+    go (no ne) rest = rest (rw (ne_eqb w.at at ne) at e)
+
+-- the parts of a place between two fences
+between : (place : Frame) (low high : Option ℕ) (p : Frame) → place_between place low high ≡ Some p → (l : ℕ) × (h : ℕ) × ((low ≡ Some l) × (high ≡ Some h) × (p ≡ record { level = place.level - 1; low = l; high = h }))
+between place None high p e = absurd (none-some p e)
+between place (Some l) None p e = absurd (none-some p e)
+between place (Some l) (Some h) p e = (l, h, (refl, refl, sym (same_Some _ _ e)))
+
+mapped : (o : Option ℕ) (x : ℕ) → option_map (λ separator. separator + 1) o ≡ Some x → (y : ℕ) × ((o ≡ Some y) × (x ≡ y + 1))
+mapped None x e = absurd (none-some x e)
+mapped (Some y) x e = (y, (refl, sym (same_Some _ _ e)))
+
+module _ (f : Contents) (live : ℕ → Bool) (words : List ℕ) (loaded : List LoadedWord) (all : AreOfNode words loaded) (child : ℕ) (place : Frame) where
+  -- the child that is named among the pairs from the i-th on is live, at the place that its pair gives
+  named : (i more low : ℕ) (pairs : List Pair) (p : Frame) → pairs_at words (6 + 2 * i) more ≡ Some pairs → ((l : ℕ) → low_of place i loaded ≡ Some l → l ≡ low)
+      → AllByRecursion (λ b. IsTrue (live b.child) × Fits f b) (branches_from (place.level - 1) low pairs) → named_place child place loaded i more ≡ Some p → IsTrue (live child) × IsPlaced (f child) p
+  named i zero low pairs p read first hold e = absurd (none-some p e)
+  named i (suc more) low pairs p read first hold e = by_pair (λ low' ys. named (i + 1) more low' ys p) (is_short (word_at words (6 + 2 * i))) (pairs_at words (6 + 2 * i + 2) more) refl read
+    where
+      later : ((low' : ℕ) (ys : List Pair) → pairs_at words (6 + 2 * (i + 1)) more ≡ Some ys → ((l : ℕ) → low_of place (i + 1) loaded ≡ Some l → l ≡ low') → AllByRecursion (λ b. IsTrue (live b.child) × Fits f b) (branches_from (place.level - 1) low' ys) → named_place child place loaded (i + 1) more ≡ Some p → IsTrue (live child) × IsPlaced (f child) p) → (ys : List Pair) → pairs_at words (6 + 2 * i + 2) more ≡ Some ys → AllByRecursion (λ b. IsTrue (live b.child) × Fits f b) (branches_from (place.level - 1) (word_at words (6 + 2 * i + 1) + 1) ys) → named_place child place loaded (i + 1) more ≡ Some p → IsTrue (live child) × IsPlaced (f child) p
+      later again ys rest hold' e' =
+          let place_is : 6 + 2 * i + 2 ≡ 6 + 2 * (i + 1) = omega arith in
+          let separator : 7 + 2 * i ≡ 6 + 2 * i + 1 = omega arith in
+          let next : i + 1 ≡ suc i = omega arith in
+          again (word_at words (6 + 2 * i + 1) + 1) ys (ap (λ k. pairs_at words k more) (sym place_is) ∙ rest)
+          (λ l e''. let m = mapped (loaded_word (7 + 2 * i) loaded) l (subst (λ k. low_of place k loaded ≡ Some l) next e'') in m.1.1 ∙ ap (λ k. k + 1) (sym (loaded_is words loaded (7 + 2 * i) m.0 all m.1.0) ∙ ap (word_at words) separator)) hold' e'
+
+      here : ((low' : ℕ) (ys : List Pair) → pairs_at words (6 + 2 * (i + 1)) more ≡ Some ys → ((l : ℕ) → low_of place (i + 1) loaded ≡ Some l → l ≡ low') → AllByRecursion (λ b. IsTrue (live b.child) × Fits f b) (branches_from (place.level - 1) low' ys) → named_place child place loaded (i + 1) more ≡ Some p → IsTrue (live child) × IsPlaced (f child) p) → (y : Pair) (ys : List Pair) → y ≡ pair_at words (6 + 2 * i) → pairs ≡ y ∷ ys → (b : Bool) → is_loaded_as child (loaded_word (6 + 2 * i) loaded) ≡ b
+          → (if b then place_between place (low_of place i loaded) (loaded_word (7 + 2 * i) loaded) else named_place child place loaded (i + 1) more) ≡ Some p → pairs_at words (6 + 2 * i + 2) more ≡ Some ys → IsTrue (live child) × IsPlaced (f child) p
+      here again y ys y_is pairs_are true test e' rest =
+          let parts = between place (low_of place i loaded) (loaded_word (7 + 2 * i) loaded) p e' in
+          let named_word : word_at words (6 + 2 * i) ≡ child = child_word (loaded_word (6 + 2 * i) loaded) refl test in
+          let separator : 7 + 2 * i ≡ 6 + 2 * i + 1 = omega arith in
+          let high : parts.1 ≡ y.separator = sym (loaded_is words loaded (7 + 2 * i) parts.1 all parts.2.1) ∙ (ap (word_at words) separator ∙ ap (λ z. z.separator) (sym y_is)) in
+          let whole = subst (λ ps. AllByRecursion (λ b. IsTrue (live b.child) × Fits f b) (branches_from (place.level - 1) low ps)) pairs_are hold in
+          let is_child : y.child ≡ child = ap (λ z. z.child) y_is ∙ named_word in
+          let fit = whole.0.1 in
+          let low_is = first parts.0 parts.2.0 in (
+            subst (λ k. IsTrue (live k)) is_child whole.0.0,
+            (
+              ap (λ k. (f k).level) (sym is_child) ∙ (fit.level ∙ ap (λ z. z.level) (sym parts.2.2)),
+              ap (λ k. (f k).low) (sym is_child) ∙ (fit.low ∙ (sym low_is ∙ ap (λ z. z.low) (sym parts.2.2))),
+              ap (λ k. (f k).high) (sym is_child) ∙ (fit.high ∙ (sym high ∙ ap (λ z. z.high) (sym parts.2.2))),
+            ),
+          )
+        where
+          child_word : (o : Option ℕ) → loaded_word (6 + 2 * i) loaded ≡ o → is_loaded_as child o ≡ true → word_at words (6 + 2 * i) ≡ child
+          child_word None is t = absurd (true≢false (sym t))
+          child_word (Some z) is t = loaded_is words loaded (6 + 2 * i) z all is ∙ same_number (ℕ_discrete z child)
+            where
+              same_number : Dec (z ≡ child) → z ≡ child
+              same_number (yes e'') = e''
+              same_number (no ne) = absurd (true≢false (sym t ∙ ne_eqb z child ne))
+      here again y ys y_is pairs_are false test e' rest =
+          let whole = subst (λ ps. AllByRecursion (λ b. IsTrue (live b.child) × Fits f b) (branches_from (place.level - 1) low ps)) pairs_are hold in
+          later again ys rest (subst (λ z. AllByRecursion (λ b. IsTrue (live b.child) × Fits f b) (branches_from (place.level - 1) (z.separator + 1) ys)) y_is whole.1) e'
+
+      by_pair : ((low' : ℕ) (ys : List Pair) → pairs_at words (6 + 2 * (i + 1)) more ≡ Some ys → ((l : ℕ) → low_of place (i + 1) loaded ≡ Some l → l ≡ low') → AllByRecursion (λ b. IsTrue (live b.child) × Fits f b) (branches_from (place.level - 1) low' ys) → named_place child place loaded (i + 1) more ≡ Some p → IsTrue (live child) × IsPlaced (f child) p) → (b : Bool) (o : Option (List Pair)) → pairs_at words (6 + 2 * i + 2) more ≡ o → ◌≡◌ {A = Option (List Pair)} (if b then option_map (λ ps. pair_at words (6 + 2 * i) ∷ ps) o else None) (Some pairs) → IsTrue (live child) × IsPlaced (f child) p
+      by_pair again true None is read' = absurd (none-some pairs read')
+      by_pair again true (Some ys) is read' = here again (pair_at words (6 + 2 * i)) ys refl (sym (same_Some _ _ read')) (is_loaded_as child (loaded_word (6 + 2 * i) loaded)) refl e is
+      by_pair again false o is read' = absurd (none-some pairs read')
+
+module _ (t : Terms) (words : NodeWords) (views : List Log) (history : List Update) (shadow : Shadow) (r : NodesHold t words views history shadow) (law : ChildrenLaw) where
+  -- the place that a sight that stands gives to a child
+  under : (s : NodeSight) → SightHolds t words history shadow s → Stands words.versions shadow s → (child : ℕ) (p : Frame) → place_under child s (place_of s) ≡ Some p → IsTrue (shadow.live child) × IsPlaced (shadow.settled child) p
+  under s h stands child p e = go (place_of s) (h.marked stands) e
+    where
+      spells : SpellsNode (words.contents s.node) (shadow.settled s.node)
+      spells = stands_spells t words views history shadow r s h.within h.even stands
+
+      go : (o : Option Frame) → IfSome o (λ f. IsTrue (shadow.live s.node) × IsPlaced (shadow.settled s.node) f) → place_under child s o ≡ Some p → IsTrue (shadow.live child) × IsPlaced (shadow.settled child) p
+      go None marked f = absurd (none-some p f)
+      go (Some place) marked f = inner (nat_lt 0 place.level) refl f
+        where
+          body : (b : Body) → (shadow.settled s.node).body ≡ b → IsOrderedAs (shadow.settled s.node) b → 0 < place.level → (count : Option ℕ) → loaded_word 5 s.words ≡ count → named_place child place s.words 0 (pairs_in_sight count) ≡ Some p → IsTrue (shadow.live child) × IsPlaced (shadow.settled child) p
+          body (Entries es) is ordered above count known g = absurd (let a = ordered.0 in let b = marked.1.0 in omega (arith, a, b, above))
+          body (Link next) is ordered above count known g = absurd ordered
+          body (Pairs ps) is ordered above None known g = absurd (none-some p g)
+          body (Pairs ps) is ordered above (Some n) known g = counted (nat_le n 15) g
+            where
+              counted : (b : Bool) → named_place child place s.words 0 (if b then n else 0) ≡ Some p → IsTrue (shadow.live child) × IsPlaced (shadow.settled child) p
+              counted false z = absurd (none-some p z)
+              counted true z =
+                  let number : word_at (words.contents s.node) 5 ≡ n = loaded_is (words.contents s.node) s.words 5 n (h.loaded stands) known in
+                  let read = reads_pairs (words.contents s.node) (shadow.settled s.node) ps spells is in
+                  let zero_place : 6 + 2 * 0 ≡ 6 = omega arith in
+                  let kids = law shadow.settled shadow.live s.node r.lawful.tree marked.0 in
+                  let kids' : AllByRecursion (λ b. IsTrue (shadow.live b.child) × Fits shadow.settled b) (branches_from (place.level - 1) (shadow.settled s.node).low ps) =
+                  subst (λ q. AllByRecursion (λ b. IsTrue (shadow.live b.child) × Fits shadow.settled b) (branches_from (q - 1) (shadow.settled s.node).low ps)) marked.1.0
+                  (subst (λ q. AllByRecursion (λ b. IsTrue (shadow.live b.child) × Fits shadow.settled b) (branches_from ((shadow.settled s.node).level - 1) (shadow.settled s.node).low (pairs_in q))) is kids) in
+                  named shadow.settled shadow.live (words.contents s.node) s.words (h.loaded stands) child place 0 n (shadow.settled s.node).low ps p
+                  (ap (λ k. pairs_at (words.contents s.node) k n) zero_place ∙ (ap (pairs_at (words.contents s.node) 6) (sym number) ∙ read))
+                  (λ l q. sym (same_Some _ _ q) ∙ sym marked.1.1) kids' z
+
+          inner : (b : Bool) → nat_lt 0 place.level ≡ b → (if b then named_place child place s.words 0 (pairs_in_sight (loaded_word 5 s.words)) else None) ≡ Some p → IsTrue (shadow.live child) × IsPlaced (shadow.settled child) p
+          inner false test g = absurd (none-some p g)
+          inner true test g = body (shadow.settled s.node).body refl (r.lawful.tree.ordered s.node marked.0) (ltb_true 0 place.level test) (loaded_word 5 s.words) refl g
+
+  -- a child's sight, marked by its parent's
+  marks : (s c : NodeSight) → SightHolds t words history shadow s → Stands words.versions shadow s → SightHolds t words history shadow c → SightHolds t words history shadow (mark_child s c)
+  marks s c h stands g = go (c.node == s.node)
+    where
+      with_mark : (x : Option Frame) → (place_of (record c { mark = x }) ≡ place_of c) ⊎ ((p : Frame) × ((place_of (record c { mark = x }) ≡ Some p) × (IsTrue (shadow.live c.node) × IsPlaced (shadow.settled c.node) p))) → SightHolds t words history shadow (record c { mark = x })
+      with_mark x told = record {
+        within = g.within;
+        even = g.even;
+        later = g.later;
+        places = g.places;
+        loaded = g.loaded;
+        marked = λ st. marked_by told st;
+        clock = g.clock;
+      }
+        where
+          marked_by : (place_of (record c { mark = x }) ≡ place_of c) ⊎ ((p : Frame) × ((place_of (record c { mark = x }) ≡ Some p) × (IsTrue (shadow.live c.node) × IsPlaced (shadow.settled c.node) p))) → Stands words.versions shadow c
+              → IfSome (place_of (record c { mark = x })) (λ f. IsTrue (shadow.live c.node) × IsPlaced (shadow.settled c.node) f)
+          marked_by (inl same) st = subst (λ o. IfSome o (λ f. IsTrue (shadow.live c.node) × IsPlaced (shadow.settled c.node) f)) (sym same) (g.marked st)
+          marked_by (inr new) st = subst (λ o. IfSome o (λ f. IsTrue (shadow.live c.node) × IsPlaced (shadow.settled c.node) f)) (sym new.1.0) new.1.1
+
+      place_with : (x : Option Frame) → ((c.node ≡ 0) × (place_of (record c { mark = x }) ≡ place_of c)) ⊎ ((place_of (record c { mark = x }) ≡ x) × (place_of c ≡ c.mark))
+      place_with x = at_root (ℕ_discrete c.node 0)
+        where
+          at_root : Dec (c.node ≡ 0) → ((c.node ≡ 0) × (place_of (record c { mark = x }) ≡ place_of c)) ⊎ ((place_of (record c { mark = x }) ≡ x) × (place_of c ≡ c.mark))
+          at_root (yes e) = inl (e, rw (eq-eqb c.node 0 e) refl)
+          at_root (no ne) = inr (rw (ne_eqb c.node 0 ne) refl, rw (ne_eqb c.node 0 ne) refl)
+
+      marked_child : (o : Option Frame) → place_under c.node s (place_of s) ≡ o → SightHolds t words history shadow (record c { mark = or_mark o c.mark })
+      marked_child None is = with_mark c.mark (inl refl)
+      marked_child (Some p) is = pick (place_with (Some p))
+        where
+          pick : ((c.node ≡ 0) × (place_of (record c { mark = Some p }) ≡ place_of c)) ⊎ ((place_of (record c { mark = Some p }) ≡ Some p) × (place_of c ≡ c.mark)) → SightHolds t words history shadow (record c { mark = Some p })
+          pick (inl root) = with_mark (Some p) (inl root.1)
+          pick (inr other) = with_mark (Some p) (inr (p, (other.0, under s h stands c.node p is)))
+
+      go : (b : Bool) → SightHolds t words history shadow (if b then c else record c { mark = or_mark (place_under c.node s (place_of s)) c.mark })
+      go true = g
+      go false = marked_child (place_under c.node s (place_of s)) refl
+
+  all_marked : (s : NodeSight) → SightHolds t words history shadow s → Stands words.versions shadow s → (cs : List NodeSight) → AllByRecursion (SightHolds t words history shadow) cs → AllByRecursion (SightHolds t words history shadow) (map (mark_child s) cs)
+  all_marked s h stands [] all = tt
+  all_marked s h stands (c ∷ cs) all = (marks s c h stands all.0, all_marked s h stands cs all.1)
+
+  -- a sight that begins
+  begins : (n found : ℕ) → n < t.nodes → words.versions n ≡ found → found % 2 ≡ 0 → SightHolds t words history shadow (sight_begun n found)
+  begins n found inside is even =
+      let open_now = subst (IsOpen (words.versions n) (words.contents n) (shadow.settled n)) (even_is_open t words views history shadow r n (ap (λ k. k % 2) is ∙ even)) (r.unlocked n inside) in
+      record {
+        within = inside;
+        even = ap (λ k. k % 4) (sym is) ∙ open_now.0;
+        later = omega (arith, is);
+        places = tt;
+        loaded = λ _. tt;
+        marked = λ _. at_root (ℕ_discrete n 0);
+        clock = λ _. tt;
+      }
+    where
+      at_root : Dec (n ≡ 0) → IfSome (place_of (sight_begun n found)) (λ f. IsTrue (shadow.live n) × IsPlaced (shadow.settled n) f)
+      at_root (yes e) = rw (eq-eqb n 0 e) tt
+      at_root (no ne) = rw (ne_eqb n 0 ne) tt
+
+  kept : (n : ℕ) (cs : List NodeSight) → AllByRecursion (SightHolds t words history shadow) cs → AllByRecursion (SightHolds t words history shadow) (without_sight n cs)
+  kept n [] all = tt
+  kept n (c ∷ cs) all = go (not (c.node == n)) (kept n cs all.1)
+    where
+      go : (b : Bool) → AllByRecursion (SightHolds t words history shadow) (without_sight n cs) → AllByRecursion (SightHolds t words history shadow) (if b then (c ∷ without_sight n cs) else without_sight n cs)
+      go true rest = (all.0, rest)
+      go false rest = rest
+
+  found_sight : (n : ℕ) (cs : List NodeSight) (s : NodeSight) → AllByRecursion (SightHolds t words history shadow) cs → sight_of n cs ≡ Some s → SightHolds t words history shadow s × (s.node ≡ n)
+  found_sight n [] s all e = absurd (none-some s e)
+  found_sight n (c ∷ cs) s all e = go (ℕ_discrete c.node n) (found_sight n cs s all.1)
+    where
+      go : Dec (c.node ≡ n) → (sight_of n cs ≡ Some s → SightHolds t words history shadow s × (s.node ≡ n)) → SightHolds t words history shadow s × (s.node ≡ n)
+      go (yes same) rest = let is : c ≡ s = same_Some _ _ (rw (eq-eqb c.node n same) at e) in (subst (SightHolds t words history shadow) is all.0, ap (λ k. k.node) (sym is) ∙ same)
+      go (no ne) rest = rest (rw (ne_eqb c.node n ne) at e)
+
+  -- all sights, after the version was found
+  after_version : (n found : ℕ) → n < t.nodes → words.versions n ≡ found → (cs : List NodeSight) (o : Option NodeSight) → sight_of n cs ≡ o → AllByRecursion (SightHolds t words history shadow) cs → AllByRecursion (SightHolds t words history shadow) (sights_after_version n found o cs)
+  after_version n found inside is cs None none_there all = even_or_not (ℕ_discrete (found % 2) 0)
+    where
+      even_or_not : Dec (found % 2 ≡ 0) → AllByRecursion (SightHolds t words history shadow) (if found % 2 == 0 then (sight_begun n found ∷ cs) else cs)
+      even_or_not (yes e) = rw (eq-eqb (found % 2) 0 e) (begins n found inside is e, all)
+      even_or_not (no ne) = rw (ne_eqb (found % 2) 0 ne) all
+  after_version n found inside is cs (Some s) there all = same_or_not (ℕ_discrete s.version found) (ℕ_discrete (found % 2) 0)
+    where
+      same_or_not : Dec (s.version ≡ found) → Dec (found % 2 ≡ 0) → AllByRecursion (SightHolds t words history shadow) (if s.version == found then map (mark_child s) cs else (if found % 2 == 0 then (sight_begun n found ∷ without_sight n cs) else cs))
+      same_or_not (yes e) even = let h = found_sight n cs s all there in rw (eq-eqb s.version found e) (all_marked s h.0 (inl (ap words.versions h.1 ∙ (is ∙ sym e))) cs all)
+      same_or_not (no ne) (yes e) = rw (ne_eqb s.version found ne, eq-eqb (found % 2) 0 e) (begins n found inside is e, kept n cs all)
+      same_or_not (no ne) (no odd) = rw (ne_eqb s.version found ne, ne_eqb (found % 2) 0 odd) all
+
+-- a load that asks for nothing gets no receipt
+no_receipt : (v : Log) (found : ℕ) (o : Option NodeSight) → receipts_after_version v ask.Nothing found o ≡ []
+no_receipt v found None = refl
+no_receipt v found (Some s) = go (s.version == found)
+  where
+    go : (b : Bool) → ◌≡◌ {A = List Receipt} (if b then [] else []) []
+    go true = refl
+    go false = refl
+
+module _ (t : Terms) (slots id : ℕ) (me : Seated) (caller : me.0.role ≡ role.Caller) where
+  abbrev Holds : Sit → Type 0
+  Holds s = TableInvariant t s.words s.views
+
+  pub loads_node_version : ChildrenLaw → (n : ℕ) → n < t.nodes → Allows Holds slots id me (4 + 36 * n) (λ k. k) (loads_version ask.Nothing n (step slots (4 + 36 * n) 0 0 none) me)
+  loads_node_version law n inside s r deep here small =
+      let found : ℕ = get_or s.words (4 + 36 * n) 0 in
+      let w : Log = after_node_version ask.Nothing n found me.0 in
+      let m : Memory = memory_of t s.words in
+      let callers : ℕ = total (λ u. u.made) s.views + 1 in
+      let o = r.memory.observations id me.0 here in
+      let nothing = no_receipt me.0 found (sight_of n me.0.sights.nodes) in
+      let own : w.receipts.own ≡ me.0.receipts.own = ap (λ rs. me.0.receipts.own ++ rs) nothing ∙ append-nil me.0.receipts.own in
+      let receipts : w.receipts ≡ me.0.receipts = (λ i. record { own = own i; joined = me.0.receipts.joined }) in
+      let sights = after_version t m.nodes s.views r.memory.history r.memory.shadow r.memory.nodes law n found inside (load_version_at t s.words n inside) me.0.sights.nodes (sight_of n me.0.sights.nodes) refl o.sights in (
+        w,
+        keeps,
+        tt,
+        quiet t s.words s.views r id me.0 w here (ap is_spent caller) (4 + 36 * n) (record { terms = refl; role = refl; past = refl; receipts = receipts; allowance = refl; made = refl; lineage = refl }) refl refl
+            (λ zero_weight. absurd (let one : weight me.0.role ≡ 1 = ap weight caller in omega (arith, zero_weight, one))) (r.memory.nodes.holdings id me.0 here) (λ _ h. h) (λ _. refl)
+            (observations_own t m r.memory.history callers r.memory.shadow me.0 w (load_of me.0 (4 + 36 * n) found ∷ []) (record { own = own; turns = omega arith; loads = refl }) sights o.copies (of_version t slots id me caller s r n, tt) ((omega arith, omega arith), tt) o)
+            (λ alone. still_after_load s.words me.0 w (load_of me.0 (4 + 36 * n) found) refl refl refl (r.alone id me.0 here alone)),
+        refl,
+      )

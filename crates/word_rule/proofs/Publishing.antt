@@ -1,0 +1,357 @@
+-- A publication keeps the rule: the history has an update of the loader more, and the copies change their parts.
+use Rattle.std.proofs.Common.{◌≡◌, ◌≢◌, ℕ, ◌+◌, ◌-◌, ◌*◌, ◌/◌, ◌%◌, ◌^◌, ◌<◌, ◌≤◌, ◌⊎◌, ◌↔◌, List, [], ◌∷◌, ◌++◌, length, length-append, get_or, set, length-set, sym, refl, ap, ◌∙◌, subst, inl, inr, ⊎_elim, arith, ◌==◌, not, Bool, true, false, true≢false, Option, Some, None, option_map, IfSome, IsSome, IsSomeAnd, MatchOption, append-nil, append_assoc, Contains, eq-eqb, ne_eqb, slice_get}
+use Rattle.std.proofs.lemmas.Option.{none-some, same_Some}
+use Rattle.std.proofs.lemmas.List.Sums.{sum_by_push, count_by-le-length}
+use Rattle.std.proofs.lemmas.List.Elements.{Contains-append_left, Contains-append_right, Contains-append_cases, Contains-push, Contains-push_cases}
+use Rattle.std.specs.List.{AllByRecursion, count_by}
+use mathlib.Core.Option.{none, some}
+use mathlib.Core.List.{IsPrefix}
+use native.Mathlib.Decide.{ℕ_discrete}
+use lib.ListN.{get_elem?}
+use Rattle.atomic_table.specs.Table.{State as TableState, Me, step, Act, keeps, Allows}
+use Rattle.atomic_table.proofs.Lists.{set_here}
+use Rattle.reg_model.specs.Interval.{IsSpan}
+use Rattle.reg_model.specs.State.{State, IsFree, objects, at_base}
+use Rattle.reg_model.specs.History.{Fits, after, state_after, IsHistory}
+use Rattle.reg_model.specs.Current.{LeadsTo, Step}
+use Rattle.reg_model.specs.Receipt.{moment, accepted, made, Holds, AllHold, IsFilled}
+use Rattle.reg_model.specs.declared.span.Member.{Member}
+use Rattle.reg_model.specs.declared.answer.Update.{Update}
+use Rattle.reg_model.specs.declared.answer.Update.TheVariants as update
+use Rattle.reg_model.specs.declared.answer.Loading.TheVariants as loading
+use Rattle.reg_model.specs.declared.answer.Removed.TheVariants as removed
+use Rattle.reg_model.specs.declared.answer.Receipt.{Receipt}
+use Rattle.reg_model.specs.declared.answer.Receipt.TheVariants as receipt
+use Rattle.reg_model.proofs.Histories.{IsHistory-append, state_after-append}
+use Rattle.reg_model.proofs.Receipts.{step_holds}
+use Rattle.tree_shape.specs.Numbers.{once}
+use Rattle.tree_shape.specs.Trees.{HasEntry}
+use Rattle.word_rule.specs.declared.log.Role.TheVariants as role
+use Rattle.word_rule.specs.declared.log.Terms.{Terms}
+use Rattle.word_rule.specs.declared.log.Receipts.{Receipts}
+use Rattle.word_rule.specs.declared.log.LoadEvent.{LoadEvent}
+use Rattle.word_rule.specs.declared.log.LoaderHolding.{LoaderHolding}
+use Rattle.word_rule.specs.declared.log.NodeSight.{NodeSight}
+use Rattle.word_rule.specs.declared.log.CopySight.{CopySight}
+use Rattle.word_rule.specs.declared.log.Log.{Log}
+use Rattle.word_rule.specs.Places.{lower, upper, spare}
+use Rattle.word_rule.specs.Memory.{Memory, memory_of, counters}
+use Rattle.word_rule.specs.Logs.{is_spent, weight, turns}
+use Rattle.word_rule.specs.Steps.{IsDone, exchange_copies, after_publish, AfterPublish, Publishes, MayPublish}
+use Rattle.word_rule.specs.Callers.{total, CallersHold, LogHolds, IsRecord, AreRecords, IsIdle, HoldsLoader, AtLoader, LoaderLock, IsOfTerms, is_of_loader, publications, is_done, dones, dones_of_all, dones_in, number_of, start}
+use Rattle.word_rule.specs.Nodes.{Shadow, NodesHold}
+use Rattle.word_rule.specs.Copies.{ListsMembers, ListsAll, ActiveCopy, CopySightHolds}
+use Rattle.word_rule.specs.Observations.{SightHolds, WasFull, HadMembers, IsFullCount, ObservationsHold, last_moment}
+use Rattle.word_rule.specs.TableInvariant.{TableInvariant}
+use Rattle.word_rule.specs.Plays.{Seated, publishes}
+use Rattle.word_rule.proofs.Facts.{total_set, total_same, part_of_total, after_step, within}
+use Rattle.word_rule.proofs.Each.{all_map, all_of, all_append}
+use Rattle.word_rule.proofs.Memories.{set_clock}
+use Rattle.word_rule.proofs.CallersFrame.{lineages_over}
+use Rattle.word_rule.proofs.NodesFrame.{nodes_same}
+use Rattle.word_rule.proofs.ObservationsFrame.{observations_over, sight_over}
+use Rattle.word_rule.proofs.Frames.{table_step, still_after_turn}
+use Rattle.word_rule.proofs.Listings.{lists_same, contains_filter, filter_contains, find_contains, contains_find, state_fixed, loaded_spans, loaded_disjoint, disjoint_fit, free_of}
+use Rattle.word_rule.proofs.Receiving.{all_hold_snoc, in_order_next, done_snoc, number_snoc}
+use Rattle.word_rule.proofs.Joins.{record_later, records_later, log_later}
+use Rattle.word_rule.proofs.CopyStores.{other_loader, loader_held}
+
+abbrev Sit : Type 0
+Sit = TableState (Unit {0}) Log
+
+-- An update of the loader that fits, as the one after so many, has its receipt.
+pub record Accepts (u : Update) (s : State) (n : ℕ) (r : Receipt) : Type 0 where
+  pub is_done : IsDone u (n + 1) s r
+  pub accepts : accepted r ≡ Some u
+  pub number : moment r ≡ n + 1
+  pub makes : made r ≡ u ∷ []
+  pub one_step : Step (record { state = s; updates = n }) r (record { state = after u s; updates = n + 1 })
+  pub no_full : (st : State) (history : List Update) (since : ℕ) → IsFilled st history since r
+
+there_is : {A : Type 0} (o : Option A) → IsSome o → (a : A) × (o ≡ Some a)
+there_is None h = absurd (true≢false (sym h))
+there_is (Some a) h = (a, refl)
+
+some_and : {A : Type 0} (P : A → Type 0) (o : Option A) (a : A) → o ≡ Some a → P a → IsSomeAnd o P
+some_and P None a e p = absurd (none-some a e)
+some_and P (Some b) a e p = subst P (sym (same_Some _ _ e)) p
+
+-- what lists say of a publication, the state says: what is listed before are the loaded members
+fits : (t : Terms) (s : State) (u : Update) (before new : List Member) → s.fixed ≡ t.fixed → s.loads ≡ t.loads → ((x : Member) → Contains before x ↔ Contains s.loaded x) → length s.loaded ≤ length before → Publishes t u before new
+    → Fits u s × ((x : Member) → Contains new x ↔ Contains (after u s).loaded x) × (is_of_loader u ≡ true) × ((after u s).registered ≡ s.registered)
+fits t s (update.Load m) before new fixed loads same few p = (
+  (
+    free_of m (t.fixed ++ before) (s.fixed ++ s.loaded) (λ x c. ⊎_elim (λ (e : Contains s.fixed x). Contains-append_left t.fixed before x (subst (λ xs. Contains xs x) fixed e)) (λ (e : Contains s.loaded x). Contains-append_right t.fixed before x ((same x).1 e)) (Contains-append_cases s.fixed s.loaded x c)) p.0,
+    (let l = p.1 in omega (arith, l, few, loads)),
+  ),
+  λ x. (
+    (λ c. ⊎_elim (λ (e : Contains before x). Contains-append_left s.loaded (m ∷ []) x ((same x).0 e)) (λ (e : m ≡ x). subst (Contains (s.loaded ++ m ∷ [])) e (Contains-push s.loaded m)) ((p.2 x).0 c)),
+    (λ c. (p.2 x).1 (⊎_elim (λ (e : Contains s.loaded x). inl ((same x).1 e)) (λ (e : m ≡ x). inr e) (Contains-push_cases s.loaded m x c))),
+  ),
+  refl,
+  refl,
+)
+fits t s (update.Unload base) before new fixed loads same few p =
+    let found = find_contains (λ (m : Member). m.span.first == base) before p.0 in (
+      contains_find (λ (m : Member). m.span.first == base) s.loaded found.0 ((same found.0).0 found.1.0) found.1.1,
+      λ x. (
+        (λ c. let d = (p.1 x).0 c in filter_contains (λ (m : Member). not (m.span.first == base)) s.loaded x ((same x).0 d.0) (ap not (ne_eqb x.span.first base d.1))),
+        (λ c. let d = contains_filter (λ (m : Member). not (m.span.first == base)) s.loaded x c in (p.1 x).1 ((same x).1 d.0, (λ e. true≢false (sym d.1 ∙ ap not (eq-eqb x.span.first base e))))),
+      ),
+      refl,
+      refl,
+    )
+fits t s (update.Register m) before new fixed loads same few p = absurd p
+fits t s (update.Deregister base) before new fixed loads same few p = absurd p
+
+answered : (t : Terms) (s : State) (u : Update) (before new : List Member) (n : ℕ) → Publishes t u before new → Fits u s → (r : Receipt) × Accepts u s n r
+answered t s (update.Load m) before new n p fit = (
+  receipt.Load m (loading.Done (n + 1)),
+  record { is_done = refl; accepts = refl; number = refl; makes = refl; one_step = record { right = tt; changes = (fit, refl, refl) }; no_full = λ st history since. tt },
+)
+answered t s (update.Unload base) before new n p fit =
+    let m = there_is (at_base base s.loaded) fit in (
+      receipt.Unload base (removed.Done (n + 1) m.0),
+      record {
+        is_done = some_and (λ x. receipt.Unload base (removed.Done (n + 1) m.0) ≡ receipt.Unload base (removed.Done (n + 1) x)) (at_base base s.loaded) m.0 m.1 refl;
+        accepts = refl;
+        number = refl;
+        makes = refl;
+        one_step = record { right = m.1; changes = (fit, refl, refl) };
+        no_full = λ st history since. tt;
+      },
+    )
+answered t s (update.Register m) before new n p fit = absurd p
+answered t s (update.Deregister base) before new n p fit = absurd p
+
+-- what a log has observed stays where it gets receipts: they end what its loads told of fullness
+pub observations_received : (t : Terms) (m : Memory) (history : List Update) (callers : ℕ) (shadow : Shadow) (v w : Log) (more : List Receipt) → 0 < length more → w.receipts.own ≡ v.receipts.own ++ more → w.sights ≡ v.sights → w.trace.loads ≡ v.trace.loads → turns v.trace ≤ turns w.trace
+    → ObservationsHold t m history callers shadow v → ObservationsHold t m history callers shadow w
+observations_received t m history callers shadow v w more some_more own sights loads turn r =
+    let len : length w.receipts.own ≡ length v.receipts.own + length more = ap length own ∙ length-append v.receipts.own more in record {
+      sights = subst (λ k. AllByRecursion (SightHolds t m.nodes history shadow) k.nodes) (sym sights) r.sights;
+      copies = subst (λ k. IfSome k.copies (CopySightHolds t m.clock m.copies)) (sym sights) r.copies;
+      full = subst (AllByRecursion (WasFull t history callers w.receipts.own)) (sym loads)
+          (all_map (λ l. (l.turns ≤ turns v.trace) × (l.receipts ≤ length v.receipts.own)) (WasFull t history callers w.receipts.own)
+          (λ l e. record { count = λ same. absurd (let a = e.1 in omega (arith, a, same, len, some_more)); head = λ same _ _ _. absurd (let a = e.1 in omega (arith, a, same, len, some_more)) }) v.trace.loads r.earlier);
+      earlier = subst (AllByRecursion (λ l. (l.turns ≤ turns w.trace) × (l.receipts ≤ length w.receipts.own))) (sym loads)
+          (all_map (λ l. (l.turns ≤ turns v.trace) × (l.receipts ≤ length v.receipts.own)) (λ l. (l.turns ≤ turns w.trace) × (l.receipts ≤ length w.receipts.own)) (λ l e. let a = e.0 in let b = e.1 in (omega (arith, a, turn), omega (arith, b, len))) v.trace.loads r.earlier);
+    }
+
+prefix_all : (a b c : List Update) → IsPrefix a b → IsPrefix a (b ++ c)
+prefix_all a b c p = (p.0 ++ c, sym (append_assoc a p.0 c) ∙ ap (λ z. z ++ c) p.1)
+
+module _ (t : Terms) (slots id : ℕ) (me : Seated) (caller : me.0.role ≡ role.Caller) where
+  abbrev Rule : Sit → Type 0
+  Rule s = TableInvariant t s.words s.views
+
+  stands : is_spent me.0.role ≡ false
+  stands = ap is_spent caller
+
+  module _ (u : Update) (h : LoaderHolding) (is : me.0.loader ≡ Some h) (may : MayPublish t me.0.budget.allowance u h) (s : Sit) (r : Rule s) (at : get_elem? s.views id ≡ some me.0) where
+    abbrev m : Memory
+    m = memory_of t s.words
+
+    abbrev history : List Update
+    history = r.memory.history
+
+    abbrev now : State
+    now = state_after (start t) r.memory.history
+
+    abbrev longer : List Update
+    longer = r.memory.history ++ u ∷ []
+
+    abbrev clock' : ℕ
+    clock' = get_or s.words 0 0 + 4294967297
+
+    abbrev m' : Memory
+    m' = record (memory_of t s.words) { clock = get_or s.words 0 0 + 4294967297 }
+
+    c : CallersHold t (memory_of t s.words) s.views r.memory.history
+    c = r.memory.callers
+
+    mine : (r.memory.callers.holder ≡ Some id) × HoldsLoader (memory_of t s.words) h
+    mine = loader_held (memory_of t s.words) r.memory.callers.holder id me.0.loader h is (r.memory.callers.at_loader id me.0 at)
+
+    -- what the active copy lists
+    before_is : may.before ≡ r.memory.active.members
+    before_is = lists_same ((memory_of t s.words).copies (upper (get_or s.words 0 0) % 2)) may.before r.memory.active.members (subst (λ ws. ListsMembers ws may.before) mine.1.active may.active) r.memory.active.lists
+
+    same : (x : Member) → Contains may.before x ↔ Contains (state_after (start t) r.memory.history).loaded x
+    same x = subst (λ xs. Contains xs x ↔ Contains (state_after (start t) r.memory.history).loaded x) (sym before_is) (r.memory.active.same x)
+
+    few : length (state_after (start t) r.memory.history).loaded ≤ length may.before
+    few = disjoint_fit (state_after (start t) r.memory.history).loaded may.before (loaded_disjoint t r.memory.history r.memory.callers.terms r.memory.callers.lawful)
+        (loaded_spans t (start t) r.memory.history r.memory.callers.members (λ x d. absurd (let l = d.1 in omega (arith, l)))) (λ x d. (same x).1 d)
+
+    pub step_fits : Fits u (state_after (start t) r.memory.history) × ((x : Member) → Contains may.after x ↔ Contains (after u (state_after (start t) r.memory.history)).loaded x) × (is_of_loader u ≡ true) × ((after u (state_after (start t) r.memory.history)).registered ≡ (state_after (start t) r.memory.history).registered)
+    step_fits = fits t (state_after (start t) r.memory.history) u may.before may.after (state_fixed (start t) r.memory.history).0 (state_fixed (start t) r.memory.history).1 same few may.publishes
+
+    pub answer_of : (x : Receipt) × Accepts u (state_after (start t) r.memory.history) (length r.memory.history) x
+    answer_of = answered t (state_after (start t) r.memory.history) u may.before may.after (length r.memory.history) may.publishes step_fits.0
+
+    told : Accepts u (state_after (start t) r.memory.history) (length r.memory.history) answer_of.0
+    told = answer_of.1
+
+    abbrev w : Log
+    w = after_publish u r.memory.history answer_of.0 me.0
+
+    later_state : state_after (start t) (r.memory.history ++ u ∷ []) ≡ after u (state_after (start t) r.memory.history)
+    later_state = state_after-append (start t) r.memory.history (u ∷ [])
+
+    len : length (r.memory.history ++ u ∷ []) ≡ length r.memory.history + 1
+    len = length-append r.memory.history (u ∷ [])
+
+    grows : IsPrefix r.memory.history (r.memory.history ++ u ∷ [])
+    grows = (u ∷ [], refl)
+
+    -- no more updates than 2^26, so neither half of the clock runs over
+    small : length r.memory.history < 67108864
+    small = let o = r.memory.callers.room in let d = may.due in let q = part_of_total (λ v. v.budget.allowance) s.views id me.0 at in omega (arith, o, d, q)
+
+    low : get_or s.words 0 0 % 4294967296 ≡ length r.memory.history
+    low = r.memory.callers.updates
+
+    high : get_or s.words 0 0 / 4294967296 ≤ length r.memory.history
+    high = let p = r.memory.callers.published in let q = count_by-le-length is_of_loader r.memory.history in omega (arith, p, q)
+
+    higher : (get_or s.words 0 0 + 4294967297) / 4294967296 ≡ get_or s.words 0 0 / 4294967296 + 1
+    higher = let a = low in let b = small in omega (arith, a, b)
+
+    pub no_overflow : (get_or s.words 0 0 + 4294967297) % 2 ^ 64 ≡ get_or s.words 0 0 + 4294967297
+    no_overflow = let a = high in let b = small in omega (arith, a, b)
+
+    prefix : IsPrefix me.0.past (r.memory.history ++ u ∷ [])
+    prefix = prefix_all me.0.past r.memory.history (u ∷ []) (r.memory.callers.each id me.0 at).begins
+
+    seen : length me.0.past ≤ length r.memory.history
+    seen = let b = (r.memory.callers.each id me.0 at).begins in let sum : length me.0.past + length b.0 ≡ length r.memory.history = sym (length-append me.0.past b.0) ∙ ap length b.1 in omega (arith, sum)
+
+    holds_answer : (callers since : ℕ) → Holds (start t) (r.memory.history ++ u ∷ []) t.nodes callers since answer_of.0
+    holds_answer callers since = subst (λ k. Holds (start t) (r.memory.history ++ k) t.nodes callers since answer_of.0) told.makes
+        (step_holds (start t) r.memory.history (record { state = state_after (start t) r.memory.history; updates = length r.memory.history }) (record { state = after u (state_after (start t) r.memory.history); updates = length r.memory.history + 1 }) t.nodes callers since answer_of.0
+        (record { lawful = r.memory.callers.lawful; state = refl; updates = refl }) told.one_step (told.no_full (start t) (r.memory.history ++ made answer_of.0) since)).1
+
+    receipts : (callers : ℕ) → AreRecords t (r.memory.history ++ u ∷ []) callers w.receipts
+    receipts callers =
+        let log = r.memory.callers.each id me.0 at in
+        let own = record_later t me.0.past (r.memory.history ++ u ∷ []) _ callers prefix me.0.receipts.own log.receipts.own in
+        let number = told.number in let before = seen in record {
+          own = (
+            all_hold_snoc t (r.memory.history ++ u ∷ []) callers 0 me.0.receipts.own answer_of.0 own.0 (holds_answer callers (last_moment 0 me.0.receipts.own)),
+            in_order_next t me.0.past _ me.0.receipts.own answer_of.0 u log.receipts.own.0 log.receipts.own.1 told.accepts (omega (arith, number, before)),
+          );
+          joined = records_later t me.0.past (r.memory.history ++ u ∷ []) _ callers prefix me.0.receipts.joined log.receipts.joined;
+        }
+
+    made_same : total (λ v. v.made) (set s.views id w) ≡ total (λ v. v.made) s.views
+    made_same = total_same (λ v. v.made) s.views id me.0 w at refl
+
+    each : (c : ℕ) → c ≡ total (λ v. v.made) s.views + 1 → (j : ℕ) (v : Log) → get_elem? (set s.views id w) j ≡ some v → LogHolds t (r.memory.history ++ u ∷ []) c v
+    each c is_c = after_step (λ _ v. LogHolds t (r.memory.history ++ u ∷ []) c v) s.views id w
+        (let log = r.memory.callers.each id me.0 at in record {
+          terms = λ _. log.terms stands;
+          begins = ([], append-nil (r.memory.history ++ u ∷ []));
+          receipts = receipts c;
+          lineage = log.lineage;
+          idle = λ zero_weight. absurd (let one : weight me.0.role ≡ 1 = ap weight caller in omega (arith, zero_weight, one));
+        })
+        (λ j v _ there. let log = subst (λ k. LogHolds t r.memory.history k v) (sym is_c) (r.memory.callers.each j v there) in record {
+          terms = log.terms;
+          begins = prefix_all v.past r.memory.history (u ∷ []) log.begins;
+          receipts = log.receipts;
+          lineage = log.lineage;
+          idle = log.idle;
+        })
+
+    numbers : (n : ℕ) → total (dones_in n) (set s.views id w) ≡ number_of (length (r.memory.history ++ u ∷ [])) n
+    numbers n =
+        let a = total_set (dones_in n) s.views id me.0 w at in let d = done_snoc n (length r.memory.history + 1) me.0.receipts.own answer_of.0 u told.accepts told.number in
+        let o = r.memory.callers.numbers n in let q = number_snoc (length r.memory.history) n in
+        let sum : total (dones_in n) (set s.views id w) ≡ number_of (length r.memory.history + 1) n = omega (arith, a, d, o, q) in sum ∙ ap (λ k. number_of k n) (sym len)
+
+    loader_now : w.loader ≡ Some (exchange_copies h)
+    loader_now = ap (option_map exchange_copies) is
+
+    at_lock : (j : ℕ) (v : Log) → get_elem? (set s.views id w) j ≡ some v → AtLoader m' r.memory.callers.holder j v.loader
+    at_lock = after_step (λ j v. AtLoader m' r.memory.callers.holder j v.loader) s.views id w
+        (subst (AtLoader m' r.memory.callers.holder id) (sym loader_now) (
+          mine.0,
+          (let up = higher in record {
+            locked = mine.1.locked;
+            published = (let p = mine.1.published in omega (arith, p, up));
+            active = mine.1.spare ∙ ap (memory_of t s.words).copies (omega (arith, up));
+            spare = mine.1.active ∙ ap (memory_of t s.words).copies (omega (arith, up));
+          }),
+        ))
+        (λ j v far there. other_loader (memory_of t s.words) m' r.memory.callers.holder j v.loader (λ e. far (same_Some _ _ (sym e ∙ mine.0))) (r.memory.callers.at_loader j v there))
+
+    callers : CallersHold t m' (set s.views id w) (r.memory.history ++ u ∷ [])
+    callers = record {
+      holder = r.memory.callers.holder;
+      lawful = IsHistory-append (start t) r.memory.history (u ∷ []) r.memory.callers.lawful (step_fits.0, tt);
+      updates = (let a = low in let b = small in let l = len in omega (arith, a, b, l));
+      published = (let a = higher in let p = r.memory.callers.published in let q = sum_by_push (λ x. once (is_of_loader x)) r.memory.history u in let b : once (is_of_loader u) ≡ 1 = ap once step_fits.2 in omega (arith, a, p, q, b));
+      terms = r.memory.callers.terms;
+      members = all_append (IsOfTerms t) r.memory.history (u ∷ []) r.memory.callers.members (may.member, tt);
+      room = (let a = total_set (λ v. v.budget.allowance) s.views id me.0 w at in let o = r.memory.callers.room in let d = may.due in let l = len in omega (arith, a, o, d, l));
+      numbers = numbers;
+      each = each (total (λ v. v.made) (set s.views id w) + 1) (ap (λ k. k + 1) made_same);
+      weights = (let a = total_same (λ v. weight v.role) s.views id me.0 w at refl in let b = made_same in let o = r.memory.callers.weights in omega (arith, a, b, o));
+      loader = subst (LoaderLock (memory_of t s.words).loader (set s.views id w)) (sym mine.0) (w, exchange_copies h, (set_here s.views id w (within s.views id me.0 at), loader_now));
+      at_loader = at_lock;
+      counted = (let a = total_same (λ v. v.budget.credit) s.views id me.0 w at refl in let o = r.memory.callers.counted in omega (arith, a, o));
+      lineages = lineages_over s.views r.memory.callers.lineages id me.0 w at refl refl (λ gone. absurd (true≢false (sym gone ∙ stands)));
+    }
+
+    nodes : NodesHold t (memory_of t s.words).nodes (set s.views id w) (r.memory.history ++ u ∷ []) r.memory.shadow
+    nodes =
+        let n = nodes_same s.views id me.0 w at t (memory_of t s.words).nodes r.memory.history r.memory.shadow refl r.memory.nodes in
+        let kept : (state_after (start t) (r.memory.history ++ u ∷ [])).registered ≡ (state_after (start t) r.memory.history).registered = ap (λ st. st.registered) later_state ∙ step_fits.3 in record {
+          lawful = n.lawful;
+          entries = λ x. subst (λ xs. HasEntry r.memory.shadow.settled r.memory.shadow.live x ↔ Contains xs x) (sym kept) (n.entries x);
+          unlocked = n.unlocked;
+          holdings = n.holdings;
+          holders = n.holders;
+          each_once = n.each_once;
+          chain = n.chain;
+        }
+
+    active : ActiveCopy t (get_or s.words 0 0 + 4294967297) (memory_of t s.words).copies (r.memory.history ++ u ∷ [])
+    active = let up = higher in record {
+      members = may.after;
+      lists = subst (λ ws. ListsMembers ws may.after) (mine.1.spare ∙ ap (memory_of t s.words).copies (omega (arith, up))) may.spare;
+      same = λ x. subst (λ st. Contains may.after x ↔ Contains st.loaded x) (sym later_state) (step_fits.1 x);
+    }
+
+    over : (v : Log) → ObservationsHold t (memory_of t s.words) r.memory.history (total (λ z. z.made) s.views + 1) r.memory.shadow v → ObservationsHold t m' (r.memory.history ++ u ∷ []) (total (λ z. z.made) s.views + 1) r.memory.shadow v
+    over = observations_over t (memory_of t s.words) m' r.memory.history (r.memory.history ++ u ∷ []) (total (λ z. z.made) s.views + 1) (total (λ z. z.made) s.views + 1) r.memory.shadow r.memory.shadow
+        (λ k p. sight_over t (memory_of t s.words).nodes (memory_of t s.words).nodes r.memory.history (r.memory.history ++ u ∷ []) r.memory.shadow r.memory.shadow k p.later (λ st. record { stands = st; contents = refl; settled = refl; live = refl }) grows p)
+        (λ g p. let e = p.earlier in let up = higher in record { earlier = omega (arith, e, up); own = p.own; loaded = λ guard. absurd (omega (arith, e, up, guard)) }) grows (omega arith)
+
+    pub published_table : TableInvariant t (set s.words 0 (get_or s.words 0 0 + 4294967297)) (set s.views id w)
+    published_table = table_step t s.words s.views r id me.0 w at stands (set s.words 0 (get_or s.words 0 0 + 4294967297)) m' (length-set s.words 0 (get_or s.words 0 0 + 4294967297)) (set_clock t s.words r.wide (get_or s.words 0 0 + 4294967297)) (record {
+      history = r.memory.history ++ u ∷ [];
+      callers = callers;
+      shadow = r.memory.shadow;
+      nodes = nodes;
+      active = active;
+      observations = subst (λ c. (j : ℕ) (v : Log) → get_elem? (set s.views id w) j ≡ some v → ObservationsHold t m' (r.memory.history ++ u ∷ []) (c + 1) r.memory.shadow v) (sym made_same)
+          (after_step (λ _ v. ObservationsHold t m' (r.memory.history ++ u ∷ []) (total (λ z. z.made) s.views + 1) r.memory.shadow v) s.views id w
+          (observations_received t m' (r.memory.history ++ u ∷ []) (total (λ z. z.made) s.views + 1) r.memory.shadow me.0 w (answer_of.0 ∷ []) (omega arith) refl refl refl (omega arith) (over me.0 (r.memory.observations id me.0 at)))
+          (λ j v _ there. over v (r.memory.observations j v there)));
+    }) (λ _. still_after_turn (set s.words 0 (get_or s.words 0 0 + 4294967297)) me.0 w (omega arith) refl (r.memory.observations id me.0 at).earlier)
+
+    pub after_it : AfterPublish u me.0 w
+    after_it = let terms : me.0.terms ≡ t = (r.memory.callers.each id me.0 at).terms stands in
+        (r.memory.history, answer_of.0, (subst (λ k. IsDone u (length r.memory.history + 1) (state_after (start k) r.memory.history) answer_of.0) (sym terms) told.is_done, refl))
+
+  -- the clock gets one update more in its lower half, and one of the loader in its upper half
+  pub publishes_copy : (u : Update) (h : LoaderHolding) → me.0.loader ≡ Some h → MayPublish t me.0.budget.allowance u h → Allows Rule slots id me 0 (λ n. (n + 4294967297) % 2 ^ 64) (publishes u (step slots 0 4294967297 0 none) me)
+  publishes_copy u h is may s r deep at small = (
+    after_publish u r.memory.history (answer_of u h is may s r at).0 me.0,
+    keeps,
+    tt,
+    subst (λ x. TableInvariant t (set s.words 0 x) (set s.views id (after_publish u r.memory.history (answer_of u h is may s r at).0 me.0))) (sym (no_overflow u h is may s r at)) (published_table u h is may s r at),
+    (after_it u h is may s r at, refl),
+  )
