@@ -1,6 +1,6 @@
 //! A registry for one thread, over plain lists.
 
-ghost use Rattle.std.specs.Prelude.{◌≡◌, ℕ, ◌+◌, ◌^◌, ◌<◌, ◌↔◌, ◌==◌, not, [], IsTrue, IfOk, IfSome, OnErr, MatchOption};
+ghost use Rattle.std.specs.Prelude.{◌≡◌, ℕ, ◌+◌, ◌^◌, ◌<◌, ◌≤◌, ◌↔◌, ◌==◌, ◌++◌, vec_len, not, [], IsTrue, IfOk, IfSome, OnErr, MatchOption};
 ghost use Rattle.reg_model.specs.State.{opening, at_base, IsFree, AreDisjoint, IsLowestOverlap};
 ghost use Rattle.reg_model.specs.History.{without};
 ghost use Rattle.reg_model.specs.Query.{member_at};
@@ -9,29 +9,32 @@ ghost use Rattle.reg_model.specs.Receipt.{IsPlace};
 ghost use Rattle.reg_model.specs.declared.answer.Receipt.TheVariants as receipt;
 ghost use Rattle.reg_model.specs.declared.answer.Half.TheVariants as half;
 
-use crate::answer::{Found, Inserted, NoMemory, Place, Removed};
+use crate::answer::{Found, Inserted, Loading, NoMemory, Place, Removed};
 use crate::span::{Member, Span};
 use std::alloc::Global;
 use std::marker::Model;
 
-/// The registered and the fixed members, each in a list without order, and a count of the updates.
+/// The registered, the loaded and the fixed members, each in a list without order, and a count of the updates.
 ///
 /// A call costs a walk over a list: this is what the shared registry is measured against, not what serves threads.
 #[derive(Drop)]
 pub struct PlainRegistry {
     registered: Vec<Member>,
+    loaded: Vec<Member>,
     fixed: Vec<Member>,
     loads: u32,
     updates: u32,
 }
 
 impl Model for PlainRegistry {
-    ghost use Rattle.std.specs.Prelude.{[]};
+    ghost use Rattle.std.specs.Prelude.{◌≤◌, vec_len};
     ghost use Rattle.reg_model.specs.Current.{Current};
 
     ghost Value = { Current };
 
-    ghost view = { λ r. record { state = record { registered = r.registered.items; loaded = []; fixed = r.fixed.items; loads = r.loads }; updates = r.updates } };
+    ghost view = { λ r. record { state = record { registered = r.registered.items; loaded = r.loaded.items; fixed = r.fixed.items; loads = r.loads }; updates = r.updates } };
+
+    ghost invariant = { λ r. vec_len r.loaded ≤ r.loads };
 }
 
 impl PlainRegistry {
@@ -42,6 +45,7 @@ impl PlainRegistry {
     {
         PlainRegistry {
             registered: Vec::new(alloc),
+            loaded: Vec::new(alloc),
             fixed,
             loads,
             updates: 0,
@@ -90,6 +94,44 @@ impl PlainRegistry {
         }
     }
 
+    /// Loads a member where no fixed or loaded one overlaps it, and fewer are loaded than may be. The overlapping member with
+    /// the least first address is named, also where no more may be loaded.
+    pub fn load(&mut self, member: Member) -> Result<Loading, NoMemory>
+        requires { self.old.updates < 2 ^ 26 }
+        ensures step { IfOk result (λ answer. Step self.old (receipt.Load member answer) self.new) }
+        ensures err { OnErr result (self.new ≡ self.old) }
+    {
+        let stamp = self.updates;
+        if let Some(member) = lowest_object(&self.fixed, &self.loaded, &member.span) {
+            return Ok(Loading::Overlap { member, stamp });
+        }
+        if self.loaded.len() >= self.loads as usize {
+            return Ok(Loading::LoadFull { stamp });
+        }
+        self.loaded.push(member)?;
+        self.updates = stamp + 1;
+        Ok(Loading::Done { number: stamp + 1 })
+    }
+
+    /// Takes out the loaded member with this first address. A fixed one stays.
+    pub fn unload(&mut self, base: u64) -> Removed
+        requires { self.old.updates < 2 ^ 26 }
+        ensures step { Step self.old (receipt.Unload base result) self.new }
+    {
+        let stamp = self.updates;
+        match with_base(&self.loaded, base) {
+            None => Removed::NotFound { stamp },
+            Some(member) => {
+                remove_base(&mut self.loaded, base);
+                self.updates = stamp + 1;
+                Removed::Done {
+                    number: stamp + 1,
+                    member,
+                }
+            }
+        }
+    }
+
     /// The registered member that contains the address, or else the fixed or loaded one.
     pub fn find(&self, pc: u64) -> Place
         ensures registered { Step self.now (receipt.Query half.Registered pc result.registered) self.now }
@@ -104,7 +146,7 @@ impl PlainRegistry {
             },
             None => Place {
                 registered: Found::Miss { stamp },
-                loaded: Some(match containing(&self.fixed, pc) {
+                loaded: Some(match object_containing(&self.fixed, &self.loaded, pc) {
                     Some(member) => Found::Hit { member, stamp },
                     None => Found::Miss { stamp },
                 }),
@@ -125,6 +167,13 @@ fn containing(members: &[Member], pc: u64) -> Option<Member>
     None
 }
 
+/// The same of the loader's members, which stand in two lists.
+fn object_containing(fixed: &[Member], loaded: &[Member], pc: u64) -> Option<Member>
+    ensures { result ≡ member_at pc (fixed.now ++ loaded.now) }
+{
+    containing(fixed, pc).or(containing(loaded, pc))
+}
+
 /// The member with this first address.
 fn with_base(members: &[Member], base: u64) -> Option<Member>
     ensures { result ≡ at_base base members.now }
@@ -139,7 +188,8 @@ fn with_base(members: &[Member], base: u64) -> Option<Member>
 
 /// Removes the members with this first address; of disjoint members that is one at most.
 fn remove_base(members: &mut Vec<Member>, base: u64)
-    ensures { members.new.items ≡ without base members.old.items }
+    ensures rest { members.new.items ≡ without base members.old.items }
+    ensures fewer { vec_len members.new ≤ vec_len members.old }
 {
     members.retain(
         |member: &Member| -> bool
@@ -159,6 +209,17 @@ fn lowest_overlap(members: &[Member], span: &Span) -> Option<Member>
         }
     }
     lowest
+}
+
+/// The same of the loader's members, which stand in two lists.
+fn lowest_object(fixed: &[Member], loaded: &[Member], span: &Span) -> Option<Member>
+    ensures { MatchOption result (IsFree span.now (fixed.now ++ loaded.now)) (IsLowestOverlap span.now (fixed.now ++ loaded.now)) }
+{
+    let in_fixed = lowest_overlap(fixed, span);
+    match lowest_overlap(loaded, span) {
+        Some(in_loaded) if begins_below(&in_loaded, &in_fixed) => Some(in_loaded),
+        _ => in_fixed,
+    }
 }
 
 /// Whether the member begins below the lowest one so far.
