@@ -1,13 +1,13 @@
 -- What is spelled is read: each line of a script is good after those before it.
 use Rattle.std.proofs.Common.{ap₂, ◌⊎◌, inl, inr, ◌≡◌, ℕ, ◌+◌, ◌-◌, ◌^◌, ◌<◌, ◌≤◌, true, false, cond, ◌&&◌, eqb, ltb, leb, List, [], ◌∷◌, ◌++◌, length, Option, Some, Result, Ok, Err, refl, sym, ap, subst, ◌∙◌, append_assoc, append-nil, eq-eqb, lt-ltb, le-leb, arith, length-append}
 use Rattle.std.specs.Prelude.{codes}
-use Rattle.std.specs.List.{flat_map, AllByRecursion, list_all}
+use Rattle.std.specs.List.{flat_map, All, AllByRecursion, list_all, slice_get}
 use Rattle.std.specs.Option.{ok_or}
 use Rattle.std.specs.Fmt.{decimal}
 use Rattle.std.proofs.lemmas.Bool.{and_from, and_parts, cond-true, cond-false, leb-true}
 use Rattle.std.proofs.lemmas.Fmt.{decimal_digit}
 use Rattle.std.proofs.lemmas.Grind.{flat_map-append}
-use Rattle.std.proofs.lemmas.List.Elements.{recursion_from_All}
+use Rattle.std.proofs.lemmas.List.Elements.{All-head, All-tail, recursion_from_All}
 use Rattle.reg_model.specs.Interval.{Interval, IsSpan}
 use Rattle.event_script.specs.declared.script.Event.{Event}
 use Rattle.event_script.specs.declared.script.Event.TheVariants as event
@@ -21,18 +21,23 @@ use Rattle.hex.specs.Hex.{IsBytes}
 use Rattle.frame_parse.specs.Sections.{Contents}
 use Rattle.frame_parse.specs.declared.fault.FrameFault.{FrameFault}
 use Rattle.frame_parse.specs.Reading.{section_of}
-use Rattle.event_script.specs.ScriptData.{IsSectionOf}
+use Rattle.event_script.specs.ScriptData.{IsSectionOf, span_of, AreFixed}
 use Rattle.event_script.specs.Reading.{ImageData, section_or}
 use Rattle.event_script.specs.Spelling.{section_text, script_text}
 use Rattle.event_script.proofs.Sections.{bytes_again, section_visible, section_ok}
 use Rattle.event_script.specs.ScriptData.{ScriptData, IsEvent, IsThread, IsRound}
-use Rattle.event_script.specs.Spelling.{Line, hex, spelling_of, image_line, image_lines, event_line, event_lines, round_lines, script_lines, IsScript}
+use Rattle.event_script.specs.Spelling.{Line, hex, spelling_of, image_line, image_lines, fixed_lines, event_line, event_lines, round_lines, script_lines, IsScript}
 use Rattle.event_script.specs.Fields.{pieces, is_printable}
-use Rattle.event_script.specs.Reading.{◌>>=◌, Known, BadLine, IsFirstBad, HasOneAnswer, at_line, nothing_known, one_decimal, one_hex, image_fields, image_line_of, with_event, kind_of, may_come, is_unbuilt, word_of, line_of, by_word, is_ended, after_line, at_end, after_lines, outcome, script_of}
+use Rattle.event_script.specs.Reading.{◌>>=◌, Known, BadLine, IsFirstBad, HasOneAnswer, at_line, nothing_known, one_decimal, one_hex, image_fields, image_line_of, last_fixed, is_above, with_event, kind_of, may_come, is_unbuilt, word_of, line_of, by_word, is_ended, after_line, at_end, after_lines, outcome, script_of}
 use Rattle.event_script.proofs.Joined.{join, IsVisible, fields_again, printable_again, lines_again}
+use Rattle.event_script.proofs.Fixed.{found_span, rise_at}
 use Rattle.event_script.proofs.Lines.{line_first}
 use Rattle.event_script.proofs.Sound.{outcome_sound}
 use Rattle.event_script.proofs.Numbers.{decimal_visible, hex_visible, decimal_again, hex_again}
+
+All-right : {A : Type 0} (P : A → Type 0) (front : List A) (x : A) (xs : List A) → All P (front ++ x ∷ xs) → P x
+All-right P [] x xs all = All-head P x xs all
+All-right P (y ∷ front) x xs all = All-right P front x xs (All-tail P y (front ++ x ∷ xs) all)
 
 -- ---- lines that are read one after another
 
@@ -112,13 +117,13 @@ word_again kind.Find = refl
 word_again kind.Unwind = refl
 word_again kind.End = refl
 
-by_kind : (known : Known) (k : Kind) (fields : Line) → may_come known.stage k ≡ true → is_unbuilt known.stage k ≡ false → by_word known (word_of k ∷ fields) ≡ line_of known k fields
+by_kind : (known : Known) (k : Kind) (fields : Line) → may_come known.stage k ≡ true → is_unbuilt known k ≡ false → by_word known (word_of k ∷ fields) ≡ line_of known k fields
 unfolding by_word
 by_kind known k fields may built =
-    let given = λ (k : Kind). cond (may_come known.stage k) (cond (is_unbuilt known.stage k) (Err reason.Unbuilt) (line_of known k fields)) (Err reason.Word) in
+    let given = λ (k : Kind). cond (may_come known.stage k) (cond (is_unbuilt known k) (Err reason.Unbuilt) (line_of known k fields)) (Err reason.Word) in
     ap (λ (o : Option Kind). ok_or o reason.Word >>= given) (word_again k)
-    ∙ cond-true (may_come known.stage k) (cond (is_unbuilt known.stage k) (Err reason.Unbuilt) (line_of known k fields)) (Err reason.Word) may
-    ∙ cond-false (is_unbuilt known.stage k) (Err reason.Unbuilt) (line_of known k fields) built
+    ∙ cond-true (may_come known.stage k) (cond (is_unbuilt known k) (Err reason.Unbuilt) (line_of known k fields)) (Err reason.Word) may
+    ∙ cond-false (is_unbuilt known k) (Err reason.Unbuilt) (line_of known k fields) built
 
 -- ---- fields
 
@@ -141,8 +146,8 @@ abbrev ended_with : Known → Result Known BadLine
 ended_with known = Ok known
 
 module _ (nodes loads : ℕ) where
-  abbrev at : Stage → List Interval → List Contents → List (List (List Event)) → List (List Event) → List Event → Known
-  at stage images sections rounds threads events = record { stage = stage; nodes = nodes; loads = loads; images = images; sections = sections; rounds = rounds; threads = threads; events = events }
+  abbrev at : Stage → List Interval → List Contents → List ℕ → List (List (List Event)) → List (List Event) → List Event → Known
+  at stage images sections fixed rounds threads events = record { stage = stage; nodes = nodes; loads = loads; images = images; sections = sections; fixed = fixed; rounds = rounds; threads = threads; events = events }
 
   reads_version : Reads nothing_known ((codes "frames" ∷ codes "1" ∷ []) ∷ []) (record nothing_known { stage = stage.Nodes })
   unfolding line_of
@@ -162,11 +167,11 @@ module _ (nodes loads : ℕ) where
       ∙ ap (λ (r : Result ℕ Reason). r >>= λ n. cond (leb 4 n && leb n 16384) (Ok (record nothing_known { stage = stage.Loads; nodes = n })) (Err reason.Limit)) (one_decimal_again nodes (omega arith))
       ∙ cond-true (leb 4 nodes && leb nodes 16384) (Ok next) (Err reason.Limit) (and_from _ _ (le-leb 4 nodes low) (le-leb nodes 16384 high)))
 
-  reads_loads : 1 ≤ loads → loads ≤ 1024 → Reads (record nothing_known { stage = stage.Loads; nodes = nodes }) ((codes "loads" ∷ decimal loads ∷ []) ∷ []) (at stage.Images [] [] [] [] [])
+  reads_loads : 1 ≤ loads → loads ≤ 1024 → Reads (record nothing_known { stage = stage.Loads; nodes = nodes }) ((codes "loads" ∷ decimal loads ∷ []) ∷ []) (at stage.Images [] [] [] [] [] [])
   unfolding line_of
   reads_loads low high =
       let known : Known = record nothing_known { stage = stage.Loads; nodes = nodes } in
-      let next : Known = at stage.Images [] [] [] [] [] in
+      let next : Known = at stage.Images [] [] [] [] [] [] in
       reads_line known next (codes "loads") (decimal loads ∷ []) (word_visible kind.Loads, (decimal_visible loads (omega arith), tt)) refl
       (by_kind known kind.Loads (decimal loads ∷ []) refl refl
       ∙ ap (λ (r : Result ℕ Reason). r >>= λ n. cond (leb 1 n && leb n 1024) (Ok (record known { stage = stage.Images; loads = n })) (Err reason.Limit)) (one_decimal_again loads (omega arith))
@@ -175,7 +180,7 @@ module _ (nodes loads : ℕ) where
   -- ---- images
 
   image_line_good : (front : List Interval) (before : List Contents) (span : Interval) (section : Contents) → length front < 4096 → IsSpan span → IsSectionOf section
-      → image_line_of (at stage.Images front before [] [] []) (record { number = length front; base = span.first; size = span.last + 1 - span.first; section = section.address; bytes = section.bytes }) ≡ Ok (at stage.Images (front ++ span ∷ []) (before ++ section ∷ []) [] [] [])
+      → image_line_of (at stage.Images front before [] [] [] []) (record { number = length front; base = span.first; size = span.last + 1 - span.first; section = section.address; bytes = section.bytes }) ≡ Ok (at stage.Images (front ++ span ∷ []) (before ++ section ∷ []) [] [] [] [])
   image_line_good front before span section room is whole =
       let ordered = is.ordered in
       let top = is.below_top in
@@ -184,7 +189,7 @@ module _ (nodes loads : ℕ) where
       let limit : (ltb (length front) 4096 && leb (length section.bytes) 65536) ≡ true = and_from _ _ (lt-ltb _ _ room) (le-leb _ _ whole.size) in
       let some : ltb 0 (span.last + 1 - span.first) ≡ true = lt-ltb _ _ (omega arith) in
       let inside : leb (span.first + (span.last + 1 - span.first)) (2 ^ 64 - 1) ≡ true = le-leb _ _ (omega arith) in
-      let made = λ (l : ℕ) (c : Contents). good (at stage.Images (front ++ record { first = span.first; last = l } ∷ []) (before ++ c ∷ []) [] [] []) in
+      let made = λ (l : ℕ) (c : Contents). good (at stage.Images (front ++ record { first = span.first; last = l } ∷ []) (before ++ c ∷ []) [] [] [] []) in
       let from = λ (given : Result Contents FrameFault). section_or given >>= λ c. made (span.first + (span.last + 1 - span.first) - 1) c in
       cond-true (eqb (length front) (length front)) _ (Err reason.Order) order
       ∙ cond-true (ltb (length front) 4096 && leb (length section.bytes) 65536) _ (Err reason.Limit) limit
@@ -193,14 +198,14 @@ module _ (nodes loads : ℕ) where
       ∙ ap (λ (l : ℕ). made l section) last
 
   reads_image : (front : List Interval) (before : List Contents) (number : ℕ) (span : Interval) (section : Contents) → number ≡ length front → length front < 4096 → IsSpan span → IsSectionOf section
-      → Reads (at stage.Images front before [] [] []) (image_line number span section ∷ []) (at stage.Images (front ++ span ∷ []) (before ++ section ∷ []) [] [] [])
+      → Reads (at stage.Images front before [] [] [] []) (image_line number span section ∷ []) (at stage.Images (front ++ span ∷ []) (before ++ section ∷ []) [] [] [] [])
   unfolding line_of
   reads_image front before number span section same room is whole =
       let ordered = is.ordered in
       let top = is.below_top in
-      let known : Known = at stage.Images front before [] [] [] in
+      let known : Known = at stage.Images front before [] [] [] [] in
       let fields : Line = decimal number ∷ hex span.first ∷ hex (span.last + 1 - span.first) ∷ hex section.address ∷ section_text section.bytes ∷ [] in
-      reads_line known (at stage.Images (front ++ span ∷ []) (before ++ section ∷ []) [] [] []) (codes "image") fields
+      reads_line known (at stage.Images (front ++ span ∷ []) (before ++ section ∷ []) [] [] [] []) (codes "image") fields
       (word_visible kind.Image, (decimal_visible number (omega arith), (hex_visible span.first (omega arith), (hex_visible (span.last + 1 - span.first) (omega arith), (hex_visible section.address whole.address, (section_visible section.bytes whole.bytes, tt)))))) refl
       (by_kind known kind.Image fields refl refl
       ∙ ap (λ (r : Result ImageData Reason). r >>= λ image. image_line_of known image) (image_again number span.first (span.last + 1 - span.first) section.address section.bytes (omega arith) (omega arith) (omega arith) whole.address whole.bytes)
@@ -208,33 +213,82 @@ module _ (nodes loads : ℕ) where
       ∙ image_line_good front before span section room is whole)
 
   reads_images : (front images : List Interval) (number : ℕ) (before sections : List Contents) → number ≡ length front → length sections ≡ length images → length front + length images ≤ 4096 → AllByRecursion IsSpan images → AllByRecursion IsSectionOf sections
-      → Reads (at stage.Images front before [] [] []) (image_lines number images sections) (at stage.Images (front ++ images) (before ++ sections) [] [] [])
-  reads_images front [] number before [] same each room spans whole = λ number others. (number, ap₂ (λ (x : List Interval) (y : List Contents). after_lines (at stage.Images x y [] [] []) number (pieces 10 others)) (sym (append-nil front)) (sym (append-nil before)))
+      → Reads (at stage.Images front before [] [] [] []) (image_lines number images sections) (at stage.Images (front ++ images) (before ++ sections) [] [] [] [])
+  reads_images front [] number before [] same each room spans whole = λ number others. (number, ap₂ (λ (x : List Interval) (y : List Contents). after_lines (at stage.Images x y [] [] [] []) number (pieces 10 others)) (sym (append-nil front)) (sym (append-nil before)))
   reads_images front [] number before (section ∷ sections) same each room spans whole = absurd (omega arith)
   reads_images front (span ∷ images) number before [] same each room spans whole = absurd (omega arith)
   reads_images front (span ∷ images) number before (section ∷ sections) same each room spans whole =
       let first = reads_image front before number span section same (omega arith) spans.0 whole.0 in
       let rest = reads_images (front ++ span ∷ []) images (number + 1) (before ++ section ∷ []) sections (omega (arith, length-append front (span ∷ []))) (omega arith) (omega (arith, length-append front (span ∷ []))) spans.1 whole.1 in
-      let all = reads_then (at stage.Images front before [] [] []) (at stage.Images (front ++ span ∷ []) (before ++ section ∷ []) [] [] []) (at stage.Images ((front ++ span ∷ []) ++ images) ((before ++ section ∷ []) ++ sections) [] [] []) (image_line number span section ∷ []) (image_lines (number + 1) images sections) first rest in
-      subst (λ (y : List Contents). Reads (at stage.Images front before [] [] []) (image_lines number (span ∷ images) (section ∷ sections)) (at stage.Images (front ++ span ∷ images) y [] [] [])) (append_assoc before (section ∷ []) sections)
-      (subst (λ (x : List Interval). Reads (at stage.Images front before [] [] []) (image_lines number (span ∷ images) (section ∷ sections)) (at stage.Images x ((before ++ section ∷ []) ++ sections) [] [] [])) (append_assoc front (span ∷ []) images) all)
+      let all = reads_then (at stage.Images front before [] [] [] []) (at stage.Images (front ++ span ∷ []) (before ++ section ∷ []) [] [] [] []) (at stage.Images ((front ++ span ∷ []) ++ images) ((before ++ section ∷ []) ++ sections) [] [] [] []) (image_line number span section ∷ []) (image_lines (number + 1) images sections) first rest in
+      subst (λ (y : List Contents). Reads (at stage.Images front before [] [] [] []) (image_lines number (span ∷ images) (section ∷ sections)) (at stage.Images (front ++ span ∷ images) y [] [] [] [])) (append_assoc before (section ∷ []) sections)
+      (subst (λ (x : List Interval). Reads (at stage.Images front before [] [] [] []) (image_lines number (span ∷ images) (section ∷ sections)) (at stage.Images x ((before ++ section ∷ []) ++ sections) [] [] [] [])) (append_assoc front (span ∷ []) images) all)
+
+  -- ---- fixed images
+
+  -- where the reader stands after these fixed images
+  abbrev after_fixed : List ℕ → Stage
+  after_fixed [] = stage.Images
+  after_fixed (image ∷ fixed) = stage.Fixed
+
+  module _ (images : List Interval) (sections : List Contents) (few : length images ≤ 4096) where
+    abbrev with_fixed : Stage → List ℕ → Known
+    with_fixed start fixed = at start images sections fixed [] [] []
+
+    reads_fixed_from : (start : Stage) (front : List ℕ) (image : ℕ) → is_ended start ≡ false → may_come start kind.Fixed ≡ true → image < length images → is_above (last_fixed images front) (span_of images image) ≡ true
+        → Reads (with_fixed start front) ((codes "fixed" ∷ decimal image ∷ []) ∷ []) (with_fixed stage.Fixed (front ++ image ∷ []))
+    unfolding line_of
+    reads_fixed_from start front image open_still may named above =
+        let known = with_fixed start front in
+        let next = with_fixed stage.Fixed (front ++ image ∷ []) in
+        let fixed_if : Interval → Result Known Reason = λ span. cond (is_above (last_fixed images front) span) (Ok next) (Err reason.Fixed) in
+        reads_line known next (codes "fixed") (decimal image ∷ []) (word_visible kind.Fixed, (decimal_visible image (omega arith), tt)) open_still
+        (by_kind known kind.Fixed (decimal image ∷ []) may refl
+        ∙ ap (λ (r : Result ℕ Reason). r >>= λ n. ok_or (slice_get images n) reason.Name >>= λ span. cond (is_above (last_fixed images front) span) (Ok (with_fixed stage.Fixed (front ++ n ∷ []))) (Err reason.Fixed)) (one_decimal_again image (omega arith))
+        ∙ ap (λ (o : Option Interval). ok_or o reason.Name >>= fixed_if) (found_span images image named)
+        ∙ cond-true (is_above (last_fixed images front) (span_of images image)) (Ok next) (Err reason.Fixed) above)
+
+    reads_one_fixed : (front : List ℕ) (image : ℕ) → image < length images → is_above (last_fixed images front) (span_of images image) ≡ true
+        → Reads (with_fixed (after_fixed front) front) ((codes "fixed" ∷ decimal image ∷ []) ∷ []) (with_fixed (after_fixed (front ++ image ∷ [])) (front ++ image ∷ []))
+    reads_one_fixed [] image named above = reads_fixed_from stage.Images [] image refl refl named above
+    reads_one_fixed (first ∷ front) image named above = reads_fixed_from stage.Fixed (first ∷ front) image refl refl named above
+
+    reads_fixed : (front fixed : List ℕ) → AreFixed images (front ++ fixed) → Reads (with_fixed (after_fixed front) front) (fixed_lines fixed) (with_fixed (after_fixed (front ++ fixed)) (front ++ fixed))
+    reads_fixed front [] are = λ number others. (number, ap (λ (x : List ℕ). after_lines (with_fixed (after_fixed x) x) number (pieces 10 others)) (sym (append-nil front)))
+    reads_fixed front (image ∷ fixed) are =
+        let IsNamed : ℕ → Type 0 = λ i. i < length images in
+        let regrouped : (front ++ image ∷ []) ++ fixed ≡ front ++ image ∷ fixed = append_assoc front (image ∷ []) fixed in
+        let first = reads_one_fixed front image (All-right IsNamed front image fixed are.named) (rise_at images front image fixed are.named are.rising) in
+        let rest = reads_fixed (front ++ image ∷ []) fixed (subst (AreFixed images) (sym regrouped) are) in
+        subst (λ (x : List ℕ). Reads (with_fixed (after_fixed front) front) (fixed_lines (image ∷ fixed)) (with_fixed (after_fixed x) x)) regrouped
+        (reads_then (with_fixed (after_fixed front) front) (with_fixed (after_fixed (front ++ image ∷ [])) (front ++ image ∷ [])) (with_fixed (after_fixed ((front ++ image ∷ []) ++ fixed)) ((front ++ image ∷ []) ++ fixed)) ((codes "fixed" ∷ decimal image ∷ []) ∷ []) (fixed_lines fixed) first rest)
+
+    reads_round : (fixed : List ℕ) → Reads (with_fixed (after_fixed fixed) fixed) ((codes "round" ∷ []) ∷ []) (with_fixed stage.Round fixed)
+    unfolding line_of
+    reads_round [] = reads_line (with_fixed stage.Images []) (with_fixed stage.Round []) (codes "round") [] (word_visible kind.Round, tt) refl (by_kind (with_fixed stage.Images []) kind.Round [] refl refl)
+    reads_round (image ∷ fixed) = reads_line (with_fixed stage.Fixed (image ∷ fixed)) (with_fixed stage.Round (image ∷ fixed)) (codes "round") [] (word_visible kind.Round, tt) refl (by_kind (with_fixed stage.Fixed (image ∷ fixed)) kind.Round [] refl refl)
+
+    -- a script without rounds
+    at_once : (fixed : List ℕ) → Reads (at (after_fixed fixed) images sections fixed [] [] []) ((codes "end" ∷ []) ∷ []) (at stage.Ended images sections fixed [] [] [])
+    unfolding line_of
+    at_once [] = reads_line (at stage.Images images sections [] [] [] []) (at stage.Ended images sections [] [] [] []) (codes "end") [] (word_visible kind.End, tt) refl (by_kind (at stage.Images images sections [] [] [] []) kind.End [] refl refl)
+    at_once (image ∷ fixed) = reads_line (at stage.Fixed images sections (image ∷ fixed) [] [] []) (at stage.Ended images sections (image ∷ fixed) [] [] []) (codes "end") [] (word_visible kind.End, tt) refl (by_kind (at stage.Fixed images sections (image ∷ fixed) [] [] []) kind.End [] refl refl)
 
   -- ---- rounds, threads and events
 
-  module _ (images : List Interval) (sections : List Contents) (few : length images ≤ 4096) where
-    reads_round : Reads (at stage.Images images sections [] [] []) ((codes "round" ∷ []) ∷ []) (at stage.Round images sections [] [] [])
-    unfolding line_of
-    reads_round = reads_line (at stage.Images images sections [] [] []) (at stage.Round images sections [] [] []) (codes "round") [] (word_visible kind.Round, tt) refl (by_kind (at stage.Images images sections [] [] []) kind.Round [] refl refl)
+  module _ (images : List Interval) (sections : List Contents) (fixed : List ℕ) (few : length images ≤ 4096) where
+    abbrev begun : Known
+    begun = at (after_fixed fixed) images sections fixed [] [] []
 
-    reads_thread : Reads (at stage.Round images sections [] [] []) ((codes "thread" ∷ []) ∷ []) (at stage.Thread images sections [] [] [])
+    reads_thread : Reads (at stage.Round images sections fixed [] [] []) ((codes "thread" ∷ []) ∷ []) (at stage.Thread images sections fixed [] [] [])
     unfolding line_of
-    reads_thread = reads_line (at stage.Round images sections [] [] []) (at stage.Thread images sections [] [] []) (codes "thread") [] (word_visible kind.Thread, tt) refl (by_kind (at stage.Round images sections [] [] []) kind.Thread [] refl refl)
+    reads_thread = reads_line (at stage.Round images sections fixed [] [] []) (at stage.Thread images sections fixed [] [] []) (codes "thread") [] (word_visible kind.Thread, tt) refl (by_kind (at stage.Round images sections fixed [] [] []) kind.Thread [] refl refl)
 
-    reads_event : (front : List Event) (e : Event) → length front < 4096 → IsEvent (length images) e → Reads (at stage.Thread images sections [] [] front) (event_line e ∷ []) (at stage.Thread images sections [] [] (front ++ e ∷ []))
+    reads_event : (front : List Event) (e : Event) → length front < 4096 → IsEvent (length images) e → Reads (at stage.Thread images sections fixed [] [] front) (event_line e ∷ []) (at stage.Thread images sections fixed [] [] (front ++ e ∷ []))
     unfolding line_of
     reads_event front (event.Register image) room named =
-        let known : Known = at stage.Thread images sections [] [] front in
-        let next : Known = at stage.Thread images sections [] [] (front ++ event.Register image ∷ []) in
+        let known : Known = at stage.Thread images sections fixed [] [] front in
+        let next : Known = at stage.Thread images sections fixed [] [] (front ++ event.Register image ∷ []) in
         let limit : ltb (length front) 4096 ≡ true = lt-ltb _ _ room in
         let name : ltb image (length images) ≡ true = lt-ltb _ _ named in
         reads_line known next (codes "register") (decimal image ∷ []) (word_visible kind.Register, (decimal_visible image (omega arith), tt)) refl
@@ -243,52 +297,70 @@ module _ (nodes loads : ℕ) where
         ∙ cond-true (ltb (length front) 4096) (cond (ltb image (length images)) (Ok next) (Err reason.Name)) (Err reason.Limit) limit
         ∙ cond-true (ltb image (length images)) (Ok next) (Err reason.Name) name)
     reads_event front (event.Deregister base) room below =
-        let known : Known = at stage.Thread images sections [] [] front in
-        let next : Known = at stage.Thread images sections [] [] (front ++ event.Deregister base ∷ []) in
+        let known : Known = at stage.Thread images sections fixed [] [] front in
+        let next : Known = at stage.Thread images sections fixed [] [] (front ++ event.Deregister base ∷ []) in
         let limit : ltb (length front) 4096 ≡ true = lt-ltb _ _ room in
         reads_line known next (codes "deregister") (hex base ∷ []) (word_visible kind.Deregister, (hex_visible base below, tt)) refl
         (by_kind known kind.Deregister (hex base ∷ []) refl refl
         ∙ ap (λ (r : Result ℕ Reason). r >>= λ n. cond (ltb (length front) 4096) (Ok (with_event known (event.Deregister n))) (Err reason.Limit)) (one_hex_again base below)
         ∙ cond-true (ltb (length front) 4096) (Ok next) (Err reason.Limit) limit)
+    reads_event front (event.Load image) room named =
+        let known : Known = at stage.Thread images sections fixed [] [] front in
+        let next : Known = at stage.Thread images sections fixed [] [] (front ++ event.Load image ∷ []) in
+        let limit : ltb (length front) 4096 ≡ true = lt-ltb _ _ room in
+        let name : ltb image (length images) ≡ true = lt-ltb _ _ named in
+        reads_line known next (codes "load") (decimal image ∷ []) (word_visible kind.Load, (decimal_visible image (omega arith), tt)) refl
+        (by_kind known kind.Load (decimal image ∷ []) refl refl
+        ∙ ap (λ (r : Result ℕ Reason). r >>= λ n. cond (ltb (length front) 4096) (cond (ltb n (length images)) (Ok (with_event known (event.Load n))) (Err reason.Name)) (Err reason.Limit)) (one_decimal_again image (omega arith))
+        ∙ cond-true (ltb (length front) 4096) (cond (ltb image (length images)) (Ok next) (Err reason.Name)) (Err reason.Limit) limit
+        ∙ cond-true (ltb image (length images)) (Ok next) (Err reason.Name) name)
+    reads_event front (event.Unload base) room below =
+        let known : Known = at stage.Thread images sections fixed [] [] front in
+        let next : Known = at stage.Thread images sections fixed [] [] (front ++ event.Unload base ∷ []) in
+        let limit : ltb (length front) 4096 ≡ true = lt-ltb _ _ room in
+        reads_line known next (codes "unload") (hex base ∷ []) (word_visible kind.Unload, (hex_visible base below, tt)) refl
+        (by_kind known kind.Unload (hex base ∷ []) refl refl
+        ∙ ap (λ (r : Result ℕ Reason). r >>= λ n. cond (ltb (length front) 4096) (Ok (with_event known (event.Unload n))) (Err reason.Limit)) (one_hex_again base below)
+        ∙ cond-true (ltb (length front) 4096) (Ok next) (Err reason.Limit) limit)
     reads_event front (event.Find pc) room below =
-        let known : Known = at stage.Thread images sections [] [] front in
-        let next : Known = at stage.Thread images sections [] [] (front ++ event.Find pc ∷ []) in
+        let known : Known = at stage.Thread images sections fixed [] [] front in
+        let next : Known = at stage.Thread images sections fixed [] [] (front ++ event.Find pc ∷ []) in
         let limit : ltb (length front) 4096 ≡ true = lt-ltb _ _ room in
         reads_line known next (codes "find") (hex pc ∷ []) (word_visible kind.Find, (hex_visible pc below, tt)) refl
         (by_kind known kind.Find (hex pc ∷ []) refl refl
         ∙ ap (λ (r : Result ℕ Reason). r >>= λ n. cond (ltb (length front) 4096) (Ok (with_event known (event.Find n))) (Err reason.Limit)) (one_hex_again pc below)
         ∙ cond-true (ltb (length front) 4096) (Ok next) (Err reason.Limit) limit)
 
-    reads_events : (front events : List Event) → length front + length events ≤ 4096 → AllByRecursion (IsEvent (length images)) events → Reads (at stage.Thread images sections [] [] front) (event_lines events) (at stage.Thread images sections [] [] (front ++ events))
-    reads_events front [] room are = λ number others. (number, ap (λ (x : List Event). after_lines (at stage.Thread images sections [] [] x) number (pieces 10 others)) (sym (append-nil front)))
+    reads_events : (front events : List Event) → length front + length events ≤ 4096 → AllByRecursion (IsEvent (length images)) events → Reads (at stage.Thread images sections fixed [] [] front) (event_lines events) (at stage.Thread images sections fixed [] [] (front ++ events))
+    reads_events front [] room are = λ number others. (number, ap (λ (x : List Event). after_lines (at stage.Thread images sections fixed [] [] x) number (pieces 10 others)) (sym (append-nil front)))
     reads_events front (e ∷ events) room are =
         let first = reads_event front e (omega arith) are.0 in
         let rest = reads_events (front ++ e ∷ []) events (omega (arith, length-append front (e ∷ []))) are.1 in
-        subst (λ (x : List Event). Reads (at stage.Thread images sections [] [] front) (event_lines (e ∷ events)) (at stage.Thread images sections [] [] x)) (append_assoc front (e ∷ []) events)
-        (reads_then (at stage.Thread images sections [] [] front) (at stage.Thread images sections [] [] (front ++ e ∷ [])) (at stage.Thread images sections [] [] ((front ++ e ∷ []) ++ events)) (event_line e ∷ []) (event_lines events) first rest)
+        subst (λ (x : List Event). Reads (at stage.Thread images sections fixed [] [] front) (event_lines (e ∷ events)) (at stage.Thread images sections fixed [] [] x)) (append_assoc front (e ∷ []) events)
+        (reads_then (at stage.Thread images sections fixed [] [] front) (at stage.Thread images sections fixed [] [] (front ++ e ∷ [])) (at stage.Thread images sections fixed [] [] ((front ++ e ∷ []) ++ events)) (event_line e ∷ []) (event_lines events) first rest)
 
-    reads_end : (before : Stage) (rounds : List (List (List Event))) (known : Known) → is_ended known.stage ≡ false → may_come known.stage kind.End ≡ true → is_unbuilt known.stage kind.End ≡ false → line_of known kind.End [] ≡ Ok (at stage.Ended images sections rounds [] []) → Reads known ((codes "end" ∷ []) ∷ []) (at stage.Ended images sections rounds [] [])
-    reads_end before rounds known open_still may built good = reads_line known (at stage.Ended images sections rounds [] []) (codes "end") [] (word_visible kind.End, tt) open_still (by_kind known kind.End [] may built ∙ good)
+    reads_end : (before : Stage) (rounds : List (List (List Event))) (known : Known) → is_ended known.stage ≡ false → may_come known.stage kind.End ≡ true → is_unbuilt known kind.End ≡ false → line_of known kind.End [] ≡ Ok (at stage.Ended images sections fixed rounds [] []) → Reads known ((codes "end" ∷ []) ∷ []) (at stage.Ended images sections fixed rounds [] [])
+    reads_end before rounds known open_still may built good = reads_line known (at stage.Ended images sections fixed rounds [] []) (codes "end") [] (word_visible kind.End, tt) open_still (by_kind known kind.End [] may built ∙ good)
 
     -- the rounds, and the last line
     reads_rounds : (rounds : List (List (List Event))) → length rounds ≤ 1 → AllByRecursion (λ threads. length threads ≤ 1) rounds → AllByRecursion (IsRound (length images)) rounds
-        → Reads (at stage.Images images sections [] [] []) (round_lines rounds ++ (codes "end" ∷ []) ∷ []) (at stage.Ended images sections rounds [] [])
+        → Reads begun (round_lines rounds ++ (codes "end" ∷ []) ∷ []) (at stage.Ended images sections fixed rounds [] [])
     unfolding line_of
-    reads_rounds [] one small are = reads_end stage.Images [] (at stage.Images images sections [] [] []) refl refl refl refl
+    reads_rounds [] one small are = at_once images sections few fixed
     reads_rounds ([] ∷ []) one small are =
-        reads_then (at stage.Images images sections [] [] []) (at stage.Round images sections [] [] []) (at stage.Ended images sections ([] ∷ []) [] []) ((codes "round" ∷ []) ∷ []) ((codes "end" ∷ []) ∷ []) reads_round
-        (reads_end stage.Round ([] ∷ []) (at stage.Round images sections [] [] []) refl refl refl refl)
+        reads_then begun (at stage.Round images sections fixed [] [] []) (at stage.Ended images sections fixed ([] ∷ []) [] []) ((codes "round" ∷ []) ∷ []) ((codes "end" ∷ []) ∷ []) (reads_round images sections few fixed)
+        (reads_end stage.Round ([] ∷ []) (at stage.Round images sections fixed [] [] []) refl refl refl refl)
     reads_rounds ((events ∷ []) ∷ []) one small are =
         let thread = recursion_from_All (IsThread (length images)) (events ∷ []) are.0.1 in
         let each = recursion_from_All (IsEvent (length images)) events thread.0.1 in
         let room = thread.0.0 in
-        let last = reads_end stage.Thread ((events ∷ []) ∷ []) (at stage.Thread images sections [] [] events) refl refl refl refl in
-        let inner = reads_then (at stage.Thread images sections [] [] []) (at stage.Thread images sections [] [] events) (at stage.Ended images sections ((events ∷ []) ∷ []) [] []) (event_lines events) ((codes "end" ∷ []) ∷ []) (reads_events [] events (omega arith) each) last in
-        let begun = reads_then (at stage.Images images sections [] [] []) (at stage.Round images sections [] [] []) (at stage.Thread images sections [] [] []) ((codes "round" ∷ []) ∷ []) ((codes "thread" ∷ []) ∷ []) reads_round reads_thread in
-        let all = reads_then (at stage.Images images sections [] [] []) (at stage.Thread images sections [] [] []) (at stage.Ended images sections ((events ∷ []) ∷ []) [] []) ((codes "round" ∷ []) ∷ (codes "thread" ∷ []) ∷ []) (event_lines events ++ (codes "end" ∷ []) ∷ []) begun inner in
+        let last = reads_end stage.Thread ((events ∷ []) ∷ []) (at stage.Thread images sections fixed [] [] events) refl refl refl refl in
+        let inner = reads_then (at stage.Thread images sections fixed [] [] []) (at stage.Thread images sections fixed [] [] events) (at stage.Ended images sections fixed ((events ∷ []) ∷ []) [] []) (event_lines events) ((codes "end" ∷ []) ∷ []) (reads_events [] events (omega arith) each) last in
+        let started = reads_then begun (at stage.Round images sections fixed [] [] []) (at stage.Thread images sections fixed [] [] []) ((codes "round" ∷ []) ∷ []) ((codes "thread" ∷ []) ∷ []) (reads_round images sections few fixed) reads_thread in
+        let all = reads_then begun (at stage.Thread images sections fixed [] [] []) (at stage.Ended images sections fixed ((events ∷ []) ∷ []) [] []) ((codes "round" ∷ []) ∷ (codes "thread" ∷ []) ∷ []) (event_lines events ++ (codes "end" ∷ []) ∷ []) started inner in
         let same : round_lines ((events ∷ []) ∷ []) ≡ (codes "round" ∷ []) ∷ (codes "thread" ∷ []) ∷ event_lines events =
         ap (λ (x : List Line). (codes "round" ∷ []) ∷ x) (append-nil ((codes "thread" ∷ []) ∷ (event_lines events ++ []))) ∙ ap (λ (x : List Line). (codes "round" ∷ []) ∷ (codes "thread" ∷ []) ∷ x) (append-nil (event_lines events)) in
-        subst (λ (x : List Line). Reads (at stage.Images images sections [] [] []) (x ++ (codes "end" ∷ []) ∷ []) (at stage.Ended images sections ((events ∷ []) ∷ []) [] [])) (sym same) all
+        subst (λ (x : List Line). Reads begun (x ++ (codes "end" ∷ []) ∷ []) (at stage.Ended images sections fixed ((events ∷ []) ∷ []) [] [])) (sym same) all
     reads_rounds ((events ∷ more ∷ threads) ∷ []) one small are = absurd (omega (arith, small.0))
     reads_rounds (threads ∷ more ∷ rounds) one small are = absurd (omega arith)
 
@@ -303,23 +375,28 @@ outcome_complete bytes s is =
     let small = recursion_from_All (λ threads. length threads ≤ 1) s.rounds is.built.threads in
     let are = recursion_from_All (IsRound (length s.images)) s.rounds run.rounds.1 in
     let room = run.images.0 in
-    let at_images = at s.nodes s.loads stage.Images [] [] [] [] [] in
-    let last : Known = at s.nodes s.loads stage.Ended s.images sections s.rounds [] [] in
+    let at_images = at s.nodes s.loads stage.Images [] [] [] [] [] [] in
+    let last : Known = at s.nodes s.loads stage.Ended s.images sections s.fixed s.rounds [] [] in
     let first = reads_version s.nodes s.loads in
     let second = reads_nodes s.nodes s.loads run.nodes.0 run.nodes.1 in
     let third = reads_loads s.nodes s.loads run.loads.0 run.loads.1 in
     let images = reads_images s.nodes s.loads [] s.images 0 [] sections refl run.sections.0 (omega arith) spans below in
-    let rounds = reads_rounds s.nodes s.loads s.images sections room s.rounds is.built.rounds small are in
-    let middle = reads_then at_images (at s.nodes s.loads stage.Images s.images sections [] [] []) last (image_lines 0 s.images sections) (round_lines s.rounds ++ (codes "end" ∷ []) ∷ []) images rounds in
+    let fixed = reads_fixed s.nodes s.loads s.images sections room [] s.fixed run.fixed in
+    let rounds = reads_rounds s.nodes s.loads s.images sections s.fixed room s.rounds is.built.rounds small are in
+    let at_fixed = at s.nodes s.loads stage.Images s.images sections [] [] [] [] in
+    let at_rounds = at s.nodes s.loads (after_fixed s.nodes s.loads s.fixed) s.images sections s.fixed [] [] [] in
+    let later = reads_then at_fixed at_rounds last (fixed_lines s.fixed) (round_lines s.rounds ++ (codes "end" ∷ []) ∷ []) fixed rounds in
+    let middle = reads_then at_images at_fixed last (image_lines 0 s.images sections) (fixed_lines s.fixed ++ (round_lines s.rounds ++ (codes "end" ∷ []) ∷ [])) images later in
     let nodes_known : Known = record nothing_known { stage = stage.Nodes } in
     let loads_known : Known = record nothing_known { stage = stage.Loads; nodes = s.nodes } in
-    let from_loads = reads_then loads_known at_images last ((codes "loads" ∷ decimal s.loads ∷ []) ∷ []) (image_lines 0 s.images sections ++ (round_lines s.rounds ++ (codes "end" ∷ []) ∷ [])) third middle in
-    let from_nodes = reads_then nodes_known loads_known last ((codes "nodes" ∷ decimal s.nodes ∷ []) ∷ []) ((codes "loads" ∷ decimal s.loads ∷ []) ∷ (image_lines 0 s.images sections ++ (round_lines s.rounds ++ (codes "end" ∷ []) ∷ []))) second from_loads in
-    let whole = reads_then nothing_known nodes_known last ((codes "frames" ∷ codes "1" ∷ []) ∷ []) ((codes "nodes" ∷ decimal s.nodes ∷ []) ∷ (codes "loads" ∷ decimal s.loads ∷ []) ∷ (image_lines 0 s.images sections ++ (round_lines s.rounds ++ (codes "end" ∷ []) ∷ []))) first from_nodes in
+    let from_loads = reads_then loads_known at_images last ((codes "loads" ∷ decimal s.loads ∷ []) ∷ []) (image_lines 0 s.images sections ++ (fixed_lines s.fixed ++ (round_lines s.rounds ++ (codes "end" ∷ []) ∷ []))) third middle in
+    let from_nodes = reads_then nodes_known loads_known last ((codes "nodes" ∷ decimal s.nodes ∷ []) ∷ []) ((codes "loads" ∷ decimal s.loads ∷ []) ∷ (image_lines 0 s.images sections ++ (fixed_lines s.fixed ++ (round_lines s.rounds ++ (codes "end" ∷ []) ∷ [])))) second from_loads in
+    let whole = reads_then nothing_known nodes_known last ((codes "frames" ∷ codes "1" ∷ []) ∷ []) ((codes "nodes" ∷ decimal s.nodes ∷ []) ∷ (codes "loads" ∷ decimal s.loads ∷ []) ∷ (image_lines 0 s.images sections ++ (fixed_lines s.fixed ++ (round_lines s.rounds ++ (codes "end" ∷ []) ∷ [])))) first from_nodes in
     let head = λ (x : List Line). (codes "frames" ∷ codes "1" ∷ []) ∷ (codes "nodes" ∷ decimal s.nodes ∷ []) ∷ (codes "loads" ∷ decimal s.loads ∷ []) ∷ x in
-    let regrouped : script_lines s ≡ head (image_lines 0 s.images sections ++ (round_lines s.rounds ++ (codes "end" ∷ []) ∷ [])) =
-    ap head (append_assoc (image_lines 0 s.images sections) (round_lines s.rounds) ((codes "end" ∷ []) ∷ [])) in
-    let text = is.text ∙ ap (flat_map spelling_of) regrouped ∙ sym (append-nil (flat_map spelling_of (head (image_lines 0 s.images sections ++ (round_lines s.rounds ++ (codes "end" ∷ []) ∷ []))))) in
+    let regrouped : script_lines s ≡ head (image_lines 0 s.images sections ++ (fixed_lines s.fixed ++ (round_lines s.rounds ++ (codes "end" ∷ []) ∷ []))) =
+    ap head (append_assoc (image_lines 0 s.images sections ++ fixed_lines s.fixed) (round_lines s.rounds) ((codes "end" ∷ []) ∷ [])
+    ∙ append_assoc (image_lines 0 s.images sections) (fixed_lines s.fixed) (round_lines s.rounds ++ (codes "end" ∷ []) ∷ [])) in
+    let text = is.text ∙ ap (flat_map spelling_of) regrouped ∙ sym (append-nil (flat_map spelling_of (head (image_lines 0 s.images sections ++ (fixed_lines s.fixed ++ (round_lines s.rounds ++ (codes "end" ∷ []) ∷ [])))))) in
     (last, ap outcome text ∙ (whole 1 []).1, refl)
 
 -- bytes spell one script at the most

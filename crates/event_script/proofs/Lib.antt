@@ -8,6 +8,7 @@ pub mod Joined
 pub mod Steps
 pub mod Sections
 pub mod SoFar
+pub mod Fixed
 pub mod SoundLines
 pub mod Sound
 pub mod LineCounts

@@ -18,13 +18,13 @@ use Rattle.event_script.specs.declared.reader.kinds.Stage.TheVariants as stage
 use Rattle.event_script.specs.declared.reader.kinds.Kind.{Kind}
 use Rattle.event_script.specs.declared.reader.kinds.Kind.TheVariants as kind
 use Rattle.event_script.specs.ScriptData.{IsEvent, IsThread, IsRound}
-use Rattle.event_script.specs.Spelling.{Line, spelling_of, image_lines, event_line, event_lines, round_lines, IsScript}
+use Rattle.event_script.specs.Spelling.{Line, spelling_of, image_lines, fixed_lines, event_line, event_lines, round_lines, IsScript}
 use Rattle.event_script.specs.Fields.{pieces}
-use Rattle.event_script.specs.Reading.{Known, BadLine, at_line, nothing_known, has_any, one_decimal, one_hex, with_event, register_line, deregister_line, find_line, end_line, kind_of, may_come, is_unbuilt, word_of, line_of, by_word, is_ended, after_line, at_end, after_lines, outcome, script_of}
+use Rattle.event_script.specs.Reading.{Known, BadLine, at_line, nothing_known, has_any, one_decimal, one_hex, with_event, register_line, deregister_line, load_line, unload_line, find_line, end_line, kind_of, may_come, is_unbuilt, word_of, line_of, by_word, is_ended, after_line, at_end, after_lines, outcome, script_of}
 use Rattle.event_script.proofs.Joined.{join, join_pieces, spelled_pieces}
 use Rattle.event_script.proofs.Steps.{bind_ok, guard_last, guard_then, guard_else, ok_is, no_fields, one_decimal_is, one_hex_is, kind_word}
-use Rattle.event_script.proofs.SoFar.{version_text, nodes_text, loads_text, lines_at, lines_so_far, NodesAt, LoadsAt, AreRounds, ShapeAt, Sound, Step, same_step, no_events}
-use Rattle.event_script.proofs.SoundLines.{version_sound, nodes_sound, loads_sound, image_sound, round_sound, thread_sound}
+use Rattle.event_script.proofs.SoFar.{version_text, nodes_text, loads_text, lines_at, lines_so_far, NodesAt, LoadsAt, AreRounds, ShapeAt, Sound, Step, same_step, no_events, no_fixed}
+use Rattle.event_script.proofs.SoundLines.{version_sound, nodes_sound, loads_sound, image_sound, may_be_fixed, fixed_sound, round_sound, thread_sound}
 
 -- ---- events
 
@@ -65,9 +65,9 @@ no_rounds_at images rounds none =
     subst (AreRounds images) (sym none)
     (record { few = omega arith; small = All-from_recursion (λ threads. length threads ≤ 1) [] tt; each = All-from_recursion (IsRound images) [] tt })
 
-module _ (nodes loads : ℕ) (images : List Interval) (sections : List Contents) (rounds : List (List (List Event))) (threads : List (List Event)) (events : List Event) where
+module _ (nodes loads : ℕ) (images : List Interval) (sections : List Contents) (fixed : List ℕ) (rounds : List (List (List Event))) (threads : List (List Event)) (events : List Event) where
   abbrev as_of : Stage → Known
-  as_of stage = record { stage = stage; nodes = nodes; loads = loads; images = images; sections = sections; rounds = rounds; threads = threads; events = events }
+  as_of stage = record { stage = stage; nodes = nodes; loads = loads; images = images; sections = sections; fixed = fixed; rounds = rounds; threads = threads; events = events }
 
   abbrev top : List Line → List Line
   top lines = version_text ∷ nodes_text nodes ∷ loads_text loads ∷ lines
@@ -85,14 +85,15 @@ module _ (nodes loads : ℕ) (images : List Interval) (sections : List Contents)
           loads = s.loads;
           count = s.count;
           spans = s.spans;
+          fixed = s.fixed;
           events = (omega (arith, length-append events (e ∷ [])), All-push (IsEvent (length images)) events e so_far.1 is);
           shape = s.shape;
         };
         lines = ap top (
-            ap₂ (λ (r : List (List (List Event))) (t : List (List Event)). image_lines 0 images sections ++ round_lines (r ++ (t ++ (events ++ e ∷ []) ∷ []) ∷ [])) s.shape.0 s.shape.1
-            ∙ thread_push (image_lines 0 images sections) events e
-            ∙ ap (λ (y : Line). (image_lines 0 images sections ++ round_lines ((events ∷ []) ∷ [])) ++ y ∷ []) shown
-            ∙ ap₂ (λ (r : List (List (List Event))) (t : List (List Event)). (image_lines 0 images sections ++ round_lines (r ++ (t ++ events ∷ []) ∷ [])) ++ line ∷ []) (sym s.shape.0) (sym s.shape.1));
+            ap₂ (λ (r : List (List (List Event))) (t : List (List Event)). image_lines 0 images sections ++ fixed_lines fixed ++ round_lines (r ++ (t ++ (events ++ e ∷ []) ∷ []) ∷ [])) s.shape.0 s.shape.1
+            ∙ thread_push (image_lines 0 images sections ++ fixed_lines fixed) events e
+            ∙ ap (λ (y : Line). (image_lines 0 images sections ++ fixed_lines fixed ++ round_lines ((events ∷ []) ∷ [])) ++ y ∷ []) shown
+            ∙ ap₂ (λ (r : List (List (List Event))) (t : List (List Event)). (image_lines 0 images sections ++ fixed_lines fixed ++ round_lines (r ++ (t ++ events ∷ []) ∷ [])) ++ line ∷ []) (sym s.shape.0) (sym s.shape.1));
       })
 
   register_sound : (next : Known) (fields : Line) → Sound (as_of stage.Thread) → register_line (as_of stage.Thread) fields ≡ Ok next → Step (as_of stage.Thread) next (codes "register" ∷ fields)
@@ -109,6 +110,20 @@ module _ (nodes loads : ℕ) (images : List Interval) (sections : List Contents)
       let is = one_hex_is fields a.0 a.1 in
       event_sound next (codes "deregister" ∷ fields) (event.Deregister a.0) s limit.0 is.0 (ap (λ (x : Line). codes "deregister" ∷ x) (sym is.1)) limit.1
 
+  load_sound : (next : Known) (fields : Line) → Sound (as_of stage.Thread) → load_line (as_of stage.Thread) fields ≡ Ok next → Step (as_of stage.Thread) next (codes "load" ∷ fields)
+  load_sound next fields s e =
+      let a = bind_ok (one_decimal fields) _ next e in
+      let limit = guard_then (ltb (length events) 4096) reason.Limit _ next a.2 in
+      let named = guard_last (ltb a.0 (length images)) reason.Name (with_event (as_of stage.Thread) (event.Load a.0)) next limit.1 in
+      event_sound next (codes "load" ∷ fields) (event.Load a.0) s limit.0 (ltb-true a.0 (length images) named.0) (ap (λ (x : Line). codes "load" ∷ x) (sym (one_decimal_is fields a.0 a.1).1)) named.1
+
+  unload_sound : (next : Known) (fields : Line) → Sound (as_of stage.Thread) → unload_line (as_of stage.Thread) fields ≡ Ok next → Step (as_of stage.Thread) next (codes "unload" ∷ fields)
+  unload_sound next fields s e =
+      let a = bind_ok (one_hex fields) _ next e in
+      let limit = guard_last (ltb (length events) 4096) reason.Limit (with_event (as_of stage.Thread) (event.Unload a.0)) next a.2 in
+      let is = one_hex_is fields a.0 a.1 in
+      event_sound next (codes "unload" ∷ fields) (event.Unload a.0) s limit.0 is.0 (ap (λ (x : Line). codes "unload" ∷ x) (sym is.1)) limit.1
+
   find_sound : (next : Known) (fields : Line) → Sound (as_of stage.Thread) → find_line (as_of stage.Thread) fields ≡ Ok next → Step (as_of stage.Thread) next (codes "find" ∷ fields)
   find_sound next fields s e =
       let a = bind_ok (one_hex fields) _ next e in
@@ -121,21 +136,25 @@ module _ (nodes loads : ℕ) (images : List Interval) (sections : List Contents)
   abbrev ended : List (List (List Event)) → Known
   ended all = record (as_of stage.Ended) { rounds = all; threads = []; events = [] }
 
-  end_images : (next : Known) (fields : Line) → Sound (as_of stage.Images) → end_line (as_of stage.Images) fields ≡ Ok next → Step (as_of stage.Images) next (codes "end" ∷ fields)
-  end_images next fields s e =
+  end_fixed : (next : Known) (fields : Line) → Sound (as_of stage.Fixed) → end_line (as_of stage.Fixed) fields ≡ Ok next → Step (as_of stage.Fixed) next (codes "end" ∷ fields)
+  end_fixed next fields s e =
       let none = guard_else (has_any fields) reason.Fields _ next e in
       same_step _ (ended rounds) next _ (ok_is _ next none.1) (record {
-        sound = record { each = s.each; addresses = s.addresses; nodes = s.nodes; loads = s.loads; count = s.count; spans = s.spans; events = no_events (length images); shape = no_rounds_at (length images) rounds s.shape.0 };
-        lines = ap (λ (y : Line). top ((image_lines 0 images sections ++ round_lines rounds) ++ (codes "end" ∷ y) ∷ [])) (sym (no_fields fields none.0));
+        sound = record { each = s.each; addresses = s.addresses; nodes = s.nodes; loads = s.loads; count = s.count; spans = s.spans; fixed = s.fixed; events = no_events (length images); shape = no_rounds_at (length images) rounds s.shape.0 };
+        lines = ap (λ (y : Line). top ((image_lines 0 images sections ++ fixed_lines fixed ++ round_lines rounds) ++ (codes "end" ∷ y) ∷ [])) (sym (no_fields fields none.0));
       })
+
+  -- where no image was fixed, the next line may as well come after one that was
+  from_images : (next : Known) (line : Line) → Step (as_of stage.Fixed) next line → Step (as_of stage.Images) next line
+  from_images next line step = record { sound = step.sound; lines = step.lines }
 
   end_round : (next : Known) (fields : Line) → Sound (as_of stage.Round) → end_line (as_of stage.Round) fields ≡ Ok next → Step (as_of stage.Round) next (codes "end" ∷ fields)
   end_round next fields s e =
       let none = guard_else (has_any fields) reason.Fields _ next e in
       let all = rounds ++ threads ∷ [] in
       same_step _ (ended all) next _ (ok_is _ next none.1) (record {
-        sound = record { each = s.each; addresses = s.addresses; nodes = s.nodes; loads = s.loads; count = s.count; spans = s.spans; events = no_events (length images); shape = rounds_of_none (length images) rounds threads s.shape.0 s.shape.1 };
-        lines = ap (λ (y : Line). top ((image_lines 0 images sections ++ round_lines all) ++ (codes "end" ∷ y) ∷ [])) (sym (no_fields fields none.0));
+        sound = record { each = s.each; addresses = s.addresses; nodes = s.nodes; loads = s.loads; count = s.count; spans = s.spans; fixed = s.fixed; events = no_events (length images); shape = rounds_of_none (length images) rounds threads s.shape.0 s.shape.1 };
+        lines = ap (λ (y : Line). top ((image_lines 0 images sections ++ fixed_lines fixed ++ round_lines all) ++ (codes "end" ∷ y) ∷ [])) (sym (no_fields fields none.0));
       })
 
   end_thread : (next : Known) (fields : Line) → Sound (as_of stage.Thread) → end_line (as_of stage.Thread) fields ≡ Ok next → Step (as_of stage.Thread) next (codes "end" ∷ fields)
@@ -143,23 +162,29 @@ module _ (nodes loads : ℕ) (images : List Interval) (sections : List Contents)
       let none = guard_else (has_any fields) reason.Fields _ next e in
       let all = rounds ++ (threads ++ events ∷ []) ∷ [] in
       same_step _ (ended all) next _ (ok_is _ next none.1) (record {
-        sound = record { each = s.each; addresses = s.addresses; nodes = s.nodes; loads = s.loads; count = s.count; spans = s.spans; events = no_events (length images); shape = rounds_of_one (length images) rounds threads events s.shape.0 s.shape.1 s.events };
-        lines = ap (λ (y : Line). top ((image_lines 0 images sections ++ round_lines all) ++ (codes "end" ∷ y) ∷ [])) (sym (no_fields fields none.0));
+        sound = record { each = s.each; addresses = s.addresses; nodes = s.nodes; loads = s.loads; count = s.count; spans = s.spans; fixed = s.fixed; events = no_events (length images); shape = rounds_of_one (length images) rounds threads events s.shape.0 s.shape.1 s.events };
+        lines = ap (λ (y : Line). top ((image_lines 0 images sections ++ fixed_lines fixed ++ round_lines all) ++ (codes "end" ∷ y) ∷ [])) (sym (no_fields fields none.0));
       })
 
   -- ---- a line of any kind
-  kind_sound : (stage : Stage) (k : Kind) (next : Known) (fields : Line) → may_come stage k ≡ true → is_unbuilt stage k ≡ false → Sound (as_of stage) → line_of (as_of stage) k fields ≡ Ok next → Step (as_of stage) next (word_of k ∷ fields)
+  kind_sound : (stage : Stage) (k : Kind) (next : Known) (fields : Line) → may_come stage k ≡ true → is_unbuilt (as_of stage) k ≡ false → Sound (as_of stage) → line_of (as_of stage) k fields ≡ Ok next → Step (as_of stage) next (word_of k ∷ fields)
   unfolding line_of
-  kind_sound stage.Version kind.Version next fields may built s e = version_sound nodes loads images sections rounds threads events next fields s e
-  kind_sound stage.Nodes kind.Nodes next fields may built s e = nodes_sound nodes loads images sections rounds threads events next fields s e
-  kind_sound stage.Loads kind.Loads next fields may built s e = loads_sound nodes loads images sections rounds threads events next fields s e
-  kind_sound stage.Images kind.Image next fields may built s e = image_sound nodes loads images sections rounds threads events next fields s e
-  kind_sound stage.Images kind.Round next fields may built s e = round_sound nodes loads images sections rounds threads events next fields s e
-  kind_sound stage.Images kind.End next fields may built s e = end_images next fields s e
-  kind_sound stage.Round kind.Thread next fields may built s e = thread_sound nodes loads images sections rounds threads events next fields s e
+  kind_sound stage.Version kind.Version next fields may built s e = version_sound nodes loads images sections fixed rounds threads events next fields s e
+  kind_sound stage.Nodes kind.Nodes next fields may built s e = nodes_sound nodes loads images sections fixed rounds threads events next fields s e
+  kind_sound stage.Loads kind.Loads next fields may built s e = loads_sound nodes loads images sections fixed rounds threads events next fields s e
+  kind_sound stage.Images kind.Image next fields may built s e = image_sound nodes loads images sections fixed rounds threads events next fields s e
+  kind_sound stage.Images kind.Fixed next fields may built s e = from_images next _ (fixed_sound nodes loads images sections fixed rounds threads events next fields (may_be_fixed nodes loads images sections fixed rounds threads events s) e)
+  kind_sound stage.Images kind.Round next fields may built s e = from_images next _ (round_sound nodes loads images sections fixed rounds threads events next fields (may_be_fixed nodes loads images sections fixed rounds threads events s) e)
+  kind_sound stage.Images kind.End next fields may built s e = from_images next _ (end_fixed next fields (may_be_fixed nodes loads images sections fixed rounds threads events s) e)
+  kind_sound stage.Fixed kind.Fixed next fields may built s e = fixed_sound nodes loads images sections fixed rounds threads events next fields s e
+  kind_sound stage.Fixed kind.Round next fields may built s e = round_sound nodes loads images sections fixed rounds threads events next fields s e
+  kind_sound stage.Fixed kind.End next fields may built s e = end_fixed next fields s e
+  kind_sound stage.Round kind.Thread next fields may built s e = thread_sound nodes loads images sections fixed rounds threads events next fields s e
   kind_sound stage.Round kind.End next fields may built s e = end_round next fields s e
   kind_sound stage.Thread kind.Register next fields may built s e = register_sound next fields s e
   kind_sound stage.Thread kind.Deregister next fields may built s e = deregister_sound next fields s e
+  kind_sound stage.Thread kind.Load next fields may built s e = load_sound next fields s e
+  kind_sound stage.Thread kind.Unload next fields may built s e = unload_sound next fields s e
   kind_sound stage.Thread kind.Find next fields may built s e = find_sound next fields s e
   kind_sound stage.Thread kind.End next fields may built s e = end_thread next fields s e
   kind_sound _ _ next fields may built s e = absurd cc
@@ -172,9 +197,9 @@ word_sound known next [] s e = absurd cc
 word_sound known next (word ∷ fields) s e =
     let a = bind_ok (ok_or (kind_of word) reason.Word) _ next e in
     let may = guard_then (may_come known.stage a.0) reason.Word _ next a.2 in
-    let built = guard_else (is_unbuilt known.stage a.0) reason.Unbuilt _ next may.1 in
+    let built = guard_else (is_unbuilt known a.0) reason.Unbuilt _ next may.1 in
     subst (λ (w : List ℕ). Step known next (w ∷ fields)) (sym (kind_word word a.0 a.1))
-    (kind_sound known.nodes known.loads known.images known.sections known.rounds known.threads known.events known.stage a.0 next fields may.0 built.0 s built.1)
+    (kind_sound known.nodes known.loads known.images known.sections known.fixed known.rounds known.threads known.events known.stage a.0 next fields may.0 built.0 s built.1)
 
 pub line_sound : (known next : Known) (line : List ℕ) → Sound known → after_line known line ≡ Ok next → Step known next (pieces 32 line)
 unfolding after_line
@@ -239,8 +264,9 @@ at_first = record {
   loads = tt;
   count = omega arith;
   spans = All-from_recursion IsSpan [] tt;
+  fixed = no_fixed [];
   events = no_events 0;
-  shape = (refl, refl, refl, refl);
+  shape = (refl, refl, refl, refl, refl);
 }
 
 script_from : (known : Known) (text : List ℕ) → Ended known text → IsScript text (script_of known)
@@ -258,6 +284,7 @@ script_from known text e = by known.stage refl e.is_last
             loads = subst (λ (x : Stage). LoadsAt x known.loads) same s.loads;
             images = (s.count, s.spans);
             sections = (s.each, s.addresses);
+            fixed = s.fixed;
             rounds = (omega (arith, shape.few), shape.each);
           };
           built = record { rounds = shape.few; threads = shape.small };

@@ -18,18 +18,21 @@ use Rattle.event_script.specs.declared.reader.fault.Reason.{Reason}
 use Rattle.event_script.specs.declared.reader.fault.Reason.TheVariants as reason
 use Rattle.event_script.specs.declared.reader.kinds.Stage.{Stage}
 use Rattle.event_script.specs.declared.reader.kinds.Stage.TheVariants as stage
-use Rattle.event_script.specs.ScriptData.{IsThread}
-use Rattle.event_script.specs.Spelling.{Line, hex, section_text, image_line, image_lines, round_lines}
-use Rattle.event_script.specs.Reading.{Known, has_any, one_decimal, image_fields, version_line, nodes_line, loads_line, image_line_of, round_line, thread_line}
+use Rattle.event_script.specs.ScriptData.{span_of, AreFixed, IsThread}
+use Rattle.event_script.specs.Spelling.{Line, hex, section_text, image_line, image_lines, fixed_lines, round_lines}
+use Rattle.event_script.specs.Reading.{Known, has_any, one_decimal, image_fields, version_line, nodes_line, loads_line, image_line_of, last_fixed, is_above, fixed_line, round_line, thread_line}
 use Rattle.event_script.specs.Reading.{image_line as image_line_from}
-use Rattle.event_script.proofs.Steps.{bind_ok, guard_last, guard_then, guard_else, ok_is, no_fields, one_decimal_is, image_fields_are}
-use Rattle.event_script.proofs.SoFar.{version_text, nodes_text, loads_text, Sound, Step, same_step, no_events}
+use Rattle.event_script.proofs.Fixed.{fixed_push}
+use Rattle.std.specs.Option.{ok_or}
+use Rattle.std.specs.List.{slice_get}
+use Rattle.event_script.proofs.Steps.{some_from, bind_ok, guard_last, guard_then, guard_else, ok_is, no_fields, one_decimal_is, image_fields_are}
+use Rattle.event_script.proofs.SoFar.{version_text, nodes_text, loads_text, Sound, Step, same_step, no_events, no_fixed}
 
 -- ---- the first three lines
 
-module _ (nodes loads : ℕ) (images : List Interval) (sections : List Contents) (rounds : List (List (List Event))) (threads : List (List Event)) (events : List Event) where
+module _ (nodes loads : ℕ) (images : List Interval) (sections : List Contents) (fixed : List ℕ) (rounds : List (List (List Event))) (threads : List (List Event)) (events : List Event) where
   abbrev at : Stage → Known
-  at stage = record { stage = stage; nodes = nodes; loads = loads; images = images; sections = sections; rounds = rounds; threads = threads; events = events }
+  at stage = record { stage = stage; nodes = nodes; loads = loads; images = images; sections = sections; fixed = fixed; rounds = rounds; threads = threads; events = events }
 
   pub version_sound : (next : Known) (fields : Line) → Sound (at stage.Version) → version_line (at stage.Version) fields ≡ Ok next → Step (at stage.Version) next (codes "frames" ∷ fields)
   version_sound next fields s e =
@@ -38,7 +41,7 @@ module _ (nodes loads : ℕ) (images : List Interval) (sections : List Contents)
       let one : a.0 ≡ 1 = eqb-true a.0 1 g.0 in
       let is : fields ≡ codes "1" ∷ [] = (one_decimal_is fields a.0 a.1).1 ∙ ap (λ (n : ℕ). decimal n ∷ []) one ∙ ap (λ (x : List ℕ). x ∷ []) (decimal_digit 1 (omega arith)) in
       same_step _ (at stage.Nodes) next _ g.1 (record {
-        sound = record { each = s.each; addresses = s.addresses; nodes = tt; loads = tt; count = s.count; spans = s.spans; events = s.events; shape = s.shape };
+        sound = record { each = s.each; addresses = s.addresses; nodes = tt; loads = tt; count = s.count; spans = s.spans; fixed = s.fixed; events = s.events; shape = s.shape };
         lines = ap (λ (x : Line). (codes "frames" ∷ x) ∷ []) (sym is);
       })
 
@@ -49,7 +52,7 @@ module _ (nodes loads : ℕ) (images : List Interval) (sections : List Contents)
       let g = guard_last (leb 4 a.0 && leb a.0 16384) reason.Limit (made a.0) next a.2 in
       let limits = and_parts (leb 4 a.0) (leb a.0 16384) g.0 in
       same_step _ (made a.0) next _ g.1 (record {
-        sound = record { each = s.each; addresses = s.addresses; nodes = (leb-true 4 a.0 limits.0, leb-true a.0 16384 limits.1); loads = tt; count = s.count; spans = s.spans; events = s.events; shape = s.shape };
+        sound = record { each = s.each; addresses = s.addresses; nodes = (leb-true 4 a.0 limits.0, leb-true a.0 16384 limits.1); loads = tt; count = s.count; spans = s.spans; fixed = s.fixed; events = s.events; shape = s.shape };
         lines = ap (λ (x : Line). version_text ∷ (codes "nodes" ∷ x) ∷ []) (sym (one_decimal_is fields a.0 a.1).1);
       })
 
@@ -60,8 +63,9 @@ module _ (nodes loads : ℕ) (images : List Interval) (sections : List Contents)
       let g = guard_last (leb 1 a.0 && leb a.0 1024) reason.Limit (made a.0) next a.2 in
       let limits = and_parts (leb 1 a.0) (leb a.0 1024) g.0 in
       same_step _ (made a.0) next _ g.1 (record {
-        sound = record { each = s.each; addresses = s.addresses; nodes = s.nodes; loads = (leb-true 1 a.0 limits.0, leb-true a.0 1024 limits.1); count = s.count; spans = s.spans; events = s.events; shape = (s.shape.1, s.shape.2, s.shape.3) };
-        lines = ap₂ (λ (is : List Interval) (rs : List (List (List Event))). version_text ∷ nodes_text nodes ∷ loads_text a.0 ∷ (image_lines 0 is sections ++ round_lines rs)) s.shape.0 s.shape.1
+        sound = record { each = s.each; addresses = s.addresses; nodes = s.nodes; loads = (leb-true 1 a.0 limits.0, leb-true a.0 1024 limits.1); count = s.count; spans = s.spans; fixed = s.fixed; events = s.events; shape = (s.shape.1, s.shape.2, s.shape.3, s.shape.4) };
+        lines = ap₂ (λ (is : List Interval) (rs : List (List (List Event))). version_text ∷ nodes_text nodes ∷ loads_text a.0 ∷ (image_lines 0 is sections ++ fixed_lines fixed ++ round_lines rs)) s.shape.0 s.shape.1
+            ∙ ap (λ (f : List ℕ). version_text ∷ nodes_text nodes ∷ loads_text a.0 ∷ (fixed_lines f ++ [])) s.shape.4
             ∙ ap (λ (x : Line). version_text ∷ nodes_text nodes ∷ (codes "loads" ∷ x) ∷ []) (sym (one_decimal_is fields a.0 a.1).1);
       })
 
@@ -92,6 +96,10 @@ image_is image section count fields number some address bytes is =
 pub before_rounds : (known : List Line) (rounds : List (List (List Event))) → rounds ≡ [] → known ++ round_lines rounds ≡ known
 before_rounds known rounds e = ap (λ (r : List (List (List Event))). known ++ round_lines r) e ∙ append-nil known
 
+-- and no fixed images either
+before_fixed : (known : List Line) (fixed : List ℕ) (rounds : List (List (List Event))) → fixed ≡ [] → rounds ≡ [] → known ++ fixed_lines fixed ++ round_lines rounds ≡ known
+before_fixed known fixed rounds none no_rounds = before_rounds (known ++ fixed_lines fixed) rounds no_rounds ∙ ap (λ (f : List ℕ). known ++ fixed_lines f) none ∙ append-nil known
+
 abbrev found_section : Contents → Result Contents Reason
 found_section section = Ok section
 
@@ -102,9 +110,14 @@ section_from_or : (given : Result Contents FrameFault) (section : Contents) → 
 section_from_or (Ok found) section e = ap Ok (contents_is found section e)
 section_from_or (Err fault) section e = absurd cc
 
-module _ (nodes loads : ℕ) (images : List Interval) (sections : List Contents) (rounds : List (List (List Event))) (threads : List (List Event)) (events : List Event) where
+-- one more fixed image
+pub fixed_lines_push : (fixed : List ℕ) (image : ℕ) → fixed_lines (fixed ++ image ∷ []) ≡ fixed_lines fixed ++ (codes "fixed" ∷ decimal image ∷ []) ∷ []
+fixed_lines_push [] image = refl
+fixed_lines_push (first ∷ fixed) image = ap (λ (x : List Line). (codes "fixed" ∷ decimal first ∷ []) ∷ x) (fixed_lines_push fixed image)
+
+module _ (nodes loads : ℕ) (images : List Interval) (sections : List Contents) (fixed : List ℕ) (rounds : List (List (List Event))) (threads : List (List Event)) (events : List Event) where
   abbrev from : Stage → Known
-  from stage = record { stage = stage; nodes = nodes; loads = loads; images = images; sections = sections; rounds = rounds; threads = threads; events = events }
+  from stage = record { stage = stage; nodes = nodes; loads = loads; images = images; sections = sections; fixed = fixed; rounds = rounds; threads = threads; events = events }
 
   abbrev head : List Line → List Line
   head lines = version_text ∷ nodes_text nodes ∷ loads_text loads ∷ lines
@@ -145,41 +158,67 @@ module _ (nodes loads : ℕ) (images : List Interval) (sections : List Contents)
           loads = s.loads;
           count = omega (arith, length-append images (span ∷ []));
           spans = All-push IsSpan images span s.spans good;
+          fixed = subst (AreFixed (images ++ span ∷ [])) (sym s.shape.3) (no_fixed (images ++ span ∷ []));
           events = subst (IsThread (length (images ++ span ∷ []))) (sym s.shape.2) (no_events (length (images ++ span ∷ [])));
           shape = s.shape;
         };
         lines = ap head (
-            before_rounds (image_lines 0 (images ++ span ∷ []) (sections ++ section ∷ [])) rounds s.shape.0
+            before_fixed (image_lines 0 (images ++ span ∷ []) (sections ++ section ∷ [])) fixed rounds s.shape.3 s.shape.0
             ∙ images_push 0 images sections span section each
-            ∙ ap₂ (λ (x : List Line) (y : Line). x ++ y ∷ []) (sym (before_rounds (image_lines 0 images sections) rounds s.shape.0)) (image_is image section (length images) fields number some section_is_one.0 section_is_one.1 are.is));
+            ∙ ap₂ (λ (x : List Line) (y : Line). x ++ y ∷ []) (sym (before_fixed (image_lines 0 images sections) fixed rounds s.shape.3 s.shape.0)) (image_is image section (length images) fields number some section_is_one.0 section_is_one.1 are.is));
+      })
+
+  -- ---- fixed images
+
+  -- where no image was fixed, the next may be
+  pub may_be_fixed : Sound (from stage.Images) → Sound (from stage.Fixed)
+  may_be_fixed s = record { each = s.each; addresses = s.addresses; nodes = s.nodes; loads = s.loads; count = s.count; spans = s.spans; fixed = s.fixed; events = s.events; shape = (s.shape.0, s.shape.1) }
+
+  pub fixed_sound : (next : Known) (fields : Line) → Sound (from stage.Fixed) → fixed_line (from stage.Fixed) fields ≡ Ok next → Step (from stage.Fixed) next (codes "fixed" ∷ fields)
+  fixed_sound next fields s e =
+      let a = bind_ok (one_decimal fields) _ next e in
+      let image = a.0 in
+      let named = bind_ok (ok_or (slice_get images image) reason.Name) _ next a.2 in
+      let found = some_from (slice_get images image) reason.Name named.0 named.1 in
+      let made : Known = record (from stage.Fixed) { fixed = fixed ++ image ∷ [] } in
+      let above = guard_last (is_above (last_fixed images fixed) named.0) reason.Fixed made next named.2 in
+      same_step _ made next _ above.1 (record {
+        sound = record { each = s.each; addresses = s.addresses; nodes = s.nodes; loads = s.loads; count = s.count; spans = s.spans; fixed = fixed_push images fixed image named.0 s.fixed found above.0; events = s.events; shape = s.shape };
+        lines = ap head (
+            before_rounds (image_lines 0 images sections ++ fixed_lines (fixed ++ image ∷ [])) rounds s.shape.0
+            ∙ ap (λ (x : List Line). image_lines 0 images sections ++ x) (fixed_lines_push fixed image)
+            ∙ sym (append_assoc (image_lines 0 images sections) (fixed_lines fixed) ((codes "fixed" ∷ decimal image ∷ []) ∷ []))
+            ∙ ap₂ (λ (x : List Line) (y : Line). x ++ (codes "fixed" ∷ y) ∷ []) (sym (before_rounds (image_lines 0 images sections ++ fixed_lines fixed) rounds s.shape.0)) (sym (one_decimal_is fields image a.1).1));
       })
 
   -- ---- rounds and threads
 
-  pub round_sound : (next : Known) (fields : Line) → Sound (from stage.Images) → round_line (from stage.Images) fields ≡ Ok next → Step (from stage.Images) next (codes "round" ∷ fields)
+  pub round_sound : (next : Known) (fields : Line) → Sound (from stage.Fixed) → round_line (from stage.Fixed) fields ≡ Ok next → Step (from stage.Fixed) next (codes "round" ∷ fields)
   round_sound next fields s e =
+      let before = image_lines 0 images sections ++ fixed_lines fixed in
       let made : Known = record (from stage.Round) { threads = []; events = [] } in
       let none = guard_else (has_any fields) reason.Fields _ next e in
       let few = guard_last (ltb (length rounds) 64) reason.Limit made next none.1 in
       let is = no_fields fields none.0 in
       same_step _ made next _ few.1 (record {
-        sound = record { each = s.each; addresses = s.addresses; nodes = s.nodes; loads = s.loads; count = s.count; spans = s.spans; events = no_events (length images); shape = (s.shape.0, refl) };
+        sound = record { each = s.each; addresses = s.addresses; nodes = s.nodes; loads = s.loads; count = s.count; spans = s.spans; fixed = s.fixed; events = no_events (length images); shape = (s.shape.0, refl) };
         lines = ap head (
-            ap (λ (r : List (List (List Event))). image_lines 0 images sections ++ round_lines (r ++ [] ∷ [])) s.shape.0
-            ∙ ap₂ (λ (x : List Line) (y : Line). x ++ (codes "round" ∷ y) ∷ []) (sym (before_rounds (image_lines 0 images sections) rounds s.shape.0)) (sym is));
+            ap (λ (r : List (List (List Event))). before ++ round_lines (r ++ [] ∷ [])) s.shape.0
+            ∙ ap₂ (λ (x : List Line) (y : Line). x ++ (codes "round" ∷ y) ∷ []) (sym (before_rounds before rounds s.shape.0)) (sym is));
       })
 
   pub thread_sound : (next : Known) (fields : Line) → Sound (from stage.Round) → thread_line (from stage.Round) fields ≡ Ok next → Step (from stage.Round) next (codes "thread" ∷ fields)
   thread_sound next fields s e =
+      let before = image_lines 0 images sections ++ fixed_lines fixed in
       let made : Known = record (from stage.Thread) { events = [] } in
       let none = guard_else (has_any fields) reason.Fields _ next e in
       let few = guard_last (ltb (length threads) 16) reason.Limit made next none.1 in
       let is = no_fields fields none.0 in
       same_step _ made next _ few.1 (record {
-        sound = record { each = s.each; addresses = s.addresses; nodes = s.nodes; loads = s.loads; count = s.count; spans = s.spans; events = no_events (length images); shape = s.shape };
+        sound = record { each = s.each; addresses = s.addresses; nodes = s.nodes; loads = s.loads; count = s.count; spans = s.spans; fixed = s.fixed; events = no_events (length images); shape = s.shape };
         lines = ap head (
-            ap₂ (λ (r : List (List (List Event))) (t : List (List Event)). image_lines 0 images sections ++ round_lines (r ++ (t ++ [] ∷ []) ∷ [])) s.shape.0 s.shape.1
-            ∙ sym (append_assoc (image_lines 0 images sections) ((codes "round" ∷ []) ∷ []) ((codes "thread" ∷ []) ∷ []))
-            ∙ ap (λ (y : Line). (image_lines 0 images sections ++ (codes "round" ∷ []) ∷ []) ++ (codes "thread" ∷ y) ∷ []) (sym is)
-            ∙ ap₂ (λ (r : List (List (List Event))) (t : List (List Event)). (image_lines 0 images sections ++ round_lines (r ++ t ∷ [])) ++ (codes "thread" ∷ fields) ∷ []) (sym s.shape.0) (sym s.shape.1));
+            ap₂ (λ (r : List (List (List Event))) (t : List (List Event)). before ++ round_lines (r ++ (t ++ [] ∷ []) ∷ [])) s.shape.0 s.shape.1
+            ∙ sym (append_assoc before ((codes "round" ∷ []) ∷ []) ((codes "thread" ∷ []) ∷ []))
+            ∙ ap (λ (y : Line). (before ++ (codes "round" ∷ []) ∷ []) ++ (codes "thread" ∷ y) ∷ []) (sym is)
+            ∙ ap₂ (λ (r : List (List (List Event))) (t : List (List Event)). (before ++ round_lines (r ++ t ∷ [])) ++ (codes "thread" ∷ fields) ∷ []) (sym s.shape.0) (sym s.shape.1));
       })

@@ -9,8 +9,8 @@ use Rattle.frame_parse.specs.Sections.{Contents}
 use Rattle.reg_model.specs.Interval.{Interval}
 use Rattle.event_script.specs.declared.script.Event.{Event}
 use Rattle.event_script.specs.ScriptData.{ScriptData}
-use Rattle.event_script.specs.Spelling.{Line, spelling_of, image_line, image_lines, event_line, event_lines, thread_lines, round_lines, first_lines, script_text}
-use Rattle.event_script.proofs.SoundLines.{images_push}
+use Rattle.event_script.specs.Spelling.{Line, spelling_of, image_line, image_lines, event_line, event_lines, fixed_lines, thread_lines, round_lines, first_lines, script_text}
+use Rattle.event_script.proofs.SoundLines.{images_push, fixed_lines_push}
 use Rattle.event_script.proofs.Sound.{events_push}
 
 abbrev pub spelled : List Line → List ℕ
@@ -74,6 +74,13 @@ image_more old text new images sections i span section lt each span_is section_i
     lines_more old text new (image_lines 0 (take i images) (take i sections)) (image_line i span section ∷ []) p (q ∙ ap (λ (x : List ℕ). text ++ x) (sym (append-nil (spelling_of (image_line i span section)))))
     ∙ ap (λ (x : List Line). old ++ spelled x) (sym lines)
 
+pub fixed_more : (old text new : List ℕ) (fixed : List ℕ) (i : ℕ) → i < length fixed → text ≡ old ++ spelled (fixed_lines (take i fixed)) → new ≡ text ++ spelling_of (codes "fixed" ∷ decimal (get_or fixed i 0) ∷ [])
+    → new ≡ old ++ spelled (fixed_lines (take (i + 1) fixed))
+fixed_more old text new fixed i lt p q =
+    let image = get_or fixed i 0 in
+    lines_more old text new (fixed_lines (take i fixed)) ((codes "fixed" ∷ decimal image ∷ []) ∷ []) p (q ∙ ap (λ (x : List ℕ). text ++ x) (sym (append-nil (spelling_of (codes "fixed" ∷ decimal image ∷ [])))))
+    ∙ ap (λ (lines : List Line). old ++ spelled lines) (sym (ap fixed_lines (take_more fixed i 0 lt) ∙ fixed_lines_push (take i fixed) image))
+
 -- the first three lines
 pub first_three : (nodes loads : ℕ) (empty one two three : List ℕ) → empty ≡ [] → one ≡ empty ++ codes "frames 1\n" → two ≡ one ++ spelling_of (codes "nodes" ∷ decimal nodes ∷ []) → three ≡ two ++ spelling_of (codes "loads" ∷ decimal loads ∷ [])
     → three ≡ spelled (first_lines nodes loads)
@@ -82,12 +89,13 @@ first_three nodes loads empty one two three e p q r =
     let second = lines_more [] one two ((codes "frames" ∷ codes "1" ∷ []) ∷ []) ((codes "nodes" ∷ decimal nodes ∷ []) ∷ []) first (q ∙ ap (λ (x : List ℕ). one ++ x) (sym (append-nil (spelling_of (codes "nodes" ∷ decimal nodes ∷ []))))) in
     lines_more [] two three ((codes "frames" ∷ codes "1" ∷ []) ∷ (codes "nodes" ∷ decimal nodes ∷ []) ∷ []) ((codes "loads" ∷ decimal loads ∷ []) ∷ []) second (r ∙ ap (λ (x : List ℕ). two ++ x) (sym (append-nil (spelling_of (codes "loads" ∷ decimal loads ∷ [])))))
 
-pub all_lines : (s : ScriptData) (images : List Interval) (sections : List Contents) (rounds : List (List (List Event))) (begun imaged gone new : List ℕ) → images ≡ s.images → sections ≡ s.sections → rounds ≡ s.rounds
-    → begun ≡ spelled (first_lines s.nodes s.loads) → imaged ≡ begun ++ spelled (image_lines 0 images sections) → gone ≡ imaged ++ spelled (round_lines rounds) → new ≡ gone ++ codes "end\n"
+pub all_lines : (s : ScriptData) (images : List Interval) (sections : List Contents) (fixed : List ℕ) (rounds : List (List (List Event))) (begun imaged kept gone new : List ℕ) → images ≡ s.images → sections ≡ s.sections → fixed ≡ s.fixed → rounds ≡ s.rounds
+    → begun ≡ spelled (first_lines s.nodes s.loads) → imaged ≡ begun ++ spelled (image_lines 0 images sections) → kept ≡ imaged ++ spelled (fixed_lines fixed) → gone ≡ kept ++ spelled (round_lines rounds) → new ≡ gone ++ codes "end\n"
     → new ≡ script_text s
 unfolding script_text
-all_lines s images sections rounds begun imaged gone new same_images same_sections same_rounds b i r e =
+all_lines s images sections fixed rounds begun imaged kept gone new same_images same_sections same_fixed same_rounds b i f r e =
     let first : begun ≡ [] ++ spelled (first_lines s.nodes s.loads) = b in
     let second = lines_more [] begun imaged (first_lines s.nodes s.loads) (image_lines 0 s.images s.sections) first (i ∙ ap₂ (λ (x : List Interval) (y : List Contents). begun ++ spelled (image_lines 0 x y)) same_images same_sections) in
-    let third = lines_more [] imaged gone (first_lines s.nodes s.loads ++ image_lines 0 s.images s.sections) (round_lines s.rounds) second (r ∙ ap (λ (x : List (List (List Event))). imaged ++ spelled (round_lines x)) same_rounds) in
-    lines_more [] gone new ((first_lines s.nodes s.loads ++ image_lines 0 s.images s.sections) ++ round_lines s.rounds) ((codes "end" ∷ []) ∷ []) third e
+    let between = lines_more [] imaged kept (first_lines s.nodes s.loads ++ image_lines 0 s.images s.sections) (fixed_lines s.fixed) second (f ∙ ap (λ (x : List ℕ). imaged ++ spelled (fixed_lines x)) same_fixed) in
+    let third = lines_more [] kept gone (first_lines s.nodes s.loads ++ image_lines 0 s.images s.sections ++ fixed_lines s.fixed) (round_lines s.rounds) between (r ∙ ap (λ (x : List (List (List Event))). kept ++ spelled (round_lines x)) same_rounds) in
+    lines_more [] gone new (first_lines s.nodes s.loads ++ image_lines 0 s.images s.sections ++ fixed_lines s.fixed ++ round_lines s.rounds) ((codes "end" ∷ []) ∷ []) third e

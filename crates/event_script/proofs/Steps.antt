@@ -40,7 +40,7 @@ done x = Ok x
 pub ok_is : {A : Type 0} (x y : A) → done x ≡ done y → x ≡ y
 ok_is x y e = cc
 
-some_from : {A : Type 0} (o : Option A) (d : Reason) (x : A) → ok_or o d ≡ Ok x → o ≡ Some x
+pub some_from : {A : Type 0} (o : Option A) (d : Reason) (x : A) → ok_or o d ≡ Ok x → o ≡ Some x
 some_from None d x e = absurd cc
 some_from (Some y) d x e = ap Some (ok_is y x e)
 

@@ -4,7 +4,7 @@ use Rattle.std.specs.Fmt.{decimal}
 use Rattle.frame_parse.specs.declared.fault.FrameFault.{FrameFault}
 use Rattle.frame_parse.specs.declared.fault.FrameFault.TheVariants as section
 use Rattle.event_script.specs.declared.reader.fault.Reason.{Reason}
-use Rattle.event_script.specs.declared.reader.fault.Reason.TheVariants.{Missing, After, Unended, Byte, Word, Unbuilt, Fields, Spelling, Order, Limit, Span, Section, Name}
+use Rattle.event_script.specs.declared.reader.fault.Reason.TheVariants.{Missing, After, Unended, Byte, Word, Unbuilt, Fields, Spelling, Order, Limit, Span, Section, Name, Fixed}
 
 -- a refusal of a section: its name, where its record starts, and the place that is refused
 abbrev pub placed : List ℕ → ℕ → ℕ → List ℕ
@@ -42,6 +42,7 @@ reason_text Limit = codes "limit"
 reason_text Span = codes "span"
 reason_text (Section fault) = section_text fault
 reason_text Name = codes "name"
+reason_text Fixed = codes "fixed"
 
 -- the first bad line, and the first reason that holds of it
 abbrev pub fault_text : ℕ → Reason → List ℕ

@@ -1,5 +1,5 @@
 -- Lawful journals: what the answers to a script's events may be.
-use Rattle.std.specs.Prelude.{◌≡◌, ℕ, ◌+◌, ◌≤◌, zero, suc, List, [], ◌∷◌, ◌++◌, length, map, Bool, ◌&&◌, ◌==◌, nat_le, is_some, All, count_by, unwrap_or, slice_get, if◌then◌else◌}
+use Rattle.std.specs.Prelude.{◌≡◌, ℕ, ◌+◌, ◌≤◌, zero, suc, List, [], ◌∷◌, ◌++◌, length, map, Bool, ◌&&◌, ◌==◌, nat_le, is_some, All, count_by, if◌then◌else◌}
 use Rattle.std.specs.List.{AllZip, find, flat_map}
 use Rattle.std.specs.Option.{option_and_then, option_to_list}
 use Rattle.reg_model.specs.Interval.{Interval}
@@ -10,28 +10,32 @@ use Rattle.reg_model.specs.declared.span.Member.{Member}
 use Rattle.reg_model.specs.declared.answer.Update.{Update}
 use Rattle.reg_model.specs.declared.answer.Receipt.{Receipt}
 use Rattle.reg_model.specs.declared.answer.Receipt.TheVariants as receipt
-use Rattle.event_script.specs.ScriptData.{ScriptData}
+use Rattle.event_script.specs.ScriptData.{ScriptData, span_of}
 use Rattle.event_script.specs.JournalData.{JournalData}
 use Rattle.event_script.specs.declared.script.Event.{Event}
 use Rattle.event_script.specs.declared.script.Event.TheVariants as event
 use Rattle.event_script.specs.declared.journal.Answer.{Answer}
-use Rattle.event_script.specs.declared.journal.Answer.TheVariants.{Register, Deregister, Find}
+use Rattle.event_script.specs.declared.journal.Answer.TheVariants.{Register, Deregister, Load, Unload, Find}
 
--- the member that an event means by the number of an image
-abbrev pub member_of : List Interval → ℕ → Member
-member_of images image = record { span = unwrap_or (slice_get images image) (record { first = 0; last = 0 }); payload = image }
+-- the member that is meant by the number of an image
+abbrev pub image_member : List Interval → ℕ → Member
+image_member images image = record { span = span_of images image; payload = image }
 
 -- the answer is of the event's kind, with its image, base or address
 abbrev pub AnswersEvent : Event → Answer → Type 0
 AnswersEvent (event.Register image) (Register asked answer) = asked ≡ image
 AnswersEvent (event.Deregister base) (Deregister asked answer) = asked ≡ base
+AnswersEvent (event.Load image) (Load asked answer) = asked ≡ image
+AnswersEvent (event.Unload base) (Unload asked answer) = asked ≡ base
 AnswersEvent (event.Find pc) (Find asked place) = (asked ≡ pc) × IsPlace place
 AnswersEvent _ _ = ⊥
 
 -- the receipts of an event: that of its update, or those of its place
 abbrev pub receipts_of : List Interval → Answer → List Receipt
-receipts_of images (Register image answer) = receipt.Register (member_of images image) answer ∷ []
+receipts_of images (Register image answer) = receipt.Register (image_member images image) answer ∷ []
 receipts_of images (Deregister base answer) = receipt.Deregister base answer ∷ []
+receipts_of images (Load image answer) = receipt.Load (image_member images image) answer ∷ []
+receipts_of images (Unload base answer) = receipt.Unload base answer ∷ []
 receipts_of images (Find pc place) = receipts_of_place pc place
 
 -- the receipts of each thread, by round
@@ -71,9 +75,13 @@ AreInRounds done (round ∷ rounds) =
     let later = done + count_by (λ r. is_some (accepted r)) receipts in
     All (λ r. (done ≤ moment r) × (moment r ≤ later)) receipts × AreInRounds later rounds
 
--- what the registry of a script is at first
+-- the members that the loader has for good
+abbrev pub fixed_members : ScriptData → List Member
+fixed_members script = map (image_member script.images) script.fixed
+
+-- what the registry of a script is at first: nothing but the fixed images
 abbrev pub start_of : ScriptData → State
-start_of script = opening [] script.loads
+start_of script = opening (fixed_members script) script.loads
 
 -- A journal of the script may be this. Its history is read off its own numbers.
 pub record IsLawful (script : ScriptData) (journal : JournalData) : Type 0 where

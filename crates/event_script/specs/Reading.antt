@@ -1,7 +1,7 @@
 -- Which scripts are read: each line is good or bad in what the lines before it make known.
-use Rattle.std.specs.Prelude.{◌≡◌, ◌⊎◌, ℕ, ◌+◌, ◌-◌, ◌^◌, List, [], ◌∷◌, ◌++◌, length, Bool, true, false, ◌&&◌, ◌==◌, nat_lt, nat_le, Option, Some, None, Result, Ok, Err, codes, if◌then◌else◌}
+use Rattle.std.specs.Prelude.{◌≡◌, ◌⊎◌, ℕ, ◌+◌, ◌-◌, ◌^◌, List, [], ◌∷◌, ◌++◌, length, Bool, true, false, ◌&&◌, ◌==◌, nat_lt, nat_le, Option, Some, None, Result, Ok, Err, slice_get, codes, if◌then◌else◌}
 use Rattle.std.specs.List.{find}
-use Rattle.std.specs.Option.{ok_or}
+use Rattle.std.specs.Option.{ok_or, option_and_then}
 use Rattle.std.specs.Str.{bytes_eq}
 use Rattle.reg_model.specs.Interval.{Interval}
 use Rattle.frame_parse.specs.Sections.{Contents}
@@ -77,6 +77,10 @@ may_come stage.Images kind.Fixed = true
 may_come stage.Images kind.Snapshot = true
 may_come stage.Images kind.Round = true
 may_come stage.Images kind.End = true
+may_come stage.Fixed kind.Fixed = true
+may_come stage.Fixed kind.Snapshot = true
+may_come stage.Fixed kind.Round = true
+may_come stage.Fixed kind.End = true
 may_come stage.Round kind.Round = true
 may_come stage.Round kind.Thread = true
 may_come stage.Round kind.End = true
@@ -91,21 +95,9 @@ may_come stage.Thread kind.Find = true
 may_come stage.Thread kind.Unwind = true
 may_come _ _ = false
 
--- Lines that can't be run today: those of fixed images, of the loader and of backtraces, a second round, a second thread.
-abbrev pub is_unbuilt : Stage → Kind → Bool
-is_unbuilt _ kind.Fixed = true
-is_unbuilt _ kind.Snapshot = true
-is_unbuilt _ kind.Load = true
-is_unbuilt _ kind.Unload = true
-is_unbuilt _ kind.Unwind = true
-is_unbuilt stage.Round kind.Round = true
-is_unbuilt stage.Thread kind.Round = true
-is_unbuilt stage.Thread kind.Thread = true
-is_unbuilt _ _ = false
-
 -- ---- what is known
 
--- What the lines so far make known: which lines may come, the numbers, the images, the rounds that are over, the threads that
+-- What the lines so far make known: which lines may come, the numbers, the images, the fixed ones, the rounds that are over, the threads that
 -- are over of the round that goes on, and the events of the thread that goes on.
 pub record Known : Type 0 where
   pub stage : Stage
@@ -113,13 +105,32 @@ pub record Known : Type 0 where
   pub loads : ℕ
   pub images : List Interval
   pub sections : List Contents
+  pub fixed : List ℕ
   pub rounds : List (List (List Event))
   pub threads : List (List Event)
   pub events : List Event
 
 -- before the first line
 abbrev pub nothing_known : Known
-nothing_known = record { stage = stage.Version; nodes = 0; loads = 0; images = []; sections = []; rounds = []; threads = []; events = [] }
+nothing_known = record { stage = stage.Version; nodes = 0; loads = 0; images = []; sections = []; fixed = []; rounds = []; threads = []; events = [] }
+
+-- a round has begun, or a thread in it
+abbrev pub has_round : Stage → Bool
+has_round stage.Round = true
+has_round stage.Thread = true
+has_round _ = false
+
+abbrev pub has_thread : Stage → Bool
+has_thread stage.Thread = true
+has_thread _ = false
+
+-- Lines that can't be run today, after what the lines before made known: those of backtraces, a second round, a second thread.
+abbrev pub is_unbuilt : Known → Kind → Bool
+is_unbuilt known kind.Snapshot = true
+is_unbuilt known kind.Unwind = true
+is_unbuilt known kind.Round = has_round known.stage
+is_unbuilt known kind.Thread = has_thread known.stage
+is_unbuilt known _ = false
 
 -- the threads of the round, with the one that goes on
 abbrev pub threads_at : Stage → List (List Event) → List Event → List (List Event)
@@ -213,6 +224,21 @@ image_line_of known image =
 abbrev pub image_line : Known → List (List ℕ) → Result Known Reason
 image_line known fields = image_fields fields >>= λ image. image_line_of known image
 
+-- the span of the image that was fixed last
+abbrev pub last_fixed : List Interval → List ℕ → Option Interval
+last_fixed images fixed = option_and_then (slice_get images) (slice_get fixed (length fixed - 1))
+
+-- whether the span is wholly above another, where there is one
+abbrev pub is_above : Option Interval → Interval → Bool
+is_above None span = true
+is_above (Some before) span = nat_lt before.last span.first
+
+abbrev pub fixed_line : Known → List (List ℕ) → Result Known Reason
+fixed_line known fields = do
+  image ← one_decimal fields
+  span ← ok_or (slice_get known.images image) reason.Name
+  if is_above (last_fixed known.images known.fixed) span then Ok (record known { stage = stage.Fixed; fixed = known.fixed ++ image ∷ [] }) else Err reason.Fixed
+
 abbrev pub round_line : Known → List (List ℕ) → Result Known Reason
 round_line known fields =
     let rounds = rounds_at known.stage known.rounds known.threads known.events in
@@ -239,6 +265,16 @@ deregister_line known fields = do
   base ← one_hex fields
   if nat_lt (length known.events) 4096 then Ok (with_event known (event.Deregister base)) else Err reason.Limit
 
+abbrev pub load_line : Known → List (List ℕ) → Result Known Reason
+load_line known fields = do
+  image ← one_decimal fields
+  if nat_lt (length known.events) 4096 then (if nat_lt image (length known.images) then Ok (with_event known (event.Load image)) else Err reason.Name) else Err reason.Limit
+
+abbrev pub unload_line : Known → List (List ℕ) → Result Known Reason
+unload_line known fields = do
+  base ← one_hex fields
+  if nat_lt (length known.events) 4096 then Ok (with_event known (event.Unload base)) else Err reason.Limit
+
 abbrev pub find_line : Known → List (List ℕ) → Result Known Reason
 find_line known fields = do
   pc ← one_hex fields
@@ -260,6 +296,9 @@ line_of known kind.Round fields = round_line known fields
 line_of known kind.Thread fields = thread_line known fields
 line_of known kind.Register fields = register_line known fields
 line_of known kind.Deregister fields = deregister_line known fields
+line_of known kind.Fixed fields = fixed_line known fields
+line_of known kind.Load fields = load_line known fields
+line_of known kind.Unload fields = unload_line known fields
 line_of known kind.Find fields = find_line known fields
 line_of known kind.End fields = end_line known fields
 line_of known _ fields = Err reason.Unbuilt
@@ -268,7 +307,7 @@ unfoldable pub by_word : Known → List (List ℕ) → Result Known Reason
 by_word known [] = Err reason.Word
 by_word known (word ∷ fields) = do
   kind ← ok_or (kind_of word) reason.Word
-  if may_come known.stage kind then (if is_unbuilt known.stage kind then Err reason.Unbuilt else line_of known kind fields) else Err reason.Word
+  if may_come known.stage kind then (if is_unbuilt known kind then Err reason.Unbuilt else line_of known kind fields) else Err reason.Word
 
 abbrev pub is_ended : Stage → Bool
 is_ended stage.Ended = true
@@ -281,7 +320,7 @@ after_line known line =
     else (if is_printable line then by_word known (pieces 32 line) else Err reason.Byte)
 
 abbrev pub script_of : Known → ScriptData
-script_of known = record { nodes = known.nodes; loads = known.loads; images = known.images; sections = known.sections; rounds = known.rounds }
+script_of known = record { nodes = known.nodes; loads = known.loads; images = known.images; sections = known.sections; fixed = known.fixed; rounds = known.rounds }
 
 -- where no line feed comes any more
 unfoldable pub at_end : Known → List ℕ → Result Known Reason

@@ -1,10 +1,10 @@
 -- Scripts as plain data, and their limits.
-use Rattle.std.specs.Prelude.{◌≡◌, ℕ, ◌^◌, ◌<◌, ◌≤◌, List, length, All}
+use Rattle.std.specs.Prelude.{◌≡◌, ℕ, ◌^◌, ◌<◌, ◌≤◌, List, [], ◌∷◌, length, map, All, unwrap_or, slice_get}
 use Rattle.reg_model.specs.Interval.{Interval, IsSpan}
 use Rattle.hex.specs.Hex.{IsBytes}
 use Rattle.frame_parse.specs.Sections.{Contents, HasFdes}
 use Rattle.event_script.specs.declared.script.Event.{Event}
-use Rattle.event_script.specs.declared.script.Event.TheVariants.{Register, Deregister, Find}
+use Rattle.event_script.specs.declared.script.Event.TheVariants.{Register, Deregister, Load, Unload, Find}
 
 -- what a contract sees of a script: by round and thread, the events
 pub record ScriptData : Type 0 where
@@ -12,12 +12,15 @@ pub record ScriptData : Type 0 where
   pub loads : ℕ
   pub images : List Interval
   pub sections : List Contents
+  pub fixed : List ℕ
   pub rounds : List (List (List Event))
 
 -- The event names an image that there is; addresses have 64 bits.
 abbrev pub IsEvent : ℕ → Event → Type 0
 IsEvent images (Register image) = image < images
 IsEvent images (Deregister base) = base < 2 ^ 64
+IsEvent images (Load image) = image < images
+IsEvent images (Unload base) = base < 2 ^ 64
 IsEvent images (Find pc) = pc < 2 ^ 64
 
 abbrev pub IsThread : ℕ → List Event → Type 0
@@ -33,12 +36,28 @@ pub record IsSectionOf (section : Contents) : Type 0 where
   pub bytes : IsBytes section.bytes
   pub records : HasFdes section.address section.bytes section.fdes
 
+-- the span of an image, by its number
+abbrev pub span_of : List Interval → ℕ → Interval
+span_of images image = unwrap_or (slice_get images image) (record { first = 0; last = 0 })
+
+-- each span is wholly above the one before
+abbrev pub Rise : List Interval → Type 0
+Rise [] = Unit {0}
+Rise (span ∷ []) = Unit {0}
+Rise (span ∷ next ∷ spans) = (span.last < next.first) × Rise (next ∷ spans)
+
+-- the fixed images: each is there, and its span is wholly above that of the one before
+pub record AreFixed (images : List Interval) (fixed : List ℕ) : Type 0 where
+  pub named : All (λ image. image < length images) fixed
+  pub rising : Rise (map (span_of images) fixed)
+
 -- each number and each count is within its limit, each image is a span and has a section, and each event is one of these images'
 pub record IsRunnable (s : ScriptData) : Type 0 where
   pub nodes : (4 ≤ s.nodes) × (s.nodes ≤ 16384)
   pub loads : (1 ≤ s.loads) × (s.loads ≤ 1024)
   pub images : (length s.images ≤ 4096) × All IsSpan s.images
   pub sections : (length s.sections ≡ length s.images) × All IsSectionOf s.sections
+  pub fixed : AreFixed s.images s.fixed
   pub rounds : (length s.rounds ≤ 64) × All (IsRound (length s.images)) s.rounds
 
 -- What can be run today: one round of one thread at the most. It goes when threads come.

@@ -7,7 +7,7 @@ use Rattle.frame_parse.specs.Sections.{Contents}
 use Rattle.reg_model.specs.Interval.{Interval}
 use Rattle.event_script.specs.ScriptData.{ScriptData, IsRunnable, IsBuilt}
 use Rattle.event_script.specs.declared.script.Event.{Event}
-use Rattle.event_script.specs.declared.script.Event.TheVariants.{Register, Deregister, Find}
+use Rattle.event_script.specs.declared.script.Event.TheVariants.{Register, Deregister, Load, Unload, Find}
 
 -- a number in lower-case hexadecimal digits, without leading zeros
 abbrev pub hex : ℕ → List ℕ
@@ -38,9 +38,16 @@ image_lines number [] sections = []
 image_lines number (span ∷ images) [] = []
 image_lines number (span ∷ images) (section ∷ sections) = image_line number span section ∷ image_lines (number + 1) images sections
 
+-- a line for each fixed image
+abbrev pub fixed_lines : List ℕ → List Line
+fixed_lines [] = []
+fixed_lines (image ∷ fixed) = (codes "fixed" ∷ decimal image ∷ []) ∷ fixed_lines fixed
+
 abbrev pub event_line : Event → Line
 event_line (Register image) = codes "register" ∷ decimal image ∷ []
 event_line (Deregister base) = codes "deregister" ∷ hex base ∷ []
+event_line (Load image) = codes "load" ∷ decimal image ∷ []
+event_line (Unload base) = codes "unload" ∷ hex base ∷ []
 event_line (Find pc) = codes "find" ∷ hex pc ∷ []
 
 abbrev pub event_lines : List Event → List Line
@@ -61,7 +68,7 @@ first_lines nodes loads = (codes "frames" ∷ codes "1" ∷ []) ∷ (codes "node
 
 -- the lines of a script
 abbrev pub script_lines : ScriptData → List Line
-script_lines s = first_lines s.nodes s.loads ++ image_lines 0 s.images s.sections ++ round_lines s.rounds ++ (codes "end" ∷ []) ∷ []
+script_lines s = first_lines s.nodes s.loads ++ image_lines 0 s.images s.sections ++ fixed_lines s.fixed ++ round_lines s.rounds ++ (codes "end" ∷ []) ∷ []
 
 -- the text of a script
 unfoldable pub script_text : ScriptData → List ℕ

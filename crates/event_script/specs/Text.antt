@@ -3,23 +3,36 @@ use Rattle.std.specs.Prelude.{ℕ, ◌+◌, List, [], ◌∷◌, ◌++◌, Optio
 use Rattle.std.specs.List.{flat_map}
 use Rattle.std.specs.Fmt.{decimal}
 use Rattle.reg_model.specs.Receipt.{IsPlace}
+use Rattle.reg_model.specs.declared.span.Member.{Member}
 use Rattle.reg_model.specs.declared.answer.Found.{Found}
 use Rattle.reg_model.specs.declared.answer.Found.TheVariants.{Hit, Miss}
 use Rattle.reg_model.specs.declared.answer.Place.{Place}
 use Rattle.reg_model.specs.declared.answer.Inserted.{Inserted}
 use Rattle.reg_model.specs.declared.answer.Inserted.TheVariants as inserted
+use Rattle.reg_model.specs.declared.answer.Loading.{Loading}
+use Rattle.reg_model.specs.declared.answer.Loading.TheVariants as loading
 use Rattle.reg_model.specs.declared.answer.Removed.{Removed}
 use Rattle.reg_model.specs.declared.answer.Removed.TheVariants as removed
 use Rattle.event_script.specs.Spelling.{hex}
 use Rattle.event_script.specs.JournalData.{JournalData}
 use Rattle.event_script.specs.declared.journal.Answer.{Answer}
-use Rattle.event_script.specs.declared.journal.Answer.TheVariants.{Register, Deregister, Find}
+use Rattle.event_script.specs.declared.journal.Answer.TheVariants.{Register, Deregister, Load, Unload, Find}
+
+-- which member overlaps: its first address and its image
+abbrev pub overlap_text : Member → ℕ → List ℕ
+overlap_text member stamp = codes "overlap " ++ hex member.span.first ++ codes " " ++ decimal member.payload ++ codes " at " ++ decimal stamp
 
 abbrev pub inserted_text : Inserted → List ℕ
 inserted_text (inserted.Done number) = codes "done " ++ decimal number
-inserted_text (inserted.Overlap member stamp) = codes "overlap " ++ hex member.span.first ++ codes " " ++ decimal member.payload ++ codes " at " ++ decimal stamp
+inserted_text (inserted.Overlap member stamp) = overlap_text member stamp
 inserted_text (inserted.Full stamp) = codes "full at " ++ decimal stamp
 inserted_text inserted.Spent = []
+
+abbrev pub loading_text : Loading → List ℕ
+loading_text (loading.Done number) = codes "done " ++ decimal number
+loading_text (loading.Overlap member stamp) = overlap_text member stamp
+loading_text (loading.LoadFull stamp) = codes "full at " ++ decimal stamp
+loading_text loading.Spent = []
 
 abbrev pub removed_text : Removed → List ℕ
 removed_text (removed.Done number member) = codes "done " ++ decimal number ++ codes " image " ++ decimal member.payload
@@ -43,6 +56,8 @@ place_text place = codes "registered " ++ found_text place.registered ++ loaded_
 abbrev pub answer_line : Answer → List ℕ
 answer_line (Register image answer) = codes "register " ++ decimal image ++ codes " " ++ inserted_text answer
 answer_line (Deregister base answer) = codes "deregister " ++ hex base ++ codes " " ++ removed_text answer
+answer_line (Load image answer) = codes "load " ++ decimal image ++ codes " " ++ loading_text answer
+answer_line (Unload base answer) = codes "unload " ++ hex base ++ codes " " ++ removed_text answer
 answer_line (Find pc place) = codes "find " ++ hex pc ++ codes " " ++ place_text place
 
 -- the lines of an event; there is one of each event that is built
@@ -75,9 +90,11 @@ updates_text updates = codes "updates " ++ decimal updates ++ codes "\n"
 abbrev pub journal_text : JournalData → List ℕ
 journal_text journal = numbered round_text 1 journal.rounds ++ updates_text journal.updates
 
--- a registration or a removal was answered with more than that the allowance is spent, and a place has its halves
+-- an update was answered with more than that the allowance is spent, and a place has its halves
 abbrev pub IsPrintable : Answer → Type 0
 IsPrintable (Register image inserted.Spent) = ⊥
 IsPrintable (Deregister base removed.Spent) = ⊥
+IsPrintable (Load image loading.Spent) = ⊥
+IsPrintable (Unload base removed.Spent) = ⊥
 IsPrintable (Find pc place) = IsPlace place
 IsPrintable _ = Unit {0}

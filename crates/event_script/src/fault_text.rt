@@ -39,6 +39,7 @@ fn put_reason(text: &mut String, reason: Reason) -> Result<(), AllocError>
         Reason::Span => text.push_str("span"),
         Reason::Section { fault } => put_section(text, fault),
         Reason::Name => text.push_str("name"),
+        Reason::Fixed => text.push_str("fixed"),
     }
 }
 

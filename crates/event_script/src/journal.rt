@@ -2,7 +2,7 @@
 
 ghost use Rattle.std.specs.Prelude.{◌≡◌, ℕ, List};
 
-use reg_model::{Inserted, Place, Removed};
+use reg_model::{Inserted, Loading, Place, Removed};
 use std::marker::Model;
 
 /// An event with its answer.
@@ -10,6 +10,8 @@ use std::marker::Model;
 pub enum Answer {
     Register { image: u32, answer: Inserted },
     Deregister { base: u64, answer: Removed },
+    Load { image: u32, answer: Loading },
+    Unload { base: u64, answer: Removed },
     Find { pc: u64, place: Place },
 }
 

@@ -1,7 +1,9 @@
 //! Laws of the definitions. Each is the contract of a function that does nothing.
 
 ghost use Rattle.std.specs.Prelude.{◌≡◌, ℕ, List};
-ghost use Rattle.event_script.specs.ScriptData.{ScriptData};
+ghost use Rattle.reg_model.specs.State.{AreDisjoint};
+ghost use Rattle.event_script.specs.ScriptData.{ScriptData, IsRunnable};
+ghost use Rattle.event_script.specs.Lawful.{fixed_members};
 ghost use Rattle.event_script.specs.Spelling.{IsScript, script_text};
 ghost use Rattle.event_script.specs.Reading.{HasOneAnswer};
 
@@ -20,4 +22,9 @@ pub fn bytes_have_one_answer()
 pub fn scripts_print_back()
     ensures printed { (bytes : List ℕ) (s : ScriptData) → IsScript bytes s → script_text s ≡ bytes }
     ensures read_again { (bytes : List ℕ) (s : ScriptData) → IsScript bytes s → IsScript (script_text s) s }
+{}
+
+/// No two fixed images of a script overlap: so a registry can open with them.
+pub fn fixed_images_are_disjoint()
+    ensures { (s : ScriptData) → IsRunnable s → AreDisjoint (fixed_members s) }
 {}

@@ -3,13 +3,13 @@
 ghost use Rattle.std.specs.Prelude.{◌≡◌, ℕ, ◌++◌, IfOk, OnOk, All, codes};
 ghost use Rattle.std.specs.String.{string_bytes};
 ghost use Rattle.event_script.specs.Spelling.{hex};
-ghost use Rattle.event_script.specs.Text.{IsPrintable, inserted_text, removed_text, found_text, place_text, answer_line, answer_text, numbered, thread_text, updates_text, journal_text};
+ghost use Rattle.event_script.specs.Text.{IsPrintable, overlap_text, inserted_text, loading_text, removed_text, found_text, place_text, answer_line, answer_text, numbered, thread_text, updates_text, journal_text};
 
 #[cfg(test)]
 mod tests;
 
 use crate::journal::{Answer, Journal};
-use reg_model::{Found, Inserted, NoMemory, Place, Removed};
+use reg_model::{Found, Inserted, Loading, Member, NoMemory, Place, Removed};
 use std::alloc::{AllocError, Global};
 use std::fmt::Write;
 
@@ -70,6 +70,14 @@ fn put_answer(text: &mut String, answer: &Answer) -> Result<(), AllocError>
             put_address(text, "deregister", *base)?;
             put_removed(text, answer)
         }
+        Answer::Load { image, answer } => {
+            write!(text, "load {image} ")?;
+            put_loading(text, answer)
+        }
+        Answer::Unload { base, answer } => {
+            put_address(text, "unload", *base)?;
+            put_removed(text, answer)
+        }
         Answer::Find { pc, place } => {
             put_address(text, "find", *pc)?;
             put_place(text, place)
@@ -90,14 +98,31 @@ fn put_inserted(text: &mut String, answer: &Inserted) -> Result<(), AllocError>
 {
     match answer {
         Inserted::Done { number } => write!(text, "done {number}"),
-        Inserted::Overlap { member, stamp } => {
-            let base = member.span.first();
-            let payload = member.payload;
-            write!(text, "overlap {base:x} {payload} at {stamp}")
-        }
+        Inserted::Overlap { member, stamp } => put_overlap(text, member, *stamp),
         Inserted::Full { stamp } => write!(text, "full at {stamp}"),
         Inserted::Spent => Ok(()),
     }
+}
+
+/// Adds the answer to a load.
+fn put_loading(text: &mut String, answer: &Loading) -> Result<(), AllocError>
+    ensures { OnOk result (string_bytes text.new ≡ string_bytes text.old ++ loading_text answer.now) }
+{
+    match answer {
+        Loading::Done { number } => write!(text, "done {number}"),
+        Loading::Overlap { member, stamp } => put_overlap(text, member, *stamp),
+        Loading::LoadFull { stamp } => write!(text, "full at {stamp}"),
+        Loading::Spent => Ok(()),
+    }
+}
+
+/// Adds which member overlaps, and the stamp.
+fn put_overlap(text: &mut String, member: &Member, stamp: u32) -> Result<(), AllocError>
+    ensures { OnOk result (string_bytes text.new ≡ string_bytes text.old ++ overlap_text member.now stamp) }
+{
+    let base = member.span.first();
+    let payload = member.payload;
+    write!(text, "overlap {base:x} {payload} at {stamp}")
 }
 
 /// Adds the answer to a removal.

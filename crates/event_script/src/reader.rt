@@ -75,6 +75,7 @@ pub fn read(alloc: Global, bytes: &[u8]) -> Result<Script, ScriptFault>
         loads,
         images,
         sections,
+        fixed,
         rounds,
         ..
     } = draft;
@@ -83,6 +84,7 @@ pub fn read(alloc: Global, bytes: &[u8]) -> Result<Script, ScriptFault>
         loads,
         images,
         sections,
+        fixed,
         rounds,
     })
 }

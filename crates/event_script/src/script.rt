@@ -13,6 +13,10 @@ pub enum Event {
     Register { image: u32 },
     /// Removes what is registered at a first address.
     Deregister { base: u64 },
+    /// Loads an image, by its number.
+    Load { image: u32 },
+    /// Removes what is loaded at a first address.
+    Unload { base: u64 },
     /// Asks what contains an address.
     Find { pc: u64 },
 }
@@ -58,6 +62,8 @@ pub struct Script {
     pub images: Vec<Span>,
     /// The section of each image, by its number.
     pub sections: Vec<Section>,
+    /// The images that are there from the start and can't be unloaded, in order of their spans.
+    pub fixed: Vec<u32>,
     pub rounds: Vec<Round>,
 }
 
@@ -66,7 +72,7 @@ impl Model for Script {
 
     ghost Value = { ScriptData };
 
-    ghost view = { λ s. record { nodes = s.nodes; loads = s.loads; images = s.images.items; sections = s.sections.items; rounds = s.rounds.items } };
+    ghost view = { λ s. record { nodes = s.nodes; loads = s.loads; images = s.images.items; sections = s.sections.items; fixed = s.fixed.items; rounds = s.rounds.items } };
 
-    ghost invariant = { λ s. IsRunnable (record { nodes = s.nodes; loads = s.loads; images = s.images.items; sections = s.sections.items; rounds = s.rounds.items }) };
+    ghost invariant = { λ s. IsRunnable (record { nodes = s.nodes; loads = s.loads; images = s.images.items; sections = s.sections.items; fixed = s.fixed.items; rounds = s.rounds.items }) };
 }

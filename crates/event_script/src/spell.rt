@@ -3,7 +3,7 @@
 ghost use Rattle.std.specs.Prelude.{◌≡◌, ◌++◌, [], ◌∷◌, length, decimal, IfOk, OnOk};
 ghost use Rattle.std.specs.List.{flat_map};
 ghost use Rattle.std.specs.String.{string_bytes};
-ghost use Rattle.event_script.specs.Spelling.{spelling_of, section_text, image_line, image_lines, event_line, event_lines, thread_lines, round_lines, script_text};
+ghost use Rattle.event_script.specs.Spelling.{spelling_of, section_text, image_line, image_lines, event_line, event_lines, fixed_lines, thread_lines, round_lines, script_text};
 
 use crate::script::{Event, Round, Script, Thread};
 use frame_parse::Section;
@@ -20,6 +20,7 @@ pub fn print_script(alloc: Global, script: &Script) -> Result<Vec<u8>, NoMemory>
     put_number(&mut text, "nodes", script.nodes)?;
     put_number(&mut text, "loads", script.loads)?;
     put_images(alloc, &mut text, &script.images, &script.sections)?;
+    put_fixed(&mut text, &script.fixed)?;
     put_rounds(&mut text, &script.rounds)?;
     text.push_str("end\n")?;
     Ok(text.into_bytes())
@@ -77,6 +78,16 @@ fn put_images(
     Ok(())
 }
 
+/// Adds the lines of the fixed images.
+fn put_fixed(text: &mut String, fixed: &[u32]) -> Result<(), AllocError>
+    ensures { OnOk result (string_bytes text.new ≡ string_bytes text.old ++ flat_map spelling_of (fixed_lines fixed.now)) }
+{
+    for image in fixed {
+        put_number(text, "fixed", *image)?;
+    }
+    Ok(())
+}
+
 /// Adds the line of an event.
 fn put_event(text: &mut String, event: &Event) -> Result<(), AllocError>
     ensures { OnOk result (string_bytes text.new ≡ string_bytes text.old ++ spelling_of (event_line event.now)) }
@@ -84,6 +95,8 @@ fn put_event(text: &mut String, event: &Event) -> Result<(), AllocError>
     match event {
         Event::Register { image } => write!(text, "register {image}\n"),
         Event::Deregister { base } => write!(text, "deregister {base:x}\n"),
+        Event::Load { image } => write!(text, "load {image}\n"),
+        Event::Unload { base } => write!(text, "unload {base:x}\n"),
         Event::Find { pc } => write!(text, "find {pc:x}\n"),
     }
 }

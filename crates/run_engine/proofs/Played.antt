@@ -4,10 +4,11 @@ use Rattle.std.specs.List.{All}
 use Rattle.std.proofs.lemmas.List.{length-map}
 use Rattle.std.proofs.lemmas.List.Elements.{All-map, All-weaker}
 use Rattle.reg_model.specs.declared.answer.Inserted.TheVariants as inserted
+use Rattle.reg_model.specs.declared.answer.Loading.TheVariants as loading
 use Rattle.reg_model.specs.declared.answer.Removed.TheVariants as removed
 use Rattle.event_script.specs.Text.{IsPrintable}
 use Rattle.event_script.specs.declared.journal.Answer.{Answer}
-use Rattle.event_script.specs.declared.journal.Answer.TheVariants.{Register, Deregister, Find}
+use Rattle.event_script.specs.declared.journal.Answer.TheVariants.{Register, Deregister, Load, Unload, Find}
 use Rattle.event_script.proofs.Answered.{All-unmap}
 use Rattle.run_engine.specs.Played.{IsPlain, IsPlayedThread, IsPlayedRound, IsPlayed}
 use Rattle.run_engine.specs.Outcome.{IsUnfilled}
@@ -41,6 +42,13 @@ plain_printable (Register image inserted.Spent) plain = plain
 plain_printable (Deregister base (removed.Done number other)) plain = tt
 plain_printable (Deregister base (removed.NotFound stamp)) plain = tt
 plain_printable (Deregister base removed.Spent) plain = plain
+plain_printable (Load image (loading.Done number)) plain = tt
+plain_printable (Load image (loading.Overlap other stamp)) plain = tt
+plain_printable (Load image (loading.LoadFull stamp)) plain = tt
+plain_printable (Load image loading.Spent) plain = plain
+plain_printable (Unload base (removed.Done number other)) plain = tt
+plain_printable (Unload base (removed.NotFound stamp)) plain = tt
+plain_printable (Unload base removed.Spent) plain = plain
 plain_printable (Find pc place) plain = plain
 
 plain_unfilled : (answer : Answer) → IsPlain answer → IsUnfilled answer
@@ -49,6 +57,8 @@ plain_unfilled (Register image (inserted.Overlap other stamp)) plain = tt
 plain_unfilled (Register image (inserted.Full stamp)) plain = plain
 plain_unfilled (Register image inserted.Spent) plain = tt
 plain_unfilled (Deregister base answer) plain = tt
+plain_unfilled (Load image answer) plain = tt
+plain_unfilled (Unload base answer) plain = tt
 plain_unfilled (Find pc place) plain = tt
 
 -- no answer says that the tree is full

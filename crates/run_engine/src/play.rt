@@ -1,18 +1,30 @@
 //! Plays a script against the registry over plain lists.
 
-ghost use Rattle.std.specs.Prelude.{◌≡◌, ℕ, ◌+◌, ◌*◌, ◌^◌, ◌<◌, ◌≤◌, List, length, IfOk, All, flat_map};
+ghost use Rattle.std.specs.Prelude.{◌≡◌, ℕ, ◌+◌, ◌*◌, ◌^◌, ◌<◌, ◌≤◌, List, length, map, IfOk, All, flat_map};
 ghost use Rattle.std.specs.List.{AllZip};
 ghost use Rattle.reg_model.specs.Interval.{Interval};
 ghost use Rattle.event_script.specs.ScriptData.{IsEvent, IsThread, IsRound};
-ghost use Rattle.event_script.specs.Lawful.{AnswersEvent, receipts_of, IsLawful};
+ghost use Rattle.event_script.specs.Lawful.{AnswersEvent, image_member, receipts_of, IsLawful};
 ghost use Rattle.run_engine.specs.Played.{IsPlain, IsPlayedThread, IsPlayed};
 ghost use Rattle.run_engine.specs.Walk.{Walks};
 
 use crate::gate::Gate;
+use event_script::laws::fixed_images_are_disjoint;
 use event_script::{Answer, Event, Journal, Round, Script, Thread};
 use reg_model::{Member, NoMemory, PlainRegistry, Span};
 use std::alloc::Global;
 use std::sync::Wait;
+
+/// The member that is meant by the number of an image.
+fn member_of(images: &[Span], image: u32) -> Member
+    requires { image < length images.now }
+    ensures { result ≡ image_member images.now image }
+{
+    Member {
+        span: images[image as usize],
+        payload: image,
+    }
+}
 
 /// Plays one event.
 fn play_event(
@@ -29,16 +41,20 @@ fn play_event(
 {
     Ok(match event {
         Event::Register { image } => {
-            let member = Member {
-                span: images[image as usize],
-                payload: image,
-            };
-            let answer = registry.register(member)?;
+            let answer = registry.register(member_of(images, image))?;
             Answer::Register { image, answer }
         }
         Event::Deregister { base } => {
             let answer = registry.deregister(base);
             Answer::Deregister { base, answer }
+        }
+        Event::Load { image } => {
+            let answer = registry.load(member_of(images, image))?;
+            Answer::Load { image, answer }
+        }
+        Event::Unload { base } => {
+            let answer = registry.unload(base);
+            Answer::Unload { base, answer }
         }
         Event::Find { pc } => {
             let place = registry.find(pc);
@@ -136,6 +152,18 @@ fn play_rounds<R: Wait, G: Gate>(
     Ok(answers)
 }
 
+/// The members of images, by their numbers.
+fn members_of(alloc: Global, images: &[Span], numbers: &[u32]) -> Result<Vec<Member>, NoMemory>
+    requires { All (λ number. number < length images.now) numbers.now }
+    ensures { IfOk result (λ members. members.items ≡ map (image_member images.now) numbers.now) }
+{
+    let mut members = Vec::new(alloc);
+    for number in numbers {
+        members.push(member_of(images, *number))?;
+    }
+    Ok(members)
+}
+
 /// Plays a script against a new registry. The threads of a round take turns, in the order in which they stand: one of
 /// the orders that a journal may show.
 pub fn play<R: Wait, G: Gate>(
@@ -147,7 +175,10 @@ pub fn play<R: Wait, G: Gate>(
     ensures lawful { IfOk result (λ journal. IsLawful script.now journal) }
     ensures played { IfOk result (λ journal. IsPlayed journal.rounds) }
 {
-    let mut registry = PlainRegistry::new(alloc, Vec::new(alloc), script.loads);
+    // The fixed images are disjoint by this law, which takes no step.
+    fixed_images_are_disjoint();
+    let fixed = members_of(alloc, &script.images, &script.fixed)?;
+    let mut registry = PlainRegistry::new(alloc, fixed, script.loads);
     let rounds = play_rounds(
         rt,
         alloc,

@@ -3,12 +3,12 @@
 ghost use Rattle.std.specs.Prelude.{◌≡◌, ◌≤◌, length, IfOk};
 ghost use Rattle.event_script.specs.Fields.{fields_behind};
 ghost use Rattle.frame_parse.specs.Reading.{section_of};
-ghost use Rattle.event_script.specs.Reading.{Gives, section_or, nothing_known, threads_at, rounds_at, version_line, nodes_line, loads_line, image_line, round_line, thread_line, register_line, deregister_line, find_line, end_line, line_of, after_line, at_end};
+ghost use Rattle.event_script.specs.Reading.{Gives, section_or, nothing_known, threads_at, rounds_at, version_line, nodes_line, loads_line, image_line, last_fixed, is_above, fixed_line, is_unbuilt, round_line, thread_line, register_line, deregister_line, load_line, unload_line, find_line, end_line, line_of, after_line, at_end};
 
 use crate::reader::fault::{LineFault, Reason};
 use crate::reader::fields::{first_field, has_any, is_printable};
 use crate::reader::images::{image_fields, one_decimal, one_hex};
-use crate::reader::kinds::{Kind, Stage, is_unbuilt, kind_of, may_come};
+use crate::reader::kinds::{Kind, Stage, kind_of, may_come};
 use crate::script::{Event, Round, Thread};
 use frame_parse::{FrameFault, Section};
 use reg_model::{NoMemory, Span};
@@ -23,6 +23,7 @@ pub struct Draft {
     pub loads: u32,
     pub images: Vec<Span>,
     pub sections: Vec<Section>,
+    pub fixed: Vec<u32>,
     /// The rounds that are over.
     pub rounds: Vec<Round>,
     /// The threads that are over, of the round that goes on.
@@ -36,7 +37,7 @@ impl Model for Draft {
 
     ghost Value = { Known };
 
-    ghost view = { λ d. record { stage = d.stage; nodes = d.nodes; loads = d.loads; images = d.images.items; sections = d.sections.items; rounds = d.rounds.items; threads = d.threads.items; events = d.events.items } };
+    ghost view = { λ d. record { stage = d.stage; nodes = d.nodes; loads = d.loads; images = d.images.items; sections = d.sections.items; fixed = d.fixed.items; rounds = d.rounds.items; threads = d.threads.items; events = d.events.items } };
 }
 
 /// The threads of a round, with the one that goes on.
@@ -91,6 +92,19 @@ fn section_of(alloc: Global, address: u64, bytes: &[u8]) -> Result<Section, Line
     }
 }
 
+/// Whether the span is wholly above that of the image that was fixed last.
+fn is_above_last(images: &[Span], fixed: &[u32], span: &Span) -> bool
+    ensures { result ≡ is_above (last_fixed images.now fixed.now) span.now }
+{
+    let Some(image) = fixed.last() else {
+        return true;
+    };
+    match images.get(*image as usize) {
+        None => true,
+        Some(before) => before.last() < span.first(),
+    }
+}
+
 impl Draft {
     /// Before the first line.
     pub fn new(alloc: Global) -> Self
@@ -102,6 +116,7 @@ impl Draft {
             loads: 0,
             images: Vec::new(alloc),
             sections: Vec::new(alloc),
+            fixed: Vec::new(alloc),
             rounds: Vec::new(alloc),
             threads: Vec::new(alloc),
             events: Vec::new(alloc),
@@ -179,6 +194,28 @@ impl Draft {
         }
     }
 
+    fn fixed(self, rest: &[u8]) -> Result<Draft, LineFault>
+        ensures { Gives result (fixed_line self (fields_behind rest.now)) }
+    {
+        let mut draft = self;
+        let image = one_decimal(rest)?;
+        match draft.images.get(image as usize) {
+            None => Err(LineFault::Bad {
+                reason: Reason::Name,
+            }),
+            Some(span) => {
+                if !is_above_last(&draft.images, &draft.fixed, span) {
+                    return Err(LineFault::Bad {
+                        reason: Reason::Fixed,
+                    });
+                }
+                draft.stage = Stage::Fixed;
+                draft.fixed.push(image)?;
+                Ok(draft)
+            }
+        }
+    }
+
     fn round(self, alloc: Global, rest: &[u8]) -> Result<Draft, LineFault>
         ensures { Gives result (round_line self (fields_behind rest.now)) }
     {
@@ -193,6 +230,7 @@ impl Draft {
             loads,
             images,
             sections,
+            fixed,
             rounds,
             threads,
             events,
@@ -209,6 +247,7 @@ impl Draft {
             loads,
             images,
             sections,
+            fixed,
             rounds,
             threads: Vec::new(alloc),
             events: Vec::new(alloc),
@@ -229,6 +268,7 @@ impl Draft {
             loads,
             images,
             sections,
+            fixed,
             rounds,
             threads,
             events,
@@ -245,6 +285,7 @@ impl Draft {
             loads,
             images,
             sections,
+            fixed,
             rounds,
             threads,
             events: Vec::new(alloc),
@@ -284,6 +325,39 @@ impl Draft {
         Ok(draft)
     }
 
+    fn load(self, rest: &[u8]) -> Result<Draft, LineFault>
+        ensures { Gives result (load_line self (fields_behind rest.now)) }
+    {
+        let mut draft = self;
+        let image = one_decimal(rest)?;
+        if draft.events.len() >= 4096 {
+            return Err(LineFault::Bad {
+                reason: Reason::Limit,
+            });
+        }
+        if draft.images.len() <= image as usize {
+            return Err(LineFault::Bad {
+                reason: Reason::Name,
+            });
+        }
+        draft.events.push(Event::Load { image })?;
+        Ok(draft)
+    }
+
+    fn unload(self, rest: &[u8]) -> Result<Draft, LineFault>
+        ensures { Gives result (unload_line self (fields_behind rest.now)) }
+    {
+        let mut draft = self;
+        let base = one_hex(rest)?;
+        if draft.events.len() >= 4096 {
+            return Err(LineFault::Bad {
+                reason: Reason::Limit,
+            });
+        }
+        draft.events.push(Event::Unload { base })?;
+        Ok(draft)
+    }
+
     fn find(self, rest: &[u8]) -> Result<Draft, LineFault>
         ensures { Gives result (find_line self (fields_behind rest.now)) }
     {
@@ -312,6 +386,7 @@ impl Draft {
             loads,
             images,
             sections,
+            fixed,
             rounds,
             threads,
             events,
@@ -323,10 +398,23 @@ impl Draft {
             loads,
             images,
             sections,
+            fixed,
             rounds,
             threads: Vec::new(alloc),
             events: Vec::new(alloc),
         })
+    }
+
+    /// Whether a line of the kind can't be run today, after those before it.
+    fn is_unbuilt(&self, kind: Kind) -> bool
+        ensures { result ≡ is_unbuilt self.now kind }
+    {
+        match kind {
+            Kind::Snapshot | Kind::Unwind => true,
+            Kind::Round => matches!(self.stage, Stage::Round | Stage::Thread),
+            Kind::Thread => matches!(self.stage, Stage::Thread),
+            _ => false,
+        }
     }
 
     /// What a line of the kind adds.
@@ -345,18 +433,12 @@ impl Draft {
             Kind::Deregister => self.deregister(rest),
             Kind::Find => self.find(rest),
             Kind::End => self.end(alloc, rest),
-            Kind::Fixed => Err(LineFault::Bad {
-                reason: Reason::Unbuilt,
-            }),
+            Kind::Fixed => self.fixed(rest),
             Kind::Snapshot => Err(LineFault::Bad {
                 reason: Reason::Unbuilt,
             }),
-            Kind::Load => Err(LineFault::Bad {
-                reason: Reason::Unbuilt,
-            }),
-            Kind::Unload => Err(LineFault::Bad {
-                reason: Reason::Unbuilt,
-            }),
+            Kind::Load => self.load(rest),
+            Kind::Unload => self.unload(rest),
             Kind::Unwind => Err(LineFault::Bad {
                 reason: Reason::Unbuilt,
             }),
@@ -385,7 +467,7 @@ impl Draft {
                 reason: Reason::Word,
             });
         }
-        if is_unbuilt(self.stage, kind) {
+        if self.is_unbuilt(kind) {
             return Err(LineFault::Bad {
                 reason: Reason::Unbuilt,
             });

@@ -35,6 +35,8 @@ pub enum Reason {
     Section { fault: FrameFault },
     /// It names an image that the script hasn't.
     Name,
+    /// Its span isn't wholly above the fixed span before it.
+    Fixed,
 }
 
 /// Why reading ends before the bytes do.

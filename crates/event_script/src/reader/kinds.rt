@@ -1,7 +1,7 @@
 //! The kinds of lines, and which may come when.
 
 ghost use Rattle.std.specs.Prelude.{◌≡◌};
-ghost use Rattle.event_script.specs.Reading.{kind_of, may_come, is_unbuilt};
+ghost use Rattle.event_script.specs.Reading.{kind_of, may_come};
 
 /// How far a script has come: which lines may come next.
 #[derive(Clone, Copy, Debug, PartialEq, Eq)]
@@ -10,8 +10,10 @@ pub enum Stage {
     Version,
     Nodes,
     Loads,
-    /// Images, and then rounds.
+    /// Images, and then what comes after them.
     Images,
+    /// An image was fixed: others may be, and then rounds come.
+    Fixed,
     /// A round has begun, and no thread in it.
     Round,
     /// A thread has begun.
@@ -92,6 +94,10 @@ pub fn may_come(stage: Stage, kind: Kind) -> bool
             kind,
             Kind::Image | Kind::Fixed | Kind::Snapshot | Kind::Round | Kind::End
         ),
+        Stage::Fixed => matches!(
+            kind,
+            Kind::Fixed | Kind::Snapshot | Kind::Round | Kind::End
+        ),
         Stage::Round => matches!(kind, Kind::Round | Kind::Thread | Kind::End),
         Stage::Thread => matches!(
             kind,
@@ -106,17 +112,5 @@ pub fn may_come(stage: Stage, kind: Kind) -> bool
                 | Kind::Unwind
         ),
         Stage::Ended => false,
-    }
-}
-
-/// Whether lines of the kind can't be run today.
-pub fn is_unbuilt(stage: Stage, kind: Kind) -> bool
-    ensures { result ≡ is_unbuilt stage kind }
-{
-    match kind {
-        Kind::Fixed | Kind::Snapshot | Kind::Load | Kind::Unload | Kind::Unwind => true,
-        Kind::Round => matches!(stage, Stage::Round | Stage::Thread),
-        Kind::Thread => matches!(stage, Stage::Thread),
-        _ => false,
     }
 }

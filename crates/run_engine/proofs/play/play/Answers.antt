@@ -1,4 +1,6 @@
-use Rattle.std.proofs.Common.{ap, ◌∙◌}
+use Rattle.std.proofs.Common.{ℕ, List, ap, ap₂, ◌∙◌, map}
+use Rattle.reg_model.specs.Interval.{Interval}
+use Rattle.event_script.specs.Lawful.{image_member}
 use Rattle.reg_model.specs.State.{opening}
 use Rattle.run_engine.proofs.Lawfulness.{lawful_play}
 use Rattle.run_engine.proofs.Played.{played_play}
@@ -7,11 +9,12 @@ use Rattle.run_engine.proofs.play.play.Goals as goal
 pub returns-clause-lawful : goal.returns-clause-lawful
 returns-clause-lawful g c =
     let loads = c.script.inside.loads in
-    let first = c.new-registry.ensures ∙ ap (λ fixed. record { state = opening fixed loads; updates = 0 }) c.new.ensures.items in
+    let fixed = c.in_ok-fixed.ensures ∙ ap₂ (λ (images : List Interval) (numbers : List ℕ). map (image_member images) numbers) c.deref.ensures.value c.deref-2.ensures.value in
+    let first = c.new-registry.ensures ∙ ap (λ fixed. record { state = opening fixed loads; updates = 0 }) fixed in
     rw (← c.script.view_is) (lawful_play (λ thread. thread.items) (λ round. round.items) _ c.in_ok-rounds.rounds.items c.updates-updates.result c.play_rounds.new.registry
-    (rw (← c.deref-2.ensures.value) c.in_ok-rounds.ensures.answered)
+    (rw (← c.deref-4.ensures.value) c.in_ok-rounds.ensures.answered)
     c.updates-updates.ensures
-    (rw (← c.deref.ensures.value, ← first) c.in_ok-rounds.ensures.walks))
+    (rw (← first, ← c.deref-3.ensures.value) c.in_ok-rounds.ensures.walks))
 
 pub returns-clause-played : goal.returns-clause-played
 returns-clause-played g c = played_play (λ thread. thread.items) (λ round. round.items) c.in_ok-rounds.rounds.items c.in_ok-rounds.ensures.played
