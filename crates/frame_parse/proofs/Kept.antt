@@ -2,79 +2,74 @@
 use Rattle.std.proofs.Common.{◌≡◌, ℕ, zero, suc, ◌+◌, ◌-◌, ◌<◌, List, [], ◌∷◌, ◌++◌, length, get_or, Bool, true, false, cond, Option, Some, None, Ok, Err, nat_lt, nat_eq, refl, sym, ap, subst, ◌∙◌, append_assoc, length-append, arith, inl, inr}
 use Rattle.std.specs.Prelude.{slice_get}
 use Rattle.std.proofs.lemmas.List.{append-nil}
-use Rattle.frame_parse.specs.declared.fault.FrameFault.{FrameFault}
-use Rattle.frame_parse.specs.declared.fault.FrameFault.TheVariants as faults
-use Rattle.frame_parse.specs.declared.record.Extent.{Extent}
-use Rattle.frame_parse.specs.declared.record.CieRecord.{CieRecord}
-use Rattle.frame_parse.specs.declared.record.FdeRecord.{FdeRecord}
-use Rattle.frame_parse.specs.declared.record.Record.{Record}
-use Rattle.frame_parse.specs.declared.record.Record.TheVariants.{Cie, Fde}
-use Rattle.frame_parse.specs.declared.instruction.Instruction.{Instruction}
-use Rattle.frame_parse.specs.declared.instruction.Instruction.TheVariants.{Nop, Advance, Set, Restore, Remember, RestoreState, Cfa, CfaColumn, CfaOffset}
-use Rattle.frame_parse.specs.declared.instruction.Operation.{Operation}
-use Rattle.frame_parse.specs.declared.instruction.Operation.TheVariants as operations
-use Rattle.frame_parse.specs.declared.instruction.Step.{Step}
-use Rattle.frame_parse.specs.declared.state.State.{State}
+use Rattle.frame_parse.specs.declared.fault.RecordFault.{RecordFault}
+use Rattle.frame_parse.specs.declared.fault.RecordFault.TheVariants as faults
+use Rattle.frame_parse.specs.declared.records.Extent.{Extent}
+use Rattle.frame_parse.specs.declared.records.CieRecord.{CieRecord}
+use Rattle.frame_parse.specs.declared.records.FdeRecord.{FdeRecord}
+use Rattle.frame_parse.specs.declared.records.Record.{Record}
+use Rattle.frame_parse.specs.declared.records.Record.TheVariants.{Cie, Fde}
+use Rattle.frame_parse.specs.declared.instructions.Instruction.{Instruction}
+use Rattle.frame_parse.specs.declared.instructions.Instruction.TheVariants.{Nop, Advance, Set, Restore, Remember, RestoreState, Cfa, CfaColumn, CfaOffset}
+use Rattle.frame_parse.specs.declared.instructions.Operation.{Operation}
+use Rattle.frame_parse.specs.declared.instructions.Operation.TheVariants as operations
+use Rattle.frame_parse.specs.declared.instructions.Step.{Step}
+use Rattle.frame_parse.specs.declared.program_state.State.{State}
+use Rattle.frame_parse.specs.declared.instructions.context.ProgramKind.TheVariants.{Initial, Own}
 use Rattle.eh_bytes.specs.Grammar.{given, found}
-use Rattle.frame_parse.specs.Programs.{operation, plain_operation, effect_of, effect, step, top, below_top, initial_state, first_state, HasSteps, IsExtent, HasPrograms}
+use Rattle.frame_parse.specs.Programs.{context_of, effect_of, effect, step, top, below_top, initial_state, first_state, HasSteps, IsExtent, HasPrograms}
 use Rattle.eh_bytes.specs.Steps.{AreSteps}
 use Rattle.frame_parse.specs.Sections.{AreRecords, fdes_of, IsSection, HasFdes, covers, first_cover}
-use Rattle.frame_parse.specs.Records.{cie, fde, cie_from, cie_behind, content, whole_record}
+use Rattle.frame_parse.specs.Records.{cie, fde, cie_from, cie_behind, content, record_at, whole_record}
 
 -- ---- what a step doesn't look at
 
 -- the location, where it can't move
-given_lift : (b : Bool) (x m : State) (f : FrameFault) (p : ℕ) (text : List ℕ) (k : State → State) → (given (cond b (Ok x) (Err f))).Spells p text m → (given (cond b (Ok (k x)) (Err f))).Spells p text (k m)
+given_lift : (b : Bool) (x m : State) (f : RecordFault) (p : ℕ) (text : List ℕ) (k : State → State) → (given (cond b (Ok x) (Err f))).Spells p text m → (given (cond b (Ok (k x)) (Err f))).Spells p text (k m)
 given_lift true x m f p text k a = (a.0, ap k a.1)
 given_lift false x m f p text k a = absurd a
 
 abbrev moved : ℕ → State → State
 moved l s = record s { location = l }
 
-given_at : (start at l p : ℕ) (s m : State) (i : Instruction) (text : List ℕ) → (given (effect_of start at s i)).Spells p text m → (given (effect_of start at (moved l s) i)).Spells p text (moved l m)
-given_at start at l p s m Nop text a = (a.0, ap (moved l) a.1)
-given_at start at l p s m Advance text a = (a.0, ap (moved l) a.1)
-given_at start at l p s m (Set r rule) text a = (a.0, ap (moved l) a.1)
-given_at start at l p s m (Restore r) text a = (a.0, ap (moved l) a.1)
-given_at start at l p s m (Cfa r n) text a = (a.0, ap (moved l) a.1)
-given_at start at l p s m Remember text a = given_lift (nat_lt (length s.remembered) 8) (record s { remembered = s.remembered ++ s.offset ∷ [] }) m (faults.Remember start at) p text (moved l) a
-given_at start at l p s m RestoreState text a = given_lift (nat_lt 0 (length s.remembered)) (record s { offset = top s.remembered; remembered = below_top s.remembered }) m (faults.Remember start at) p text (moved l) a
-given_at start at l p s m (CfaColumn r) text a = given_lift s.offset s m (faults.CfaRule start at) p text (moved l) a
-given_at start at l p s m (CfaOffset n) text a = given_lift s.offset s m (faults.CfaRule start at) p text (moved l) a
+given_at : (at l p : ℕ) (s m : State) (i : Instruction) (text : List ℕ) → (given (effect_of at s i)).Spells p text m → (given (effect_of at (moved l s) i)).Spells p text (moved l m)
+given_at at l p s m Nop text a = (a.0, ap (moved l) a.1)
+given_at at l p s m Advance text a = (a.0, ap (moved l) a.1)
+given_at at l p s m (Set r rule) text a = (a.0, ap (moved l) a.1)
+given_at at l p s m (Restore r) text a = (a.0, ap (moved l) a.1)
+given_at at l p s m (Cfa r n) text a = (a.0, ap (moved l) a.1)
+given_at at l p s m Remember text a = given_lift (nat_lt (length s.remembered) 8) (record s { remembered = s.remembered ++ s.offset ∷ [] }) m (faults.Remember at) p text (moved l) a
+given_at at l p s m RestoreState text a = given_lift (nat_lt 0 (length s.remembered)) (record s { offset = top s.remembered; remembered = below_top s.remembered }) m (faults.Remember at) p text (moved l) a
+given_at at l p s m (CfaColumn r) text a = given_lift s.offset s m (faults.CfaRule at) p text (moved l) a
+given_at at l p s m (CfaOffset n) text a = given_lift s.offset s m (faults.CfaRule at) p text (moved l) a
 
-effect_at : (start at l p : ℕ) (c : CieRecord) (s m : State) (o : Operation) (text : List ℕ) → (given (effect start at false c s o)).Spells p text m → (given (effect start at false c (moved l s) o)).Spells p text (moved l m)
-effect_at start at l p c s m (operations.Advance d) text a = absurd a
-effect_at start at l p c s m (operations.SetLocation d) text a = absurd a
-effect_at start at l p c s m (operations.Other i) text a = given_at start at l p s m i text a
+effect_at : (section at l p : ℕ) (c : CieRecord) (s m : State) (o : Operation) (text : List ℕ) → (given (effect at (context_of section c Initial) s o)).Spells p text m → (given (effect at (context_of section c Initial) (moved l s) o)).Spells p text (moved l m)
+effect_at section at l p c s m (operations.Advance d) text a = absurd a
+effect_at section at l p c s m (operations.SetLocation d) text a = absurd a
+effect_at section at l p c s m (operations.Other i) text a = given_at at l p s m i text a
 
-step_at : (start section l p : ℕ) (c : CieRecord) (s m : State) (front : List ℕ) (x : Step) → (step start section false c s).Spells p front (x, m)
-    → (step start section false c (moved l s)).Spells p front (record x { location = l }, moved l m)
+step_at : (section l p : ℕ) (c : CieRecord) (s m : State) (front : List ℕ) (x : Step) → (step (context_of section c Initial) s).Spells p front (x, m)
+    → (step (context_of section c Initial) (moved l s)).Spells p front (record x { location = l }, moved l m)
 unfolding step
-step_at start section l p c s m front x a =
+step_at section l p c s m front x a =
     let b = a.5 in
     let d = b.5 in
     let both : Step × State → Step × State = λ z. (record z.0 { location = l }, moved l z.1) in
-    (a.0, a.1, a.2, a.3, a.4, (b.0, b.1, b.2, b.3, b.4, (moved l d.0, d.1, d.2, d.3, effect_at start a.0 l _ c s d.0 b.0 d.1 d.4, (d.5.0, ap both d.5.1))))
+    (a.0, a.1, a.2, a.3, a.4, (b.0, b.1, b.2, b.3, b.4, (moved l d.0, d.1, d.2, d.3, effect_at section a.0 l _ c s d.0 b.0 d.1 d.4, (d.5.0, ap both d.5.1))))
 
-AreSteps_at : (start section l : ℕ) (c : CieRecord) (p : ℕ) (s : State) (text : List ℕ) (steps : List Step) (t : State) → AreSteps (step start section false c) p s text steps t
-    → (others : List Step) × AreSteps (step start section false c) p (moved l s) text others (moved l t)
-AreSteps_at start section l c p s text [] t a = ([], (a.0, ap (moved l) a.1))
-AreSteps_at start section l c p s text (x ∷ xs) t a =
-    let later = AreSteps_at start section l c (p + length a.1) a.0 a.2 xs t a.5 in
-    (record x { location = l } ∷ later.0, (moved l a.0, a.1, a.2, a.3, step_at start section l p c s a.0 a.1 x a.4, later.1))
-
--- what the CIE says of its own CFA rule
-AreSteps_offset : (start section : ℕ) (c : CieRecord) (b : Bool) (p : ℕ) (s : State) (text : List ℕ) (steps : List Step) (t : State) → AreSteps (step start section false c) p s text steps t
-    → AreSteps (step start section false (record c { offset = b })) p s text steps t
-unfolding step operation plain_operation
-AreSteps_offset start section c b p s text steps t a = a
+AreSteps_at : (section l : ℕ) (c : CieRecord) (p : ℕ) (s : State) (text : List ℕ) (steps : List Step) (t : State) → AreSteps (step (context_of section c Initial)) p s text steps t
+    → (others : List Step) × AreSteps (step (context_of section c Initial)) p (moved l s) text others (moved l t)
+AreSteps_at section l c p s text [] t a = ([], (a.0, ap (moved l) a.1))
+AreSteps_at section l c p s text (x ∷ xs) t a =
+    let later = AreSteps_at section l c (p + length a.1) a.0 a.2 xs t a.5 in
+    (record x { location = l } ∷ later.0, (moved l a.0, a.1, a.2, a.3, step_at section l p c s a.0 a.1 x a.4, later.1))
 
 -- ---- where programs stand
 
-cie_place : (start section end p : ℕ) (front : List ℕ) (c : CieRecord) → (cie start section end).Spells p front c
-    → (c.initial ≡ record { at = p + length front; end = end }) × (c.start ≡ start)
+cie_place : (section start end p : ℕ) (front : List ℕ) (c : CieRecord) → (cie section start end).Spells p front c
+    → c.initial ≡ record { at = p + length front; end = end }
 unfolding cie
-cie_place start section end p front c s =
+cie_place section start end p front c s =
     let s1 = s.5 in let s2 = s1.5 in let s3 = s2.5 in let s4 = s3.5 in let s5 = s4.5 in let s6 = s5.5 in
     let place : s6.0 ≡ p + length front =
     omega (
@@ -99,12 +94,12 @@ cie_place start section end p front c s =
     ) in
     let made : Extent = record { at = s6.0; end = end } in
     let found : c.initial ≡ made = sym (ap (λ (k : CieRecord). k.initial) s6.5.1) in
-    (found ∙ ap (λ (q : ℕ). record { at = q; end = end }) place, sym (ap (λ (k : CieRecord). k.start) s6.5.1))
+    found ∙ ap (λ (q : ℕ). record { at = q; end = end }) place
 
-fde_place : (start section end p : ℕ) (c : CieRecord) (front : List ℕ) (f : FdeRecord) → (fde start section end c).Spells p front f
-    → (f.program ≡ record { at = p + length front; end = end }) × (f.cie ≡ c) × (f.start ≡ start)
+fde_place : (section end p : ℕ) (c : CieRecord) (front : List ℕ) (f : FdeRecord) → (fde section end c).Spells p front f
+    → (f.program ≡ record { at = p + length front; end = end }) × (f.cie ≡ c)
 unfolding fde
-fde_place start section end p c front f s =
+fde_place section end p c front f s =
     let s1 = s.5 in let s2 = s1.5 in let s3 = s2.5 in
     let place : s3.0 ≡ p + length front =
     omega (
@@ -123,7 +118,7 @@ fde_place start section end p c front f s =
     ) in
     let made : Extent = record { at = s3.0; end = end } in
     let found : f.program ≡ made = sym (ap (λ (k : FdeRecord). k.program) s3.5.1) in
-    (found ∙ ap (λ (q : ℕ). record { at = q; end = end }) place, sym (ap (λ (k : FdeRecord). k.cie) s3.5.1), sym (ap (λ (k : FdeRecord). k.start) s3.5.1))
+    (found ∙ ap (λ (q : ℕ). record { at = q; end = end }) place, sym (ap (λ (k : FdeRecord). k.cie) s3.5.1))
 
 -- the initial instructions of a CIE stand in the bytes
 pub record CieKept (section : ℕ) (bytes : List ℕ) (c : CieRecord) : Type 0 where
@@ -131,7 +126,7 @@ pub record CieKept (section : ℕ) (bytes : List ℕ) (c : CieRecord) : Type 0 w
   pub inside : IsExtent bytes c.initial text
   pub steps : List Step
   pub last : State
-  pub spelled : AreSteps (step c.start section false c) c.initial.at initial_state text steps last
+  pub spelled : AreSteps (step (context_of section c Initial)) c.initial.at initial_state text steps last
 
 -- a text behind others, up to the end of its record
 extent : (bytes before head body text after : List ℕ) (p at end : ℕ) → bytes ≡ before ++ (text ++ after) → text ≡ head ++ body → p ≡ length before → at ≡ p + length head → end ≡ p + length text
@@ -141,10 +136,10 @@ extent bytes before head body text after p at end whole parts start place size =
     whole ∙ ap (λ (l : List ℕ). before ++ (l ++ after)) parts ∙ ap (λ (l : List ℕ). before ++ l) (append_assoc head body after) ∙ sym (append_assoc before head (body ++ after)) in
     (before ++ head, after, regrouped, omega (arith, length-append before head), omega (arith, ap length parts, length-append head body))
 
-content_cie : (start section p : ℕ) (earlier : List CieRecord) (end : ℕ) (text bytes before after : List ℕ) (c : CieRecord) → (content start section earlier end).Spells p text (Cie c)
+content_cie : (section p : ℕ) (earlier : List CieRecord) (start end : ℕ) (text bytes before after : List ℕ) (c : CieRecord) → (content section earlier start end).Spells p text (Cie c)
     → bytes ≡ before ++ (text ++ after) → p ≡ length before → end ≡ p + length text → CieKept section bytes c
 unfolding content
-content_cie start section p earlier end text bytes before after c s whole place size =
+content_cie section p earlier start end text bytes before after c s whole place size =
     let id = s.5 in
     elim id.5 [
       | inl w ↦
@@ -155,13 +150,11 @@ content_cie start section p earlier end text bytes before after c s whole place 
           let parts : text ≡ head ++ rest.1 =
           s.3 ∙ ap (λ (l : List ℕ). l ++ s.2) s.4.0 ∙ id.3 ∙ ap (λ (l : List ℕ). id.1 ++ l) (q.3 ∙ ap (λ (l : List ℕ). q.1 ++ l) (rest.3 ∙ ap (λ (l : List ℕ). rest.1 ++ l) rest.5.0 ∙ append-nil rest.1))
           ∙ sym (append_assoc id.1 q.1 rest.1) in
-          let placed = cie_place start section end _ q.1 q.0 q.4 in
+          let placed = cie_place section start end _ q.1 q.0 q.4 in
           let at : p + length s.1 + length id.1 + length q.1 ≡ p + length head = omega (arith, ap length s.4.0, length-append id.1 q.1) in
           let inside : IsExtent bytes q.0.initial rest.1 =
-          subst (λ (e : Extent). IsExtent bytes e rest.1) (sym placed.0) (extent bytes before head rest.1 text after p (p + length s.1 + length id.1 + length q.1) end whole parts place at size) in
-          let stepped = AreSteps_offset start section q.0 rest.0.offset _ initial_state rest.1 rest.4.0 rest.0 rest.4.1 in
-          let there = subst (λ (k : ℕ). AreSteps (step start section false (record q.0 { offset = rest.0.offset })) k initial_state rest.1 rest.4.0 rest.0) (sym (ap (λ (e : Extent). e.at) placed.0)) stepped in
-          let here = subst (λ (k : ℕ). AreSteps (step k section false (record q.0 { offset = rest.0.offset })) q.0.initial.at initial_state rest.1 rest.4.0 rest.0) (sym placed.1) there in
+          subst (λ (e : Extent). IsExtent bytes e rest.1) (sym placed) (extent bytes before head rest.1 text after p (p + length s.1 + length id.1 + length q.1) end whole parts place at size) in
+          let here = subst (λ (k : ℕ). AreSteps (step (context_of section q.0 Initial)) k initial_state rest.1 rest.4.0 rest.0) (sym (ap (λ (e : Extent). e.at) placed)) rest.4.1 in
           subst (λ (k : CieRecord). CieKept section bytes k) same (record { text = rest.1; inside = inside; steps = rest.4.0; last = rest.0; spelled = here })
       | inr w ↦ absurd (let never = w.1.5.5.5.1 in cc)
     ]
@@ -176,7 +169,7 @@ AllKept-end : (section : ℕ) (bytes : List ℕ) (cs : List CieRecord) (c : CieR
 AllKept-end section bytes [] c all kept = (kept, tt)
 AllKept-end section bytes (d ∷ cs) c all kept = (all.0, AllKept-end section bytes cs c all.1 kept)
 
-found_spells : (o : Option CieRecord) (f : FrameFault) (p : ℕ) (text : List ℕ) (c : CieRecord) → (found o f).Spells p text c → (text ≡ []) × (o ≡ Some c)
+found_spells : (o : Option CieRecord) (f : RecordFault) (p : ℕ) (text : List ℕ) (c : CieRecord) → (found o f).Spells p text c → (text ≡ []) × (o ≡ Some c)
 found_spells None f p text c a = absurd a
 found_spells (Some d) f p text c a = (a.0, ap (λ (k : CieRecord). Some k) a.1)
 
@@ -194,10 +187,10 @@ kept_behind section bytes false cs place c all e = cie_from-kept section bytes c
 
 -- the programs of an FDE, whose CIE was kept
 programs_of : (section : ℕ) (bytes text : List ℕ) (f : FdeRecord) (steps : List Step) (t : State) → CieKept section bytes f.cie → IsExtent bytes f.program text
-    → AreSteps (step f.start section true f.cie) f.program.at (first_state f.cie f.first) text steps t → HasPrograms section bytes f
+    → AreSteps (step (context_of section f.cie Own)) f.program.at (first_state f.cie f.first) text steps t → HasPrograms section bytes f
 unfolding HasSteps
 programs_of section bytes text f steps t kept inside a =
-    let moved_steps = AreSteps_at f.cie.start section f.first f.cie f.cie.initial.at initial_state kept.text kept.steps kept.last kept.spelled in
+    let moved_steps = AreSteps_at section f.first f.cie f.cie.initial.at initial_state kept.text kept.steps kept.last kept.spelled in
     record {
       text = text;
       inside = inside;
@@ -209,10 +202,10 @@ programs_of section bytes text f steps t kept inside a =
       initial_spelled = (moved f.first kept.last, moved_steps.1);
     }
 
-content_fde : (start section p : ℕ) (earlier : List CieRecord) (end : ℕ) (text bytes before after : List ℕ) (f : FdeRecord) → AllKept section bytes earlier → (content start section earlier end).Spells p text (Fde f)
+content_fde : (section p : ℕ) (earlier : List CieRecord) (start end : ℕ) (text bytes before after : List ℕ) (f : FdeRecord) → AllKept section bytes earlier → (content section earlier start end).Spells p text (Fde f)
     → bytes ≡ before ++ (text ++ after) → p ≡ length before → end ≡ p + length text → HasPrograms section bytes f
 unfolding content
-content_fde start section p earlier end text bytes before after f all s whole place size =
+content_fde section p earlier start end text bytes before after f all s whole place size =
     let id = s.5 in
     elim id.5 [
       | inl w ↦ absurd (let never = w.1.5.5.1 in cc)
@@ -221,20 +214,19 @@ content_fde start section p earlier end text bytes before after f all s whole pl
           let v = u.5 in
           let rest = v.5 in
           let same : v.0 ≡ f = let made = rest.5.1 in cc in
-          let known = found_spells (cie_behind earlier s.0 id.0) (faults.NoCie start s.0) _ u.1 u.0 u.4 in
+          let known = found_spells (cie_behind earlier s.0 id.0) (faults.NoCie s.0) _ u.1 u.0 u.4 in
           let kept = kept_behind section bytes (nat_lt s.0 id.0) earlier (s.0 - id.0) u.0 all known.1 in
           let head = id.1 ++ v.1 in
           let parts : text ≡ head ++ rest.1 =
           s.3 ∙ ap (λ (l : List ℕ). l ++ s.2) s.4.0 ∙ id.3
           ∙ ap (λ (l : List ℕ). id.1 ++ l) (u.3 ∙ ap (λ (l : List ℕ). l ++ u.2) known.0 ∙ v.3 ∙ ap (λ (l : List ℕ). v.1 ++ l) (rest.3 ∙ ap (λ (l : List ℕ). rest.1 ++ l) rest.5.0 ∙ append-nil rest.1))
           ∙ sym (append_assoc id.1 v.1 rest.1) in
-          let placed = fde_place start section end _ u.0 v.1 v.0 v.4 in
+          let placed = fde_place section end _ u.0 v.1 v.0 v.4 in
           let at : p + length s.1 + length id.1 + length u.1 + length v.1 ≡ p + length head = omega (arith, ap length s.4.0, ap length known.0, length-append id.1 v.1) in
           let inside : IsExtent bytes v.0.program rest.1 =
           subst (λ (e : Extent). IsExtent bytes e rest.1) (sym placed.0) (extent bytes before head rest.1 text after p (p + length s.1 + length id.1 + length u.1 + length v.1) end whole parts place at size) in
-          let there = subst (λ (k : ℕ). AreSteps (step start section true u.0) k (first_state u.0 v.0.first) rest.1 rest.4.0 rest.0) (sym (ap (λ (e : Extent). e.at) placed.0)) rest.4.1 in
-          let here = subst (λ (k : ℕ). AreSteps (step k section true u.0) v.0.program.at (first_state u.0 v.0.first) rest.1 rest.4.0 rest.0) (sym placed.2) there in
-          let own = subst (λ (k : CieRecord). AreSteps (step v.0.start section true k) v.0.program.at (first_state k v.0.first) rest.1 rest.4.0 rest.0) (sym placed.1) here in
+          let there = subst (λ (k : ℕ). AreSteps (step (context_of section u.0 Own)) k (first_state u.0 v.0.first) rest.1 rest.4.0 rest.0) (sym (ap (λ (e : Extent). e.at) placed.0)) rest.4.1 in
+          let own = subst (λ (k : CieRecord). AreSteps (step (context_of section k Own)) v.0.program.at (first_state k v.0.first) rest.1 rest.4.0 rest.0) (sym placed.1) there in
           let kept_own = subst (λ (k : CieRecord). CieKept section bytes k) (sym placed.1) kept in
           subst (λ (k : FdeRecord). HasPrograms section bytes k) same (programs_of section bytes rest.1 v.0 rest.4.0 rest.0 kept_own inside own)
     ]
@@ -249,13 +241,13 @@ record Body (section p : ℕ) (earlier : List CieRecord) (bytes : List ℕ) (r :
   text : List ℕ
   before : List ℕ
   after : List ℕ
-  spelled : (content start section earlier end).Spells at text r
+  spelled : (content section earlier start end).Spells at text r
   whole : bytes ≡ before ++ (text ++ after)
   place : at ≡ length before
   size : end ≡ at + length text
 
 body_of : (section p : ℕ) (earlier : List CieRecord) (front bytes before after : List ℕ) (r : Record) → (whole_record section earlier).Spells p front r → bytes ≡ before ++ (front ++ after) → p ≡ length before → Body section p earlier bytes r
-unfolding whole_record
+unfolding whole_record record_at
 body_of section p earlier front bytes before after r s whole place =
     let inner = s.5 in
     let held = inner.5 in
@@ -286,12 +278,12 @@ records_kept section p earlier text [] bytes before after all s whole place = tt
 records_kept section p earlier text (Cie c ∷ rs) bytes before after all s whole place =
     let first : bytes ≡ before ++ (s.0 ++ (s.1 ++ after)) = whole ∙ ap (λ (l : List ℕ). before ++ (l ++ after)) s.2 ∙ ap (λ (l : List ℕ). before ++ l) (append_assoc s.0 s.1 after) in
     let b = body_of section p earlier s.0 bytes before (s.1 ++ after) (Cie c) s.3 first place in
-    let kept = content_cie b.start section b.at earlier b.end b.text bytes b.before b.after c b.spelled b.whole b.place b.size in
+    let kept = content_cie section b.at earlier b.start b.end b.text bytes b.before b.after c b.spelled b.whole b.place b.size in
     records_kept section (p + length s.0) (earlier ++ c ∷ []) s.1 rs bytes (before ++ s.0) after (AllKept-end section bytes earlier c all kept) s.4 (first ∙ sym (append_assoc before s.0 (s.1 ++ after))) (omega (arith, length-append before s.0))
 records_kept section p earlier text (Fde f ∷ rs) bytes before after all s whole place =
     let first : bytes ≡ before ++ (s.0 ++ (s.1 ++ after)) = whole ∙ ap (λ (l : List ℕ). before ++ (l ++ after)) s.2 ∙ ap (λ (l : List ℕ). before ++ l) (append_assoc s.0 s.1 after) in
     let b = body_of section p earlier s.0 bytes before (s.1 ++ after) (Fde f) s.3 first place in
-    let kept = content_fde b.start section b.at earlier b.end b.text bytes b.before b.after f all b.spelled b.whole b.place b.size in
+    let kept = content_fde section b.at earlier b.start b.end b.text bytes b.before b.after f all b.spelled b.whole b.place b.size in
     (kept, records_kept section (p + length s.0) earlier s.1 rs bytes (before ++ s.0) after all s.4 (first ∙ sym (append_assoc before s.0 (s.1 ++ after))) (omega (arith, length-append before s.0)))
 
 -- ---- sections

@@ -5,8 +5,8 @@ use Rattle.std.specs.List.{All, Contains}
 use Rattle.std.specs.List.Sorted.{IsPermutation}
 use Rattle.std.proofs.lemmas.List.Sorted.{All-permutation, Contains-permutation}
 use Rattle.std.proofs.lemmas.List.Elements.{All-contains}
-use Rattle.frame_parse.specs.declared.record.FdeRecord.{FdeRecord}
-use Rattle.frame_parse.specs.declared.lookup.CoveredRange.{CoveredRange}
+use Rattle.frame_parse.specs.declared.records.FdeRecord.{FdeRecord}
+use Rattle.frame_parse.specs.declared.fde_lookup.CoveredRange.{CoveredRange}
 use Rattle.frame_parse.specs.Sections.{covers, first_cover}
 use Rattle.frame_parse.specs.Lookups.{range_of, IsRangeOf, HasRanges, are_apart, holds}
 

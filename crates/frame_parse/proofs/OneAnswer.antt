@@ -9,11 +9,11 @@ use Rattle.byteorder.specs.Numbers.{little_from-append}
 use Rattle.eh_bytes.specs.Rest.{Rest}
 use Rattle.eh_bytes.specs.Results.{◌and_then◌}
 use Rattle.frame_parse.specs.declared.fault.FrameFault.{FrameFault}
-use Rattle.frame_parse.specs.declared.record.CieRecord.{CieRecord}
-use Rattle.frame_parse.specs.declared.record.FdeRecord.{FdeRecord}
-use Rattle.frame_parse.specs.declared.record.Record.{Record}
-use Rattle.frame_parse.specs.declared.record.Record.TheVariants.{Cie, Fde}
-use Rattle.frame_parse.specs.Records.{content, record_length, whole_record}
+use Rattle.frame_parse.specs.declared.records.CieRecord.{CieRecord}
+use Rattle.frame_parse.specs.declared.records.FdeRecord.{FdeRecord}
+use Rattle.frame_parse.specs.declared.records.Record.{Record}
+use Rattle.frame_parse.specs.declared.records.Record.TheVariants.{Cie, Fde}
+use Rattle.frame_parse.specs.Records.{content, record_length, record_at, whole_record}
 use Rattle.frame_parse.specs.Sections.{is_end, with_record, AreRecords, cies_of, IsSection, IsRefused, HasOneAnswer, HasFdes}
 use Rattle.frame_parse.specs.Reading.{read_all, section_of, IsAnswered}
 use Rattle.eh_bytes.proofs.Exact.{left, Takes}
@@ -30,7 +30,7 @@ behind a b c e = omega (arith, ap length e, length-append b c)
 
 -- a record has at least the four bytes of its length
 pub record_grows : (section p : ℕ) (earlier : List CieRecord) (front : List ℕ) (r : Record) → (whole_record section earlier).Spells p front r → 4 ≤ length front
-unfolding whole_record record_length
+unfolding whole_record record_at record_length
 record_grows section p earlier front r s =
     let inner = s.5 in
     let sized = inner.4 in
@@ -38,21 +38,21 @@ record_grows section p earlier front r s =
     omega (arith, four, grows inner.1 sized.1 sized.2 sized.3, grows s.2 inner.1 inner.2 inner.3, behind front s.1 s.2 s.3)
 
 -- what is behind a length holds at least an id
-content_grows : (start section p : ℕ) (earlier : List CieRecord) (end : ℕ) (front : List ℕ) (r : Record) → (content start section earlier end).Spells p front r → 4 ≤ length front
+content_grows : (section p : ℕ) (earlier : List CieRecord) (start end : ℕ) (front : List ℕ) (r : Record) → (content section earlier start end).Spells p front r → 4 ≤ length front
 unfolding content
-content_grows start section p earlier end front r s =
+content_grows section p earlier start end front r s =
     let id = s.5 in
     omega (arith, id.4.0, grows s.2 id.1 id.2 id.3, behind front s.1 s.2 s.3)
 
 -- the length of a record is not 0
 length_above : (section p : ℕ) (earlier : List CieRecord) (front : List ℕ) (r : Record) → (s : (whole_record section earlier).Spells p front r)
     → (n : ℕ) × (text : List ℕ) × (more : List ℕ) × (front ≡ text ++ more) × (length text ≡ 4) × (little_number 4 text ≡ n) × (0 < n)
-unfolding whole_record record_length
+unfolding whole_record record_at record_length
 length_above section p earlier front r s =
     let inner = s.5 in
     let sized = inner.4 in
     let body = inner.5.5 in
-    let held = content_grows s.0 section _ earlier _ inner.5.2 r body.1 in
+    let held = content_grows section _ earlier s.0 _ inner.5.2 r body.1 in
     let size : 4 ≤ inner.0 = omega (arith, held, body.0) in
     let above : 0 < sized.0 =
     elim sized.5 [

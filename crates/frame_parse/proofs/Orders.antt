@@ -3,119 +3,119 @@ use Rattle.std.proofs.Common.{◌≡◌, ℕ, ◌+◌, ◌-◌, ◌*◌, ◌^◌
 use Rattle.std.specs.Prelude.{◌&&◌}
 use Rattle.std.proofs.lemmas.Bool.{ltb-true, leb-true}
 use Rattle.std.proofs.lemmas.List.{length-take}
-use Rattle.frame_parse.specs.declared.fault.FrameFault.{FrameFault}
-use Rattle.frame_parse.specs.declared.record.CieRecord.{CieRecord}
-use Rattle.frame_parse.specs.declared.instruction.Instruction.{Instruction}
-use Rattle.frame_parse.specs.declared.instruction.Instruction.TheVariants.{Nop, Advance, Set, Restore, Remember, RestoreState, Cfa, CfaColumn, CfaOffset}
-use Rattle.frame_parse.specs.declared.instruction.Operation.{Operation}
-use Rattle.frame_parse.specs.declared.instruction.Operation.TheVariants as operations
-use Rattle.frame_parse.specs.declared.instruction.Step.{Step}
-use Rattle.frame_parse.specs.declared.state.State.{State}
+use Rattle.frame_parse.specs.declared.fault.RecordFault.{RecordFault}
+use Rattle.frame_parse.specs.declared.instructions.context.Context.{Context}
+use Rattle.frame_parse.specs.declared.instructions.Instruction.{Instruction}
+use Rattle.frame_parse.specs.declared.instructions.Instruction.TheVariants.{Nop, Advance, Set, Restore, Remember, RestoreState, Cfa, CfaColumn, CfaOffset}
+use Rattle.frame_parse.specs.declared.instructions.Operation.{Operation}
+use Rattle.frame_parse.specs.declared.instructions.Operation.TheVariants as operations
+use Rattle.frame_parse.specs.declared.instructions.Step.{Step}
+use Rattle.frame_parse.specs.declared.program_state.State.{State}
 use Rattle.eh_bytes.specs.Grammar.{given}
-use Rattle.frame_parse.specs.Programs.{effect_of, effect, step, instruction_of, top, below_top, ProgramRest, HasSteps}
+use Rattle.frame_parse.specs.Programs.{moves, effect_of, effect, step, instruction_of, top, below_top, ProgramRest, HasSteps}
 use Rattle.eh_bytes.specs.Steps.{AreSteps}
 use Rattle.frame_parse.specs.Order.{Moves, IsAscendingFrom, AreAt, MayStandAt, depth_behind, IsBalanced, AreOrdered}
 
 -- what a step does to the location and to the number of remembered states
-record Changes (moves : Bool) (s : State) (i : Instruction) (m : State) : Type 0 where
+record Changes (moving : Bool) (s : State) (i : Instruction) (m : State) : Type 0 where
   up : Moves i s.location m.location
-  still : moves ≡ false → m.location ≡ s.location
+  still : moving ≡ false → m.location ≡ s.location
   may : MayStandAt (length s.remembered) i
   depth : length m.remembered ≡ depth_behind (length s.remembered) i
 
-chosen : (b : Bool) (x m : State) (f : FrameFault) (p : ℕ) (text : List ℕ) → (given (cond b (Ok x) (Err f))).Spells p text m → (b ≡ true) × (x ≡ m)
+chosen : (b : Bool) (x m : State) (f : RecordFault) (p : ℕ) (text : List ℕ) → (given (cond b (Ok x) (Err f))).Spells p text m → (b ≡ true) × (x ≡ m)
 chosen true x m f p text a = (refl, a.1)
 chosen false x m f p text a = absurd a
 
-same : (moves : Bool) (s m : State) (i : Instruction) → Moves i s.location s.location → MayStandAt (length s.remembered) i → depth_behind (length s.remembered) i ≡ length s.remembered → s ≡ m → Changes moves s i m
-same moves s m i up may depth e =
-    let made : Changes moves s i s = record { up = up; still = λ _. refl; may = may; depth = sym depth } in
-    subst (λ (k : State). Changes moves s i k) e made
+same : (moving : Bool) (s m : State) (i : Instruction) → Moves i s.location s.location → MayStandAt (length s.remembered) i → depth_behind (length s.remembered) i ≡ length s.remembered → s ≡ m → Changes moving s i m
+same moving s m i up may depth e =
+    let made : Changes moving s i s = record { up = up; still = λ _. refl; may = may; depth = sym depth } in
+    subst (λ (k : State). Changes moving s i k) e made
 
-changes_of : (start at : ℕ) (moves : Bool) (s m : State) (i : Instruction) (p : ℕ) (text : List ℕ) → (given (effect_of start at s i)).Spells p text m → Changes moves s i m
-changes_of start at moves s m Nop p text a = same moves s m Nop refl tt refl a.1
-changes_of start at moves s m Advance p text a = same moves s m Advance (omega arith) tt refl a.1
-changes_of start at moves s m (Set r rule) p text a = same moves s m (Set r rule) refl tt refl a.1
-changes_of start at moves s m (Restore r) p text a = same moves s m (Restore r) refl tt refl a.1
-changes_of start at moves s m (Cfa r n) p text a =
+changes_of : (at : ℕ) (moving : Bool) (s m : State) (i : Instruction) (p : ℕ) (text : List ℕ) → (given (effect_of at s i)).Spells p text m → Changes moving s i m
+changes_of at moving s m Nop p text a = same moving s m Nop refl tt refl a.1
+changes_of at moving s m Advance p text a = same moving s m Advance (omega arith) tt refl a.1
+changes_of at moving s m (Set r rule) p text a = same moving s m (Set r rule) refl tt refl a.1
+changes_of at moving s m (Restore r) p text a = same moving s m (Restore r) refl tt refl a.1
+changes_of at moving s m (Cfa r n) p text a =
     let kept : State = record s { offset = true } in
-    let made : Changes moves s (Cfa r n) kept = record { up = refl; still = λ _. refl; may = tt; depth = refl } in
-    subst (λ (k : State). Changes moves s (Cfa r n) k) a.1 made
-changes_of start at moves s m (CfaColumn r) p text a = same moves s m (CfaColumn r) refl tt refl (chosen s.offset s m _ p text a).1
-changes_of start at moves s m (CfaOffset n) p text a = same moves s m (CfaOffset n) refl tt refl (chosen s.offset s m _ p text a).1
-changes_of start at moves s m Remember p text a =
+    let made : Changes moving s (Cfa r n) kept = record { up = refl; still = λ _. refl; may = tt; depth = refl } in
+    subst (λ (k : State). Changes moving s (Cfa r n) k) a.1 made
+changes_of at moving s m (CfaColumn r) p text a = same moving s m (CfaColumn r) refl tt refl (chosen s.offset s m _ p text a).1
+changes_of at moving s m (CfaOffset n) p text a = same moving s m (CfaOffset n) refl tt refl (chosen s.offset s m _ p text a).1
+changes_of at moving s m Remember p text a =
     let kept : State = record s { remembered = s.remembered ++ s.offset ∷ [] } in
     let b = chosen (nat_lt (length s.remembered) 8) kept m _ p text a in
-    let made : Changes moves s Remember kept = record { up = refl; still = λ _. refl; may = ltb-true _ _ b.0; depth = length-append s.remembered (s.offset ∷ []) } in
-    subst (λ (k : State). Changes moves s Remember k) b.1 made
-changes_of start at moves s m RestoreState p text a =
+    let made : Changes moving s Remember kept = record { up = refl; still = λ _. refl; may = ltb-true _ _ b.0; depth = length-append s.remembered (s.offset ∷ []) } in
+    subst (λ (k : State). Changes moving s Remember k) b.1 made
+changes_of at moving s m RestoreState p text a =
     let kept : State = record s { offset = top s.remembered; remembered = below_top s.remembered } in
     let b = chosen (nat_lt 0 (length s.remembered)) kept m _ p text a in
-    let made : Changes moves s RestoreState kept = record { up = refl; still = λ _. refl; may = ltb-true _ _ b.0; depth = omega (arith, length-take (length s.remembered - 1) s.remembered) } in
-    subst (λ (k : State). Changes moves s RestoreState k) b.1 made
+    let made : Changes moving s RestoreState kept = record { up = refl; still = λ _. refl; may = ltb-true _ _ b.0; depth = omega (arith, length-take (length s.remembered - 1) s.remembered) } in
+    subst (λ (k : State). Changes moving s RestoreState k) b.1 made
 
 both : (a b : Bool) → a && b ≡ true → (a ≡ true) × (b ≡ true)
 both true b e = (refl, e)
 both false b e = absurd cc
 
-changes : (start at : ℕ) (moves : Bool) (c : CieRecord) (s m : State) (o : Operation) (p : ℕ) (text : List ℕ) → (given (effect start at moves c s o)).Spells p text m → Changes moves s (instruction_of o) m
-changes start at moves c s m (operations.Advance d) p text a =
+changes : (at : ℕ) (c : Context) (s m : State) (o : Operation) (p : ℕ) (text : List ℕ) → (given (effect at c s o)).Spells p text m → Changes (moves c.kind) s (instruction_of o) m
+changes at c s m (operations.Advance d) p text a =
     let kept : State = record s { location = s.location + d * c.code_alignment } in
-    let b = chosen (moves && nat_lt (s.location + d * c.code_alignment) (2 ^ 64)) kept m _ p text a in
-    let t = both moves (nat_lt (s.location + d * c.code_alignment) (2 ^ 64)) b.0 in
-    let made : Changes moves s Advance kept = record { up = omega arith; still = λ e. absurd (let never = sym e ∙ t.0 in cc); may = tt; depth = refl } in
-    subst (λ (k : State). Changes moves s Advance k) b.1 made
-changes start at moves c s m (operations.SetLocation d) p text a =
+    let b = chosen (moves c.kind && nat_lt (s.location + d * c.code_alignment) (2 ^ 64)) kept m _ p text a in
+    let t = both (moves c.kind) (nat_lt (s.location + d * c.code_alignment) (2 ^ 64)) b.0 in
+    let made : Changes (moves c.kind) s Advance kept = record { up = omega arith; still = λ e. absurd (let never = sym e ∙ t.0 in cc); may = tt; depth = refl } in
+    subst (λ (k : State). Changes (moves c.kind) s Advance k) b.1 made
+changes at c s m (operations.SetLocation d) p text a =
     let kept : State = record s { location = d } in
-    let b = chosen (moves && nat_le s.location d) kept m _ p text a in
-    let t = both moves (nat_le s.location d) b.0 in
-    let made : Changes moves s Advance kept = record { up = leb-true _ _ t.1; still = λ e. absurd (let never = sym e ∙ t.0 in cc); may = tt; depth = refl } in
-    subst (λ (k : State). Changes moves s Advance k) b.1 made
-changes start at moves c s m (operations.Other i) p text a = changes_of start at moves s m i p text a
+    let b = chosen (moves c.kind && nat_le s.location d) kept m _ p text a in
+    let t = both (moves c.kind) (nat_le s.location d) b.0 in
+    let made : Changes (moves c.kind) s Advance kept = record { up = leb-true _ _ t.1; still = λ e. absurd (let never = sym e ∙ t.0 in cc); may = tt; depth = refl } in
+    subst (λ (k : State). Changes (moves c.kind) s Advance k) b.1 made
+changes at c s m (operations.Other i) p text a = changes_of at (moves c.kind) s m i p text a
 
 -- a step that is spelled: its location is that of the state behind it
-record Stepped (moves : Bool) (s : State) (x : Step) (m : State) : Type 0 where
+record Stepped (moving : Bool) (s : State) (x : Step) (m : State) : Type 0 where
   here : x.location ≡ m.location
-  change : Changes moves s x.instruction m
+  change : Changes moving s x.instruction m
 
-stepped : (start section : ℕ) (moves : Bool) (c : CieRecord) (s m : State) (p : ℕ) (front : List ℕ) (x : Step) → (step start section moves c s).Spells p front (x, m) → Stepped moves s x m
+stepped : (c : Context) (s m : State) (p : ℕ) (front : List ℕ) (x : Step) → (step c s).Spells p front (x, m) → Stepped (moves c.kind) s x m
 unfolding step
-stepped start section moves c s m p front x a =
+stepped c s m p front x a =
     let b = a.5 in
     let d = b.5 in
     let made : Step = record { location = d.0.location; instruction = instruction_of b.0 } in
     let one : made ≡ x = ap (λ (z : Step × State). z.0) d.5.1 in
     let two : d.0 ≡ m = ap (λ (z : Step × State). z.1) d.5.1 in
-    let change = changes start a.0 moves c s d.0 b.0 _ d.1 d.4 in
-    let first : Stepped moves s made d.0 = record { here = refl; change = change } in
-    let second : Stepped moves s x d.0 = subst (λ (k : Step). Stepped moves s k d.0) one first in
-    subst (λ (k : State). Stepped moves s x k) two second
+    let change = changes a.0 c s d.0 b.0 _ d.1 d.4 in
+    let first : Stepped (moves c.kind) s made d.0 = record { here = refl; change = change } in
+    let second : Stepped (moves c.kind) s x d.0 = subst (λ (k : Step). Stepped (moves c.kind) s k d.0) one first in
+    subst (λ (k : State). Stepped (moves c.kind) s x k) two second
 
-ascending_from : (start section : ℕ) (moves : Bool) (c : CieRecord) (p : ℕ) (s : State) (text : List ℕ) (steps : List Step) (t : State) → AreSteps (step start section moves c) p s text steps t → IsAscendingFrom s.location steps
-ascending_from start section moves c p s text [] t a = tt
-ascending_from start section moves c p s text (x ∷ xs) t a =
-    let one = stepped start section moves c s a.0 p a.1 x a.4 in
-    let later = ascending_from start section moves c (p + length a.1) a.0 a.2 xs t a.5 in
+ascending_from : (c : Context) (p : ℕ) (s : State) (text : List ℕ) (steps : List Step) (t : State) → AreSteps (step c) p s text steps t → IsAscendingFrom s.location steps
+ascending_from c p s text [] t a = tt
+ascending_from c p s text (x ∷ xs) t a =
+    let one = stepped c s a.0 p a.1 x a.4 in
+    let later = ascending_from c (p + length a.1) a.0 a.2 xs t a.5 in
     (subst (λ (k : ℕ). Moves x.instruction s.location k) (sym one.here) one.change.up, subst (λ (k : ℕ). IsAscendingFrom k xs) (sym one.here) later)
 
-at_from : (start section : ℕ) (moves : Bool) (c : CieRecord) (p : ℕ) (s : State) (text : List ℕ) (steps : List Step) (t : State) → moves ≡ false → AreSteps (step start section moves c) p s text steps t → AreAt s.location steps
-at_from start section moves c p s text [] t e a = tt
-at_from start section moves c p s text (x ∷ xs) t e a =
-    let one = stepped start section moves c s a.0 p a.1 x a.4 in
-    let later = at_from start section moves c (p + length a.1) a.0 a.2 xs t e a.5 in
+at_from : (c : Context) (p : ℕ) (s : State) (text : List ℕ) (steps : List Step) (t : State) → moves c.kind ≡ false → AreSteps (step c) p s text steps t → AreAt s.location steps
+at_from c p s text [] t e a = tt
+at_from c p s text (x ∷ xs) t e a =
+    let one = stepped c s a.0 p a.1 x a.4 in
+    let later = at_from c (p + length a.1) a.0 a.2 xs t e a.5 in
     (one.here ∙ one.change.still e, subst (λ (k : ℕ). AreAt k xs) (one.change.still e) later)
 
-balanced_from : (start section : ℕ) (moves : Bool) (c : CieRecord) (p : ℕ) (s : State) (text : List ℕ) (steps : List Step) (t : State) → AreSteps (step start section moves c) p s text steps t → IsBalanced (length s.remembered) steps
-balanced_from start section moves c p s text [] t a = tt
-balanced_from start section moves c p s text (x ∷ xs) t a =
-    let one = stepped start section moves c s a.0 p a.1 x a.4 in
-    let later = balanced_from start section moves c (p + length a.1) a.0 a.2 xs t a.5 in
+balanced_from : (c : Context) (p : ℕ) (s : State) (text : List ℕ) (steps : List Step) (t : State) → AreSteps (step c) p s text steps t → IsBalanced (length s.remembered) steps
+balanced_from c p s text [] t a = tt
+balanced_from c p s text (x ∷ xs) t a =
+    let one = stepped c s a.0 p a.1 x a.4 in
+    let later = balanced_from c (p + length a.1) a.0 a.2 xs t a.5 in
     (one.change.may, subst (λ (k : ℕ). IsBalanced k xs) one.change.depth later)
 
 pub ordered : (p : ProgramRest) (steps : List Step) → HasSteps p steps → AreOrdered p steps
 unfolding HasSteps
 ordered p steps a = record {
-  ascending = ascending_from p.start p.section p.moves p.cie p.rest.at p.state p.rest.bytes steps a.0 a.1;
-  staying = λ e. at_from p.start p.section p.moves p.cie p.rest.at p.state p.rest.bytes steps a.0 e a.1;
-  balanced = balanced_from p.start p.section p.moves p.cie p.rest.at p.state p.rest.bytes steps a.0 a.1;
+  ascending = ascending_from p.context p.rest.at p.state p.rest.bytes steps a.0 a.1;
+  staying = λ e. at_from p.context p.rest.at p.state p.rest.bytes steps a.0 (ap moves e) a.1;
+  balanced = balanced_from p.context p.rest.at p.state p.rest.bytes steps a.0 a.1;
 }

@@ -2,131 +2,128 @@
 use Rattle.std.proofs.Common.{ℕ, ◌+◌, ◌%◌, ◌^◌, List, [], ◌∷◌, Bool, None, nat_lt}
 use Rattle.std.specs.Prelude.{◌==◌, ◌||◌, ◌&&◌, not}
 use Rattle.eh_bytes.specs.Pointer.{is_format}
-use Rattle.frame_parse.specs.declared.fault.FrameFault.TheVariants.{Short, TooWide, Encoding, NoCie, Version, Column, Range}
-use Rattle.frame_parse.specs.declared.fault.FrameFault.TheVariants as faults
-use Rattle.frame_parse.specs.declared.record.Augmentation.{Augmentation}
-use Rattle.frame_parse.specs.declared.record.CieRecord.{CieRecord}
-use Rattle.frame_parse.specs.Fields.{fault_in, field, by_format, number, is_negative, pointer, optional_pointer, is_code_encoding, is_data_encoding, encoding, short_of}
+use Rattle.frame_parse.specs.declared.fault.RecordFault.TheVariants.{Short, TooWide, Encoding, NoCie, Version, Column, Range}
+use Rattle.frame_parse.specs.declared.fault.RecordFault.TheVariants as faults
+use Rattle.frame_parse.specs.declared.records.augmentation.Augmentation.{Augmentation}
+use Rattle.frame_parse.specs.declared.records.CieRecord.{CieRecord}
+use Rattle.frame_parse.specs.Fields.{field_fault, field, by_format, number, is_negative, pointer, optional_pointer, is_code_encoding, is_data_encoding, encoding}
 use Rattle.frame_parse.specs.Records.{is_augmentation, plain, letter, letters, augmentation_data, version, augmentation, return_column, cie, range, lsda, fde}
 use Rattle.eh_bytes.specs.declared.fault.ByteFault.{ByteFault}
 use Rattle.eh_bytes.specs.Grammar.{Part}
 use Rattle.eh_bytes.proofs.Exact.{IsExact, lift_exact, then_exact, give_exact, here_exact, when_exact, check_exact, block_exact}
 use Rattle.eh_bytes.proofs.Fields.{fixed_exact, uleb_exact, sleb_exact, text_exact}
 
-pub field_exact : {A : Type 0} (start : ℕ) (g : Part ByteFault A) → IsExact g → IsExact (field start g)
-field_exact start g eg = lift_exact (fault_in start) g eg
+pub field_exact : {A : Type 0} (g : Part ByteFault A) → IsExact g → IsExact (field g)
+field_exact g eg = lift_exact field_fault g eg
 
-pub short_of_exact : (start n : ℕ) → IsExact (short_of start n)
-short_of_exact start n = lift_exact (λ e. Short start start) _ (fixed_exact n)
+by_format_exact : (f : ℕ) → IsExact (by_format f)
+by_format_exact f =
+    when_exact _ _ _ (field_exact _ uleb_exact)
+    (when_exact _ _ _ (field_exact _ (fixed_exact 2))
+    (when_exact _ _ _ (field_exact _ (fixed_exact 4))
+    (when_exact _ _ _ (then_exact _ _ (field_exact _ sleb_exact) (λ x. give_exact _))
+    (when_exact _ _ _ (then_exact _ _ (field_exact _ (fixed_exact 2)) (λ x. give_exact _))
+    (when_exact _ _ _ (then_exact _ _ (field_exact _ (fixed_exact 4)) (λ x. give_exact _))
+    (field_exact _ (fixed_exact 8)))))))
 
-by_format_exact : (start f : ℕ) → IsExact (by_format start f)
-by_format_exact start f =
-    when_exact _ _ _ (field_exact start _ uleb_exact)
-    (when_exact _ _ _ (field_exact start _ (fixed_exact 2))
-    (when_exact _ _ _ (field_exact start _ (fixed_exact 4))
-    (when_exact _ _ _ (then_exact _ _ (field_exact start _ sleb_exact) (λ x. give_exact _))
-    (when_exact _ _ _ (then_exact _ _ (field_exact start _ (fixed_exact 2)) (λ x. give_exact _))
-    (when_exact _ _ _ (then_exact _ _ (field_exact start _ (fixed_exact 4)) (λ x. give_exact _))
-    (field_exact start _ (fixed_exact 8)))))))
-
-pub number_exact : (start e : ℕ) → IsExact (number start e)
+pub number_exact : (e : ℕ) → IsExact (number e)
 unfolding number
-number_exact start e =
+number_exact e =
     then_exact _ _ here_exact (λ at.
-    then_exact _ _ (check_exact (is_format (e % 16)) (Encoding start at (e % 16))) (λ _.
-    then_exact _ _ (by_format_exact start (e % 16)) (λ x. give_exact _)))
+    then_exact _ _ (check_exact (is_format (e % 16)) (Encoding at (e % 16))) (λ _.
+    then_exact _ _ (by_format_exact (e % 16)) (λ x. give_exact _)))
 
-pub pointer_exact : (start section e : ℕ) → IsExact (pointer start section e)
+pub pointer_exact : (section e : ℕ) → IsExact (pointer section e)
 unfolding pointer
-pointer_exact start section e = then_exact _ _ here_exact (λ at. then_exact _ _ (number_exact start e) (λ x. give_exact _))
+pointer_exact section e = then_exact _ _ here_exact (λ at. then_exact _ _ (number_exact e) (λ x. give_exact _))
 
-pub optional_pointer_exact : (start section e : ℕ) → IsExact (optional_pointer start section e)
+pub optional_pointer_exact : (section e : ℕ) → IsExact (optional_pointer section e)
 unfolding optional_pointer
-optional_pointer_exact start section e = then_exact _ _ here_exact (λ at. then_exact _ _ (number_exact start e) (λ x. give_exact _))
+optional_pointer_exact section e = then_exact _ _ here_exact (λ at. then_exact _ _ (number_exact e) (λ x. give_exact _))
 
-pub encoding_exact : (start : ℕ) (accepts : ℕ → Bool) → IsExact (encoding start accepts)
+pub encoding_exact : (accepts : ℕ → Bool) → IsExact (encoding accepts)
 unfolding encoding
-encoding_exact start accepts =
+encoding_exact accepts =
     then_exact _ _ here_exact (λ at.
-    then_exact _ _ (field_exact start _ (fixed_exact 1)) (λ e.
-    then_exact _ _ (check_exact (accepts e) (Encoding start at e)) (λ _. give_exact _)))
+    then_exact _ _ (field_exact _ (fixed_exact 1)) (λ e.
+    then_exact _ _ (check_exact (accepts e) (Encoding at e)) (λ _. give_exact _)))
 
 -- ---- CIEs
 
-letter_exact : (start section l : ℕ) (a : Augmentation) → IsExact (letter start section l a)
+letter_exact : (section l : ℕ) (a : Augmentation) → IsExact (letter section l a)
 unfolding letter
-letter_exact start section l a =
-    when_exact _ _ _ (then_exact _ _ (encoding_exact start is_data_encoding) (λ e. give_exact _))
-    (when_exact _ _ _ (then_exact _ _ (encoding_exact start is_data_encoding) (λ e. then_exact _ _ (when_exact (e == 255) _ _ (give_exact None) (optional_pointer_exact start section e)) (λ q. give_exact _)))
-    (when_exact _ _ _ (then_exact _ _ (encoding_exact start is_code_encoding) (λ e. give_exact _))
+letter_exact section l a =
+    when_exact _ _ _ (then_exact _ _ (encoding_exact is_data_encoding) (λ e. give_exact _))
+    (when_exact _ _ _ (then_exact _ _ (encoding_exact is_data_encoding) (λ e. then_exact _ _ (when_exact (e == 255) _ _ (give_exact None) (optional_pointer_exact section e)) (λ q. give_exact _)))
+    (when_exact _ _ _ (then_exact _ _ (encoding_exact is_code_encoding) (λ e. give_exact _))
     (give_exact _)))
 
-letters_exact : (start section : ℕ) (ls : List ℕ) (a : Augmentation) → IsExact (letters start section ls a)
+letters_exact : (section : ℕ) (ls : List ℕ) (a : Augmentation) → IsExact (letters section ls a)
 unfolding letters
-letters_exact start section [] a = give_exact a
-letters_exact start section (l ∷ ls) a = then_exact _ _ (letter_exact start section l a) (λ b. letters_exact start section ls b)
+letters_exact section [] a = give_exact a
+letters_exact section (l ∷ ls) a = then_exact _ _ (letter_exact section l a) (λ b. letters_exact section ls b)
 
-augmentation_data_exact : (start section : ℕ) (t : List ℕ) → IsExact (augmentation_data start section t)
+augmentation_data_exact : (section : ℕ) (t : List ℕ) → IsExact (augmentation_data section t)
 unfolding augmentation_data
-augmentation_data_exact start section [] = give_exact plain
-augmentation_data_exact start section (z ∷ ls) =
-    then_exact _ _ (field_exact start _ uleb_exact) (λ n.
+augmentation_data_exact section [] = give_exact plain
+augmentation_data_exact section (z ∷ ls) =
+    then_exact _ _ (field_exact _ uleb_exact) (λ n.
     then_exact _ _ here_exact (λ at.
-    block_exact (Short start at) n (letters start section ls plain) (letters_exact start section ls plain)))
+    block_exact (Short at) n (letters section ls plain) (letters_exact section ls plain)))
 
-version_exact : (start : ℕ) → IsExact (version start)
+version_exact : IsExact version
 unfolding version
-version_exact start =
+version_exact =
     then_exact _ _ here_exact (λ at.
-    then_exact _ _ (field_exact start _ (fixed_exact 1)) (λ v.
-    then_exact _ _ (check_exact (v == 1 || v == 3) (Version start at v)) (λ _. give_exact v)))
+    then_exact _ _ (field_exact _ (fixed_exact 1)) (λ v.
+    then_exact _ _ (check_exact (v == 1 || v == 3) (Version at v)) (λ _. give_exact v)))
 
-augmentation_exact : (start : ℕ) → IsExact (augmentation start)
+augmentation_exact : IsExact augmentation
 unfolding augmentation
-augmentation_exact start =
+augmentation_exact =
     then_exact _ _ here_exact (λ at.
-    then_exact _ _ (field_exact start _ text_exact) (λ t.
-    then_exact _ _ (check_exact (is_augmentation t) (faults.Augmentation start at)) (λ _. give_exact t)))
+    then_exact _ _ (field_exact _ text_exact) (λ t.
+    then_exact _ _ (check_exact (is_augmentation t) (faults.Augmentation at)) (λ _. give_exact t)))
 
-return_column_exact : (start v : ℕ) → IsExact (return_column start v)
+return_column_exact : (v : ℕ) → IsExact (return_column v)
 unfolding return_column
-return_column_exact start v =
+return_column_exact v =
     then_exact _ _ here_exact (λ at.
-    then_exact _ _ (when_exact (v == 1) _ _ (field_exact start _ (fixed_exact 1)) (field_exact start _ uleb_exact)) (λ c. check_exact (c == 16) (Column start at c)))
+    then_exact _ _ (when_exact (v == 1) _ _ (field_exact _ (fixed_exact 1)) (field_exact _ uleb_exact)) (λ c. check_exact (c == 16) (Column at c)))
 
-pub cie_exact : (start section end : ℕ) → IsExact (cie start section end)
+pub cie_exact : (section start end : ℕ) → IsExact (cie section start end)
 unfolding cie
-cie_exact start section end =
-    then_exact _ _ (version_exact start) (λ v.
-    then_exact _ _ (augmentation_exact start) (λ t.
-    then_exact _ _ (field_exact start _ uleb_exact) (λ code.
-    then_exact _ _ (field_exact start _ sleb_exact) (λ factor.
-    then_exact _ _ (return_column_exact start v) (λ _.
-    then_exact _ _ (augmentation_data_exact start section t) (λ a.
+cie_exact section start end =
+    then_exact _ _ (version_exact) (λ v.
+    then_exact _ _ (augmentation_exact) (λ t.
+    then_exact _ _ (field_exact _ uleb_exact) (λ code.
+    then_exact _ _ (field_exact _ sleb_exact) (λ factor.
+    then_exact _ _ (return_column_exact v) (λ _.
+    then_exact _ _ (augmentation_data_exact section t) (λ a.
     then_exact _ _ here_exact (λ at. give_exact _)))))))
 
 -- ---- FDEs
 
-range_exact : (start e first : ℕ) → IsExact (range start e first)
+range_exact : (e first : ℕ) → IsExact (range e first)
 unfolding range
-range_exact start e first =
+range_exact e first =
     then_exact _ _ here_exact (λ at.
-    then_exact _ _ (number_exact start e) (λ x.
-    then_exact _ _ (check_exact (not (is_negative e x) && nat_lt (first + x) (2 ^ 64)) (Range start at)) (λ _. give_exact x)))
+    then_exact _ _ (number_exact e) (λ x.
+    then_exact _ _ (check_exact (not (is_negative e x) && nat_lt (first + x) (2 ^ 64)) (Range at)) (λ _. give_exact x)))
 
-lsda_exact : (start section : ℕ) (c : CieRecord) → IsExact (lsda start section c)
+lsda_exact : (section : ℕ) (c : CieRecord) → IsExact (lsda section c)
 unfolding lsda
-lsda_exact start section c =
+lsda_exact section c =
     when_exact c.has_data _ _
-    (then_exact _ _ (field_exact start _ uleb_exact) (λ n.
+    (then_exact _ _ (field_exact _ uleb_exact) (λ n.
     then_exact _ _ here_exact (λ at.
-    block_exact (Short start at) n _ (when_exact (c.augmentation.lsda == 255 || n == 0) _ _ (give_exact None) (optional_pointer_exact start section c.augmentation.lsda)))))
+    block_exact (Short at) n _ (when_exact (c.augmentation.lsda == 255 || n == 0) _ _ (give_exact None) (optional_pointer_exact section c.augmentation.lsda)))))
     (give_exact None)
 
-pub fde_exact : (start section end : ℕ) (c : CieRecord) → IsExact (fde start section end c)
+pub fde_exact : (section end : ℕ) (c : CieRecord) → IsExact (fde section end c)
 unfolding fde
-fde_exact start section end c =
-    then_exact _ _ (pointer_exact start section c.augmentation.pointers) (λ first.
-    then_exact _ _ (range_exact start c.augmentation.pointers first) (λ size.
-    then_exact _ _ (lsda_exact start section c) (λ l.
+fde_exact section end c =
+    then_exact _ _ (pointer_exact section c.augmentation.pointers) (λ first.
+    then_exact _ _ (range_exact c.augmentation.pointers first) (λ size.
+    then_exact _ _ (lsda_exact section c) (λ l.
     then_exact _ _ here_exact (λ at. give_exact _))))

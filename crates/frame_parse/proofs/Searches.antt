@@ -1,7 +1,7 @@
 -- CIEs in order of their places, and the one that begins at a place.
 use Rattle.std.proofs.Common.{◌≡◌, ◌≢◌, ℕ, zero, suc, ◌<◌, ◌≤◌, List, [], ◌∷◌, length, get_or, true, false, Some, None, nat_eq, pos, refl, sym, ap, arith, inl, inr}
 use Rattle.std.proofs.lemmas.Bool.{cases_lt, eq-eqb, ne_eqb}
-use Rattle.frame_parse.specs.declared.record.CieRecord.{CieRecord}
+use Rattle.frame_parse.specs.declared.records.CieRecord.{CieRecord}
 use Rattle.frame_parse.specs.Records.{cie_from}
 use Rattle.frame_parse.specs.Sections.{starts, IsAscending}
 

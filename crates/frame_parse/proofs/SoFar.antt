@@ -4,10 +4,10 @@ use Rattle.std.proofs.lemmas.Bool.{cases_lt}
 use Rattle.std.proofs.lemmas.List.{append-nil}
 use Rattle.eh_bytes.specs.Rest.{Rest}
 use Rattle.frame_parse.specs.declared.fault.FrameFault.{FrameFault}
-use Rattle.frame_parse.specs.declared.record.CieRecord.{CieRecord}
-use Rattle.frame_parse.specs.declared.record.FdeRecord.{FdeRecord}
-use Rattle.frame_parse.specs.declared.record.Record.{Record}
-use Rattle.frame_parse.specs.declared.record.Record.TheVariants.{Cie, Fde}
+use Rattle.frame_parse.specs.declared.records.CieRecord.{CieRecord}
+use Rattle.frame_parse.specs.declared.records.FdeRecord.{FdeRecord}
+use Rattle.frame_parse.specs.declared.records.Record.{Record}
+use Rattle.frame_parse.specs.declared.records.Record.TheVariants.{Cie, Fde}
 use Rattle.frame_parse.specs.Records.{whole_record}
 use Rattle.frame_parse.specs.Sections.{is_end, with_record, AreRecords, cies_of, fdes_of, IsSection, IsRefused, HasFdes, starts, IsAscending}
 use Rattle.eh_bytes.proofs.Exact.{left, Takes}

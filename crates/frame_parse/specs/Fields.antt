@@ -1,46 +1,41 @@
 -- The fields of records: numbers, texts and pointers, as DWARF 5 (section 7.6) and the LSB spell them.
--- `start` is the first byte of the record, which each refusal names.
-use Rattle.std.specs.Prelude.{ℕ, ◌+◌, ◌-◌, ◌%◌, ◌^◌, Bool, Option, Some, None, Result, nat_lt, ◌==◌, ◌||◌, ◌&&◌, if◌then◌else◌}
+use Rattle.std.specs.Prelude.{ℕ, ◌+◌, ◌-◌, ◌%◌, ◌^◌, Bool, Option, Some, None, nat_lt, ◌==◌, ◌||◌, ◌&&◌, if◌then◌else◌}
 use Rattle.std.specs.Int.{w64, cast_unsigned}
 use Rattle.eh_bytes.specs.declared.fault.ByteFault.{ByteFault}
 use Rattle.eh_bytes.specs.declared.fault.ByteFault.TheVariants as bytes
-use Rattle.eh_bytes.specs.Results.{with_fault}
 use Rattle.eh_bytes.specs.Fields.{fixed, uleb, sleb}
 use Rattle.eh_bytes.specs.Pointer.{is_format, is_pointer, extended, base_of}
-use Rattle.frame_parse.specs.declared.fault.FrameFault.{FrameFault}
-use Rattle.frame_parse.specs.declared.fault.FrameFault.TheVariants.{Short, TooWide, Encoding}
+use Rattle.frame_parse.specs.declared.fault.RecordFault.{RecordFault}
+use Rattle.frame_parse.specs.declared.fault.RecordFault.TheVariants.{Short, TooWide, Encoding}
 use Rattle.eh_bytes.specs.Grammar.{Part, ◌>>=◌, give, here, when, check, lift}
 
 -- a field's fault as the record's
-abbrev pub fault_in : ℕ → ByteFault → FrameFault
-fault_in start (bytes.Short at) = Short start at
-fault_in start (bytes.TooWide at) = TooWide start at
-fault_in start (bytes.Encoding at byte) = Encoding start at byte
-
-abbrev pub placed : {A : Type 0} → ℕ → Result A ByteFault → Result A FrameFault
-placed start = with_fault (fault_in start)
+abbrev pub field_fault : ByteFault → RecordFault
+field_fault (bytes.Short at) = Short at
+field_fault (bytes.TooWide at) = TooWide at
+field_fault (bytes.Encoding at byte) = Encoding at byte
 
 -- a field of a record
-abbrev pub field : {A : Type 0} → ℕ → Part ByteFault A → Part FrameFault A
-field start g = lift (fault_in start) g
+abbrev pub field : {A : Type 0} → Part ByteFault A → Part RecordFault A
+field g = lift field_fault g
 
 -- the number of a pointer's format
-abbrev pub by_format : ℕ → ℕ → Part FrameFault ℕ
-by_format start f =
-    when (f == 1) (field start uleb)
-    (when (f == 2) (field start (fixed 2))
-    (when (f == 3) (field start (fixed 4))
-    (when (f == 9) (field start sleb >>= λ x. give (cast_unsigned w64 x))
-    (when (f == 10) (field start (fixed 2) >>= λ x. give (extended 2 x))
-    (when (f == 11) (field start (fixed 4) >>= λ x. give (extended 4 x))
-    (field start (fixed 8)))))))
+abbrev pub by_format : ℕ → Part RecordFault ℕ
+by_format f =
+    when (f == 1) (field uleb)
+    (when (f == 2) (field (fixed 2))
+    (when (f == 3) (field (fixed 4))
+    (when (f == 9) (field sleb >>= λ x. give (cast_unsigned w64 x))
+    (when (f == 10) (field (fixed 2) >>= λ x. give (extended 2 x))
+    (when (f == 11) (field (fixed 4) >>= λ x. give (extended 4 x))
+    (field (fixed 8)))))))
 
 -- the number of an encoding as it is read, modulo 2 ^ 64: the low four bits are its format
-unfoldable pub number : ℕ → ℕ → Part FrameFault ℕ
-number start e = do
+unfoldable pub number : ℕ → Part RecordFault ℕ
+number e = do
   at ← here
-  _ ← check (is_format (e % 16)) (Encoding start at (e % 16))
-  x ← by_format start (e % 16)
+  _ ← check (is_format (e % 16)) (Encoding at (e % 16))
+  x ← by_format (e % 16)
   give (x % 2 ^ 64)
 
 -- the number of an encoding is negative: it has the sign of a signed format
@@ -48,17 +43,17 @@ abbrev pub is_negative : ℕ → ℕ → Bool
 is_negative e x = nat_lt 8 (e % 16) && nat_lt (2 ^ 63 - 1) x
 
 -- a pointer: the number, and the address of the field where the encoding says so
-unfoldable pub pointer : ℕ → ℕ → ℕ → Part FrameFault ℕ
-pointer start section e = do
+unfoldable pub pointer : ℕ → ℕ → Part RecordFault ℕ
+pointer section e = do
   at ← here
-  x ← number start e
+  x ← number e
   give ((x + base_of e section at) % 2 ^ 64)
 
 -- a pointer that is absent where its number is 0 before anything is added
-unfoldable pub optional_pointer : ℕ → ℕ → ℕ → Part FrameFault (Option ℕ)
-optional_pointer start section e = do
+unfoldable pub optional_pointer : ℕ → ℕ → Part RecordFault (Option ℕ)
+optional_pointer section e = do
   at ← here
-  x ← number start e
+  x ← number e
   give (if x == 0 then None else Some ((x + base_of e section at) % 2 ^ 64))
 
 -- the encodings of code: a format, with nothing or the field's address added
@@ -70,13 +65,9 @@ abbrev pub is_data_encoding : ℕ → Bool
 is_data_encoding e = is_pointer e || e == 255
 
 -- an encoding that is accepted in its place
-unfoldable pub encoding : ℕ → (ℕ → Bool) → Part FrameFault ℕ
-encoding start accepts = do
+unfoldable pub encoding : (ℕ → Bool) → Part RecordFault ℕ
+encoding accepts = do
   at ← here
-  e ← field start (fixed 1)
-  _ ← check (accepts e) (Encoding start at e)
+  e ← field (fixed 1)
+  _ ← check (accepts e) (Encoding at e)
   give e
-
--- a number of n bytes of a record's length, which counts as the record where it isn't whole
-abbrev pub short_of : ℕ → ℕ → Part FrameFault ℕ
-short_of start n = lift (λ e. Short start start) (fixed n)

@@ -4,5 +4,4 @@ pub mod Sections
 pub mod Lookups
 pub mod Reading
 pub mod Programs
-pub mod Frequent
 pub mod Order

@@ -2,10 +2,10 @@
 -- that covers an address is the only one, and is found by halving.
 use Rattle.std.specs.Prelude.{◌≡◌, ℕ, ◌+◌, ◌<◌, List, [], ◌∷◌, length, get_or, Bool, true, nat_le, nat_lt, ◌&&◌, ⊤}
 use Rattle.std.specs.List.{All, Contains}
-use Rattle.frame_parse.specs.declared.record.FdeRecord.{FdeRecord}
-use Rattle.frame_parse.specs.declared.lookup.CoveredRange.{CoveredRange}
-use Rattle.frame_parse.specs.declared.lookup.Lookup.{Lookup}
-use Rattle.frame_parse.specs.declared.lookup.Lookup.TheVariants.{Ordered, Walk}
+use Rattle.frame_parse.specs.declared.records.FdeRecord.{FdeRecord}
+use Rattle.frame_parse.specs.declared.fde_lookup.CoveredRange.{CoveredRange}
+use Rattle.frame_parse.specs.declared.fde_lookup.Lookup.{Lookup}
+use Rattle.frame_parse.specs.declared.fde_lookup.Lookup.TheVariants.{Ordered, Walk}
 
 -- the range of an FDE, with the FDE's number
 abbrev pub range_of : ℕ → FdeRecord → CoveredRange

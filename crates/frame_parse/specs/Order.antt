@@ -1,8 +1,9 @@
 -- What holds along the steps of a program that was read without fault, after DWARF 5, section 6.4.2.
-use Rattle.std.specs.Prelude.{◌≡◌, ℕ, ◌+◌, ◌-◌, ◌<◌, ◌≤◌, List, [], ◌∷◌, length, false}
-use Rattle.frame_parse.specs.declared.instruction.Instruction.{Instruction}
-use Rattle.frame_parse.specs.declared.instruction.Instruction.TheVariants.{Advance, Remember, RestoreState}
-use Rattle.frame_parse.specs.declared.instruction.Step.{Step}
+use Rattle.std.specs.Prelude.{◌≡◌, ℕ, ◌+◌, ◌-◌, ◌<◌, ◌≤◌, List, [], ◌∷◌, length}
+use Rattle.frame_parse.specs.declared.instructions.Instruction.{Instruction}
+use Rattle.frame_parse.specs.declared.instructions.Instruction.TheVariants.{Advance, Remember, RestoreState}
+use Rattle.frame_parse.specs.declared.instructions.Step.{Step}
+use Rattle.frame_parse.specs.declared.instructions.context.ProgramKind.TheVariants.{Initial}
 use Rattle.frame_parse.specs.Programs.{ProgramRest}
 
 -- an Advance may move the location up, every other instruction leaves it
@@ -41,5 +42,5 @@ IsBalanced depth (x ∷ xs) = MayStandAt depth x.instruction × IsBalanced (dept
 pub record AreOrdered (p : ProgramRest) (steps : List Step) : Type 0 where
   pub ascending : IsAscendingFrom p.state.location steps
   -- in a CIE
-  pub staying : p.moves ≡ false → AreAt p.state.location steps
+  pub staying : p.context.kind ≡ Initial → AreAt p.state.location steps
   pub balanced : IsBalanced (length p.state.remembered) steps

@@ -2,18 +2,38 @@
 use Rattle.std.specs.Prelude.{ℕ, ◌+◌, ◌-◌, ◌^◌, List, [], ◌∷◌, Bool, true, false, Option, Some, None, nat_lt, ◌==◌, ◌||◌, ◌&&◌, not, if◌then◌else◌}
 use Rattle.std.specs.List.{list_any}
 use Rattle.frame_parse.specs.declared.fault.FrameFault.{FrameFault}
-use Rattle.frame_parse.specs.declared.fault.FrameFault.TheVariants.{Short, NoCie, Version, Column, Range}
-use Rattle.frame_parse.specs.declared.fault.FrameFault.TheVariants as faults
-use Rattle.frame_parse.specs.declared.record.Augmentation.{Augmentation}
-use Rattle.frame_parse.specs.declared.record.CieRecord.{CieRecord}
-use Rattle.frame_parse.specs.declared.record.FdeRecord.{FdeRecord}
-use Rattle.frame_parse.specs.declared.record.Record.{Record}
-use Rattle.frame_parse.specs.declared.record.Record.TheVariants.{Cie, Fde}
-use Rattle.eh_bytes.specs.Grammar.{Part, ◌>>=◌, give, here, when, check, found, block, filled}
-use Rattle.frame_parse.specs.Programs.{step, initial_state, first_state}
+use Rattle.frame_parse.specs.declared.fault.RecordFault.{RecordFault}
+use Rattle.frame_parse.specs.declared.fault.RecordFault.TheVariants.{Short, NoCie, Version, Column, Range}
+use Rattle.frame_parse.specs.declared.fault.RecordFault.TheVariants as faults
+use Rattle.frame_parse.specs.declared.fault.FrameFault.TheVariants as frames
+use Rattle.frame_parse.specs.declared.records.augmentation.Augmentation.{Augmentation}
+use Rattle.frame_parse.specs.declared.records.CieRecord.{CieRecord}
+use Rattle.frame_parse.specs.declared.records.FdeRecord.{FdeRecord}
+use Rattle.frame_parse.specs.declared.instructions.context.ProgramKind.TheVariants.{Initial, Own}
+use Rattle.frame_parse.specs.declared.records.Record.{Record}
+use Rattle.frame_parse.specs.declared.records.Record.TheVariants.{Cie, Fde}
+use Rattle.eh_bytes.specs.Grammar.{Part, ◌>>=◌, give, here, when, check, found, block, filled, lift}
+use Rattle.frame_parse.specs.Programs.{step, context_of, initial_state, first_state}
 use Rattle.eh_bytes.specs.Steps.{steps_from}
-use Rattle.frame_parse.specs.Fields.{field, number, is_negative, pointer, optional_pointer, is_code_encoding, is_data_encoding, encoding, short_of}
+use Rattle.frame_parse.specs.Fields.{field, number, is_negative, pointer, optional_pointer, is_code_encoding, is_data_encoding, encoding}
 use Rattle.eh_bytes.specs.Fields.{fixed, uleb, sleb, text}
+
+-- a fault inside a record, with the place where the record begins
+abbrev pub fault_in : ℕ → RecordFault → FrameFault
+fault_in start (faults.Short at) = frames.Short start at
+fault_in start (faults.TooWide at) = frames.TooWide start at
+fault_in start (faults.Encoding at byte) = frames.Encoding start at byte
+fault_in start (faults.NoCie at) = frames.NoCie start at
+fault_in start (faults.Version at byte) = frames.Version start at byte
+fault_in start (faults.Augmentation at) = frames.Augmentation start at
+fault_in start (faults.Column at column) = frames.Column start at column
+fault_in start (faults.Range at) = frames.Range start at
+fault_in start (faults.Opcode at byte) = frames.Opcode start at byte
+fault_in start (faults.Location at) = frames.Location start at
+fault_in start (faults.Remember at) = frames.Remember start at
+fault_in start (faults.Operation at byte) = frames.Operation start at byte
+fault_in start (faults.Depth at) = frames.Depth start at
+fault_in start (faults.CfaRule at) = frames.CfaRule start at
 
 -- ---- augmentations
 
@@ -39,24 +59,24 @@ plain = record { pointers = 0; lsda = 255; personality = None; signal = false }
 
 -- what a letter says: L the encoding of LSDA pointers, P the personality, R the encoding of code
 -- addresses, S that the frame is a signal's
-unfoldable pub letter : ℕ → ℕ → ℕ → Augmentation → Part FrameFault Augmentation
-letter start section l a =
-    when (l == 76) (encoding start is_data_encoding >>= λ e. give (record a { lsda = e }))
-    (when (l == 80) (encoding start is_data_encoding >>= λ e. when (e == 255) (give None) (optional_pointer start section e) >>= λ q. give (record a { personality = q }))
-    (when (l == 82) (encoding start is_code_encoding >>= λ e. give (record a { pointers = e }))
+unfoldable pub letter : ℕ → ℕ → Augmentation → Part RecordFault Augmentation
+letter section l a =
+    when (l == 76) (encoding is_data_encoding >>= λ e. give (record a { lsda = e }))
+    (when (l == 80) (encoding is_data_encoding >>= λ e. when (e == 255) (give None) (optional_pointer section e) >>= λ q. give (record a { personality = q }))
+    (when (l == 82) (encoding is_code_encoding >>= λ e. give (record a { pointers = e }))
     (give (record a { signal = true }))))
 
-unfoldable pub letters : ℕ → ℕ → List ℕ → Augmentation → Part FrameFault Augmentation
-letters start section [] a = give a
-letters start section (l ∷ ls) a = letter start section l a >>= λ b. letters start section ls b
+unfoldable pub letters : ℕ → List ℕ → Augmentation → Part RecordFault Augmentation
+letters section [] a = give a
+letters section (l ∷ ls) a = letter section l a >>= λ b. letters section ls b
 
 -- the augmentation data of a CIE: with z its length, and what the letters say
-unfoldable pub augmentation_data : ℕ → ℕ → List ℕ → Part FrameFault Augmentation
-augmentation_data start section [] = give plain
-augmentation_data start section (z ∷ ls) = do
-  n ← field start uleb
+unfoldable pub augmentation_data : ℕ → List ℕ → Part RecordFault Augmentation
+augmentation_data section [] = give plain
+augmentation_data section (z ∷ ls) = do
+  n ← field uleb
   at ← here
-  block (Short start at) n (letters start section ls plain)
+  block (Short at) n (letters section ls plain)
 
 -- ---- CIEs
 
@@ -64,35 +84,35 @@ abbrev pub has_data : List ℕ → Bool
 has_data [] = false
 has_data (z ∷ ls) = true
 
-unfoldable pub version : ℕ → Part FrameFault ℕ
-version start = do
+unfoldable pub version : Part RecordFault ℕ
+version = do
   at ← here
-  v ← field start (fixed 1)
-  _ ← check (v == 1 || v == 3) (Version start at v)
+  v ← field (fixed 1)
+  _ ← check (v == 1 || v == 3) (Version at v)
   give v
 
-unfoldable pub augmentation : ℕ → Part FrameFault (List ℕ)
-augmentation start = do
+unfoldable pub augmentation : Part RecordFault (List ℕ)
+augmentation = do
   at ← here
-  t ← field start text
-  _ ← check (is_augmentation t) (faults.Augmentation start at)
+  t ← field text
+  _ ← check (is_augmentation t) (faults.Augmentation at)
   give t
 
-unfoldable pub return_column : ℕ → ℕ → Part FrameFault (Unit {0})
-return_column start v = do
+unfoldable pub return_column : ℕ → Part RecordFault (Unit {0})
+return_column v = do
   at ← here
-  c ← when (v == 1) (field start (fixed 1)) (field start uleb)
-  check (c == 16) (Column start at c)
+  c ← when (v == 1) (field (fixed 1)) (field uleb)
+  check (c == 16) (Column at c)
 
 -- the fields of a CIE behind its id; nothing is known of the CFA before its instructions
-unfoldable pub cie : ℕ → ℕ → ℕ → Part FrameFault CieRecord
-cie start section end = do
-  v ← version start
-  t ← augmentation start
-  code ← field start uleb
-  data_ ← field start sleb
-  _ ← return_column start v
-  a ← augmentation_data start section t
+unfoldable pub cie : ℕ → ℕ → ℕ → Part RecordFault CieRecord
+cie section start end = do
+  v ← version
+  t ← augmentation
+  code ← field uleb
+  data_ ← field sleb
+  _ ← return_column v
+  a ← augmentation_data section t
   at ← here
   give (record { start = start; code_alignment = code; data_alignment = data_; has_data = has_data t; augmentation = a; offset = false; initial = record { at = at; end = end } })
 
@@ -108,52 +128,55 @@ abbrev pub cie_behind : List CieRecord → ℕ → ℕ → Option CieRecord
 cie_behind earlier at distance = if nat_lt at distance then None else cie_from earlier (at - distance)
 
 -- the range has its encoding's format; with it the last address is below 2 ^ 64
-unfoldable pub range : ℕ → ℕ → ℕ → Part FrameFault ℕ
-range start e first = do
+unfoldable pub range : ℕ → ℕ → Part RecordFault ℕ
+range e first = do
   at ← here
-  x ← number start e
-  _ ← check (not (is_negative e x) && nat_lt (first + x) (2 ^ 64)) (Range start at)
+  x ← number e
+  _ ← check (not (is_negative e x) && nat_lt (first + x) (2 ^ 64)) (Range at)
   give x
 
 -- the augmentation data of an FDE begins with the LSDA pointer, where its CIE has an encoding for it
 -- and there is data
-unfoldable pub lsda : ℕ → ℕ → CieRecord → Part FrameFault (Option ℕ)
-lsda start section c = when c.has_data
-    (field start uleb >>= λ n. here >>= λ at. block (Short start at) n
-    (when (c.augmentation.lsda == 255 || n == 0) (give None) (optional_pointer start section c.augmentation.lsda)))
+unfoldable pub lsda : ℕ → CieRecord → Part RecordFault (Option ℕ)
+lsda section c = when c.has_data
+    (field uleb >>= λ n. here >>= λ at. block (Short at) n
+    (when (c.augmentation.lsda == 255 || n == 0) (give None) (optional_pointer section c.augmentation.lsda)))
     (give None)
 
 -- the fields of an FDE behind its id
-unfoldable pub fde : ℕ → ℕ → ℕ → CieRecord → Part FrameFault FdeRecord
-fde start section end c = do
-  first ← pointer start section c.augmentation.pointers
-  size ← range start c.augmentation.pointers first
-  l ← lsda start section c
+unfoldable pub fde : ℕ → ℕ → CieRecord → Part RecordFault FdeRecord
+fde section end c = do
+  first ← pointer section c.augmentation.pointers
+  size ← range c.augmentation.pointers first
+  l ← lsda section c
   at ← here
-  give (record { start = start; cie = c; first = first; range = size; lsda = l; program = record { at = at; end = end } })
+  give (record { cie = c; first = first; range = size; lsda = l; program = record { at = at; end = end } })
 
 -- ---- records
 
 -- An id of 0 is a CIE's; any other is the distance back to an FDE's. What is left behind the fields are
 -- instructions: those of a CIE don't move, those of an FDE start at its first address.
-unfoldable pub content : ℕ → ℕ → List CieRecord → ℕ → Part FrameFault Record
-content start section earlier end = do
+unfoldable pub content : ℕ → List CieRecord → ℕ → ℕ → Part RecordFault Record
+content section earlier start end = do
   at ← here
-  id ← field start (fixed 4)
+  id ← field (fixed 4)
   when (id == 0)
-      (cie start section end >>= λ c. steps_from (step start section false c) initial_state >>= λ s. give (Cie (record c { offset = s.offset })))
-      (found (cie_behind earlier at id) (NoCie start at) >>= λ c. fde start section end c >>= λ f. steps_from (step start section true c) (first_state c f.first) >>= λ s. give (Fde f))
+      (cie section start end >>= λ c. steps_from (step (context_of section c Initial)) initial_state >>= λ s. give (Cie (record c { offset = s.offset })))
+      (found (cie_behind earlier at id) (NoCie at) >>= λ c. fde section end c >>= λ f. steps_from (step (context_of section c Own)) (first_state c f.first) >>= λ s. give (Fde f))
 
--- the length of a record: four bytes, or eight behind 0xffffffff
-unfoldable pub record_length : ℕ → Part FrameFault ℕ
+-- the length of a record: four bytes, or eight after 0xffffffff; where it isn't whole, the record isn't
+unfoldable pub record_length : ℕ → Part RecordFault ℕ
 record_length start = do
-  n ← short_of start 4
-  when (n == 4294967295) (short_of start 8) (give n)
+  n ← lift (λ f. Short start) (fixed 4)
+  when (n == 4294967295) (lift (λ f. Short start) (fixed 8)) (give n)
 
--- a record: its length, and that many bytes
-unfoldable pub whole_record : ℕ → List CieRecord → Part FrameFault Record
-whole_record section earlier = do
-  start ← here
+-- a record that begins at a place: its length, and that many bytes
+unfoldable pub record_at : ℕ → List CieRecord → ℕ → Part RecordFault Record
+record_at section earlier start = do
   n ← record_length start
   at ← here
-  filled (Short start start) n (content start section earlier (at + n))
+  filled (Short start) n (content section earlier start (at + n))
+
+-- a record, whose faults tell where it begins
+unfoldable pub whole_record : ℕ → List CieRecord → Part FrameFault Record
+whole_record section earlier = here >>= λ start. lift (fault_in start) (record_at section earlier start)

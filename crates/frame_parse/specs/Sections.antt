@@ -2,10 +2,10 @@
 use Rattle.std.specs.Prelude.{◌≡◌, ℕ, ◌+◌, ◌<◌, ◌⊎◌, map, get_or, List, [], ◌∷◌, ◌++◌, length, Bool, true, false, Option, Some, None, nat_lt, nat_le, ◌==◌, ◌||◌, ◌&&◌, if◌then◌else◌}
 use Rattle.byteorder.specs.Endian.{little_number}
 use Rattle.frame_parse.specs.declared.fault.FrameFault.{FrameFault}
-use Rattle.frame_parse.specs.declared.record.CieRecord.{CieRecord}
-use Rattle.frame_parse.specs.declared.record.FdeRecord.{FdeRecord}
-use Rattle.frame_parse.specs.declared.record.Record.{Record}
-use Rattle.frame_parse.specs.declared.record.Record.TheVariants.{Cie, Fde}
+use Rattle.frame_parse.specs.declared.records.CieRecord.{CieRecord}
+use Rattle.frame_parse.specs.declared.records.FdeRecord.{FdeRecord}
+use Rattle.frame_parse.specs.declared.records.Record.{Record}
+use Rattle.frame_parse.specs.declared.records.Record.TheVariants.{Cie, Fde}
 use Rattle.frame_parse.specs.Records.{whole_record}
 
 -- a section ends where its bytes end, or at a length of 0

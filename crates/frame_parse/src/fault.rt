@@ -1,6 +1,7 @@
 //! Why the bytes are no section.
 
 ghost use Rattle.std.specs.Prelude.{◌≡◌};
+ghost use Rattle.frame_parse.specs.Records.{fault_in};
 ghost use Rattle.frame_parse.specs.declared.fault.FrameFault.TheVariants.{NoMemory};
 
 use std::alloc::{AllocError, AllocFailed};
@@ -86,6 +87,49 @@ pub enum FrameFault {
     },
     /// Memory ran out, which says nothing of the bytes.
     NoMemory,
+}
+
+/// A refusal inside a record: `at` is the place that is refused. The causes are those of `FrameFault`.
+#[derive(Clone, Copy, Debug, PartialEq, Eq)]
+pub enum RecordFault {
+    Short { at: usize },
+    TooWide { at: usize },
+    Encoding { at: usize, byte: u8 },
+    NoCie { at: usize },
+    Version { at: usize, byte: u8 },
+    Augmentation { at: usize },
+    Column { at: usize, column: u64 },
+    Range { at: usize },
+    Opcode { at: usize, byte: u8 },
+    Location { at: usize },
+    Remember { at: usize },
+    Operation { at: usize, byte: u8 },
+    Depth { at: usize },
+    CfaRule { at: usize },
+}
+
+impl RecordFault {
+    /// The refusal of the record that begins at a place.
+    pub(crate) fn in_record(self, start: usize) -> FrameFault
+        ensures { result ≡ fault_in start self }
+    {
+        match self {
+            RecordFault::Short { at } => FrameFault::Short { start, at },
+            RecordFault::TooWide { at } => FrameFault::TooWide { start, at },
+            RecordFault::Encoding { at, byte } => FrameFault::Encoding { start, at, byte },
+            RecordFault::NoCie { at } => FrameFault::NoCie { start, at },
+            RecordFault::Version { at, byte } => FrameFault::Version { start, at, byte },
+            RecordFault::Augmentation { at } => FrameFault::Augmentation { start, at },
+            RecordFault::Column { at, column } => FrameFault::Column { start, at, column },
+            RecordFault::Range { at } => FrameFault::Range { start, at },
+            RecordFault::Opcode { at, byte } => FrameFault::Opcode { start, at, byte },
+            RecordFault::Location { at } => FrameFault::Location { start, at },
+            RecordFault::Remember { at } => FrameFault::Remember { start, at },
+            RecordFault::Operation { at, byte } => FrameFault::Operation { start, at, byte },
+            RecordFault::Depth { at } => FrameFault::Depth { start, at },
+            RecordFault::CfaRule { at } => FrameFault::CfaRule { start, at },
+        }
+    }
 }
 
 impl From<AllocError> for FrameFault {

@@ -1,72 +1,113 @@
-//! The fields of an FDE.
+//! An FDE as a part of its section.
 
-ghost use Rattle.std.specs.Prelude.{◌≡◌};
-ghost use Rattle.eh_bytes.specs.Rest.{Gives};
-ghost use Rattle.frame_parse.specs.Records.{range, lsda, fde};
+ghost use Rattle.std.specs.Prelude.{◌≡◌, List};
+ghost use Rattle.frame_parse.specs.declared.instructions.Step.{Step};
+ghost use Rattle.frame_parse.specs.Programs.{HasPrograms, HasSteps, initial_of, program_of, text_at};
 
-use crate::fault::FrameFault;
-use crate::fields::{data, is_negative, number, optional_pointer, pointer, uleb};
-use crate::record::{CieRecord, Extent, FdeRecord};
+use crate::instructions::{Context, ProgramKind, first_state};
+use crate::program::Program;
+use crate::program_state::{Remembered, State};
+use crate::records::FdeRecord;
 use eh_bytes::Cursor;
+use std::marker::Model;
 
-#[tactic(auto, unfolding(crate::specs::Records::range))]
-fn range(start: usize, cursor: &mut Cursor, encoding: u8, first: u64) -> Result<u64, FrameFault>
-    ensures { Gives (λ x. x) (range start encoding first).read cursor.old result cursor.new }
-{
-    let at = cursor.at();
-    let size = number(start, cursor, encoding)?;
-    if !is_negative(encoding, size) && size <= u64::MAX - first {
-        Ok(size)
-    } else {
-        Err(FrameFault::Range { start, at })
-    }
+/// An FDE of a section, lent from it.
+#[derive(Drop)]
+pub struct Fde<'a> {
+    section: u64,
+    bytes: &'a [u8],
+    entry: &'a FdeRecord,
 }
 
-#[tactic(auto, unfolding(crate::specs::Records::lsda))]
-fn lsda(
-    start: usize,
-    cursor: &mut Cursor,
-    section: u64,
-    cie: &CieRecord,
-) -> Result<Option<u64>, FrameFault>
-    ensures { Gives (λ x. x) (lsda start section cie.now).read cursor.old result cursor.new }
-{
-    if !cie.has_data {
-        return Ok(None);
-    }
-    let length = uleb(start, cursor)?;
-    let at = cursor.at();
-    let mut inside = data(FrameFault::Short { start, at }, cursor, length)?;
-    if cie.augmentation.lsda == 255 || length == 0 {
-        return Ok(None);
-    }
-    optional_pointer(start, &mut inside, section, cie.augmentation.lsda)
+impl<'a> Model for Fde<'a> {
+    ghost use Rattle.frame_parse.specs.Sections.{FdeContents};
+
+    ghost Value = { FdeContents };
+
+    ghost view = { λ f. record { section = f.section; bytes = f.bytes.now; entry = f.entry.now } };
+
+    ghost use Rattle.frame_parse.specs.Programs.{HasPrograms};
+
+    ghost invariant = { λ f. HasPrograms f.section f.bytes.now f.entry.now };
 }
 
-/// The fields behind the id. What is left up to `end` are the instructions.
-#[tactic(auto, unfolding(crate::specs::Records::fde))]
-pub(crate) fn fde(
-    start: usize,
-    cursor: &mut Cursor,
-    section: u64,
-    end: usize,
-    cie: &CieRecord,
-) -> Result<FdeRecord, FrameFault>
-    ensures { Gives (λ f. f) (fde start section end cie.now).read cursor.old result cursor.new }
-{
-    let pointers = cie.augmentation.pointers;
-    let first = pointer(start, cursor, section, pointers)?;
-    let range = range(start, cursor, pointers, first)?;
-    let lsda = lsda(start, cursor, section, cie)?;
-    Ok(FdeRecord {
-        start,
-        cie: *cie,
-        first,
-        range,
-        lsda,
-        program: Extent {
-            at: cursor.at(),
-            end,
-        },
-    })
+impl<'a> Fde<'a> {
+    pub(crate) fn new(section: u64, bytes: &'a [u8], entry: &'a FdeRecord) -> Fde<'a>
+        requires { HasPrograms section bytes.now entry.now }
+        ensures section { result.section ≡ section }
+        ensures bytes { result.bytes ≡ bytes.now }
+        ensures entry { result.entry ≡ entry.now }
+    {
+        Fde {
+            section,
+            bytes,
+            entry,
+        }
+    }
+
+    /// The first address that it covers.
+    pub fn first(&self) -> u64
+        ensures { result ≡ self.now.entry.first }
+    {
+        self.entry.first
+    }
+
+    /// How many addresses it covers.
+    pub fn range(&self) -> u64
+        ensures { result ≡ self.now.entry.range }
+    {
+        self.entry.range
+    }
+
+    /// Whether the frame is one that a signal interrupted.
+    pub fn signal(&self) -> bool
+        ensures { result ≡ self.now.entry.cie.augmentation.signal }
+    {
+        self.entry.cie.augmentation.signal
+    }
+
+    /// The address of its language-specific data, or of a pointer to it where the encoding says so.
+    pub fn lsda(&self) -> Option<u64>
+        ensures { result ≡ self.now.entry.lsda }
+    {
+        self.entry.lsda
+    }
+
+    /// The address of its personality routine, or of a pointer to it where the encoding says so.
+    pub fn personality(&self) -> Option<u64>
+        ensures { result ≡ self.now.entry.cie.augmentation.personality }
+    {
+        self.entry.cie.augmentation.personality
+    }
+
+    /// The initial instructions of its CIE, at its first address.
+    pub fn initial(&self) -> Program<'a>
+        ensures program { result ≡ initial_of self.now.section self.now.entry
+            (text_at self.now.bytes self.now.entry.cie.initial) }
+        ensures known { (steps : List Step) × HasSteps result steps }
+    {
+        let entry = self.entry;
+        let cie = &entry.cie;
+        let cursor = Cursor::new(self.bytes, cie.initial.at, cie.initial.end);
+        let state = State {
+            location: entry.first,
+            offset: false,
+            remembered: Remembered::new(),
+        };
+        let context = Context::new(self.section, cie, ProgramKind::Initial);
+        Program::new(context, state, cursor)
+    }
+
+    /// Its instructions.
+    pub fn program(&self) -> Program<'a>
+        ensures program { result ≡ program_of self.now.section self.now.entry
+            (text_at self.now.bytes self.now.entry.program) }
+        ensures known { (steps : List Step) × HasSteps result steps }
+    {
+        let entry = self.entry;
+        let cursor = Cursor::new(self.bytes, entry.program.at, entry.program.end);
+        let state = first_state(&entry.cie, entry.first);
+        let context = Context::new(self.section, &entry.cie, ProgramKind::Own);
+        Program::new(context, state, cursor)
+    }
 }

@@ -1,7 +1,7 @@
 //! What holds along the steps of every program.
 
 ghost use Rattle.std.specs.Prelude.{List};
-ghost use Rattle.frame_parse.specs.declared.instruction.Step.{Step};
+ghost use Rattle.frame_parse.specs.declared.instructions.Step.{Step};
 ghost use Rattle.frame_parse.specs.Programs.{ProgramRest, HasSteps};
 ghost use Rattle.frame_parse.specs.Order.{AreOrdered};
 

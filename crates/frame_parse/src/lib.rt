@@ -5,30 +5,25 @@
 //! what they spell. A section is read once, and then lends its FDEs without copying and without memory.
 #![tactic(auto)]
 
-mod augmentation;
-mod cie;
+mod cie_lookup;
 mod fault;
 mod fde;
-mod fields;
-mod handle;
-mod handout;
-mod instruction;
+mod fde_lookup;
+mod instructions;
 mod laws;
-mod lookup;
 mod program;
-mod record;
-mod search;
+mod program_state;
+mod records;
 mod section;
-mod state;
 
-pub use fault::FrameFault;
-pub use handle::Fde;
-pub use handout::Program;
-pub use instruction::{Instruction, Operation, ReadRule, Step};
+pub use fault::{FrameFault, RecordFault};
+pub use fde::Fde;
+pub use instructions::{Context, Instruction, Operation, ProgramKind, ReadRule, Step};
 pub use laws::steps_are_ordered;
-pub use record::{Augmentation, CieRecord, Extent, FdeRecord, Record};
+pub use program::Program;
+pub use program_state::{Remembered, State};
+pub use records::{Augmentation, CieRecord, Extent, FdeRecord, Record};
 pub use section::{Section, one_answer, section_is_answered};
-pub use state::{Remembered, State};
 
 #[cfg(test)]
 mod tests;

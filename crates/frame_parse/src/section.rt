@@ -1,91 +1,18 @@
 //! A section: its records, one after another.
 
-ghost use Rattle.std.specs.Prelude.{◌≡◌, ◌≤◌, ◌<◌, ◌⊎◌, length, IfOk, IfErr, IfSome, OnOk, slice_get, Some, ℕ, List};
+ghost use Rattle.std.specs.Prelude.{◌≡◌, ◌≤◌, ◌<◌, ◌⊎◌, length, IfOk, IfErr, IfSome, slice_get, Some, ℕ, List};
 ghost use Rattle.std.specs.Option.{option_map};
-ghost use Rattle.eh_bytes.specs.Rest.{Gives};
-ghost use Rattle.frame_parse.specs.Records.{content, record_length, whole_record};
-ghost use Rattle.frame_parse.specs.Sections.{is_end, starts, IsAscending, BeginsAt, HasFdes, IsRefused, first_cover, HasOneAnswer};
+ghost use Rattle.frame_parse.specs.Sections.{is_end, HasFdes, IsRefused, first_cover, HasOneAnswer};
 ghost use Rattle.frame_parse.specs.Reading.{IsAnswered};
 
-use crate::cie::cie;
 use crate::fault::FrameFault;
-use crate::fde::fde;
-use crate::fields::{data, id, length4, length8};
-use crate::handle::Fde;
-use crate::lookup::FdeList;
-use crate::program::{first_state, initial_state, steps};
-use crate::record::{CieRecord, FdeRecord, Record};
-use crate::search::cie_behind;
+use crate::fde::Fde;
+use crate::fde_lookup::FdeList;
+use crate::records::{FdeRecord, Record, whole_record};
 use byteorder::{ByteOrder, LittleEndian};
 use eh_bytes::Cursor;
 use std::alloc::Global;
 use std::marker::Model;
-
-/// What stands behind the length of a record.
-#[tactic(auto, unfolding(crate::specs::Records::content))]
-fn content(
-    start: usize,
-    cursor: &mut Cursor,
-    section: u64,
-    earlier: &[CieRecord],
-    end: usize,
-) -> Result<Record, FrameFault>
-    requires { IsAscending (starts earlier.now) }
-    ensures read { Gives (λ r. r) (content start section earlier.now end).read
-        cursor.old result cursor.new }
-    ensures start { IfOk result (BeginsAt start) }
-{
-    let at = cursor.at();
-    let id = id(start, cursor)?;
-    if id == 0 {
-        let mut cie = cie(start, cursor, section, end)?;
-        let state = steps(start, cursor, section, false, &cie, initial_state())?;
-        cie.offset = state.offset;
-        return Ok(Record::Cie(cie));
-    }
-    match cie_behind(earlier, at, id as usize) {
-        None => Err(FrameFault::NoCie { start, at }),
-        Some(cie) => {
-            let fde = fde(start, cursor, section, end, cie)?;
-            let state = first_state(cie, fde.first);
-            let _state = steps(start, cursor, section, true, cie, state)?;
-            Ok(Record::Fde(fde))
-        }
-    }
-}
-
-/// How many bytes follow in a record.
-#[tactic(auto, unfolding(crate::specs::Records::record_length))]
-fn record_length(start: usize, cursor: &mut Cursor) -> Result<u64, FrameFault>
-    ensures read { Gives (λ n. n) (record_length start).read cursor.old result cursor.new }
-    ensures moves { OnOk result (length cursor.new.bytes < length cursor.old.bytes) }
-{
-    let length = length4(start, cursor)?;
-    if length == 0xffff_ffff {
-        length8(start, cursor)
-    } else {
-        Ok(length as u64)
-    }
-}
-
-/// The record at the cursor.
-#[tactic(auto, unfolding(crate::specs::Records::whole_record))]
-fn whole_record(
-    cursor: &mut Cursor,
-    section: u64,
-    earlier: &[CieRecord],
-) -> Result<Record, FrameFault>
-    requires { IsAscending (starts earlier.now) }
-    ensures read { Gives (λ r. r) (whole_record section earlier.now).read
-        cursor.old result cursor.new }
-    ensures moves { OnOk result (length cursor.new.bytes < length cursor.old.bytes) }
-    ensures start { IfOk result (BeginsAt cursor.old.at) }
-{
-    let start = cursor.at();
-    let length = record_length(start, cursor)?;
-    let mut inside = data(FrameFault::Short { start, at: start }, cursor, length)?;
-    content(start, &mut inside, section, earlier, cursor.at())
-}
 
 /// Whether the records end here.
 fn is_end(rest: &[u8]) -> bool

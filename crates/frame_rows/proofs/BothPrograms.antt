@@ -1,7 +1,7 @@
 -- The two programs of an FDE, and the rows that their walks leave.
 use Rattle.std.proofs.Common.{◌≡◌, ℕ, ◌<◌, ◌≤◌, List, [], length, refl, sym, ap, subst, ◌∙◌, arith}
 use Rattle.std.specs.List.{fold}
-use Rattle.frame_parse.specs.declared.instruction.Step.{Step}
+use Rattle.frame_parse.specs.declared.instructions.Step.{Step}
 use Rattle.frame_parse.specs.Order.{IsBalanced, AreAt, AreOrdered}
 use Rattle.frame_parse.specs.Programs.{ProgramRest, HasSteps, initial_of, program_of, text_at}
 use Rattle.frame_parse.specs.Sections.{FdeContents}

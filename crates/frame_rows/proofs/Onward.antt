@@ -1,9 +1,9 @@
 -- Single steps of a walk, over plain rows and programs.
 use Rattle.std.proofs.Common.{◌≡◌, ℕ, ◌<◌, ◌≤◌, List, [], ◌∷◌, length, nat_le, true, false, refl, sym, ap, subst, ◌∙◌, arith}
 use Rattle.std.proofs.lemmas.Bool.{le-leb, lt-leb}
-use Rattle.frame_parse.specs.declared.instruction.Instruction.{Instruction}
-use Rattle.frame_parse.specs.declared.instruction.Instruction.TheVariants.{Nop, Advance, Set, Restore, Remember, RestoreState, Cfa, CfaColumn, CfaOffset}
-use Rattle.frame_parse.specs.declared.instruction.Step.{Step}
+use Rattle.frame_parse.specs.declared.instructions.Instruction.{Instruction}
+use Rattle.frame_parse.specs.declared.instructions.Instruction.TheVariants.{Nop, Advance, Set, Restore, Remember, RestoreState, Cfa, CfaColumn, CfaOffset}
+use Rattle.frame_parse.specs.declared.instructions.Step.{Step}
 use Rattle.frame_parse.specs.Programs.{ProgramRest, HasSteps}
 use Rattle.frame_parse.specs.Order.{Moves, IsAscendingFrom, IsBalanced, MayStandAt, depth_behind}
 use Rattle.frame_rows.specs.declared.row.Row.{Row}

@@ -1,9 +1,9 @@
 -- Rows of all columns, and the remembered ones: how the code goes through a program.
 use Rattle.std.specs.Prelude.{◌≡◌, ℕ, List, [], ◌∷◌, replicate, slice_set, slice_index_or}
 use Rattle.std.specs.List.{fold}
-use Rattle.frame_parse.specs.declared.instruction.Instruction.{Instruction}
-use Rattle.frame_parse.specs.declared.instruction.Instruction.TheVariants.{Nop, Advance, Set, Restore, Remember, RestoreState, Cfa, CfaColumn, CfaOffset}
-use Rattle.frame_parse.specs.declared.instruction.Step.{Step}
+use Rattle.frame_parse.specs.declared.instructions.Instruction.{Instruction}
+use Rattle.frame_parse.specs.declared.instructions.Instruction.TheVariants.{Nop, Advance, Set, Restore, Remember, RestoreState, Cfa, CfaColumn, CfaOffset}
+use Rattle.frame_parse.specs.declared.instructions.Step.{Step}
 use Rattle.frame_parse.specs.Sections.{FdeContents}
 use Rattle.frame_rows.specs.declared.row.Rule.TheVariants as rules
 use Rattle.frame_rows.specs.declared.row.CfaRule.TheVariants as cfas

@@ -1,6 +1,6 @@
 -- How a walk along a program goes on and stops, told by the rows behind the steps that are left.
 use Rattle.std.specs.Prelude.{◌≡◌, ℕ, ◌≤◌, List, ◌∷◌, length}
-use Rattle.frame_parse.specs.declared.instruction.Step.{Step}
+use Rattle.frame_parse.specs.declared.instructions.Step.{Step}
 use Rattle.frame_parse.specs.Programs.{ProgramRest, HasSteps}
 use Rattle.frame_parse.specs.Order.{IsAscendingFrom, IsBalanced}
 use Rattle.frame_rows.specs.declared.row.Row.{Row}

@@ -1,7 +1,7 @@
 //! Going through a program up to an address.
 
 ghost use Rattle.std.specs.Prelude.{◌≡◌, ℕ, ◌<◌, ◌≤◌, List, [], length, slice_get, Some};
-ghost use Rattle.frame_parse.specs.declared.instruction.Step.{Step};
+ghost use Rattle.frame_parse.specs.declared.instructions.Step.{Step};
 ghost use Rattle.frame_rows.specs.declared.row.Row.{Row};
 ghost use Rattle.frame_rows.specs.Columns.{HasInitial, HasProgram, rule_at, cfa_at};
 ghost use Rattle.frame_rows.specs.Rows.{base_row, beside, rows_behind, unset};

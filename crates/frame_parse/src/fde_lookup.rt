@@ -1,0 +1,189 @@
+//! Which FDE covers an address. The FDEs of most sections share no address, so their ranges are put in
+//! order when the section is read, and then a lookup passes by most of those that are left at each step. Where
+//! two share one, the FDEs are gone through in order of bytes.
+
+ghost use Rattle.std.specs.Prelude.{◌≡◌, ◌<◌, ◌^◌, length, true, false, nat_le, if◌then◌else◌, IfOk, IfNone, IfSome};
+ghost use Rattle.std.specs.List.{All, Contains};
+ghost use Rattle.std.specs.Option.{option_copied};
+ghost use Rattle.frame_parse.specs.Sections.{covers, first_cover};
+ghost use Rattle.frame_parse.specs.declared.fde_lookup.CoveredRange.{CoveredRange};
+ghost use Rattle.frame_parse.specs.Lookups.{HasRanges, are_apart, holds};
+
+use crate::records::FdeRecord;
+use std::alloc::{AllocError, Global};
+use std::marker::Model;
+
+/// The addresses that an FDE covers, and the FDE's number in order of bytes.
+#[derive(Clone, Copy, Debug, PartialEq, Eq)]
+pub struct CoveredRange {
+    pub first: u64,
+    pub range: u64,
+    pub fde: usize,
+}
+
+/// How the FDE of an address is found.
+#[derive(Drop)]
+pub enum Lookup {
+    /// No two ranges share an address. They stand in order of addresses, without the empty ones.
+    Ordered(Vec<CoveredRange>),
+    /// The FDEs are gone through.
+    Walk,
+}
+
+/// The FDEs of a section in order of bytes, and how one is found.
+#[derive(Drop)]
+pub struct FdeList {
+    fdes: Vec<FdeRecord>,
+    lookup: Lookup,
+}
+
+impl Model for FdeList {
+    ghost use Rattle.std.specs.Prelude.{List};
+    ghost use Rattle.frame_parse.specs.declared.records.FdeRecord.{FdeRecord};
+    ghost use Rattle.frame_parse.specs.Lookups.{Finds};
+
+    ghost Value = { List FdeRecord };
+
+    ghost view = { λ l. l.fdes.items };
+
+    ghost invariant = { λ l. Finds l.fdes.items l.lookup };
+}
+
+impl FdeList {
+    pub(crate) fn new(alloc: Global, fdes: Vec<FdeRecord>) -> Result<FdeList, AllocError>
+        ensures { IfOk result (λ list. list ≡ fdes.items) }
+    {
+        let mut ranges = ranges_of(alloc, &fdes)?;
+        ranges.sort_unstable_by_key(|range| range.first);
+        let lookup = if are_apart(&ranges) {
+            Lookup::Ordered(ranges)
+        } else {
+            Lookup::Walk
+        };
+        Ok(FdeList { fdes, lookup })
+    }
+
+    /// The FDEs in order of bytes.
+    pub(crate) fn as_slice(&self) -> &[FdeRecord]
+        ensures { result.now ≡ self.now }
+    {
+        &self.fdes
+    }
+
+    /// The first FDE in order of bytes that covers an address.
+    pub(crate) fn cover(&self, pc: u64) -> Option<&FdeRecord>
+        ensures { option_copied result ≡ first_cover pc self.now }
+    {
+        match &self.lookup {
+            Lookup::Ordered(ranges) => match ordered_cover(ranges, pc) {
+                None => None,
+                Some(fde) => Some(&self.fdes[fde]),
+            },
+            Lookup::Walk => first_cover(&self.fdes, pc),
+        }
+    }
+}
+
+/// The ranges that aren't empty.
+fn ranges_of(alloc: Global, fdes: &[FdeRecord]) -> Result<Vec<CoveredRange>, AllocError>
+    ensures { IfOk result (λ ranges. HasRanges fdes.now (length fdes.now) ranges.items) }
+{
+    let mut ranges = Vec::new(alloc);
+    for (index, fde) in fdes.iter().enumerate() {
+        if fde.range > 0 {
+            ranges.push(CoveredRange {
+                first: fde.first,
+                range: fde.range,
+                fde: index,
+            })?;
+        }
+    }
+    Ok(ranges)
+}
+
+/// Whether each range ends before the next begins.
+fn are_apart(ranges: &[CoveredRange]) -> bool
+    ensures { result ≡ are_apart ranges.now }
+{
+    let mut left = ranges;
+    while let [first, second, ..] = left {
+        if second.first < first.first || second.first - first.first < first.range {
+            return false;
+        }
+        left = &left[1..];
+    }
+    true
+}
+
+fn holds(range: &CoveredRange, pc: u64) -> bool
+    ensures { result ≡ holds pc range.now }
+{
+    range.first <= pc && pc - range.first < range.range
+}
+
+/// All of a number where something holds, else 0, without a branch: the processor would guess wrong half of the time.
+#[inline(always)]
+fn where_holds(number: usize, holds: bool) -> usize
+    requires { number < 2 ^ 63 }
+    ensures { result ≡ (if holds then number else 0) }
+{
+    (number << u32::from(holds)) - number
+}
+
+/// 1 where the range begins up to an address, else 0.
+#[inline(always)]
+fn begins(range: &CoveredRange, pc: u64) -> usize
+    ensures { result ≡ (if nat_le range.now.first pc then 1 else 0) }
+{
+    usize::from(range.first <= pc)
+}
+
+/// The number of the FDE whose range has the address, where the ranges are apart. Three quarters of those that may have
+/// it are passed by at a time, and at the end one half; those that are left begin at `base`.
+fn ordered_cover(ranges: &[CoveredRange], pc: u64) -> Option<usize>
+    requires { are_apart ranges.now ≡ true }
+    ensures none { IfNone result (All (λ range. holds pc range ≡ false) ranges.now) }
+    ensures some { IfSome result (λ fde. (range : CoveredRange)
+        × Contains ranges.now range × (holds pc range ≡ true) × (range.fde ≡ fde)) }
+{
+    let mut base = 0;
+    let mut size = ranges.len();
+    'quarters: while size > 3 {
+        let quarter = size / 4;
+        let first = begins(&ranges[base + quarter], pc);
+        let second = begins(&ranges[base + 2 * quarter], pc);
+        let third = begins(&ranges[base + 3 * quarter], pc);
+        base += (first + second + third) * quarter;
+        size -= 3 * quarter;
+    }
+    'halves: while size > 1 {
+        let half = size / 2;
+        base += where_holds(half, ranges[base + half].first <= pc);
+        size -= half;
+    }
+    if base < ranges.len() && holds(&ranges[base], pc) {
+        Some(ranges[base].fde)
+    } else {
+        None
+    }
+}
+
+fn covers(fde: &FdeRecord, pc: u64) -> bool
+    ensures { result ≡ covers pc fde.now }
+{
+    fde.first <= pc && pc - fde.first < fde.range
+}
+
+/// The first FDE that covers an address.
+fn first_cover(fdes: &[FdeRecord], pc: u64) -> Option<&FdeRecord>
+    ensures { option_copied result ≡ first_cover pc fdes.now }
+{
+    let mut left = fdes;
+    while let [fde, rest @ ..] = left {
+        if covers(fde, pc) {
+            return Some(fde);
+        }
+        left = rest;
+    }
+    None
+}

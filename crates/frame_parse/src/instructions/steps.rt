@@ -1,0 +1,171 @@
+//! The steps of a program, read one by one and tested on the way.
+
+ghost use Rattle.std.specs.Prelude.{◌≡◌, ◌/◌, ◌%◌};
+ghost use Rattle.eh_bytes.specs.Rest.{Gives};
+ghost use Rattle.eh_bytes.specs.Steps.{steps_from};
+ghost use Rattle.frame_parse.specs.Programs.{instruction_of, extended_step, step, initial_state, first_state};
+
+use super::context::Context;
+use super::decode::{cfa_column, extended_operation, factored, restored, set};
+use super::effect::{advance, change_cfa, effect, remember, restore_state};
+use super::opcodes::*;
+use super::{Instruction, Operation, ReadRule, Step};
+use crate::fault::RecordFault;
+use crate::program_state::{Remembered, State};
+use crate::records::CieRecord;
+use crate::records::fields::{self, uleb};
+use eh_bytes::Cursor;
+
+#[inline(always)]
+fn instruction_of(operation: &Operation) -> Instruction
+    ensures { result ≡ instruction_of operation.now }
+{
+    match operation {
+        Operation::Advance { .. } | Operation::SetLocation { .. } => Instruction::Advance,
+        Operation::Other { instruction } => *instruction,
+    }
+}
+
+/// An instruction where it is met.
+#[inline(always)]
+fn here(state: &State, instruction: Instruction) -> Step
+    ensures { result ≡ record { location = state.now.location; instruction = instruction } }
+{
+    Step {
+        location: state.location,
+        instruction,
+    }
+}
+
+/// The step of an instruction whose byte is an extended opcode, by what it spells.
+#[inline(never)]
+fn decoded_step(
+    context: &Context,
+    cursor: &mut Cursor,
+    state: &mut State,
+    at: usize,
+    byte: u8,
+) -> Result<Step, RecordFault>
+    ensures { Gives (λ x. (x, state.new)) (extended_step context.now state.old at byte).read
+        cursor.old result cursor.new }
+{
+    let operation = extended_operation(context, cursor, at, byte)?;
+    effect(context, at, state, &operation)?;
+    Ok(here(state, instruction_of(&operation)))
+}
+
+/// The same. The instructions of which compilers write most are tested where they are read.
+#[inline(always)]
+#[tactic(auto, unfolding(crate::specs::Programs::extended_operation))]
+fn extended_step(
+    context: &Context,
+    cursor: &mut Cursor,
+    state: &mut State,
+    at: usize,
+    byte: u8,
+) -> Result<Step, RecordFault>
+    ensures { Gives (λ x. (x, state.new)) (extended_step context.now state.old at byte).read
+        cursor.old result cursor.new }
+{
+    match byte {
+        DW_CFA_nop => Ok(here(state, Instruction::Nop)),
+        DW_CFA_advance_loc1 => {
+            let delta = fields::byte(cursor)? as u64;
+            advance(context, at, state, delta)?;
+            Ok(here(state, Instruction::Advance))
+        }
+        DW_CFA_remember_state => {
+            remember(at, state)?;
+            Ok(here(state, Instruction::Remember))
+        }
+        DW_CFA_restore_state => {
+            restore_state(at, state)?;
+            Ok(here(state, Instruction::RestoreState))
+        }
+        DW_CFA_def_cfa => {
+            let column = cfa_column(cursor)?;
+            let by = uleb(cursor)?;
+            state.offset = true;
+            Ok(here(state, Instruction::Cfa { column, by }))
+        }
+        _ => {
+            // The answer of a call has a place of its own, so that those above stay in registers.
+            let step = decoded_step(context, cursor, state, at, byte)?;
+            Ok(step)
+        }
+    }
+}
+
+/// The next instruction, with the location at which it holds. The state is then the one after it. Each instruction is
+/// tested where it is read, so that nothing goes by its kind a second time; the two that are most frequent, advance_loc
+/// and def_cfa_offset, come first, since a branch is guessed better than a jump through a table.
+#[inline(always)]
+#[tactic(auto, unfolding(crate::specs::Programs::step, crate::specs::Programs::operation, crate::specs::Programs::extended_operation))]
+pub(crate) fn step(
+    context: &Context,
+    cursor: &mut Cursor,
+    state: &mut State,
+) -> Result<Step, RecordFault>
+    ensures { Gives (λ x. (x, state.new)) (step context.now state.old).read
+        cursor.old result cursor.new }
+{
+    let at = cursor.at();
+    let byte = fields::byte(cursor)?;
+    let low = byte % 64;
+    let high = byte / 64;
+    if high == DW_CFA_advance_loc {
+        advance(context, at, state, low as u64)?;
+        Ok(here(state, Instruction::Advance))
+    } else if byte == DW_CFA_def_cfa_offset {
+        let by = uleb(cursor)?;
+        change_cfa(at, state)?;
+        Ok(here(state, Instruction::CfaOffset { by }))
+    } else {
+        match high {
+            DW_CFA_offset => {
+                let by = factored(context, uleb(cursor)?);
+                Ok(here(state, set(low as u64, ReadRule::Offset { by })))
+            }
+            DW_CFA_restore => Ok(here(state, restored(low as u64))),
+            _ => extended_step(context, cursor, state, at, byte),
+        }
+    }
+}
+
+/// All instructions up to the end of their record, and the state after them.
+pub(crate) fn steps(
+    context: &Context,
+    cursor: &mut Cursor,
+    state: State,
+) -> Result<State, RecordFault>
+    ensures { Gives (λ s. s) (steps_from (step context.now) state).read
+        cursor.old result cursor.new }
+{
+    let mut state = state;
+    while cursor.left() > 0 {
+        step(context, cursor, &mut state)?;
+    }
+    Ok(state)
+}
+
+/// The state before the instructions of a CIE.
+pub(crate) fn initial_state() -> State
+    ensures { result ≡ initial_state }
+{
+    State {
+        location: 0,
+        offset: false,
+        remembered: Remembered::new(),
+    }
+}
+
+/// The state before the instructions of an FDE.
+pub(crate) fn first_state(cie: &CieRecord, first: u64) -> State
+    ensures { result ≡ first_state cie.now first }
+{
+    State {
+        location: first,
+        offset: cie.offset,
+        remembered: Remembered::new(),
+    }
+}

@@ -1,0 +1,169 @@
+//! Records: what they say, field by field, and how they are read.
+
+ghost use Rattle.std.specs.Prelude.{◌≡◌, ◌<◌, length, IfOk, OnOk};
+ghost use Rattle.eh_bytes.specs.Rest.{Gives};
+ghost use Rattle.eh_bytes.specs.Grammar.{lift};
+ghost use Rattle.eh_bytes.specs.Fields.{fixed};
+ghost use Rattle.frame_parse.specs.Records.{content, record_length, record_at, whole_record};
+ghost use Rattle.frame_parse.specs.Sections.{starts, IsAscending, BeginsAt};
+
+mod augmentation;
+mod cie;
+mod fde;
+pub(crate) mod fields;
+
+use crate::cie_lookup::cie_behind;
+use crate::fault::{FrameFault, RecordFault};
+use crate::instructions::{Context, ProgramKind, first_state, initial_state, steps};
+pub use augmentation::Augmentation;
+use cie::cie;
+use eh_bytes::Cursor;
+use fde::fde;
+use fields::{data, four_bytes};
+
+/// A part of the section's bytes, by places.
+#[derive(Clone, Copy, Debug, PartialEq, Eq)]
+pub struct Extent {
+    pub at: usize,
+    pub end: usize,
+}
+
+/// A CIE.
+#[derive(Clone, Copy, Debug, PartialEq, Eq)]
+pub struct CieRecord {
+    pub start: usize,
+    pub code_alignment: u64,
+    pub data_alignment: i64,
+    /// Its FDEs have augmentation data.
+    pub has_data: bool,
+    pub augmentation: Augmentation,
+    /// Its initial instructions leave a CFA rule that is a column plus an offset.
+    pub offset: bool,
+    pub initial: Extent,
+}
+
+/// An FDE, with its CIE.
+#[derive(Clone, Copy, Debug, PartialEq, Eq)]
+pub struct FdeRecord {
+    pub cie: CieRecord,
+    pub first: u64,
+    pub range: u64,
+    pub lsda: Option<u64>,
+    pub program: Extent,
+}
+
+/// A record of a section.
+#[derive(Clone, Copy, Debug, PartialEq, Eq)]
+pub enum Record {
+    Cie(CieRecord),
+    Fde(FdeRecord),
+}
+
+/// What stands after the length of a record from `start` to `end`.
+#[tactic(auto, unfolding(crate::specs::Records::content))]
+fn content(
+    cursor: &mut Cursor,
+    section: u64,
+    earlier: &[CieRecord],
+    start: usize,
+    end: usize,
+) -> Result<Record, RecordFault>
+    requires { IsAscending (starts earlier.now) }
+    ensures read { Gives (λ r. r) (content section earlier.now start end).read
+        cursor.old result cursor.new }
+    ensures start { IfOk result (BeginsAt start) }
+{
+    let at = cursor.at();
+    let id = four_bytes(cursor)?;
+    if id == 0 {
+        let mut cie = cie(cursor, section, start, end)?;
+        let context = Context::new(section, &cie, ProgramKind::Initial);
+        let state = steps(&context, cursor, initial_state())?;
+        cie.offset = state.offset;
+        return Ok(Record::Cie(cie));
+    }
+    match cie_behind(earlier, at, id as usize) {
+        None => Err(RecordFault::NoCie { at }),
+        Some(cie) => {
+            let fde = fde(cursor, section, end, cie)?;
+            let context = Context::new(section, cie, ProgramKind::Own);
+            let _state = steps(&context, cursor, first_state(cie, fde.first))?;
+            Ok(Record::Fde(fde))
+        }
+    }
+}
+
+/// A number of four bytes at the front of a record.
+fn length4(cursor: &mut Cursor, start: usize) -> Result<u32, RecordFault>
+    ensures { Gives (λ x. x) (lift (λ f. RecordFault.Short start) (fixed 4)).read
+        cursor.old result cursor.new }
+{
+    match cursor.u32() {
+        Ok(length) => Ok(length),
+        Err(_) => Err(RecordFault::Short { at: start }),
+    }
+}
+
+/// A number of eight bytes at the front of a record.
+fn length8(cursor: &mut Cursor, start: usize) -> Result<u64, RecordFault>
+    ensures { Gives (λ x. x) (lift (λ f. RecordFault.Short start) (fixed 8)).read
+        cursor.old result cursor.new }
+{
+    match cursor.u64() {
+        Ok(length) => Ok(length),
+        Err(_) => Err(RecordFault::Short { at: start }),
+    }
+}
+
+/// How many bytes follow in a record that begins at `start`.
+#[tactic(auto, unfolding(crate::specs::Records::record_length))]
+fn record_length(cursor: &mut Cursor, start: usize) -> Result<u64, RecordFault>
+    ensures read { Gives (λ n. n) (record_length start).read cursor.old result cursor.new }
+    ensures moves { OnOk result (length cursor.new.bytes < length cursor.old.bytes) }
+{
+    let length = length4(cursor, start)?;
+    if length == 0xffff_ffff {
+        length8(cursor, start)
+    } else {
+        Ok(length as u64)
+    }
+}
+
+/// The record that begins at `start`, where the cursor stands.
+#[tactic(auto, unfolding(crate::specs::Records::record_at))]
+fn record_at(
+    cursor: &mut Cursor,
+    section: u64,
+    earlier: &[CieRecord],
+    start: usize,
+) -> Result<Record, RecordFault>
+    requires { IsAscending (starts earlier.now) }
+    ensures read { Gives (λ r. r) (record_at section earlier.now start).read
+        cursor.old result cursor.new }
+    ensures moves { OnOk result (length cursor.new.bytes < length cursor.old.bytes) }
+    ensures start { IfOk result (BeginsAt start) }
+{
+    let length = record_length(cursor, start)?;
+    let mut inside = data(RecordFault::Short { at: start }, cursor, length)?;
+    content(&mut inside, section, earlier, start, cursor.at())
+}
+
+/// The record at the cursor. A refusal names its first byte.
+#[tactic(auto, unfolding(crate::specs::Records::whole_record))]
+pub(crate) fn whole_record(
+    cursor: &mut Cursor,
+    section: u64,
+    earlier: &[CieRecord],
+) -> Result<Record, FrameFault>
+    requires { IsAscending (starts earlier.now) }
+    ensures read { Gives (λ r. r) (whole_record section earlier.now).read
+        cursor.old result cursor.new }
+    ensures moves { OnOk result (length cursor.new.bytes < length cursor.old.bytes) }
+    ensures start { IfOk result (BeginsAt cursor.old.at) }
+{
+    let start = cursor.at();
+    match record_at(cursor, section, earlier, start) {
+        Ok(record) => Ok(record),
+        Err(fault) => Err(fault.in_record(start)),
+    }
+}

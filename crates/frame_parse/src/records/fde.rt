@@ -1,0 +1,65 @@
+//! The fields of an FDE.
+
+ghost use Rattle.std.specs.Prelude.{◌≡◌};
+ghost use Rattle.eh_bytes.specs.Rest.{Gives};
+ghost use Rattle.frame_parse.specs.Records.{range, lsda, fde};
+
+use super::fields::{data, is_negative, number, optional_pointer, pointer, uleb};
+use super::{CieRecord, Extent, FdeRecord};
+use crate::fault::RecordFault;
+use eh_bytes::Cursor;
+
+#[tactic(auto, unfolding(crate::specs::Records::range))]
+fn range(cursor: &mut Cursor, encoding: u8, first: u64) -> Result<u64, RecordFault>
+    ensures { Gives (λ x. x) (range encoding first).read cursor.old result cursor.new }
+{
+    let at = cursor.at();
+    let size = number(cursor, encoding)?;
+    if !is_negative(encoding, size) && size <= u64::MAX - first {
+        Ok(size)
+    } else {
+        Err(RecordFault::Range { at })
+    }
+}
+
+#[tactic(auto, unfolding(crate::specs::Records::lsda))]
+fn lsda(cursor: &mut Cursor, section: u64, cie: &CieRecord) -> Result<Option<u64>, RecordFault>
+    ensures { Gives (λ x. x) (lsda section cie.now).read cursor.old result cursor.new }
+{
+    if !cie.has_data {
+        return Ok(None);
+    }
+    let length = uleb(cursor)?;
+    let at = cursor.at();
+    let mut inside = data(RecordFault::Short { at }, cursor, length)?;
+    if cie.augmentation.lsda == 255 || length == 0 {
+        return Ok(None);
+    }
+    optional_pointer(&mut inside, section, cie.augmentation.lsda)
+}
+
+/// The fields behind the id. What is left up to `end` are the instructions.
+#[tactic(auto, unfolding(crate::specs::Records::fde))]
+pub(crate) fn fde(
+    cursor: &mut Cursor,
+    section: u64,
+    end: usize,
+    cie: &CieRecord,
+) -> Result<FdeRecord, RecordFault>
+    ensures { Gives (λ f. f) (fde section end cie.now).read cursor.old result cursor.new }
+{
+    let pointers = cie.augmentation.pointers;
+    let first = pointer(cursor, section, pointers)?;
+    let range = range(cursor, pointers, first)?;
+    let lsda = lsda(cursor, section, cie)?;
+    Ok(FdeRecord {
+        cie: *cie,
+        first,
+        range,
+        lsda,
+        program: Extent {
+            at: cursor.at(),
+            end,
+        },
+    })
+}
