@@ -1,17 +1,16 @@
 -- When and how the settled contents of the nodes that a caller holds become what their words spell. Nothing is asked of the
 -- rest of the tree.
-use Rattle.std.specs.Prelude.{◌≡◌, ◌≢◌, ℕ, ◌≤◌, Bool, true, false, ◌&&◌, not, IsTrue, IsSome, is_some, List, ◌++◌, length, Option, Some, None, ◌⊎◌, map, if◌then◌else◌}
+use Rattle.std.specs.Prelude.{◌≡◌, ◌≢◌, ℕ, ◌≤◌, Bool, true, false, ◌&&◌, ◌||◌, not, IsTrue, IsSome, is_some, List, ◌++◌, length, Option, Some, None, ◌⊎◌, map, if◌then◌else◌}
 use Rattle.std.specs.List.{AllByRecursion, filter}
 use Rattle.reg_model.specs.declared.answer.Update.{Update}
 use Rattle.tree_shape.specs.Shapes.{Shape}
-use Rattle.tree_shape.specs.Trees.{Contents, within, HasEntry}
+use Rattle.tree_shape.specs.Trees.{Contents}
 use Rattle.tree_shape.specs.Numbers.{is_among}
-use Rattle.tree_shape.specs.Lawful.{IsFilled}
-use Rattle.tree_shape.specs.LocalChange.{either, IsLocalChange, EntriesBecome}
+use Rattle.tree_shape.specs.LocalChange.{either, reached_nodes, IsLawfulChange}
 use Rattle.word_rule.specs.declared.log.Log.{Log}
 use Rattle.word_rule.specs.declared.log.Holding.{Holding}
 use Rattle.tree_shape.specs.declared.node.Frame.{Frame}
-use Rattle.word_rule.specs.Spelling.{spelled}
+use Rattle.word_rule.specs.Spelling.{spelled, SpellsNode}
 use Rattle.word_rule.specs.Held.{held_of, settled_in, now_in, now_of, marked_in, frame_of}
 
 -- the words of a held node spell another content than its settled one
@@ -26,10 +25,12 @@ is_fresh held out n = is_some (held_of n held) && is_among out n
 abbrev pub exchanged_in : Log → (ℕ → Bool) → Contents
 exchanged_in v group n = if either group (is_fresh v.holdings.held v.holdings.out) n then now_in v.holdings.held n else settled_in v.holdings.held n
 
--- whether the top reaches the node by ways inside the group and the nodes that are out, afterwards
+-- the nodes that the top reaches by ways inside the group and the nodes that are out, afterwards
+abbrev pub reached_in : Log → ℕ → (ℕ → Bool) → List ℕ
+reached_in v top group = reached_nodes top group (is_fresh v.holdings.held v.holdings.out) (exchanged_in v group)
+
 abbrev pub is_reached : Log → ℕ → (ℕ → Bool) → ℕ → Bool
-is_reached v top group n =
-    is_among (within (either group (is_fresh v.holdings.held v.holdings.out)) (exchanged_in v group) (exchanged_in v group top).level top) n
+is_reached v top group n = is_among (reached_in v top group) n
 
 abbrev pub node_of : Holding → ℕ
 node_of h = h.node
@@ -42,18 +43,16 @@ out_after v top group =
 
 -- The exchange of a group of held live nodes under one of them, the top, and of the held nodes that are out is lawful.
 pub record IsLawfulExchange (v : Log) (update : Option Update) (top : ℕ) (group : ℕ → Bool) : Type 0 where
-  -- the words of every held node spell a node
-  pub spell : AllByRecursion (λ h. IsSome (spelled (h.words))) v.holdings.held
-  -- the group is of held live nodes, and has each that differs
+  -- the words of each node of the group, and of each that the top reaches, spell a node
+  pub spell : AllByRecursion (λ h. IsTrue (group h.node || is_reached v top group h.node) → IsSome (spelled h.words)) v.holdings.held
+  -- the group is of held live nodes; every other one spells its settled content
   pub grouped : (n : ℕ) → IsTrue (group n) → IsTrue (marked_in v.holdings.held n)
-  pub covers : AllByRecursion (λ h. IsSome h.mark → Differs h → IsTrue (group h.node)) v.holdings.held
-  -- what the law of local change asks for, of these nodes alone
-  pub change : IsLocalChange (settled_in v.holdings.held) (marked_in v.holdings.held) top group (is_fresh v.holdings.held v.holdings.out) (exchanged_in v group)
-  pub filled : (n : ℕ) → IsTrue (is_reached v top group n) → IsFilled n (exchanged_in v group n)
-  -- the entries of the group's leaves stay as they were, or change by the update
-  pub entries : EntriesBecome update (HasEntry (settled_in v.holdings.held) group) (HasEntry (exchanged_in v group) (is_reached v top group))
-  -- each node that leaves the tree had a word stored under its lock
-  pub stored : AllByRecursion (λ h. IsTrue (group h.node) → is_reached v top group h.node ≡ false → h.stored ≡ true) v.holdings.held
+  pub covers : AllByRecursion (λ h. IsSome h.mark → group h.node ≡ false → SpellsNode h.words h.settled) v.holdings.held
+  -- These nodes alone change the tree lawfully: its entries stay as they were, or change by the update.
+  pub change : IsLawfulChange (settled_in v.holdings.held) (marked_in v.holdings.held) top group (is_fresh v.holdings.held v.holdings.out) (exchanged_in v group) update
+  -- Each node that leaves the tree, and each that enters it, had a word stored under its lock. So no sight of it stands.
+  pub leaves : AllByRecursion (λ h. IsTrue (group h.node) → is_reached v top group h.node ≡ false → h.stored ≡ true) v.holdings.held
+  pub enters : AllByRecursion (λ h. IsTrue (is_fresh v.holdings.held v.holdings.out h.node) → IsTrue (is_reached v top group h.node) → h.stored ≡ true) v.holdings.held
   pub room : length (out_after v top group) ≤ 4
 
 -- no held live node differs from its settled content, and no update is made
