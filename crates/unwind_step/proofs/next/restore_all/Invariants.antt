@@ -1,0 +1,10 @@
+use Rattle.std.proofs.Common.{◌≡◌, length}
+use Rattle.unwind_step.specs.NextFrame.{AreRestored}
+use Rattle.unwind_step.proofs.next.restore_all.Given as goal
+
+-- the columns so far are restored
+abbrev pub invariant-loop-column : goal.invariant-loop-column
+invariant-loop-column l = record {
+  restored : AreRestored l.column l.row l.cfa l.regs.columns l.memory l.columns;
+  all : length l.columns ≡ 17;
+}

@@ -1,0 +1,38 @@
+-- What finders answer, and how they go through a list of queries.
+use Rattle.std.specs.Prelude.{◌≡◌, ◌<◌, ℕ, List, [], ◌∷◌, All, IfSome}
+use Rattle.reg_model.specs.declared.answer.Half.TheVariants.{Registered, Loaded}
+use Rattle.reg_model.specs.declared.answer.Place.{Place}
+use Rattle.reg_model.specs.declared.answer.Receipt.TheVariants.{Query}
+use Rattle.reg_model.specs.declared.span.Member.{Member}
+use Rattle.reg_model.specs.Current.{Current, Step}
+use Rattle.reg_model.specs.Receipt.{IsPlace}
+use Rattle.reg_model.specs.State.{State, objects}
+use Rattle.unwind_step.specs.declared.backtrace.FrameLine.{FrameLine}
+
+-- The finder was asked for the lines' addresses, one after another, and answered with their places: from each state to the
+-- next by one query.
+abbrev pub GoesThrough : {A : Type 0} → (A → ℕ → Place → A → Type 0) → A → List FrameLine → A → Type 0
+GoesThrough answers before [] end = before ≡ end
+GoesThrough {A} answers before (line ∷ lines) end = (next : A) × answers before line.look line.place next × GoesThrough answers next lines end
+
+-- ---- a registry over plain lists
+
+-- what a contract sees of a finder in such a registry
+pub record PlainFinderData : Type 0 where
+  pub registry : Current
+  pub bound : ℕ
+
+-- each member has a payload below the bound
+pub record HasPayloadsBelow (bound : ℕ) (s : State) : Type 0 where
+  pub registered : All (λ m. m.payload < bound) s.registered
+  pub objects : All (λ m. m.payload < bound) (objects s)
+
+-- each half that was asked answered right of the registry
+pub record IsPlainPlace (registry : Current) (pc : ℕ) (place : Place) : Type 0 where
+  pub registered : Step registry (Query Registered pc place.registered) registry
+  pub loaded : IfSome place.loaded (λ found. Step registry (Query Loaded pc found) registry)
+  pub halves : IsPlace place
+
+-- a query changes nothing
+abbrev pub AnswersPlainly : PlainFinderData → ℕ → Place → PlainFinderData → Type 0
+AnswersPlainly before pc place after = (after ≡ before) × IsPlainPlace before.registry pc place

@@ -1,0 +1,4 @@
+pub mod Rules
+pub mod NextFrame
+pub mod Backtrace
+pub mod Finders
