@@ -1,5 +1,5 @@
 -- From frame to frame along the lines of a trace, and what that makes of a whole trace.
-use Rattle.std.proofs.Common.{◌≡◌, ℕ, ◌+◌, ◌<◌, ◌≤◌, List, [], ◌∷◌, ◌++◌, length, Some, None, slice_get, suc, zero, refl, sym, ◌∙◌, ap, subst, add-one, arith}
+use Rattle.std.proofs.Common.{◌≡◌, ℕ, ◌+◌, ◌≤◌, List, [], ◌∷◌, ◌++◌, length, Some, None, slice_get, suc, zero, refl, sym, ◌∙◌, subst, add-one, arith}
 use Rattle.std.specs.List.{AllZip}
 use Rattle.frame_expr.specs.declared.regs.Regs.{Regs}
 use Rattle.frame_expr.specs.Regions.{RegionData}

@@ -1,14 +1,13 @@
 -- What a registry over plain lists finds is one of its members.
 use Rattle.std.proofs.Common.{◌≡◌, ◌<◌, ℕ, List, [], ◌∷◌, All, Bool, true, false, cond, ◌⊎◌, inl, inr, suc, subst, Option, Some, None, IfSome, arith}
 use Rattle.std.specs.List.{find}
+use Rattle.std.proofs.lemmas.List.Elements.{All-append}
 use Rattle.reg_model.specs.declared.answer.Found.{Found}
 use Rattle.reg_model.specs.declared.answer.Found.TheVariants.{Hit, Miss}
 use Rattle.reg_model.specs.declared.answer.Half.TheVariants.{Registered, Loaded}
-use Rattle.reg_model.specs.declared.answer.Place.{Place}
 use Rattle.reg_model.specs.declared.answer.Receipt.TheVariants.{Query}
-use Rattle.reg_model.specs.declared.span.Member.{Member}
 use Rattle.reg_model.specs.Current.{Current, Step}
-use Rattle.reg_model.specs.State.{State, objects}
+use Rattle.reg_model.specs.State.{objects}
 use Rattle.unwind_step.specs.Backtrace.{IsBelow}
 use Rattle.unwind_step.specs.Finders.{HasPayloadsBelow}
 
@@ -29,4 +28,4 @@ pub place_below : (registry : Current) (bound pc : ℕ) (registered : Found) (lo
 place_below registry bound pc (Hit m stamp) loaded below step other = All-find (λ x. x.payload < bound) _ _ m below.registered step.right
 place_below registry bound pc (Miss stamp) None below step other = tt
 place_below registry bound pc (Miss stamp) (Some (Miss later)) below step other = tt
-place_below registry bound pc (Miss stamp) (Some (Hit m later)) below step other = All-find (λ x. x.payload < bound) _ _ m below.objects other.right
+place_below registry bound pc (Miss stamp) (Some (Hit m later)) below step other = All-find (λ x. x.payload < bound) _ (objects registry.state) m (All-append (λ x. x.payload < bound) registry.state.fixed registry.state.loaded below.fixed below.loaded) other.right

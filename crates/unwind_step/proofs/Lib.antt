@@ -1,3 +1,4 @@
 pub mod Climbing
 pub mod Columns
 pub mod Hits
+pub mod Payloads

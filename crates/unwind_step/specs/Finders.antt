@@ -2,11 +2,11 @@
 use Rattle.std.specs.Prelude.{◌≡◌, ◌<◌, ℕ, List, [], ◌∷◌, All, IfSome}
 use Rattle.reg_model.specs.declared.answer.Half.TheVariants.{Registered, Loaded}
 use Rattle.reg_model.specs.declared.answer.Place.{Place}
-use Rattle.reg_model.specs.declared.answer.Receipt.TheVariants.{Query}
-use Rattle.reg_model.specs.declared.span.Member.{Member}
+use Rattle.reg_model.specs.declared.answer.Receipt.{Receipt}
+use Rattle.reg_model.specs.declared.answer.Receipt.TheVariants.{Register, Deregister, Load, Unload, Query}
 use Rattle.reg_model.specs.Current.{Current, Step}
 use Rattle.reg_model.specs.Receipt.{IsPlace}
-use Rattle.reg_model.specs.State.{State, objects}
+use Rattle.reg_model.specs.State.{State}
 use Rattle.unwind_step.specs.declared.backtrace.FrameLine.{FrameLine}
 
 -- The finder was asked for the lines' addresses, one after another, and answered with their places: from each state to the
@@ -25,7 +25,16 @@ pub record PlainFinderData : Type 0 where
 -- each member has a payload below the bound
 pub record HasPayloadsBelow (bound : ℕ) (s : State) : Type 0 where
   pub registered : All (λ m. m.payload < bound) s.registered
-  pub objects : All (λ m. m.payload < bound) (objects s)
+  pub loaded : All (λ m. m.payload < bound) s.loaded
+  pub fixed : All (λ m. m.payload < bound) s.fixed
+
+-- a call that adds a member has one whose payload is below the bound
+abbrev pub AddsBelow : ℕ → Receipt → Type 0
+AddsBelow bound (Register m answer) = m.payload < bound
+AddsBelow bound (Load m answer) = m.payload < bound
+AddsBelow bound (Deregister base answer) = Unit {0}
+AddsBelow bound (Unload base answer) = Unit {0}
+AddsBelow bound (Query half pc found) = Unit {0}
 
 -- each half that was asked answered right of the registry
 pub record IsPlainPlace (registry : Current) (pc : ℕ) (place : Place) : Type 0 where

@@ -9,6 +9,7 @@
 mod backtrace;
 mod finder;
 mod frame;
+pub mod laws;
 mod next;
 mod plain;
 mod unwind;
@@ -19,3 +20,6 @@ pub use frame::{AddressKind, Frame};
 pub use next::{Stepped, step};
 pub use plain::PlainFinder;
 pub use unwind::trace;
+
+#[cfg(test)]
+mod tests;

@@ -1,4 +1,4 @@
-use Rattle.std.proofs.Common.{◌≡◌, ◌+◌, ◌-◌, ◌≤◌, All, vec_len, vec_capacity, length}
+use Rattle.std.proofs.Common.{◌≡◌, ◌-◌, ◌≤◌, All, vec_len, vec_capacity}
 use Rattle.reg_model.specs.Receipt.{IsPlace}
 use Rattle.unwind_step.specs.Backtrace.{innermost}
 use Rattle.unwind_step.specs.Finders.{GoesThrough}

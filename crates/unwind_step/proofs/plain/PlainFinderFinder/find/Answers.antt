@@ -1,5 +1,3 @@
-use Rattle.std.proofs.Common.{ap}
-use Rattle.unwind_step.specs.Backtrace.{IsBelow}
 use Rattle.unwind_step.proofs.Hits.{place_below}
 use Rattle.unwind_step.proofs.plain.PlainFinderFinder.find.Goals as goal
 
