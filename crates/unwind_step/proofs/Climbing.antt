@@ -9,17 +9,17 @@ use Rattle.unwind_step.specs.declared.backtrace.End.{End}
 use Rattle.unwind_step.specs.declared.backtrace.End.TheVariants.{Long}
 use Rattle.unwind_step.specs.declared.backtrace.FrameLine.{FrameLine}
 use Rattle.unwind_step.specs.declared.frame.Frame.{Frame}
-use Rattle.unwind_step.specs.Backtrace.{innermost, Shows, IsCaller, IsEnd, Unfolds}
+use Rattle.unwind_step.specs.Backtrace.{innermost, Shows, IsCallingFrame, IsEnd, Unfolds}
 use Rattle.unwind_step.specs.Finders.{GoesThrough}
 
 -- each line shows its frame, and leads to the next one
 abbrev pub Climbs : List Contents → List RegionData → Frame → List FrameLine → Frame → Type 0
 Climbs sections memory from [] to = from ≡ to
-Climbs sections memory from (line ∷ lines) to = Shows from line × ((caller : Frame) × IsCaller sections memory from line caller × Climbs sections memory caller lines to)
+Climbs sections memory from (line ∷ lines) to = Shows from line × ((caller : Frame) × IsCallingFrame sections memory from line caller × Climbs sections memory caller lines to)
 
-pub Climbs-push : (sections : List Contents) (memory : List RegionData) (from : Frame) (lines : List FrameLine) (last : Frame) (line : FrameLine) (to : Frame) → Climbs sections memory from lines last → Shows last line → IsCaller sections memory last line to → Climbs sections memory from (lines ++ line ∷ []) to
+pub Climbs-push : (sections : List Contents) (memory : List RegionData) (from : Frame) (lines : List FrameLine) (last : Frame) (line : FrameLine) (to : Frame) → Climbs sections memory from lines last → Shows last line → IsCallingFrame sections memory last line to → Climbs sections memory from (lines ++ line ∷ []) to
 Climbs-push sections memory from [] last line to climbs shows caller =
-    let P : Frame → Type 0 = λ f. Shows f line × ((c : Frame) × IsCaller sections memory f line c × (c ≡ to)) in
+    let P : Frame → Type 0 = λ f. Shows f line × ((c : Frame) × IsCallingFrame sections memory f line c × (c ≡ to)) in
     subst P (sym climbs) (shows, (to, caller, refl))
 Climbs-push sections memory from (first ∷ lines) last line to climbs shows caller =
     (climbs.0, (climbs.1.0, climbs.1.1, Climbs-push sections memory climbs.1.0 lines last line to climbs.1.2 shows caller))
@@ -36,7 +36,7 @@ pub record Stack (sections : List Contents) (memory : List RegionData) (from : F
   pub frames : List Frame
   pub first : slice_get frames 0 ≡ Some from
   pub shown : AllZip Shows frames lines
-  pub callers : (i : ℕ) (frame caller : Frame) (line : FrameLine) → slice_get frames i ≡ Some frame → slice_get frames (i + 1) ≡ Some caller → slice_get lines i ≡ Some line → IsCaller sections memory frame line caller
+  pub callers : (i : ℕ) (frame caller : Frame) (line : FrameLine) → slice_get frames i ≡ Some frame → slice_get frames (i + 1) ≡ Some caller → slice_get lines i ≡ Some line → IsCallingFrame sections memory frame line caller
   pub ends : (i : ℕ) (frame : Frame) (line : FrameLine) → i + 1 ≡ length lines → slice_get frames i ≡ Some frame → slice_get lines i ≡ Some line → P frame line
 
 -- a place in a list of one is the first
@@ -58,14 +58,14 @@ alone sections memory from line P shows here = record {
 }
 
 -- the same caller, told by equal frames and lines
-moved : (sections : List Contents) (memory : List RegionData) (from frame caller other : Frame) (line shown : FrameLine) → from ≡ frame → line ≡ shown → caller ≡ other → IsCaller sections memory from line caller → IsCaller sections memory frame shown other
+moved : (sections : List Contents) (memory : List RegionData) (from frame caller other : Frame) (line shown : FrameLine) → from ≡ frame → line ≡ shown → caller ≡ other → IsCallingFrame sections memory from line caller → IsCallingFrame sections memory frame shown other
 moved sections memory from frame caller other line shown same_frame same_line same_caller is =
-    subst (IsCaller sections memory frame shown) same_caller
-    (subst (λ l. IsCaller sections memory frame l caller) same_line
-    (subst (λ f. IsCaller sections memory f line caller) same_frame is))
+    subst (IsCallingFrame sections memory frame shown) same_caller
+    (subst (λ l. IsCallingFrame sections memory frame l caller) same_line
+    (subst (λ f. IsCallingFrame sections memory f line caller) same_frame is))
 
 -- one more frame on top
-pub above : (sections : List Contents) (memory : List RegionData) (from caller : Frame) (line next : FrameLine) (lines : List FrameLine) (P : Frame → FrameLine → Type 0) → Shows from line → IsCaller sections memory from line caller → Stack sections memory caller (next ∷ lines) P → Stack sections memory from (line ∷ next ∷ lines) P
+pub above : (sections : List Contents) (memory : List RegionData) (from caller : Frame) (line next : FrameLine) (lines : List FrameLine) (P : Frame → FrameLine → Type 0) → Shows from line → IsCallingFrame sections memory from line caller → Stack sections memory caller (next ∷ lines) P → Stack sections memory from (line ∷ next ∷ lines) P
 above sections memory from caller line next lines P shows calls stack = record {
   frames = from ∷ stack.frames;
   first = refl;
@@ -74,7 +74,7 @@ above sections memory from caller line next lines P shows calls stack = record {
   ends = ends;
 }
   where
-    callers : (i : ℕ) (frame other : Frame) (shown : FrameLine) → slice_get (from ∷ stack.frames) i ≡ Some frame → slice_get (from ∷ stack.frames) (i + 1) ≡ Some other → slice_get (line ∷ next ∷ lines) i ≡ Some shown → IsCaller sections memory frame shown other
+    callers : (i : ℕ) (frame other : Frame) (shown : FrameLine) → slice_get (from ∷ stack.frames) i ≡ Some frame → slice_get (from ∷ stack.frames) (i + 1) ≡ Some other → slice_get (line ∷ next ∷ lines) i ≡ Some shown → IsCallingFrame sections memory frame shown other
     callers zero frame other shown at after is =
         let second : Some caller ≡ Some other = sym stack.first ∙ after in
         moved sections memory from frame caller other line shown (cc) (cc) (cc) calls
@@ -86,11 +86,11 @@ above sections memory from caller line next lines P shows calls stack = record {
     ends (suc j) frame shown last at is = stack.ends j frame shown (omega arith) at is
 
 -- the last line of some that climb leads to where they climb
-pub climbed : (sections : List Contents) (memory : List RegionData) (from : Frame) (line : FrameLine) (lines : List FrameLine) (to : Frame) → Climbs sections memory from (line ∷ lines) to → Stack sections memory from (line ∷ lines) (λ f l. IsCaller sections memory f l to)
+pub climbed : (sections : List Contents) (memory : List RegionData) (from : Frame) (line : FrameLine) (lines : List FrameLine) (to : Frame) → Climbs sections memory from (line ∷ lines) to → Stack sections memory from (line ∷ lines) (λ f l. IsCallingFrame sections memory f l to)
 climbed sections memory from line [] to climbs =
-    alone sections memory from line (λ f l. IsCaller sections memory f l to) climbs.0 (subst (IsCaller sections memory from line) climbs.1.2 climbs.1.1)
+    alone sections memory from line (λ f l. IsCallingFrame sections memory f l to) climbs.0 (subst (IsCallingFrame sections memory from line) climbs.1.2 climbs.1.1)
 climbed sections memory from line (next ∷ lines) to climbs =
-    above sections memory from climbs.1.0 line next lines (λ f l. IsCaller sections memory f l to) climbs.0 climbs.1.1 (climbed sections memory climbs.1.0 next lines to climbs.1.2)
+    above sections memory from climbs.1.0 line next lines (λ f l. IsCallingFrame sections memory f l to) climbs.0 climbs.1.1 (climbed sections memory climbs.1.0 next lines to climbs.1.2)
 
 -- one more line, with what holds of it
 pub with_last : (sections : List Contents) (memory : List RegionData) (from : Frame) (lines : List FrameLine) (last : Frame) (line : FrameLine) (P : Frame → FrameLine → Type 0) → Climbs sections memory from lines last → Shows last line → P last line → Stack sections memory from (lines ++ line ∷ []) P

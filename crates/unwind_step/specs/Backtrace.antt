@@ -68,16 +68,16 @@ pub record HasOutcome (sections : List Contents) (memory : List RegionData) (fra
   pub is_next : IsNextFrame fde line.look frame.regs.columns memory outcome
 
 -- a signal may come between any two instructions: the frame that it interrupted is at its own address
-abbrev pub kind_of : Bool → AddressKind
-kind_of true = Instruction
-kind_of false = Return
+abbrev pub address_kind : Bool → AddressKind
+address_kind true = Instruction
+address_kind false = Return
 
 -- the next frame of a backtrace, the one that called
-pub record IsCaller (sections : List Contents) (memory : List RegionData) (frame : Frame) (line : FrameLine) (caller : Frame) : Type 0 where
+pub record IsCallingFrame (sections : List Contents) (memory : List RegionData) (frame : Frame) (line : FrameLine) (caller : Frame) : Type 0 where
   pub fde : FdeContents
   pub found : fde_of sections line ≡ Some fde
   pub is_next : IsNextFrame fde line.look frame.regs.columns memory (stepped.Frame caller.regs)
-  pub kind : caller.address ≡ kind_of fde.entry.cie.augmentation.signal
+  pub kind : caller.address ≡ address_kind fde.entry.cie.augmentation.signal
 
 -- ---- whole traces
 
@@ -88,7 +88,7 @@ IsEnd sections memory count frame line NoFde = (s : Contents) × (hit_section se
 IsEnd sections memory count frame line NoRow = HasOutcome sections memory frame line stepped.NoRow
 IsEnd sections memory count frame line Undefined = HasOutcome sections memory frame line stepped.Undefined
 IsEnd sections memory count frame line (NoBytes a) = HasOutcome sections memory frame line (stepped.NoBytes a)
-IsEnd sections memory count frame line Long = (count ≡ 256) × ((caller : Frame) × IsCaller sections memory frame line caller)
+IsEnd sections memory count frame line Long = (count ≡ 256) × ((caller : Frame) × IsCallingFrame sections memory frame line caller)
 
 -- A trace unfolds where there are frames, as many as lines: the first one has the recorded registers; each line shows its
 -- frame; each further frame is the caller of the one before it; and the trace ends for the reason that the last frame has.
@@ -96,6 +96,6 @@ pub record Unfolds (sections : List Contents) (memory : List RegionData) (regs :
   pub frames : List Frame
   pub first : slice_get frames 0 ≡ Some (innermost regs)
   pub shown : AllZip Shows frames trace.frames
-  pub callers : (i : ℕ) (frame caller : Frame) (line : FrameLine) → slice_get frames i ≡ Some frame → slice_get frames (i + 1) ≡ Some caller → slice_get trace.frames i ≡ Some line → IsCaller sections memory frame line caller
+  pub callers : (i : ℕ) (frame caller : Frame) (line : FrameLine) → slice_get frames i ≡ Some frame → slice_get frames (i + 1) ≡ Some caller → slice_get trace.frames i ≡ Some line → IsCallingFrame sections memory frame line caller
   pub ends : (i : ℕ) (frame : Frame) (line : FrameLine) → i + 1 ≡ length trace.frames → slice_get frames i ≡ Some frame → slice_get trace.frames i ≡ Some line → IsEnd sections memory (length trace.frames) frame line trace.end
   pub count : length trace.frames ≤ 256

@@ -1,7 +1,7 @@
 //! Frames, and the addresses at which they are looked up.
 
 ghost use Rattle.std.specs.Prelude.{◌≡◌, slice_index};
-ghost use Rattle.unwind_step.specs.Backtrace.{innermost, lookup_address, kind_of};
+ghost use Rattle.unwind_step.specs.Backtrace.{innermost, lookup_address, address_kind};
 
 use frame_expr::Regs;
 
@@ -24,7 +24,7 @@ pub struct Frame {
 impl AddressKind {
     /// Of a frame entered from one whose CIE says whether that is a signal's.
     pub(crate) fn before(signal: bool) -> AddressKind
-        ensures { result ≡ kind_of signal }
+        ensures { result ≡ address_kind signal }
     {
         if signal {
             AddressKind::Instruction

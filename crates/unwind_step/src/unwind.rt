@@ -2,7 +2,7 @@
 
 ghost use Rattle.std.specs.Prelude.{◌≡◌, ℕ, ◌+◌, ◌<◌, ◌≤◌, [], ◌∷◌, ◌++◌, All, IfOk, IfErr, OnErr, length, vec_len, vec_capacity, slice_index};
 ghost use Rattle.reg_model.specs.Receipt.{IsPlace};
-ghost use Rattle.unwind_step.specs.Backtrace.{hit_of, IsBelow, Shows, IsCaller, IsEnd, Unfolds};
+ghost use Rattle.unwind_step.specs.Backtrace.{hit_of, IsBelow, Shows, IsCallingFrame, IsEnd, Unfolds};
 ghost use Rattle.unwind_step.specs.Finders.{GoesThrough};
 
 use crate::backtrace::{End, FrameLine, Trace};
@@ -55,7 +55,7 @@ fn caller_of(
     line: &FrameLine,
 ) -> Result<Frame, End>
     requires { IsBelow (length sections.now) line.now.place }
-    ensures caller { IfOk result (IsCaller sections.now memory.now frame.now line.now) }
+    ensures caller { IfOk result (IsCallingFrame sections.now memory.now frame.now line.now) }
     ensures end { IfErr result (λ end. (count : ℕ)
         → IsEnd sections.now memory.now count frame.now line.now end) }
 {
