@@ -1,4 +1,5 @@
 pub mod Climbing
 pub mod Columns
 pub mod Hits
+pub mod OneOutcome
 pub mod Payloads

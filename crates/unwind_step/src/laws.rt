@@ -1,12 +1,22 @@
 //! Laws of the definitions. Each is the contract of a function that does nothing.
 
-ghost use Rattle.std.specs.Prelude.{ℕ};
+ghost use Rattle.std.specs.Prelude.{◌≡◌, ℕ, List};
+ghost use Rattle.frame_expr.specs.Regions.{RegionData};
+ghost use Rattle.frame_rows.specs.declared.row.Row.{Row};
 ghost use Rattle.reg_model.specs.Current.{Current, Step};
 ghost use Rattle.reg_model.specs.declared.answer.Receipt.{Receipt};
+ghost use Rattle.unwind_step.specs.NextFrame.{IsStep};
+ghost use Rattle.unwind_step.specs.declared.next.Stepped.{Stepped};
 ghost use Rattle.unwind_step.specs.Finders.{AddsBelow, HasPayloadsBelow};
 
 /// Payloads below a bound stay below it along the calls of a registry over plain lists.
 pub fn payloads_stay_below()
     ensures { (bound : ℕ) (old new : Current) (r : Receipt) → AddsBelow bound r → Step old r new
         → HasPayloadsBelow bound old.state → HasPayloadsBelow bound new.state }
+{}
+
+/// A row makes one thing of the old registers, never two.
+pub fn one_outcome()
+    ensures { (row : Row) (old : List ℕ) (memory : List RegionData) (a b : Stepped)
+        → IsStep row old memory a → IsStep row old memory b → a ≡ b }
 {}

@@ -2,6 +2,7 @@
 
 ghost use Rattle.std.specs.Prelude.{◌≡◌, ◌≢◌, ◌⊎◌, Ok, Err, IfOk, IfErr, slice_index};
 ghost use Rattle.unwind_step.specs.Rules.{saved_at, IsCfa, IsRestored};
+ghost use Rattle.unwind_step.specs.declared.next.Stepped.{Stepped};
 ghost use Rattle.unwind_step.specs.NextFrame.{Leads, AreRestored, FailsFirst, IsFrame, LacksBytes, IsStep, IsNextFrame};
 
 use frame_expr::{Memory, NoBytes, Regs};
@@ -116,7 +117,11 @@ fn follow(row: &Row, regs: &Regs, memory: &Memory) -> Stepped
 
 /// What an FDE makes of a frame's registers, at the address where the frame was looked up. It takes no memory.
 pub fn step(fde: &Fde<'_>, look: u64, regs: &Regs, memory: &Memory) -> Stepped
-    ensures { IsNextFrame fde.now look regs.now.columns memory.now result }
+    ensures outcome { IsNextFrame fde.now look regs.now.columns memory.now result }
+    // Nothing else can come of them.
+    ensures only { (other : Stepped)
+        → IsNextFrame fde.now look regs.now.columns memory.now other → other ≡ result }
 {
-    follow(&row_at(fde, look), regs, memory)
+    let row = row_at(fde, look);
+    follow(&row, regs, memory)
 }
