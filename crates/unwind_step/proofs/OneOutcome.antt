@@ -1,10 +1,9 @@
 -- A row makes one thing of the old registers, and rows with the same rules make the same.
-use Rattle.std.proofs.Common.{◌≡◌, ◌≢◌, ◌⊎◌, inl, inr, ℕ, ◌<◌, ◌≤◌, List, length, Some, Ok, Err, Result, slice_get, get_or, refl, sym, ◌∙◌, ap, subst, arith}
+use Rattle.std.proofs.Common.{◌≡◌, ◌≢◌, ◌⊎◌, inl, inr, ℕ, ◌<◌, ◌≤◌, List, Some, Ok, Err, Result, slice_get, get_or, refl, sym, ◌∙◌, ap, subst, arith}
 use Rattle.std.proofs.lemmas.List.{ext_get_or}
 use Rattle.std.proofs.lemmas.Option.{get_or_from_slice_get}
 use Rattle.std.proofs.lemmas.Bool.{cases_order}
 use Rattle.frame_expr.specs.declared.fault.NoBytes.{NoBytes}
-use Rattle.frame_expr.specs.declared.regs.Regs.{Regs}
 use Rattle.frame_expr.specs.Regions.{RegionData}
 use Rattle.frame_rows.specs.declared.row.CfaRule.{CfaRule}
 use Rattle.frame_rows.specs.declared.row.CfaRule.TheVariants as cfas
@@ -53,23 +52,23 @@ frames_one row old memory new more is also =
     let cfa = same_ok is.cfa also.cfa (cfa_one row.cfa old memory _ _ is.is_cfa also.is_cfa) in
     ext_get_or 0 new more (is.all ∙ sym also.all)
     (λ r below. same_ok (get_or new r 0) (get_or more r 0) (restored_one r (rule_in row r) also.cfa old memory _ _
-      (subst (λ c. IsRestored r (rule_in row r) c old memory (Ok (get_or new r 0))) cfa (is.restored r (omega (arith, is.all)))) (also.restored r (omega (arith, is.all)))))
+    (subst (λ c. IsRestored r (rule_in row r) c old memory (Ok (get_or new r 0))) cfa (is.restored r (omega (arith, is.all)))) (also.restored r (omega (arith, is.all)))))
 
 frame_or_fault : (row : Row) (old : List ℕ) (memory : List RegionData) (new : List ℕ) (e : NoBytes) → IsFrame row old memory new → LacksBytes row old memory e → ⊥
 frame_or_fault row old memory new e is lacks = elim lacks.fails [
-    inl not_cfa ↦ apart is.cfa e (cfa_one row.cfa old memory _ _ is.is_cfa not_cfa)
-    | inr fails ↦ (let cfa = same_ok is.cfa fails.0 (cfa_one row.cfa old memory _ _ is.is_cfa fails.1) in
-        let first = fails.2 in
-        apart (get_or new first.r 0) e (restored_one first.r (rule_in row first.r) fails.0 old memory _ _
-          (subst (λ c. IsRestored first.r (rule_in row first.r) c old memory (Ok (get_or new first.r 0))) cfa (is.restored first.r first.below)) first.fails))
-  ]
+  | inl not_cfa ↦ apart is.cfa e (cfa_one row.cfa old memory _ _ is.is_cfa not_cfa)
+  | inr fails ↦ (let cfa = same_ok is.cfa fails.0 (cfa_one row.cfa old memory _ _ is.is_cfa fails.1) in
+      let first = fails.2 in
+      apart (get_or new first.r 0) e (restored_one first.r (rule_in row first.r) fails.0 old memory _ _
+      (subst (λ c. IsRestored first.r (rule_in row first.r) c old memory (Ok (get_or new first.r 0))) cfa (is.restored first.r first.below)) first.fails))
+]
 
 first_one : (row : Row) (cfa : ℕ) (old : List ℕ) (memory : List RegionData) (e f : NoBytes) → FailsFirst row cfa old memory e → FailsFirst row cfa old memory f → e ≡ f
 first_one row cfa old memory e f is also = elim (cases_order is.r also.r) [
-    inl same ↦ same_err e f (restored_one is.r (rule_in row is.r) cfa old memory _ _ is.fails (subst (λ r. IsRestored r (rule_in row r) cfa old memory (Err f)) (sym same) also.fails))
-    | inr (inl below) ↦ absurd (apart _ e (restored_one is.r (rule_in row is.r) cfa old memory _ _ (also.earlier is.r below) is.fails))
-    | inr (inr below) ↦ absurd (apart _ f (restored_one also.r (rule_in row also.r) cfa old memory _ _ (is.earlier also.r below) also.fails))
-  ]
+  | inl same ↦ same_err e f (restored_one is.r (rule_in row is.r) cfa old memory _ _ is.fails (subst (λ r. IsRestored r (rule_in row r) cfa old memory (Err f)) (sym same) also.fails))
+  | inr (inl below) ↦ absurd (apart _ e (restored_one is.r (rule_in row is.r) cfa old memory _ _ (also.earlier is.r below) is.fails))
+  | inr (inr below) ↦ absurd (apart _ f (restored_one also.r (rule_in row also.r) cfa old memory _ _ (is.earlier also.r below) also.fails))
+]
 
 lacks_one : (row : Row) (old : List ℕ) (memory : List RegionData) (e f : NoBytes) → LacksBytes row old memory e → LacksBytes row old memory f → e ≡ f
 lacks_one row old memory e f is also = cases is.fails also.fails
@@ -147,13 +146,17 @@ same_outcome row other old memory (stepped.NoBytes a) same is = record {
     fails : Fails row old memory (record { address = a }) → Fails other old memory (record { address = a })
     fails (inl not_cfa) = inl (subst (λ rule. IsCfa rule old memory (Err (record { address = a }))) same.cfa not_cfa)
     fails (inr here) = let first = here.2 in
-        inr (here.0, subst (λ rule. IsCfa rule old memory (Ok here.0)) same.cfa here.1, record {
-          r = first.r;
-          below = first.below;
-          fails = subst (λ rule. IsRestored first.r rule here.0 old memory (Err (record { address = a }))) (same.columns first.r first.below) first.fails;
-          new = first.new;
-          earlier = same_restored row other here.0 old memory first.r first.new (omega arith) same first.earlier;
-        })
+        inr (
+          here.0,
+          subst (λ rule. IsCfa rule old memory (Ok here.0)) same.cfa here.1,
+          record {
+            r = first.r;
+            below = first.below;
+            fails = subst (λ rule. IsRestored first.r rule here.0 old memory (Err (record { address = a }))) (same.columns first.r first.below) first.fails;
+            new = first.new;
+            earlier = same_restored row other here.0 old memory first.r first.new (omega arith) same first.earlier;
+          },
+        )
 
 -- rows that have the same rules by their tables have the same rules
 pub same_rules : (row other : Row) (cfa : CfaRule) (rule : ℕ → Rule) → row.cfa ≡ cfa → other.cfa ≡ cfa → ((r : ℕ) → r < 17 → slice_get row.columns r ≡ Some (rule r)) → ((r : ℕ) → r < 17 → slice_get other.columns r ≡ Some (rule r)) → HasSameRules row other
