@@ -3,3 +3,4 @@ pub mod Columns
 pub mod Hits
 pub mod OneOutcome
 pub mod Payloads
+pub mod PlainQueries

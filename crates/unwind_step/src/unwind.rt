@@ -22,9 +22,9 @@ const MOST_FRAMES: usize = 256;
 fn hit_of(place: &Place) -> Option<Member>
     ensures { result ≡ hit_of place.now }
 {
-    match (place.registered, place.loaded) {
-        (Found::Hit { member, .. }, _) => Some(member),
-        (Found::Miss { .. }, Some(Found::Hit { member, .. })) => Some(member),
+    match (&place.registered, &place.loaded) {
+        (Found::Hit { member, .. }, _) => Some(*member),
+        (Found::Miss { .. }, Some(Found::Hit { member, .. })) => Some(*member),
         (Found::Miss { .. }, _) => None,
     }
 }
