@@ -2,7 +2,7 @@
 use Rattle.std.specs.Prelude.{◌≡◌, ◌≢◌, ◌⊎◌, ℕ, ◌<◌, List, length, Some, Ok, Err, slice_get, slice_index, slice_index_or}
 use Rattle.frame_expr.specs.declared.fault.NoBytes.{NoBytes}
 use Rattle.frame_expr.specs.Regions.{RegionData}
-use Rattle.frame_parse.specs.declared.instruction.Step.{Step}
+use Rattle.frame_parse.specs.declared.instructions.Step.{Step}
 use Rattle.frame_parse.specs.Sections.{FdeContents}
 use Rattle.frame_rows.specs.declared.row.CfaRule.TheVariants as cfas
 use Rattle.frame_rows.specs.declared.row.Row.{Row}
