@@ -1,6 +1,6 @@
 ghost use Rattle.std.specs.Prelude.{◌≡◌, ◌+◌, ◌*◌, ◌≤◌, ◌<◌, [], None, IsSome};
 ghost use Rattle.word_rule.specs.CallerData.{surplus};
-ghost use Rattle.node_store.specs.Locking.{Tries, Turns};
+ghost use Rattle.node_store.specs.Locking.{Turns};
 
 use crate::{lock, unlock};
 use std::sync::Wait;
@@ -80,7 +80,9 @@ const LOCKED_WITH_SLEEPERS: u64 = 3;
 
 fn someone_sleeps(words: &Words, me: &mut Caller) -> bool
     requires { me.old.table ≡ words.now.table }
-    ensures { Tries me.old me.new }
+    ensures table { me.new.table ≡ me.old.table }
+    ensures loader { me.new.log.loader ≡ me.old.log.loader }
+    ensures surplus { surplus me.new ≡ surplus me.old }
 {
     for look in 0..LOOKS {
         if words.load_version(me, LockId::Loader, Ask::Nothing) == LOCKED_WITH_SLEEPERS {

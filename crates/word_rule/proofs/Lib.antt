@@ -26,3 +26,5 @@ pub mod Publishing
 pub mod Alone
 pub mod InitialCallers
 pub mod InitialTable
+pub mod Exchanging
+pub mod NodeReleases

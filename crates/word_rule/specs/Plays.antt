@@ -9,7 +9,7 @@ use Rattle.word_rule.specs.declared.log.Ask.{Ask}
 use Rattle.word_rule.specs.Places.{ALLOWANCE, CONTENT_WORDS}
 use Rattle.word_rule.specs.Spelling.{SpellsNode}
 use Rattle.word_rule.specs.Sights.{after_node_version, after_node_load, after_copy_load}
-use Rattle.word_rule.specs.Steps.{after_node_lock, after_give, after_copy_store, AfterPublish}
+use Rattle.word_rule.specs.Steps.{after_node_lock, after_give, after_copy_store, AfterPublish, AfterNodeRelease}
 use Rattle.word_rule.specs.Logs.{is_spent, IsTaken, after_load, after_loader_lock, after_write, after_loader_release, after_loader_release_same}
 use Rattle.word_rule.specs.Callers.{IsLockedAt, IsAlone, IsWhole}
 
@@ -77,3 +77,7 @@ stores_copy at st me found me' = me' ≡ (after_copy_store at st.first me.0, me.
 -- an update of the loader was published
 abbrev pub publishes : Update → Stepped → Seated → ℕ → Seated → Type 0
 publishes u st me found me' = AfterPublish u me.0 me'.0 × (me'.1 ≡ me.1)
+
+-- a node was let go with the next version, and contents settled
+abbrev pub releases_node : ℕ → Stepped → Seated → ℕ → Seated → Type 0
+releases_node n st me found me' = AfterNodeRelease n me.0 me'.0 × (me'.1 ≡ me.1)
