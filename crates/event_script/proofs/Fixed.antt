@@ -2,7 +2,7 @@
 use Rattle.std.proofs.Common.{◌≡◌, ℕ, suc, ◌+◌, ◌-◌, ◌<◌, ◌≤◌, ◌&&◌, ◌||◌, true, false, eqb, ltb, leb, List, [], ◌∷◌, ◌++◌, length, map, Option, Some, None, refl, sym, ap, ◌∙◌, inl, inr, eqb-true, ne_eqb, ltb-true, lt-ltb, leb-true, subst, arith}
 use Rattle.std.specs.List.{All, AllByRecursion, IsDistinct, list_any, slice_get}
 use Rattle.std.specs.Option.{unwrap_or, option_and_then}
-use Rattle.std.proofs.lemmas.Bool.{and_parts, or_cases}
+use Rattle.std.proofs.lemmas.Bool.{and_parts, or_cases, ltb-false}
 use Rattle.std.proofs.lemmas.Map.Steps.{length-le_from_distinct_below}
 use Rattle.std.proofs.lemmas.List.Elements.{All-head, All-tail, All-push, All-from_recursion, recursion_from_All}
 use Rattle.std.proofs.lemmas.Option.{slice_get_within, slice_get-get_or, unwrap_or-slice_get}
@@ -117,3 +117,39 @@ module _ (images : List Interval) where
   few_fixed fixed spans are =
       let named = recursion_from_All IsNamed fixed are.named in
       length-le_from_distinct_below fixed (length images) (distinct fixed (spans_named fixed spans named) are.rising) (λ q is. named_at fixed q named is)
+
+-- ---- whether a span is above the last fixed one
+
+module _ (images : List Interval) (fixed : List ℕ) (image : ℕ) (span : Interval) (is : slice_get images image ≡ Some span) where
+  -- the last fixed image's span, and this one's, which begins too low
+  abbrev IsTooLow : Type 0
+  IsTooLow =
+      (last : ℕ) × (below above : Interval) × (slice_get fixed (length fixed - 1) ≡ Some last)
+      × (slice_get images last ≡ Some below) × (slice_get images image ≡ Some above) × (above.first ≤ below.last)
+
+  same_span : (o : Option Interval) (a b : Interval) → o ≡ Some a → o ≡ Some b → a ≡ b
+  same_span o a b p q = (let e : some_span a ≡ some_span b = sym p ∙ q in is_some a b e)
+    where
+      some_span : Interval → Option Interval
+      some_span x = Some x
+
+      is_some : (x y : Interval) → Some x ≡ Some y → x ≡ y
+      is_some x y e = cc
+
+  pub above_low : is_above (last_fixed images fixed) span ≡ true → IsTooLow → ⊥
+  above_low test (last, below, above, at, found, own, low) =
+      let known : is_above (Some below) span ≡ true = sym (ap (λ (o : Option ℕ). is_above (option_and_then (slice_get images) o) span) at ∙ ap (λ (o : Option Interval). is_above o span) found) ∙ test in
+      let lt = ltb-true below.last span.first known in
+      let same = ap (λ (s : Interval). s.first) (same_span (slice_get images image) above span own is) in
+      absurd (omega arith)
+
+  pub too_low : is_above (last_fixed images fixed) span ≡ false → IsTooLow
+  too_low test = by (slice_get fixed (length fixed - 1)) refl test
+    where
+      at : (last : ℕ) → slice_get fixed (length fixed - 1) ≡ Some last → (o : Option Interval) → slice_get images last ≡ o → is_above o span ≡ false → IsTooLow
+      at last here None found test = absurd cc
+      at last here (Some below) found test = (last, below, span, here, found, is, ltb-false below.last span.first test)
+
+      by : (o : Option ℕ) → slice_get fixed (length fixed - 1) ≡ o → is_above (option_and_then (slice_get images) o) span ≡ false → IsTooLow
+      by None here test = absurd cc
+      by (Some last) here test = at last here (slice_get images last) refl test

@@ -7,10 +7,14 @@ pub mod Lines
 pub mod Joined
 pub mod Steps
 pub mod Sections
-pub mod SoFar
+pub mod Words
+pub mod Spoken
 pub mod Fixed
-pub mod SoundLines
+pub mod Judged
+pub mod SoFar
 pub mod Sound
 pub mod LineCounts
 pub mod Complete
+pub mod FirstBad
+pub mod Begins
 pub mod Spelled

@@ -19,7 +19,7 @@ use Rattle.frame_parse.specs.Reading.{section_of}
 use Rattle.frame_parse.proofs.OneAnswer.{one_answer, answered}
 use Rattle.event_script.specs.Lower.{is_lower}
 use Rattle.event_script.specs.Fields.{bytes_if, bytes_in}
-use Rattle.event_script.specs.Spelling.{section_text}
+use Rattle.event_script.specs.Statements.{section_digits}
 use Rattle.event_script.specs.Reading.{IsOfBytes}
 use Rattle.event_script.specs.declared.reader.fault.Reason.TheVariants as reason
 
@@ -160,7 +160,7 @@ encoded_text : (b : ℕ) (bytes : List ℕ) → IsBytes (b ∷ bytes) → bytes_
 unfolding encode_with
 encoded_text b bytes fits = and_right _ _ refl
 
-pub bytes_again : (bytes : List ℕ) → IsBytes bytes → bytes_in (section_text bytes) ≡ Some bytes
+pub bytes_again : (bytes : List ℕ) → IsBytes bytes → bytes_in (section_digits bytes) ≡ Some bytes
 unfolding bytes_in
 bytes_again [] fits = refl
 bytes_again (b ∷ bytes) fits =
@@ -181,7 +181,7 @@ visible_if_lower (c ∷ field) lower =
       visible_if_lower field p.1,
     )
 
-pub section_visible : (bytes : List ℕ) → IsBytes bytes → AllByRecursion (λ b. (33 ≤ b) × (b ≤ 126)) (section_text bytes)
+pub section_visible : (bytes : List ℕ) → IsBytes bytes → AllByRecursion (λ b. (33 ≤ b) × (b ≤ 126)) (section_digits bytes)
 section_visible [] fits = ((omega arith, omega arith), tt)
 section_visible (b ∷ bytes) fits = visible_if_lower (encode_lower (b ∷ bytes)) (encode_is_lower (b ∷ bytes) fits)
 
@@ -216,6 +216,21 @@ module _ (address : ℕ) (bytes : List ℕ) where
   pub section_bad_or : (f : FrameFault) → (f ≡ frame_fault.NoMemory → ⊥) → (f ≡ frame_fault.NoMemory) ⊎ IsRefused address bytes f → section_of address bytes ≡ Err f
   section_bad_or f other (inl memory) = absurd (other memory)
   section_bad_or f other (inr is) = section_bad f is
+
+  -- what is no section is refused for this
+  pub section_refused : (f : FrameFault) → section_of address bytes ≡ Err f → IsRefused address bytes f
+  unfolding HasFdes
+  section_refused f e = by (one_answer address bytes).some
+    where
+      fault_is : (r : Result Contents FrameFault) (x y : FrameFault) → r ≡ Err x → r ≡ Err y → x ≡ y
+      fault_is r x y p q = cc
+
+      never : (r : Result Contents FrameFault) (section : Contents) → r ≡ Ok section → r ≡ Err f → ⊥
+      never r section p q = cc
+
+      by : some_answer → IsRefused address bytes f
+      by (inl found) = absurd (never (section_of address bytes) (record { address = address; bytes = bytes; fdes = fdes_of found.0 }) (section_ok (fdes_of found.0) (found.0, found.1, refl)) e)
+      by (inr refused) = subst (IsRefused address bytes) (fault_is (section_of address bytes) refused.0 f (section_bad refused.0 refused.1) e) refused.1
 
 -- what is refused for another cause than memory is refused for its bytes
 pub of_bytes : (f : FrameFault) → (f ≡ frame_fault.NoMemory → ⊥) → IsOfBytes (reason.Section f)

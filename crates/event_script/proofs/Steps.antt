@@ -12,12 +12,15 @@ use Rattle.event_script.specs.declared.reader.kinds.Kind.{Kind}
 use Rattle.hex.specs.Hex.{IsBytes, decode_of, encode_lower}
 use Rattle.hex.specs.declared.error.FromHexError.{FromHexError}
 use Rattle.hex.proofs.HexLemmas.{decode_of-ok}
-use Rattle.event_script.specs.Spelling.{Line, hex, section_text}
+use Rattle.event_script.specs.Digits.{hex}
+use Rattle.event_script.specs.ScriptData.{ImageData}
+use Rattle.event_script.specs.Statements.{word_of, section_digits}
+use Rattle.event_script.specs.Spelling.{Line}
 use Rattle.event_script.specs.Fields.{decimal_in, hex_in, bytes_if, bytes_in}
-use Rattle.event_script.specs.Reading.{◌>>=◌, ImageData, only, five, has_any, one_decimal, one_hex, image_fields, kind_of, kinds, word_of}
+use Rattle.event_script.specs.Reading.{◌>=>◌, only, five, has_any, one_decimal, one_hex, image_fields, kind_of, kinds}
 use Rattle.event_script.proofs.Numbers.{number_is}
 
-pub bind_ok : {A B E : Type 0} (r : Result A E) (f : A → Result B E) (y : B) → (r >>= f) ≡ Ok y → (x : A) × (r ≡ Ok x) × (f x ≡ Ok y)
+pub bind_ok : {A B E : Type 0} (r : Result A E) (f : A → Result B E) (y : B) → (r >=> f) ≡ Ok y → (x : A) × (r ≡ Ok x) × (f x ≡ Ok y)
 bind_ok (Ok x) f y e = (x, refl, e)
 bind_ok (Err d) f y e = absurd cc
 
@@ -85,33 +88,33 @@ five_is (a ∷ b ∷ c ∷ d ∷ x ∷ y ∷ fields) f e = absurd cc
 five_same : (fields : Line) (a b c d e f g h i j : List ℕ) → fields ≡ a ∷ b ∷ c ∷ d ∷ e ∷ [] → a ≡ f → b ≡ g → c ≡ h → d ≡ i → e ≡ j → fields ≡ f ∷ g ∷ h ∷ i ∷ j ∷ []
 five_same fields a b c d e f g h i j is p q r s t = cc
 
-bytes_parts : (field : List ℕ) (decoded : Result (List ℕ) FromHexError) (bytes : List ℕ) → decode_of field ≡ decoded → bytes_if field decoded ≡ Some bytes → IsBytes bytes × (field ≡ section_text bytes)
+bytes_parts : (field : List ℕ) (decoded : Result (List ℕ) FromHexError) (bytes : List ℕ) → decode_of field ≡ decoded → bytes_if field decoded ≡ Some bytes → IsBytes bytes × (field ≡ section_digits bytes)
 bytes_parts field (Err e) bytes is found = absurd cc
 bytes_parts field (Ok []) bytes is found = absurd cc
 bytes_parts field (Ok (b ∷ others)) bytes is found = by (bytes_eq field (encode_lower (b ∷ others))) refl found
   where
-    by : (t : Bool) → bytes_eq field (encode_lower (b ∷ others)) ≡ t → cond t (Some (b ∷ others)) None ≡ Some bytes → IsBytes bytes × (field ≡ section_text bytes)
+    by : (t : Bool) → bytes_eq field (encode_lower (b ∷ others)) ≡ t → cond t (Some (b ∷ others)) None ≡ Some bytes → IsBytes bytes × (field ≡ section_digits bytes)
     by true same e =
         let bytes_is : b ∷ others ≡ bytes = cc in
-        subst (λ (x : List ℕ). IsBytes x × (field ≡ section_text x)) bytes_is ((decode_of-ok field (b ∷ others) is).3, (bytes_eq-Decides field (encode_lower (b ∷ others))).0 same)
+        subst (λ (x : List ℕ). IsBytes x × (field ≡ section_digits x)) bytes_is ((decode_of-ok field (b ∷ others) is).3, (bytes_eq-Decides field (encode_lower (b ∷ others))).0 same)
     by false same e = absurd cc
 
 no_bytes : IsBytes []
 no_bytes i = omega arith
 
-pub bytes_are : (field bytes : List ℕ) → bytes_in field ≡ Some bytes → IsBytes bytes × (field ≡ section_text bytes)
+pub bytes_are : (field bytes : List ℕ) → bytes_in field ≡ Some bytes → IsBytes bytes × (field ≡ section_digits bytes)
 unfolding bytes_in
 bytes_are field bytes e = by (bytes_eq field (codes "-")) refl e
   where
-    by : (t : Bool) → bytes_eq field (codes "-") ≡ t → cond t (Some []) (bytes_if field (decode_of field)) ≡ Some bytes → IsBytes bytes × (field ≡ section_text bytes)
+    by : (t : Bool) → bytes_eq field (codes "-") ≡ t → cond t (Some []) (bytes_if field (decode_of field)) ≡ Some bytes → IsBytes bytes × (field ≡ section_digits bytes)
     by true same e =
         let bytes_is : [] ≡ bytes = cc in
-        subst (λ (x : List ℕ). IsBytes x × (field ≡ section_text x)) bytes_is (no_bytes, (bytes_eq-Decides field (codes "-")).0 same)
+        subst (λ (x : List ℕ). IsBytes x × (field ≡ section_digits x)) bytes_is (no_bytes, (bytes_eq-Decides field (codes "-")).0 same)
     by false same e = bytes_parts field (decode_of field) bytes refl e
 
 -- an image's fields are spelled so
 pub record AreImageFields (fields : Line) (image : ImageData) : Type 0 where
-  pub is : fields ≡ decimal image.number ∷ hex image.base ∷ hex image.size ∷ hex image.section ∷ section_text image.bytes ∷ []
+  pub is : fields ≡ decimal image.number ∷ hex image.base ∷ hex image.size ∷ hex image.section ∷ section_digits image.bytes ∷ []
   pub number : image.number < 2 ^ 32
   pub base : image.base < 2 ^ 64
   pub size : image.size < 2 ^ 64

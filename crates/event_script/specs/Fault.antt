@@ -1,8 +1,10 @@
--- What the reader's faults tell.
+-- What the reader's faults say.
 use Rattle.std.specs.Prelude.{◌≡◌, List, ℕ, Result, Ok, Err}
 use Rattle.event_script.specs.declared.reader.ScriptFault.{ScriptFault}
 use Rattle.event_script.specs.declared.reader.ScriptFault.TheVariants.{Bad, NoMemory}
-use Rattle.event_script.specs.Reading.{Known, BadLine, IsFirstBad, IsOfBytes}
+use Rattle.event_script.specs.Draft.{DraftData}
+use Rattle.event_script.specs.Refusal.{IsFirstBad}
+use Rattle.event_script.specs.Reading.{BadLine, IsOfBytes}
 
 -- A bad line is the first one; of want of memory nothing is said.
 abbrev pub Tells : List ℕ → ScriptFault → Type 0
@@ -15,10 +17,15 @@ IsOfScript (Bad line reason) = IsOfBytes reason
 IsOfScript NoMemory = Unit {0}
 
 -- what was returned is what the lines give, unless memory ran out
-abbrev pub FailsAt : ScriptFault → Result Known BadLine → Type 0
+abbrev pub FailsAt : ScriptFault → Result DraftData BadLine → Type 0
 FailsAt (Bad line reason) given = (given ≡ Err (record { line = line; reason = reason })) × IsOfBytes reason
 FailsAt NoMemory given = Unit {0}
 
-abbrev pub GivesLines : Result Known ScriptFault → Result Known BadLine → Type 0
-GivesLines (Ok known) given = given ≡ Ok known
-GivesLines (Err fault) given = FailsAt fault given
+abbrev pub GivesDraft : Result DraftData ScriptFault → Result DraftData BadLine → Type 0
+GivesDraft (Ok known) given = given ≡ Ok known
+GivesDraft (Err fault) given = FailsAt fault given
+
+-- the same of a reader that changes the draft in its place
+abbrev pub LeavesLine : {A : Type 0} → DraftData → Result A ScriptFault → Result DraftData BadLine → Type 0
+LeavesLine now (Ok x) given = given ≡ Ok now
+LeavesLine now (Err fault) given = FailsAt fault given

@@ -1,4 +1,4 @@
--- The text that tells of a refused script.
+-- The line that says why a script is refused.
 use Rattle.std.specs.Prelude.{ℕ, List, [], ◌++◌, codes}
 use Rattle.std.specs.Fmt.{decimal}
 use Rattle.frame_parse.specs.declared.fault.FrameFault.{FrameFault}
@@ -7,26 +7,26 @@ use Rattle.event_script.specs.declared.reader.fault.Reason.{Reason}
 use Rattle.event_script.specs.declared.reader.fault.Reason.TheVariants.{Missing, After, Unended, Byte, Word, Unbuilt, Fields, Spelling, Order, Limit, Span, Section, Name, Fixed}
 
 -- a refusal of a section: its name, where its record starts, and the place that is refused
-abbrev pub placed : List ℕ → ℕ → ℕ → List ℕ
-placed name start at = codes "section " ++ name ++ codes " " ++ decimal start ++ codes " " ++ decimal at
+abbrev pub section_fault_at : List ℕ → ℕ → ℕ → List ℕ
+section_fault_at name start at = codes "section " ++ name ++ codes " " ++ decimal start ++ codes " " ++ decimal at
 
-abbrev pub section_text : FrameFault → List ℕ
-section_text (section.Short start at) = placed (codes "short") start at
-section_text (section.TooWide start at) = placed (codes "wide") start at
-section_text (section.Encoding start at byte) = placed (codes "encoding") start at
-section_text (section.NoCie start at) = placed (codes "nocie") start at
-section_text (section.Version start at byte) = placed (codes "version") start at
-section_text (section.Augmentation start at) = placed (codes "augmentation") start at
-section_text (section.Column start at column) = placed (codes "column") start at
-section_text (section.Range start at) = placed (codes "range") start at
-section_text (section.Opcode start at byte) = placed (codes "opcode") start at
-section_text (section.Location start at) = placed (codes "location") start at
-section_text (section.Remember start at) = placed (codes "remember") start at
-section_text (section.Operation start at byte) = placed (codes "operation") start at
-section_text (section.Depth start at) = placed (codes "depth") start at
-section_text (section.CfaRule start at) = placed (codes "cfarule") start at
+abbrev pub section_fault_text : FrameFault → List ℕ
+section_fault_text (section.Short start at) = section_fault_at (codes "short") start at
+section_fault_text (section.TooWide start at) = section_fault_at (codes "wide") start at
+section_fault_text (section.Encoding start at byte) = section_fault_at (codes "encoding") start at
+section_fault_text (section.NoCie start at) = section_fault_at (codes "nocie") start at
+section_fault_text (section.Version start at byte) = section_fault_at (codes "version") start at
+section_fault_text (section.Augmentation start at) = section_fault_at (codes "augmentation") start at
+section_fault_text (section.Column start at column) = section_fault_at (codes "column") start at
+section_fault_text (section.Range start at) = section_fault_at (codes "range") start at
+section_fault_text (section.Opcode start at byte) = section_fault_at (codes "opcode") start at
+section_fault_text (section.Location start at) = section_fault_at (codes "location") start at
+section_fault_text (section.Remember start at) = section_fault_at (codes "remember") start at
+section_fault_text (section.Operation start at byte) = section_fault_at (codes "operation") start at
+section_fault_text (section.Depth start at) = section_fault_at (codes "depth") start at
+section_fault_text (section.CfaRule start at) = section_fault_at (codes "cfarule") start at
 -- No line is bad for want of memory.
-section_text section.NoMemory = []
+section_fault_text section.NoMemory = []
 
 abbrev pub reason_text : Reason → List ℕ
 reason_text Missing = codes "missing"
@@ -40,7 +40,7 @@ reason_text Spelling = codes "spelling"
 reason_text Order = codes "order"
 reason_text Limit = codes "limit"
 reason_text Span = codes "span"
-reason_text (Section fault) = section_text fault
+reason_text (Section fault) = section_fault_text fault
 reason_text Name = codes "name"
 reason_text Fixed = codes "fixed"
 

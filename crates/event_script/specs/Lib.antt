@@ -1,7 +1,12 @@
 pub mod ScriptData
+pub mod Digits
+pub mod Statements
 pub mod Spelling
 pub mod Fields
 pub mod Lower
+pub mod Draft
+pub mod Reasons
+pub mod Refusal
 pub mod Reading
 pub mod Fault
 pub mod FaultText

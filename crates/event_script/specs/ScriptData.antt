@@ -3,6 +3,7 @@ use Rattle.std.specs.Prelude.{◌≡◌, ℕ, ◌^◌, ◌<◌, ◌≤◌, List,
 use Rattle.reg_model.specs.Interval.{Interval, IsSpan}
 use Rattle.hex.specs.Hex.{IsBytes}
 use Rattle.frame_parse.specs.Sections.{Contents, HasFdes}
+use Rattle.event_script.specs.declared.limits.TheConstants.{LEAST_NODES, MOST_NODES, LEAST_LOADS, MOST_LOADS, MOST_IMAGES, MOST_SECTION_BYTES, MOST_ROUNDS, MOST_THREADS, MOST_EVENTS}
 use Rattle.event_script.specs.declared.script.Event.{Event}
 use Rattle.event_script.specs.declared.script.Event.TheVariants.{Register, Deregister, Load, Unload, Find}
 
@@ -24,15 +25,15 @@ IsEvent images (Unload base) = base < 2 ^ 64
 IsEvent images (Find pc) = pc < 2 ^ 64
 
 abbrev pub IsThread : ℕ → List Event → Type 0
-IsThread images events = (length events ≤ 4096) × All (IsEvent images) events
+IsThread images events = (length events ≤ MOST_EVENTS) × All (IsEvent images) events
 
 abbrev pub IsRound : ℕ → List (List Event) → Type 0
-IsRound images threads = (length threads ≤ 16) × All (IsThread images) threads
+IsRound images threads = (length threads ≤ MOST_THREADS) × All (IsThread images) threads
 
--- the section of an image: at most 65,536 bytes, which are records of `.eh_frame`
+-- the section of an image, whose bytes are records of `.eh_frame`
 pub record IsSectionOf (section : Contents) : Type 0 where
   pub address : section.address < 2 ^ 64
-  pub size : length section.bytes ≤ 65536
+  pub size : length section.bytes ≤ MOST_SECTION_BYTES
   pub bytes : IsBytes section.bytes
   pub records : HasFdes section.address section.bytes section.fdes
 
@@ -53,14 +54,22 @@ pub record AreFixed (images : List Interval) (fixed : List ℕ) : Type 0 where
 
 -- each number and each count is within its limit, each image is a span and has a section, and each event is one of these images'
 pub record IsRunnable (s : ScriptData) : Type 0 where
-  pub nodes : (4 ≤ s.nodes) × (s.nodes ≤ 16384)
-  pub loads : (1 ≤ s.loads) × (s.loads ≤ 1024)
-  pub images : (length s.images ≤ 4096) × All IsSpan s.images
+  pub nodes : (LEAST_NODES ≤ s.nodes) × (s.nodes ≤ MOST_NODES)
+  pub loads : (LEAST_LOADS ≤ s.loads) × (s.loads ≤ MOST_LOADS)
+  pub images : (length s.images ≤ MOST_IMAGES) × All IsSpan s.images
   pub sections : (length s.sections ≡ length s.images) × All IsSectionOf s.sections
   pub fixed : AreFixed s.images s.fixed
-  pub rounds : (length s.rounds ≤ 64) × All (IsRound (length s.images)) s.rounds
+  pub rounds : (length s.rounds ≤ MOST_ROUNDS) × All (IsRound (length s.images)) s.rounds
 
--- What can be run today: one round of one thread at the most. It goes when threads come.
+-- What can be run: one round of one thread at the most. It goes when threads come.
 pub record IsBuilt (s : ScriptData) : Type 0 where
   pub rounds : length s.rounds ≤ 1
   pub threads : All (λ threads. length threads ≤ 1) s.rounds
+
+-- what the line of an image says: its number, its span by base and size, and its section by address and bytes
+pub record ImageData : Type 0 where
+  pub number : ℕ
+  pub base : ℕ
+  pub size : ℕ
+  pub section : ℕ
+  pub bytes : List ℕ

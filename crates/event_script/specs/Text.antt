@@ -13,7 +13,7 @@ use Rattle.reg_model.specs.declared.answer.Loading.{Loading}
 use Rattle.reg_model.specs.declared.answer.Loading.TheVariants as loading
 use Rattle.reg_model.specs.declared.answer.Removed.{Removed}
 use Rattle.reg_model.specs.declared.answer.Removed.TheVariants as removed
-use Rattle.event_script.specs.Spelling.{hex}
+use Rattle.event_script.specs.Digits.{hex}
 use Rattle.event_script.specs.JournalData.{JournalData}
 use Rattle.event_script.specs.declared.journal.Answer.{Answer}
 use Rattle.event_script.specs.declared.journal.Answer.TheVariants.{Register, Deregister, Load, Unload, Find}
@@ -52,7 +52,7 @@ loaded_text (Some found) = codes " loaded " ++ found_text found
 abbrev pub place_text : Place → List ℕ
 place_text place = codes "registered " ++ found_text place.registered ++ loaded_text place.loaded
 
--- what the line of an event says behind its number
+-- what the line of an event says after its number
 abbrev pub answer_line : Answer → List ℕ
 answer_line (Register image answer) = codes "register " ++ decimal image ++ codes " " ++ inserted_text answer
 answer_line (Deregister base answer) = codes "deregister " ++ hex base ++ codes " " ++ removed_text answer
@@ -68,11 +68,11 @@ answer_lines answer = answer_line answer ∷ []
 abbrev pub event_number : ℕ → ℕ → ℕ → List ℕ
 event_number round thread event = decimal round ++ codes "." ++ decimal thread ++ codes "." ++ decimal event
 
--- the lines of an event, each behind its number
+-- the lines of an event, each after its number
 abbrev pub answer_text : ℕ → ℕ → ℕ → Answer → List ℕ
 answer_text round thread event answer = flat_map (λ line. event_number round thread event ++ codes " " ++ line ++ codes "\n") (answer_lines answer)
 
--- a text for each item, which are numbered upwards, one behind another
+-- a text for each item, which are numbered upwards, one after another
 abbrev pub numbered : {X : Type 0} → (ℕ → X → List ℕ) → ℕ → List X → List ℕ
 numbered text number [] = []
 numbered text number (x ∷ xs) = text number x ++ numbered text (number + 1) xs

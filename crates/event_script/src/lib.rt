@@ -7,18 +7,17 @@
 //! proved above.
 #![tactic(auto)]
 
-mod fault_text;
 mod journal;
 pub mod laws;
+mod limits;
 mod print;
 mod reader;
 mod script;
-mod spell;
 
-pub use fault_text::print_fault;
 pub use journal::{Answer, Journal};
-pub use print::{print_answer, print_journal, print_updates};
+pub use print::fault::print_fault;
+pub use print::journal::{print_answer, print_journal, print_updates};
+pub use print::script::print_script;
 pub use reader::fault::Reason;
 pub use reader::{ScriptFault, read};
 pub use script::{Event, Round, Script, Thread};
-pub use spell::print_script;

@@ -3,19 +3,18 @@
 ghost use Rattle.std.specs.Prelude.{◌≡◌, Result, IfOk, IfErr};
 ghost use Rattle.event_script.specs.Spelling.{IsScript};
 ghost use Rattle.event_script.specs.declared.reader.fault.Reason.{Reason};
-ghost use Rattle.event_script.specs.Reading.{Known, Gives, at_line, outcome};
-ghost use Rattle.event_script.specs.Fault.{Tells, IsOfScript, GivesLines};
+ghost use Rattle.event_script.specs.Draft.{DraftData};
+ghost use Rattle.event_script.specs.Reading.{LeavesDraft, at_line, outcome};
+ghost use Rattle.event_script.specs.Fault.{Tells, IsOfScript, GivesDraft, LeavesLine};
 
 mod draft;
 pub mod fault;
 #[cfg(test)]
 mod fault_tests;
 mod fields;
-mod images;
 mod kinds;
 mod numbers;
-#[cfg(test)]
-mod section_tests;
+mod statement;
 #[cfg(test)]
 mod tests;
 
@@ -34,19 +33,19 @@ pub enum ScriptFault {
 }
 
 /// What a line gave, under its number.
-fn numbered(given: Result<Draft, LineFault>, line: u32) -> Result<Draft, ScriptFault>
-    ensures { (told : Result Known Reason) → Gives given told → GivesLines result (at_line line told) }
+fn numbered(given: Result<(), LineFault>, line: u32) -> Result<(), ScriptFault>
+    ensures { (now : DraftData) (told : Result DraftData Reason) → LeavesDraft now given told → LeavesLine now result (at_line line told) }
 {
     match given {
-        Ok(draft) => Ok(draft),
+        Ok(()) => Ok(()),
         Err(LineFault::Bad { reason }) => Err(ScriptFault::Bad { line, reason }),
         Err(LineFault::NoMemory) => Err(ScriptFault::NoMemory),
     }
 }
 
 /// What the lines make known, up to the first bad one.
-fn known_of(alloc: Global, bytes: &[u8]) -> Result<Draft, ScriptFault>
-    ensures { GivesLines result (outcome bytes.now) }
+fn draft_of(alloc: Global, bytes: &[u8]) -> Result<Draft, ScriptFault>
+    ensures { GivesDraft result (outcome bytes.now) }
 {
     let mut draft = Draft::new(alloc);
     let mut rest = bytes;
@@ -55,12 +54,13 @@ fn known_of(alloc: Global, bytes: &[u8]) -> Result<Draft, ScriptFault>
     while end < rest.len() {
         let (text, _) = rest.split_at(end);
         let (_, next) = rest.split_at(end + 1);
-        draft = numbered(draft.after(alloc, text), line)?;
+        numbered(draft.read_line(alloc, text), line)?;
         line += 1;
         rest = next;
         end = place_of(rest, b'\n');
     }
-    numbered(draft.at_end(rest), line)
+    numbered(draft.check_end(rest), line)?;
+    Ok(draft)
 }
 
 /// The script that the bytes spell.
@@ -69,7 +69,7 @@ pub fn read(alloc: Global, bytes: &[u8]) -> Result<Script, ScriptFault>
     ensures bad { IfErr result (λ fault. Tells bytes.now fault) }
     ensures memory { IfErr result IsOfScript }
 {
-    let draft = known_of(alloc, bytes)?;
+    let draft = draft_of(alloc, bytes)?;
     let Draft {
         nodes,
         loads,

@@ -2,7 +2,7 @@
 use Rattle.std.specs.Prelude.{◌≡◌, ◌⊎◌, ℕ, ◌<◌, ◌≤◌, List, [], ◌∷◌, length, All, Option, IfSome, codes}
 use Rattle.event_script.specs.ScriptData.{ScriptData}
 use Rattle.event_script.specs.Spelling.{IsScript}
-use Rattle.event_script.specs.Reading.{IsFirstBad}
+use Rattle.event_script.specs.Refusal.{IsFirstBad}
 use Rattle.event_script.specs.FaultText.{fault_text}
 use Rattle.event_script.specs.declared.reader.fault.Reason.{Reason}
 use Rattle.event_script.specs.JournalData.{JournalData}

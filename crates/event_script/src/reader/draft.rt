@@ -1,19 +1,28 @@
 //! What the lines so far make known, and what one more line adds.
 
-ghost use Rattle.std.specs.Prelude.{◌≡◌, ◌≤◌, length, IfOk};
-ghost use Rattle.event_script.specs.Fields.{fields_behind};
+ghost use Rattle.std.specs.Prelude.{◌≡◌, ◌≤◌, Ok, [], length};
 ghost use Rattle.frame_parse.specs.Reading.{section_of};
-ghost use Rattle.event_script.specs.Reading.{Gives, section_or, nothing_known, threads_at, rounds_at, version_line, nodes_line, loads_line, image_line, last_fixed, is_above, fixed_line, is_unbuilt, round_line, thread_line, register_line, deregister_line, load_line, unload_line, find_line, end_line, line_of, after_line, at_end};
+ghost use Rattle.event_script.specs.Fields.{fields_behind};
+ghost use Rattle.event_script.specs.declared.limits.TheConstants.{MOST_SECTION_BYTES};
+ghost use Rattle.event_script.specs.declared.reader.kinds.Stage.TheVariants as stage;
+ghost use Rattle.event_script.specs.declared.reader.statement.Statement.TheVariants as statement;
+ghost use Rattle.event_script.specs.Draft.{nothing_known, is_unbuilt, threads_so_far, after_round, with_statement};
+ghost use Rattle.event_script.specs.Reading.{GivesLine, LeavesDraft, spoken_added, section_or, image_added, last_fixed, is_above, fixed_added, is_named, added, after_line, at_end};
 
+use crate::limits::{
+    LEAST_LOADS, LEAST_NODES, MOST_EVENTS, MOST_IMAGES, MOST_LOADS, MOST_NODES, MOST_ROUNDS,
+    MOST_SECTION_BYTES, MOST_THREADS, VERSION,
+};
 use crate::reader::fault::{LineFault, Reason};
-use crate::reader::fields::{first_field, has_any, is_printable};
-use crate::reader::images::{image_fields, one_decimal, one_hex};
+use crate::reader::fields::{first_field, is_printable};
 use crate::reader::kinds::{Kind, Stage, kind_of, may_come};
+use crate::reader::statement::{ImageFields, Statement, statement_of};
 use crate::script::{Event, Round, Thread};
 use frame_parse::{FrameFault, Section};
-use reg_model::{NoMemory, Span};
+use reg_model::Span;
 use std::alloc::Global;
 use std::marker::Model;
+use std::mem::replace;
 
 /// A script as far as its lines have come.
 #[derive(Drop)]
@@ -33,61 +42,28 @@ pub struct Draft {
 }
 
 impl Model for Draft {
-    ghost use Rattle.event_script.specs.Reading.{Known};
+    ghost use Rattle.event_script.specs.Draft.{DraftData};
 
-    ghost Value = { Known };
+    ghost Value = { DraftData };
 
-    ghost view = { λ d. record { stage = d.stage; nodes = d.nodes; loads = d.loads; images = d.images.items; sections = d.sections.items; fixed = d.fixed.items; rounds = d.rounds.items; threads = d.threads.items; events = d.events.items } };
-}
-
-/// The threads of a round, with the one that goes on.
-fn all_threads(
-    stage: Stage,
-    threads: Vec<Thread>,
-    events: Vec<Event>,
-) -> Result<Vec<Thread>, NoMemory>
-    ensures { IfOk result (λ all. all.items ≡ threads_at stage threads.items events.items) }
-{
-    let mut threads = threads;
-    match stage {
-        Stage::Thread => threads.push(Thread { events })?,
-        _ => {}
-    }
-    Ok(threads)
-}
-
-/// The rounds, with the one that goes on.
-fn all_rounds(
-    stage: Stage,
-    rounds: Vec<Round>,
-    threads: Vec<Thread>,
-    events: Vec<Event>,
-) -> Result<Vec<Round>, NoMemory>
-    ensures { IfOk result (λ all. all.items ≡ rounds_at stage rounds.items threads.items events.items) }
-{
-    let mut rounds = rounds;
-    match stage {
-        Stage::Round | Stage::Thread => {
-            let threads = all_threads(stage, threads, events)?;
-            rounds.push(Round { threads })?;
-        }
-        _ => {}
-    }
-    Ok(rounds)
+    ghost view = { λ d. record {
+      stage = d.stage;
+      script = record { nodes = d.nodes; loads = d.loads; images = d.images.items; sections = d.sections.items; fixed = d.fixed.items; rounds = d.rounds.items };
+      threads = d.threads.items;
+      events = d.events.items;
+    } };
 }
 
 /// The section at an address.
 fn section_of(alloc: Global, address: u64, bytes: &[u8]) -> Result<Section, LineFault>
-    requires { length bytes.now ≤ 65536 }
-    ensures { Gives result (section_or (section_of address bytes.now)) }
+    requires { length bytes.now ≤ MOST_SECTION_BYTES }
+    ensures { GivesLine result (section_or (section_of address bytes.now)) }
 {
     match Section::read(alloc, address, bytes) {
         Ok(section) => Ok(section),
         Err(fault) => match fault {
             FrameFault::NoMemory => Err(LineFault::NoMemory),
-            _ => Err(LineFault::Bad {
-                reason: Reason::Section { fault },
-            }),
+            _ => Err(Reason::Section { fault }.into()),
         },
     }
 }
@@ -102,6 +78,16 @@ fn is_above_last(images: &[Span], fixed: &[u32], span: &Span) -> bool
     match images.get(*image as usize) {
         None => true,
         Some(before) => before.last() < span.first(),
+    }
+}
+
+/// Whether the event names no image that there isn't.
+fn is_named(images: usize, event: Event) -> bool
+    ensures { result ≡ is_named images event }
+{
+    match event {
+        Event::Register { image } | Event::Load { image } => (image as usize) < images,
+        _ => true,
     }
 }
 
@@ -123,289 +109,160 @@ impl Draft {
         }
     }
 
-    fn version(self, rest: &[u8]) -> Result<Draft, LineFault>
-        ensures { Gives result (version_line self (fields_behind rest.now)) }
+    /// Ends the thread that goes on, if one does.
+    fn end_thread(&mut self, alloc: Global) -> Result<(), LineFault>
+        ensures { LeavesDraft self.new result (Ok (record self.old { threads = threads_so_far self.old; events = [] })) }
     {
-        let mut draft = self;
-        if one_decimal(rest)? != 1 {
-            return Err(LineFault::Bad {
-                reason: Reason::Limit,
-            });
+        let events = replace(&mut self.events, Vec::new(alloc));
+        match self.stage {
+            Stage::Thread => self.threads.push(Thread { events })?,
+            _ => {}
         }
-        draft.stage = Stage::Nodes;
-        Ok(draft)
+        Ok(())
     }
 
-    fn nodes(self, rest: &[u8]) -> Result<Draft, LineFault>
-        ensures { Gives result (nodes_line self (fields_behind rest.now)) }
+    /// Ends the round that goes on, if one does.
+    fn end_round(&mut self, alloc: Global) -> Result<(), LineFault>
+        ensures { LeavesDraft self.new result (Ok (after_round self.old self.old.stage)) }
     {
-        let mut draft = self;
-        let nodes = one_decimal(rest)?;
-        if nodes < 4 || 16384 < nodes {
-            return Err(LineFault::Bad {
-                reason: Reason::Limit,
-            });
+        self.end_thread(alloc)?;
+        let threads = replace(&mut self.threads, Vec::new(alloc));
+        match self.stage {
+            Stage::Round | Stage::Thread => self.rounds.push(Round { threads })?,
+            _ => {}
         }
-        draft.stage = Stage::Loads;
-        draft.nodes = nodes;
-        Ok(draft)
+        Ok(())
     }
 
-    fn loads(self, rest: &[u8]) -> Result<Draft, LineFault>
-        ensures { Gives result (loads_line self (fields_behind rest.now)) }
+    #[tactic(auto, unfolding(crate::specs::Reading::added))]
+    fn version(&mut self, version: u32) -> Result<(), LineFault>
+        ensures { LeavesDraft self.new result (added self.old (statement.Version version)) }
     {
-        let mut draft = self;
-        let loads = one_decimal(rest)?;
-        if loads < 1 || 1024 < loads {
-            return Err(LineFault::Bad {
-                reason: Reason::Limit,
-            });
+        if version != VERSION {
+            return Err(Reason::Limit.into());
         }
-        draft.stage = Stage::Images;
-        draft.loads = loads;
-        Ok(draft)
+        self.stage = Stage::Nodes;
+        Ok(())
     }
 
-    fn image(self, alloc: Global, rest: &[u8]) -> Result<Draft, LineFault>
-        ensures { Gives result (image_line self (fields_behind rest.now)) }
+    #[tactic(auto, unfolding(crate::specs::Reading::added))]
+    fn nodes(&mut self, nodes: u32) -> Result<(), LineFault>
+        ensures { LeavesDraft self.new result (added self.old (statement.Nodes nodes)) }
     {
-        let mut draft = self;
-        let image = image_fields(alloc, rest)?;
-        if image.number as usize != draft.images.len() {
-            return Err(LineFault::Bad {
-                reason: Reason::Order,
-            });
+        if nodes < LEAST_NODES || MOST_NODES < nodes {
+            return Err(Reason::Limit.into());
         }
-        if draft.images.len() >= 4096 || image.bytes.len() > 65536 {
-            return Err(LineFault::Bad {
-                reason: Reason::Limit,
-            });
+        self.stage = Stage::Loads;
+        self.nodes = nodes;
+        Ok(())
+    }
+
+    #[tactic(auto, unfolding(crate::specs::Reading::added))]
+    fn loads(&mut self, loads: u32) -> Result<(), LineFault>
+        ensures { LeavesDraft self.new result (added self.old (statement.Loads loads)) }
+    {
+        if loads < LEAST_LOADS || MOST_LOADS < loads {
+            return Err(Reason::Limit.into());
         }
-        match Span::new(image.base, image.size) {
-            None => Err(LineFault::Bad {
-                reason: Reason::Span,
-            }),
-            Some(span) => {
-                let section = section_of(alloc, image.section, &image.bytes)?;
-                draft.sections.push(section)?;
-                draft.images.push(span)?;
-                Ok(draft)
-            }
+        self.stage = Stage::Images;
+        self.loads = loads;
+        Ok(())
+    }
+
+    fn image(&mut self, alloc: Global, image: ImageFields) -> Result<(), LineFault>
+        ensures { LeavesDraft self.new result (image_added self.old image) }
+    {
+        if image.number as usize != self.images.len() {
+            return Err(Reason::Order.into());
+        }
+        if self.images.len() >= MOST_IMAGES || image.bytes.len() > MOST_SECTION_BYTES {
+            return Err(Reason::Limit.into());
+        }
+        let span = Span::new(image.base, image.size).ok_or(Reason::Span)?;
+        let section = section_of(alloc, image.section, &image.bytes)?;
+        self.sections.push(section)?;
+        self.images.push(span)?;
+        Ok(())
+    }
+
+    fn fixed(&mut self, image: u32) -> Result<(), LineFault>
+        ensures { LeavesDraft self.new result (fixed_added self.old image) }
+    {
+        let span = self.images.get(image as usize).ok_or(Reason::Name)?;
+        if !is_above_last(&self.images, &self.fixed, span) {
+            return Err(Reason::Fixed.into());
+        }
+        self.stage = Stage::Fixed;
+        self.fixed.push(image)?;
+        Ok(())
+    }
+
+    #[tactic(auto, unfolding(crate::specs::Reading::added))]
+    fn round(&mut self, alloc: Global) -> Result<(), LineFault>
+        ensures { LeavesDraft self.new result (added self.old statement.Round) }
+    {
+        self.end_round(alloc)?;
+        if self.rounds.len() >= MOST_ROUNDS {
+            return Err(Reason::Limit.into());
+        }
+        self.stage = Stage::Round;
+        Ok(())
+    }
+
+    #[tactic(auto, unfolding(crate::specs::Reading::added))]
+    fn thread(&mut self, alloc: Global) -> Result<(), LineFault>
+        ensures { LeavesDraft self.new result (added self.old statement.Thread) }
+    {
+        self.end_thread(alloc)?;
+        if self.threads.len() >= MOST_THREADS {
+            return Err(Reason::Limit.into());
+        }
+        self.stage = Stage::Thread;
+        Ok(())
+    }
+
+    #[tactic(auto, unfolding(crate::specs::Reading::added))]
+    fn event(&mut self, event: Event) -> Result<(), LineFault>
+        ensures { LeavesDraft self.new result (added self.old (statement.Event event)) }
+    {
+        if self.events.len() >= MOST_EVENTS {
+            return Err(Reason::Limit.into());
+        }
+        if !is_named(self.images.len(), event) {
+            return Err(Reason::Name.into());
+        }
+        self.events.push(event)?;
+        Ok(())
+    }
+
+    #[tactic(auto, unfolding(crate::specs::Reading::added))]
+    fn end(&mut self, alloc: Global) -> Result<(), LineFault>
+        ensures { LeavesDraft self.new result (added self.old statement.End) }
+    {
+        self.end_round(alloc)?;
+        self.stage = Stage::Ended;
+        Ok(())
+    }
+
+    /// Adds what a line says.
+    #[tactic(auto, unfolding(crate::specs::Reading::added))]
+    fn add(&mut self, alloc: Global, statement: Statement) -> Result<(), LineFault>
+        ensures { LeavesDraft self.new result (added self.old statement) }
+    {
+        match statement {
+            Statement::Version(version) => self.version(version),
+            Statement::Nodes(nodes) => self.nodes(nodes),
+            Statement::Loads(loads) => self.loads(loads),
+            Statement::Image(image) => self.image(alloc, image),
+            Statement::Fixed(image) => self.fixed(image),
+            Statement::Round => self.round(alloc),
+            Statement::Thread => self.thread(alloc),
+            Statement::Event(event) => self.event(event),
+            Statement::End => self.end(alloc),
         }
     }
 
-    fn fixed(self, rest: &[u8]) -> Result<Draft, LineFault>
-        ensures { Gives result (fixed_line self (fields_behind rest.now)) }
-    {
-        let mut draft = self;
-        let image = one_decimal(rest)?;
-        match draft.images.get(image as usize) {
-            None => Err(LineFault::Bad {
-                reason: Reason::Name,
-            }),
-            Some(span) => {
-                if !is_above_last(&draft.images, &draft.fixed, span) {
-                    return Err(LineFault::Bad {
-                        reason: Reason::Fixed,
-                    });
-                }
-                draft.stage = Stage::Fixed;
-                draft.fixed.push(image)?;
-                Ok(draft)
-            }
-        }
-    }
-
-    fn round(self, alloc: Global, rest: &[u8]) -> Result<Draft, LineFault>
-        ensures { Gives result (round_line self (fields_behind rest.now)) }
-    {
-        if has_any(rest) {
-            return Err(LineFault::Bad {
-                reason: Reason::Fields,
-            });
-        }
-        let Draft {
-            stage,
-            nodes,
-            loads,
-            images,
-            sections,
-            fixed,
-            rounds,
-            threads,
-            events,
-        } = self;
-        let rounds = all_rounds(stage, rounds, threads, events)?;
-        if rounds.len() >= 64 {
-            return Err(LineFault::Bad {
-                reason: Reason::Limit,
-            });
-        }
-        Ok(Draft {
-            stage: Stage::Round,
-            nodes,
-            loads,
-            images,
-            sections,
-            fixed,
-            rounds,
-            threads: Vec::new(alloc),
-            events: Vec::new(alloc),
-        })
-    }
-
-    fn thread(self, alloc: Global, rest: &[u8]) -> Result<Draft, LineFault>
-        ensures { Gives result (thread_line self (fields_behind rest.now)) }
-    {
-        if has_any(rest) {
-            return Err(LineFault::Bad {
-                reason: Reason::Fields,
-            });
-        }
-        let Draft {
-            stage,
-            nodes,
-            loads,
-            images,
-            sections,
-            fixed,
-            rounds,
-            threads,
-            events,
-        } = self;
-        let threads = all_threads(stage, threads, events)?;
-        if threads.len() >= 16 {
-            return Err(LineFault::Bad {
-                reason: Reason::Limit,
-            });
-        }
-        Ok(Draft {
-            stage: Stage::Thread,
-            nodes,
-            loads,
-            images,
-            sections,
-            fixed,
-            rounds,
-            threads,
-            events: Vec::new(alloc),
-        })
-    }
-
-    fn register(self, rest: &[u8]) -> Result<Draft, LineFault>
-        ensures { Gives result (register_line self (fields_behind rest.now)) }
-    {
-        let mut draft = self;
-        let image = one_decimal(rest)?;
-        if draft.events.len() >= 4096 {
-            return Err(LineFault::Bad {
-                reason: Reason::Limit,
-            });
-        }
-        if image as usize >= draft.images.len() {
-            return Err(LineFault::Bad {
-                reason: Reason::Name,
-            });
-        }
-        draft.events.push(Event::Register { image })?;
-        Ok(draft)
-    }
-
-    fn deregister(self, rest: &[u8]) -> Result<Draft, LineFault>
-        ensures { Gives result (deregister_line self (fields_behind rest.now)) }
-    {
-        let mut draft = self;
-        let base = one_hex(rest)?;
-        if draft.events.len() >= 4096 {
-            return Err(LineFault::Bad {
-                reason: Reason::Limit,
-            });
-        }
-        draft.events.push(Event::Deregister { base })?;
-        Ok(draft)
-    }
-
-    fn load(self, rest: &[u8]) -> Result<Draft, LineFault>
-        ensures { Gives result (load_line self (fields_behind rest.now)) }
-    {
-        let mut draft = self;
-        let image = one_decimal(rest)?;
-        if draft.events.len() >= 4096 {
-            return Err(LineFault::Bad {
-                reason: Reason::Limit,
-            });
-        }
-        if draft.images.len() <= image as usize {
-            return Err(LineFault::Bad {
-                reason: Reason::Name,
-            });
-        }
-        draft.events.push(Event::Load { image })?;
-        Ok(draft)
-    }
-
-    fn unload(self, rest: &[u8]) -> Result<Draft, LineFault>
-        ensures { Gives result (unload_line self (fields_behind rest.now)) }
-    {
-        let mut draft = self;
-        let base = one_hex(rest)?;
-        if draft.events.len() >= 4096 {
-            return Err(LineFault::Bad {
-                reason: Reason::Limit,
-            });
-        }
-        draft.events.push(Event::Unload { base })?;
-        Ok(draft)
-    }
-
-    fn find(self, rest: &[u8]) -> Result<Draft, LineFault>
-        ensures { Gives result (find_line self (fields_behind rest.now)) }
-    {
-        let mut draft = self;
-        let pc = one_hex(rest)?;
-        if draft.events.len() >= 4096 {
-            return Err(LineFault::Bad {
-                reason: Reason::Limit,
-            });
-        }
-        draft.events.push(Event::Find { pc })?;
-        Ok(draft)
-    }
-
-    fn end(self, alloc: Global, rest: &[u8]) -> Result<Draft, LineFault>
-        ensures { Gives result (end_line self (fields_behind rest.now)) }
-    {
-        if has_any(rest) {
-            return Err(LineFault::Bad {
-                reason: Reason::Fields,
-            });
-        }
-        let Draft {
-            stage,
-            nodes,
-            loads,
-            images,
-            sections,
-            fixed,
-            rounds,
-            threads,
-            events,
-        } = self;
-        let rounds = all_rounds(stage, rounds, threads, events)?;
-        Ok(Draft {
-            stage: Stage::Ended,
-            nodes,
-            loads,
-            images,
-            sections,
-            fixed,
-            rounds,
-            threads: Vec::new(alloc),
-            events: Vec::new(alloc),
-        })
-    }
-
-    /// Whether a line of the kind can't be run today, after those before it.
+    /// Whether a line of the kind can't be run, after those before it.
     fn is_unbuilt(&self, kind: Kind) -> bool
         ensures { result ≡ is_unbuilt self.now kind }
     {
@@ -417,85 +274,46 @@ impl Draft {
         }
     }
 
-    /// What a line of the kind adds.
-    #[tactic(auto, unfolding(crate::specs::Reading::line_of))]
-    fn by_kind(self, alloc: Global, kind: Kind, rest: &[u8]) -> Result<Draft, LineFault>
-        ensures { Gives result (line_of self kind (fields_behind rest.now)) }
+    /// Adds what a line of the kind says with the fields that follow its word.
+    fn read_fields(&mut self, alloc: Global, kind: Kind, rest: &[u8]) -> Result<(), LineFault>
+        ensures { LeavesDraft self.new result (spoken_added self.old kind (fields_behind rest.now)) }
     {
-        match kind {
-            Kind::Version => self.version(rest),
-            Kind::Nodes => self.nodes(rest),
-            Kind::Loads => self.loads(rest),
-            Kind::Image => self.image(alloc, rest),
-            Kind::Round => self.round(alloc, rest),
-            Kind::Thread => self.thread(alloc, rest),
-            Kind::Register => self.register(rest),
-            Kind::Deregister => self.deregister(rest),
-            Kind::Find => self.find(rest),
-            Kind::End => self.end(alloc, rest),
-            Kind::Fixed => self.fixed(rest),
-            Kind::Snapshot => Err(LineFault::Bad {
-                reason: Reason::Unbuilt,
-            }),
-            Kind::Load => self.load(rest),
-            Kind::Unload => self.unload(rest),
-            Kind::Unwind => Err(LineFault::Bad {
-                reason: Reason::Unbuilt,
-            }),
-        }
+        let statement = statement_of(alloc, kind, rest)?;
+        self.add(alloc, statement)
     }
 
-    /// What a line adds, which comes here without its line feed.
+    /// Reads a line, which comes here without its line feed.
     #[tactic(auto, unfolding(crate::specs::Reading::after_line, crate::specs::Reading::by_word))]
-    pub fn after(self, alloc: Global, line: &[u8]) -> Result<Draft, LineFault>
-        ensures { Gives result (after_line self line.now) }
+    pub fn read_line(&mut self, alloc: Global, line: &[u8]) -> Result<(), LineFault>
+        ensures { LeavesDraft self.new result (after_line self.old line.now) }
     {
         if matches!(self.stage, Stage::Ended) {
-            return Err(LineFault::Bad {
-                reason: Reason::After,
-            });
+            return Err(Reason::After.into());
         }
         if !is_printable(line) {
-            return Err(LineFault::Bad {
-                reason: Reason::Byte,
-            });
+            return Err(Reason::Byte.into());
         }
         let (word, rest) = first_field(line);
         let kind = kind_of(word).ok_or(Reason::Word)?;
         if !may_come(self.stage, kind) {
-            return Err(LineFault::Bad {
-                reason: Reason::Word,
-            });
+            return Err(Reason::Word.into());
         }
         if self.is_unbuilt(kind) {
-            return Err(LineFault::Bad {
-                reason: Reason::Unbuilt,
-            });
+            return Err(Reason::Unbuilt.into());
         }
-        self.by_kind(alloc, kind, rest)
+        self.read_fields(alloc, kind, rest)
     }
 
-    /// Where no line feed comes any more.
+    /// Looks at what is left where no line feed comes any more.
     #[tactic(auto, unfolding(crate::specs::Reading::at_end))]
-    pub fn at_end(self, rest: &[u8]) -> Result<Draft, LineFault>
-        ensures { Gives result (at_end self rest.now) }
+    pub fn check_end(&self, rest: &[u8]) -> Result<(), LineFault>
+        ensures { LeavesDraft self.now result (at_end self.now rest.now) }
     {
-        if matches!(self.stage, Stage::Ended) {
-            if rest.is_empty() {
-                Ok(self)
-            } else {
-                Err(LineFault::Bad {
-                    reason: Reason::After,
-                })
-            }
-        } else if rest.is_empty() {
-            Err(LineFault::Bad {
-                reason: Reason::Missing,
-            })
-        } else {
-            Err(LineFault::Bad {
-                reason: Reason::Unended,
-            })
+        match (self.stage, rest) {
+            (Stage::Ended, []) => Ok(()),
+            (Stage::Ended, _) => Err(Reason::After.into()),
+            (_, []) => Err(Reason::Missing.into()),
+            _ => Err(Reason::Unended.into()),
         }
     }
 }

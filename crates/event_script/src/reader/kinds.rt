@@ -1,7 +1,8 @@
 //! The kinds of lines, and which may come when.
 
 ghost use Rattle.std.specs.Prelude.{◌≡◌};
-ghost use Rattle.event_script.specs.Reading.{kind_of, may_come};
+ghost use Rattle.event_script.specs.Draft.{may_come};
+ghost use Rattle.event_script.specs.Reading.{kind_of};
 
 /// How far a script has come: which lines may come next.
 #[derive(Clone, Copy, Debug, PartialEq, Eq)]
@@ -94,10 +95,7 @@ pub fn may_come(stage: Stage, kind: Kind) -> bool
             kind,
             Kind::Image | Kind::Fixed | Kind::Snapshot | Kind::Round | Kind::End
         ),
-        Stage::Fixed => matches!(
-            kind,
-            Kind::Fixed | Kind::Snapshot | Kind::Round | Kind::End
-        ),
+        Stage::Fixed => matches!(kind, Kind::Fixed | Kind::Snapshot | Kind::Round | Kind::End),
         Stage::Round => matches!(kind, Kind::Round | Kind::Thread | Kind::End),
         Stage::Thread => matches!(
             kind,

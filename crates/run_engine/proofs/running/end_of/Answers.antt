@@ -1,6 +1,6 @@
 use Rattle.std.proofs.Common.{◌<◌, ◌≤◌, List, ℕ, length, vec_len, refl, sym, ◌∙◌, inr, arith}
 use Rattle.std.proofs.lemmas.Bool.{false≢true}
-use Rattle.event_script.specs.Reading.{IsFirstBad}
+use Rattle.event_script.specs.Refusal.{IsFirstBad}
 use Rattle.event_script.specs.Spelling.{IsScript}
 use Rattle.event_script.specs.Text.{journal_text}
 use Rattle.run_engine.specs.Outcome.{limit}

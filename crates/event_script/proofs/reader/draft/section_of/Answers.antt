@@ -8,4 +8,4 @@ returns-in-Ok c = let e = c.in-Ok.ensures in ap section_or (section_ok_of c.args
 
 pub returns-in_default : goal.returns-in_default
 returns-in_default c =
-    (ap section_or (section_bad_or c.args.address c.args.bytes.now c.in-Err.fault c.in_default.not-NoMemory c.in-Err.ensures.refused), of_bytes c.in-Err.fault c.in_default.not-NoMemory)
+    rw c.into.ensures (ap section_or (section_bad_or c.args.address c.args.bytes.now c.in-Err.fault c.in_default.not-NoMemory c.in-Err.ensures.refused), of_bytes c.in-Err.fault c.in_default.not-NoMemory)

@@ -1,0 +1,463 @@
+-- A line is refused for the first reason of the table that holds of it, or none does.
+use Rattle.std.proofs.Common.{◌≡◌, ◌≢◌, ◌⊎◌, inl, inr, ℕ, ◌+◌, ◌-◌, ◌^◌, ◌<◌, ◌≤◌, Bool, true, false, true≢false, cond, ◌&&◌, eqb, ltb, leb, List, [], ◌∷◌, ◌++◌, length, Option, Some, None, Result, Ok, Err, refl, sym, ap, subst, ◌∙◌, eqb-true, ltb-true, leb-true, arith}
+use Rattle.std.specs.List.{slice_get}
+use Rattle.std.specs.Option.{ok_or, option_and_then}
+use Rattle.std.proofs.lemmas.Bool.{and_parts, eqb-false, ltb-false, leb-false}
+use Rattle.std.proofs.lemmas.Option.{slice_get_within, slice_get_past}
+use Rattle.reg_model.specs.Interval.{Interval}
+use Rattle.frame_parse.specs.Sections.{Contents, IsRefused}
+use Rattle.frame_parse.specs.Reading.{section_of}
+use Rattle.frame_parse.specs.declared.fault.FrameFault.{FrameFault}
+use Rattle.event_script.specs.ScriptData.{ImageData, span_of}
+use Rattle.event_script.specs.Fields.{pieces, is_printable}
+use Rattle.event_script.specs.Statements.{word_of, forms, kind_of_statement, statement_fields, statement_line, HasForm, AreFields}
+use Rattle.event_script.specs.Spelling.{Line}
+use Rattle.event_script.specs.Draft.{DraftData, may_come, is_ended, is_unbuilt, threads_so_far, rounds_so_far, with_image, with_statement}
+use Rattle.event_script.specs.Reasons.{LineText, fields_of, IsOfKind, Says, SaysSome, IsOutOfOrder, IsOutsideLimit, IsNoSpan, HasBadSection, IsNameless, IsNotAbove, number_in_table, SpeaksAgainst, IsReason, IsGood}
+use Rattle.event_script.specs.Refusal.{whole_line}
+use Rattle.event_script.specs.Reading.{◌>=>◌, kind_of, statement_of, section_or, image_added, last_fixed, is_above, fixed_added, is_named, added, by_word, after_line, at_end}
+use Rattle.event_script.specs.declared.script.Event.{Event}
+use Rattle.event_script.specs.declared.script.Event.TheVariants as event
+use Rattle.event_script.specs.declared.reader.fault.Reason.{Reason}
+use Rattle.event_script.specs.declared.reader.fault.Reason.TheVariants as reason
+use Rattle.event_script.specs.declared.reader.kinds.Kind.{Kind}
+use Rattle.event_script.specs.declared.reader.kinds.Kind.TheVariants as kind
+use Rattle.event_script.specs.declared.reader.statement.Statement.{Statement}
+use Rattle.event_script.specs.declared.reader.statement.Statement.TheVariants as statement
+use Rattle.event_script.proofs.Pieces.{some_pieces}
+use Rattle.event_script.proofs.Steps.{kind_word}
+use Rattle.event_script.proofs.Words.{word_again}
+use Rattle.event_script.proofs.Spoken.{same_kind, says_one, Spoken, spoken, fields_fit, Wrong, IsLater, unspoken}
+use Rattle.event_script.proofs.Sections.{section_bad, section_refused}
+use Rattle.event_script.proofs.Fixed.{found_span, above_low, too_low}
+
+-- ---- reasons that were passed by, in order
+
+pub numbered_from : (r : Reason) → (0 < number_in_table r) × (number_in_table r < 15)
+numbered_from reason.Missing = (omega arith, omega arith)
+numbered_from _ = (omega arith, omega arith)
+
+module _ (known : DraftData) (text : LineText) where
+  abbrev Not : Reason → Type 0
+  Not why = SpeaksAgainst why known text → ⊥
+
+  -- no reason with a smaller number holds
+  abbrev pub Passed : ℕ → Type 0
+  Passed n = (other : Reason) → number_in_table other < n → Not other
+
+  pub pass_none : Passed 1
+  pass_none other lt = absurd (omega (arith, (numbered_from other).0))
+
+  pub pass_missing : Not reason.Missing → Passed 2
+  pass_missing refute reason.Missing lt = refute
+  pass_missing refute _ lt = absurd (omega arith)
+
+  pub pass_after : Passed 2 → Not reason.After → Passed 3
+  pass_after before refute reason.After lt = refute
+  pass_after before refute reason.Missing lt = before reason.Missing (omega arith)
+  pass_after before refute _ lt = absurd (omega arith)
+
+  pub pass_unended : Passed 3 → Not reason.Unended → Passed 4
+  pass_unended before refute reason.Unended lt = refute
+  pass_unended before refute reason.Missing lt = before reason.Missing (omega arith)
+  pass_unended before refute reason.After lt = before reason.After (omega arith)
+  pass_unended before refute _ lt = absurd (omega arith)
+
+  -- all others by their numbers
+  one_more : (n : ℕ) → Passed n → ((other : Reason) → number_in_table other ≡ n → Not other) → Passed (n + 1)
+  one_more n before here other lt = by (ltb (number_in_table other) n) refl
+    where
+      by : (t : Bool) → ltb (number_in_table other) n ≡ t → Not other
+      by true e = before other (ltb-true _ _ e)
+      by false e = here other (let le = ltb-false (number_in_table other) n e in omega arith)
+
+  pub pass_byte : Passed 4 → Not reason.Byte → Passed 5
+  pass_byte before refute = one_more 4 before at
+    where
+      at : (other : Reason) → number_in_table other ≡ 4 → Not other
+      at reason.Byte e = refute
+      at _ e = absurd (omega arith)
+
+  pub pass_word : Passed 5 → Not reason.Word → Passed 6
+  pass_word before refute = one_more 5 before at
+    where
+      at : (other : Reason) → number_in_table other ≡ 5 → Not other
+      at reason.Word e = refute
+      at _ e = absurd (omega arith)
+
+  pub pass_unbuilt : Passed 6 → Not reason.Unbuilt → Passed 7
+  pass_unbuilt before refute = one_more 6 before at
+    where
+      at : (other : Reason) → number_in_table other ≡ 6 → Not other
+      at reason.Unbuilt e = refute
+      at _ e = absurd (omega arith)
+
+  pub pass_fields : Passed 7 → Not reason.Fields → Passed 8
+  pass_fields before refute = one_more 7 before at
+    where
+      at : (other : Reason) → number_in_table other ≡ 7 → Not other
+      at reason.Fields e = refute
+      at _ e = absurd (omega arith)
+
+  pub pass_spelling : Passed 8 → Not reason.Spelling → Passed 9
+  pass_spelling before refute = one_more 8 before at
+    where
+      at : (other : Reason) → number_in_table other ≡ 8 → Not other
+      at reason.Spelling e = refute
+      at _ e = absurd (omega arith)
+
+  pub pass_order : Passed 9 → Not reason.Order → Passed 10
+  pass_order before refute = one_more 9 before at
+    where
+      at : (other : Reason) → number_in_table other ≡ 9 → Not other
+      at reason.Order e = refute
+      at _ e = absurd (omega arith)
+
+  pub pass_limit : Passed 10 → Not reason.Limit → Passed 11
+  pass_limit before refute = one_more 10 before at
+    where
+      at : (other : Reason) → number_in_table other ≡ 10 → Not other
+      at reason.Limit e = refute
+      at _ e = absurd (omega arith)
+
+  pub pass_span : Passed 11 → Not reason.Span → Passed 12
+  pass_span before refute = one_more 11 before at
+    where
+      at : (other : Reason) → number_in_table other ≡ 11 → Not other
+      at reason.Span e = refute
+      at _ e = absurd (omega arith)
+
+  pub pass_section : Passed 12 → ((fault : FrameFault) → Not (reason.Section fault)) → Passed 13
+  pass_section before refute = one_more 12 before at
+    where
+      at : (other : Reason) → number_in_table other ≡ 12 → Not other
+      at (reason.Section fault) e = refute fault
+      at _ e = absurd (omega arith)
+
+  pub pass_name : Passed 13 → Not reason.Name → Passed 14
+  pass_name before refute = one_more 13 before at
+    where
+      at : (other : Reason) → number_in_table other ≡ 13 → Not other
+      at reason.Name e = refute
+      at _ e = absurd (omega arith)
+
+  pub pass_fixed : Passed 14 → Not reason.Fixed → IsGood known text
+  pass_fixed before refute other = one_more 14 before at other (numbered_from other).1
+    where
+      at : (other : Reason) → number_in_table other ≡ 14 → Not other
+      at reason.Fixed e = refute
+      at _ e = absurd (omega arith)
+
+  pub refused : (why : Reason) → Passed (number_in_table why) → SpeaksAgainst why known text → IsReason known text why
+  refused why before holds = record { holds = holds; first = before }
+
+  -- what the reader gives is the table's answer
+  abbrev pub Judged : Result DraftData Reason → Type 0
+  Judged (Ok next) = IsGood known text
+  Judged (Err why) = IsReason known text why
+
+-- ---- what a line says is judged
+
+module _ (known : DraftData) (text : LineText) (s : Statement) (says : Says text s) where
+  not_said : (P : Statement → Type 0) → (P s → ⊥) → SaysSome text P → ⊥
+  not_said P refute (t, other, holds) = refute (subst P (says_one text t s other says) holds)
+
+  -- reasons that never hold of it
+  record Rows : Type 0 where
+    order : IsOutOfOrder known s → ⊥
+    limit : IsOutsideLimit known s → ⊥
+    span : IsNoSpan s → ⊥
+    section : (fault : FrameFault) → HasBadSection fault s → ⊥
+    name : IsNameless known s → ⊥
+    fixed : IsNotAbove known s → ⊥
+
+  to_limit : Passed known text 9 → (IsOutOfOrder known s → ⊥) → Passed known text 10
+  to_limit before order = pass_order known text before (not_said (IsOutOfOrder known) order)
+
+  to_span : Passed known text 9 → (IsOutOfOrder known s → ⊥) → (IsOutsideLimit known s → ⊥) → Passed known text 11
+  to_span before order limit = pass_limit known text (to_limit before order) (not_said (IsOutsideLimit known) limit)
+
+  to_section : Passed known text 9 → (IsOutOfOrder known s → ⊥) → (IsOutsideLimit known s → ⊥) → (IsNoSpan s → ⊥) → Passed known text 12
+  to_section before order limit span = pass_span known text (to_span before order limit) (not_said IsNoSpan span)
+
+  to_name : Passed known text 9 → (IsOutOfOrder known s → ⊥) → (IsOutsideLimit known s → ⊥) → (IsNoSpan s → ⊥) → ((fault : FrameFault) → HasBadSection fault s → ⊥) → Passed known text 13
+  to_name before order limit span section = pass_section known text (to_section before order limit span) (λ fault. not_said (HasBadSection fault) (section fault))
+
+  to_fixed : Passed known text 9 → (IsOutOfOrder known s → ⊥) → (IsOutsideLimit known s → ⊥) → (IsNoSpan s → ⊥) → ((fault : FrameFault) → HasBadSection fault s → ⊥) → (IsNameless known s → ⊥) → Passed known text 14
+  to_fixed before order limit span section name = pass_name known text (to_name before order limit span section) (not_said (IsNameless known) name)
+
+  good : Passed known text 9 → Rows → IsGood known text
+  good before rows = pass_fixed known text (to_fixed before rows.order rows.limit rows.span rows.section rows.name) (not_said (IsNotAbove known) rows.fixed)
+
+  limit_holds : Passed known text 9 → (IsOutOfOrder known s → ⊥) → IsOutsideLimit known s → IsReason known text reason.Limit
+  limit_holds before order holds = refused known text reason.Limit (to_limit before order) (s, says, holds)
+
+abbrev nothing : ⊥ → ⊥
+nothing refute = refute
+
+abbrev no_section : (fault : FrameFault) → ⊥ → ⊥
+no_section fault refute = refute
+
+-- a test between two bounds
+outside : (low high n : ℕ) → (leb low n && leb n high) ≡ false → (n < low) ⊎ (high < n)
+outside low high n e = by (leb low n) refl e
+  where
+    by : (t : Bool) → leb low n ≡ t → (t && leb n high) ≡ false → (n < low) ⊎ (high < n)
+    by true p f = inr (leb-false n high f)
+    by false p f = inl (leb-false low n p)
+
+inside : (low high n : ℕ) → (leb low n && leb n high) ≡ true → ((n < low) ⊎ (high < n)) → ⊥
+inside low high n e (inl below) = let p = and_parts (leb low n) (leb n high) e in let le = leb-true low n p.0 in absurd (omega arith)
+inside low high n e (inr above) = let p = and_parts (leb low n) (leb n high) e in let le = leb-true n high p.1 in absurd (omega arith)
+
+module _ (known : DraftData) (text : LineText) where
+  -- a statement with a limit alone
+  by_limit : (s : Statement) → Says text s → Passed known text 9 → (IsOutOfOrder known s → ⊥) → (IsNoSpan s → ⊥) → ((fault : FrameFault) → HasBadSection fault s → ⊥) → (IsNameless known s → ⊥) → (IsNotAbove known s → ⊥)
+      → (t : Bool) → (t ≡ true → IsOutsideLimit known s → ⊥) → (t ≡ false → IsOutsideLimit known s) → (next : DraftData) → Judged known text (cond t (Ok next) (Err reason.Limit))
+  by_limit s says before order span section name fixed true within beyond next = good known text s says before (record { order = order; limit = within refl; span = span; section = section; name = name; fixed = fixed })
+  by_limit s says before order span section name fixed false within beyond next = limit_holds known text s says before order (beyond refl)
+
+-- ---- small facts
+
+section_or_fault : (r : Result Contents FrameFault) (section : Contents) (fault : FrameFault) → r ≡ Ok section → r ≡ Err fault → ⊥
+section_or_fault r section fault p q = cc
+
+some_or_none : (o : Option Interval) (span : Interval) → o ≡ Some span → o ≡ None → ⊥
+some_or_none o span p q = cc
+
+some_pieces_not : (pieces : Line) (first : List ℕ) (others : Line) → pieces ≡ first ∷ others → pieces ≡ [] → ⊥
+some_pieces_not pieces first others p q = cc
+
+cons_not : (b : ℕ) (rest : List ℕ) → b ∷ rest ≡ [] → ⊥
+cons_not b rest e = cc
+
+abbrev failed_draft : Reason → Result DraftData Reason
+failed_draft why = Err why
+
+why_is : (known : DraftData) (x y : Reason) → failed_draft x ≡ failed_draft y → x ≡ y
+why_is known x y e = cc
+
+named_there : (images : ℕ) (known : DraftData) (e : Event) → images ≡ length known.script.images → is_named images e ≡ true → IsNameless known (statement.Event e) → ⊥
+named_there images known (event.Register image) same is past = let lt = ltb-true image images is in absurd (omega arith)
+named_there images known (event.Load image) same is past = let lt = ltb-true image images is in absurd (omega arith)
+named_there images known _ same is past = past
+
+named_missing : (images : ℕ) (known : DraftData) (e : Event) → images ≡ length known.script.images → is_named images e ≡ false → IsNameless known (statement.Event e)
+named_missing images known (event.Register image) same is = let le = ltb-false image images is in omega arith
+named_missing images known (event.Load image) same is = let le = ltb-false image images is in omega arith
+named_missing images known _ same is = absurd (true≢false is)
+
+-- ---- the image of a line
+
+module _ (known : DraftData) (text : LineText) (image : ImageData) (says : Says text (statement.Image image)) (before : Passed known text 9) where
+  abbrev line_image : Statement
+  line_image = statement.Image image
+
+  abbrev in_order : Bool
+  in_order = eqb image.number (length known.script.images)
+
+  abbrev in_limits : Bool
+  in_limits = ltb (length known.script.images) 4096 && leb (length image.bytes) 65536
+
+  abbrev has_span : Bool
+  has_span = ltb 0 image.size && leb (image.base + image.size) (2 ^ 64 - 1)
+
+  abbrev with_section : Result Contents FrameFault → Result DraftData Reason
+  with_section given = section_or given >=> λ section. Ok (with_image known image section)
+
+  image_read : (given : Result Contents FrameFault) → section_of image.section image.bytes ≡ given → (IsOutOfOrder known line_image → ⊥) → (IsOutsideLimit known line_image → ⊥) → (IsNoSpan line_image → ⊥) → Judged known text (with_section given)
+  image_read (Ok section) is order limit span = good known text line_image says before (record {
+    order = order;
+    limit = limit;
+    span = span;
+    section = λ fault bad. section_or_fault (section_of image.section image.bytes) section fault is (section_bad image.section image.bytes fault bad);
+    name = nothing;
+    fixed = nothing;
+  })
+  image_read (Err fault) is order limit span = refused known text (reason.Section fault) (to_section known text line_image says before order limit span) (line_image, says, section_refused image.section image.bytes fault is)
+
+  span_fits : has_span ≡ true → IsNoSpan line_image → ⊥
+  span_fits is (inl none) = let some = ltb-true 0 image.size (and_parts (ltb 0 image.size) (leb (image.base + image.size) (2 ^ 64 - 1)) is).0 in absurd (omega arith)
+  span_fits is (inr above) = let below = leb-true (image.base + image.size) (2 ^ 64 - 1) (and_parts (ltb 0 image.size) (leb (image.base + image.size) (2 ^ 64 - 1)) is).1 in absurd (omega arith)
+
+  no_span : (t : Bool) → ltb 0 image.size ≡ t → (t && leb (image.base + image.size) (2 ^ 64 - 1)) ≡ false → IsNoSpan line_image
+  no_span true p e = inr (leb-false _ _ e)
+  no_span false p e = inl (let none = ltb-false 0 image.size p in omega arith)
+
+  image_spanned : (t : Bool) → has_span ≡ t → (IsOutOfOrder known line_image → ⊥) → (IsOutsideLimit known line_image → ⊥) → Judged known text (cond t (with_section (section_of image.section image.bytes)) (Err reason.Span))
+  image_spanned true is order limit = image_read (section_of image.section image.bytes) refl order limit (span_fits is)
+  image_spanned false is order limit = refused known text reason.Span (to_span known text line_image says before order limit) (line_image, says, no_span (ltb 0 image.size) refl is)
+
+  limits_kept : in_limits ≡ true → IsOutsideLimit known line_image → ⊥
+  limits_kept is (inl many) = let few = ltb-true _ _ (and_parts (ltb (length known.script.images) 4096) (leb (length image.bytes) 65536) is).0 in absurd (omega arith)
+  limits_kept is (inr long) = let short = leb-true _ _ (and_parts (ltb (length known.script.images) 4096) (leb (length image.bytes) 65536) is).1 in absurd (omega arith)
+
+  limits_passed : (t : Bool) → ltb (length known.script.images) 4096 ≡ t → (t && leb (length image.bytes) 65536) ≡ false → IsOutsideLimit known line_image
+  limits_passed true p e = inr (leb-false _ _ e)
+  limits_passed false p e = inl (ltb-false _ _ p)
+
+  image_limited : (t : Bool) → in_limits ≡ t → (IsOutOfOrder known line_image → ⊥) → Judged known text (cond t (cond has_span (with_section (section_of image.section image.bytes)) (Err reason.Span)) (Err reason.Limit))
+  image_limited true is order = image_spanned has_span refl order (limits_kept is)
+  image_limited false is order = limit_holds known text line_image says before order (limits_passed (ltb (length known.script.images) 4096) refl is)
+
+  image_ordered : (t : Bool) → in_order ≡ t → Judged known text (cond t (cond in_limits (cond has_span (with_section (section_of image.section image.bytes)) (Err reason.Span)) (Err reason.Limit)) (Err reason.Order))
+  image_ordered true is = image_limited in_limits refl (λ other. other (eqb-true _ _ is))
+  image_ordered false is = refused known text reason.Order before (line_image, says, eqb-false _ _ is)
+
+  judged_image : Judged known text (image_added known image)
+  judged_image = image_ordered in_order refl
+
+-- ---- a fixed image
+
+module _ (known : DraftData) (text : LineText) (image : ℕ) (says : Says text (statement.Fixed image)) (before : Passed known text 9) where
+  abbrev line_fixed : Statement
+  line_fixed = statement.Fixed image
+
+  is_there : (span : Interval) → slice_get known.script.images image ≡ Some span → length known.script.images ≤ image → ⊥
+  is_there span is past = let within = slice_get_within known.script.images image span is in absurd (omega arith)
+
+  is_missing : slice_get known.script.images image ≡ None → (t : Bool) → ltb image (length known.script.images) ≡ t → length known.script.images ≤ image
+  is_missing none false e = ltb-false _ _ e
+  is_missing none true e = absurd (some_or_none (slice_get known.script.images image) (span_of known.script.images image) (found_span known.script.images image (ltb-true _ _ e)) none)
+
+  fixed_above : (span : Interval) → slice_get known.script.images image ≡ Some span → (t : Bool) → is_above (last_fixed known.script.images known.script.fixed) span ≡ t → Judged known text (cond t (Ok (with_statement known line_fixed)) (Err reason.Fixed))
+  fixed_above span is true test = good known text line_fixed says before (record { order = nothing; limit = nothing; span = nothing; section = no_section; name = is_there span is; fixed = above_low known.script.images known.script.fixed image span is test })
+  fixed_above span is false test = refused known text reason.Fixed (to_fixed known text line_fixed says before nothing nothing nothing no_section (is_there span is)) (line_fixed, says, too_low known.script.images known.script.fixed image span is test)
+
+  fixed_named : (o : Option Interval) → slice_get known.script.images image ≡ o → Judged known text (ok_or o reason.Name >=> λ span. cond (is_above (last_fixed known.script.images known.script.fixed) span) (Ok (with_statement known line_fixed)) (Err reason.Fixed))
+  fixed_named (Some span) is = fixed_above span is (is_above (last_fixed known.script.images known.script.fixed) span) refl
+  fixed_named None is = refused known text reason.Name (to_name known text line_fixed says before nothing nothing nothing no_section) (line_fixed, says, is_missing is (ltb image (length known.script.images)) refl)
+
+  judged_fixed : Judged known text (fixed_added known image)
+  judged_fixed = fixed_named (slice_get known.script.images image) refl
+
+-- ---- an event
+
+module _ (known : DraftData) (text : LineText) (e : Event) (says : Says text (statement.Event e)) (before : Passed known text 9) where
+  abbrev line_event : Statement
+  line_event = statement.Event e
+
+  event_named : (t : Bool) → is_named (length known.script.images) e ≡ t → (IsOutsideLimit known line_event → ⊥) → Judged known text (cond t (Ok (with_statement known line_event)) (Err reason.Name))
+  event_named true is limit = good known text line_event says before (record { order = nothing; limit = limit; span = nothing; section = no_section; name = named_there (length known.script.images) known e refl is; fixed = nothing })
+  event_named false is limit = refused known text reason.Name (to_name known text line_event says before nothing limit nothing no_section) (line_event, says, named_missing (length known.script.images) known e refl is)
+
+  event_limited : (t : Bool) → ltb (length known.events) 4096 ≡ t → Judged known text (cond t (cond (is_named (length known.script.images) e) (Ok (with_statement known line_event)) (Err reason.Name)) (Err reason.Limit))
+  event_limited true is = event_named (is_named (length known.script.images) e) refl (λ many. let few = ltb-true _ _ is in absurd (omega arith))
+  event_limited false is = limit_holds known text line_event says before nothing (ltb-false _ _ is)
+
+-- ---- what a line says, of any kind
+
+pub judged_statement : (known : DraftData) (text : LineText) (s : Statement) → Says text s → Passed known text 9 → Judged known text (added known s)
+unfolding added
+judged_statement known text (statement.Version version) says before =
+    by_limit known text (statement.Version version) says before nothing nothing no_section nothing nothing (eqb version 1) (λ is other. other (eqb-true _ _ is)) (λ is. eqb-false _ _ is) (with_statement known (statement.Version version))
+judged_statement known text (statement.Nodes nodes) says before =
+    by_limit known text (statement.Nodes nodes) says before nothing nothing no_section nothing nothing (leb 4 nodes && leb nodes 16384) (inside 4 16384 nodes) (outside 4 16384 nodes) (with_statement known (statement.Nodes nodes))
+judged_statement known text (statement.Loads loads) says before =
+    by_limit known text (statement.Loads loads) says before nothing nothing no_section nothing nothing (leb 1 loads && leb loads 1024) (inside 1 1024 loads) (outside 1 1024 loads) (with_statement known (statement.Loads loads))
+judged_statement known text (statement.Image image) says before = judged_image known text image says before
+judged_statement known text (statement.Fixed image) says before = judged_fixed known text image says before
+judged_statement known text statement.Round says before =
+    by_limit known text statement.Round says before nothing nothing no_section nothing nothing (ltb (length (rounds_so_far known)) 64) (λ is many. let few = ltb-true _ _ is in absurd (omega arith)) (λ is. ltb-false _ _ is) (with_statement known statement.Round)
+judged_statement known text statement.Thread says before =
+    by_limit known text statement.Thread says before nothing nothing no_section nothing nothing (ltb (length (threads_so_far known)) 16) (λ is many. let few = ltb-true _ _ is in absurd (omega arith)) (λ is. ltb-false _ _ is) (with_statement known statement.Thread)
+judged_statement known text (statement.Event e) says before = event_limited known text e says before (ltb (length known.events) 4096) refl
+judged_statement known text statement.End says before = good known text statement.End says before (record { order = nothing; limit = nothing; span = nothing; section = no_section; name = nothing; fixed = nothing })
+
+-- ---- a line
+
+module _ (known : DraftData) (line : List ℕ) where
+  abbrev here : LineText
+  here = whole_line line
+
+  module _ (before : Passed known here 5) where
+    -- the line is of one kind at the most
+    of_kind : (k : Kind) (fields : Line) → pieces 32 line ≡ word_of k ∷ fields → (P : Kind → Line → Type 0) → (P k fields → ⊥) → IsOfKind known here P → ⊥
+    of_kind k fields is P refute (other, others, other_is, may, holds) =
+        let same = same_kind other k others fields (sym other_is ∙ is) in
+        refute (subst (λ (xs : Line). P k xs) same.1 (subst (λ (x : Kind). P x others) same.0 holds))
+
+    spoken_line : (k : Kind) (fields : Line) → pieces 32 line ≡ word_of k ∷ fields → may_come known.stage k ≡ true → Passed known here 7 → (IsLater k → ⊥) → (given : Result Statement Reason) → statement_of k fields ≡ given → Judged known here (given >=> λ s. added known s)
+    spoken_line k fields is may passed built (Ok s) e =
+        let says = spoken k fields s e in
+        let same = same_kind k (kind_of_statement s) fields (statement_fields s) says.line in
+        let fit = fields_fit s says.form in
+        let count : length fields ≡ length (forms k) = ap (λ (xs : Line). length xs) same.1 ∙ fit.0 ∙ sym (ap (λ (x : Kind). length (forms x)) same.0) in
+        let fields_are : AreFields (forms k) fields = subst (λ (x : Kind). AreFields (forms x) fields) (sym same.0) (subst (λ (xs : Line). AreFields (forms (kind_of_statement s)) xs) (sym same.1) fit.1) in
+        let p = pass_fields known here passed (of_kind k fields is (λ k fields. length fields ≢ length (forms k)) (λ other. other count)) in
+        let q = pass_spelling known here p (of_kind k fields is (λ k fields. AreFields (forms k) fields → ⊥) (λ refute. refute fields_are)) in
+        judged_statement known here s (record { line = is ∙ says.line; form = says.form }) q
+    spoken_line k fields is may passed built (Err why) e = elim (unspoken k fields why e) [ inl wrong ↦ wrong_line why wrong | inr later ↦ absurd (built later) ]
+      where
+        wrong_line : (why : Reason) → Wrong (forms k) fields why → IsReason known here why
+        wrong_line reason.Fields other = refused known here reason.Fields passed (k, fields, is, may, other)
+        wrong_line reason.Spelling (count, refute) = refused known here reason.Spelling (pass_fields known here passed (of_kind k fields is (λ k fields. length fields ≢ length (forms k)) (λ other. other count))) (k, fields, is, may, refute)
+        wrong_line _ refute = absurd refute
+
+    built_line : (k : Kind) (fields : Line) → pieces 32 line ≡ word_of k ∷ fields → may_come known.stage k ≡ true → Passed known here 6 → (t : Bool) → is_unbuilt known k ≡ t → Judged known here (cond t (Err reason.Unbuilt) (statement_of k fields >=> λ s. added known s))
+    built_line k fields is may passed true e = refused known here reason.Unbuilt passed (k, fields, is, may, e)
+    built_line k fields is may passed false e =
+        spoken_line k fields is may (pass_unbuilt known here passed (of_kind k fields is (λ k fields. is_unbuilt known k ≡ true) (λ may. true≢false (sym may ∙ e)))) (later k e) (statement_of k fields) refl
+      where
+        later : (k : Kind) → is_unbuilt known k ≡ false → IsLater k → ⊥
+        later kind.Snapshot e is = true≢false e
+        later kind.Unwind e is = true≢false e
+        later _ e is = is
+
+    kind_line : (k : Kind) (fields : Line) → pieces 32 line ≡ word_of k ∷ fields → (t : Bool) → may_come known.stage k ≡ t → Judged known here (cond t (cond (is_unbuilt known k) (Err reason.Unbuilt) (statement_of k fields >=> λ s. added known s)) (Err reason.Word))
+    kind_line k fields is true may = built_line k fields is may (pass_word known here before (λ refute. refute k fields is may)) (is_unbuilt known k) refl
+    kind_line k fields is false may = refused known here reason.Word before no_kind
+      where
+        no_kind : (other : Kind) (others : Line) → pieces 32 line ≡ word_of other ∷ others → may_come known.stage other ≡ true → ⊥
+        no_kind other others other_is can = true≢false (sym can ∙ ap (may_come known.stage) (same_kind other k others fields (sym other_is ∙ is)).0 ∙ may)
+
+    word_line : (word : List ℕ) (fields : Line) → pieces 32 line ≡ word ∷ fields → (o : Option Kind) → kind_of word ≡ o
+        → Judged known here (ok_or o reason.Word >=> λ k. cond (may_come known.stage k) (cond (is_unbuilt known k) (Err reason.Unbuilt) (statement_of k fields >=> λ s. added known s)) (Err reason.Word))
+    word_line word fields is (Some k) e = kind_line k fields (is ∙ ap (λ (w : List ℕ). w ∷ fields) (kind_word word k (ap (λ (o : Option Kind). ok_or o reason.Word) e))) (may_come known.stage k) refl
+    word_line word fields is None e = refused known here reason.Word before no_kind
+      where
+        none : (o : Option Kind) (k : Kind) → o ≡ None → o ≡ Some k → ⊥
+        none o k p q = cc
+
+        first_word : (word other : List ℕ) (fields others : Line) → word ∷ fields ≡ other ∷ others → word ≡ other
+        first_word word other fields others e = cc
+
+        no_kind : (other : Kind) (others : Line) → pieces 32 line ≡ word_of other ∷ others → may_come known.stage other ≡ true → ⊥
+        no_kind other others other_is may = none (kind_of word) other e (ap kind_of (first_word word (word_of other) fields others (sym is ∙ other_is)) ∙ word_again other)
+
+    judged_words : (fields : Line) → pieces 32 line ≡ fields → Judged known here (by_word known fields)
+    unfolding by_word
+    judged_words [] is = absurd (some_pieces_not (pieces 32 line) (some_pieces 32 line).0 (some_pieces 32 line).1 (some_pieces 32 line).2 is)
+    judged_words (word ∷ fields) is = word_line word fields is (kind_of word) refl
+
+  printable_line : Passed known here 4 → (t : Bool) → is_printable line ≡ t → Judged known here (cond t (by_word known (pieces 32 line)) (Err reason.Byte))
+  printable_line before true e = judged_words (pass_byte known here before (λ refute. true≢false (sym e ∙ refute))) (pieces 32 line) refl
+  printable_line before false e = refused known here reason.Byte before e
+
+  ended_line : (t : Bool) → is_ended known.stage ≡ t → Judged known here (cond t (Err reason.After) (cond (is_printable line) (by_word known (pieces 32 line)) (Err reason.Byte)))
+  ended_line true e = refused known here reason.After (pass_missing known here (λ refute. true≢false refute.2)) (e, inr refl)
+  ended_line false e =
+      printable_line
+      (pass_unended known here (pass_after known here (pass_missing known here (λ refute. true≢false refute.2)) (λ refute. true≢false (sym refute.0 ∙ e))) (λ refute. true≢false refute))
+      (is_printable line) refl
+
+  pub judged_line : Judged known here (after_line known line)
+  unfolding after_line
+  judged_line = ended_line (is_ended known.stage) refl
+
+-- ---- the end of the text
+
+-- what is left where no line feed comes is refused for the table's reason, unless the text ends after its `end` line
+pub judged_end : (known : DraftData) (rest : List ℕ) (why : Reason) → at_end known rest ≡ Err why → IsReason known (record { bytes = rest; has_feed = false }) why
+unfolding at_end
+judged_end known [] why e = by (is_ended known.stage) refl e
+  where
+    by : (t : Bool) → is_ended known.stage ≡ t → cond t (Ok known) (failed_draft reason.Missing) ≡ failed_draft why → IsReason known (record { bytes = []; has_feed = false }) why
+    by true is e = absurd cc
+    by false is e = subst (IsReason known (record { bytes = []; has_feed = false })) (why_is known reason.Missing why e) (refused known (record { bytes = []; has_feed = false }) reason.Missing (pass_none known (record { bytes = []; has_feed = false })) (is, refl, refl))
+judged_end known (b ∷ rest) why e = by (is_ended known.stage) refl e
+  where
+    by : (t : Bool) → is_ended known.stage ≡ t → cond t (failed_draft reason.After) (failed_draft reason.Unended) ≡ failed_draft why → IsReason known (record { bytes = b ∷ rest; has_feed = false }) why
+    by true is e = subst (IsReason known (record { bytes = b ∷ rest; has_feed = false })) (why_is known reason.After why e) (refused known (record { bytes = b ∷ rest; has_feed = false }) reason.After (pass_missing known (record { bytes = b ∷ rest; has_feed = false }) (λ refute. cons_not b rest refute.1)) (is, inl (cons_not b rest)))
+    by false is e = subst (IsReason known (record { bytes = b ∷ rest; has_feed = false })) (why_is known reason.Unended why e)
+        (refused known (record { bytes = b ∷ rest; has_feed = false }) reason.Unended (pass_after known (record { bytes = b ∷ rest; has_feed = false }) (pass_missing known (record { bytes = b ∷ rest; has_feed = false }) (λ refute. cons_not b rest refute.1)) (λ refute. true≢false (sym refute.0 ∙ is))) refl)

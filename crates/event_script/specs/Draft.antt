@@ -1,0 +1,131 @@
+-- A script as far as its lines have come: which lines may come, and what each adds.
+use Rattle.std.specs.Prelude.{◌≡◌, ℕ, ◌+◌, ◌-◌, List, [], ◌∷◌, ◌++◌, Bool, true, false, Result, Ok, Err}
+use Rattle.reg_model.specs.Interval.{Interval}
+use Rattle.frame_parse.specs.Sections.{Contents}
+use Rattle.frame_parse.specs.Reading.{section_of}
+use Rattle.frame_parse.specs.declared.fault.FrameFault.{FrameFault}
+use Rattle.event_script.specs.ScriptData.{ScriptData, ImageData}
+use Rattle.event_script.specs.declared.script.Event.{Event}
+use Rattle.event_script.specs.declared.reader.kinds.Stage.{Stage}
+use Rattle.event_script.specs.declared.reader.kinds.Stage.TheVariants as stage
+use Rattle.event_script.specs.declared.reader.kinds.Kind.{Kind}
+use Rattle.event_script.specs.declared.reader.kinds.Kind.TheVariants as kind
+use Rattle.event_script.specs.declared.reader.statement.Statement.{Statement}
+use Rattle.event_script.specs.declared.reader.statement.Statement.TheVariants as statement
+
+-- What the lines so far make known: which lines may come, what stands of the script, the threads that are over of the round that
+-- goes on, and the events of the thread that goes on.
+pub record DraftData : Type 0 where
+  pub stage : Stage
+  pub script : ScriptData
+  pub threads : List (List Event)
+  pub events : List Event
+
+abbrev pub no_script : ScriptData
+no_script = record { nodes = 0; loads = 0; images = []; sections = []; fixed = []; rounds = [] }
+
+-- before the first line
+abbrev pub nothing_known : DraftData
+nothing_known = record { stage = stage.Version; script = no_script; threads = []; events = [] }
+
+-- ---- which lines may come
+
+-- which lines may come next
+abbrev pub may_come : Stage → Kind → Bool
+may_come stage.Version kind.Version = true
+may_come stage.Nodes kind.Nodes = true
+may_come stage.Loads kind.Loads = true
+may_come stage.Images kind.Image = true
+may_come stage.Images kind.Fixed = true
+may_come stage.Images kind.Snapshot = true
+may_come stage.Images kind.Round = true
+may_come stage.Images kind.End = true
+may_come stage.Fixed kind.Fixed = true
+may_come stage.Fixed kind.Snapshot = true
+may_come stage.Fixed kind.Round = true
+may_come stage.Fixed kind.End = true
+may_come stage.Round kind.Round = true
+may_come stage.Round kind.Thread = true
+may_come stage.Round kind.End = true
+may_come stage.Thread kind.Round = true
+may_come stage.Thread kind.Thread = true
+may_come stage.Thread kind.End = true
+may_come stage.Thread kind.Register = true
+may_come stage.Thread kind.Deregister = true
+may_come stage.Thread kind.Load = true
+may_come stage.Thread kind.Unload = true
+may_come stage.Thread kind.Find = true
+may_come stage.Thread kind.Unwind = true
+may_come _ _ = false
+
+-- the `end` line was read
+abbrev pub is_ended : Stage → Bool
+is_ended stage.Ended = true
+is_ended _ = false
+
+-- a round has begun, or a thread in it
+abbrev pub has_round : Stage → Bool
+has_round stage.Round = true
+has_round stage.Thread = true
+has_round _ = false
+
+abbrev pub has_thread : Stage → Bool
+has_thread stage.Thread = true
+has_thread _ = false
+
+-- Lines that can't be run after what the lines before made known: those of backtraces, a second round, a second thread.
+abbrev pub is_unbuilt : DraftData → Kind → Bool
+is_unbuilt known kind.Snapshot = true
+is_unbuilt known kind.Unwind = true
+is_unbuilt known kind.Round = has_round known.stage
+is_unbuilt known kind.Thread = has_thread known.stage
+is_unbuilt known _ = false
+
+-- ---- what each adds
+
+-- the threads of the round, with the one that goes on
+abbrev pub threads_at : Stage → List (List Event) → List Event → List (List Event)
+threads_at stage.Thread threads events = threads ++ events ∷ []
+threads_at _ threads events = threads
+
+-- the rounds, with the one that goes on
+abbrev pub rounds_at : Stage → List (List (List Event)) → List (List Event) → List Event → List (List (List Event))
+rounds_at stage.Round rounds threads events = rounds ++ threads ∷ []
+rounds_at stage.Thread rounds threads events = rounds ++ (threads ++ events ∷ []) ∷ []
+rounds_at _ rounds threads events = rounds
+
+-- the threads so far of the round that goes on, and all rounds so far
+abbrev pub threads_so_far : DraftData → List (List Event)
+threads_so_far known = threads_at known.stage known.threads known.events
+
+abbrev pub rounds_so_far : DraftData → List (List (List Event))
+rounds_so_far known = rounds_at known.stage known.script.rounds known.threads known.events
+
+-- the span of an image
+abbrev pub span_from : ImageData → Interval
+span_from image = record { first = image.base; last = image.base + image.size - 1 }
+
+-- the section that the bytes at an address are; where they are none, it has no FDEs
+abbrev pub contents_or_none : ℕ → List ℕ → Result Contents FrameFault → Contents
+contents_or_none address bytes (Ok contents) = contents
+contents_or_none address bytes (Err fault) = record { address = address; bytes = bytes; fdes = [] }
+
+abbrev pub with_image : DraftData → ImageData → Contents → DraftData
+with_image known image section =
+    record known { script = record known.script { images = known.script.images ++ span_from image ∷ []; sections = known.script.sections ++ section ∷ [] } }
+
+-- the round that goes on is over
+abbrev pub after_round : DraftData → Stage → DraftData
+after_round known next = record { stage = next; script = record known.script { rounds = rounds_so_far known }; threads = []; events = [] }
+
+-- what is known after one more line that says so
+abbrev pub with_statement : DraftData → Statement → DraftData
+with_statement known (statement.Version version) = record known { stage = stage.Nodes }
+with_statement known (statement.Nodes nodes) = record known { stage = stage.Loads; script = record known.script { nodes = nodes } }
+with_statement known (statement.Loads loads) = record known { stage = stage.Images; script = record known.script { loads = loads } }
+with_statement known (statement.Image image) = with_image known image (contents_or_none image.section image.bytes (section_of image.section image.bytes))
+with_statement known (statement.Fixed image) = record known { stage = stage.Fixed; script = record known.script { fixed = known.script.fixed ++ image ∷ [] } }
+with_statement known statement.Round = after_round known stage.Round
+with_statement known statement.Thread = record known { stage = stage.Thread; threads = threads_so_far known; events = [] }
+with_statement known (statement.Event event) = record known { events = known.events ++ event ∷ [] }
+with_statement known statement.End = after_round known stage.Ended

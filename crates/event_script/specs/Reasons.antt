@@ -1,0 +1,133 @@
+-- Why a line is bad: the table of reasons, in its order.
+use Rattle.std.specs.Prelude.{◌≡◌, ◌≢◌, ◌⊎◌, ℕ, ◌+◌, ◌-◌, ◌^◌, ◌<◌, ◌≤◌, List, [], ◌∷◌, length, Bool, true, false, Some, slice_get}
+use Rattle.frame_parse.specs.Sections.{IsRefused}
+use Rattle.frame_parse.specs.declared.fault.FrameFault.{FrameFault}
+use Rattle.event_script.specs.declared.limits.TheConstants.{VERSION, LEAST_NODES, MOST_NODES, LEAST_LOADS, MOST_LOADS, MOST_IMAGES, MOST_SECTION_BYTES, MOST_ROUNDS, MOST_THREADS, MOST_EVENTS}
+use Rattle.reg_model.specs.Interval.{Interval}
+use Rattle.event_script.specs.Fields.{pieces, is_printable}
+use Rattle.event_script.specs.Statements.{word_of, forms, AreFields, statement_line, HasForm}
+use Rattle.event_script.specs.Spelling.{Line}
+use Rattle.event_script.specs.Draft.{DraftData, may_come, is_ended, is_unbuilt, threads_so_far, rounds_so_far}
+use Rattle.event_script.specs.declared.script.Event.TheVariants as event
+use Rattle.event_script.specs.declared.reader.fault.Reason.{Reason}
+use Rattle.event_script.specs.declared.reader.fault.Reason.TheVariants as reason
+use Rattle.event_script.specs.declared.reader.kinds.Kind.{Kind}
+use Rattle.event_script.specs.declared.reader.statement.Statement.{Statement}
+use Rattle.event_script.specs.declared.reader.statement.Statement.TheVariants as statement
+
+-- what stands in the place of a line: its bytes, and whether a line feed ends them
+pub record LineText : Type 0 where
+  pub bytes : List ℕ
+  pub has_feed : Bool
+
+-- the line's fields, which a space (32) parts
+abbrev pub fields_of : LineText → Line
+fields_of text = pieces 32 text.bytes
+
+-- the line begins with the word of a kind that may come here, and this holds of the kind and of its other fields
+abbrev pub IsOfKind : DraftData → LineText → (Kind → Line → Type 0) → Type 0
+IsOfKind known text P = (kind : Kind) × (fields : Line) × (fields_of text ≡ word_of kind ∷ fields) × (may_come known.stage kind ≡ true) × P kind fields
+
+-- the line says this
+pub record Says (text : LineText) (s : Statement) : Type 0 where
+  pub line : fields_of text ≡ statement_line s
+  pub form : HasForm s
+
+-- the line says something of which this holds
+abbrev pub SaysSome : LineText → (Statement → Type 0) → Type 0
+SaysSome text P = (s : Statement) × Says text s × P s
+
+-- ---- reasons against what a line says, in what the lines before it made known
+
+-- an image's number isn't the next
+abbrev pub IsOutOfOrder : DraftData → Statement → Type 0
+IsOutOfOrder known (statement.Image image) = image.number ≢ length known.script.images
+IsOutOfOrder known _ = ⊥
+
+-- a number, or a count with this line, is outside its limit
+abbrev pub IsOutsideLimit : DraftData → Statement → Type 0
+IsOutsideLimit known (statement.Version version) = version ≢ VERSION
+IsOutsideLimit known (statement.Nodes nodes) = (nodes < LEAST_NODES) ⊎ (MOST_NODES < nodes)
+IsOutsideLimit known (statement.Loads loads) = (loads < LEAST_LOADS) ⊎ (MOST_LOADS < loads)
+IsOutsideLimit known (statement.Image image) = (MOST_IMAGES ≤ length known.script.images) ⊎ (MOST_SECTION_BYTES < length image.bytes)
+IsOutsideLimit known statement.Round = MOST_ROUNDS ≤ length (rounds_so_far known)
+IsOutsideLimit known statement.Thread = MOST_THREADS ≤ length (threads_so_far known)
+IsOutsideLimit known (statement.Event event) = MOST_EVENTS ≤ length known.events
+IsOutsideLimit known _ = ⊥
+
+-- the size is 0, or the base plus the size is above 2^64 - 1
+abbrev pub IsNoSpan : Statement → Type 0
+IsNoSpan (statement.Image image) = (image.size ≡ 0) ⊎ (2 ^ 64 - 1 < image.base + image.size)
+IsNoSpan _ = ⊥
+
+-- the section is refused for this
+abbrev pub HasBadSection : FrameFault → Statement → Type 0
+HasBadSection fault (statement.Image image) = IsRefused image.section image.bytes fault
+HasBadSection fault _ = ⊥
+
+-- it names an image that the script hasn't
+abbrev pub IsNameless : DraftData → Statement → Type 0
+IsNameless known (statement.Fixed image) = length known.script.images ≤ image
+IsNameless known (statement.Event (event.Register image)) = length known.script.images ≤ image
+IsNameless known (statement.Event (event.Load image)) = length known.script.images ≤ image
+IsNameless known _ = ⊥
+
+-- its span isn't wholly above that of the fixed image before it
+abbrev pub IsNotAbove : DraftData → Statement → Type 0
+IsNotAbove known (statement.Fixed image) =
+    (last : ℕ) × (below above : Interval) × (slice_get known.script.fixed (length known.script.fixed - 1) ≡ Some last)
+    × (slice_get known.script.images last ≡ Some below) × (slice_get known.script.images image ≡ Some above) × (above.first ≤ below.last)
+IsNotAbove known _ = ⊥
+
+-- ---- the table
+
+-- its number in the table
+abbrev pub number_in_table : Reason → ℕ
+number_in_table reason.Missing = 1
+number_in_table reason.After = 2
+number_in_table reason.Unended = 3
+number_in_table reason.Byte = 4
+number_in_table reason.Word = 5
+number_in_table reason.Unbuilt = 6
+number_in_table reason.Fields = 7
+number_in_table reason.Spelling = 8
+number_in_table reason.Order = 9
+number_in_table reason.Limit = 10
+number_in_table reason.Span = 11
+number_in_table (reason.Section fault) = 12
+number_in_table reason.Name = 13
+number_in_table reason.Fixed = 14
+
+-- The reason holds of what stands in the place of a line, in what the lines before made known.
+abbrev pub SpeaksAgainst : Reason → DraftData → LineText → Type 0
+-- the input ends where a line must come
+SpeaksAgainst reason.Missing known text = (is_ended known.stage ≡ false) × (text.bytes ≡ []) × (text.has_feed ≡ false)
+-- bytes come after the `end` line
+SpeaksAgainst reason.After known text = (is_ended known.stage ≡ true) × ((text.bytes ≢ []) ⊎ (text.has_feed ≡ true))
+-- the line has no line feed
+SpeaksAgainst reason.Unended known text = text.has_feed ≡ false
+-- a byte outside 20 to 7e (hexadecimal) stands in it
+SpeaksAgainst reason.Byte known text = is_printable text.bytes ≡ false
+-- its first field can't start a line here
+SpeaksAgainst reason.Word known text = (kind : Kind) (fields : Line) → fields_of text ≡ word_of kind ∷ fields → may_come known.stage kind ≡ true → ⊥
+-- its form can't be run
+SpeaksAgainst reason.Unbuilt known text = IsOfKind known text (λ kind fields. is_unbuilt known kind ≡ true)
+-- the number of fields is wrong; an empty field counts as a field
+SpeaksAgainst reason.Fields known text = IsOfKind known text (λ kind fields. length fields ≢ length (forms kind))
+-- a field isn't spelled as its kind
+SpeaksAgainst reason.Spelling known text = IsOfKind known text (λ kind fields. AreFields (forms kind) fields → ⊥)
+SpeaksAgainst reason.Order known text = SaysSome text (IsOutOfOrder known)
+SpeaksAgainst reason.Limit known text = SaysSome text (IsOutsideLimit known)
+SpeaksAgainst reason.Span known text = SaysSome text IsNoSpan
+SpeaksAgainst (reason.Section fault) known text = SaysSome text (HasBadSection fault)
+SpeaksAgainst reason.Name known text = SaysSome text (IsNameless known)
+SpeaksAgainst reason.Fixed known text = SaysSome text (IsNotAbove known)
+
+-- the first reason that holds
+pub record IsReason (known : DraftData) (text : LineText) (why : Reason) : Type 0 where
+  pub holds : SpeaksAgainst why known text
+  pub first : (other : Reason) → number_in_table other < number_in_table why → SpeaksAgainst other known text → ⊥
+
+-- no reason holds
+abbrev pub IsGood : DraftData → LineText → Type 0
+IsGood known text = (why : Reason) → SpeaksAgainst why known text → ⊥

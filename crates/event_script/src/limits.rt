@@ -1,0 +1,27 @@
+//! The limits of scripts.
+
+/// The version of the format.
+pub const VERSION: u32 = 1;
+
+/// Nodes of the tree of registered ranges, the root included.
+pub const LEAST_NODES: u32 = 4;
+
+pub const MOST_NODES: u32 = 16_384;
+
+/// Images that may be loaded at a time.
+pub const LEAST_LOADS: u32 = 1;
+
+pub const MOST_LOADS: u32 = 1_024;
+
+pub const MOST_IMAGES: usize = 4_096;
+
+/// Bytes of one section.
+pub const MOST_SECTION_BYTES: usize = 65_536;
+
+pub const MOST_ROUNDS: usize = 64;
+
+/// Threads of one round.
+pub const MOST_THREADS: usize = 16;
+
+/// Events of one thread.
+pub const MOST_EVENTS: usize = 4_096;

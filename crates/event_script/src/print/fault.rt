@@ -1,0 +1,76 @@
+//! What is told of a script that is refused.
+
+ghost use Rattle.std.specs.Prelude.{◌≡◌, ℕ, ◌++◌, IfOk, OnOk};
+ghost use Rattle.std.specs.String.{string_bytes};
+ghost use Rattle.event_script.specs.FaultText.{fault_text, section_fault_at, reason_text, section_fault_text};
+
+use crate::reader::fault::Reason;
+use frame_parse::FrameFault;
+use reg_model::NoMemory;
+use std::alloc::{AllocError, Global};
+use std::fmt::Write;
+
+/// The line that tells of the first bad line, and why it is bad.
+pub fn print_fault(alloc: Global, line: u32, reason: Reason) -> Result<Vec<u8>, NoMemory>
+    ensures text { IfOk result (λ text. text.items ≡ fault_text line reason) }
+{
+    let mut text = String::new(alloc);
+    write!(text, "script line {line}: ")?;
+    put_reason(&mut text, reason)?;
+    text.push_str("\n")?;
+    Ok(text.into_bytes())
+}
+
+/// Adds the word for a reason.
+fn put_reason(text: &mut String, reason: Reason) -> Result<(), AllocError>
+    ensures { OnOk result (string_bytes text.new ≡ string_bytes text.old ++ reason_text reason) }
+{
+    match reason {
+        Reason::Missing => text.push_str("missing"),
+        Reason::After => text.push_str("after"),
+        Reason::Unended => text.push_str("unended"),
+        Reason::Byte => text.push_str("byte"),
+        Reason::Word => text.push_str("word"),
+        Reason::Unbuilt => text.push_str("unbuilt"),
+        Reason::Fields => text.push_str("fields"),
+        Reason::Spelling => text.push_str("spelling"),
+        Reason::Order => text.push_str("order"),
+        Reason::Limit => text.push_str("limit"),
+        Reason::Span => text.push_str("span"),
+        Reason::Section { fault } => put_section(text, fault),
+        Reason::Name => text.push_str("name"),
+        Reason::Fixed => text.push_str("fixed"),
+    }
+}
+
+/// Adds the name of a section's refusal, where its record starts, and the place.
+fn put_section(text: &mut String, fault: FrameFault) -> Result<(), AllocError>
+    ensures { OnOk result (string_bytes text.new ≡ string_bytes text.old ++ section_fault_text fault) }
+{
+    match fault {
+        FrameFault::Short { start, at } => put_places(text, "short", start, at),
+        FrameFault::TooWide { start, at } => put_places(text, "wide", start, at),
+        FrameFault::Encoding { start, at, .. } => put_places(text, "encoding", start, at),
+        FrameFault::NoCie { start, at } => put_places(text, "nocie", start, at),
+        FrameFault::Version { start, at, .. } => put_places(text, "version", start, at),
+        FrameFault::Augmentation { start, at } => put_places(text, "augmentation", start, at),
+        FrameFault::Column { start, at, .. } => put_places(text, "column", start, at),
+        FrameFault::Range { start, at } => put_places(text, "range", start, at),
+        FrameFault::Opcode { start, at, .. } => put_places(text, "opcode", start, at),
+        FrameFault::Location { start, at } => put_places(text, "location", start, at),
+        FrameFault::Remember { start, at } => put_places(text, "remember", start, at),
+        FrameFault::Operation { start, at, .. } => put_places(text, "operation", start, at),
+        FrameFault::Depth { start, at } => put_places(text, "depth", start, at),
+        FrameFault::CfaRule { start, at } => put_places(text, "cfarule", start, at),
+        FrameFault::NoMemory => Err(AllocError),
+    }
+}
+
+fn put_places(text: &mut String, name: &str, start: usize, at: usize) -> Result<(), AllocError>
+    ensures { OnOk result (string_bytes text.new ≡ string_bytes text.old ++ section_fault_at name.now start at) }
+{
+    write!(text, "section {name} {start} {at}")
+}
+
+#[cfg(test)]
+mod tests;

@@ -1,0 +1,135 @@
+//! The one text of a script.
+
+ghost use Rattle.std.specs.Prelude.{◌≡◌, ◌++◌, [], ◌∷◌, length, map, decimal, IfOk, OnOk};
+ghost use Rattle.std.specs.String.{string_bytes};
+ghost use Rattle.event_script.specs.Statements.{section_digits};
+ghost use Rattle.event_script.specs.Spelling.{spelling_of, statement_text, statements_text, image_data, image_statements, thread_statements, round_statements, script_text};
+ghost use Rattle.event_script.specs.declared.reader.statement.Statement.TheVariants as statement;
+
+use crate::script::{Event, Round, Script, Thread};
+use frame_parse::Section;
+use reg_model::{NoMemory, Span};
+use std::alloc::{AllocError, Global};
+use std::fmt::Write;
+
+/// The text that spells the script.
+pub fn print_script(alloc: Global, script: &Script) -> Result<Vec<u8>, NoMemory>
+    ensures text { IfOk result (λ text. text.items ≡ script_text script.now) }
+{
+    let mut text = String::new(alloc);
+    text.push_str("frames 1\n")?;
+    put_number(&mut text, "nodes", script.nodes)?;
+    put_number(&mut text, "loads", script.loads)?;
+    put_images(alloc, &mut text, &script.images, &script.sections)?;
+    put_fixed(&mut text, &script.fixed)?;
+    put_rounds(&mut text, &script.rounds)?;
+    text.push_str("end\n")?;
+    Ok(text.into_bytes())
+}
+
+/// Adds the line of a number.
+fn put_number(text: &mut String, word: &str, number: u32) -> Result<(), AllocError>
+    ensures { OnOk result (string_bytes text.new ≡ string_bytes text.old ++ spelling_of (word.now ∷ decimal number ∷ [])) }
+{
+    write!(text, "{word} {number}\n")
+}
+
+/// Adds the bytes of a section, or a dash where there are none.
+fn put_bytes(alloc: Global, text: &mut String, bytes: &[u8]) -> Result<(), AllocError>
+    ensures { OnOk result (string_bytes text.new ≡ string_bytes text.old ++ section_digits bytes.now) }
+{
+    if bytes.is_empty() {
+        return text.push_str("-");
+    }
+    let digits = hex::encode(alloc, bytes)?;
+    text.push_str(digits.as_str())
+}
+
+/// Adds the line of an image.
+fn put_image(
+    alloc: Global,
+    text: &mut String,
+    number: usize,
+    span: &Span,
+    section: &Section,
+) -> Result<(), AllocError>
+    ensures { OnOk result (string_bytes text.new ≡ string_bytes text.old ++ statement_text (statement.Image (image_data number span.now section.now))) }
+{
+    let base = span.first();
+    let size = span.last() + 1 - base;
+    let address = section.address();
+    write!(text, "image {number} {base:x} {size:x} {address:x} ")?;
+    put_bytes(alloc, text, section.bytes())?;
+    text.push_str("\n")
+}
+
+/// Adds the lines of the images.
+fn put_images(
+    alloc: Global,
+    text: &mut String,
+    images: &[Span],
+    sections: &[Section],
+) -> Result<(), AllocError>
+    requires { length sections.now ≡ length images.now }
+    ensures { OnOk result (string_bytes text.new ≡ string_bytes text.old ++ statements_text (image_statements 0 images.now sections.now)) }
+{
+    for (number, span) in images.iter().enumerate() {
+        put_image(alloc, text, number, span, &sections[number])?;
+    }
+    Ok(())
+}
+
+/// Adds the lines of the fixed images.
+fn put_fixed(text: &mut String, fixed: &[u32]) -> Result<(), AllocError>
+    ensures { OnOk result (string_bytes text.new ≡ string_bytes text.old ++ statements_text (map statement.Fixed fixed.now)) }
+{
+    for image in fixed {
+        put_number(text, "fixed", *image)?;
+    }
+    Ok(())
+}
+
+/// Adds the line of an event.
+fn put_event(text: &mut String, event: &Event) -> Result<(), AllocError>
+    ensures { OnOk result (string_bytes text.new ≡ string_bytes text.old ++ statement_text (statement.Event event.now)) }
+{
+    match event {
+        Event::Register { image } => write!(text, "register {image}\n"),
+        Event::Deregister { base } => write!(text, "deregister {base:x}\n"),
+        Event::Load { image } => write!(text, "load {image}\n"),
+        Event::Unload { base } => write!(text, "unload {base:x}\n"),
+        Event::Find { pc } => write!(text, "find {pc:x}\n"),
+    }
+}
+
+/// Adds the lines of a thread's events.
+fn put_events(text: &mut String, events: &[Event]) -> Result<(), AllocError>
+    ensures { OnOk result (string_bytes text.new ≡ string_bytes text.old ++ statements_text (map statement.Event events.now)) }
+{
+    for event in events {
+        put_event(text, event)?;
+    }
+    Ok(())
+}
+
+/// Adds the lines of a round's threads.
+fn put_threads(text: &mut String, threads: &[Thread]) -> Result<(), AllocError>
+    ensures { OnOk result (string_bytes text.new ≡ string_bytes text.old ++ statements_text (thread_statements threads.now)) }
+{
+    for thread in threads {
+        text.push_str("thread\n")?;
+        put_events(text, &thread.events)?;
+    }
+    Ok(())
+}
+
+/// Adds the lines of the rounds.
+fn put_rounds(text: &mut String, rounds: &[Round]) -> Result<(), AllocError>
+    ensures { OnOk result (string_bytes text.new ≡ string_bytes text.old ++ statements_text (round_statements rounds.now)) }
+{
+    for round in rounds {
+        text.push_str("round\n")?;
+        put_threads(text, &round.threads)?;
+    }
+    Ok(())
+}

@@ -1,0 +1,132 @@
+//! What a line says, whatever stands before it.
+
+ghost use Rattle.std.specs.Prelude.{◌≡◌};
+ghost use Rattle.event_script.specs.Fields.{fields_behind};
+ghost use Rattle.event_script.specs.Reading.{GivesLine, one_decimal, one_hex, image_fields, alone, statement_of};
+
+use crate::reader::fault::{LineFault, Reason};
+use crate::reader::fields::{five_fields, has_any, only_field};
+use crate::reader::kinds::Kind;
+use crate::reader::numbers::{bytes_in, decimal_in, hex_in};
+use crate::script::Event;
+use std::alloc::Global;
+use std::marker::Model;
+
+/// What the line of an image says.
+#[derive(Drop)]
+pub struct ImageFields {
+    pub number: u32,
+    pub base: u64,
+    pub size: u64,
+    /// The address of the section.
+    pub section: u64,
+    pub bytes: Vec<u8>,
+}
+
+impl Model for ImageFields {
+    ghost use Rattle.event_script.specs.ScriptData.{ImageData};
+
+    ghost Value = { ImageData };
+
+    ghost view = { λ i. record { number = i.number; base = i.base; size = i.size; section = i.section; bytes = i.bytes.items } };
+}
+
+/// What a line says.
+#[derive(Drop)]
+pub enum Statement {
+    Version(u32),
+    Nodes(u32),
+    Loads(u32),
+    Image(ImageFields),
+    /// An image is fixed.
+    Fixed(u32),
+    /// A round begins.
+    Round,
+    /// A thread begins.
+    Thread,
+    Event(Event),
+    End,
+}
+
+/// What a line of the kind says with the fields that follow its word.
+#[tactic(auto, unfolding(crate::specs::Reading::statement_of))]
+pub fn statement_of(alloc: Global, kind: Kind, rest: &[u8]) -> Result<Statement, LineFault>
+    ensures { GivesLine result (statement_of kind (fields_behind rest.now)) }
+{
+    match kind {
+        Kind::Version => Ok(Statement::Version(one_decimal(rest)?)),
+        Kind::Nodes => Ok(Statement::Nodes(one_decimal(rest)?)),
+        Kind::Loads => Ok(Statement::Loads(one_decimal(rest)?)),
+        Kind::Image => Ok(Statement::Image(image_fields(alloc, rest)?)),
+        Kind::Fixed => Ok(Statement::Fixed(one_decimal(rest)?)),
+        Kind::Round => alone(rest, Statement::Round),
+        Kind::Thread => alone(rest, Statement::Thread),
+        Kind::Register => {
+            let image = one_decimal(rest)?;
+            Ok(Statement::Event(Event::Register { image }))
+        }
+        Kind::Deregister => {
+            let base = one_hex(rest)?;
+            Ok(Statement::Event(Event::Deregister { base }))
+        }
+        Kind::Load => {
+            let image = one_decimal(rest)?;
+            Ok(Statement::Event(Event::Load { image }))
+        }
+        Kind::Unload => {
+            let base = one_hex(rest)?;
+            Ok(Statement::Event(Event::Unload { base }))
+        }
+        Kind::Find => {
+            let pc = one_hex(rest)?;
+            Ok(Statement::Event(Event::Find { pc }))
+        }
+        Kind::End => alone(rest, Statement::End),
+        Kind::Snapshot | Kind::Unwind => Err(Reason::Unbuilt.into()),
+    }
+}
+
+/// What a line says that has no field but its word.
+fn alone(rest: &[u8], statement: Statement) -> Result<Statement, LineFault>
+    ensures { GivesLine result (alone (fields_behind rest.now) statement) }
+{
+    if has_any(rest) {
+        return Err(Reason::Fields.into());
+    }
+    Ok(statement)
+}
+
+/// The one field that follows, a decimal number.
+fn one_decimal(rest: &[u8]) -> Result<u32, LineFault>
+    ensures { GivesLine result (one_decimal (fields_behind rest.now)) }
+{
+    let field = only_field(rest).ok_or(Reason::Fields)?;
+    Ok(decimal_in(field).ok_or(Reason::Spelling)?)
+}
+
+/// The one field that follows, a hexadecimal number.
+fn one_hex(rest: &[u8]) -> Result<u64, LineFault>
+    ensures { GivesLine result (one_hex (fields_behind rest.now)) }
+{
+    let field = only_field(rest).ok_or(Reason::Fields)?;
+    Ok(hex_in(field).ok_or(Reason::Spelling)?)
+}
+
+/// The fields of an image.
+fn image_fields(alloc: Global, rest: &[u8]) -> Result<ImageFields, LineFault>
+    ensures { GivesLine result (image_fields (fields_behind rest.now)) }
+{
+    let (number, base, size, section, bytes) = five_fields(rest).ok_or(Reason::Fields)?;
+    let number = decimal_in(number).ok_or(Reason::Spelling)?;
+    let base = hex_in(base).ok_or(Reason::Spelling)?;
+    let size = hex_in(size).ok_or(Reason::Spelling)?;
+    let section = hex_in(section).ok_or(Reason::Spelling)?;
+    let bytes = bytes_in(alloc, bytes)?.ok_or(Reason::Spelling)?;
+    Ok(ImageFields {
+        number,
+        base,
+        size,
+        section,
+        bytes,
+    })
+}
