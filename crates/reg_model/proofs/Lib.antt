@@ -2,3 +2,5 @@ pub mod Spans
 pub mod Members
 pub mod Histories
 pub mod Receipts
+pub mod Numbers
+pub mod Chains

@@ -90,11 +90,15 @@ IsFilled start history since (Register m (inserted.Full stamp)) =
     (j : ℕ) × (since ≤ j) × (j ≤ stamp) × (10 ≤ length (state_at start history j).registered)
 IsFilled start history since _ = Unit {0}
 
+-- an accepted update stands in the history under its number
+abbrev pub IsAtNumber : List Update → Receipt → Type 0
+IsAtNumber history r = IfSome (accepted r) (λ u. (0 < moment r) × (slice_get history (moment r - 1) ≡ Some u))
+
 -- The receipt holds in the history, of a registry with so many nodes and callers. `since` is the greatest stamp or number
 -- before it on its list.
 pub record Holds (start : State) (history : List Update) (nodes callers since : ℕ) (r : Receipt) : Type 0 where
   pub within : moment r ≤ length history
-  pub numbered : IfSome (accepted r) (λ u. (0 < moment r) × (slice_get history (moment r - 1) ≡ Some u))
+  pub numbered : IsAtNumber history r
   pub right : IsRight (state_at start history (made_before r)) r
   pub filled : IsFilled start history since r
 

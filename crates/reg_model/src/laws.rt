@@ -1,12 +1,15 @@
 //! Laws of the definitions. Each is the contract of a function that does nothing.
 
-ghost use Rattle.std.specs.Prelude.{◌≡◌, ℕ, ◌≤◌, ◌++◌, List, Some, Contains, IsTrue};
+ghost use Rattle.std.specs.Prelude.{◌≡◌, ℕ, ◌≤◌, ◌++◌, List, Some, Contains, IsTrue, length};
+ghost use Rattle.std.specs.List.{AllByRecursion};
 ghost use Rattle.reg_model.specs.Interval.{contains};
 ghost use Rattle.reg_model.specs.State.{State, AreDisjoint, IsLawful};
 ghost use Rattle.reg_model.specs.History.{IsHistory, state_after};
 ghost use Rattle.reg_model.specs.Query.{member_at};
-ghost use Rattle.reg_model.specs.Receipt.{Holds, IsFilled, made};
+ghost use Rattle.reg_model.specs.Receipt.{Holds, IsAtNumber, IsFilled, made};
+ghost use Rattle.reg_model.specs.Numbers.{AreNumbered, history_of};
 ghost use Rattle.reg_model.specs.Current.{Current, LeadsTo, Step};
+ghost use Rattle.reg_model.specs.Chain.{Chain, PlainStep, HoldsAlways, Rises, all_made};
 ghost use Rattle.reg_model.specs.declared.answer.Receipt.{Receipt};
 ghost use Rattle.reg_model.specs.declared.answer.Update.{Update};
 ghost use Rattle.reg_model.specs.declared.span.Member.{Member};
@@ -34,4 +37,21 @@ pub fn histories_are_lawful()
 pub fn one_member_contains()
     ensures { (members : List Member) (m : Member) (pc : ℕ)
         → AreDisjoint members → Contains members m → IsTrue (contains m.span pc) → member_at pc members ≡ Some m }
+{}
+
+/// A history can be read off receipts in any order: each accepted update stands in it under its number, and each number on
+/// one receipt.
+pub fn numbers_tell_histories()
+    ensures { (history : List Update) (receipts : List Receipt)
+        → AllByRecursion (IsAtNumber history) receipts → AreNumbered (length history) receipts
+        → history_of receipts (length history) ≡ history }
+{}
+
+/// Calls of the registry over plain lists, one after another: their receipts hold in the history that they make, however many
+/// nodes and callers there are; stamps and numbers rise, and each number is given once.
+pub fn chains_hold()
+    ensures hold { (start : State) (history : List Update) (old new : Current) (receipts : List Receipt)
+        → LeadsTo start history old → Chain PlainStep old receipts new
+        → LeadsTo start (history ++ all_made receipts) new × AllByRecursion (HoldsAlways start (history ++ all_made receipts)) receipts }
+    ensures rise { (old new : Current) (receipts : List Receipt) → Chain PlainStep old receipts new → Rises old receipts new }
 {}

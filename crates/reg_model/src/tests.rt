@@ -87,6 +87,18 @@ fn deregister(rt: &impl Abort, registry: &mut PlainRegistry, base: u64) -> Remov
     registry.deregister(base)
 }
 
+/// Loads, where there is room for one more update.
+fn load(rt: &impl Abort, registry: &mut PlainRegistry, member: Member) -> Result<Loading, Fail> {
+    assert!(rt; registry.updates() < 1000);
+    Ok(registry.load(member)?)
+}
+
+/// Unloads, where there is room for one more update.
+fn unload(rt: &impl Abort, registry: &mut PlainRegistry, base: u64) -> Removed {
+    assert!(rt; registry.updates() < 1000);
+    registry.unload(base)
+}
+
 /// The answer of a registry without loaded members that has none of its own there either.
 fn nowhere(stamp: u32) -> Place {
     Place {
@@ -120,63 +132,6 @@ fn one_range(rt: HostRuntime) -> Result<(), Fail> {
     );
     assert_eq!(rt; registry.find(0x1010), nowhere(2));
     assert_eq!(rt; registry.updates(), 2);
-    Ok(())
-}
-
-#[test]
-fn same_range_twice(rt: HostRuntime) -> Result<(), Fail> {
-    let mut registry = PlainRegistry::new(rt.alloc(), Vec::new(rt.alloc()), 8);
-    let member = image(0, 0x1000, 0x20)?;
-    assert_eq!(rt;
-        register(&rt, &mut registry, member)?,
-        Inserted::Done { number: 1 }
-    );
-    assert_eq!(rt;
-        register(&rt, &mut registry, member)?,
-        Inserted::Overlap { member, stamp: 1 }
-    );
-    assert_eq!(rt; registry.updates(), 1);
-    Ok(())
-}
-
-#[test]
-fn remove_absent_range(rt: HostRuntime) -> Result<(), Fail> {
-    let mut registry = PlainRegistry::new(rt.alloc(), Vec::new(rt.alloc()), 8);
-    let member = image(0, 0x1000, 0x20)?;
-    assert_eq!(rt;
-        deregister(&rt, &mut registry, 0x1000),
-        Removed::NotFound { stamp: 0 }
-    );
-    assert_eq!(rt;
-        register(&rt, &mut registry, member)?,
-        Inserted::Done { number: 1 }
-    );
-    assert_eq!(rt;
-        deregister(&rt, &mut registry, 0x1000),
-        Removed::Done { number: 2, member }
-    );
-    assert_eq!(rt;
-        deregister(&rt, &mut registry, 0x1000),
-        Removed::NotFound { stamp: 2 }
-    );
-    assert_eq!(rt; registry.updates(), 2);
-    Ok(())
-}
-
-#[test]
-fn adjacent_ranges(rt: HostRuntime) -> Result<(), Fail> {
-    let mut registry = PlainRegistry::new(rt.alloc(), Vec::new(rt.alloc()), 8);
-    let (low, high) = (image(0, 0x1000, 0x20)?, image(1, 0x1020, 0x20)?);
-    assert_eq!(rt;
-        register(&rt, &mut registry, low)?,
-        Inserted::Done { number: 1 }
-    );
-    assert_eq!(rt;
-        register(&rt, &mut registry, high)?,
-        Inserted::Done { number: 2 }
-    );
-    assert_eq!(rt; registry.find(0x101f), registered(low, 2));
-    assert_eq!(rt; registry.find(0x1020), registered(high, 2));
     Ok(())
 }
 
@@ -236,5 +191,85 @@ fn fixed_members_are_found_behind_the_registered_ones(rt: HostRuntime) -> Result
         deregister(&rt, &mut registry, 0x1000),
         Removed::NotFound { stamp: 1 }
     );
+    Ok(())
+}
+
+/// The answer of a registry that has this member among the loader's alone.
+fn loaded(member: Member, stamp: u32) -> Place {
+    Place {
+        registered: Found::Miss { stamp },
+        loaded: Some(Found::Hit { member, stamp }),
+    }
+}
+
+#[test]
+fn loaded_members_beside_a_fixed_one(rt: HostRuntime) -> Result<(), Fail> {
+    let fixed = image(0, 0x1000, 0x20)?;
+    let over = image(1, 0x1010, 0x20)?;
+    let (third, fourth, fifth) = (
+        image(2, 0x3000, 0x10)?,
+        image(3, 0x4000, 0x10)?,
+        image(4, 0x5000, 0x10)?,
+    );
+    let mut registry = PlainRegistry::new(rt.alloc(), vec![in rt.alloc(); fixed]?, 2);
+    assert_eq!(rt;
+        load(&rt, &mut registry, over)?,
+        Loading::Overlap {
+            member: fixed,
+            stamp: 0
+        }
+    );
+    assert_eq!(rt;
+        load(&rt, &mut registry, third)?,
+        Loading::Done { number: 1 }
+    );
+    assert_eq!(rt;
+        load(&rt, &mut registry, fourth)?,
+        Loading::Done { number: 2 }
+    );
+    assert_eq!(rt;
+        load(&rt, &mut registry, fifth)?,
+        Loading::LoadFull { stamp: 2 }
+    );
+    // What overlaps is named also where no more may be loaded, the lowest of both lists.
+    let wide = image(5, 0x1010, 0x3000)?;
+    assert_eq!(rt;
+        load(&rt, &mut registry, wide)?,
+        Loading::Overlap {
+            member: fixed,
+            stamp: 2
+        }
+    );
+    let above = image(6, 0x2000, 0x3000)?;
+    assert_eq!(rt;
+        load(&rt, &mut registry, above)?,
+        Loading::Overlap {
+            member: third,
+            stamp: 2
+        }
+    );
+    assert_eq!(rt;
+        unload(&rt, &mut registry, 0x3000),
+        Removed::Done {
+            number: 3,
+            member: third
+        }
+    );
+    assert_eq!(rt;
+        load(&rt, &mut registry, fifth)?,
+        Loading::Done { number: 4 }
+    );
+    assert_eq!(rt;
+        unload(&rt, &mut registry, 0x1000),
+        Removed::NotFound { stamp: 4 }
+    );
+    assert_eq!(rt;
+        register(&rt, &mut registry, over)?,
+        Inserted::Done { number: 5 }
+    );
+    assert_eq!(rt; registry.find(0x1010), registered(over, 5));
+    assert_eq!(rt; registry.find(0x1008), loaded(fixed, 5));
+    assert_eq!(rt; registry.find(0x4008), loaded(fourth, 5));
+    assert_eq!(rt; registry.find(0x3008), nowhere(5));
     Ok(())
 }

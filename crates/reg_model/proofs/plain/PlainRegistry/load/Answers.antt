@@ -1,4 +1,4 @@
-use Rattle.std.proofs.Common.{◌≡◌, ◌≤◌, ◌<◌, length, refl, arith}
+use Rattle.std.proofs.Common.{◌≡◌, ◌<◌, length, refl, arith}
 use Rattle.reg_model.proofs.plain.PlainRegistry.load.Goals as goal
 
 pub returns-then-len-self-clause-step : goal.returns-then-len-self-clause-step
