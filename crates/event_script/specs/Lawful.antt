@@ -1,11 +1,11 @@
 -- Lawful journals: what the answers to a script's events may be.
-use Rattle.std.specs.Prelude.{◌≡◌, ℕ, ◌+◌, ◌≤◌, zero, suc, List, [], ◌∷◌, ◌++◌, length, map, Bool, ◌&&◌, ◌==◌, nat_le, is_some, All, count_by, if◌then◌else◌}
-use Rattle.std.specs.List.{AllZip, find, flat_map}
-use Rattle.std.specs.Option.{option_and_then, option_to_list}
+use Rattle.std.specs.Prelude.{◌≡◌, ℕ, ◌+◌, ◌≤◌, List, [], ◌∷◌, length, map, is_some, All, count_by}
+use Rattle.std.specs.List.{AllZip, flat_map}
 use Rattle.reg_model.specs.Interval.{Interval}
 use Rattle.reg_model.specs.State.{State, opening}
 use Rattle.reg_model.specs.History.{IsHistory}
 use Rattle.reg_model.specs.Receipt.{moment, accepted, AllHold, AreInOrder, IsPlace, receipts_of_place}
+use Rattle.reg_model.specs.Numbers.{AreNumbered, history_of}
 use Rattle.reg_model.specs.declared.span.Member.{Member}
 use Rattle.reg_model.specs.declared.answer.Update.{Update}
 use Rattle.reg_model.specs.declared.answer.Receipt.{Receipt}
@@ -45,19 +45,6 @@ thread_receipts images journal = map (λ round. map (λ answers. flat_map (recei
 -- all of them, in order of round and thread
 abbrev pub in_one : List (List (List Receipt)) → List Receipt
 in_one rounds = flat_map (λ round. flat_map (λ receipts. receipts) round) rounds
-
--- whether it is the receipt of the accepted update with this number
-abbrev pub has_number : ℕ → Receipt → Bool
-has_number number r = is_some (accepted r) && (moment r == number)
-
--- the numbers from 1 to n stand on one receipt each, and no other number stands on one
-abbrev pub AreNumbered : ℕ → List Receipt → Type 0
-AreNumbered n receipts = (number : ℕ) → count_by (has_number number) receipts ≡ (if (nat_le 1 number && nat_le number n) then 1 else 0)
-
--- the first n updates by their numbers
-abbrev pub history_of : List Receipt → ℕ → List Update
-history_of receipts zero = []
-history_of receipts (suc n) = history_of receipts n ++ option_to_list (option_and_then accepted (find (has_number (suc n)) receipts))
 
 -- Each receipt holds, and stamps and numbers rise along each thread. A round's callers are the first one, and one for each
 -- thread so far.

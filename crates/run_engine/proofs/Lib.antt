@@ -3,8 +3,8 @@ pub mod Pieces
 pub mod Numbered
 pub mod Played
 pub mod Lists
-pub mod Walks
-pub mod Numbers
+pub mod Chains
 pub mod Lawfulness
+pub mod Unfilled
 pub mod Endings
 pub mod Words

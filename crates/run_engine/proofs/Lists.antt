@@ -1,7 +1,6 @@
 -- Lists beside lists.
 use Rattle.std.proofs.Common.{◌≡◌, ◌≤◌, ℕ, take, length-take, List, [], ◌∷◌, ◌++◌, length, map, refl, ap, arith}
-use Rattle.std.specs.List.{All, AllZip, AllByRecursion, flat_map}
-use Rattle.std.proofs.lemmas.List.Elements.{All-cons, All-head, All-tail}
+use Rattle.std.specs.List.{AllZip, AllByRecursion, flat_map}
 
 pub AllZip-more : {A B : Type 0} (R : A → B → Type 0) (xs : List A) (ys : List B) (a : A) (b : B) → AllZip R xs ys → R a b → AllZip R (xs ++ a ∷ []) (ys ++ b ∷ [])
 AllZip-more R [] [] a b front last = (last, tt)
@@ -33,6 +32,10 @@ pub AllByRecursion-parts : {A : Type 0} (P : A → Type 0) (xs ys : List A) → 
 AllByRecursion-parts P [] ys all = (tt, all)
 AllByRecursion-parts P (x ∷ xs) ys all = (let parts = AllByRecursion-parts P xs ys all.1 in ((all.0, parts.0), parts.1))
 
+pub AllByRecursion-append : {A : Type 0} (P : A → Type 0) (xs ys : List A) → AllByRecursion P xs → AllByRecursion P ys → AllByRecursion P (xs ++ ys)
+AllByRecursion-append P [] ys front back = back
+AllByRecursion-append P (x ∷ xs) ys front back = (front.0, AllByRecursion-append P xs ys front.1 back)
+
 pub AllZip-length : {A B : Type 0} (R : A → B → Type 0) (xs : List A) (ys : List B) → AllZip R xs ys → length xs ≡ length ys
 AllZip-length R [] [] all = refl
 AllZip-length R (x ∷ xs) (y ∷ ys) all = (let rest = AllZip-length R xs ys all.1 in omega arith)
@@ -42,10 +45,3 @@ AllZip-length R (x ∷ xs) [] all = absurd all
 -- beside the first items, at most as many as all of them
 pub AllZip-front : {A B : Type 0} (R : A → B → Type 0) (i : ℕ) (xs : List A) (ys : List B) → AllZip R (take i xs) ys → length ys ≤ length xs
 AllZip-front R i xs ys all = (let same = AllZip-length R (take i xs) ys all in let front = length-take i xs in omega arith)
-
--- what holds of each, of the items beside them
-pub AllZip-beside : {A B : Type 0} (R : A → B → Type 0) (P : A → Type 0) (Q : B → Type 0) → ((x : A) (y : B) → R x y → P x → Q y) → (xs : List A) (ys : List B) → AllZip R xs ys → All P xs → All Q ys
-AllZip-beside R P Q from [] [] all each = λ k d within. absurd (omega arith)
-AllZip-beside R P Q from (x ∷ xs) (y ∷ ys) all each = All-cons Q y ys (from x y all.0 (All-head P x xs each)) (AllZip-beside R P Q from xs ys all.1 (All-tail P x xs each))
-AllZip-beside R P Q from [] (y ∷ ys) all each = absurd all
-AllZip-beside R P Q from (x ∷ xs) [] all each = absurd all

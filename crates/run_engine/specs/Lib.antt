@@ -2,5 +2,4 @@ pub mod Ports
 pub mod Devices
 pub mod Statuses
 pub mod Outcome
-pub mod Walk
 pub mod Played

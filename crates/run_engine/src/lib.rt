@@ -8,7 +8,9 @@
 
 mod gate;
 mod memory;
+mod plain;
 mod play;
+mod player;
 mod ports;
 mod reading;
 mod running;

@@ -1,11 +1,11 @@
 //! Writes a journal, a piece for each line.
 
 ghost use Rattle.std.specs.Prelude.{◌≡◌, ◌≢◌, ℕ, ◌≤◌, length, map, All, OnOk, OnErr, Err};
-ghost use Rattle.event_script.specs.Text.{numbered, answer_text, thread_text, round_text, journal_text};
+ghost use Rattle.event_script.specs.Text.{IsPrintable, numbered, answer_text, thread_text, round_text, journal_text};
 ghost use Rattle.run_engine.specs.Ports.{Rose, Gains, GainsPart};
-ghost use Rattle.run_engine.specs.Played.{IsPlain, IsPlayedThread, IsPlayed};
+ghost use Rattle.run_engine.specs.Played.{IsPlayedThread, IsPlayed};
 
-use crate::play::ThreadNumber;
+use crate::player::ThreadNumber;
 use crate::ports::{Sink, SinkFault};
 use event_script::{Answer, Journal, print_answer, print_updates};
 use std::alloc::Global;
@@ -35,7 +35,7 @@ fn write_answer<K: Sink>(
     event: u32,
     answer: &Answer,
 ) -> Result<(), SinkFault>
-    requires { IsPlain answer.now }
+    requires { IsPrintable answer.now }
     ensures ok { OnOk result (Gains (K.written sink.old) (K.written sink.new) (answer_text number.round number.thread event answer.now)) }
     ensures err { OnErr result (GainsPart (K.written sink.old) (K.written sink.new) (answer_text number.round number.thread event answer.now)) }
     ensures failed { result ≡ Err SinkFault.Failed → Rose (K.faults sink.old) (K.faults sink.new) }

@@ -7,7 +7,8 @@ use Rattle.event_script.specs.Lawful.{AnswersEvent, receipts_of}
 use Rattle.event_script.specs.declared.script.Event.{Event}
 use Rattle.run_engine.specs.Played.{IsPlayedThread}
 use Rattle.run_engine.proofs.Lists.{AllZip-more, AllZip-front}
-use Rattle.run_engine.proofs.Walks.{Walks-push}
+use Rattle.reg_model.specs.Chain.{PlainStep}
+use Rattle.run_engine.proofs.Chains.{Chain-push}
 use Rattle.run_engine.proofs.play.play_round.Goals as goal
 
 pub loop-index-preserved : goal.loop-index-preserved
@@ -25,9 +26,9 @@ loop-index-preserved g c =
     let count : length c.deref.result.now ≡ length item = ap length events in
     rw c.in_ok-push.ensures.items (record {
       answered = rw grown (AllZip-more (λ events thread. AllZip AnswersEvent events thread.items) passed answers item played before.answered (rw (← events) c.in_ok-played.ensures.answered));
-      walks = Walks-push (λ thread. flat_map (receipts_of c.args.images.now) thread.items) _ _ _ answers played before.walks c.in_ok-played.ensures.walks;
+      calls = Chain-push PlainStep (λ thread. flat_map (receipts_of c.args.images.now) thread.items) _ _ _ answers played before.calls c.in_ok-played.ensures.calls;
       played = All-push (λ thread. IsPlayedThread thread.items) answers played before.played c.in_ok-played.ensures.played;
-      room = (let room = before.room in let more = c.in_ok-played.ensures.room in omega arith);
+      left = (let left = before.left in let more = c.in_ok-played.ensures.left in omega arith);
     })
 
 pub returns-clause-played : goal.returns-clause-played

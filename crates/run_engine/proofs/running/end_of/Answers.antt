@@ -6,7 +6,6 @@ use Rattle.event_script.specs.Text.{journal_text}
 use Rattle.run_engine.specs.Outcome.{limit}
 use Rattle.run_engine.specs.declared.status.Status.TheVariants as status
 use Rattle.run_engine.proofs.Endings.{ends_concluded}
-use Rattle.run_engine.proofs.Played.{played_unfilled}
 use Rattle.run_engine.proofs.Pieces.{Hands-longer, IfSome-same}
 use Rattle.run_engine.proofs.running.end_of.Goals as goal
 
@@ -49,7 +48,7 @@ returns-in-Err-Failed-write_journal-clause-ends g c =
             journal = c.in-Ok-play.journal;
             spelled = IfSome-same _ bytes.items P (c.in-Ok.ensures.all within) (short, rw (← c.deref.ensures.value) c.in-Ok-read.ensures.ok);
             lawful = c.in-Ok-play.ensures.lawful;
-            unfilled = played_unfilled _ c.in-Ok-play.ensures.played;
+            unfilled = c.in-Ok-play.ensures.unfilled;
             text_is = refl;
           },
         ),
@@ -73,7 +72,7 @@ returns-clause-ends g c =
           journal = c.in-Ok-play.journal;
           spelled = IfSome-same _ bytes.items P (c.in-Ok.ensures.all within) (short, rw (← c.deref.ensures.value) c.in-Ok-read.ensures.ok);
           lawful = c.in-Ok-play.ensures.lawful;
-          unfilled = played_unfilled _ c.in-Ok-play.ensures.played;
+          unfilled = c.in-Ok-play.ensures.unfilled;
           text_is = refl;
         },
       ),

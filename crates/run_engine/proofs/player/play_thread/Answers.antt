@@ -2,11 +2,11 @@ use Rattle.std.proofs.Common.{arith}
 use Rattle.std.proofs.lemmas.List.{take_more}
 use Rattle.std.proofs.lemmas.List.Elements.{All-push}
 use Rattle.event_script.specs.Lawful.{AnswersEvent, receipts_of}
+use Rattle.event_script.specs.Text.{IsPrintable}
 use Rattle.event_script.specs.declared.script.Event.TheVariants.{Register}
-use Rattle.run_engine.specs.Played.{IsPlain}
 use Rattle.run_engine.proofs.Lists.{AllZip-more, AllZip-front}
-use Rattle.run_engine.proofs.Walks.{Walks-push}
-use Rattle.run_engine.proofs.play.play_thread.Goals as goal
+use Rattle.run_engine.proofs.Chains.{Chain-push}
+use Rattle.run_engine.proofs.player.play_thread.Goals as goal
 
 pub loop-index-preserved : goal.loop-index-preserved
 loop-index-preserved g c =
@@ -15,12 +15,12 @@ loop-index-preserved g c =
     let before = c.loop-index.invariant in
     rw c.in_ok-push.ensures.items (record {
       answered = rw (take_more c.args.events.now c.loop-index.index (Register 0) c.loop-index-test.true) (AllZip-more AnswersEvent _ answers _ answer before.answered c.in_ok-answer.ensures.answered);
-      walks = Walks-push (receipts_of c.args.images.now) _ _ _ answers answer before.walks c.in_ok-answer.ensures.walks;
-      plain = All-push IsPlain answers answer before.plain c.in_ok-answer.ensures.plain;
-      room = (let room = before.room in let more = c.in_ok-answer.ensures.room in omega arith);
+      calls = Chain-push g.P.Player.step (receipts_of c.args.images.now) _ _ _ answers answer before.calls c.in_ok-answer.ensures.calls;
+      printable = All-push IsPrintable answers answer before.printable c.in_ok-answer.ensures.printable;
+      left = (let left = before.left in let more = c.in_ok-answer.ensures.left in omega arith);
     })
 
 pub returns-clause-played : goal.returns-clause-played
 returns-clause-played g c =
     let count = AllZip-front AnswersEvent c.loop-index.index c.args.events.now c.loop-index.answers.items c.loop-index.invariant.answered in
-    (let few = c.requires.thread.0 in omega arith, c.loop-index.invariant.plain)
+    (let few = c.requires.thread.0 in omega arith, c.loop-index.invariant.printable)
