@@ -5,3 +5,5 @@ pub mod Exact
 pub mod Wholes
 pub mod Steps
 pub mod Fields
+pub mod Pointers
+pub mod Places

@@ -190,3 +190,14 @@ no_refusal {F} {S} {X} one r s [] t f sound some a e = omega (arith, ap length a
 no_refusal {F} {S} {X} one r s (y ∷ ys) t f sound some a e =
     let first : (one s).read r ≡ Ok ((y, a.0), left (r.at + length a.1) a.2) = ap (λ (l : List ℕ). (one s).read (left r.at l)) a.3 ∙ (sound.exact s).again r.at a.1 a.2 (y, a.0) a.4 in
     let both = sym first ∙ e in cc
+
+-- the bytes spell one list of steps
+pub steps_unique : {F S X : Type 0} (one : S → Part F (X × S)) (p : ℕ) (s : S) (text : List ℕ) (xs : List X) (t : S) (ys : List X) (u : S) → AreSound one
+    → AreSteps one p s text xs t → AreSteps one p s text ys u → xs ≡ ys
+steps_unique {F} {S} {X} one p s text [] t ys u sound a b = sym (no_steps one p s text ys u sound b (omega (arith, ap length a.0)))
+steps_unique {F} {S} {X} one p s text (x ∷ xs) t ys u sound a b =
+    let grown = sound.grows s p a.1 (x, a.0) a.4 in
+    let some : 0 < length text = omega (arith, grown, ap length a.3, length-append a.1 a.2) in
+    let first : (one s).read (left p text) ≡ Ok ((x, a.0), left (p + length a.1) a.2) = ap (λ (l : List ℕ). (one s).read (left p l)) a.3 ∙ (sound.exact s).again p a.1 a.2 (x, a.0) a.4 in
+    let n = next_step one (left p text) s ys u x a.0 (left (p + length a.1) a.2) sound some b first in
+    ap (λ (l : List X). x ∷ l) (steps_unique one (p + length a.1) a.0 a.2 xs t n.0 u sound a.5 n.2) ∙ sym n.1

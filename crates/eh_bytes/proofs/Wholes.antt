@@ -4,7 +4,7 @@ use Rattle.std.proofs.lemmas.Bool.{ltb-false, ltb-true, le-ltb, lt-ltb}
 use Rattle.std.proofs.lemmas.List.{append-nil, take-append-drop, take_at, drop_at, length-take}
 use Rattle.eh_bytes.specs.Rest.{Rest, skipped}
 use Rattle.eh_bytes.specs.Results.{◌and_then◌}
-use Rattle.eh_bytes.specs.Grammar.{Part, ◌>>=◌, give, when, lift, filled, with_rest, ended}
+use Rattle.eh_bytes.specs.Grammar.{Part, ◌>>=◌, give, when, lift, filled, with_rest, ended, bytes_of}
 use Rattle.eh_bytes.proofs.Results.{ok_is, bind_ok, bind_err, with_fault_ok, with_fault_err, cond_err, cond_errs, guarded}
 use Rattle.eh_bytes.proofs.Exact.{left, Takes, IsExact}
 
@@ -143,6 +143,23 @@ ended_whole {F} {A} {B} g test eg = record {
         | inl stopped ↦ rw (eg.refused p bytes f stopped) refl
         | inr a ↦ rw (eg.again p bytes a.0 a.1, a.2) refl
       ];
+}
+
+pub bytes_of_whole : {F A : Type 0} (g : Part F A) → IsWhole g → IsWhole (bytes_of g)
+bytes_of_whole {F} {A} g eg = record {
+  takes = λ r y behind e.
+      let a = bind_ok (g.read r) (λ x. Ok (r.bytes, x.1)) (y, behind) e in
+      let t = eg.takes r a.0.0 a.0.1 a.1 in
+      let same : (r.bytes, a.0.1) ≡ (y, behind) = ok_is {F = F} (r.bytes, a.0.1) (y, behind) a.2 in
+      let made : TakesAll (bytes_of g) r r.bytes a.0.1 = record { nothing = t.nothing; spells = ((a.0.0, t.spells), refl) } in
+      subst (λ (z : List ℕ × Rest). TakesAll (bytes_of g) r z.0 z.1) same made;
+  refuses = λ r f e.
+      elim (bind_err (g.read r) (λ x. Ok (r.bytes, x.1)) f e) [
+        | inl stopped ↦ eg.refuses r f stopped
+        | inr a ↦ absurd (let never = a.2 in cc)
+      ];
+  again = λ p text y s. rw (eg.again p text s.0.0 s.0.1) (ap (λ (bs : List ℕ). Ok (bs, left (p + length text) [])) s.1);
+  refused = λ p bytes f s. rw (eg.refused p bytes f s) refl;
 }
 
 -- data that a whole part fills

@@ -1,12 +1,13 @@
 -- The parts that are read at once, as DWARF 5 (section 7.6) spells them: numbers of fixed width, LEB128
 -- numbers and texts.
 use Rattle.std.specs.Prelude.{◌≡◌, ℕ, ◌^◌, ◌<◌, ◌≤◌, ◌⊎◌, ℤ, List, [], ◌∷◌, ◌++◌, length, true, false, None}
+use Rattle.std.specs.Int.{Width, w8, w16, w32, w64, w128, cast_signed}
 use Rattle.byteorder.specs.Endian.{little_number}
 use Rattle.eh_bytes.specs.declared.fault.ByteFault.{ByteFault}
 use Rattle.eh_bytes.specs.declared.fault.ByteFault.TheVariants.{Short, TooWide}
 use Rattle.eh_bytes.specs.Rest.{fixed_at, text_len, text_at}
 use Rattle.eh_bytes.specs.Leb.{IsLeb, leb_len, uleb_value, sleb_value, fits_signed, uleb_at, sleb_at}
-use Rattle.eh_bytes.specs.Grammar.{Part}
+use Rattle.eh_bytes.specs.Grammar.{Part, ◌>>=◌, give}
 
 -- a number of n bytes, the lowest first
 abbrev pub fixed : ℕ → Part ByteFault ℕ
@@ -15,6 +16,17 @@ fixed n = record {
   Refuses = λ p bytes f. (length bytes < n) × (f ≡ Short p);
   read = fixed_at n;
 }
+
+abbrev pub bytes_in : Width → ℕ
+bytes_in w8 = 1
+bytes_in w16 = 2
+bytes_in w32 = 4
+bytes_in w64 = 8
+bytes_in w128 = 16
+
+-- a signed number of a width, in two's complement
+abbrev pub signed_fixed : Width → Part ByteFault ℤ
+signed_fixed w = fixed (bytes_in w) >>= λ x. give (cast_signed w x)
 
 -- an unsigned LEB128 number
 abbrev pub uleb : Part ByteFault ℕ

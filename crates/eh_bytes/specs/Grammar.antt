@@ -120,3 +120,11 @@ ended {F} {A} g test = record {
       ⊎ ((x : A) × g.Spells p bytes x × (test (p + length bytes) x ≡ Err f));
   read = λ r. g.read r and_then λ x. with_rest (test x.1.at x.0) x.1;
 }
+
+-- a part that takes all bytes, which stands for these bytes
+abbrev pub bytes_of : {F A : Type 0} → Part F A → Part F (List ℕ)
+bytes_of {F} {A} g = record {
+  Spells = λ p text y. ((x : A) × g.Spells p text x) × (text ≡ y);
+  Refuses = g.Refuses;
+  read = λ r. g.read r and_then λ x. Ok (r.bytes, x.1);
+}

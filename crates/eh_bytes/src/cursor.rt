@@ -2,9 +2,15 @@
 
 ghost use Rattle.std.specs.Prelude.{◌≡◌, ◌≤◌, ◌<◌, length, slice_range, IfSome};
 ghost use Rattle.eh_bytes.specs.Rest.{Rest, Reads, text_len, bytes_at, part_at, text_at, fixed_at};
+ghost use Rattle.eh_bytes.specs.Fields.{signed_fixed};
+ghost use Rattle.std.specs.Int.{w8, w16, w32};
 ghost use Rattle.eh_bytes.specs.Leb.{uleb_at, sleb_at};
-ghost use Rattle.eh_bytes.specs.Pointer.{number_at, pointer_at, is_pointer, extended};
+ghost use Rattle.eh_bytes.specs.Pointer.{by_format, encoded_number, encoded_pointer};
 
+use crate::encoding::{
+    DW_EH_PE_pcrel, DW_EH_PE_sdata2, DW_EH_PE_sdata4, DW_EH_PE_sleb128, DW_EH_PE_udata2,
+    DW_EH_PE_udata4, DW_EH_PE_uleb128, application_of, is_format, is_pointer,
+};
 use crate::fault::ByteFault;
 use crate::leb::{leb_length, signed_digit, sleb_number, uleb_number};
 use byteorder::{ByteOrder, LittleEndian};
@@ -152,6 +158,27 @@ impl<'a> Cursor<'a> {
         Ok(number)
     }
 
+    /// A byte with a sign.
+    pub fn i8(&mut self) -> Result<i8, ByteFault>
+        ensures { Reads (λ x. x) (signed_fixed w8).read self.old result self.new }
+    {
+        Ok(self.u8()?.cast_signed())
+    }
+
+    /// Two bytes with a sign, the lowest first.
+    pub fn i16(&mut self) -> Result<i16, ByteFault>
+        ensures { Reads (λ x. x) (signed_fixed w16).read self.old result self.new }
+    {
+        Ok(self.u16()?.cast_signed())
+    }
+
+    /// Four bytes with a sign, the lowest first.
+    pub fn i32(&mut self) -> Result<i32, ByteFault>
+        ensures { Reads (λ x. x) (signed_fixed w32).read self.old result self.new }
+    {
+        Ok(self.u32()?.cast_signed())
+    }
+
     /// An unsigned LEB128 number of any length. One of a byte or two is read in place.
     #[inline(always)]
     pub fn uleb(&mut self) -> Result<u64, ByteFault>
@@ -241,33 +268,47 @@ impl<'a> Cursor<'a> {
         }
     }
 
-    /// A number of a pointer's format, modulo 2^64.
-    #[tactic(auto, unfolding(crate::specs::Pointer::number_at))]
-    fn number(&mut self, format: u8) -> Result<u64, ByteFault>
-        ensures { Reads (λ x. x) (number_at format) self.old result self.new }
+    /// The number of a format, modulo 2^64.
+    fn by_format(&mut self, format: u8) -> Result<u64, ByteFault>
+        ensures { Reads (λ x. x) (by_format format).read self.old result self.new }
     {
         match format {
-            1 => self.uleb(),
-            2 => Ok(self.u16()? as u64),
-            3 => Ok(self.u32()? as u64),
-            9 => Ok(self.sleb()?.cast_unsigned()),
-            10 => Ok(extended_u16(self.u16()?)),
-            11 => Ok(extended_u32(self.u32()?)),
+            DW_EH_PE_uleb128 => self.uleb(),
+            DW_EH_PE_udata2 => Ok(u64::from(self.u16()?)),
+            DW_EH_PE_udata4 => Ok(u64::from(self.u32()?)),
+            DW_EH_PE_sleb128 => Ok(self.sleb()?.cast_unsigned()),
+            DW_EH_PE_sdata2 => Ok(i64::from(self.i16()?).cast_unsigned()),
+            DW_EH_PE_sdata4 => Ok(i64::from(self.i32()?).cast_unsigned()),
             _ => self.u64(),
         }
     }
 
+    /// The number of an encoding, to which nothing is added.
+    #[tactic(auto, unfolding(crate::specs::Pointer::encoded_number))]
+    pub fn number(&mut self, encoding: u8) -> Result<u64, ByteFault>
+        ensures { Reads (λ x. x) (encoded_number encoding).read self.old result self.new }
+    {
+        let format = encoding % 16;
+        if !is_format(format) {
+            return Err(ByteFault::Encoding {
+                at: self.at(),
+                byte: encoding,
+            });
+        }
+        self.by_format(format)
+    }
+
     /// A pointer in this encoding, in a section at this address. Nothing is read through it.
-    #[tactic(auto, unfolding(crate::specs::Pointer::pointer_at))]
+    #[tactic(auto, unfolding(crate::specs::Pointer::encoded_pointer))]
     pub fn pointer(&mut self, encoding: u8, section: u64) -> Result<u64, ByteFault>
-        ensures { Reads (λ x. x) (pointer_at encoding section) self.old result self.new }
+        ensures { Reads (λ x. x) (encoded_pointer encoding section).read self.old result self.new }
     {
         let at = self.at();
         if !is_pointer(encoding) {
             return Err(ByteFault::Encoding { at, byte: encoding });
         }
-        let number = self.number(encoding % 16)?;
-        if encoding / 16 % 8 == 1 {
+        let number = self.by_format(encoding % 16)?;
+        if application_of(encoding) == DW_EH_PE_pcrel {
             Ok(number.wrapping_add(section).wrapping_add(at as u64))
         } else {
             Ok(number)
@@ -286,35 +327,4 @@ fn text_length(bytes: &[u8]) -> Option<usize>
         }
     }
     None
-}
-
-/// Whether a pointer in this encoding is read: a known format, as read or with the field's address
-/// added.
-pub fn is_pointer(encoding: u8) -> bool
-    ensures { result ≡ is_pointer encoding }
-{
-    let format = encoding % 16;
-    (format < 5 || 8 < format && format < 13) && encoding / 16 % 8 < 2
-}
-
-/// The number with its sign carried on.
-fn extended_u16(number: u16) -> u64
-    ensures { result ≡ extended 2 number }
-{
-    if number < 1 << 15 {
-        number as u64
-    } else {
-        number as u64 + (u64::MAX - 0xffff)
-    }
-}
-
-/// The number with its sign carried on.
-fn extended_u32(number: u32) -> u64
-    ensures { result ≡ extended 4 number }
-{
-    if number < 1 << 31 {
-        number as u64
-    } else {
-        number as u64 + (u64::MAX - 0xffff_ffff)
-    }
 }

@@ -6,10 +6,16 @@
 #![tactic(auto)]
 
 mod cursor;
+mod encoding;
 mod fault;
 mod leb;
 
-pub use cursor::{Cursor, is_pointer};
+pub use cursor::Cursor;
+pub use encoding::{
+    DW_EH_PE_absptr, DW_EH_PE_indirect, DW_EH_PE_omit, DW_EH_PE_pcrel, DW_EH_PE_sdata2,
+    DW_EH_PE_sdata4, DW_EH_PE_sdata8, DW_EH_PE_sleb128, DW_EH_PE_udata2, DW_EH_PE_udata4,
+    DW_EH_PE_udata8, DW_EH_PE_uleb128, application_of, is_pointer,
+};
 pub use fault::ByteFault;
 
 #[cfg(test)]

@@ -1,9 +1,9 @@
 -- Regions that ascend: their ends, and where a word can stand.
 use Rattle.std.proofs.Common.{◌≡◌, ℕ, ◌-◌, ◌^◌, ◌<◌, ◌≤◌, List, [], ◌∷◌, ◌++◌, length, Bool, true, false, Option, Some, None, slice_get, get_or, cond, refl, sym, ap, subst, ◌∙◌, arith}
 use native.Mathlib.Numerals.{unary_clauses}
-use Rattle.frame_expr.specs.Regions.{RegionData, end, end_of, AreFrom, holds, word_in, word_at}
+use Rattle.frame_expr.specs.Regions.{RegionData, end, regions_end, AreFrom, holds_word, word_in, word_at}
 
-pub last_end : (rs : List RegionData) (x : RegionData) → slice_get rs (length rs - 1) ≡ Some x → end_of rs ≡ end x
+pub last_end : (rs : List RegionData) (x : RegionData) → slice_get rs (length rs - 1) ≡ Some x → regions_end rs ≡ end x
 last_end [] x e = grind (arith, e)
 last_end (r ∷ []) x e = grind (arith, e)
 last_end (r ∷ q ∷ rs) x e = last_end (q ∷ rs) x (simp unary_clauses (simp unary_clauses at e))
@@ -13,11 +13,11 @@ last_fits low [] x all e = grind (arith, e)
 last_fits low (r ∷ []) x all e = grind (arith, e, all.2)
 last_fits low (r ∷ q ∷ rs) x all e = last_fits (end r) (q ∷ rs) x all.3 (simp unary_clauses (simp unary_clauses at e))
 
-end_above : (q : RegionData) (qs : List RegionData) → AreFrom (end q) qs → end q ≤ end_of (q ∷ qs)
+end_above : (q : RegionData) (qs : List RegionData) → AreFrom (end q) qs → end q ≤ regions_end (q ∷ qs)
 end_above q [] all = omega arith
 end_above q (p ∷ ps) all = let more = end_above p ps all.3 in omega (arith, all.0, more)
 
-pub one_more : (low : ℕ) (rs : List RegionData) (r : RegionData) → AreFrom low rs → low ≤ r.address → end_of rs ≤ r.address → 0 < length r.bytes → end r < 2 ^ 64
+pub one_more : (low : ℕ) (rs : List RegionData) (r : RegionData) → AreFrom low rs → low ≤ r.address → regions_end rs ≤ r.address → 0 < length r.bytes → end r < 2 ^ 64
     → AreFrom low (rs ++ r ∷ [])
 one_more low [] r all above last some fits = (above, some, fits, tt)
 one_more low (q ∷ []) r all above last some fits = (all.0, all.1, all.2, (last, some, fits, tt))
@@ -41,13 +41,13 @@ low_first low (x ∷ xs) y ys all = let more = low_first (end x) xs y ys all.3 i
 
 -- ---- words
 
-no_hold_above : (a : ℕ) (r : RegionData) → a < r.address → holds a r ≡ false
+no_hold_above : (a : ℕ) (r : RegionData) → a < r.address → holds_word a r ≡ false
 no_hold_above a r lt = grind (arith, lt)
 
-no_hold_below : (a : ℕ) (r : RegionData) → end r ≤ a → holds a r ≡ false
+no_hold_below : (a : ℕ) (r : RegionData) → end r ≤ a → holds_word a r ≡ false
 no_hold_below a r le = grind (arith, le)
 
-unheld : (a : ℕ) (r : RegionData) (rs : List RegionData) → holds a r ≡ false → word_at a (r ∷ rs) ≡ word_at a rs
+unheld : (a : ℕ) (r : RegionData) (rs : List RegionData) → holds_word a r ≡ false → word_at a (r ∷ rs) ≡ word_at a rs
 unfolding word_at
 unheld a r rs out = rw out refl
 
@@ -74,7 +74,7 @@ unfolding word_at
 word_in_front a low [] y ys all lt =
     unheld a y ys (no_hold_above a y lt) ∙ nothing_above a (end y) ys all.3 (omega (arith, lt))
 word_in_front a low (x ∷ xs) y ys all lt =
-    same_if (holds a x) (Some (word_in a x)) (word_at a (xs ++ y ∷ ys)) (word_at a xs) (word_in_front a (end x) xs y ys all.3 lt)
+    same_if (holds_word a x) (Some (word_in a x)) (word_at a (xs ++ y ∷ ys)) (word_at a xs) (word_in_front a (end x) xs y ys all.3 lt)
 
 -- ---- halves
 
@@ -100,8 +100,8 @@ unfolding word_at
 in_none a [] lt = refl
 in_none a (y ∷ ys) lt = absurd (omega (arith, lt))
 
-pub in_the_one : (a : ℕ) (left : List RegionData) (y : RegionData) → length left ≤ 1 → 1 ≤ length left → y ≡ get_or left 0 y → cond (holds a y) (Some (word_in a y)) None ≡ word_at a left
+pub in_the_one : (a : ℕ) (left : List RegionData) (y : RegionData) → length left ≤ 1 → 1 ≤ length left → y ≡ get_or left 0 y → cond (holds_word a y) (Some (word_in a y)) None ≡ word_at a left
 unfolding word_at
 in_the_one a [] y le some is = absurd (omega (arith, some))
-in_the_one a (z ∷ []) y le some is = ap (λ (r : RegionData). cond (holds a r) (Some (word_in a r)) None) is
+in_the_one a (z ∷ []) y le some is = ap (λ (r : RegionData). cond (holds_word a r) (Some (word_in a r)) None) is
 in_the_one a (z ∷ w ∷ zs) y le some is = absurd (omega (arith, le))

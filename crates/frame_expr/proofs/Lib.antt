@@ -1,5 +1,3 @@
-mod Ascending
-mod Operands
-mod Steps
-mod Reading
-mod Going
+pub mod Ascending
+pub mod Parts
+pub mod Going

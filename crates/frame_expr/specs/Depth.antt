@@ -37,13 +37,13 @@ leaves (PlusUconst n) = 1
 leaves (Binary k) = 1
 leaves (Compare k) = 1
 
--- an operation finds its entries on a stack of this depth, and 32 at most are there behind it
-abbrev pub fits : ℕ → Operation → Bool
-fits d o = nat_le (needs o) d && nat_le (d - needs o + leaves o) 32
+-- the depth of a stack after an operation
+abbrev pub depth_after : ℕ → Operation → ℕ
+depth_after d o = d - needs o + leaves o
 
--- the depth behind it
-abbrev pub behind : ℕ → Operation → ℕ
-behind d o = d - needs o + leaves o
+-- an operation finds its entries on a stack of this depth, and 32 at most are there after it
+abbrev pub fits : ℕ → Operation → Bool
+fits d o = nat_le (needs o) d && nat_le (depth_after d o) 32
 
 -- what an operation needs depends on its operand
 abbrev pub is_pick : Operation → Bool

@@ -1,11 +1,13 @@
 -- The operations of expressions and how they are written, after DWARF 5, sections 2.5.1 and 7.7.1.
-use Rattle.std.specs.Prelude.{◌≡◌, ℕ, ◌-◌, List, ◌∷◌, Bool, true, false, Option, Some, None, Result, Ok, nat_lt, ◌==◌, if◌then◌else◌}
-use Rattle.std.specs.Int.{w64, cast_unsigned}
+use Rattle.std.specs.Prelude.{ℕ, ◌-◌, ℤ, Bool, true, false, Option, Some, None, nat_lt, nat_le, ◌==◌, if◌then◌else◌}
+use Rattle.std.specs.Int.{w8, w16, w32, w64, cast_unsigned}
 use Rattle.eh_bytes.specs.declared.fault.ByteFault.{ByteFault}
-use Rattle.eh_bytes.specs.Rest.{Rest, fixed_at, skipped}
-use Rattle.eh_bytes.specs.Results.{◌and_then◌}
-use Rattle.eh_bytes.specs.Leb.{uleb_at, sleb_at}
-use Rattle.eh_bytes.specs.Pointer.{extended}
+use Rattle.eh_bytes.specs.Grammar.{Part, ◌>>=◌, give}
+use Rattle.eh_bytes.specs.Fields.{fixed, signed_fixed, uleb, sleb}
+use Rattle.frame_expr.specs.declared.opcode.TheConstants.{DW_OP_addr, DW_OP_deref, DW_OP_const1u, DW_OP_const1s, DW_OP_const2u, DW_OP_const2s, DW_OP_const4u, DW_OP_const4s, DW_OP_const8u, DW_OP_const8s, DW_OP_constu, DW_OP_consts}
+use Rattle.frame_expr.specs.declared.opcode.TheConstants.{DW_OP_dup, DW_OP_drop, DW_OP_over, DW_OP_pick, DW_OP_swap, DW_OP_rot, DW_OP_abs, DW_OP_and, DW_OP_minus, DW_OP_mul, DW_OP_neg}
+use Rattle.frame_expr.specs.declared.opcode.TheConstants.{DW_OP_not, DW_OP_or, DW_OP_plus, DW_OP_plus_uconst, DW_OP_shl, DW_OP_shr, DW_OP_shra, DW_OP_xor, DW_OP_bra, DW_OP_eq, DW_OP_ge, DW_OP_gt, DW_OP_le}
+use Rattle.frame_expr.specs.declared.opcode.TheConstants.{DW_OP_lt, DW_OP_ne, DW_OP_lit0, DW_OP_reg0, DW_OP_breg0, DW_OP_breg16, DW_OP_nop}
 use Rattle.frame_expr.specs.declared.operation.Operand.{Operand}
 use Rattle.frame_expr.specs.declared.operation.Operand.TheVariants.{Absent, U8, U16, U32, U64, I8, I16, I32, I64, Uleb, Sleb}
 use Rattle.frame_expr.specs.declared.operation.Operation.{Operation}
@@ -21,88 +23,92 @@ abbrev pub code : Operand → Operation → Option Code
 code form o = Some (record { operand = form; operation = o })
 
 -- an operation without an operand
-abbrev pub plain : Operation → Option Code
-plain o = code Absent o
+abbrev pub alone : Operation → Option Code
+alone o = code Absent o
 
--- 03 to 11: constants, and deref
+-- constants, and deref
 unfoldable pub constant_code : ℕ → Option Code
 constant_code b =
-    if b == 3 then code U64 (Constant 0)
-    else if b == 6 then plain Deref
-    else if b == 8 then code U8 (Constant 0)
-    else if b == 9 then code I8 (Constant 0)
-    else if b == 10 then code U16 (Constant 0)
-    else if b == 11 then code I16 (Constant 0)
-    else if b == 12 then code U32 (Constant 0)
-    else if b == 13 then code I32 (Constant 0)
-    else if b == 14 then code U64 (Constant 0)
-    else if b == 15 then code I64 (Constant 0)
-    else if b == 16 then code Uleb (Constant 0)
-    else if b == 17 then code Sleb (Constant 0)
+    if b == DW_OP_addr then code U64 (Constant 0)
+    else if b == DW_OP_deref then alone Deref
+    else if b == DW_OP_const1u then code U8 (Constant 0)
+    else if b == DW_OP_const1s then code I8 (Constant 0)
+    else if b == DW_OP_const2u then code U16 (Constant 0)
+    else if b == DW_OP_const2s then code I16 (Constant 0)
+    else if b == DW_OP_const4u then code U32 (Constant 0)
+    else if b == DW_OP_const4s then code I32 (Constant 0)
+    else if b == DW_OP_const8u then code U64 (Constant 0)
+    else if b == DW_OP_const8s then code I64 (Constant 0)
+    else if b == DW_OP_constu then code Uleb (Constant 0)
+    else if b == DW_OP_consts then code Sleb (Constant 0)
     else None
 
--- 12 to 27: the stack, and arithmetic
+-- the stack, and arithmetic
 unfoldable pub stack_code : ℕ → Option Code
 stack_code b =
-    if b == 18 then plain Dup
-    else if b == 19 then plain Drop
-    else if b == 20 then plain Over
-    else if b == 21 then code U8 (Pick 0)
-    else if b == 22 then plain Swap
-    else if b == 23 then plain Rot
-    else if b == 25 then plain (Unary Abs)
-    else if b == 26 then plain (Binary And)
-    else if b == 28 then plain (Binary Minus)
-    else if b == 30 then plain (Binary Mul)
-    else if b == 31 then plain (Unary Neg)
-    else if b == 32 then plain (Unary Not)
-    else if b == 33 then plain (Binary Or)
-    else if b == 34 then plain (Binary Plus)
-    else if b == 35 then code Uleb (PlusUconst 0)
-    else if b == 36 then plain (Binary Shl)
-    else if b == 37 then plain (Binary Shr)
-    else if b == 38 then plain (Binary Shra)
-    else if b == 39 then plain (Binary Xor)
+    if b == DW_OP_dup then alone Dup
+    else if b == DW_OP_drop then alone Drop
+    else if b == DW_OP_over then alone Over
+    else if b == DW_OP_pick then code U8 (Pick 0)
+    else if b == DW_OP_swap then alone Swap
+    else if b == DW_OP_rot then alone Rot
+    else if b == DW_OP_abs then alone (Unary Abs)
+    else if b == DW_OP_and then alone (Binary And)
+    else if b == DW_OP_minus then alone (Binary Minus)
+    else if b == DW_OP_mul then alone (Binary Mul)
+    else if b == DW_OP_neg then alone (Unary Neg)
+    else if b == DW_OP_not then alone (Unary Not)
+    else if b == DW_OP_or then alone (Binary Or)
+    else if b == DW_OP_plus then alone (Binary Plus)
+    else if b == DW_OP_plus_uconst then code Uleb (PlusUconst 0)
+    else if b == DW_OP_shl then alone (Binary Shl)
+    else if b == DW_OP_shr then alone (Binary Shr)
+    else if b == DW_OP_shra then alone (Binary Shra)
+    else if b == DW_OP_xor then alone (Binary Xor)
     else None
 
--- 29 to 2e: comparisons
+-- comparisons
 unfoldable pub comparison_code : ℕ → Option Code
 comparison_code b =
-    if b == 41 then plain (Compare Eq)
-    else if b == 42 then plain (Compare Ge)
-    else if b == 43 then plain (Compare Gt)
-    else if b == 44 then plain (Compare Le)
-    else if b == 45 then plain (Compare Lt)
-    else if b == 46 then plain (Compare Ne)
+    if b == DW_OP_eq then alone (Compare Eq)
+    else if b == DW_OP_ge then alone (Compare Ge)
+    else if b == DW_OP_gt then alone (Compare Gt)
+    else if b == DW_OP_le then alone (Compare Le)
+    else if b == DW_OP_lt then alone (Compare Lt)
+    else if b == DW_OP_ne then alone (Compare Ne)
     else None
 
--- what an operation's byte says, where it is one: 30 to 4f are lit0 to lit31, 70 to 80 are breg0 to breg16, and 96 is nop
-unfoldable pub code_of : ℕ → Option Code
-code_of b =
-    if nat_lt b 18 then constant_code b
-    else if nat_lt b 40 then stack_code b
-    else if nat_lt b 48 then comparison_code b
-    else if nat_lt b 80 then plain (Constant (b - 48))
-    else if nat_lt b 112 then None
-    else if nat_lt b 129 then code Sleb (Breg (b - 112) 0)
-    else if b == 150 then plain Nop
+-- what an operation's byte says, where it is one
+unfoldable pub operation_code : ℕ → Option Code
+operation_code b =
+    if nat_lt b DW_OP_dup then constant_code b
+    else if nat_lt b DW_OP_bra then stack_code b
+    else if nat_lt b DW_OP_lit0 then comparison_code b
+    else if nat_lt b DW_OP_reg0 then alone (Constant (b - DW_OP_lit0))
+    else if nat_lt b DW_OP_breg0 then None
+    else if nat_le b DW_OP_breg16 then code Sleb (Breg (b - DW_OP_breg0) 0)
+    else if b == DW_OP_nop then alone Nop
     else None
 
 -- ---- operands
 
--- the number behind an operation's byte, modulo 2 ^ 64
-unfoldable pub operand_at : Operand → Rest → Result (ℕ × Rest) ByteFault
-operand_at Absent r = Ok (0, r)
-operand_at U8 r = fixed_at 1 r
-operand_at U16 r = fixed_at 2 r
-operand_at U32 r = fixed_at 4 r
-operand_at U64 r = fixed_at 8 r
-operand_at I8 r = fixed_at 1 r and_then λ x. Ok (extended 1 x.0, x.1)
-operand_at I16 r = fixed_at 2 r and_then λ x. Ok (extended 2 x.0, x.1)
-operand_at I32 r = fixed_at 4 r and_then λ x. Ok (extended 4 x.0, x.1)
-operand_at I64 r = fixed_at 8 r
-operand_at Uleb r = uleb_at r
-operand_at Sleb r = sleb_at r and_then λ x. Ok (cast_unsigned w64 x.0, x.1)
+-- a signed number modulo 2 ^ 64
+abbrev pub wrapped : Part ByteFault ℤ → Part ByteFault ℕ
+wrapped g = g >>= λ x. give (cast_unsigned w64 x)
+
+-- the number after an operation's byte, modulo 2 ^ 64
+abbrev pub operand_of : Operand → Part ByteFault ℕ
+operand_of Absent = give 0
+operand_of U8 = fixed 1
+operand_of U16 = fixed 2
+operand_of U32 = fixed 4
+operand_of U64 = fixed 8
+operand_of I8 = wrapped (signed_fixed w8)
+operand_of I16 = wrapped (signed_fixed w16)
+operand_of I32 = wrapped (signed_fixed w32)
+operand_of I64 = fixed 8
+operand_of Uleb = uleb
+operand_of Sleb = wrapped sleb
 
 abbrev pub is_absent : Operand → Bool
 is_absent Absent = true
@@ -136,13 +142,3 @@ operation_with n (Compare k) = Compare k
 
 abbrev pub with_operand : ℕ → Code → Operation
 with_operand n c = if is_absent c.operand then c.operation else operation_with n c.operation
-
--- ---- what bytes spell
-
--- an operation's byte is the next one
-abbrev pub Begins : Rest → ℕ → Type 0
-Begins r b = (bs : List ℕ) × (r.bytes ≡ b ∷ bs)
-
--- the next bytes spell an operation, and these are left behind it
-abbrev pub Spells : Rest → Operation → Rest → Type 0
-Spells r o rest = (b : ℕ) × (c : Code) × (n : ℕ) × Begins r b × (code_of b ≡ Some c) × (operand_at c.operand (skipped 1 r) ≡ Ok (n, rest)) × (o ≡ with_operand n c)

@@ -13,10 +13,10 @@ abbrev pub end : RegionData → ℕ
 end r = r.address + length r.bytes
 
 -- the first address behind all regions, where they ascend
-abbrev pub end_of : List RegionData → ℕ
-end_of [] = 0
-end_of (r ∷ []) = end r
-end_of (r ∷ q ∷ rs) = end_of (q ∷ rs)
+abbrev pub regions_end : List RegionData → ℕ
+regions_end [] = 0
+regions_end (r ∷ []) = end r
+regions_end (r ∷ q ∷ rs) = regions_end (q ∷ rs)
 
 -- The regions stand at this address or above, each with a byte at least, each behind the one before, and
 -- none reaches past the last address, 2 ^ 64 - 2.
@@ -28,8 +28,8 @@ abbrev pub AreRegions : List RegionData → Type 0
 AreRegions rs = AreFrom 0 rs
 
 -- the region holds all eight bytes at the address
-abbrev pub holds : ℕ → RegionData → Bool
-holds a r = nat_le r.address a && nat_le (a + 8) (end r)
+abbrev pub holds_word : ℕ → RegionData → Bool
+holds_word a r = nat_le r.address a && nat_le (a + 8) (end r)
 
 -- the eight bytes at the address, the lowest first
 abbrev pub word_in : ℕ → RegionData → ℕ
@@ -38,15 +38,15 @@ word_in a r = little_number 8 (drop (a - r.address) r.bytes)
 -- the same in the region that holds all eight, or nothing where none does
 unfoldable pub word_at : ℕ → List RegionData → Option ℕ
 word_at a [] = None
-word_at a (r ∷ rs) = if holds a r then Some (word_in a r) else word_at a rs
+word_at a (r ∷ rs) = if holds_word a r then Some (word_in a r) else word_at a rs
 
 -- the region can be recorded above the others
 abbrev pub Accepts : List RegionData → ℕ → List ℕ → Type 0
-Accepts rs a bytes = (0 < length bytes) × (a + length bytes < 2 ^ 64) × (end_of rs ≤ a)
+Accepts rs a bytes = (0 < length bytes) × (a + length bytes < 2 ^ 64) × (regions_end rs ≤ a)
 
 -- Why it can't: the first of these that holds. Want of memory may come in any other case.
-abbrev pub IsRefused : List RegionData → ℕ → List ℕ → RegionFault → Type 0
-IsRefused rs a bytes Empty = length bytes ≡ 0
-IsRefused rs a bytes End = (0 < length bytes) × (2 ^ 64 ≤ a + length bytes)
-IsRefused rs a bytes Order = (0 < length bytes) × (a + length bytes < 2 ^ 64) × (a < end_of rs)
-IsRefused rs a bytes NoMemory = Accepts rs a bytes
+abbrev pub IsRefusedRegion : List RegionData → ℕ → List ℕ → RegionFault → Type 0
+IsRefusedRegion rs a bytes Empty = length bytes ≡ 0
+IsRefusedRegion rs a bytes End = (0 < length bytes) × (2 ^ 64 ≤ a + length bytes)
+IsRefusedRegion rs a bytes Order = (0 < length bytes) × (a + length bytes < 2 ^ 64) × (a < regions_end rs)
+IsRefusedRegion rs a bytes NoMemory = Accepts rs a bytes

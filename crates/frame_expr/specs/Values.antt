@@ -14,6 +14,7 @@ use Rattle.frame_expr.specs.declared.operation.Binary.TheVariants.{And, Or, Xor,
 use Rattle.frame_expr.specs.declared.operation.Comparison.{Comparison}
 use Rattle.frame_expr.specs.declared.operation.Comparison.TheVariants.{Eq, Ge, Gt, Le, Lt, Ne}
 use Rattle.frame_expr.specs.declared.fault.NoBytes.{NoBytes}
+use Rattle.eh_bytes.specs.Results.{◌and_then◌}
 use Rattle.frame_expr.specs.Regions.{RegionData, word_at}
 use Rattle.frame_expr.specs.Expressions.{IsExpr}
 
@@ -52,41 +53,31 @@ abbrev pub entry : ℕ → List ℕ → ℕ
 entry n s = get_or s n 0
 
 -- the stack in which the eight bytes at the top's address stand in its place
-abbrev pub loaded : ℕ → List ℕ → Option ℕ → Result (List ℕ) NoBytes
-loaded a s (Some n) = Ok (n ∷ s)
-loaded a s None = Err (record { address = a })
+abbrev pub with_loaded : ℕ → List ℕ → Option ℕ → Result (List ℕ) NoBytes
+with_loaded a s (Some n) = Ok (n ∷ s)
+with_loaded a s None = Err (record { address = a })
 
--- the stack behind an operation, from the columns and the recorded regions
-abbrev pub after : List ℕ → List RegionData → Operation → List ℕ → Result (List ℕ) NoBytes
-after columns regions Nop s = Ok s
-after columns regions (Constant n) s = Ok (n ∷ s)
-after columns regions (Breg r n) s = Ok ((get_or columns r 0 + n) % 2 ^ 64 ∷ s)
-after columns regions Deref s = loaded (entry 0 s) (drop 1 s) (word_at (entry 0 s) regions)
-after columns regions Dup s = Ok (entry 0 s ∷ s)
-after columns regions Drop s = Ok (drop 1 s)
-after columns regions Over s = Ok (entry 1 s ∷ s)
-after columns regions (Pick n) s = Ok (entry n s ∷ s)
-after columns regions Swap s = Ok (entry 1 s ∷ entry 0 s ∷ drop 2 s)
-after columns regions Rot s = Ok (entry 1 s ∷ entry 2 s ∷ entry 0 s ∷ drop 3 s)
-after columns regions (Unary u) s = Ok (unary u (entry 0 s) ∷ drop 1 s)
-after columns regions (PlusUconst n) s = Ok ((entry 0 s + n) % 2 ^ 64 ∷ drop 1 s)
-after columns regions (Binary k) s = Ok (binary k (entry 1 s) (entry 0 s) ∷ drop 2 s)
-after columns regions (Compare k) s = Ok ((if compare k (entry 1 s) (entry 0 s) then 1 else 0) ∷ drop 2 s)
+-- the stack after an operation, from the columns and the recorded regions
+abbrev pub stack_after : List ℕ → List RegionData → Operation → List ℕ → Result (List ℕ) NoBytes
+stack_after columns regions Nop s = Ok s
+stack_after columns regions (Constant n) s = Ok (n ∷ s)
+stack_after columns regions (Breg r n) s = Ok ((get_or columns r 0 + n) % 2 ^ 64 ∷ s)
+stack_after columns regions Deref s = with_loaded (entry 0 s) (drop 1 s) (word_at (entry 0 s) regions)
+stack_after columns regions Dup s = Ok (entry 0 s ∷ s)
+stack_after columns regions Drop s = Ok (drop 1 s)
+stack_after columns regions Over s = Ok (entry 1 s ∷ s)
+stack_after columns regions (Pick n) s = Ok (entry n s ∷ s)
+stack_after columns regions Swap s = Ok (entry 1 s ∷ entry 0 s ∷ drop 2 s)
+stack_after columns regions Rot s = Ok (entry 1 s ∷ entry 2 s ∷ entry 0 s ∷ drop 3 s)
+stack_after columns regions (Unary u) s = Ok (unary u (entry 0 s) ∷ drop 1 s)
+stack_after columns regions (PlusUconst n) s = Ok ((entry 0 s + n) % 2 ^ 64 ∷ drop 1 s)
+stack_after columns regions (Binary k) s = Ok (binary k (entry 1 s) (entry 0 s) ∷ drop 2 s)
+stack_after columns regions (Compare k) s = Ok ((if compare k (entry 1 s) (entry 0 s) then 1 else 0) ∷ drop 2 s)
 
--- a call left this stack, or told of this address
-abbrev pub Leaves : Result (List ℕ) NoBytes → Result (Unit {0}) NoBytes → List ℕ → Type 0
-Leaves all (Ok x) new = all ≡ Ok new
-Leaves all (Err e) new = all ≡ Err e
-
--- where the stack is there, what follows is done on it
-abbrev pub go_on : (List ℕ → Result ℕ NoBytes) → Result (List ℕ) NoBytes → Result ℕ NoBytes
-go_on f (Ok s) = f s
-go_on f (Err e) = Err e
-
--- the value of operations: the top behind all of them, or the address of the first deref that no region holds
+-- the value of operations: the top after all of them, or the address of the first deref that no region holds
 unfoldable pub value_of : List ℕ → List RegionData → List Operation → List ℕ → Result ℕ NoBytes
 value_of columns regions [] s = Ok (entry 0 s)
-value_of columns regions (o ∷ os) s = go_on (λ t. value_of columns regions os t) (after columns regions o s)
+value_of columns regions (o ∷ os) s = (stack_after columns regions o s and_then λ t. value_of columns regions os t)
 
 -- the stack at the start: empty, or one number
 abbrev pub stack_of : Option ℕ → List ℕ

@@ -1,10 +1,11 @@
 //! What an operation's byte says, and its operand.
 
-ghost use Rattle.std.specs.Prelude.{◌≡◌, ◌<◌, ◌≤◌, ◌*◌, ◌+◌, ◌-◌, ◌^◌, nat_lt, if◌then◌else◌, IfSome};
+ghost use Rattle.std.specs.Prelude.{◌≡◌};
 ghost use Rattle.eh_bytes.specs.Rest.{Reads};
 ghost use Rattle.frame_expr.specs.declared.operation.Operation.TheVariants as operations;
-ghost use Rattle.frame_expr.specs.Operations.{code, plain, constant_code, stack_code, comparison_code, code_of, operand_at, operation_with, with_operand};
+ghost use Rattle.frame_expr.specs.Operations.{code, alone, constant_code, stack_code, comparison_code, operation_code, operand_of, with_operand};
 
+use crate::opcode::*;
 use crate::operation::{Binary, Code, Comparison, Operand, Operation, Unary};
 use eh_bytes::{ByteFault, Cursor};
 
@@ -15,8 +16,8 @@ fn code(operand: Operand, operation: Operation) -> Option<Code>
 }
 
 /// An operation without an operand.
-fn plain(operation: Operation) -> Option<Code>
-    ensures { result ≡ plain operation }
+fn alone(operation: Operation) -> Option<Code>
+    ensures { result ≡ alone operation }
 {
     code(Operand::Absent, operation)
 }
@@ -28,38 +29,38 @@ fn constant_code(byte: u8) -> Option<Code>
 {
     let constant = Operation::Constant { number: 0 };
     match byte {
-        0x03 => code(Operand::U64, constant),
-        0x06 => plain(Operation::Deref),
-        0x08 => code(Operand::U8, constant),
-        0x09 => code(Operand::I8, constant),
-        0x0a => code(Operand::U16, constant),
-        0x0b => code(Operand::I16, constant),
-        0x0c => code(Operand::U32, constant),
-        0x0d => code(Operand::I32, constant),
-        0x0e => code(Operand::U64, constant),
-        0x0f => code(Operand::I64, constant),
-        0x10 => code(Operand::Uleb, constant),
-        0x11 => code(Operand::Sleb, constant),
+        DW_OP_addr => code(Operand::U64, constant),
+        DW_OP_deref => alone(Operation::Deref),
+        DW_OP_const1u => code(Operand::U8, constant),
+        DW_OP_const1s => code(Operand::I8, constant),
+        DW_OP_const2u => code(Operand::U16, constant),
+        DW_OP_const2s => code(Operand::I16, constant),
+        DW_OP_const4u => code(Operand::U32, constant),
+        DW_OP_const4s => code(Operand::I32, constant),
+        DW_OP_const8u => code(Operand::U64, constant),
+        DW_OP_const8s => code(Operand::I64, constant),
+        DW_OP_constu => code(Operand::Uleb, constant),
+        DW_OP_consts => code(Operand::Sleb, constant),
         _ => None,
     }
 }
 
 fn unary(by: Unary) -> Option<Code>
-    ensures { result ≡ plain (operations.Unary by) }
+    ensures { result ≡ alone (operations.Unary by) }
 {
-    plain(Operation::Unary { by })
+    alone(Operation::Unary { by })
 }
 
 fn binary(by: Binary) -> Option<Code>
-    ensures { result ≡ plain (operations.Binary by) }
+    ensures { result ≡ alone (operations.Binary by) }
 {
-    plain(Operation::Binary { by })
+    alone(Operation::Binary { by })
 }
 
 fn comparison(by: Comparison) -> Option<Code>
-    ensures { result ≡ plain (operations.Compare by) }
+    ensures { result ≡ alone (operations.Compare by) }
 {
-    plain(Operation::Compare { by })
+    alone(Operation::Compare { by })
 }
 
 /// The stack, and arithmetic.
@@ -68,25 +69,25 @@ fn stack_code(byte: u8) -> Option<Code>
     ensures { result ≡ stack_code byte }
 {
     match byte {
-        0x12 => plain(Operation::Dup),
-        0x13 => plain(Operation::Drop),
-        0x14 => plain(Operation::Over),
-        0x15 => code(Operand::U8, Operation::Pick { index: 0 }),
-        0x16 => plain(Operation::Swap),
-        0x17 => plain(Operation::Rot),
-        0x19 => unary(Unary::Abs),
-        0x1a => binary(Binary::And),
-        0x1c => binary(Binary::Minus),
-        0x1e => binary(Binary::Mul),
-        0x1f => unary(Unary::Neg),
-        0x20 => unary(Unary::Not),
-        0x21 => binary(Binary::Or),
-        0x22 => binary(Binary::Plus),
-        0x23 => code(Operand::Uleb, Operation::PlusUconst { number: 0 }),
-        0x24 => binary(Binary::Shl),
-        0x25 => binary(Binary::Shr),
-        0x26 => binary(Binary::Shra),
-        0x27 => binary(Binary::Xor),
+        DW_OP_dup => alone(Operation::Dup),
+        DW_OP_drop => alone(Operation::Drop),
+        DW_OP_over => alone(Operation::Over),
+        DW_OP_pick => code(Operand::U8, Operation::Pick { index: 0 }),
+        DW_OP_swap => alone(Operation::Swap),
+        DW_OP_rot => alone(Operation::Rot),
+        DW_OP_abs => unary(Unary::Abs),
+        DW_OP_and => binary(Binary::And),
+        DW_OP_minus => binary(Binary::Minus),
+        DW_OP_mul => binary(Binary::Mul),
+        DW_OP_neg => unary(Unary::Neg),
+        DW_OP_not => unary(Unary::Not),
+        DW_OP_or => binary(Binary::Or),
+        DW_OP_plus => binary(Binary::Plus),
+        DW_OP_plus_uconst => code(Operand::Uleb, Operation::PlusUconst { number: 0 }),
+        DW_OP_shl => binary(Binary::Shl),
+        DW_OP_shr => binary(Binary::Shr),
+        DW_OP_shra => binary(Binary::Shra),
+        DW_OP_xor => binary(Binary::Xor),
         _ => None,
     }
 }
@@ -97,76 +98,61 @@ fn comparison_code(byte: u8) -> Option<Code>
     ensures { result ≡ comparison_code byte }
 {
     match byte {
-        0x29 => comparison(Comparison::Eq),
-        0x2a => comparison(Comparison::Ge),
-        0x2b => comparison(Comparison::Gt),
-        0x2c => comparison(Comparison::Le),
-        0x2d => comparison(Comparison::Lt),
-        0x2e => comparison(Comparison::Ne),
+        DW_OP_eq => comparison(Comparison::Eq),
+        DW_OP_ge => comparison(Comparison::Ge),
+        DW_OP_gt => comparison(Comparison::Gt),
+        DW_OP_le => comparison(Comparison::Le),
+        DW_OP_lt => comparison(Comparison::Lt),
+        DW_OP_ne => comparison(Comparison::Ne),
         _ => None,
     }
 }
 
 /// What an operation's byte says, where it is one.
-#[tactic(auto, unfolding(crate::specs::Operations::code_of))]
-pub(crate) fn code_of(byte: u8) -> Option<Code>
-    ensures { result ≡ code_of byte }
+#[tactic(auto, unfolding(crate::specs::Operations::operation_code))]
+pub(crate) fn operation_code(byte: u8) -> Option<Code>
+    ensures { result ≡ operation_code byte }
 {
-    if byte < 0x12 {
+    if byte < DW_OP_dup {
         constant_code(byte)
-    } else if byte < 0x28 {
+    } else if byte < DW_OP_bra {
         stack_code(byte)
-    } else if byte < 0x30 {
+    } else if byte < DW_OP_lit0 {
         comparison_code(byte)
-    } else if byte < 0x50 {
-        plain(Operation::Constant {
-            number: (byte - 0x30) as u64,
+    } else if byte < DW_OP_reg0 {
+        alone(Operation::Constant {
+            number: u64::from(byte - DW_OP_lit0),
         })
-    } else if byte < 0x70 {
+    } else if byte < DW_OP_breg0 {
         None
-    } else if byte < 0x81 {
+    } else if byte <= DW_OP_breg16 {
         code(
             Operand::Sleb,
             Operation::Breg {
-                column: byte - 0x70,
+                column: byte - DW_OP_breg0,
                 offset: 0,
             },
         )
-    } else if byte == 0x96 {
-        plain(Operation::Nop)
+    } else if byte == DW_OP_nop {
+        alone(Operation::Nop)
     } else {
         None
     }
 }
 
-/// A number with its sign carried on to 64 bits. `sign` is the place value of its highest bit.
-fn extended(number: u64, sign: u64) -> u64
-    requires narrow { 0 < sign }
-    requires inside { 2 * sign < 2 ^ 64 }
-    requires fits { number < 2 * sign }
-    ensures { result ≡ (if nat_lt number sign then number else number + (2 ^ 64 - 2 * sign)) }
-{
-    if number < sign {
-        number
-    } else {
-        number + (u64::MAX - (2 * sign - 1))
-    }
-}
-
-/// The number behind an operation's byte, modulo 2^64.
-#[tactic(auto, unfolding(crate::specs::Operations::operand_at))]
+/// The number after an operation's byte, modulo 2^64.
 pub(crate) fn operand(cursor: &mut Cursor, operand: Operand) -> Result<u64, ByteFault>
-    ensures { Reads (λ x. x) (operand_at operand) cursor.old result cursor.new }
+    ensures { Reads (λ x. x) (operand_of operand).read cursor.old result cursor.new }
 {
     match operand {
         Operand::Absent => Ok(0),
-        Operand::U8 => Ok(cursor.u8()? as u64),
-        Operand::U16 => Ok(cursor.u16()? as u64),
-        Operand::U32 => Ok(cursor.u32()? as u64),
+        Operand::U8 => Ok(u64::from(cursor.u8()?)),
+        Operand::U16 => Ok(u64::from(cursor.u16()?)),
+        Operand::U32 => Ok(u64::from(cursor.u32()?)),
         Operand::U64 | Operand::I64 => cursor.u64(),
-        Operand::I8 => Ok(extended(cursor.u8()? as u64, 0x80)),
-        Operand::I16 => Ok(extended(cursor.u16()? as u64, 0x8000)),
-        Operand::I32 => Ok(extended(cursor.u32()? as u64, 0x8000_0000)),
+        Operand::I8 => Ok(i64::from(cursor.i8()?).cast_unsigned()),
+        Operand::I16 => Ok(i64::from(cursor.i16()?).cast_unsigned()),
+        Operand::I32 => Ok(i64::from(cursor.i32()?).cast_unsigned()),
         Operand::Uleb => cursor.uleb(),
         Operand::Sleb => Ok(cursor.sleb()?.cast_unsigned()),
     }

@@ -1,15 +1,15 @@
 //! The depth of the stack between operations.
 
 ghost use Rattle.std.specs.Prelude.{◌≡◌, ◌≤◌, Some, None, if◌then◌else◌};
-ghost use Rattle.frame_expr.specs.Depth.{fits, behind, is_pick};
+ghost use Rattle.frame_expr.specs.Depth.{fits, depth_after, is_pick};
 
 use crate::operation::Operation;
 
-/// The depth behind an operation, where it finds its entries and leaves 32 at most.
-pub(crate) fn behind(depth: u32, operation: &Operation) -> Option<u32>
+/// The depth after an operation, where it finds its entries and leaves 32 at most.
+pub(crate) fn depth_after(depth: u32, operation: &Operation) -> Option<u32>
     requires { depth ≤ 32 }
     ensures { result ≡ (if fits depth operation.now
-        then Some (behind depth operation.now) else None) }
+        then Some (depth_after depth operation.now) else None) }
 {
     let (needs, leaves) = match operation {
         Operation::Nop => (0, 0),

@@ -3,12 +3,14 @@
 ghost use Rattle.std.specs.Prelude.{◌≡◌, ◌<◌, ◌≤◌, length, drop, get_or, true, if◌then◌else◌};
 ghost use Rattle.frame_expr.specs.Depth.{fits};
 ghost use Rattle.frame_expr.specs.Regions.{word_at};
-ghost use Rattle.frame_expr.specs.Values.{unary, binary, compare, entry, loaded, after, Leaves, stack_of, IsValue};
+ghost use Rattle.frame_expr.specs.Values.{unary, binary, compare, entry, with_loaded, stack_after, stack_of, IsValue};
+ghost use Rattle.eh_bytes.specs.Results.{Leaves};
 
-use crate::expr::{Expr, next};
+use crate::expr::Expr;
 use crate::fault::NoBytes;
 use crate::memory::Memory;
 use crate::operation::{Binary, Comparison, Operation, Unary};
+use crate::reading::next;
 use crate::regs::Regs;
 use crate::stack::Stack;
 use eh_bytes::Cursor;
@@ -70,7 +72,7 @@ fn column_of(regs: &Regs, column: u8) -> u64
 fn load(stack: &mut Stack, memory: &Memory) -> Result<(), NoBytes>
     requires { 0 < length stack.old }
     ensures { Leaves
-        (loaded (entry 0 stack.old) (drop 1 stack.old) (word_at (entry 0 stack.old) memory.now))
+        (with_loaded (entry 0 stack.old) (drop 1 stack.old) (word_at (entry 0 stack.old) memory.now))
         result stack.new }
 {
     let address = stack.entry(0);
@@ -91,7 +93,7 @@ fn apply(
     memory: &Memory,
 ) -> Result<(), NoBytes>
     requires { fits (length stack.old) operation.now ≡ true }
-    ensures { Leaves (after regs.now.columns memory.now operation.now stack.old) result stack.new }
+    ensures { Leaves (stack_after regs.now.columns memory.now operation.now stack.old) result stack.new }
 {
     match operation {
         Operation::Nop => {}
@@ -125,14 +127,14 @@ fn apply(
 /// The value of an expression, from the registers and the recorded memory. The stack starts with the number `start`,
 /// where the expression was read for one. The only fault is that the first `deref` that fails finds no region for
 /// the eight bytes at an address. It takes no memory.
-pub fn value(
-    expr: &Expr<'_>,
+pub fn value<const DEPTH: u32>(
+    expr: &Expr<'_, DEPTH>,
     regs: &Regs,
     memory: &Memory,
     start: Option<u64>,
 ) -> Result<u64, NoBytes>
-    requires { length (stack_of start) ≡ expr.now.depth }
-    ensures { IsValue expr.now.depth expr.now.bytes regs.now.columns memory.now start result }
+    requires { length (stack_of start) ≡ DEPTH }
+    ensures { IsValue DEPTH expr.now.bytes.now regs.now.columns memory.now start result }
 {
     expr.known();
     let bytes = expr.bytes();

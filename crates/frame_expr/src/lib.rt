@@ -11,12 +11,14 @@ mod evaluate;
 mod expr;
 mod fault;
 mod memory;
+mod opcode;
 mod operation;
+mod reading;
 mod regs;
 mod stack;
 
 pub use evaluate::value;
-pub use expr::{Expr, one_answer};
+pub use expr::{CfaExpr, ColumnExpr, Expr, one_answer};
 pub use fault::{ExprFault, NoBytes};
 pub use memory::{Memory, RegionFault};
 pub use operation::{Binary, Code, Comparison, Operand, Operation, Unary};

@@ -2,7 +2,7 @@
 
 ghost use Rattle.std.specs.Prelude.{◌≡◌, ◌<◌, ◌≤◌, ◌+◌, ◌^◌, None, if◌then◌else◌, IfErr, ℕ, length, ◌++◌, ◌∷◌, [], slice_get, Some, OnOk, OnErr};
 ghost use Rattle.std.specs.Option.{option_map};
-ghost use Rattle.frame_expr.specs.Regions.{RegionData, end, holds, word_in, word_at, end_of, Accepts, IsRefused, AreRegions, AreFrom};
+ghost use Rattle.frame_expr.specs.Regions.{RegionData, end, holds_word, word_in, word_at, regions_end, Accepts, IsRefusedRegion, AreRegions, AreFrom};
 
 use byteorder::{ByteOrder, LittleEndian};
 use std::alloc::{AllocError, AllocFailed, Global};
@@ -68,7 +68,7 @@ impl Region {
     /// The eight bytes at an address as a number, where it holds all eight.
     fn word(&self, address: u64) -> Option<u64>
         requires { end self.now < 2 ^ 64 }
-        ensures { result ≡ (if holds address self.now then Some (word_in address self.now) else None) }
+        ensures { result ≡ (if holds_word address self.now then Some (word_in address self.now) else None) }
     {
         if address < self.address || self.bytes.len() < 8 {
             return None;
@@ -122,7 +122,7 @@ impl Memory {
         ensures ok { OnOk result (self.new ≡ self.old ++ record { address = address; bytes = bytes.now } ∷ []) }
         ensures accepted { OnOk result (Accepts self.old address bytes.now) }
         ensures refused { OnErr result (self.new ≡ self.old) }
-        ensures fault { IfErr result (IsRefused self.old address bytes.now) }
+        ensures fault { IfErr result (IsRefusedRegion self.old address bytes.now) }
     {
         if bytes.is_empty() {
             return Err(RegionFault::Empty);
@@ -130,7 +130,7 @@ impl Memory {
         if bytes.len() as u64 > u64::MAX - address {
             return Err(RegionFault::End);
         }
-        if address < end_of(&self.regions) {
+        if address < regions_end(&self.regions) {
             return Err(RegionFault::Order);
         }
         let bytes = Vec::from_slice(self.alloc, bytes)?;
@@ -171,9 +171,9 @@ impl Memory {
 }
 
 /// The first address behind the last region, or 0.
-fn end_of(regions: &[Region]) -> u64
+fn regions_end(regions: &[Region]) -> u64
     requires { AreRegions regions.now }
-    ensures { result ≡ end_of regions.now }
+    ensures { result ≡ regions_end regions.now }
 {
     match regions.last() {
         None => 0,

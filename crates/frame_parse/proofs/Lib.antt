@@ -1,5 +1,4 @@
 pub mod RecordParts
-pub mod Numbers
 pub mod Searches
 pub mod OneAnswer
 pub mod SoFar

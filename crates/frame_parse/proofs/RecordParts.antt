@@ -1,45 +1,28 @@
 -- The fields, records and their lengths are exact, part by part.
 use Rattle.std.proofs.Common.{ℕ, ◌+◌, ◌%◌, ◌^◌, List, [], ◌∷◌, Bool, None, nat_lt}
 use Rattle.std.specs.Prelude.{◌==◌, ◌||◌, ◌&&◌, not}
-use Rattle.eh_bytes.specs.Pointer.{is_format}
 use Rattle.frame_parse.specs.declared.fault.RecordFault.TheVariants.{Short, TooWide, Encoding, NoCie, Version, Column, Range}
 use Rattle.frame_parse.specs.declared.fault.RecordFault.TheVariants as faults
 use Rattle.frame_parse.specs.declared.records.augmentation.Augmentation.{Augmentation}
 use Rattle.frame_parse.specs.declared.records.CieRecord.{CieRecord}
-use Rattle.frame_parse.specs.Fields.{field_fault, field, by_format, number, is_negative, pointer, optional_pointer, is_code_encoding, is_data_encoding, encoding}
+use Rattle.frame_parse.specs.Fields.{field_fault, field, is_negative, pointer, optional_pointer, is_code_encoding, is_data_encoding, encoding}
 use Rattle.frame_parse.specs.Records.{is_augmentation, plain, letter, letters, augmentation_data, version, augmentation, return_column, cie, range, lsda, fde}
 use Rattle.eh_bytes.specs.declared.fault.ByteFault.{ByteFault}
 use Rattle.eh_bytes.specs.Grammar.{Part}
 use Rattle.eh_bytes.proofs.Exact.{IsExact, lift_exact, then_exact, give_exact, here_exact, when_exact, check_exact, block_exact}
+use Rattle.eh_bytes.proofs.Pointers.{encoded_number_exact}
 use Rattle.eh_bytes.proofs.Fields.{fixed_exact, uleb_exact, sleb_exact, text_exact}
 
 pub field_exact : {A : Type 0} (g : Part ByteFault A) → IsExact g → IsExact (field g)
 field_exact g eg = lift_exact field_fault g eg
 
-by_format_exact : (f : ℕ) → IsExact (by_format f)
-by_format_exact f =
-    when_exact _ _ _ (field_exact _ uleb_exact)
-    (when_exact _ _ _ (field_exact _ (fixed_exact 2))
-    (when_exact _ _ _ (field_exact _ (fixed_exact 4))
-    (when_exact _ _ _ (then_exact _ _ (field_exact _ sleb_exact) (λ x. give_exact _))
-    (when_exact _ _ _ (then_exact _ _ (field_exact _ (fixed_exact 2)) (λ x. give_exact _))
-    (when_exact _ _ _ (then_exact _ _ (field_exact _ (fixed_exact 4)) (λ x. give_exact _))
-    (field_exact _ (fixed_exact 8)))))))
-
-pub number_exact : (e : ℕ) → IsExact (number e)
-unfolding number
-number_exact e =
-    then_exact _ _ here_exact (λ at.
-    then_exact _ _ (check_exact (is_format (e % 16)) (Encoding at (e % 16))) (λ _.
-    then_exact _ _ (by_format_exact (e % 16)) (λ x. give_exact _)))
-
 pub pointer_exact : (section e : ℕ) → IsExact (pointer section e)
 unfolding pointer
-pointer_exact section e = then_exact _ _ here_exact (λ at. then_exact _ _ (number_exact e) (λ x. give_exact _))
+pointer_exact section e = then_exact _ _ here_exact (λ at. then_exact _ _ (field_exact _ (encoded_number_exact e)) (λ x. give_exact _))
 
 pub optional_pointer_exact : (section e : ℕ) → IsExact (optional_pointer section e)
 unfolding optional_pointer
-optional_pointer_exact section e = then_exact _ _ here_exact (λ at. then_exact _ _ (number_exact e) (λ x. give_exact _))
+optional_pointer_exact section e = then_exact _ _ here_exact (λ at. then_exact _ _ (field_exact _ (encoded_number_exact e)) (λ x. give_exact _))
 
 pub encoding_exact : (accepts : ℕ → Bool) → IsExact (encoding accepts)
 unfolding encoding
@@ -108,7 +91,7 @@ range_exact : (e first : ℕ) → IsExact (range e first)
 unfolding range
 range_exact e first =
     then_exact _ _ here_exact (λ at.
-    then_exact _ _ (number_exact e) (λ x.
+    then_exact _ _ (field_exact _ (encoded_number_exact e)) (λ x.
     then_exact _ _ (check_exact (not (is_negative e x) && nat_lt (first + x) (2 ^ 64)) (Range at)) (λ _. give_exact x)))
 
 lsda_exact : (section : ℕ) (c : CieRecord) → IsExact (lsda section c)

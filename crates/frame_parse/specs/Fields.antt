@@ -1,13 +1,12 @@
 -- The fields of records: numbers, texts and pointers, as DWARF 5 (section 7.6) and the LSB spell them.
 use Rattle.std.specs.Prelude.{ℕ, ◌+◌, ◌-◌, ◌%◌, ◌^◌, Bool, Option, Some, None, nat_lt, ◌==◌, ◌||◌, ◌&&◌, if◌then◌else◌}
-use Rattle.std.specs.Int.{w64, cast_unsigned}
 use Rattle.eh_bytes.specs.declared.fault.ByteFault.{ByteFault}
 use Rattle.eh_bytes.specs.declared.fault.ByteFault.TheVariants as bytes
-use Rattle.eh_bytes.specs.Fields.{fixed, uleb, sleb}
-use Rattle.eh_bytes.specs.Pointer.{is_format, is_pointer, extended, base_of}
+use Rattle.eh_bytes.specs.Fields.{fixed}
+use Rattle.eh_bytes.specs.Pointer.{is_pointer, encoded_number, base_of}
 use Rattle.frame_parse.specs.declared.fault.RecordFault.{RecordFault}
 use Rattle.frame_parse.specs.declared.fault.RecordFault.TheVariants.{Short, TooWide, Encoding}
-use Rattle.eh_bytes.specs.Grammar.{Part, ◌>>=◌, give, here, when, check, lift}
+use Rattle.eh_bytes.specs.Grammar.{Part, ◌>>=◌, give, here, check, lift}
 
 -- a field's fault as the record's
 abbrev pub field_fault : ByteFault → RecordFault
@@ -19,25 +18,6 @@ field_fault (bytes.Encoding at byte) = Encoding at byte
 abbrev pub field : {A : Type 0} → Part ByteFault A → Part RecordFault A
 field g = lift field_fault g
 
--- the number of a pointer's format
-abbrev pub by_format : ℕ → Part RecordFault ℕ
-by_format f =
-    when (f == 1) (field uleb)
-    (when (f == 2) (field (fixed 2))
-    (when (f == 3) (field (fixed 4))
-    (when (f == 9) (field sleb >>= λ x. give (cast_unsigned w64 x))
-    (when (f == 10) (field (fixed 2) >>= λ x. give (extended 2 x))
-    (when (f == 11) (field (fixed 4) >>= λ x. give (extended 4 x))
-    (field (fixed 8)))))))
-
--- the number of an encoding as it is read, modulo 2 ^ 64: the low four bits are its format
-unfoldable pub number : ℕ → Part RecordFault ℕ
-number e = do
-  at ← here
-  _ ← check (is_format (e % 16)) (Encoding at (e % 16))
-  x ← by_format (e % 16)
-  give (x % 2 ^ 64)
-
 -- the number of an encoding is negative: it has the sign of a signed format
 abbrev pub is_negative : ℕ → ℕ → Bool
 is_negative e x = nat_lt 8 (e % 16) && nat_lt (2 ^ 63 - 1) x
@@ -46,14 +26,14 @@ is_negative e x = nat_lt 8 (e % 16) && nat_lt (2 ^ 63 - 1) x
 unfoldable pub pointer : ℕ → ℕ → Part RecordFault ℕ
 pointer section e = do
   at ← here
-  x ← number e
+  x ← field (encoded_number e)
   give ((x + base_of e section at) % 2 ^ 64)
 
 -- a pointer that is absent where its number is 0 before anything is added
 unfoldable pub optional_pointer : ℕ → ℕ → Part RecordFault (Option ℕ)
 optional_pointer section e = do
   at ← here
-  x ← number e
+  x ← field (encoded_number e)
   give (if x == 0 then None else Some ((x + base_of e section at) % 2 ^ 64))
 
 -- the encodings of code: a format, with nothing or the field's address added

@@ -15,7 +15,8 @@ use Rattle.frame_parse.specs.declared.records.Record.TheVariants.{Cie, Fde}
 use Rattle.eh_bytes.specs.Grammar.{Part, ◌>>=◌, give, here, when, check, found, block, filled, lift}
 use Rattle.frame_parse.specs.Programs.{step, context_of, initial_state, first_state}
 use Rattle.eh_bytes.specs.Steps.{steps_from}
-use Rattle.frame_parse.specs.Fields.{field, number, is_negative, pointer, optional_pointer, is_code_encoding, is_data_encoding, encoding}
+use Rattle.frame_parse.specs.Fields.{field, is_negative, pointer, optional_pointer, is_code_encoding, is_data_encoding, encoding}
+use Rattle.eh_bytes.specs.Pointer.{encoded_number}
 use Rattle.eh_bytes.specs.Fields.{fixed, uleb, sleb, text}
 
 -- a fault inside a record, with the place where the record begins
@@ -131,7 +132,7 @@ cie_behind earlier at distance = if nat_lt at distance then None else cie_from e
 unfoldable pub range : ℕ → ℕ → Part RecordFault ℕ
 range e first = do
   at ← here
-  x ← number e
+  x ← field (encoded_number e)
   _ ← check (not (is_negative e x) && nat_lt (first + x) (2 ^ 64)) (Range at)
   give x
 

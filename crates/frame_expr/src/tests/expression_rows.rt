@@ -98,7 +98,7 @@ fn values(rt: HostRuntime) {
     let word = [0x88, 0x77, 0x66, 0x55, 0x44, 0x33, 0x22, 0x11];
     assert_eq!(rt; memory.push_region(0x7000, &word), Ok(()));
     for (bytes, result) in VALUES {
-        match Expr::read(bytes, 1) {
+        match ColumnExpr::read(bytes) {
             Ok(expr) => assert_eq!(rt; value(&expr, &regs, &memory, Some(5)), result),
             Err(_) => assert!(rt; false),
         }
@@ -110,11 +110,11 @@ fn values(rt: HostRuntime) {
 fn value_from_nothing(rt: HostRuntime) {
     let regs = Regs { columns: [9; 17] };
     let memory = Memory::new(rt.alloc());
-    match Expr::read(&[0x30, 0x7f, 0x01, 0x22], 0) {
+    match CfaExpr::read(&[0x30, 0x7f, 0x01, 0x22]) {
         Ok(expr) => {
             assert_eq!(rt; value(&expr, &regs, &memory, None), Ok(10));
-            assert_eq!(rt; value(&expr.again(), &regs, &memory, None), Ok(10));
-            assert_eq!(rt; expr.depth(), 0);
+            let again = expr;
+            assert_eq!(rt; value(&again, &regs, &memory, None), Ok(10));
             assert_eq!(rt; expr.bytes().len(), 4);
         }
         Err(_) => assert!(rt; false),
@@ -188,12 +188,16 @@ const FAULTS: [(&[u8], u32, ExprFault); 19] = [
     (&[0x18], 1, ExprFault::Operation { at: 0, byte: 0x18 }),
 ];
 
+fn fault_of(bytes: &[u8], depth: u32) -> Option<ExprFault> {
+    match depth {
+        0 => CfaExpr::read(bytes).err(),
+        _ => ColumnExpr::read(bytes).err(),
+    }
+}
+
 #[test]
 fn faults(rt: HostRuntime) {
     for (bytes, depth, fault) in FAULTS {
-        match Expr::read(bytes, depth) {
-            Ok(_) => assert!(rt; false),
-            Err(found) => assert_eq!(rt; found, fault),
-        }
+        assert_eq!(rt; fault_of(bytes, depth), Some(fault));
     }
 }

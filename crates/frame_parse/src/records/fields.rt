@@ -3,12 +3,12 @@
 ghost use Rattle.std.specs.Prelude.{◌≡◌, ◌%◌, ◌^◌};
 ghost use Rattle.eh_bytes.specs.Rest.{Gives, data_at};
 ghost use Rattle.eh_bytes.specs.Results.{with_fault};
-ghost use Rattle.eh_bytes.specs.Pointer.{base_of};
-ghost use Rattle.frame_parse.specs.Fields.{field_fault, field, number, pointer, optional_pointer, is_negative, is_code_encoding, is_data_encoding, encoding};
+ghost use Rattle.eh_bytes.specs.Pointer.{encoded_number, base_of};
+ghost use Rattle.frame_parse.specs.Fields.{field_fault, field, pointer, optional_pointer, is_negative, is_code_encoding, is_data_encoding, encoding};
 ghost use Rattle.eh_bytes.specs.Fields.{fixed, uleb, sleb, text};
 
 use crate::fault::RecordFault;
-use eh_bytes::{ByteFault, Cursor, is_pointer};
+use eh_bytes::{ByteFault, Cursor, DW_EH_PE_pcrel, application_of, is_pointer};
 
 /// What a field gave, with its fault as the record's.
 #[inline(always)]
@@ -76,16 +76,16 @@ pub(crate) fn data<'a>(
 
 /// The number of a pointer in an encoding, before anything is added to it.
 pub(crate) fn number(cursor: &mut Cursor, encoding: u8) -> Result<u64, RecordFault>
-    ensures { Gives (λ x. x) (number encoding).read cursor.old result cursor.new }
+    ensures { Gives (λ x. x) (field (encoded_number encoding)).read cursor.old result cursor.new }
 {
-    field(cursor.pointer(encoding % 16, 0))
+    field(cursor.number(encoding))
 }
 
 /// What an encoding adds to a number at a place.
 fn base(section: u64, encoding: u8, at: usize) -> u64
     ensures { result ≡ base_of encoding section at % 2 ^ 64 }
 {
-    if encoding / 16 % 8 == 1 {
+    if application_of(encoding) == DW_EH_PE_pcrel {
         section.wrapping_add(at as u64)
     } else {
         0

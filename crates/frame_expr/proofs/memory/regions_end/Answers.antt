@@ -1,6 +1,6 @@
 use Rattle.std.proofs.Common.{sym, ◌∙◌}
 use Rattle.frame_expr.proofs.Ascending.{last_end, last_fits}
-use Rattle.frame_expr.proofs.memory.end_of.Goals as goal
+use Rattle.frame_expr.proofs.memory.regions_end.Goals as goal
 
 pub end-requires : goal.end-requires
 end-requires c = last_fits 0 c.args.regions.now c.in-Some.region.now c.requires (sym c.in-Some.ensures.value)
