@@ -1,14 +1,20 @@
 -- Ranges that are apart: at most one has an address. So the one that has it is the first FDE's that covers it.
-use Rattle.std.proofs.Common.{◌≡◌, ℕ, zero, suc, ◌+◌, ◌-◌, ◌*◌, ◌<◌, ◌≤◌, Bool, cond, List, [], ◌∷◌, length, get_or, true, false, Some, None, nat_le, nat_lt, refl, sym, ap, subst, ◌∙◌, arith, inl, inr, leb-true, leb-false, ltb-true, le-ltb}
+use Rattle.std.proofs.Common.{map, drop, Option, ◌≡◌, ℕ, zero, suc, ◌+◌, ◌-◌, ◌*◌, ◌<◌, ◌≤◌, Bool, cond, List, [], ◌∷◌, length, get_or, true, false, Some, None, nat_le, nat_lt, refl, sym, ap, subst, ◌∙◌, arith, inl, inr, leb-true, leb-false, ltb-true, le-ltb}
 use Rattle.std.proofs.lemmas.Bool.{and_parts, and_left, and_right, cases_lt, lt-leb}
-use Rattle.std.specs.List.{All, Contains}
+use Rattle.std.specs.List.{All, Contains, find}
+use Rattle.std.specs.Prelude.{slice_get, option_and_then, IfNone, IfSome}
+use Rattle.std.specs.Option.{option_map}
+use Rattle.std.proofs.lemmas.Option.{slice_get-map, slice_get-get_or}
+use Rattle.std.proofs.lemmas.List.{length-map}
 use Rattle.std.specs.List.Sorted.{IsPermutation}
 use Rattle.std.proofs.lemmas.List.Sorted.{All-permutation, Contains-permutation}
 use Rattle.std.proofs.lemmas.List.Elements.{All-contains}
-use Rattle.frame_parse.specs.declared.records.FdeRecord.{FdeRecord}
 use Rattle.frame_parse.specs.declared.fde_lookup.CoveredRange.{CoveredRange}
-use Rattle.frame_parse.specs.Sections.{covers, first_cover}
-use Rattle.frame_parse.specs.Lookups.{range_of, IsRangeOf, HasRanges, are_apart, holds}
+use Rattle.frame_parse.specs.declared.records.CieRecord.{CieRecord}
+use Rattle.frame_parse.specs.declared.records.FdeEntry.{FdeEntry}
+use Rattle.frame_parse.specs.Entries.{FdeRecord, fde_among}
+use Rattle.frame_parse.specs.Sections.{first_cover}
+use Rattle.frame_parse.specs.Lookups.{range_of, IsRangeOf, HasRanges, are_apart, holds, entry_covers}
 
 pub few_apart : (rs : List CoveredRange) → length rs < 2 → are_apart rs ≡ true
 few_apart [] lt = refl
@@ -180,56 +186,107 @@ one_holds rs pc a b h (i, li, ea) (j, lj, eb) ha hb =
 
 -- ---- the FDEs
 
-first_cover-at : (pc : ℕ) (fs : List FdeRecord) (i : ℕ) (d : FdeRecord) → i < length fs → covers pc (get_or fs i d) ≡ true → ((j : ℕ) → j < i → covers pc (get_or fs j d) ≡ false) → first_cover pc fs ≡ Some (get_or fs i d)
-first_cover-at pc [] i d lt e before = absurd (omega arith)
-first_cover-at pc (f ∷ fs) zero d lt e before = rw e refl
-first_cover-at pc (f ∷ fs) (suc i) d lt e before =
-    let no : covers pc f ≡ false = before 0 (omega arith) in
-    rw no (first_cover-at pc fs i d (omega arith) e (λ j h. before (suc j) (omega arith)))
+find_cover-at : (pc : ℕ) (fs : List FdeEntry) (i : ℕ) (d : FdeEntry) → i < length fs → entry_covers pc (get_or fs i d) ≡ true → ((j : ℕ) → j < i → entry_covers pc (get_or fs j d) ≡ false) → find (entry_covers pc) fs ≡ Some (get_or fs i d)
+find_cover-at pc [] i d lt e before = absurd (omega arith)
+find_cover-at pc (f ∷ fs) zero d lt e before = rw e refl
+find_cover-at pc (f ∷ fs) (suc i) d lt e before =
+    let no : entry_covers pc f ≡ false = before 0 (omega arith) in
+    rw no (find_cover-at pc fs i d (omega arith) e (λ j h. before (suc j) (omega arith)))
 
-first_cover-none : (pc : ℕ) (fs : List FdeRecord) → ((j : ℕ) (d : FdeRecord) → j < length fs → covers pc (get_or fs j d) ≡ false) → first_cover pc fs ≡ None
-first_cover-none pc [] none = refl
-first_cover-none pc (f ∷ fs) none =
-    let no : covers pc f ≡ false = none 0 f (omega arith) in
-    rw no (first_cover-none pc fs (λ j d h. none (suc j) d (omega arith)))
+find_cover-none : (pc : ℕ) (fs : List FdeEntry) → ((j : ℕ) (d : FdeEntry) → j < length fs → entry_covers pc (get_or fs j d) ≡ false) → find (entry_covers pc) fs ≡ None
+find_cover-none pc [] none = refl
+find_cover-none pc (f ∷ fs) none =
+    let no : entry_covers pc f ≡ false = none 0 f (omega arith) in
+    rw no (find_cover-none pc fs (λ j d h. none (suc j) d (omega arith)))
 
 refuted : (b : Bool) → (b ≡ true → ⊥) → b ≡ false
 refuted true h = absurd (h refl)
 refuted false h = refl
 
-not_empty : (pc : ℕ) (f : FdeRecord) → covers pc f ≡ true → 0 < f.range
+not_empty : (pc : ℕ) (f : FdeEntry) → entry_covers pc f ≡ true → 0 < f.range
 not_empty pc f e =
     let parts = and_parts (nat_le f.first pc) (nat_lt pc (f.first + f.range)) e in
     let low = leb-true _ _ parts.0 in
     let high = ltb-true _ _ parts.1 in
     omega (arith, low, high)
 
-pub permuted : (fs : List FdeRecord) (n : ℕ) (rs moved : List CoveredRange) → HasRanges fs n rs → IsPermutation rs moved → HasRanges fs n moved
+pub permuted : (fs : List FdeEntry) (n : ℕ) (rs moved : List CoveredRange) → HasRanges fs n rs → IsPermutation rs moved → HasRanges fs n moved
 permuted fs n rs moved h p = record {
   sound = All-permutation (IsRangeOf fs) rs moved p h.sound;
   whole = λ i d lt within some. Contains-permutation rs moved (range_of i (get_or fs i d)) p (h.whole i d lt within some);
 }
 
-pub none_covers : (pc : ℕ) (fs : List FdeRecord) (rs : List CoveredRange) → HasRanges fs (length fs) rs → All (λ r. holds pc r ≡ false) rs → first_cover pc fs ≡ None
-none_covers pc fs rs h none = first_cover-none pc fs (λ j d lt.
-    refuted (covers pc (get_or fs j d)) (λ e.
+pub none_covers : (pc : ℕ) (fs : List FdeEntry) (rs : List CoveredRange) → HasRanges fs (length fs) rs → All (λ r. holds pc r ≡ false) rs → find (entry_covers pc) fs ≡ None
+none_covers pc fs rs h none = find_cover-none pc fs (λ j d lt.
+    refuted (entry_covers pc (get_or fs j d)) (λ e.
     let here = h.whole j d lt lt (not_empty pc (get_or fs j d) e) in
-    let not : covers pc (get_or fs j d) ≡ false = All-contains (λ r. holds pc r ≡ false) rs (range_of j (get_or fs j d)) none here in
+    let not : entry_covers pc (get_or fs j d) ≡ false = All-contains (λ r. holds pc r ≡ false) rs (range_of j (get_or fs j d)) none here in
     let both : true ≡ false = sym e ∙ not in
     absurd cc))
 
 -- the range that has the address is of an FDE, and it is the first one that covers it
-pub one_covers : (pc : ℕ) (fs : List FdeRecord) (rs : List CoveredRange) (r : CoveredRange) (d : FdeRecord) → HasRanges fs (length fs) rs → are_apart rs ≡ true → Contains rs r → holds pc r ≡ true
-    → (r.fde < length fs) × (first_cover pc fs ≡ Some (get_or fs r.fde d))
+pub one_covers : (pc : ℕ) (fs : List FdeEntry) (rs : List CoveredRange) (r : CoveredRange) (d : FdeEntry) → HasRanges fs (length fs) rs → are_apart rs ≡ true → Contains rs r → holds pc r ≡ true
+    → (r.fde < length fs) × (find (entry_covers pc) fs ≡ Some (get_or fs r.fde d))
 one_covers pc fs rs r d h up here e =
     let of = All-contains (IsRangeOf fs) rs r h.sound here in
     let is = of.1 d in
-    let at : covers pc (get_or fs r.fde d) ≡ true = subst (λ x. holds pc x ≡ true) is e in (
+    let at : entry_covers pc (get_or fs r.fde d) ≡ true = subst (λ x. holds pc x ≡ true) is e in (
       of.0,
-      first_cover-at pc fs r.fde d of.0 at (λ j lt.
-          refuted (covers pc (get_or fs j d)) (λ c.
+      find_cover-at pc fs r.fde d of.0 at (λ j lt.
+          refuted (entry_covers pc (get_or fs j d)) (λ c.
           let other = h.whole j d (omega arith) (omega arith) (not_empty pc (get_or fs j d) c) in
           let same = one_holds rs pc (range_of j (get_or fs j d)) r up other here c e in
           let number : j ≡ r.fde = ap (λ (x : CoveredRange). x.fde) same in
           omega (arith, number, lt))),
     )
+
+-- ---- by their numbers
+
+-- the FDE with an index is the first that covers the address from there on
+pub find-here : (pc : ℕ) (fs : List FdeEntry) (i : ℕ) (d : FdeEntry) → i < length fs → entry_covers pc (get_or fs i d) ≡ true → slice_get fs i ≡ find (entry_covers pc) (drop i fs)
+find-here pc [] i d lt e = absurd (omega arith)
+find-here pc (f ∷ fs) zero d lt e = rw e refl
+find-here pc (f ∷ fs) (suc i) d lt e = find-here pc fs i d (omega arith) e
+
+no_entry : FdeEntry
+no_entry = record { cie = 0; first = 0; range = 0; lsda = None; program = record { at = 0; end = 0 } }
+
+-- what the search among ranges that are apart found, is the number of the first cover
+abbrev pub IsFound : ℕ → List CoveredRange → Option ℕ → Type 0
+IsFound pc rs r = IfNone r (All (λ range. holds pc range ≡ false) rs) × IfSome r (λ fde. (range : CoveredRange) × Contains rs range × (holds pc range ≡ true) × (range.fde ≡ fde))
+
+pub covered : (pc : ℕ) (fs : List FdeEntry) (rs : List CoveredRange) (r : Option ℕ) → HasRanges fs (length fs) rs → are_apart rs ≡ true → IsFound pc rs r
+    → (option_and_then (slice_get fs) r ≡ find (entry_covers pc) fs) × IfSome r (λ i. i < length fs)
+covered pc fs rs None h up found = (sym (none_covers pc fs rs h found.0), tt)
+covered pc fs rs (Some i) h up found =
+    let some = found.1 in
+    let one = one_covers pc fs rs some.0 no_entry h up some.1 some.2 in
+    let lt : i < length fs = omega (arith, one.0, some.3) in
+    (slice_get-get_or fs i no_entry lt ∙ ap (λ (k : ℕ). Some (get_or fs k no_entry)) (sym some.3) ∙ sym one.1, lt)
+
+-- ---- with their CIEs
+
+choice-map : (cies : List CieRecord) (b : Bool) (f : FdeEntry) (o : Option FdeEntry) → cond b (Some (fde_among cies f)) (option_map (fde_among cies) o) ≡ option_map (fde_among cies) (cond b (Some f) o)
+choice-map cies true f o = refl
+choice-map cies false f o = refl
+
+pub first_cover-map : (pc : ℕ) (cies : List CieRecord) (fs : List FdeEntry) → first_cover pc (map (fde_among cies) fs) ≡ option_map (fde_among cies) (find (entry_covers pc) fs)
+first_cover-map pc cies [] = refl
+first_cover-map pc cies (f ∷ fs) =
+    ap (λ (o : Option FdeRecord). cond (entry_covers pc f) (Some (fde_among cies f)) o) (first_cover-map pc cies fs)
+    ∙ choice-map cies (entry_covers pc f) f (find (entry_covers pc) fs)
+
+-- the FDE with a number, if there is one
+pub number-map : (cies : List CieRecord) (fs : List FdeEntry) (o : Option ℕ)
+    → option_and_then (slice_get (map (fde_among cies) fs)) o ≡ option_map (fde_among cies) (option_and_then (slice_get fs) o)
+number-map cies fs None = refl
+number-map cies fs (Some i) = slice_get-map (fde_among cies) fs i
+
+-- the first cover, by its number
+pub cover-map : (pc : ℕ) (cies : List CieRecord) (fs : List FdeEntry) (r : Option ℕ) → option_and_then (slice_get fs) r ≡ find (entry_covers pc) fs
+    → option_and_then (slice_get (map (fde_among cies) fs)) r ≡ first_cover pc (map (fde_among cies) fs)
+cover-map pc cies fs r e = number-map cies fs r ∙ ap (λ (o : Option FdeEntry). option_map (fde_among cies) o) e ∙ sym (first_cover-map pc cies fs)
+
+pub within-map : (cies : List CieRecord) (fs : List FdeEntry) (r : Option ℕ) → IfSome r (λ i. i < length fs) → IfSome r (λ i. i < length (map (fde_among cies) fs))
+within-map cies fs None h = tt
+within-map cies fs (Some i) h = omega (arith, h, length-map fs (fde_among cies))

@@ -10,9 +10,7 @@ use Rattle.eh_bytes.specs.Rest.{Rest}
 use Rattle.eh_bytes.specs.Results.{◌and_then◌}
 use Rattle.frame_parse.specs.declared.fault.FrameFault.{FrameFault}
 use Rattle.frame_parse.specs.declared.records.CieRecord.{CieRecord}
-use Rattle.frame_parse.specs.declared.records.FdeRecord.{FdeRecord}
-use Rattle.frame_parse.specs.declared.records.Record.{Record}
-use Rattle.frame_parse.specs.declared.records.Record.TheVariants.{Cie, Fde}
+use Rattle.frame_parse.specs.Entries.{FdeRecord, Record, Cie, Fde}
 use Rattle.frame_parse.specs.Records.{content, record_length, record_at, whole_record}
 use Rattle.frame_parse.specs.Sections.{is_end, with_record, AreRecords, cies_of, IsSection, IsRefused, HasOneAnswer, HasFdes}
 use Rattle.frame_parse.specs.Reading.{read_all, section_of, IsAnswered}

@@ -3,7 +3,6 @@ use Rattle.std.proofs.Common.{ℕ, ◌+◌, List, true, false}
 use Rattle.std.specs.Prelude.{◌==◌}
 use Rattle.frame_parse.specs.declared.fault.RecordFault.TheVariants.{Short, NoCie}
 use Rattle.frame_parse.specs.declared.records.CieRecord.{CieRecord}
-use Rattle.frame_parse.specs.declared.records.Record.TheVariants.{Cie, Fde}
 use Rattle.frame_parse.specs.declared.instructions.context.ProgramKind.TheVariants.{Initial, Own}
 use Rattle.frame_parse.specs.Programs.{context_of, initial_state, first_state}
 use Rattle.frame_parse.specs.Records.{fault_in, cie_behind, content, record_length, record_at, whole_record}
@@ -13,6 +12,7 @@ use Rattle.eh_bytes.proofs.Fields.{fixed_exact}
 use Rattle.frame_parse.proofs.RecordParts.{field_exact, cie_exact, fde_exact}
 use Rattle.frame_parse.proofs.ProgramParts.{steps_sound}
 use Rattle.eh_bytes.proofs.Steps.{steps_from_whole}
+use Rattle.frame_parse.specs.Entries.{Cie, Fde}
 
 -- ---- records
 

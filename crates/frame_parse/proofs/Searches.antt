@@ -5,10 +5,6 @@ use Rattle.frame_parse.specs.declared.records.CieRecord.{CieRecord}
 use Rattle.frame_parse.specs.Records.{cie_from}
 use Rattle.frame_parse.specs.Sections.{starts, IsAscending}
 
--- what stands past the end of a list of CIEs
-abbrev pub no_cie : CieRecord
-no_cie = record { start = 0; code_alignment = 0; data_alignment = pos 0; has_data = false; augmentation = record { pointers = 0; lsda = 0; personality = None; signal = false }; offset = false; initial = record { at = 0; end = 0 } }
-
 pub starts-at : (cs : List CieRecord) (k : ℕ) (d : CieRecord) → d.start ≡ 0 → get_or (starts cs) k 0 ≡ (get_or cs k d).start
 starts-at [] k d e = sym e
 starts-at (c ∷ cs) zero d e = refl

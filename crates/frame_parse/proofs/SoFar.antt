@@ -1,13 +1,14 @@
 -- Between two records: the records so far stand at the front of the bytes.
-use Rattle.std.proofs.Common.{◌≡◌, ℕ, zero, suc, ◌+◌, ◌<◌, List, [], ◌∷◌, ◌++◌, length, get_or, true, false, Ok, Err, refl, sym, ap, subst, ◌∙◌, append_assoc, length-append, arith, inl, inr}
+use Rattle.std.proofs.Common.{map, ◌≡◌, ℕ, zero, suc, ◌+◌, ◌<◌, List, [], ◌∷◌, ◌++◌, length, get_or, true, false, Ok, Err, refl, sym, ap, subst, ◌∙◌, append_assoc, length-append, arith, inl, inr}
 use Rattle.std.proofs.lemmas.Bool.{cases_lt}
-use Rattle.std.proofs.lemmas.List.{append-nil}
+use Rattle.std.proofs.lemmas.List.{append-nil, map-append}
 use Rattle.eh_bytes.specs.Rest.{Rest}
 use Rattle.frame_parse.specs.declared.fault.FrameFault.{FrameFault}
 use Rattle.frame_parse.specs.declared.records.CieRecord.{CieRecord}
-use Rattle.frame_parse.specs.declared.records.FdeRecord.{FdeRecord}
-use Rattle.frame_parse.specs.declared.records.Record.{Record}
-use Rattle.frame_parse.specs.declared.records.Record.TheVariants.{Cie, Fde}
+use Rattle.std.specs.List.{All}
+use Rattle.std.proofs.lemmas.List.Elements.{All-nil, All-cons, All-append}
+use Rattle.frame_parse.specs.declared.records.FdeEntry.{FdeEntry}
+use Rattle.frame_parse.specs.Entries.{FdeRecord, Record, Cie, Fde, no_cie, with_cie, fde_among, HasCie}
 use Rattle.frame_parse.specs.Records.{whole_record}
 use Rattle.frame_parse.specs.Sections.{is_end, with_record, AreRecords, cies_of, fdes_of, IsSection, IsRefused, HasFdes, starts, IsAscending}
 use Rattle.eh_bytes.proofs.Exact.{left, Takes}
@@ -15,14 +16,15 @@ use Rattle.frame_parse.proofs.RecordWholes.{whole_record_exact}
 use Rattle.frame_parse.proofs.OneAnswer.{cies-step, record_grows}
 use Rattle.frame_parse.proofs.Searches.{starts-length}
 
-pub record ReadSoFar (section : ℕ) (bytes : List ℕ) (cursor : Rest) (cies : List CieRecord) (fdes : List FdeRecord) : Type 0 where
+pub record ReadSoFar (section : ℕ) (bytes : List ℕ) (cursor : Rest) (cies : List CieRecord) (fdes : List FdeEntry) : Type 0 where
   pub records : List Record
   pub front : List ℕ
   pub parts : bytes ≡ front ++ cursor.bytes
   pub place : cursor.at ≡ length front
   pub spelled : AreRecords section 0 [] front records
   pub cies_are : cies ≡ cies_of records
-  pub fdes_are : fdes ≡ fdes_of records
+  pub fdes_are : map (fde_among cies) fdes ≡ fdes_of records
+  pub within : All (HasCie (length cies)) fdes
   pub ascending : IsAscending (starts cies)
   pub below : (i : ℕ) → i < length cies → get_or (starts cies) i 0 < cursor.at
 
@@ -99,6 +101,22 @@ below-end cs c p q low e lt i inside =
           omega arith
     ]
 
+-- ---- FDEs whose CIEs are among the first
+
+among-one : (cies : List CieRecord) (c : CieRecord) (i : ℕ) → i < length cies → get_or (cies ++ c ∷ []) i no_cie ≡ get_or cies i no_cie
+among-one [] c i lt = absurd (omega arith)
+among-one (d ∷ ds) c zero lt = refl
+among-one (d ∷ ds) c (suc i) lt = among-one ds c i (omega arith)
+
+among-end : (cies : List CieRecord) (c : CieRecord) (fs : List FdeEntry) → All (HasCie (length cies)) fs → map (fde_among (cies ++ c ∷ [])) fs ≡ map (fde_among cies) fs
+among-end cies c [] all = refl
+among-end cies c (f ∷ fs) all =
+    ap (λ (d : CieRecord). with_cie d f ∷ map (fde_among (cies ++ c ∷ [])) fs) (among-one cies c f.cie (all 0 f (omega arith)))
+    ∙ ap (λ (rs : List FdeRecord). fde_among cies f ∷ rs) (among-end cies c fs (λ k d lt. all (suc k) d (omega arith)))
+
+within-end : (cies : List CieRecord) (c : CieRecord) (fs : List FdeEntry) → All (HasCie (length cies)) fs → All (HasCie (length (cies ++ c ∷ []))) fs
+within-end cies c fs all = λ k d lt. let h = all k d lt in omega (arith, h, length-append cies (c ∷ []))
+
 -- ---- from record to record
 
 pub nothing_yet : (section : ℕ) (bytes : List ℕ) → ReadSoFar section bytes (left 0 bytes) [] []
@@ -110,12 +128,13 @@ nothing_yet section bytes = record {
   spelled = refl;
   cies_are = refl;
   fdes_are = refl;
+  within = All-nil (HasCie 0);
   ascending = λ i j lt inside. absurd (omega arith);
   below = λ i lt. absurd (omega arith);
 }
 
 -- the next record behind those so far
-next_spelled : (section : ℕ) (bytes : List ℕ) (cursor : Rest) (cies : List CieRecord) (fdes : List FdeRecord) (r : Record) (new : Rest) (s : ReadSoFar section bytes cursor cies fdes)
+next_spelled : (section : ℕ) (bytes : List ℕ) (cursor : Rest) (cies : List CieRecord) (fdes : List FdeEntry) (r : Record) (new : Rest) (s : ReadSoFar section bytes cursor cies fdes)
     → (t : Takes (whole_record section cies) cursor r new) → AreRecords section 0 [] (s.front ++ t.front) (s.records ++ r ∷ [])
 next_spelled section bytes cursor cies fdes r new s t =
     let place : cursor.at ≡ 0 + length s.front = omega (arith, s.place) in
@@ -123,7 +142,7 @@ next_spelled section bytes cursor cies fdes r new s t =
     (subst (λ (q : ℕ). (whole_record section (cies_of s.records)).Spells q t.front r) place
     (subst (λ (cs : List CieRecord). (whole_record section cs).Spells cursor.at t.front r) s.cies_are t.spells))
 
-pub next_cie : (section : ℕ) (bytes : List ℕ) (cursor : Rest) (cies : List CieRecord) (fdes : List FdeRecord) (c : CieRecord) (new : Rest) → ReadSoFar section bytes cursor cies fdes
+pub next_cie : (section : ℕ) (bytes : List ℕ) (cursor : Rest) (cies : List CieRecord) (fdes : List FdeEntry) (c : CieRecord) (new : Rest) → ReadSoFar section bytes cursor cies fdes
     → (whole_record section cies).read cursor ≡ Ok (Cie c, new) → c.start ≡ cursor.at → ReadSoFar section bytes new (cies ++ c ∷ []) fdes
 next_cie section bytes cursor cies fdes c new s e begins =
     let t = (whole_record_exact section cies).takes cursor (Cie c) new e in
@@ -135,34 +154,37 @@ next_cie section bytes cursor cies fdes c new s e begins =
       place = omega (arith, t.place, s.place, length-append s.front t.front);
       spelled = next_spelled section bytes cursor cies fdes (Cie c) new s t;
       cies_are = ap (λ (cs : List CieRecord). cs ++ c ∷ []) s.cies_are ∙ sym (cies_of-cie s.records c);
-      fdes_are = s.fdes_are ∙ sym (fdes_of-cie s.records c);
+      fdes_are = among-end cies c fdes s.within ∙ s.fdes_are ∙ sym (fdes_of-cie s.records c);
+      within = within-end cies c fdes s.within;
       ascending = ascending-end cies c s.ascending (λ i lt. let low = s.below i lt in omega arith);
       below = below-end cies c cursor.at new.at s.below begins (omega (arith, t.place, grown));
     }
 
-pub next_fde : (section : ℕ) (bytes : List ℕ) (cursor : Rest) (cies : List CieRecord) (fdes : List FdeRecord) (f : FdeRecord) (new : Rest) → ReadSoFar section bytes cursor cies fdes
-    → (whole_record section cies).read cursor ≡ Ok (Fde f, new) → ReadSoFar section bytes new cies (fdes ++ f ∷ [])
-next_fde section bytes cursor cies fdes f new s e =
-    let t = (whole_record_exact section cies).takes cursor (Fde f) new e in
+pub next_fde : (section : ℕ) (bytes : List ℕ) (cursor : Rest) (cies : List CieRecord) (fdes : List FdeEntry) (f : FdeEntry) (new : Rest) → ReadSoFar section bytes cursor cies fdes
+    → (whole_record section cies).read cursor ≡ Ok (Fde (fde_among cies f), new) → HasCie (length cies) f → ReadSoFar section bytes new cies (fdes ++ f ∷ [])
+next_fde section bytes cursor cies fdes f new s e has =
+    let g = fde_among cies f in
+    let t = (whole_record_exact section cies).takes cursor (Fde g) new e in
     record {
-      records = s.records ++ Fde f ∷ [];
+      records = s.records ++ Fde g ∷ [];
       front = s.front ++ t.front;
       parts = s.parts ∙ ap (λ (l : List ℕ). s.front ++ l) t.parts ∙ sym (append_assoc s.front t.front new.bytes);
       place = omega (arith, t.place, s.place, length-append s.front t.front);
-      spelled = next_spelled section bytes cursor cies fdes (Fde f) new s t;
-      cies_are = s.cies_are ∙ sym (cies_of-fde s.records f);
-      fdes_are = ap (λ (fs : List FdeRecord). fs ++ f ∷ []) s.fdes_are ∙ sym (fdes_of-fde s.records f);
+      spelled = next_spelled section bytes cursor cies fdes (Fde g) new s t;
+      cies_are = s.cies_are ∙ sym (cies_of-fde s.records g);
+      fdes_are = map-append (fde_among cies) fdes (f ∷ []) ∙ ap (λ (fs : List FdeRecord). fs ++ g ∷ []) s.fdes_are ∙ sym (fdes_of-fde s.records g);
+      within = All-append (HasCie (length cies)) fdes (f ∷ []) s.within (All-cons (HasCie (length cies)) f [] has (All-nil (HasCie (length cies))));
       ascending = s.ascending;
       below = λ i lt. let low = s.below i lt in omega (arith, t.place);
     }
 
 -- ---- the end, and a refusal
 
-pub all_read : (section : ℕ) (bytes : List ℕ) (cursor : Rest) (cies : List CieRecord) (fdes : List FdeRecord) → ReadSoFar section bytes cursor cies fdes → is_end cursor.bytes ≡ true → HasFdes section bytes fdes
+pub all_read : (section : ℕ) (bytes : List ℕ) (cursor : Rest) (cies : List CieRecord) (fdes : List FdeEntry) → ReadSoFar section bytes cursor cies fdes → is_end cursor.bytes ≡ true → HasFdes section bytes (map (fde_among cies) fdes)
 unfolding HasFdes IsSection
 all_read section bytes cursor cies fdes s e = (s.records, (s.front, cursor.bytes, s.parts, s.spelled, e), sym s.fdes_are)
 
-pub none_further : (section : ℕ) (bytes : List ℕ) (cursor : Rest) (cies : List CieRecord) (fdes : List FdeRecord) (f : FrameFault) → ReadSoFar section bytes cursor cies fdes → is_end cursor.bytes ≡ false
+pub none_further : (section : ℕ) (bytes : List ℕ) (cursor : Rest) (cies : List CieRecord) (fdes : List FdeEntry) (f : FrameFault) → ReadSoFar section bytes cursor cies fdes → is_end cursor.bytes ≡ false
     → (whole_record section cies).read cursor ≡ Err f → IsRefused section bytes f
 unfolding IsRefused
 none_further section bytes cursor cies fdes f s on e =

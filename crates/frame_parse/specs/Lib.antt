@@ -1,3 +1,4 @@
+pub mod Entries
 pub mod Fields
 pub mod Records
 pub mod Sections

@@ -9,7 +9,6 @@ use Rattle.frame_parse.specs.declared.instructions.context.Context.{Context}
 use Rattle.frame_parse.specs.declared.instructions.context.ProgramKind.{ProgramKind}
 use Rattle.frame_parse.specs.declared.instructions.context.ProgramKind.TheVariants.{Initial, Own}
 use Rattle.frame_parse.specs.declared.records.CieRecord.{CieRecord}
-use Rattle.frame_parse.specs.declared.records.FdeRecord.{FdeRecord}
 use Rattle.frame_parse.specs.declared.records.Extent.{Extent}
 use Rattle.frame_parse.specs.declared.instructions.ReadRule.{ReadRule}
 use Rattle.frame_parse.specs.declared.instructions.ReadRule.TheVariants as rules
@@ -28,6 +27,7 @@ use Rattle.frame_parse.specs.declared.instructions.opcodes.TheConstants.{DW_CFA_
 use Rattle.eh_bytes.specs.Grammar.{Part, ◌>>=◌, give, here, refuse, when, check, given}
 use Rattle.frame_parse.specs.Fields.{field, pointer}
 use Rattle.eh_bytes.specs.Fields.{fixed, uleb, sleb}
+use Rattle.frame_parse.specs.Entries.{FdeRecord}
 
 -- ---- what the instructions of a program refer to
 

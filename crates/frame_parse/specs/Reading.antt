@@ -4,8 +4,7 @@ use Rattle.eh_bytes.specs.Rest.{Rest}
 use Rattle.eh_bytes.specs.Results.{◌and_then◌}
 use Rattle.frame_parse.specs.declared.fault.FrameFault.{FrameFault}
 use Rattle.frame_parse.specs.declared.records.CieRecord.{CieRecord}
-use Rattle.frame_parse.specs.declared.records.FdeRecord.{FdeRecord}
-use Rattle.frame_parse.specs.declared.records.Record.{Record}
+use Rattle.frame_parse.specs.Entries.{FdeRecord, Record}
 use Rattle.frame_parse.specs.Records.{whole_record}
 use Rattle.frame_parse.specs.Sections.{is_end, with_record, fdes_of, HasFdes, IsRefused, Contents}
 

@@ -8,10 +8,8 @@ use Rattle.frame_parse.specs.declared.fault.RecordFault.TheVariants as faults
 use Rattle.frame_parse.specs.declared.fault.FrameFault.TheVariants as frames
 use Rattle.frame_parse.specs.declared.records.augmentation.Augmentation.{Augmentation}
 use Rattle.frame_parse.specs.declared.records.CieRecord.{CieRecord}
-use Rattle.frame_parse.specs.declared.records.FdeRecord.{FdeRecord}
 use Rattle.frame_parse.specs.declared.instructions.context.ProgramKind.TheVariants.{Initial, Own}
-use Rattle.frame_parse.specs.declared.records.Record.{Record}
-use Rattle.frame_parse.specs.declared.records.Record.TheVariants.{Cie, Fde}
+use Rattle.frame_parse.specs.Entries.{FdeRecord, Record, Cie, Fde}
 use Rattle.eh_bytes.specs.Grammar.{Part, ◌>>=◌, give, here, when, check, found, block, filled, lift}
 use Rattle.frame_parse.specs.Programs.{step, context_of, initial_state, first_state}
 use Rattle.eh_bytes.specs.Steps.{steps_from}

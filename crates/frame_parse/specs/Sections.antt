@@ -3,9 +3,9 @@ use Rattle.std.specs.Prelude.{◌≡◌, ℕ, ◌+◌, ◌<◌, ◌⊎◌, map, 
 use Rattle.byteorder.specs.Endian.{little_number}
 use Rattle.frame_parse.specs.declared.fault.FrameFault.{FrameFault}
 use Rattle.frame_parse.specs.declared.records.CieRecord.{CieRecord}
-use Rattle.frame_parse.specs.declared.records.FdeRecord.{FdeRecord}
-use Rattle.frame_parse.specs.declared.records.Record.{Record}
-use Rattle.frame_parse.specs.declared.records.Record.TheVariants.{Cie, Fde}
+use Rattle.frame_parse.specs.declared.records.Entry.{Entry}
+use Rattle.frame_parse.specs.declared.records.Entry.TheVariants as entries
+use Rattle.frame_parse.specs.Entries.{FdeRecord, Record, Cie, Fde}
 use Rattle.frame_parse.specs.Records.{whole_record}
 
 -- a section ends where its bytes end, or at a length of 0
@@ -75,9 +75,9 @@ abbrev pub IsAscending : List ℕ → Type 0
 IsAscending ns = (i j : ℕ) → i < j → j < length ns → get_or ns i 0 < get_or ns j 0
 
 -- a CIE begins where it was read
-abbrev pub BeginsAt : ℕ → Record → Type 0
-BeginsAt place (Cie c) = c.start ≡ place
-BeginsAt place (Fde f) = Unit {0}
+abbrev pub BeginsAt : ℕ → Entry → Type 0
+BeginsAt place (entries.Cie c) = c.start ≡ place
+BeginsAt place (entries.Fde f) = Unit {0}
 
 -- what contracts see of a section: its address and bytes, and its FDEs in order of bytes
 pub record Contents : Type 0 where

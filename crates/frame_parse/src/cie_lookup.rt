@@ -1,16 +1,18 @@
 //! The CIE of an FDE, among the earlier ones.
 
-ghost use Rattle.std.specs.Prelude.{◌≡◌, ◌≤◌, length};
-ghost use Rattle.std.specs.Option.{option_copied};
+ghost use Rattle.std.specs.Prelude.{◌≡◌, ◌<◌, length, slice_index_or, IfSome};
+ghost use Rattle.std.specs.Option.{option_map};
+ghost use Rattle.frame_parse.specs.Entries.{no_cie};
 ghost use Rattle.frame_parse.specs.Records.{cie_from, cie_behind};
 ghost use Rattle.frame_parse.specs.Sections.{starts, IsAscending};
 
 use crate::records::CieRecord;
 
-/// The CIE that begins at a place. The CIEs are in order of bytes, so the search halves them.
-fn cie_from(cies: &[CieRecord], place: usize) -> Option<&CieRecord>
+/// The number of the CIE that begins at a place. The CIEs are in order of bytes, so the search halves them.
+fn cie_from(cies: &[CieRecord], place: usize) -> Option<usize>
     requires { IsAscending (starts cies.now) }
-    ensures { option_copied result ≡ cie_from cies.now place }
+    ensures value { option_map (λ i. slice_index_or cies.now i no_cie) result ≡ cie_from cies.now place }
+    ensures within { IfSome result (λ i. i < length cies.now) }
 {
     let mut low = 0;
     let mut high = cies.len();
@@ -23,16 +25,18 @@ fn cie_from(cies: &[CieRecord], place: usize) -> Option<&CieRecord>
         }
     }
     if low < cies.len() && cies[low].start == place {
-        Some(&cies[low])
+        Some(low)
     } else {
         None
     }
 }
 
-/// The CIE to which a distance leads back from a place.
-pub(crate) fn cie_behind(cies: &[CieRecord], at: usize, distance: usize) -> Option<&CieRecord>
+/// The number of the CIE to which a distance leads back from a place.
+pub(crate) fn cie_behind(cies: &[CieRecord], at: usize, distance: usize) -> Option<usize>
     requires { IsAscending (starts cies.now) }
-    ensures { option_copied result ≡ cie_behind cies.now at distance }
+    ensures value { option_map (λ i. slice_index_or cies.now i no_cie) result
+        ≡ cie_behind cies.now at distance }
+    ensures within { IfSome result (λ i. i < length cies.now) }
 {
     if at < distance {
         None

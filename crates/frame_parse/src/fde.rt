@@ -2,12 +2,13 @@
 
 ghost use Rattle.std.specs.Prelude.{◌≡◌, List};
 ghost use Rattle.frame_parse.specs.declared.instructions.Step.{Step};
+ghost use Rattle.frame_parse.specs.Entries.{with_cie};
 ghost use Rattle.frame_parse.specs.Programs.{HasPrograms, HasSteps, initial_of, program_of, text_at};
 
 use crate::instructions::{Context, ProgramKind, first_state};
 use crate::program::Program;
 use crate::program_state::{Remembered, State};
-use crate::records::FdeRecord;
+use crate::records::{CieRecord, FdeEntry};
 use eh_bytes::Cursor;
 use std::marker::Model;
 
@@ -16,31 +17,38 @@ use std::marker::Model;
 pub struct Fde<'a> {
     section: u64,
     bytes: &'a [u8],
-    entry: &'a FdeRecord,
+    cie: &'a CieRecord,
+    entry: &'a FdeEntry,
 }
 
 impl<'a> Model for Fde<'a> {
+    ghost use Rattle.frame_parse.specs.Entries.{with_cie};
+    ghost use Rattle.frame_parse.specs.Programs.{HasPrograms};
     ghost use Rattle.frame_parse.specs.Sections.{FdeContents};
 
     ghost Value = { FdeContents };
 
-    ghost view = { λ f. record { section = f.section; bytes = f.bytes.now; entry = f.entry.now } };
+    ghost view = { λ f. record { section = f.section; bytes = f.bytes.now; entry = with_cie f.cie.now f.entry.now } };
 
-    ghost use Rattle.frame_parse.specs.Programs.{HasPrograms};
-
-    ghost invariant = { λ f. HasPrograms f.section f.bytes.now f.entry.now };
+    ghost invariant = { λ f. HasPrograms f.section f.bytes.now (with_cie f.cie.now f.entry.now) };
 }
 
 impl<'a> Fde<'a> {
-    pub(crate) fn new(section: u64, bytes: &'a [u8], entry: &'a FdeRecord) -> Fde<'a>
-        requires { HasPrograms section bytes.now entry.now }
+    pub(crate) fn new(
+        section: u64,
+        bytes: &'a [u8],
+        cie: &'a CieRecord,
+        entry: &'a FdeEntry,
+    ) -> Fde<'a>
+        requires { HasPrograms section bytes.now (with_cie cie.now entry.now) }
         ensures section { result.section ≡ section }
         ensures bytes { result.bytes ≡ bytes.now }
-        ensures entry { result.entry ≡ entry.now }
+        ensures entry { result.entry ≡ with_cie cie.now entry.now }
     {
         Fde {
             section,
             bytes,
+            cie,
             entry,
         }
     }
@@ -63,7 +71,7 @@ impl<'a> Fde<'a> {
     pub fn signal(&self) -> bool
         ensures { result ≡ self.now.entry.cie.augmentation.signal }
     {
-        self.entry.cie.augmentation.signal
+        self.cie.augmentation.signal
     }
 
     /// The address of its language-specific data, or of a pointer to it where the encoding says so.
@@ -77,7 +85,7 @@ impl<'a> Fde<'a> {
     pub fn personality(&self) -> Option<u64>
         ensures { result ≡ self.now.entry.cie.augmentation.personality }
     {
-        self.entry.cie.augmentation.personality
+        self.cie.augmentation.personality
     }
 
     /// The initial instructions of its CIE, at its first address.
@@ -87,7 +95,7 @@ impl<'a> Fde<'a> {
         ensures known { (steps : List Step) × HasSteps result steps }
     {
         let entry = self.entry;
-        let cie = &entry.cie;
+        let cie = self.cie;
         let cursor = Cursor::new(self.bytes, cie.initial.at, cie.initial.end);
         let state = State {
             location: entry.first,
@@ -106,8 +114,8 @@ impl<'a> Fde<'a> {
     {
         let entry = self.entry;
         let cursor = Cursor::new(self.bytes, entry.program.at, entry.program.end);
-        let state = first_state(&entry.cie, entry.first);
-        let context = Context::new(self.section, &entry.cie, ProgramKind::Own);
+        let state = first_state(self.cie, entry.first);
+        let context = Context::new(self.section, self.cie, ProgramKind::Own);
         Program::new(context, state, cursor)
     }
 }

@@ -2,14 +2,14 @@
 //! order when the section is read, and then a lookup passes by most of those that are left at each step. Where
 //! two share one, the FDEs are gone through in order of bytes.
 
-ghost use Rattle.std.specs.Prelude.{◌≡◌, ◌<◌, ◌^◌, length, true, false, nat_le, if◌then◌else◌, IfOk, IfNone, IfSome};
-ghost use Rattle.std.specs.List.{All, Contains};
-ghost use Rattle.std.specs.Option.{option_copied};
-ghost use Rattle.frame_parse.specs.Sections.{covers, first_cover};
+ghost use Rattle.std.specs.Prelude.{◌≡◌, ◌<◌, ◌^◌, length, map, true, false, nat_le, if◌then◌else◌, IfOk, IfNone, IfSome, Some, slice_get, option_and_then};
+ghost use Rattle.std.specs.List.{All, Contains, find};
+ghost use Rattle.frame_parse.specs.Entries.{fde_among, with_cie, HasCie};
+ghost use Rattle.frame_parse.specs.Sections.{first_cover};
 ghost use Rattle.frame_parse.specs.declared.fde_lookup.CoveredRange.{CoveredRange};
-ghost use Rattle.frame_parse.specs.Lookups.{HasRanges, are_apart, holds};
+ghost use Rattle.frame_parse.specs.Lookups.{HasRanges, are_apart, holds, entry_covers};
 
-use crate::records::FdeRecord;
+use crate::records::{CieRecord, FdeEntry, cie_at};
 use std::alloc::{AllocError, Global};
 use std::marker::Model;
 
@@ -30,28 +30,35 @@ pub enum Lookup {
     Walk,
 }
 
-/// The FDEs of a section in order of bytes, and how one is found.
+/// The FDEs of a section in order of bytes, their CIEs, and how an FDE is found.
 #[derive(Drop)]
 pub struct FdeList {
-    fdes: Vec<FdeRecord>,
+    cies: Vec<CieRecord>,
+    fdes: Vec<FdeEntry>,
     lookup: Lookup,
 }
 
 impl Model for FdeList {
-    ghost use Rattle.std.specs.Prelude.{List};
-    ghost use Rattle.frame_parse.specs.declared.records.FdeRecord.{FdeRecord};
+    ghost use Rattle.std.specs.Prelude.{List, length, map};
+    ghost use Rattle.std.specs.List.{All};
+    ghost use Rattle.frame_parse.specs.Entries.{FdeRecord, fde_among, HasCie};
     ghost use Rattle.frame_parse.specs.Lookups.{Finds};
 
     ghost Value = { List FdeRecord };
 
-    ghost view = { λ l. l.fdes.items };
+    ghost view = { λ l. map (fde_among l.cies.items) l.fdes.items };
 
-    ghost invariant = { λ l. Finds l.fdes.items l.lookup };
+    ghost invariant = { λ l. Finds l.fdes.items l.lookup × All (HasCie (length l.cies.items)) l.fdes.items };
 }
 
 impl FdeList {
-    pub(crate) fn new(alloc: Global, fdes: Vec<FdeRecord>) -> Result<FdeList, AllocError>
-        ensures { IfOk result (λ list. list ≡ fdes.items) }
+    pub(crate) fn new(
+        alloc: Global,
+        cies: Vec<CieRecord>,
+        fdes: Vec<FdeEntry>,
+    ) -> Result<FdeList, AllocError>
+        requires { All (HasCie (length cies.items)) fdes.items }
+        ensures { IfOk result (λ list. list ≡ map (fde_among cies.items) fdes.items) }
     {
         let mut ranges = ranges_of(alloc, &fdes)?;
         ranges.sort_unstable_by_key(|range| range.first);
@@ -60,32 +67,52 @@ impl FdeList {
         } else {
             Lookup::Walk
         };
-        Ok(FdeList { fdes, lookup })
+        Ok(FdeList { cies, fdes, lookup })
     }
 
-    /// The FDEs in order of bytes.
-    pub(crate) fn as_slice(&self) -> &[FdeRecord]
-        ensures { result.now ≡ self.now }
+    /// How many FDEs there are.
+    pub(crate) fn len(&self) -> usize
+        ensures { result ≡ length self.now }
     {
-        &self.fdes
+        self.fdes.len()
     }
 
-    /// The first FDE in order of bytes that covers an address.
-    pub(crate) fn cover(&self, pc: u64) -> Option<&FdeRecord>
-        ensures { option_copied result ≡ first_cover pc self.now }
+    /// An FDE by its number, in order of bytes, with its CIE.
+    pub(crate) fn get(&self, index: usize) -> (&CieRecord, &FdeEntry)
+        requires { index < length self.now }
+        ensures { slice_get self.now index ≡ Some (with_cie result.0.now result.1.now) }
+    {
+        fde_at(&self.cies, &self.fdes, index)
+    }
+
+    /// The number of the first FDE in order of bytes that covers an address.
+    pub(crate) fn cover(&self, pc: u64) -> Option<usize>
+        ensures value { option_and_then (slice_get self.now) result ≡ first_cover pc self.now }
+        ensures within { IfSome result (λ i. i < length self.now) }
     {
         match &self.lookup {
-            Lookup::Ordered(ranges) => match ordered_cover(ranges, pc) {
-                None => None,
-                Some(fde) => Some(&self.fdes[fde]),
-            },
+            Lookup::Ordered(ranges) => ordered_cover(ranges, pc),
             Lookup::Walk => first_cover(&self.fdes, pc),
         }
     }
 }
 
+fn fde_at<'a>(
+    cies: &'a [CieRecord],
+    fdes: &'a [FdeEntry],
+    index: usize,
+) -> (&'a CieRecord, &'a FdeEntry)
+    requires within { index < length fdes.now }
+    requires cies { All (HasCie (length cies.now)) fdes.now }
+    ensures { slice_get (map (fde_among cies.now) fdes.now) index
+        ≡ Some (with_cie result.0.now result.1.now) }
+{
+    let fde = &fdes[index];
+    (cie_at(cies, fde.cie), fde)
+}
+
 /// The ranges that aren't empty.
-fn ranges_of(alloc: Global, fdes: &[FdeRecord]) -> Result<Vec<CoveredRange>, AllocError>
+fn ranges_of(alloc: Global, fdes: &[FdeEntry]) -> Result<Vec<CoveredRange>, AllocError>
     ensures { IfOk result (λ ranges. HasRanges fdes.now (length fdes.now) ranges.items) }
 {
     let mut ranges = Vec::new(alloc);
@@ -168,22 +195,21 @@ fn ordered_cover(ranges: &[CoveredRange], pc: u64) -> Option<usize>
     }
 }
 
-fn covers(fde: &FdeRecord, pc: u64) -> bool
-    ensures { result ≡ covers pc fde.now }
+fn covers(fde: &FdeEntry, pc: u64) -> bool
+    ensures { result ≡ entry_covers pc fde.now }
 {
     fde.first <= pc && pc - fde.first < fde.range
 }
 
-/// The first FDE that covers an address.
-fn first_cover(fdes: &[FdeRecord], pc: u64) -> Option<&FdeRecord>
-    ensures { option_copied result ≡ first_cover pc fdes.now }
+/// The number of the first FDE that covers an address.
+fn first_cover(fdes: &[FdeEntry], pc: u64) -> Option<usize>
+    ensures value { option_and_then (slice_get fdes.now) result ≡ find (entry_covers pc) fdes.now }
+    ensures within { IfSome result (λ i. i < length fdes.now) }
 {
-    let mut left = fdes;
-    while let [fde, rest @ ..] = left {
+    for (index, fde) in fdes.iter().enumerate() {
         if covers(fde, pc) {
-            return Some(fde);
+            return Some(index);
         }
-        left = rest;
     }
     None
 }

@@ -22,7 +22,7 @@ pub use instructions::{Context, Instruction, Operation, ProgramKind, ReadRule, S
 pub use laws::steps_are_ordered;
 pub use program::Program;
 pub use program_state::{Remembered, State};
-pub use records::{Augmentation, CieRecord, Extent, FdeRecord, Record};
+pub use records::{Augmentation, CieRecord, Entry, Extent, FdeEntry};
 pub use section::{Section, one_answer, section_is_answered};
 
 #[cfg(test)]

@@ -1,9 +1,10 @@
 //! Records: what they say, field by field, and how they are read.
 
-ghost use Rattle.std.specs.Prelude.{◌≡◌, ◌<◌, length, IfOk, OnOk};
+ghost use Rattle.std.specs.Prelude.{◌≡◌, ◌<◌, length, slice_index_or, IfOk, OnOk};
 ghost use Rattle.eh_bytes.specs.Rest.{Gives};
 ghost use Rattle.eh_bytes.specs.Grammar.{lift};
 ghost use Rattle.eh_bytes.specs.Fields.{fixed};
+ghost use Rattle.frame_parse.specs.Entries.{no_cie, record_among, HasItsCie};
 ghost use Rattle.frame_parse.specs.Records.{content, record_length, record_at, whole_record};
 ghost use Rattle.frame_parse.specs.Sections.{starts, IsAscending, BeginsAt};
 
@@ -42,21 +43,30 @@ pub struct CieRecord {
     pub initial: Extent,
 }
 
-/// An FDE, with its CIE.
+/// An FDE, as a section keeps it: its CIE is kept once, and goes by its number in order of bytes.
 #[derive(Clone, Copy, Debug, PartialEq, Eq)]
-pub struct FdeRecord {
-    pub cie: CieRecord,
+pub struct FdeEntry {
+    pub cie: usize,
     pub first: u64,
     pub range: u64,
     pub lsda: Option<u64>,
     pub program: Extent,
 }
 
-/// A record of a section.
+/// A record, as a section keeps it.
 #[derive(Clone, Copy, Debug, PartialEq, Eq)]
-pub enum Record {
+pub enum Entry {
     Cie(CieRecord),
-    Fde(FdeRecord),
+    Fde(FdeEntry),
+}
+
+/// A CIE by its number.
+#[inline(always)]
+pub(crate) fn cie_at(cies: &[CieRecord], index: usize) -> &CieRecord
+    requires { index < length cies.now }
+    ensures { result.now ≡ slice_index_or cies.now index no_cie }
+{
+    &cies[index]
 }
 
 /// What stands after the length of a record from `start` to `end`.
@@ -67,11 +77,12 @@ fn content(
     earlier: &[CieRecord],
     start: usize,
     end: usize,
-) -> Result<Record, RecordFault>
+) -> Result<Entry, RecordFault>
     requires { IsAscending (starts earlier.now) }
-    ensures read { Gives (λ r. r) (content section earlier.now start end).read
+    ensures read { Gives (record_among earlier.now) (content section earlier.now start end).read
         cursor.old result cursor.new }
     ensures start { IfOk result (BeginsAt start) }
+    ensures cie { IfOk result (HasItsCie (length earlier.now)) }
 {
     let at = cursor.at();
     let id = four_bytes(cursor)?;
@@ -80,15 +91,16 @@ fn content(
         let context = Context::new(section, &cie, ProgramKind::Initial);
         let state = steps(&context, cursor, initial_state())?;
         cie.offset = state.offset;
-        return Ok(Record::Cie(cie));
+        return Ok(Entry::Cie(cie));
     }
     match cie_behind(earlier, at, id as usize) {
         None => Err(RecordFault::NoCie { at }),
-        Some(cie) => {
-            let fde = fde(cursor, section, end, cie)?;
+        Some(index) => {
+            let cie = cie_at(earlier, index);
+            let fde = fde(cursor, section, end, cie, index)?;
             let context = Context::new(section, cie, ProgramKind::Own);
             let _state = steps(&context, cursor, first_state(cie, fde.first))?;
-            Ok(Record::Fde(fde))
+            Ok(Entry::Fde(fde))
         }
     }
 }
@@ -136,12 +148,13 @@ fn record_at(
     section: u64,
     earlier: &[CieRecord],
     start: usize,
-) -> Result<Record, RecordFault>
+) -> Result<Entry, RecordFault>
     requires { IsAscending (starts earlier.now) }
-    ensures read { Gives (λ r. r) (record_at section earlier.now start).read
+    ensures read { Gives (record_among earlier.now) (record_at section earlier.now start).read
         cursor.old result cursor.new }
     ensures moves { OnOk result (length cursor.new.bytes < length cursor.old.bytes) }
     ensures start { IfOk result (BeginsAt start) }
+    ensures cie { IfOk result (HasItsCie (length earlier.now)) }
 {
     let length = record_length(cursor, start)?;
     let mut inside = data(RecordFault::Short { at: start }, cursor, length)?;
@@ -154,12 +167,13 @@ pub(crate) fn whole_record(
     cursor: &mut Cursor,
     section: u64,
     earlier: &[CieRecord],
-) -> Result<Record, FrameFault>
+) -> Result<Entry, FrameFault>
     requires { IsAscending (starts earlier.now) }
-    ensures read { Gives (λ r. r) (whole_record section earlier.now).read
+    ensures read { Gives (record_among earlier.now) (whole_record section earlier.now).read
         cursor.old result cursor.new }
     ensures moves { OnOk result (length cursor.new.bytes < length cursor.old.bytes) }
     ensures start { IfOk result (BeginsAt cursor.old.at) }
+    ensures cie { IfOk result (HasItsCie (length earlier.now)) }
 {
     let start = cursor.at();
     match record_at(cursor, section, earlier, start) {

@@ -1,14 +1,16 @@
 //! A section: its records, one after another.
 
-ghost use Rattle.std.specs.Prelude.{◌≡◌, ◌≤◌, ◌<◌, ◌⊎◌, length, IfOk, IfErr, IfSome, slice_get, Some, ℕ, List};
+ghost use Rattle.std.specs.Prelude.{◌≡◌, ◌≤◌, ◌<◌, ◌⊎◌, length, map, IfOk, IfErr, IfSome, slice_get, Some, ℕ, List};
+ghost use Rattle.std.specs.List.{All};
 ghost use Rattle.std.specs.Option.{option_map};
+ghost use Rattle.frame_parse.specs.Entries.{fde_among, HasCie};
 ghost use Rattle.frame_parse.specs.Sections.{is_end, HasFdes, IsRefused, first_cover, HasOneAnswer};
 ghost use Rattle.frame_parse.specs.Reading.{IsAnswered};
 
 use crate::fault::FrameFault;
 use crate::fde::Fde;
 use crate::fde_lookup::FdeList;
-use crate::records::{FdeRecord, Record, whole_record};
+use crate::records::{CieRecord, Entry, FdeEntry, whole_record};
 use byteorder::{ByteOrder, LittleEndian};
 use eh_bytes::Cursor;
 use std::alloc::Global;
@@ -21,23 +23,39 @@ fn is_end(rest: &[u8]) -> bool
     rest.is_empty() || (4 <= rest.len() && LittleEndian::read_u32(rest) == 0)
 }
 
-/// The FDEs of a section's records.
-fn fdes_of(alloc: Global, section: u64, bytes: &[u8]) -> Result<Vec<FdeRecord>, FrameFault>
-    ensures found { IfOk result (λ fdes. HasFdes section bytes.now fdes.items) }
+/// The CIEs and the FDEs of a section's records.
+fn entries_of(
+    alloc: Global,
+    section: u64,
+    bytes: &[u8],
+) -> Result<(Vec<CieRecord>, Vec<FdeEntry>), FrameFault>
+    ensures found { IfOk result (λ r. HasFdes section bytes.now (map (fde_among r.0.items) r.1.items)) }
+    ensures cies { IfOk result (λ r. All (HasCie (length r.0.items)) r.1.items) }
     ensures refused { IfErr result (λ f. (f ≡ FrameFault.NoMemory)
         ⊎ IsRefused section bytes.now f) }
 {
     let mut cursor = Cursor::new(bytes, 0, bytes.len());
     let mut cies = Vec::new(alloc);
-    // An FDE of GCC's has 24 bytes at least, and mostly more.
-    let mut fdes = Vec::with_capacity(alloc, bytes.len() / 24)?;
+    // An FDE of a compiler's has some 50 bytes.
+    let mut fdes = Vec::with_capacity(alloc, bytes.len() / 48)?;
     while !is_end(cursor.rest()) {
         match whole_record(&mut cursor, section, &cies)? {
-            Record::Cie(cie) => cies.push(cie)?,
-            Record::Fde(fde) => fdes.push(fde)?,
+            Entry::Cie(cie) => cies.push(cie)?,
+            Entry::Fde(fde) => fdes.push(fde)?,
         }
     }
-    Ok(fdes)
+    Ok((cies, without_spare_room(fdes)))
+}
+
+/// The same FDEs. Room for twice as many and more isn't kept.
+fn without_spare_room(fdes: Vec<FdeEntry>) -> Vec<FdeEntry>
+    ensures { result.items ≡ fdes.items }
+{
+    let mut fdes = fdes;
+    if fdes.len() < fdes.capacity() / 2 {
+        fdes.shrink_to_fit();
+    }
+    fdes
 }
 
 /// A section of `.eh_frame` whose records were all read.
@@ -69,7 +87,8 @@ impl Section {
         ensures refused { IfErr result (λ f. (f ≡ FrameFault.NoMemory)
             ⊎ IsRefused address bytes.now f) }
     {
-        let fdes = FdeList::new(alloc, fdes_of(alloc, address, bytes)?)?;
+        let (cies, fdes) = entries_of(alloc, address, bytes)?;
+        let fdes = FdeList::new(alloc, cies, fdes)?;
         let bytes = Vec::from_slice(alloc, bytes)?;
         Ok(Section {
             address,
@@ -94,7 +113,7 @@ impl Section {
     pub fn count(&self) -> usize
         ensures { result ≡ length self.now.fdes }
     {
-        self.fdes.as_slice().len()
+        self.fdes.len()
     }
 
     /// Every section has the FDEs of its bytes.
@@ -111,8 +130,8 @@ impl Section {
         ensures section { result.section ≡ self.now.address }
         ensures bytes { result.bytes ≡ self.now.bytes }
     {
-        let entry = entry_at(self.fdes.as_slice(), index);
-        Fde::new(self.address, &self.bytes, entry)
+        let (cie, entry) = self.fdes.get(index);
+        Fde::new(self.address, &self.bytes, cie, entry)
     }
 
     /// The first FDE in order of bytes that covers an address.
@@ -123,16 +142,9 @@ impl Section {
     {
         match self.fdes.cover(pc) {
             None => None,
-            Some(entry) => Some(Fde::new(self.address, &self.bytes, entry)),
+            Some(index) => Some(self.fde(index)),
         }
     }
-}
-
-fn entry_at(fdes: &[FdeRecord], index: usize) -> &FdeRecord
-    requires { index < length fdes.now }
-    ensures { slice_get fdes.now index ≡ Some result.now }
-{
-    &fdes[index]
 }
 
 /// Each list of bytes has one list of records or one first refusal, never both.

@@ -1,11 +1,12 @@
 //! The fields of an FDE.
 
-ghost use Rattle.std.specs.Prelude.{◌≡◌};
+ghost use Rattle.std.specs.Prelude.{◌≡◌, IfOk};
 ghost use Rattle.eh_bytes.specs.Rest.{Gives};
+ghost use Rattle.frame_parse.specs.Entries.{with_cie};
 ghost use Rattle.frame_parse.specs.Records.{range, lsda, fde};
 
 use super::fields::{data, is_negative, number, optional_pointer, pointer, uleb};
-use super::{CieRecord, Extent, FdeRecord};
+use super::{CieRecord, Extent, FdeEntry};
 use crate::fault::RecordFault;
 use eh_bytes::Cursor;
 
@@ -38,22 +39,24 @@ fn lsda(cursor: &mut Cursor, section: u64, cie: &CieRecord) -> Result<Option<u64
     optional_pointer(&mut inside, section, cie.augmentation.lsda)
 }
 
-/// The fields behind the id. What is left up to `end` are the instructions.
+/// The fields after the id, where the CIE has this number. What is left up to `end` are the instructions.
 #[tactic(auto, unfolding(crate::specs::Records::fde))]
 pub(crate) fn fde(
     cursor: &mut Cursor,
     section: u64,
     end: usize,
     cie: &CieRecord,
-) -> Result<FdeRecord, RecordFault>
-    ensures { Gives (λ f. f) (fde section end cie.now).read cursor.old result cursor.new }
+    number: usize,
+) -> Result<FdeEntry, RecordFault>
+    ensures read { Gives (with_cie cie.now) (fde section end cie.now).read cursor.old result cursor.new }
+    ensures cie { IfOk result (λ f. f.cie ≡ number) }
 {
     let pointers = cie.augmentation.pointers;
     let first = pointer(cursor, section, pointers)?;
     let range = range(cursor, pointers, first)?;
     let lsda = lsda(cursor, section, cie)?;
-    Ok(FdeRecord {
-        cie: *cie,
+    Ok(FdeEntry {
+        cie: number,
         first,
         range,
         lsda,

@@ -1,7 +1,8 @@
 use Rattle.std.proofs.Common.{◌≡◌, ◌+◌, ◌-◌, ◌/◌, ◌<◌, length, refl, sym, arith, inl, inr}
 use Rattle.std.proofs.lemmas.Bool.{cases_lt}
+use Rattle.frame_parse.specs.Entries.{no_cie}
 use Rattle.frame_parse.specs.Sections.{starts}
-use Rattle.frame_parse.proofs.Searches.{no_cie, starts-at, starts-length, up_to, cie_from-at, cie_from-none}
+use Rattle.frame_parse.proofs.Searches.{starts-at, starts-length, up_to, cie_from-at, cie_from-none}
 use Rattle.frame_parse.proofs.cie_lookup.cie_from.Goals as goal
 use Rattle.frame_parse.proofs.cie_lookup.cie_from.Goals.{else-low-cies-via-then-low-cies+else-cies-low, else-low-cies-via-else-low-cies}
 
@@ -32,13 +33,13 @@ loop-low-preserved c =
       above = λ k h lt. let up = up_to (starts cies) middle k c.requires h (omega (arith, size)) in omega (arith, up, here, c.if-cies-middle.false);
     }
 
-pub returns-then-cies-low : goal.returns-then-cies-low
-returns-then-cies-low c =
+pub returns-then-cies-low-clause-value : goal.returns-then-cies-low-clause-value
+returns-then-cies-low-clause-value c =
     let here = starts-at c.args.cies.now c.loop-low.low no_cie refl in
     sym (cie_from-at c.args.cies.now c.loop-low.low c.args.place no_cie (omega arith) c.loop-low.invariant.below (omega (arith, here, c.if-cies-low.true)))
 
-pub returns-else-low-cies : goal.returns-else-low-cies
-returns-else-low-cies c =
+pub returns-else-low-cies-clause-value : goal.returns-else-low-cies-clause-value
+returns-else-low-cies-clause-value c =
     let cies = c.args.cies.now in
     let low = c.loop-low.low in
     let size : length (starts cies) ≡ length cies = starts-length cies in

@@ -1,9 +1,7 @@
-use Rattle.std.proofs.Common.{◌≡◌, length}
-use Rattle.frame_parse.specs.Sections.{first_cover}
+use Rattle.std.proofs.Common.{◌≡◌, drop}
+use Rattle.std.specs.List.{find}
+use Rattle.frame_parse.specs.Lookups.{entry_covers}
 use Rattle.frame_parse.proofs.fde_lookup.first_cover.Given as goal
 
-abbrev pub invariant-loop-left : goal.invariant-loop-left
-invariant-loop-left l = first_cover l.pc l.fdes ≡ first_cover l.pc l.left
-
-abbrev pub decreases-loop-left : goal.decreases-loop-left
-decreases-loop-left l = length l.left
+abbrev pub invariant-loop-index : goal.invariant-loop-index
+invariant-loop-index l = find (entry_covers l.pc) (drop l.index l.fdes) ≡ find (entry_covers l.pc) l.fdes

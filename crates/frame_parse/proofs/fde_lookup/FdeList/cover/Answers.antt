@@ -1,23 +1,25 @@
-use Rattle.std.proofs.Common.{◌≡◌, subst, sym, ap, ◌∙◌, Some, get_or}
-use Rattle.frame_parse.specs.declared.records.FdeRecord.{FdeRecord}
-use Rattle.frame_parse.specs.Sections.{first_cover}
+use Rattle.std.proofs.Common.{subst, sym}
 use Rattle.frame_parse.specs.Lookups.{Finds}
-use Rattle.frame_parse.proofs.Lookups.{none_covers, one_covers}
+use Rattle.frame_parse.proofs.Lookups.{IsFound, covered, cover-map, within-map}
 use Rattle.frame_parse.proofs.fde_lookup.FdeList.cover.Goals as goal
 
-pub returns-in-None : goal.returns-in-None
-returns-in-None c =
+pub returns-in-Ordered : goal.returns-in-Ordered
+returns-in-Ordered c =
     let l = c.self.inside in
-    let finds = subst (Finds l.fdes.items) c.in-Ordered.is c.self.invariant in
-    let none = rw c.deref.ensures.value at c.in-None.ensures.none in
-    rw (← c.self.view_is) (sym (none_covers c.args.pc l.fdes.items c.in-Ordered.ranges.items finds.0 none))
+    let finds = subst (Finds l.fdes.items) c.in-Ordered.is c.self.invariant.0 in
+    let found : IsFound c.args.pc c.in-Ordered.ranges.items c.ordered_cover.result = (rw c.deref.ensures.value at c.ordered_cover.ensures.none, rw c.deref.ensures.value at c.ordered_cover.ensures.some) in
+    let first = covered c.args.pc l.fdes.items c.in-Ordered.ranges.items c.ordered_cover.result finds.0 finds.1 found in
+    record {
+      value = rw (← c.self.view_is) (cover-map c.args.pc l.cies.items l.fdes.items c.ordered_cover.result first.0);
+      within = rw (← c.self.view_is) (within-map l.cies.items l.fdes.items c.ordered_cover.result first.1);
+    }
 
-pub returns-in-Some : goal.returns-in-Some
-returns-in-Some c =
+pub returns-in-Walk : goal.returns-in-Walk
+returns-in-Walk c =
     let l = c.self.inside in
-    let finds = subst (Finds l.fdes.items) c.in-Ordered.is c.self.invariant in
-    let some = rw c.deref.ensures.value at c.in-Some.ensures.some in
-    let found = c.index.result.now in
-    let covers = (one_covers c.args.pc l.fdes.items c.in-Ordered.ranges.items some.0 found finds.0 finds.1 some.1 some.2).1 in
-    let here : first_cover c.args.pc l.fdes.items ≡ Some found = covers ∙ ap (λ k. Some (get_or l.fdes.items k found)) some.3 ∙ ap (λ (f : FdeRecord). Some f) (sym c.index.ensures) in
-    rw (← c.self.view_is) (sym here)
+    let value = rw c.deref-in-Walk.ensures.value at c.first_cover.ensures.value in
+    let within = rw c.deref-in-Walk.ensures.value at c.first_cover.ensures.within in
+    record {
+      value = rw (← c.self.view_is) (cover-map c.args.pc l.cies.items l.fdes.items c.first_cover.result value);
+      within = rw (← c.self.view_is) (within-map l.cies.items l.fdes.items c.first_cover.result within);
+    }

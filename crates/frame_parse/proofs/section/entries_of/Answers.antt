@@ -2,7 +2,7 @@ use Rattle.std.proofs.Common.{◌≡◌, true, false, sym, ap, ◌∙◌, inr}
 use Rattle.std.proofs.lemmas.Result.{err_from_is_err_and}
 use Rattle.frame_parse.specs.Sections.{is_end}
 use Rattle.frame_parse.proofs.SoFar.{next_cie, next_fde, all_read, none_further}
-use Rattle.frame_parse.proofs.section.fdes_of.Goals as goal
+use Rattle.frame_parse.proofs.section.entries_of.Goals as goal
 
 pub loop-cursor-preserved-in-Continue-branch-4 : goal.loop-cursor-preserved-in-Continue-branch-4
 loop-cursor-preserved-in-Continue-branch-4 c =
@@ -16,8 +16,9 @@ pub loop-cursor-preserved : goal.loop-cursor-preserved
 loop-cursor-preserved c =
     let was = c.loop-cursor in
     let read = rw (c.deref.ensures.value, c.in-Fde.is) at c.in_ok-cie.ensures.read in
+    let has = rw (c.deref.ensures.value, c.in-Fde.is) at c.in_ok-cie.ensures.cie in
     rw c.in_ok-push-in-Fde.ensures.items
-    (next_fde c.args.section c.args.bytes.now was.cursor was.cies.items was.fdes.items c.in-Fde.fde c.whole_record.new.cursor was.invariant read)
+    (next_fde c.args.section c.args.bytes.now was.cursor was.cies.items was.fdes.items c.in-Fde.fde c.whole_record.new.cursor was.invariant read has)
 
 pub returns-in_err-cie-clause-refused : goal.returns-in_err-cie-clause-refused
 returns-in_err-cie-clause-refused c =
@@ -32,4 +33,7 @@ pub returns-clause-found : goal.returns-clause-found
 returns-clause-found c =
     let was = c.loop-cursor in
     let done : is_end was.cursor.bytes ≡ true = ap is_end (sym c.rest.ensures) ∙ sym c.loop-cursor-test.ensures in
-    all_read c.args.section c.args.bytes.now was.cursor was.cies.items was.fdes.items was.invariant done
+    rw c.without_spare_room.ensures (all_read c.args.section c.args.bytes.now was.cursor was.cies.items was.fdes.items was.invariant done)
+
+pub returns-clause-cies : goal.returns-clause-cies
+returns-clause-cies c = rw c.without_spare_room.ensures c.loop-cursor.invariant.within
