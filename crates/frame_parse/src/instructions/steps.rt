@@ -54,6 +54,22 @@ fn decoded_step(
     Ok(here(state, instruction_of(&operation)))
 }
 
+/// The same, with a place of its own for the answer: so that those of a caller's other arms stay in registers.
+#[inline(always)]
+fn step_by_operation(
+    context: &Context,
+    cursor: &mut Cursor,
+    state: &mut State,
+    at: usize,
+    byte: u8,
+) -> Result<Step, RecordFault>
+    ensures { Gives (λ x. (x, state.new)) (extended_step context.now state.old at byte).read
+        cursor.old result cursor.new }
+{
+    let step = decoded_step(context, cursor, state, at, byte)?;
+    Ok(step)
+}
+
 /// The same. The instructions of which compilers write most are tested where they are read.
 #[inline(always)]
 #[tactic(auto, unfolding(crate::specs::Programs::extended_operation))]
@@ -88,11 +104,7 @@ fn extended_step(
             state.offset = true;
             Ok(here(state, Instruction::Cfa { column, by }))
         }
-        _ => {
-            // The answer of a call has a place of its own, so that those above stay in registers.
-            let step = decoded_step(context, cursor, state, at, byte)?;
-            Ok(step)
-        }
+        _ => step_by_operation(context, cursor, state, at, byte),
     }
 }
 
