@@ -1,4 +1,5 @@
-//! Sections written by hand. Those with a name of the cases are theirs.
+//! Sections and memory written by hand. S1 is that of the cases; of the others `readelf --debug-dump=frames-interp`
+//! (binutils 2.40) shows the rows that are told here.
 
 /// A function with a frame pointer, from 0x1000 on, and one without, from 0x1020 on. At 0x2000.
 pub(crate) const S1: [u8; 84] = [
