@@ -22,8 +22,9 @@ fn a_script_is_what_its_lines_say(rt: HostRuntime) -> Result<(), Fail> {
     assert_eq!(rt; script.nodes, 16);
     assert_eq!(rt; script.loads, 2);
     assert_eq!(rt; script.images.len(), 3);
-    assert_eq!(rt; script.images[0].first(), 0x1000);
-    assert_eq!(rt; script.images[0].last(), 0x101f);
+    let image = script.images.first().ok_or("an image")?;
+    assert_eq!(rt; image.first(), 0x1000);
+    assert_eq!(rt; image.last(), 0x101f);
     assert_eq!(rt; script.fixed.as_slice(), [0, 2].as_slice());
     assert_eq!(rt; script.rounds.len(), 1);
     for round in &script.rounds {
