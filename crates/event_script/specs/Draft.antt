@@ -13,8 +13,8 @@ use Rattle.event_script.specs.declared.reader.kinds.Kind.TheVariants as kind
 use Rattle.event_script.specs.declared.reader.statement.Statement.{Statement}
 use Rattle.event_script.specs.declared.reader.statement.Statement.TheVariants as statement
 
--- What the lines so far make known: which lines may come, what stands of the script, the threads that are over of the round that
--- goes on, and the events of the thread that goes on.
+-- What the lines so far make known: which lines may come, what stands of the script, the threads that
+-- are over of the round that goes on, and the events of the thread that goes on.
 pub record DraftData : Type 0 where
   pub stage : Stage
   pub script : ScriptData
@@ -73,7 +73,8 @@ abbrev pub has_thread : Stage → Bool
 has_thread stage.Thread = true
 has_thread _ = false
 
--- Lines that can't be run after what the lines before made known: those of backtraces, a second round, a second thread.
+-- Lines that can't be run after what the lines before made known: those of backtraces, a second
+-- round, a second thread.
 abbrev pub is_unbuilt : DraftData → Kind → Bool
 is_unbuilt known kind.Snapshot = true
 is_unbuilt known kind.Unwind = true
@@ -89,7 +90,8 @@ threads_at stage.Thread threads events = threads ++ events ∷ []
 threads_at _ threads events = threads
 
 -- the rounds, with the one that goes on
-abbrev pub rounds_at : Stage → List (List (List Event)) → List (List Event) → List Event → List (List (List Event))
+abbrev pub rounds_at : Stage → List (List (List Event)) → List (List Event) → List Event
+    → List (List (List Event))
 rounds_at stage.Round rounds threads events = rounds ++ threads ∷ []
 rounds_at stage.Thread rounds threads events = rounds ++ (threads ++ events ∷ []) ∷ []
 rounds_at _ rounds threads events = rounds
@@ -112,20 +114,38 @@ contents_or_none address bytes (Err fault) = record { address = address; bytes =
 
 abbrev pub with_image : DraftData → ImageData → Contents → DraftData
 with_image known image section =
-    record known { script = record known.script { images = known.script.images ++ span_from image ∷ []; sections = known.script.sections ++ section ∷ [] } }
+    record known {
+      script = record known.script {
+        images = known.script.images ++ span_from image ∷ [];
+        sections = known.script.sections ++ section ∷ [];
+      };
+    }
 
 -- the round that goes on is over
 abbrev pub after_round : DraftData → Stage → DraftData
-after_round known next = record { stage = next; script = record known.script { rounds = rounds_so_far known }; threads = []; events = [] }
+after_round known next = record {
+  stage = next;
+  script = record known.script { rounds = rounds_so_far known };
+  threads = [];
+  events = [];
+}
 
 -- what is known after one more line that says so
 abbrev pub with_statement : DraftData → Statement → DraftData
 with_statement known (statement.Version version) = record known { stage = stage.Nodes }
-with_statement known (statement.Nodes nodes) = record known { stage = stage.Loads; script = record known.script { nodes = nodes } }
-with_statement known (statement.Loads loads) = record known { stage = stage.Images; script = record known.script { loads = loads } }
-with_statement known (statement.Image image) = with_image known image (contents_or_none image.section image.bytes (section_of image.section image.bytes))
-with_statement known (statement.Fixed image) = record known { stage = stage.Fixed; script = record known.script { fixed = known.script.fixed ++ image ∷ [] } }
+with_statement known (statement.Nodes nodes) =
+    record known { stage = stage.Loads; script = record known.script { nodes = nodes } }
+with_statement known (statement.Loads loads) =
+    record known { stage = stage.Images; script = record known.script { loads = loads } }
+with_statement known (statement.Image image) =
+    with_image known image
+    (contents_or_none image.section image.bytes (section_of image.section image.bytes))
+with_statement known (statement.Fixed image) = record known {
+  stage = stage.Fixed;
+  script = record known.script { fixed = known.script.fixed ++ image ∷ [] };
+}
 with_statement known statement.Round = after_round known stage.Round
-with_statement known statement.Thread = record known { stage = stage.Thread; threads = threads_so_far known; events = [] }
+with_statement known statement.Thread =
+    record known { stage = stage.Thread; threads = threads_so_far known; events = [] }
 with_statement known (statement.Event event) = record known { events = known.events ++ event ∷ [] }
 with_statement known statement.End = after_round known stage.Ended

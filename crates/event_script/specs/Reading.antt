@@ -1,4 +1,5 @@
--- How scripts are read, line after line. That this finds the first bad line of the table, and the script that the bytes spell, is proved.
+-- How scripts are read, line after line. That this finds the first bad line of the table, and the
+-- script that the bytes spell, is proved.
 use Rattle.std.specs.Prelude.{◌≡◌, ℕ, ◌+◌, ◌-◌, ◌^◌, List, [], ◌∷◌, length, Bool, true, false, ◌&&◌, ◌==◌, nat_lt, nat_le, Option, Some, None, Result, Ok, Err, slice_get, if◌then◌else◌}
 use Rattle.std.specs.List.{find}
 use Rattle.std.specs.Option.{ok_or, option_and_then}

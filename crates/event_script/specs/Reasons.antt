@@ -24,9 +24,12 @@ pub record LineText : Type 0 where
 abbrev pub fields_of : LineText → Line
 fields_of text = pieces 32 text.bytes
 
--- the line begins with the word of a kind that may come here, and this holds of the kind and of its other fields
+-- the line begins with the word of a kind that may come here, and this holds of the kind and of its
+-- other fields
 abbrev pub IsOfKind : DraftData → LineText → (Kind → Line → Type 0) → Type 0
-IsOfKind known text P = (kind : Kind) × (fields : Line) × (fields_of text ≡ word_of kind ∷ fields) × (may_come known.stage kind ≡ true) × P kind fields
+IsOfKind known text P =
+    (kind : Kind) × (fields : Line) × (fields_of text ≡ word_of kind ∷ fields)
+    × (may_come known.stage kind ≡ true) × P kind fields
 
 -- the line says this
 pub record Says (text : LineText) (s : Statement) : Type 0 where
@@ -49,7 +52,8 @@ abbrev pub IsOutsideLimit : DraftData → Statement → Type 0
 IsOutsideLimit known (statement.Version version) = version ≢ VERSION
 IsOutsideLimit known (statement.Nodes nodes) = (nodes < LEAST_NODES) ⊎ (MOST_NODES < nodes)
 IsOutsideLimit known (statement.Loads loads) = (loads < LEAST_LOADS) ⊎ (MOST_LOADS < loads)
-IsOutsideLimit known (statement.Image image) = (MOST_IMAGES ≤ length known.script.images) ⊎ (MOST_SECTION_BYTES < length image.bytes)
+IsOutsideLimit known (statement.Image image) =
+    (MOST_IMAGES ≤ length known.script.images) ⊎ (MOST_SECTION_BYTES < length image.bytes)
 IsOutsideLimit known statement.Round = MOST_ROUNDS ≤ length (rounds_so_far known)
 IsOutsideLimit known statement.Thread = MOST_THREADS ≤ length (threads_so_far known)
 IsOutsideLimit known (statement.Event event) = MOST_EVENTS ≤ length known.events
@@ -75,8 +79,11 @@ IsNameless known _ = ⊥
 -- its span isn't wholly above that of the fixed image before it
 abbrev pub IsNotAbove : DraftData → Statement → Type 0
 IsNotAbove known (statement.Fixed image) =
-    (last : ℕ) × (below above : Interval) × (slice_get known.script.fixed (length known.script.fixed - 1) ≡ Some last)
-    × (slice_get known.script.images last ≡ Some below) × (slice_get known.script.images image ≡ Some above) × (above.first ≤ below.last)
+    (last : ℕ) × (below above : Interval)
+    × (slice_get known.script.fixed (length known.script.fixed - 1) ≡ Some last)
+    × (slice_get known.script.images last ≡ Some below)
+    × (slice_get known.script.images image ≡ Some above)
+    × (above.first ≤ below.last)
 IsNotAbove known _ = ⊥
 
 -- ---- the table
@@ -101,21 +108,28 @@ number_in_table reason.Fixed = 14
 -- The reason holds of what stands in the place of a line, in what the lines before made known.
 abbrev pub SpeaksAgainst : Reason → DraftData → LineText → Type 0
 -- the input ends where a line must come
-SpeaksAgainst reason.Missing known text = (is_ended known.stage ≡ false) × (text.bytes ≡ []) × (text.has_feed ≡ false)
+SpeaksAgainst reason.Missing known text =
+    (is_ended known.stage ≡ false) × (text.bytes ≡ []) × (text.has_feed ≡ false)
 -- bytes come after the `end` line
-SpeaksAgainst reason.After known text = (is_ended known.stage ≡ true) × ((text.bytes ≢ []) ⊎ (text.has_feed ≡ true))
+SpeaksAgainst reason.After known text =
+    (is_ended known.stage ≡ true) × ((text.bytes ≢ []) ⊎ (text.has_feed ≡ true))
 -- the line has no line feed
 SpeaksAgainst reason.Unended known text = text.has_feed ≡ false
 -- a byte outside 20 to 7e (hexadecimal) stands in it
 SpeaksAgainst reason.Byte known text = is_printable text.bytes ≡ false
 -- its first field can't start a line here
-SpeaksAgainst reason.Word known text = (kind : Kind) (fields : Line) → fields_of text ≡ word_of kind ∷ fields → may_come known.stage kind ≡ true → ⊥
+SpeaksAgainst reason.Word known text =
+    (kind : Kind) (fields : Line) → fields_of text ≡ word_of kind ∷ fields
+    → may_come known.stage kind ≡ true → ⊥
 -- its form can't be run
-SpeaksAgainst reason.Unbuilt known text = IsOfKind known text (λ kind fields. is_unbuilt known kind ≡ true)
+SpeaksAgainst reason.Unbuilt known text =
+    IsOfKind known text (λ kind fields. is_unbuilt known kind ≡ true)
 -- the number of fields is wrong; an empty field counts as a field
-SpeaksAgainst reason.Fields known text = IsOfKind known text (λ kind fields. length fields ≢ length (forms kind))
+SpeaksAgainst reason.Fields known text =
+    IsOfKind known text (λ kind fields. length fields ≢ length (forms kind))
 -- a field isn't spelled as its kind
-SpeaksAgainst reason.Spelling known text = IsOfKind known text (λ kind fields. AreFields (forms kind) fields → ⊥)
+SpeaksAgainst reason.Spelling known text =
+    IsOfKind known text (λ kind fields. AreFields (forms kind) fields → ⊥)
 SpeaksAgainst reason.Order known text = SaysSome text (IsOutOfOrder known)
 SpeaksAgainst reason.Limit known text = SaysSome text (IsOutsideLimit known)
 SpeaksAgainst reason.Span known text = SaysSome text IsNoSpan
@@ -126,7 +140,8 @@ SpeaksAgainst reason.Fixed known text = SaysSome text (IsNotAbove known)
 -- the first reason that holds
 pub record IsReason (known : DraftData) (text : LineText) (why : Reason) : Type 0 where
   pub holds : SpeaksAgainst why known text
-  pub first : (other : Reason) → number_in_table other < number_in_table why → SpeaksAgainst other known text → ⊥
+  pub first : (other : Reason) → number_in_table other < number_in_table why
+      → SpeaksAgainst other known text → ⊥
 
 -- no reason holds
 abbrev pub IsGood : DraftData → LineText → Type 0

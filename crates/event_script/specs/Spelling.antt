@@ -30,29 +30,41 @@ statements_text statements = flat_map statement_text statements
 
 -- what the line of an image says, from its number, span and section
 abbrev pub image_data : ℕ → Interval → Contents → ImageData
-image_data number span section = record { number = number; base = span.first; size = span.last + 1 - span.first; section = section.address; bytes = section.bytes }
+image_data number span section = record {
+  number = number;
+  base = span.first;
+  size = span.last + 1 - span.first;
+  section = section.address;
+  bytes = section.bytes;
+}
 
 -- the images, numbered upwards, each with its section
 abbrev pub image_statements : ℕ → List Interval → List Contents → List Statement
 image_statements number [] sections = []
 image_statements number (span ∷ images) [] = []
-image_statements number (span ∷ images) (section ∷ sections) = statement.Image (image_data number span section) ∷ image_statements (number + 1) images sections
+image_statements number (span ∷ images) (section ∷ sections) =
+    statement.Image (image_data number span section) ∷ image_statements (number + 1) images sections
 
 abbrev pub thread_statements : List (List Event) → List Statement
 thread_statements [] = []
-thread_statements (events ∷ threads) = statement.Thread ∷ map statement.Event events ++ thread_statements threads
+thread_statements (events ∷ threads) =
+    statement.Thread ∷ map statement.Event events ++ thread_statements threads
 
 abbrev pub round_statements : List (List (List Event)) → List Statement
 round_statements [] = []
-round_statements (threads ∷ rounds) = statement.Round ∷ thread_statements threads ++ round_statements rounds
+round_statements (threads ∷ rounds) =
+    statement.Round ∷ thread_statements threads ++ round_statements rounds
 
 -- the version and the two numbers
 abbrev pub first_statements : ℕ → ℕ → List Statement
-first_statements nodes loads = statement.Version VERSION ∷ statement.Nodes nodes ∷ statement.Loads loads ∷ []
+first_statements nodes loads =
+    statement.Version VERSION ∷ statement.Nodes nodes ∷ statement.Loads loads ∷ []
 
 -- what the lines of a script say, but for the last one
 abbrev pub body_statements : ScriptData → List Statement
-body_statements s = first_statements s.nodes s.loads ++ image_statements 0 s.images s.sections ++ map statement.Fixed s.fixed ++ round_statements s.rounds
+body_statements s =
+    first_statements s.nodes s.loads ++ image_statements 0 s.images s.sections
+    ++ map statement.Fixed s.fixed ++ round_statements s.rounds
 
 -- the text of a script
 unfoldable pub script_text : ScriptData → List ℕ

@@ -93,7 +93,9 @@ abbrev pub statement_fields : Statement → List (List ℕ)
 statement_fields (statement.Version version) = decimal version ∷ []
 statement_fields (statement.Nodes nodes) = decimal nodes ∷ []
 statement_fields (statement.Loads loads) = decimal loads ∷ []
-statement_fields (statement.Image image) = decimal image.number ∷ hex image.base ∷ hex image.size ∷ hex image.section ∷ section_digits image.bytes ∷ []
+statement_fields (statement.Image image) =
+    decimal image.number ∷ hex image.base ∷ hex image.size ∷ hex image.section
+    ∷ section_digits image.bytes ∷ []
 statement_fields (statement.Fixed image) = decimal image ∷ []
 statement_fields (statement.Event event) = event_fields event
 statement_fields _ = []
@@ -114,7 +116,9 @@ abbrev pub HasForm : Statement → Type 0
 HasForm (statement.Version version) = version < 2 ^ 32
 HasForm (statement.Nodes nodes) = nodes < 2 ^ 32
 HasForm (statement.Loads loads) = loads < 2 ^ 32
-HasForm (statement.Image image) = (image.number < 2 ^ 32) × (image.base < 2 ^ 64) × (image.size < 2 ^ 64) × (image.section < 2 ^ 64) × IsBytes image.bytes
+HasForm (statement.Image image) =
+    (image.number < 2 ^ 32) × (image.base < 2 ^ 64) × (image.size < 2 ^ 64)
+    × (image.section < 2 ^ 64) × IsBytes image.bytes
 HasForm (statement.Fixed image) = image < 2 ^ 32
 HasForm (statement.Event event) = HasEventForm event
 HasForm _ = Unit {0}

@@ -22,12 +22,14 @@ pub fn bytes_have_one_answer()
 
 /// The lines before a first bad one begin some script's text.
 pub fn good_lines_begin_a_script()
-    ensures { (bytes : List ℕ) (number : ℕ) (why : Reason) → IsFirstBad bytes number why → BeginsScript (take (number - 1) (pieces 10 bytes)) }
+    ensures { (bytes : List ℕ) (number : ℕ) (why : Reason) → IsFirstBad bytes number why
+        → BeginsScript (take (number - 1) (pieces 10 bytes)) }
 {}
 
 /// No script's text begins with the lines up to a first bad one. Where the text ends too early, what is there may begin one.
 pub fn no_script_begins_with_a_bad_line()
-    ensures { (bytes : List ℕ) (number : ℕ) (why : Reason) → IsFirstBad bytes number why → why ≢ reason.Missing → why ≢ reason.Unended
+    ensures { (bytes : List ℕ) (number : ℕ) (why : Reason) → IsFirstBad bytes number why
+        → why ≢ reason.Missing → why ≢ reason.Unended
         → BeginsScript (take number (pieces 10 bytes)) → ⊥ }
 {}
 
