@@ -16,7 +16,7 @@ use Rattle.word_rule.specs.declared.log.Terms.{Terms}
 use Rattle.word_rule.specs.Names.{name_count, is_same}
 use Rattle.tree_shape.specs.Numbers.{once}
 use Rattle.word_rule.specs.Logs.{is_spent}
-use Rattle.word_rule.specs.Callers.{total, CallersHold, LogHolds, LineageHolds, IsRecord, AreRecords, IsAlone, IsWhole, is_done_as, is_done, dones, dones_of_all, dones_in, number_of, start}
+use Rattle.word_rule.specs.Callers.{total, CallersHold, LogHolds, LineageHolds, IsRecord, ReceiptsHold, IsAlone, IsWhole, is_done_as, is_done, dones, dones_of_all, dones_in, number_of, start}
 use Rattle.word_rule.specs.TableInvariant.{TableInvariant}
 use Rattle.word_rule.specs.Plays.{confirms}
 use Rattle.word_rule.proofs.Facts.{part_of_total, all_of_total}
@@ -76,7 +76,7 @@ module _ (t : Terms) (m : Memory) (views : List Log) (history : List Update) (r 
   pub whole : is_spent v.role ≡ false → IsWhole v
   whole stands = record {
     numbers = λ n. sym (dones_all n) ∙ (r.numbers n ∙ ap (λ k. number_of k n) (sym seen_all));
-    receipts = subst (λ s. AreRecords s v.past (v.made + 1) v.receipts) (sym (own_log.terms stands)) own_log.receipts;
+    receipts = subst (λ s. ReceiptsHold s v.past (v.made + 1) v.receipts) (sym (own_log.terms stands)) own_log.receipts;
   }
 
 pub settles_loads : (t : Terms) (slots id : ℕ) (me : Me (Unit {0}) Log) → Allows (λ (s : State (Unit {0}) Log). TableInvariant t s.words s.views) slots id me 0 (λ n. n) (confirms (step slots 0 0 0 none) me)

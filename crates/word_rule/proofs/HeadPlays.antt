@@ -17,7 +17,7 @@ use Rattle.word_rule.specs.declared.log.Holdings.{Holdings}
 use Rattle.word_rule.specs.declared.log.NodeSight.{NodeSight}
 use Rattle.word_rule.specs.declared.log.Log.{Log}
 use Rattle.word_rule.specs.Memory.{NodeWords, Memory, memory_of}
-use Rattle.word_rule.specs.Spelling.{word_at, spelled}
+use Rattle.word_rule.specs.Spelling.{node_word, spelled}
 use Rattle.word_rule.specs.Held.{held_of, all_but}
 use Rattle.word_rule.specs.Logs.{is_spent, weight, turns}
 use Rattle.word_rule.specs.Steps.{after_give, IsFreeTo}
@@ -162,8 +162,8 @@ module _ (t : Terms) (slots id : ℕ) (me : Seated) (caller : me.0.role ≡ role
         let link = reads_link lock.0.words shape.0 first shape.1.0 shape.1.1 in
         let h = held_by t words s.views r.memory.history r.memory.shadow r.memory.nodes id me.0 n lock.0 at lock.1.0 in
         let same : lock.0.words ≡ (memory_of t s.words).nodes.contents n = h.0.as_now ∙ ap (memory_of t s.words).nodes.contents h.1 in
-        let next : (memory_of t s.words).nodes.head ≡ word_at ((memory_of t s.words).nodes.contents n) 6 = head_is ∙ (sym link.1 ∙ ap (λ ws. word_at ws 6) same) in
-        (refl, not_root, ap (λ ws. word_at ws 1) (sym same) ∙ link.0, subst (λ k. IsChain (memory_of t s.words).nodes.contents k r.memory.shadow.free) next r.memory.nodes.chain)
+        let next : (memory_of t s.words).nodes.head ≡ node_word ((memory_of t s.words).nodes.contents n) 6 = head_is ∙ (sym link.1 ∙ ap (λ ws. node_word ws 6) same) in
+        (refl, not_root, ap (λ ws. node_word ws 1) (sym same) ∙ link.0, subst (λ k. IsChain (memory_of t s.words).nodes.contents k r.memory.shadow.free) next r.memory.nodes.chain)
 
     once_after : (k : ℕ) → once (r.memory.shadow.live k) + (once (k == n) + times k r.memory.shadow.free) + total (λ v. times k v.holdings.out) (set s.views id (after_give n me.0)) ≡ once (nat_lt k t.nodes)
     once_after k =

@@ -13,7 +13,7 @@ use Rattle.tree_shape.specs.Lawful.{IsLawful, IsOrdered, IsFilled, Fits}
 use Rattle.word_rule.specs.declared.log.Terms.{Terms}
 use Rattle.word_rule.specs.Places.{copy_words, copy_place, initial_kind, initial_link, initial_node, initial_nodes, initial_words}
 use Rattle.word_rule.specs.Memory.{memory_of, part, copy_of}
-use Rattle.word_rule.specs.Spelling.{word_at, spelled}
+use Rattle.word_rule.specs.Spelling.{node_word, spelled}
 use Rattle.word_rule.specs.Logs.{first_log}
 use Rattle.word_rule.specs.Callers.{AreTerms, start}
 use Rattle.word_rule.specs.Callers.{IsAlone}
@@ -131,8 +131,8 @@ chained : (nodes : ℕ) (contents : ℕ → List ℕ) → ((n : ℕ) → n < nod
 chained nodes contents known n zero some_n all = refl
 chained nodes contents known n (suc more) some_n all =
     let words : contents n ≡ drop 1 (initial_node nodes n) = known n (omega (arith, all)) in
-    let kind : word_at (contents n) 1 ≡ 2 = ap (λ ws. word_at ws 1) words ∙ rw (ne_eqb n 0 (λ e. omega (arith, e, some_n))) refl in
-    let link : word_at (contents n) 6 ≡ (if more == 0 then 0 else (n + 1)) = ap (λ ws. word_at ws 6) words ∙ link_is nodes n more some_n all in
+    let kind : node_word (contents n) 1 ≡ 2 = ap (λ ws. node_word ws 1) words ∙ rw (ne_eqb n 0 (λ e. omega (arith, e, some_n))) refl in
+    let link : node_word (contents n) 6 ≡ (if more == 0 then 0 else (n + 1)) = ap (λ ws. node_word ws 6) words ∙ link_is nodes n more some_n all in
     let rest : IsChain contents (if more == 0 then 0 else suc n) (free_from (suc n) more) = chained nodes contents known (suc n) more (omega arith) (omega (arith, all)) in
     let next : (if more == 0 then 0 else suc n) ≡ (if more == 0 then 0 else (n + 1)) = (let e : suc n ≡ n + 1 = omega arith in ap (λ k. if more == 0 then 0 else k) e) in
     rw (ne_eqb (suc more) 0 (λ e. omega (arith, e))) (refl, (λ e. omega (arith, e, some_n)), kind, subst (λ k. IsChain contents k (free_from (suc n) more)) (next ∙ sym link) rest)

@@ -24,7 +24,7 @@ use Rattle.word_rule.specs.declared.log.Terms.{Terms}
 use Rattle.tree_shape.specs.Numbers.{once}
 use Rattle.word_rule.specs.Names.{name_count, is_same, child_name, after_fork, joined_lineage}
 use Rattle.word_rule.specs.Logs.{is_spent, weight, turns, child_log, after_split, split_off, after_note, note_of, after_join, after_learn, spent_log, longer, budget_given}
-use Rattle.word_rule.specs.Callers.{total, CallersHold, IsIdle, IsAlone, LogHolds, LineageHolds, LineagesHold, AtLoader, LoaderLock, IsRecord, AreRecords, dones, dones_of_all, dones_in, is_done, start}
+use Rattle.word_rule.specs.Callers.{total, CallersHold, IsIdle, IsAlone, LogHolds, LineageHolds, LineagesHold, AtLoader, LoaderLock, IsRecord, ReceiptsHold, dones, dones_of_all, dones_in, is_done, start}
 use Rattle.word_rule.specs.CallerInvariant.{IsNote}
 use Rattle.word_rule.proofs.Facts.{total_set, total_snoc, part_of_total, two_of_total, some_of_total, total_set_two, after_step, within, decided, behind}
 use Rattle.word_rule.proofs.Names.{same_or, once_same, once_other, once_small, count_append, new_lineage_holds, fork_holds, join_holds}
@@ -53,15 +53,15 @@ records_later t past past' callers later pre (rs ∷ lists) h = (record_later t 
 own_prefix : (past : List Update) → IsPrefix past past
 own_prefix past = ([], append-nil past)
 
-are_records_later : (t : Terms) (past past' : List Update) (callers later : ℕ) → IsPrefix past past' → (rs : Receipts) → AreRecords t past callers rs → AreRecords t past' later rs
-are_records_later t past past' callers later pre rs h = record { own = record_later t past past' callers later pre rs.own h.own; joined = records_later t past past' callers later pre rs.joined h.joined }
+receipts_later : (t : Terms) (past past' : List Update) (callers later : ℕ) → IsPrefix past past' → (rs : Receipts) → ReceiptsHold t past callers rs → ReceiptsHold t past' later rs
+receipts_later t past past' callers later pre rs h = record { own = record_later t past past' callers later pre rs.own h.own; joined = records_later t past past' callers later pre rs.joined h.joined }
 
 -- more callers were made
 pub log_later : (t : Terms) (history : List Update) (callers later : ℕ) (v : Log) → LogHolds t history callers v → LogHolds t history later v
 log_later t history callers later v h = record {
   terms = h.terms;
   begins = h.begins;
-  receipts = are_records_later t v.past v.past callers later (own_prefix v.past) v.receipts h.receipts;
+  receipts = receipts_later t v.past v.past callers later (own_prefix v.past) v.receipts h.receipts;
   lineage = h.lineage;
   idle = h.idle;
 }
@@ -147,7 +147,7 @@ module _ (t : Terms) (m : Memory) (views : List Log) (history : List Update) (r 
         (after_step (λ _ u. LogHolds t history (total (λ y. y.made) both + 1) u) views id w ((let h = log_later t history _ (total (λ y. y.made) both + 1) v (r.each id v at) in record {
           terms = λ s. forks.terms ∙ h.terms stands;
           begins = subst (λ p. IsPrefix p history) (sym forks.past) h.begins;
-          receipts = subst (λ p. AreRecords t p (total (λ y. y.made) both + 1) w.receipts) (sym forks.past) (subst (AreRecords t v.past (total (λ y. y.made) both + 1)) (sym forks.receipts) h.receipts);
+          receipts = subst (λ p. ReceiptsHold t p (total (λ y. y.made) both + 1) w.receipts) (sym forks.past) (subst (ReceiptsHold t v.past (total (λ y. y.made) both + 1)) (sym forks.receipts) h.receipts);
           lineage = subst LineageHolds (sym forks.lineage) (fork_holds v.lineage own_name h.lineage);
           idle = idle;
         })) (λ j u _ e. log_later t history _ (total (λ y. y.made) both + 1) u (r.each j u e)))
@@ -278,7 +278,7 @@ module _ (t : Terms) (m : Memory) (views : List Log) (history : List Update) (r 
         (let h = r.each id v at in let i = r.each other u was_there in record {
           terms = λ s. gains.terms ∙ h.terms stands;
           begins = subst (λ p. IsPrefix p history) (sym gains.past) lengthened.2;
-          receipts = subst (λ p. AreRecords t p count b.receipts) (sym gains.past) record {
+          receipts = subst (λ p. ReceiptsHold t p count b.receipts) (sym gains.past) record {
             own = subst (IsRecord t (longer v.past u.past) count) (sym gains.own) (record_later t v.past (longer v.past u.past) _ count lengthened.0 v.receipts.own h.receipts.own);
             joined = subst (AllByRecursion (IsRecord t (longer v.past u.past) count)) (sym gains.joined)
                 (records_append t (longer v.past u.past) count v.receipts.joined lists (records_later t v.past (longer v.past u.past) _ count lengthened.0 v.receipts.joined h.receipts.joined)

@@ -28,3 +28,4 @@ pub mod InitialCallers
 pub mod InitialTable
 pub mod Exchanging
 pub mod NodeReleases
+pub mod TreeLaws

@@ -24,7 +24,7 @@ use Rattle.word_rule.specs.declared.log.CopySight.{CopySight}
 use Rattle.word_rule.specs.declared.log.Log.{Log}
 use Rattle.word_rule.specs.Places.{is_of_copy, copy_place, copy_words}
 use Rattle.word_rule.specs.Memory.{NodeWords, Memory, memory_of, copy_of}
-use Rattle.word_rule.specs.Spelling.{word_at, SpellsNode}
+use Rattle.word_rule.specs.Spelling.{node_word, SpellsNode}
 use Rattle.word_rule.specs.Held.{held_of}
 use Rattle.word_rule.specs.Logs.{is_spent, weight, turns, load_of, after_load}
 use Rattle.word_rule.specs.Sights.{with_copy_word, after_copy_load, after_node_load}
@@ -164,8 +164,8 @@ module _ (t : Terms) (slots id : ℕ) (me : Seated) (caller : me.0.role ≡ role
           let five : at ≡ 5 = omega (arith, place, low, high) in
           let node : h.node ≡ n = omega (arith, place, five) in
           let w = holds.within in
-          let found : get_or s.words (4 + 36 * n + at) 0 ≡ word_at h.words 5 =
-          sym (load_content_at t s.words n at (omega (arith, w, node)) low high) ∙ (ap (λ k. get_or ((memory_of t s.words).nodes.contents n) (k - 1) 0) five ∙ ap (λ ws. word_at ws 5) (ap (memory_of t s.words).nodes.contents (sym node) ∙ sym holds.as_now)) in
+          let found : get_or s.words (4 + 36 * n + at) 0 ≡ node_word h.words 5 =
+          sym (load_content_at t s.words n at (omega (arith, w, node)) low high) ∙ (ap (λ k. get_or ((memory_of t s.words).nodes.contents n) (k - 1) 0) five ∙ ap (λ ws. node_word ws 5) (ap (memory_of t s.words).nodes.contents (sym node) ∙ sym holds.as_now)) in
           let size = reads_full h.words h.settled (get_or s.words (4 + 36 * n + at) 0) full.2 found full.3 in
           let live = live_of h full.1 holds.marked in
           members (law r.memory.shadow.settled r.memory.shadow.live h.node r.memory.nodes.lawful live

@@ -23,7 +23,7 @@ use Rattle.word_rule.specs.declared.log.LoadedWord.{LoadedWord}
 use Rattle.word_rule.specs.declared.log.NodeSight.{NodeSight}
 use Rattle.word_rule.specs.declared.log.Log.{Log}
 use Rattle.word_rule.specs.Memory.{NodeWords, Memory, memory_of}
-use Rattle.word_rule.specs.Spelling.{word_at, is_short, pair_at, pairs_at, SpellsNode}
+use Rattle.word_rule.specs.Spelling.{node_word, is_short, pair_at, pairs_at, SpellsNode}
 use Rattle.word_rule.specs.Logs.{is_spent, weight, turns, load_of, after_load}
 use Rattle.word_rule.specs.Sights.{sight_of, without_sight, loaded_word, place_of, low_of, place_between, is_loaded_as, named_place, pairs_in_sight, place_under, or_mark, mark_child, sight_begun, sights_after_version, receipts_after_version, after_node_version}
 use Rattle.word_rule.specs.Callers.{total, IsIdle}
@@ -50,12 +50,12 @@ abbrev pub ChildrenLaw : Type 0
 ChildrenLaw = (f : Contents) (live : ℕ → Bool) (n : ℕ) → IsTree f live → IsTrue (live n) → AllByRecursion (λ b. IsTrue (live b.child) × Fits f b) (branches ((f n).level - 1) (f n))
 
 -- a loaded word is the node's
-loaded_is : (words : List ℕ) (loaded : List LoadedWord) (at x : ℕ) → AreOfNode words loaded → loaded_word at loaded ≡ Some x → word_at words at ≡ x
+loaded_is : (words : List ℕ) (loaded : List LoadedWord) (at x : ℕ) → AreOfNode words loaded → loaded_word at loaded ≡ Some x → node_word words at ≡ x
 loaded_is words [] at x all e = absurd (none-some x e)
 loaded_is words (w ∷ loaded) at x all e = go (ℕ_discrete w.at at) (loaded_is words loaded at x all.1)
   where
-    go : Dec (w.at ≡ at) → (loaded_word at loaded ≡ Some x → word_at words at ≡ x) → word_at words at ≡ x
-    go (yes same) rest = ap (word_at words) (sym same) ∙ (all.0 ∙ same_Some _ _ (rw (eq-eqb w.at at same) at e))
+    go : Dec (w.at ≡ at) → (loaded_word at loaded ≡ Some x → node_word words at ≡ x) → node_word words at ≡ x
+    go (yes same) rest = ap (node_word words) (sym same) ∙ (all.0 ∙ same_Some _ _ (rw (eq-eqb w.at at same) at e))
     go (no ne) rest = rest (rw (ne_eqb w.at at ne) at e)
 
 -- the parts of a place between two fences
@@ -73,23 +73,23 @@ module _ (f : Contents) (live : ℕ → Bool) (words : List ℕ) (loaded : List 
   named : (i more low : ℕ) (pairs : List Pair) (p : Frame) → pairs_at words (6 + 2 * i) more ≡ Some pairs → ((l : ℕ) → low_of place i loaded ≡ Some l → l ≡ low)
       → AllByRecursion (λ b. IsTrue (live b.child) × Fits f b) (branches_from (place.level - 1) low pairs) → named_place child place loaded i more ≡ Some p → IsTrue (live child) × IsPlaced (f child) p
   named i zero low pairs p read first hold e = absurd (none-some p e)
-  named i (suc more) low pairs p read first hold e = by_pair (λ low' ys. named (i + 1) more low' ys p) (is_short (word_at words (6 + 2 * i))) (pairs_at words (6 + 2 * i + 2) more) refl read
+  named i (suc more) low pairs p read first hold e = by_pair (λ low' ys. named (i + 1) more low' ys p) (is_short (node_word words (6 + 2 * i))) (pairs_at words (6 + 2 * i + 2) more) refl read
     where
-      later : ((low' : ℕ) (ys : List Pair) → pairs_at words (6 + 2 * (i + 1)) more ≡ Some ys → ((l : ℕ) → low_of place (i + 1) loaded ≡ Some l → l ≡ low') → AllByRecursion (λ b. IsTrue (live b.child) × Fits f b) (branches_from (place.level - 1) low' ys) → named_place child place loaded (i + 1) more ≡ Some p → IsTrue (live child) × IsPlaced (f child) p) → (ys : List Pair) → pairs_at words (6 + 2 * i + 2) more ≡ Some ys → AllByRecursion (λ b. IsTrue (live b.child) × Fits f b) (branches_from (place.level - 1) (word_at words (6 + 2 * i + 1) + 1) ys) → named_place child place loaded (i + 1) more ≡ Some p → IsTrue (live child) × IsPlaced (f child) p
+      later : ((low' : ℕ) (ys : List Pair) → pairs_at words (6 + 2 * (i + 1)) more ≡ Some ys → ((l : ℕ) → low_of place (i + 1) loaded ≡ Some l → l ≡ low') → AllByRecursion (λ b. IsTrue (live b.child) × Fits f b) (branches_from (place.level - 1) low' ys) → named_place child place loaded (i + 1) more ≡ Some p → IsTrue (live child) × IsPlaced (f child) p) → (ys : List Pair) → pairs_at words (6 + 2 * i + 2) more ≡ Some ys → AllByRecursion (λ b. IsTrue (live b.child) × Fits f b) (branches_from (place.level - 1) (node_word words (6 + 2 * i + 1) + 1) ys) → named_place child place loaded (i + 1) more ≡ Some p → IsTrue (live child) × IsPlaced (f child) p
       later again ys rest hold' e' =
           let place_is : 6 + 2 * i + 2 ≡ 6 + 2 * (i + 1) = omega arith in
           let separator : 7 + 2 * i ≡ 6 + 2 * i + 1 = omega arith in
           let next : i + 1 ≡ suc i = omega arith in
-          again (word_at words (6 + 2 * i + 1) + 1) ys (ap (λ k. pairs_at words k more) (sym place_is) ∙ rest)
-          (λ l e''. let m = mapped (loaded_word (7 + 2 * i) loaded) l (subst (λ k. low_of place k loaded ≡ Some l) next e'') in m.1.1 ∙ ap (λ k. k + 1) (sym (loaded_is words loaded (7 + 2 * i) m.0 all m.1.0) ∙ ap (word_at words) separator)) hold' e'
+          again (node_word words (6 + 2 * i + 1) + 1) ys (ap (λ k. pairs_at words k more) (sym place_is) ∙ rest)
+          (λ l e''. let m = mapped (loaded_word (7 + 2 * i) loaded) l (subst (λ k. low_of place k loaded ≡ Some l) next e'') in m.1.1 ∙ ap (λ k. k + 1) (sym (loaded_is words loaded (7 + 2 * i) m.0 all m.1.0) ∙ ap (node_word words) separator)) hold' e'
 
       here : ((low' : ℕ) (ys : List Pair) → pairs_at words (6 + 2 * (i + 1)) more ≡ Some ys → ((l : ℕ) → low_of place (i + 1) loaded ≡ Some l → l ≡ low') → AllByRecursion (λ b. IsTrue (live b.child) × Fits f b) (branches_from (place.level - 1) low' ys) → named_place child place loaded (i + 1) more ≡ Some p → IsTrue (live child) × IsPlaced (f child) p) → (y : Pair) (ys : List Pair) → y ≡ pair_at words (6 + 2 * i) → pairs ≡ y ∷ ys → (b : Bool) → is_loaded_as child (loaded_word (6 + 2 * i) loaded) ≡ b
           → (if b then place_between place (low_of place i loaded) (loaded_word (7 + 2 * i) loaded) else named_place child place loaded (i + 1) more) ≡ Some p → pairs_at words (6 + 2 * i + 2) more ≡ Some ys → IsTrue (live child) × IsPlaced (f child) p
       here again y ys y_is pairs_are true test e' rest =
           let parts = between place (low_of place i loaded) (loaded_word (7 + 2 * i) loaded) p e' in
-          let named_word : word_at words (6 + 2 * i) ≡ child = child_word (loaded_word (6 + 2 * i) loaded) refl test in
+          let named_word : node_word words (6 + 2 * i) ≡ child = child_word (loaded_word (6 + 2 * i) loaded) refl test in
           let separator : 7 + 2 * i ≡ 6 + 2 * i + 1 = omega arith in
-          let high : parts.1 ≡ y.separator = sym (loaded_is words loaded (7 + 2 * i) parts.1 all parts.2.1) ∙ (ap (word_at words) separator ∙ ap (λ z. z.separator) (sym y_is)) in
+          let high : parts.1 ≡ y.separator = sym (loaded_is words loaded (7 + 2 * i) parts.1 all parts.2.1) ∙ (ap (node_word words) separator ∙ ap (λ z. z.separator) (sym y_is)) in
           let whole = subst (λ ps. AllByRecursion (λ b. IsTrue (live b.child) × Fits f b) (branches_from (place.level - 1) low ps)) pairs_are hold in
           let is_child : y.child ≡ child = ap (λ z. z.child) y_is ∙ named_word in
           let fit = whole.0.1 in
@@ -102,7 +102,7 @@ module _ (f : Contents) (live : ℕ → Bool) (words : List ℕ) (loaded : List 
             ),
           )
         where
-          child_word : (o : Option ℕ) → loaded_word (6 + 2 * i) loaded ≡ o → is_loaded_as child o ≡ true → word_at words (6 + 2 * i) ≡ child
+          child_word : (o : Option ℕ) → loaded_word (6 + 2 * i) loaded ≡ o → is_loaded_as child o ≡ true → node_word words (6 + 2 * i) ≡ child
           child_word None is t = absurd (true≢false (sym t))
           child_word (Some z) is t = loaded_is words loaded (6 + 2 * i) z all is ∙ same_number (ℕ_discrete z child)
             where
@@ -139,7 +139,7 @@ module _ (t : Terms) (words : NodeWords) (views : List Log) (history : List Upda
               counted : (b : Bool) → named_place child place s.words 0 (if b then n else 0) ≡ Some p → IsTrue (shadow.live child) × IsPlaced (shadow.settled child) p
               counted false z = absurd (none-some p z)
               counted true z =
-                  let number : word_at (words.contents s.node) 5 ≡ n = loaded_is (words.contents s.node) s.words 5 n (h.loaded stands) known in
+                  let number : node_word (words.contents s.node) 5 ≡ n = loaded_is (words.contents s.node) s.words 5 n (h.loaded stands) known in
                   let read = reads_pairs (words.contents s.node) (shadow.settled s.node) ps spells is in
                   let zero_place : 6 + 2 * 0 ≡ 6 = omega arith in
                   let kids = law shadow.settled shadow.live s.node r.lawful.tree marked.0 in

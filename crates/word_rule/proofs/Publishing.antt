@@ -38,7 +38,7 @@ use Rattle.word_rule.specs.Places.{lower, upper, spare}
 use Rattle.word_rule.specs.Memory.{Memory, memory_of, counters}
 use Rattle.word_rule.specs.Logs.{is_spent, weight, turns}
 use Rattle.word_rule.specs.Steps.{IsDone, exchange_copies, after_publish, AfterPublish, Publishes, MayPublish}
-use Rattle.word_rule.specs.Callers.{total, CallersHold, LogHolds, IsRecord, AreRecords, IsIdle, HoldsLoader, AtLoader, LoaderLock, IsOfTerms, is_of_loader, publications, is_done, dones, dones_of_all, dones_in, number_of, start}
+use Rattle.word_rule.specs.Callers.{total, CallersHold, LogHolds, IsRecord, ReceiptsHold, IsIdle, HoldsLoader, AtLoader, LoaderLock, IsOfTerms, is_of_loader, publications, is_done, dones, dones_of_all, dones_in, number_of, start}
 use Rattle.word_rule.specs.Nodes.{Shadow, NodesHold}
 use Rattle.word_rule.specs.Copies.{ListsMembers, ListsAll, ActiveCopy, CopySightHolds}
 use Rattle.word_rule.specs.Observations.{SightHolds, WasFull, HadMembers, IsFullCount, ObservationsHold, last_moment}
@@ -232,7 +232,7 @@ module _ (t : Terms) (slots id : ℕ) (me : Seated) (caller : me.0.role ≡ role
         (step_holds (start t) r.memory.history (record { state = state_after (start t) r.memory.history; updates = length r.memory.history }) (record { state = after u (state_after (start t) r.memory.history); updates = length r.memory.history + 1 }) t.nodes callers since answer_of.0
         (record { lawful = r.memory.callers.lawful; state = refl; updates = refl }) told.one_step (told.no_full (start t) (r.memory.history ++ made answer_of.0) since)).1
 
-    receipts : (callers : ℕ) → AreRecords t (r.memory.history ++ u ∷ []) callers w.receipts
+    receipts : (callers : ℕ) → ReceiptsHold t (r.memory.history ++ u ∷ []) callers w.receipts
     receipts callers =
         let log = r.memory.callers.each id me.0 at in
         let own = record_later t me.0.past (r.memory.history ++ u ∷ []) _ callers prefix me.0.receipts.own log.receipts.own in

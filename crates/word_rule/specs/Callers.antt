@@ -89,7 +89,7 @@ abbrev pub IsRecord : Terms → List Update → ℕ → List Receipt → Type 0
 IsRecord t history callers receipts = AllHold (start t) history t.nodes callers 0 receipts × AreInOrder 0 receipts
 
 -- each list of a log is such a record
-pub record AreRecords (t : Terms) (history : List Update) (callers : ℕ) (r : Receipts) : Type 0 where
+pub record ReceiptsHold (t : Terms) (history : List Update) (callers : ℕ) (r : Receipts) : Type 0 where
   pub own : IsRecord t history callers r.own
   pub joined : AllByRecursion (IsRecord t history callers) r.joined
 
@@ -117,7 +117,7 @@ pub record LogHolds (t : Terms) (history : List Update) (callers : ℕ) (v : Log
   -- the history begins with what was seen
   pub begins : IsPrefix v.past history
   -- each of its receipts holds in what it has seen
-  pub receipts : AreRecords t v.past callers v.receipts
+  pub receipts : ReceiptsHold t v.past callers v.receipts
   pub lineage : LineageHolds v.lineage
   -- one that is no caller's holds no lock and has no node out
   pub idle : weight v.role ≡ 0 → IsIdle v
@@ -126,7 +126,7 @@ pub record LogHolds (t : Terms) (history : List Update) (callers : ℕ) (v : Log
 -- made, directly or through others, and the first.
 pub record IsWhole (v : Log) : Type 0 where
   pub numbers : (n : ℕ) → dones_in n v ≡ number_of (length v.past) n
-  pub receipts : AreRecords v.terms v.past (v.made + 1) v.receipts
+  pub receipts : ReceiptsHold v.terms v.past (v.made + 1) v.receipts
 
 -- the version word of a lock that was taken at a version: locked, and perhaps with sleepers
 abbrev pub IsLockedAt : ℕ → ℕ → Type 0

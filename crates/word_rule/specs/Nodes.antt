@@ -16,7 +16,7 @@ use Rattle.word_rule.specs.declared.log.Holding.{Holding}
 use Rattle.word_rule.specs.declared.log.Holdings.{Holdings}
 use Rattle.word_rule.specs.declared.log.Log.{Log}
 use Rattle.word_rule.specs.Memory.{NodeWords}
-use Rattle.word_rule.specs.Spelling.{word_at, SpellsNode}
+use Rattle.word_rule.specs.Spelling.{node_word, SpellsNode}
 use Rattle.word_rule.specs.Held.{held_of}
 use Rattle.word_rule.specs.Callers.{total, IsLockedAt, start}
 
@@ -73,7 +73,7 @@ IsOpen version words settled (Some id) = Unit {0}
 abbrev pub IsChain : (ℕ → List ℕ) → ℕ → List ℕ → Type 0
 IsChain contents head [] = head ≡ 0
 IsChain contents head (n ∷ free) =
-    (head ≡ n) × (n ≢ 0) × (word_at (contents n) 1 ≡ 2) × IsChain contents (word_at (contents n) 6) free
+    (head ≡ n) × (n ≢ 0) × (node_word (contents n) 1 ≡ 2) × IsChain contents (node_word (contents n) 6) free
 
 -- What holds of the nodes: the settled contents are a lawful tree whose entries are the registered
 -- members, and each node is live, or free, or out with one caller.

@@ -15,7 +15,7 @@ use Rattle.word_rule.specs.declared.log.NodeSight.{NodeSight}
 use Rattle.word_rule.specs.declared.log.Log.{Log}
 use Rattle.word_rule.specs.Places.{HEAD, node_place}
 use Rattle.word_rule.specs.Memory.{NodeWords, Memory}
-use Rattle.word_rule.specs.Spelling.{word_at, SpellsNode}
+use Rattle.word_rule.specs.Spelling.{node_word, SpellsNode}
 use Rattle.word_rule.specs.Sights.{place_of}
 use Rattle.word_rule.specs.Logs.{turns}
 use Rattle.word_rule.specs.Callers.{IsLockedAt, start}
@@ -29,7 +29,7 @@ Stands versions shadow s = (versions s.node ≡ s.version) ⊎ (IsLockedAt s.ver
 
 -- the words of a sight are among these of its node
 abbrev pub AreOfNode : List ℕ → List LoadedWord → Type 0
-AreOfNode words loaded = AllByRecursion (λ w. word_at words w.at ≡ w.value) loaded
+AreOfNode words loaded = AllByRecursion (λ w. node_word words w.at ≡ w.value) loaded
 
 -- the entries are the members inside the fences of the content
 abbrev pub AreInside : List Member → Shape → Type 0
