@@ -4,6 +4,7 @@ use mathlib.Core.Option.{some, some-injective}
 use lib.ListN.{get_elem?}
 use Rattle.atomic_table.proofs.Lists.{set_here, set_else}
 use Rattle.reg_model.specs.declared.answer.Update.{Update}
+use Rattle.word_rule.specs.declared.log.Role.TheVariants as role
 use Rattle.word_rule.specs.declared.log.Log.{Log}
 use Rattle.word_rule.specs.declared.log.Terms.{Terms}
 use Rattle.word_rule.specs.Memory.{Memory, counters}
@@ -11,6 +12,10 @@ use Rattle.word_rule.specs.Names.{name_count}
 use Rattle.word_rule.specs.Logs.{is_spent, weight}
 use Rattle.word_rule.specs.Callers.{total, CallersHold, LogHolds, LineagesHold, IsIdle, AtLoader, LoaderLock, dones, dones_in}
 use Rattle.word_rule.proofs.Facts.{total_set, total_same, after_step, within, decided}
+
+-- a caller's log has weight 1, so what is asked of others isn't asked of it
+pub busy : (v w : Log) → v.role ≡ role.Caller → weight v.role ≡ 0 → IsIdle w
+busy v w caller zero_weight = absurd (let one : weight v.role ≡ 1 = ap weight caller in omega (arith, zero_weight, one))
 
 -- What such a step leaves as it is in its log.
 pub record IsLike (v w : Log) : Type 0 where

@@ -22,13 +22,11 @@ use Rattle.word_rule.specs.TableInvariant.{TableInvariant}
 use Rattle.word_rule.specs.Plays.{Seated, stores_copy}
 use Rattle.word_rule.proofs.Facts.{after_step, within}
 use Rattle.word_rule.proofs.Memories.{set_copy}
-use Rattle.word_rule.proofs.CallersFrame.{IsLike, callers_step}
+use Rattle.word_rule.proofs.Frames.{Sit}
+use Rattle.word_rule.proofs.CallersFrame.{IsLike, callers_step, busy}
 use Rattle.word_rule.proofs.NodesFrame.{nodes_same}
 use Rattle.word_rule.proofs.Writes.{written}
 use Rattle.word_rule.proofs.NodeLocks.{updated_here, updated_other}
-
-abbrev Sit : Type 0
-Sit = State (Unit {0}) Log
 
 -- where another holds the lock, a log has no part in it
 pub other_loader : (m m' : Memory) (holder : Option ℕ) (j : ℕ) (o : Option LoaderHolding) → holder ≢ Some j → AtLoader m holder j o → AtLoader m' holder j o
@@ -45,9 +43,6 @@ module _ (t : Terms) (slots id : ℕ) (me : Seated) (caller : me.0.role ≡ role
 
   stands : is_spent me.0.role ≡ false
   stands = ap is_spent caller
-
-  busy : (w : Log) → weight me.0.role ≡ 0 → IsIdle w
-  busy w zero_weight = absurd (let one : weight me.0.role ≡ 1 = ap weight caller in omega (arith, zero_weight, one))
 
   module _ (h : LoaderHolding) (is : me.0.loader ≡ Some h) (k x : ℕ) (inside : k < copy_words t) (s : Sit) (r : Holds s) (at : get_elem? s.views id ≡ some me.0) where
     abbrev m : Memory
@@ -104,7 +99,7 @@ module _ (t : Terms) (slots id : ℕ) (me : Seated) (caller : me.0.role ≡ role
         let like : IsLike me.0 w = record { terms = refl; role = refl; past = refl; receipts = refl; allowance = refl; made = refl; lineage = refl } in
         written t s.words s.views r id me.0 w at stands (set s.words (copy_place t (spare (get_or s.words 0 0)) + k) x) m' r.memory.history r.memory.shadow (length-set s.words (copy_place t (spare (get_or s.words 0 0)) + k) x)
         (set_copy t s.words r.wide x (spare (get_or s.words 0 0)) k (omega arith) inside) ([], append-nil r.memory.history)
-        (callers_step t (memory_of t s.words) s.views r.memory.history r.memory.callers id me.0 w at like m' r.memory.callers.holder refl (omega arith) lock at_lock (busy w))
+        (callers_step t (memory_of t s.words) s.views r.memory.history r.memory.callers id me.0 w at like m' r.memory.callers.holder refl (omega arith) lock at_lock (busy me.0 w caller))
         (nodes_same s.views id me.0 w at t (memory_of t s.words).nodes r.memory.history r.memory.shadow refl r.memory.nodes)
         (subst (λ ws. ListsAll ws (state_after (start t) r.memory.history).loaded) (sym active_stays) r.memory.active) refl (λ _ p. p) copies (record { own = refl; sights = refl; loads = refl; turn = omega arith })
 

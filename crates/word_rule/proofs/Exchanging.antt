@@ -25,6 +25,7 @@ use Rattle.word_rule.specs.Held.{held_of, settled_shape, settled_in, now_of, now
 use Rattle.word_rule.specs.Exchange.{is_fresh, exchanged_in, reached_in, is_reached, node_of, out_after, IsLawfulExchange, mark_after, exchange}
 use Rattle.word_rule.specs.Callers.{total}
 use Rattle.word_rule.specs.Nodes.{Shadow, NodesHold, HoldsNode, IsPlaced}
+use Rattle.word_rule.proofs.Names.{once_small}
 use Rattle.word_rule.proofs.Facts.{part_of_total}
 use Rattle.word_rule.proofs.Each.{all_map, held_is}
 use Rattle.word_rule.proofs.NodeLoads.{ltb_true}
@@ -191,13 +192,9 @@ module _ (laws : ChangeLaws) (t : Terms) (words : NodeWords) (views : List Log) 
       let some_times = among v.holdings.out k parts.1 in
       let below = part_of_total (λ z. times k z.holdings.out) views id v at in
       let all = r.each_once k in
-      let most = small (nat_lt k t.nodes) in
+      let most = once_small (nat_lt k t.nodes) in
       (by_live (tested (shadow.live k)) some_times below all most, omega (arith, some_times, below, all, most), omega (arith, some_times, below, all, most), omega (arith, some_times, below, all, most), omega (arith, some_times, below, all, most))
     where
-      small : (b : Bool) → once b ≤ 1
-      small true = omega arith
-      small false = omega arith
-
       by_live : (shadow.live k ≡ true) ⊎ (shadow.live k ≡ false) → 0 < times k v.holdings.out → times k v.holdings.out ≤ total (λ z. times k z.holdings.out) views → once (shadow.live k) + times k shadow.free + total (λ z. times k z.holdings.out) views ≡ once (nat_lt k t.nodes) → once (nat_lt k t.nodes) ≤ 1 → shadow.live k ≡ false
       by_live (inl l) a b c d = absurd (let one : once (shadow.live k) ≡ 1 = ap once l in omega (arith, a, b, c, d, one))
       by_live (inr l) a b c d = l
@@ -324,14 +321,10 @@ module _ (laws : ChangeLaws) (t : Terms) (words : NodeWords) (views : List Log) 
         go (inl g) (inl f) reach o = absurd (true≢false (sym (group_lock k g).1.1 ∙ (fresh_out k f).0))
         go (inl g) (inr f) reach o =
             let lock = group_lock k g in let live_one : once (shadow.live k) ≡ 1 = ap once lock.1.1 in
-            let all = r.each_once k in let below = part_of_total (λ z. times k z.holdings.out) views id v at in let most = small (nat_lt k t.nodes) in
+            let all = r.each_once k in let below = part_of_total (λ z. times k z.holdings.out) views id v at in let most = once_small (nat_lt k t.nodes) in
             let none_out : times k v.holdings.out ≡ 0 = omega (arith, all, below, most, live_one) in
             let few = once_held k in let found = found_once k v.holdings.held (subst (λ o. IsSome o) (sym lock.1.0) refl) in let nodes = times_nodes k v.holdings.held in
             group_case g live_one none_out (omega (arith, few, found, nodes)) reach o f
-          where
-            small : (b : Bool) → once b ≤ 1
-            small true = omega arith
-            small false = omega arith
         go (inr g) (inl f) (inl reached) o =
             let l : once (live' k) ≡ 1 = ap once (live_new k (or_right (group k) (loose k) (fresh_loose k f)) ∙ reached) in
             let e : times k (out_after v top group) ≡ 0 + 0 = o ∙ rw (f, g, reached) refl in

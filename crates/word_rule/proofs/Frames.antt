@@ -3,6 +3,7 @@ use Rattle.std.proofs.Common.{◌≡◌, ◌≢◌, ℕ, ◌+◌, ◌<◌, ◌�
 use Rattle.std.specs.List.{AllByRecursion}
 use mathlib.Core.Option.{some}
 use lib.ListN.{get_elem?}
+use Rattle.atomic_table.specs.Table.{State}
 use Rattle.reg_model.specs.declared.answer.Update.{Update}
 use Rattle.word_rule.specs.declared.log.Terms.{Terms}
 use Rattle.word_rule.specs.declared.log.LoadEvent.{LoadEvent}
@@ -18,6 +19,10 @@ use Rattle.word_rule.proofs.Each.{all_map, all_append}
 use Rattle.word_rule.proofs.Lineages.{none_alone}
 use Rattle.word_rule.proofs.NodesFrame.{nodes_same}
 use Rattle.word_rule.proofs.ObservationsFrame.{observations_over}
+
+-- the table as the kit has it
+abbrev pub Sit : Type 0
+Sit = State (Unit {0}) Log
 
 -- words that were loaded are vacuously as found once a turn more was made
 pub still_after_turn : (words : List ℕ) (v w : Log) → turns v.trace < turns w.trace → w.trace.loads ≡ v.trace.loads → AllByRecursion (λ l. (l.turns ≤ turns v.trace) × (l.receipts ≤ length v.receipts.own)) v.trace.loads → IsStill words w

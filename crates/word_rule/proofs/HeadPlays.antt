@@ -26,19 +26,18 @@ use Rattle.word_rule.specs.Nodes.{Shadow, NodesHold, HoldsNode, HoldingsHold, Is
 use Rattle.word_rule.specs.Observations.{SightHolds}
 use Rattle.word_rule.specs.TableInvariant.{TableInvariant}
 use Rattle.word_rule.specs.Plays.{Seated, gives_node}
+use Rattle.word_rule.proofs.Names.{once_small}
 use Rattle.word_rule.proofs.Facts.{total_set, part_of_total, after_step}
 use Rattle.word_rule.proofs.Each.{all_map, some_of}
 use Rattle.word_rule.proofs.Memories.{set_head}
 use Rattle.word_rule.proofs.Spells.{reads_link}
 use Rattle.word_rule.proofs.Standing.{held_by}
-use Rattle.word_rule.proofs.CallersFrame.{IsLike}
+use Rattle.word_rule.proofs.Frames.{Sit}
+use Rattle.word_rule.proofs.CallersFrame.{IsLike, busy}
 use Rattle.word_rule.proofs.NodesFrame.{holder_stays}
 use Rattle.word_rule.proofs.ObservationsFrame.{sight_over}
 use Rattle.word_rule.proofs.NodeLoads.{ltb_true}
 use Rattle.word_rule.proofs.Writes.{callers_over_nodes, written}
-
-abbrev Sit : Type 0
-Sit = State (Unit {0}) Log
 
 pub some_and_of : {A : Type 0} (P : A → Type 0) (o : Option A) → IsSomeAnd o P → (a : A) × ((o ≡ Some a) × P a)
 some_and_of P None h = absurd h
@@ -111,22 +110,14 @@ module _ (t : Terms) (slots id : ℕ) (me : Seated) (caller : me.0.role ≡ role
     out_once : times n me.0.holdings.out ≡ 1
     out_once =
         let some_times = ltb_true 0 (times n me.0.holdings.out) out in let below = part_of_total (λ v. times n v.holdings.out) s.views id me.0 at in let all = r.memory.nodes.each_once n in
-        let most : once (nat_lt n t.nodes) ≤ 1 = at_most_one (nat_lt n t.nodes) in omega (arith, some_times, below, all, most)
-      where
-        at_most_one : (b : Bool) → once b ≤ 1
-        at_most_one true = omega arith
-        at_most_one false = omega arith
+        let most : once (nat_lt n t.nodes) ≤ 1 = once_small (nat_lt n t.nodes) in omega (arith, some_times, below, all, most)
 
     not_root : n ≢ 0
     not_root e =
         let below = part_of_total (λ v. times 0 v.holdings.out) s.views id me.0 at in let all = r.memory.nodes.each_once 0 in
         let mine : times 0 me.0.holdings.out ≡ 1 = ap (λ k. times k me.0.holdings.out) (sym e) ∙ out_once in
         let live : once (r.memory.shadow.live 0) ≡ 1 = ap once (root r.memory.shadow.settled r.memory.shadow.live r.memory.nodes.lawful.tree) in
-        let most : once (nat_lt 0 t.nodes) ≤ 1 = at_most_one (nat_lt 0 t.nodes) in omega (arith, below, all, mine, live, most)
-      where
-        at_most_one : (b : Bool) → once b ≤ 1
-        at_most_one true = omega arith
-        at_most_one false = omega arith
+        let most : once (nat_lt 0 t.nodes) ≤ 1 = once_small (nat_lt 0 t.nodes) in omega (arith, below, all, mine, live, most)
 
     -- a lock over the new head and the longer list
     same_lock : (j : ℕ) (h : Holding) → HoldsNode t (memory_of t s.words).nodes r.memory.shadow j h → HoldsNode t words' shadow' j h
@@ -187,7 +178,7 @@ module _ (t : Terms) (slots id : ℕ) (me : Seated) (caller : me.0.role ≡ role
         let m : Memory = memory_of t s.words in
         let like : IsLike me.0 (after_give n me.0) = record { terms = refl; role = refl; past = refl; receipts = refl; allowance = refl; made = refl; lineage = refl } in
         written t s.words s.views r id me.0 (after_give n me.0) at stands (set s.words 1 n) (record m { nodes = words' }) r.memory.history shadow' (length-set s.words 1 n) (set_head t s.words r.wide n) ([], append-nil r.memory.history)
-        (callers_over_nodes t s.words s.views r id me.0 (after_give n me.0) at stands words' like refl (omega arith) (λ zero_weight. absurd (let one : weight me.0.role ≡ 1 = ap weight caller in omega (arith, zero_weight, one))))
+        (callers_over_nodes t s.words s.views r id me.0 (after_give n me.0) at stands words' like refl (omega arith) (busy me.0 w caller))
         nodes r.memory.active refl
         (λ k h. sight_over t (memory_of t s.words).nodes words' r.memory.history r.memory.history r.memory.shadow shadow' k h.later (λ st. record { stands = st; contents = refl; settled = refl; live = refl }) ([], append-nil r.memory.history) h)
         (λ k h. h) (record { own = refl; sights = refl; loads = refl; turn = omega arith })

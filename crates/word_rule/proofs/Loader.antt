@@ -25,13 +25,10 @@ use Rattle.word_rule.specs.TableInvariant.{TableInvariant, IsStill}
 use Rattle.word_rule.specs.Plays.{Seated, looks, locks, marks, releases, releases_same}
 use Rattle.word_rule.proofs.Facts.{after_step, within, decided}
 use Rattle.word_rule.proofs.Each.{all_map, some_of}
-use Rattle.word_rule.proofs.Memories.{set_loader, set_same, copy_length}
-use Rattle.word_rule.proofs.CallersFrame.{IsLike, callers_step, lock_stays}
+use Rattle.word_rule.proofs.Memories.{set_loader, set_same, copy_length, by_same}
+use Rattle.word_rule.proofs.CallersFrame.{IsLike, callers_step, lock_stays, busy}
 use Rattle.word_rule.proofs.ObservationsFrame.{Loads, no_more, observations_same, of_loader}
-use Rattle.word_rule.proofs.Frames.{table_step, loader_memory, still_after_turn, still_after_load}
-
-abbrev Sit : Type 0
-Sit = State (Unit {0}) Log
+use Rattle.word_rule.proofs.Frames.{Sit, table_step, loader_memory, still_after_turn, still_after_load}
 
 -- a log's part in the lock stays where the word goes on to be its version, locked
 part_stays : (m : Memory) (x : ℕ) (holder : Option ℕ) (j : ℕ) (mine : Option LoaderHolding) → ((version : ℕ) → IsLockedAt version m.loader → IsLockedAt version x) → AtLoader m holder j mine → AtLoader (record m { loader = x }) holder j mine
@@ -47,9 +44,6 @@ module _ (t : Terms) (slots id : ℕ) (me : Seated) (caller : me.0.role ≡ role
 
   stands : is_spent me.0.role ≡ false
   stands = ap is_spent caller
-
-  busy : (w : Log) → weight me.0.role ≡ 0 → IsIdle w
-  busy w zero_weight = absurd (let one : weight me.0.role ≡ 1 = ap weight caller in omega (arith, zero_weight, one))
 
   -- what the log has observed stays where a step on the lock's word changes it
   observed : (s : Sit) (r : Holds s) (w : Log) (more : List LoadEvent) → mine_at s → w.sights ≡ me.0.sights → Loads me.0 w more
@@ -67,7 +61,7 @@ module _ (t : Terms) (slots id : ℕ) (me : Seated) (caller : me.0.role ≡ role
   writes s r w x holder at like holdings sights loads turn fewer lock at_lock =
       table_step t s.words s.views r id me.0 w at stands (set s.words 2 x) (record (memory_of t s.words) { loader = x }) (length-set s.words 2 x) (set_loader t s.words r.wide x)
       (loader_memory t s.words s.views r id me.0 w at stands x holdings like.made
-      (callers_step t (memory_of t s.words) s.views r.memory.history r.memory.callers id me.0 w at like (record (memory_of t s.words) { loader = x }) holder refl (omega (arith, fewer)) lock at_lock (λ zero_weight. busy w (ap weight (sym like.role) ∙ zero_weight)))
+      (callers_step t (memory_of t s.words) s.views r.memory.history r.memory.callers id me.0 w at like (record (memory_of t s.words) { loader = x }) holder refl (omega (arith, fewer)) lock at_lock (λ zero_weight. busy me.0 w caller (ap weight (sym like.role) ∙ zero_weight)))
       (observed s r w [] at sights (no_more me.0 w (ap (λ k. k.own) like.receipts) (omega (arith, turn)) loads) tt))
       (λ _. still_after_turn (set s.words 2 x) me.0 w turn loads (r.memory.observations id me.0 at).earlier)
 
@@ -84,19 +78,12 @@ module _ (t : Terms) (slots id : ℕ) (me : Seated) (caller : me.0.role ≡ role
       (lock_stays s.views x x id me.0 w r.memory.callers.holder at refl (λ e. subst (LoaderLock x s.views) e r.memory.callers.loader) r.memory.callers.loader)
       (after_step (λ j u. AtLoader (record m { loader = x }) r.memory.callers.holder j u.loader) s.views id w
       (part_stays m x r.memory.callers.holder id me.0.loader (λ _ h. h) (r.memory.callers.at_loader id me.0 at))
-      (λ j u _ e. part_stays m x r.memory.callers.holder j u.loader (λ _ h. h) (r.memory.callers.at_loader j u e))) (busy w))
+      (λ j u _ e. part_stays m x r.memory.callers.holder j u.loader (λ _ h. h) (r.memory.callers.at_loader j u e))) (busy me.0 w caller))
       (observed s r w (load_of me.0 2 x ∷ []) at refl (record { own = refl; turns = omega arith; loads = refl }) ((refl, omega arith, omega arith), tt)))
       (λ alone. subst (λ ws. IsStill ws w) (sym (set_same s.words 2)) (still_after_load s.words me.0 w (load_of me.0 2 x) refl refl refl (r.alone id me.0 at alone)))
 
   pub loads_loader : Allows Holds slots id me 2 (λ n. n) (looks (step slots 2 0 0 none) me)
   loads_loader s r deep at small = (after_load 2 (get_or s.words 2 0) me.0, keeps, tt, loaded s r at, refl)
-
-  by_test : (n old : ℕ) (P : Bool → Type 0) → (n ≡ old → P true) → (n ≢ old → P false) → P (n == old)
-  by_test n old P hit miss = go (ℕ_discrete n old)
-    where
-      go : Dec (n ≡ old) → P (n == old)
-      go (yes e) = subst P (sym (eq-eqb n old e)) (hit e)
-      go (no ne) = subst P (sym (ne_eqb n old ne)) (miss ne)
 
   -- nobody holds a lock whose word is even
   even_is_free : (s : Sit) (r : Holds s) → get_or s.words 2 0 % 2 ≡ 0 → r.memory.callers.holder ≡ None
@@ -122,7 +109,7 @@ module _ (t : Terms) (slots id : ℕ) (me : Seated) (caller : me.0.role ≡ role
   pub locks_loader : (seen : ℕ) → seen % 2 ≡ 0 → Allows Holds slots id me 2 (λ n. either (n == seen) (seen + 1) n) (locks (step slots 2 seen (seen + 1) none) me)
   locks_loader seen even s r deep at small =
       let n : ℕ = get_or s.words 2 0 in
-      by_test n seen (λ b. (w : Log) × (a : Act (Unit {0})) × Valid s.homes me.1 a × Holds (stepped s 2 (either b (seen + 1) n) id me.1 w a) × MatchBool b
+      by_same n seen (λ b. (w : Log) × (a : Act (Unit {0})) × Valid s.homes me.1 a × Holds (stepped s 2 (either b (seen + 1) n) id me.1 w a) × MatchBool b
       ((seen % 4 ≡ 0) × (seen < 2 ^ 63) × ((h : LoaderHolding) × (IsTaken me.0.terms seen h × ◌≡◌ {A = Seated} (w, carried_after me.1 a) (after_loader_lock h me.0, me.1))))
       (◌≡◌ {A = Seated} (w, carried_after me.1 a) (after_load 2 n me.0, me.1)))
       (λ hit.
@@ -157,7 +144,7 @@ module _ (t : Terms) (slots id : ℕ) (me : Seated) (caller : me.0.role ≡ role
   pub marks_loader : (seen : ℕ) → seen % 2 ≡ 1 → Allows Holds slots id me 2 (λ n. either (n == seen) (marked seen) n) (marks (step slots 2 seen (marked seen) none) me)
   marks_loader seen odd s r deep at small =
       let n : ℕ = get_or s.words 2 0 in
-      by_test n seen (λ b. (w : Log) × (a : Act (Unit {0})) × Valid s.homes me.1 a × Holds (stepped s 2 (either b (marked seen) n) id me.1 w a) × MatchBool b
+      by_same n seen (λ b. (w : Log) × (a : Act (Unit {0})) × Valid s.homes me.1 a × Holds (stepped s 2 (either b (marked seen) n) id me.1 w a) × MatchBool b
       (◌≡◌ {A = Seated} (w, carried_after me.1 a) (after_write me.0, me.1)) (◌≡◌ {A = Seated} (w, carried_after me.1 a) (after_load 2 n me.0, me.1)))
       (λ hit.
       let w : Log = after_write me.0 in

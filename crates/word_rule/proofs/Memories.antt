@@ -90,7 +90,7 @@ by_below n m P less more = go (dec_le m n)
     go (yes h) = subst P (sym (le-ltb n m h)) (more h)
     go (no h) = subst P (sym (lt-ltb n m (lt_of_not-le h))) (less (lt_of_not-le h))
 
-by_same : (n m : ℕ) (P : Bool → Type 0) → (n ≡ m → P true) → (n ≢ m → P false) → P (n == m)
+pub by_same : (n m : ℕ) (P : Bool → Type 0) → (n ≡ m → P true) → (n ≢ m → P false) → P (n == m)
 by_same n m P same other = go (ℕ_discrete n m)
   where
     go : Dec (n ≡ m) → P (n == m)

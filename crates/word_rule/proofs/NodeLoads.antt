@@ -38,13 +38,10 @@ use Rattle.word_rule.proofs.Each.{all_map, held_is}
 use Rattle.word_rule.proofs.Members.{ascending_fit}
 use Rattle.word_rule.proofs.Memories.{load_content_at, load_copy_at}
 use Rattle.word_rule.proofs.Spells.{reads_full}
-use Rattle.word_rule.proofs.CallersFrame.{IsLike}
+use Rattle.word_rule.proofs.CallersFrame.{IsLike, busy}
 use Rattle.word_rule.proofs.ObservationsFrame.{Loads, observations_own, observations_same, longer_length}
-use Rattle.word_rule.proofs.Frames.{still_after_load}
+use Rattle.word_rule.proofs.Frames.{Sit, still_after_load}
 use Rattle.word_rule.proofs.Quiet.{quiet}
-
-abbrev Sit : Type 0
-Sit = State (Unit {0}) Log
 
 pub leb_true : (a b : ℕ) → nat_le a b ≡ true → a ≤ b
 leb_true a b h = go (dec_le a b)
@@ -81,9 +78,6 @@ module _ (t : Terms) (slots id : ℕ) (me : Seated) (caller : me.0.role ≡ role
   stands : is_spent me.0.role ≡ false
   stands = ap is_spent caller
 
-  busy : (w : Log) → weight me.0.role ≡ 0 → IsIdle w
-  busy w zero_weight = absurd (let one : weight me.0.role ≡ 1 = ap weight caller in omega (arith, zero_weight, one))
-
   -- a word that joins a sight of its own copy
   joins_copy : (s : Sit) (r : Holds s) (at : ℕ) (o : Option CopySight) → IfSome o (CopySightHolds t (get_or s.words 0 0) (copy_of t s.words)) → IfSome (option_map (with_copy_word t at (get_or s.words at 0)) o) (CopySightHolds t (get_or s.words 0 0) (copy_of t s.words))
   joins_copy s r at None h = tt
@@ -118,7 +112,7 @@ module _ (t : Terms) (slots id : ℕ) (me : Seated) (caller : me.0.role ≡ role
         w,
         keeps,
         tt,
-        quiet t s.words s.views r id me.0 w here stands at (record { terms = refl; role = refl; past = refl; receipts = refl; allowance = refl; made = refl; lineage = refl }) refl refl (busy w)
+        quiet t s.words s.views r id me.0 w here stands at (record { terms = refl; role = refl; past = refl; receipts = refl; allowance = refl; made = refl; lineage = refl }) refl refl (busy me.0 w caller)
             (r.memory.nodes.holdings id me.0 here) (λ _ h. h) (λ _. refl)
             (observations_own t m r.memory.history callers r.memory.shadow me.0 w (load_of me.0 at found ∷ []) (record { own = refl; turns = omega arith; loads = refl }) o.sights copies (past_nodes s r at here far, tt) ((omega arith, omega arith), tt) o)
             (λ alone. still_after_load s.words me.0 w (load_of me.0 at found) refl refl refl (r.alone id me.0 here alone)),
@@ -183,7 +177,7 @@ module _ (t : Terms) (slots id : ℕ) (me : Seated) (caller : me.0.role ≡ role
         w,
         keeps,
         tt,
-        quiet t s.words s.views r id me.0 w here stands (4 + 36 * n + at) (record { terms = refl; role = refl; past = refl; receipts = refl; allowance = refl; made = refl; lineage = refl }) refl refl (busy w)
+        quiet t s.words s.views r id me.0 w here stands (4 + 36 * n + at) (record { terms = refl; role = refl; past = refl; receipts = refl; allowance = refl; made = refl; lineage = refl }) refl refl (busy me.0 w caller)
             (r.memory.nodes.holdings id me.0 here) (λ _ k. k) (λ _. refl)
             (observations_same t m r.memory.history callers r.memory.shadow me.0 w (load_of me.0 (4 + 36 * n + at) found ∷ []) (record { own = refl; turns = omega arith; loads = refl }) same (full_count law order s r n at here low high, tt) ((omega arith, omega arith), tt) o)
             (λ alone. still_after_load s.words me.0 w (load_of me.0 (4 + 36 * n + at) found) refl refl refl (r.alone id me.0 here alone)),

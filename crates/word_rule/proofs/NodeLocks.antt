@@ -29,18 +29,15 @@ use Rattle.word_rule.specs.TableInvariant.{TableInvariant}
 use Rattle.word_rule.specs.Plays.{Seated, locks_node}
 use Rattle.word_rule.proofs.Facts.{total_same, after_step, within, node_counters_at}
 use Rattle.word_rule.proofs.Each.{all_map, all_of}
-use Rattle.word_rule.proofs.Memories.{set_version, load_version_at, content_length}
+use Rattle.word_rule.proofs.Memories.{set_version, load_version_at, content_length, by_same}
 use Rattle.word_rule.proofs.Standing.{even_is_open}
-use Rattle.word_rule.proofs.CallersFrame.{IsLike}
+use Rattle.word_rule.proofs.CallersFrame.{IsLike, busy}
 use Rattle.word_rule.proofs.NodesFrame.{holder_stays}
 use Rattle.word_rule.proofs.ObservationsFrame.{sight_over, observations_same}
-use Rattle.word_rule.proofs.Frames.{still_after_load}
+use Rattle.word_rule.proofs.Frames.{Sit, still_after_load}
 use Rattle.word_rule.proofs.Quiet.{quiet}
 use Rattle.word_rule.proofs.Writes.{callers_over_nodes, written}
 use Rattle.word_rule.proofs.HeadPlays.{RootLaw}
-
-abbrev Sit : Type 0
-Sit = State (Unit {0}) Log
 
 pub updated_here : {A : Type 0} (f : ℕ → A) (n : ℕ) (x : A) (k : ℕ) → k ≡ n → updated f n x k ≡ x
 updated_here f n x k e = rw (eq-eqb k n e) refl
@@ -69,9 +66,6 @@ module _ (t : Terms) (slots id : ℕ) (me : Seated) (caller : me.0.role ≡ role
   stands : is_spent me.0.role ≡ false
   stands = ap is_spent caller
 
-  busy : (w : Log) → weight me.0.role ≡ 0 → IsIdle w
-  busy w zero_weight = absurd (let one : weight me.0.role ≡ 1 = ap weight caller in omega (arith, zero_weight, one))
-
   -- a load of a node's version word tells nothing of fullness
   pub of_version : (s : Sit) (r : Holds s) (n : ℕ) → WasFull t r.memory.history (total (λ u. u.made) s.views + 1) me.0.receipts.own (load_of me.0 (4 + 36 * n) (get_or s.words (4 + 36 * n) 0))
   of_version s r n = record {
@@ -83,7 +77,7 @@ module _ (t : Terms) (slots id : ℕ) (me : Seated) (caller : me.0.role ≡ role
   refused s r n here =
       let found : ℕ = get_or s.words (4 + 36 * n) 0 in
       let w : Log = after_load (4 + 36 * n) found me.0 in
-      quiet t s.words s.views r id me.0 w here stands (4 + 36 * n) (record { terms = refl; role = refl; past = refl; receipts = refl; allowance = refl; made = refl; lineage = refl }) refl refl (busy w)
+      quiet t s.words s.views r id me.0 w here stands (4 + 36 * n) (record { terms = refl; role = refl; past = refl; receipts = refl; allowance = refl; made = refl; lineage = refl }) refl refl (busy me.0 w caller)
       (r.memory.nodes.holdings id me.0 here) (λ _ h. h) (λ _. refl)
       (observations_same t (memory_of t s.words) r.memory.history (total (λ u. u.made) s.views + 1) r.memory.shadow me.0 w (load_of me.0 (4 + 36 * n) found ∷ []) (record { own = refl; turns = omega arith; loads = refl }) refl (of_version s r n, tt) ((omega arith, omega arith), tt) (r.memory.observations id me.0 here))
       (λ alone. still_after_load s.words me.0 w (load_of me.0 (4 + 36 * n) found) refl refl refl (r.alone id me.0 here alone))
@@ -241,7 +235,7 @@ module _ (t : Terms) (slots id : ℕ) (me : Seated) (caller : me.0.role ≡ role
         let like : IsLike me.0 w = record { terms = refl; role = refl; past = refl; receipts = refl; allowance = refl; made = refl; lineage = refl } in
         let sum = node_counters_at m.nodes.versions n (seen + 1) t.nodes inside in let f = four in let before = hit in
         written t s.words s.views r id me.0 w at stands (set s.words (4 + 36 * n) (seen + 1)) (record m { nodes = words' }) r.memory.history shadow' (length-set s.words (4 + 36 * n) (seen + 1)) (set_version t s.words r.wide (seen + 1) n inside) ([], append-nil r.memory.history)
-        (callers_over_nodes t s.words s.views r id me.0 w at stands words' like refl (omega (arith, sum, f, before)) (busy w)) nodes r.memory.active refl sights (λ k h. h) (record { own = refl; sights = refl; loads = refl; turn = omega arith })
+        (callers_over_nodes t s.words s.views r id me.0 w at stands words' like refl (omega (arith, sum, f, before)) (busy me.0 w caller)) nodes r.memory.active refl sights (λ k h. h) (record { own = refl; sights = refl; loads = refl; turn = omega arith })
 
     pub bounded : seen < 2 ^ 63
     bounded = let c = r.memory.callers.counted in let o = one_counter (memory_of t s.words).nodes.versions n t.nodes inside in let before = hit in omega (arith, c, o, before)
@@ -249,18 +243,11 @@ module _ (t : Terms) (slots id : ℕ) (me : Seated) (caller : me.0.role ≡ role
     pub told : (settled : Shape) × (words : List ℕ) × (SpellsNode words settled × (length words ≡ 35) × ◌≡◌ {A = Seated} (w, me.1) (after_node_lock n seen settled words me.0, me.1))
     told = (r.memory.shadow.settled n, (memory_of t s.words).nodes.contents n, (was_open.1, content_length t s.words r.wide n inside, refl))
 
-  by_test : (n old : ℕ) (P : Bool → Type 0) → (n ≡ old → P true) → (n ≢ old → P false) → P (n == old)
-  by_test n old P hit miss = go (ℕ_discrete n old)
-    where
-      go : Dec (n ≡ old) → P (n == old)
-      go (yes e) = subst P (sym (eq-eqb n old e)) (hit e)
-      go (no ne) = subst P (sym (ne_eqb n old ne)) (miss ne)
-
   -- the root's lock
   pub locks_root : RootLaw → (seen : ℕ) → seen % 2 ≡ 0 → 0 < t.nodes → Allows Holds slots id me (4 + 36 * 0) (λ k. either (k == seen) (seen + 1) k) (locks_node 0 (step slots (4 + 36 * 0) seen (seen + 1) none) me)
   locks_root root seen even inside s r deep at small =
       let k : ℕ = get_or s.words (4 + 36 * 0) 0 in
-      by_test k seen (λ b. (w : Log) × (a : Act (Unit {0})) × Valid s.homes me.1 a × Holds (stepped s (4 + 36 * 0) (either b (seen + 1) k) id me.1 w a) × MatchBool b
+      by_same k seen (λ b. (w : Log) × (a : Act (Unit {0})) × Valid s.homes me.1 a × Holds (stepped s (4 + 36 * 0) (either b (seen + 1) k) id me.1 w a) × MatchBool b
       ((seen % 4 ≡ 0) × (seen < 2 ^ 63) × ((settled : Shape) × (words : List ℕ) × (SpellsNode words settled × (length words ≡ 35) × ◌≡◌ {A = Seated} (w, carried_after me.1 a) (after_node_lock 0 seen settled words me.0, me.1))))
       (◌≡◌ {A = Seated} (w, carried_after me.1 a) (after_load (4 + 36 * 0) k me.0, me.1)))
       (λ is.

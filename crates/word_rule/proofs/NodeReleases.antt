@@ -35,15 +35,17 @@ use Rattle.word_rule.proofs.Facts.{total_set, after_step, node_counters_at}
 use Rattle.word_rule.proofs.Each.{all_map, all_both, held_is}
 use Rattle.word_rule.proofs.Memories.{set_version}
 use Rattle.word_rule.proofs.Standing.{locked_is_odd, held_by}
-use Rattle.word_rule.proofs.CallersFrame.{IsLike}
+use Rattle.word_rule.proofs.Frames.{Sit}
+use Rattle.word_rule.proofs.CallersFrame.{IsLike, busy}
 use Rattle.word_rule.proofs.NodesFrame.{holder_stays}
 use Rattle.word_rule.proofs.ObservationsFrame.{sight_over}
 use Rattle.word_rule.proofs.Writes.{callers_over_nodes, written}
 use Rattle.word_rule.proofs.NodeLocks.{updated_here, updated_other}
 use Rattle.word_rule.proofs.Exchanging.{ChangeLaws, loose, settled', live', marked_lock, group_lock, fresh_out, fresh_loose, loose_parts, reached_inside, loose_inside, lawful_after, entries_after, live_new, live_kept, settled_new, settled_kept, unheld, balance, all_found, or_left, or_right, or_cases, tested}
 
-abbrev Sit : Type 0
-Sit = State (Unit {0}) Log
+and_false : (b : Bool) → (b && false) ≡ false
+and_false true = refl
+and_false false = refl
 
 -- the locks that are left after one is let go, each changed but for its node
 module _ (f : Holding → Holding) (same_node : (h : Holding) → (f h).node ≡ h.node) (n : ℕ) where
@@ -205,17 +207,9 @@ module _ (laws : ChangeLaws) (t : Terms) (slots id : ℕ) (me : Seated) (caller 
           go : (group k ≡ true) ⊎ (group k ≡ false) → (is_some h.mark ≡ true) ⊎ (is_some h.mark ≡ false) → (r.memory.shadow.live k ≡ true) ⊎ (r.memory.shadow.live k ≡ false) → (changed h).settled ≡ now k
           go (inl g) m l = by_group g ∙ (sym now_here ∙ sym (new_content k (or_left (group k) (loosely k) g)))
           go (inr g) (inl m) l = by_mark g m ∙ (was ∙ sym (old_content k (rw (g, mark_test ∙ m) (and_false (is_some (held_of k me.0.holdings.held))))))
-            where
-              and_false : (b : Bool) → (b && false) ≡ false
-              and_false true = refl
-              and_false false = refl
           go (inr g) (inr m) (inl l) =
               let sp = own.unmarked (no_mark m) (ap r.memory.shadow.live node ∙ l) in
               stays sp ∙ (was ∙ sym (old_content k (rw (g, mark_test ∙ m, l) (and_false (is_some (held_of k me.0.holdings.held))))))
-            where
-              and_false : (b : Bool) → (b && false) ≡ false
-              and_false true = refl
-              and_false false = refl
           go (inr g) (inr m) (inr l) = by_none g m ∙ (sym now_here ∙ sym (new_content k (or_right (group k) (loosely k) (let there : is_some (held_of k me.0.holdings.held) ≡ true = ap is_some is in rw (there, mark_test ∙ m, l) refl))))
 
       -- a node that spells something spells what it then settles to
@@ -273,10 +267,6 @@ module _ (laws : ChangeLaws) (t : Terms) (slots id : ℕ) (me : Seated) (caller 
               let m : is_some h.mark ≡ true = ap is_some e in
               let keeps_life : alive k ≡ r.memory.shadow.live k = old_life k (rw (g, mark_test ∙ m) (and_false (is_some (held_of k me.0.holdings.held)))) in
               (ap alive node ∙ (keeps_life ∙ live_marked m), subst (λ c. IsPlaced c f) (sym (by_mark g m)) told.1)
-            where
-              and_false : (b : Bool) → (b && false) ≡ false
-              and_false true = refl
-              and_false false = refl
 
           mark_of_it : (reached k ≡ true) ⊎ (reached k ≡ false) → (group k ≡ true) ⊎ (group k ≡ false) → IfSome (changed h).mark (λ f. IsTrue (alive h.node) × IsPlaced (changed h).settled f)
           mark_of_it (inl re) g = subst (λ o. IfSome o (λ f. IsTrue (alive h.node) × IsPlaced (changed h).settled f)) (sym (mark_is re))
@@ -445,7 +435,7 @@ module _ (laws : ChangeLaws) (t : Terms) (slots id : ℕ) (me : Seated) (caller 
         let sum = node_counters_at m.nodes.versions n (hn.version + 4) t.nodes within_n in let four = version_four in
         let fewer : counters t (record m { nodes = words' }) + w.budget.credit ≤ counters t m + me.0.budget.credit = ⊎_elim (λ (one : m.nodes.versions n ≡ hn.version + 1). omega (arith, sum, four, one, some_credit)) (λ (three : m.nodes.versions n ≡ hn.version + 3). omega (arith, sum, four, three, some_credit)) word_n.1 in
         written t s.words s.views r id me.0 w at stands (set s.words (4 + 36 * n) (hn.version + 4)) (record m { nodes = words' }) r.memory.history shadow' (length-set s.words (4 + 36 * n) (hn.version + 4)) (set_version t s.words r.wide (hn.version + 4) n within_n) ([], append-nil r.memory.history)
-        (callers_over_nodes t s.words s.views r id me.0 w at stands words' like refl fewer (λ zero_weight. absurd (let one : weight me.0.role ≡ 1 = ap weight caller in omega (arith, zero_weight, one)))) nodes r.memory.active refl sights (λ k p. p)
+        (callers_over_nodes t s.words s.views r id me.0 w at stands words' like refl fewer (busy me.0 w caller)) nodes r.memory.active refl sights (λ k p. p)
         (record { own = refl; sights = refl; loads = refl; turn = omega arith })
 
   -- a release that exchanges a group under a top, where that is lawful

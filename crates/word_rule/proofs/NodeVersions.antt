@@ -35,15 +35,12 @@ use Rattle.word_rule.proofs.Each.{all_map}
 use Rattle.word_rule.proofs.Memories.{load_version_at}
 use Rattle.word_rule.proofs.Spells.{Reads, reads, reads_pairs}
 use Rattle.word_rule.proofs.Standing.{even_is_open, stands_spells}
-use Rattle.word_rule.proofs.CallersFrame.{IsLike}
+use Rattle.word_rule.proofs.CallersFrame.{IsLike, busy}
 use Rattle.word_rule.proofs.ObservationsFrame.{Loads, observations_own}
-use Rattle.word_rule.proofs.Frames.{still_after_load}
+use Rattle.word_rule.proofs.Frames.{Sit, still_after_load}
 use Rattle.word_rule.proofs.Quiet.{quiet}
 use Rattle.word_rule.proofs.NodeLoads.{ltb_true}
 use Rattle.word_rule.proofs.NodeLocks.{of_version}
-
-abbrev Sit : Type 0
-Sit = State (Unit {0}) Log
 
 -- the children of a live node are live, and as it names them: a law of tree_shape
 abbrev pub ChildrenLaw : Type 0
@@ -273,7 +270,7 @@ module _ (t : Terms) (slots id : ℕ) (me : Seated) (caller : me.0.role ≡ role
         keeps,
         tt,
         quiet t s.words s.views r id me.0 w here (ap is_spent caller) (4 + 36 * n) (record { terms = refl; role = refl; past = refl; receipts = receipts; allowance = refl; made = refl; lineage = refl }) refl refl
-            (λ zero_weight. absurd (let one : weight me.0.role ≡ 1 = ap weight caller in omega (arith, zero_weight, one))) (r.memory.nodes.holdings id me.0 here) (λ _ h. h) (λ _. refl)
+            (busy me.0 w caller) (r.memory.nodes.holdings id me.0 here) (λ _ h. h) (λ _. refl)
             (observations_own t m r.memory.history callers r.memory.shadow me.0 w (load_of me.0 (4 + 36 * n) found ∷ []) (record { own = own; turns = omega arith; loads = refl }) sights o.copies (of_version t slots id me caller s r n, tt) ((omega arith, omega arith), tt) o)
             (λ alone. still_after_load s.words me.0 w (load_of me.0 (4 + 36 * n) found) refl refl refl (r.alone id me.0 here alone)),
         refl,

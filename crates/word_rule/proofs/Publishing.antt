@@ -45,19 +45,16 @@ use Rattle.word_rule.specs.Observations.{SightHolds, WasFull, HadMembers, IsFull
 use Rattle.word_rule.specs.TableInvariant.{TableInvariant}
 use Rattle.word_rule.specs.Plays.{Seated, publishes}
 use Rattle.word_rule.proofs.Facts.{total_set, total_same, part_of_total, after_step, within}
-use Rattle.word_rule.proofs.Each.{all_map, all_of, all_append}
+use Rattle.word_rule.proofs.Each.{all_map, all_append, some_of}
 use Rattle.word_rule.proofs.Memories.{set_clock}
-use Rattle.word_rule.proofs.CallersFrame.{lineages_over}
+use Rattle.word_rule.proofs.CallersFrame.{lineages_over, busy}
 use Rattle.word_rule.proofs.NodesFrame.{nodes_same}
 use Rattle.word_rule.proofs.ObservationsFrame.{observations_over, sight_over}
-use Rattle.word_rule.proofs.Frames.{table_step, still_after_turn}
+use Rattle.word_rule.proofs.Frames.{Sit, table_step, still_after_turn}
 use Rattle.word_rule.proofs.Listings.{lists_same, contains_filter, filter_contains, find_contains, contains_find, state_fixed, loaded_spans, loaded_disjoint, disjoint_fit, free_of}
 use Rattle.word_rule.proofs.Receiving.{all_hold_snoc, in_order_next, done_snoc, number_snoc}
 use Rattle.word_rule.proofs.Joins.{record_later, records_later, log_later}
 use Rattle.word_rule.proofs.CopyStores.{other_loader, loader_held}
-
-abbrev Sit : Type 0
-Sit = TableState (Unit {0}) Log
 
 -- An update of the loader that fits, as the one after so many, has its receipt.
 pub record Accepts (u : Update) (s : State) (n : ℕ) (r : Receipt) : Type 0 where
@@ -67,10 +64,6 @@ pub record Accepts (u : Update) (s : State) (n : ℕ) (r : Receipt) : Type 0 whe
   pub makes : made r ≡ u ∷ []
   pub one_step : Step (record { state = s; updates = n }) r (record { state = after u s; updates = n + 1 })
   pub no_full : (st : State) (history : List Update) (since : ℕ) → IsFilled st history since r
-
-there_is : {A : Type 0} (o : Option A) → IsSome o → (a : A) × (o ≡ Some a)
-there_is None h = absurd (true≢false (sym h))
-there_is (Some a) h = (a, refl)
 
 some_and : {A : Type 0} (P : A → Type 0) (o : Option A) (a : A) → o ≡ Some a → P a → IsSomeAnd o P
 some_and P None a e p = absurd (none-some a e)
@@ -110,7 +103,7 @@ answered t s (update.Load m) before new n p fit = (
   record { is_done = refl; accepts = refl; number = refl; makes = refl; one_step = record { right = tt; changes = (fit, refl, refl) }; no_full = λ st history since. tt },
 )
 answered t s (update.Unload base) before new n p fit =
-    let m = there_is (at_base base s.loaded) fit in (
+    let m = some_of (at_base base s.loaded) fit in (
       receipt.Unload base (removed.Done (n + 1) m.0),
       record {
         is_done = some_and (λ x. receipt.Unload base (removed.Done (n + 1) m.0) ≡ receipt.Unload base (removed.Done (n + 1) x)) (at_base base s.loaded) m.0 m.1 refl;
@@ -254,7 +247,7 @@ module _ (t : Terms) (slots id : ℕ) (me : Seated) (caller : me.0.role ≡ role
           begins = ([], append-nil (r.memory.history ++ u ∷ []));
           receipts = receipts c;
           lineage = log.lineage;
-          idle = λ zero_weight. absurd (let one : weight me.0.role ≡ 1 = ap weight caller in omega (arith, zero_weight, one));
+          idle = busy me.0 w caller;
         })
         (λ j v _ there. let log = subst (λ k. LogHolds t r.memory.history k v) (sym is_c) (r.memory.callers.each j v there) in record {
           terms = log.terms;
