@@ -13,7 +13,7 @@ use Rattle.tree_shape.specs.Numbers.{times, once, is_among}
 use Rattle.tree_shape.specs.Shapes.{entries_of, pairs_of}
 use Rattle.tree_shape.specs.Trees.{Contents, Branch, branches_from, branches, nodes, within}
 use Rattle.tree_shape.specs.Trees.{leaving, HasEntry}
-use Rattle.tree_shape.specs.Lawful.{IsTree, IsOrdered, Fits}
+use Rattle.tree_shape.specs.Lawful.{IsTree, IsOrdered, FitsParent}
 use Rattle.tree_shape.specs.LocalChange.{IsLocalChange, either, reached_nodes}
 use Rattle.tree_shape.proofs.Times.{In, all_from, in_append, in_left, in_right, in_flat_map}
 use Rattle.tree_shape.proofs.Times.{in_flat_map_from, times_head, times_cases, times_under}
@@ -195,7 +195,8 @@ module _ (f : Contents) (live : ℕ → Bool) (tree : IsTree f live) (n level : 
         ],
       )
     where
-      own_exit : (level x : ℕ) (c : Branch) → IsTrue (live x) → (f x).level ≡ level → In c (exits_of f level x) → In c (own_branches f x) × (c.level < level)
+      own_exit : (level x : ℕ) (c : Branch) → IsTrue (live x) → (f x).level ≡ level →
+          In c (exits_of f level x) → In c (own_branches f x) × (c.frame.level < level)
       own_exit zero x c alive at there = absurd there
       own_exit (suc j) x c alive at there =
           (subst (λ bs. In c bs) (sym (own_at f x j at)) there, omega (arith, branch_level j (f x).low (pairs_of (f x)) c there))
@@ -223,7 +224,7 @@ pub record Regroups (f : Contents) (live : ℕ → Bool) (n level : ℕ) (front 
   pub children : flat_map (λ b. exits_of g level b.child) new ≡ flat_map (λ b. exits_of f level b.child) old
   pub top_ordered : IsOrdered (g n)
   pub ordered : (b : Branch) → In b new → IsOrdered (g b.child)
-  pub fits : (b : Branch) → In b new → Fits g b
+  pub fits : (b : Branch) → In b new → FitsParent g b
 
 module _ (f : Contents) (live : ℕ → Bool) (tree : IsTree f live) (n level : ℕ) (front old new back : List Branch) (fresh : ℕ → Bool) (g : Contents)
     (r : Regroups f live n level front old new back fresh g) where
@@ -294,9 +295,13 @@ module _ (f : Contents) (live : ℕ → Bool) (tree : IsTree f live) (n level : 
     height = λ root. (let same : (g n).level ≡ (f 0).level = r.still_at ∙ sym r.at ∙ ap (λ y. (f y).level) root in let top = tree.height in omega arith);
     ordered = all_numbers (λ x. IsOrdered (g x)) r.top_ordered r.ordered;
     reached_once = λ x. subst (λ l. times x l ≤ 1) (sym reached_now) (once_now x);
-    fitting = all_numbers (λ x. AllByRecursion (λ b. IsTrue (either (family n old) fresh b.child) → Fits g b) (own_branches g x))
-        (all_from (λ b. IsTrue (either (family n old) fresh b.child) → Fits g b) (own_branches g n) top_fits)
-        (λ b there. all_from (λ c. IsTrue (either (family n old) fresh c.child) → Fits g c) (own_branches g b.child)
+    fitting =
+        all_numbers (λ x. AllByRecursion (λ b. IsTrue (either (family n old) fresh b.child) →
+        FitsParent g b) (own_branches g x))
+        (all_from (λ b. IsTrue (either (family n old) fresh b.child) → FitsParent g b)
+        (own_branches g n) top_fits)
+        (λ b there. all_from (λ c. IsTrue (either (family n old) fresh c.child) → FitsParent g c)
+        (own_branches g b.child)
         (λ c own touched. absurd (both_ways (either (family n old) fresh c.child) (new_child_exit b there c own) touched)));
     exits = ap (λ l. leaving (either (family n old) fresh) g l n) r.still_at ∙ new_ways.1
         ∙ ap (λ bs. front ++ (bs ++ back)) r.children
@@ -312,7 +317,8 @@ module _ (f : Contents) (live : ℕ → Bool) (tree : IsTree f live) (n level : 
       free_of : (x : ℕ) → IsTrue (fresh x) → live x ≡ false
       free_of x new' = r.free x new'
 
-      top_fits : (b : Branch) → In b (own_branches g n) → IsTrue (either (family n old) fresh b.child) → Fits g b
+      top_fits : (b : Branch) → In b (own_branches g n) →
+          IsTrue (either (family n old) fresh b.child) → FitsParent g b
       top_fits b own touched =
           let there : In b (front ++ (new ++ back)) = subst (λ bs. In b bs) (own_at g n level r.still_at ∙ r.after) own in
           elim (in_append front (new ++ back) b there) [

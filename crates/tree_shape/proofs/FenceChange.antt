@@ -9,10 +9,10 @@ use Rattle.std.proofs.lemmas.List.{append-nil}
 use Rattle.std.proofs.lemmas.List.Concat.{flat_map-append}
 use Rattle.tree_shape.specs.declared.pair.Pair.{Pair}
 use Rattle.tree_shape.specs.Numbers.{times, once, is_among}
-use Rattle.tree_shape.specs.Changes.{up_to, after}
+use Rattle.tree_shape.specs.Changes.{up_to, begins_after}
 use Rattle.tree_shape.specs.Trees.{Contents, Branch, branches_from, branches, nodes_under, within}
 use Rattle.tree_shape.specs.Trees.{leaving}
-use Rattle.tree_shape.specs.Lawful.{IsLawful, IsOrdered, IsFilled, Fits}
+use Rattle.tree_shape.specs.Lawful.{IsLawfulTree, IsOrdered, IsFilled, FitsParent}
 use Rattle.tree_shape.specs.LocalChange.{IsLocalChange, IsChangeOf, either, reached_nodes}
 use Rattle.tree_shape.specs.Steps.{IsFenceMove, last_spine, first_spine, fence_nodes}
 use Rattle.tree_shape.proofs.Times.{In, all_from, all_times, in_times, once_same, once_other}
@@ -44,7 +44,7 @@ or_nothing set = fun_ext (λ x. with_false (set x))
     with_false true = refl
     with_false false = refl
 
-module _ (f : Contents) (live : ℕ → Bool) (lawful : IsLawful f live) (n slot : ℕ) (p q : Pair)
+module _ (f : Contents) (live : ℕ → Bool) (lawful : IsLawfulTree f live) (n slot : ℕ) (p q : Pair)
     (fence : ℕ) (g : Contents) (move : IsFenceMove f live n slot p q fence g) where
   abbrev level : ℕ
   level = Fences.level f live lawful n slot p q fence g move
@@ -121,7 +121,7 @@ module _ (f : Contents) (live : ℕ → Bool) (lawful : IsLawful f live) (n slot
       let there' : 0 < times x right = subst (λ l. 0 < times x (first_spine f l q.child))
       (sym right_level) there in (
         among nodes_of x (omega (arith, count x)),
-        all_times (λ y. g y ≡ after fence (f y)) right x
+        all_times (λ y. g y ≡ begins_after fence (f y)) right x
             move.right there',
       ))
       (λ x there none. none_changed x (omega (arith, parts x))
@@ -231,7 +231,7 @@ module _ (f : Contents) (live : ℕ → Bool) (lawful : IsLawful f live) (n slot
         ]
   ]
 
-  after_lawful : IsLawful g live
+  after_lawful : IsLawfulTree g live
   after_lawful = (Fences.move_keeps f live lawful n slot p q fence g move).lawful
 
   all_changed : (P : ℕ → Type 0) → ((x : ℕ) → IsTrue (live x) → P x) →
@@ -266,9 +266,10 @@ module _ (f : Contents) (live : ℕ → Bool) (lawful : IsLawful f live) (n slot
     reached_once = λ x. subst (λ l. times x l ≤ 1) (sym reached_now)
         (omega (arith, count x, parts x, left_in x, right_in x));
     fitting =
-        all_changed (λ x. AllByRecursion (λ b. IsTrue (either set (is_among []) b.child) → Fits g b)
+        all_changed (λ x. AllByRecursion (λ b. IsTrue (either set (is_among []) b.child) →
+        FitsParent g b)
         (own_branches g x))
-        (λ x alive. all_from (λ b. IsTrue (either set (is_among []) b.child) → Fits g b)
+        (λ x alive. all_from (λ b. IsTrue (either set (is_among []) b.child) → FitsParent g b)
         (own_branches g x)
         (λ b own touched. child_fits g live after_lawful.tree x alive b own));
     exits = exits_now;

@@ -10,10 +10,12 @@ use Rattle.tree_shape.specs.declared.pair.Pair.{Pair}
 use Rattle.tree_shape.specs.Numbers.{times, once}
 use Rattle.tree_shape.specs.Shapes.{Shape, Body, Pairs, Entries, Link, entries_of, entries_in}
 use Rattle.tree_shape.specs.Shapes.{pairs_of, Cut}
-use Rattle.tree_shape.specs.Changes.{at_slot, separate_at, ends_at, up_to, after}
-use Rattle.tree_shape.specs.Trees.{Contents, Branch, branches_from, branches, nodes_under, nodes}
+use Rattle.tree_shape.specs.Changes.{at_slot, separate_at, ends_at, up_to, begins_after}
+use Rattle.tree_shape.specs.Trees.{Contents, Branch, branch, branches_from, branches, nodes_under}
+use Rattle.tree_shape.specs.Trees.{nodes}
 use Rattle.tree_shape.specs.Trees.{within}
-use Rattle.tree_shape.specs.Lawful.{IsTree, IsLawful, IsOrdered, IsFilled, IsFilledAs, Fits}
+use Rattle.tree_shape.specs.Lawful.{IsTree, IsLawfulTree, IsOrdered, IsFilled, IsFilledAs}
+use Rattle.tree_shape.specs.Lawful.{FitsParent}
 use Rattle.tree_shape.specs.Steps.{Keeps, IsFenceMove, last_spine, first_spine, LiesAbove}
 use Rattle.tree_shape.proofs.Times.{In, in_append, in_left, in_right, all_at, all_from, all_times}
 use Rattle.tree_shape.proofs.Times.{once_same, times-append, times_flat_map_from, flat_map_same}
@@ -59,7 +61,7 @@ alike_raised s fence = by_body s.body
     by_body (Entries es) = record { level = refl; numbers = refl; members = refl; filled = λ n filled. filled }
     by_body (Link next) = record { level = refl; numbers = refl; members = refl; filled = λ n filled. filled }
 
-alike_after : (s : Shape) (fence : ℕ) → Alike s (after fence s)
+alike_after : (s : Shape) (fence : ℕ) → Alike s (begins_after fence s)
 alike_after s fence = record { level = refl; numbers = refl; members = refl; filled = λ n filled. filled }
 
 alike_same : (s : Shape) → Alike s s
@@ -90,7 +92,8 @@ no_root_below f live tree level n alive at below x there e =
           root_no_child f live tree parent.0 (live_within f live tree (λ _. true) level n alive at parent.0 parent.1.0) (subst (λ y. 0 < times y (children f parent.0)) e parent.1.1)
     ]
 
-module _ (f : Contents) (live : ℕ → Bool) (lawful : IsLawful f live) (n slot : ℕ) (p q : Pair) (fence : ℕ) (g : Contents) (move : IsFenceMove f live n slot p q fence g) where
+module _ (f : Contents) (live : ℕ → Bool) (lawful : IsLawfulTree f live) (n slot : ℕ) (p q : Pair)
+    (fence : ℕ) (g : Contents) (move : IsFenceMove f live n slot p q fence g) where
   abbrev tree : IsTree f live
   tree = lawful.tree
 
@@ -110,16 +113,16 @@ module _ (f : Contents) (live : ℕ → Bool) (lawful : IsLawful f live) (n slot
   under b = nodes_under f level b.child
 
   abbrev pub one : Branch
-  one = record { child = p.child; level = level; low = next_low (f n).low at.front; high = p.separator }
+  one = branch p.child level (next_low (f n).low at.front) p.separator
 
   abbrev pub two : Branch
-  two = record { child = q.child; level = level; low = p.separator + 1; high = q.separator }
+  two = branch q.child level (p.separator + 1) q.separator
 
   abbrev pub one' : Branch
-  one' = record { child = p.child; level = level; low = next_low (f n).low at.front; high = fence }
+  one' = branch p.child level (next_low (f n).low at.front) fence
 
   abbrev pub two' : Branch
-  two' = record { child = q.child; level = level; low = fence + 1; high = q.separator }
+  two' = branch q.child level (fence + 1) q.separator
 
   abbrev new : List Branch
   new = branches_from level (f n).low at.front ++ (one' ∷ two' ∷ branches_from level (q.separator + 1) at.back)
@@ -191,7 +194,8 @@ module _ (f : Contents) (live : ℕ → Bool) (lawful : IsLawful f live) (n slot
   right_now : Stands g level q.child (fence + 1) (f q.child).high
   right_now = right_stands f g fence level q.child (f q.child).low (f q.child).high right_before
       (subst (λ l. AllByRecursion (λ y. (fence < (f y).high) × LiesAbove fence (f y).body) (first_spine f l q.child)) right_level move.below)
-      (λ x there. all_times (λ y. g y ≡ after fence (f y)) right_spine x move.right (subst (λ l. 0 < times x (first_spine f l q.child)) (sym right_level) there))
+      (λ x there. all_times (λ y. g y ≡ begins_after fence (f y)) right_spine x move.right
+      (subst (λ l. 0 < times x (first_spine f l q.child)) (sym right_level) there))
       (λ x there none. move.others x (not_parent x (omega arith))
       (omega (arith, parts x, left_in x))
       (subst (λ l. times x (first_spine f l q.child) ≡ 0) (sym right_level) none))
@@ -210,7 +214,8 @@ module _ (f : Contents) (live : ℕ → Bool) (lawful : IsLawful f live) (n slot
   pairs_now = ap pairs_of move.above ∙ at.changed (separate_at fence)
 
   pub branches_now : branches level (g n) ≡ branches_from level (f n).low at.front
-      ++ (record { child = p.child; level = level; low = next_low (f n).low at.front; high = fence } ∷ record { child = q.child; level = level; low = fence + 1; high = q.separator } ∷ branches_from level (q.separator + 1) at.back)
+      ++ (branch p.child level (next_low (f n).low at.front) fence ∷ branch q.child level
+      (fence + 1) q.separator ∷ branches_from level (q.separator + 1) at.back)
   branches_now = ap (branches_from level (g n).low) pairs_now ∙ ap (λ l. branches_from level l (at.front ++ separate_at fence p (q ∷ at.back))) (ap (λ s. s.low) move.above)
       ∙ branches-append level (f n).low at.front (separate_at fence p (q ∷ at.back))
 
@@ -220,9 +225,11 @@ module _ (f : Contents) (live : ℕ → Bool) (lawful : IsLawful f live) (n slot
   parent_before : Stands f (suc level) n (f n).low (f n).high
   parent_before = stands_live f live tree (suc level) n move.live_parent at.left.at whole_order
 
-  child_before : (b : Branch) → In b (branches level (f n)) → Stands f level b.child b.low b.high
+  child_before : (b : Branch) → In b (branches level (f n)) →
+      Stands f level b.child b.frame.low b.frame.high
   unfolding Stands
-  child_before b there = all_at (λ c. Stands f level c.child c.low c.high) (branches level (f n)) b parent_before.1 there
+  child_before b there = all_at (λ c. Stands f level c.child c.frame.low c.frame.high)
+      (branches level (f n)) b parent_before.1 there
 
   parent_now : Stands g (suc level) n (f n).low (f n).high
   unfolding Stands
@@ -238,35 +245,44 @@ module _ (f : Contents) (live : ℕ → Bool) (lawful : IsLawful f live) (n slot
       ),
       whole_order,
     ),
-    subst (AllByRecursion (λ b. Stands g level b.child b.low b.high)) (sym branches_now)
-        (all_from (λ b. Stands g level b.child b.low b.high) new (λ b there. each b there)),
+    subst (AllByRecursion (λ b. Stands g level b.child b.frame.low b.frame.high)) (sym branches_now)
+        (all_from (λ b. Stands g level b.child b.frame.low b.frame.high) new
+        (λ b there. each b there)),
   )
     where
-      in_before : (b : Branch) → In b (branches_from level (f n).low at.front ++ (record { child = p.child; level = level; low = next_low (f n).low at.front; high = p.separator } ∷ record { child = q.child; level = level; low = p.separator + 1; high = q.separator } ∷ branches_from level (q.separator + 1) at.back)) →
+      in_before : (b : Branch) →
+          In b (branches_from level (f n).low
+          at.front ++ (branch p.child level (next_low (f n).low at.front) p.separator ∷ branch
+          q.child level (p.separator + 1) q.separator ∷ branches_from level (q.separator + 1)
+          at.back)) →
           In b (branches level (f n))
       in_before b there = subst (λ bs. In b bs) (sym at.left.before) there
 
-      in_front : (b : Branch) → In b (branches_from level (f n).low at.front) → Stands g level b.child b.low b.high
-      in_front b there = stands_same f g level b.child b.low b.high
+      in_front : (b : Branch) → In b (branches_from level (f n).low at.front) →
+          Stands g level b.child b.frame.low b.frame.high
+      in_front b there = stands_same f g level b.child b.frame.low b.frame.high
           (λ x here.
           let brought = times_flat_map_from under (branches_from level (f n).low at.front) b x there in
           out_of x (omega (arith, parts x)) (omega (arith, parts x)) (not_parent x (omega arith)))
           (child_before b (in_before b (in_left (branches_from level (f n).low at.front) _ b there)))
 
-      in_back : (b : Branch) → In b (branches_from level (q.separator + 1) at.back) → Stands g level b.child b.low b.high
-      in_back b there = stands_same f g level b.child b.low b.high
+      in_back : (b : Branch) → In b (branches_from level (q.separator + 1) at.back) →
+          Stands g level b.child b.frame.low b.frame.high
+      in_back b there = stands_same f g level b.child b.frame.low b.frame.high
           (λ x here.
           let brought = times_flat_map_from under (branches_from level (q.separator + 1) at.back) b x there in
           out_of x (omega (arith, parts x)) (omega (arith, parts x)) (not_parent x (omega arith)))
           (child_before b (in_before b (in_right (branches_from level (f n).low at.front) _ b (inr (inr there)))))
 
-      each : (b : Branch) → In b new → Stands g level b.child b.low b.high
+      each : (b : Branch) → In b new → Stands g level b.child b.frame.low b.frame.high
       each b there = elim (in_append (branches_from level (f n).low at.front) (one' ∷ two' ∷ branches_from level (q.separator + 1) at.back) b there) [
         | inl front ↦ in_front b front
         | inr later ↦ elim later [
-          | inl e ↦ subst (λ (c : Branch). Stands g level c.child c.low c.high) e (subst (λ l. Stands g level p.child l fence) at.left.fits.low left_now)
+          | inl e ↦ subst (λ (c : Branch). Stands g level c.child c.frame.low c.frame.high) e
+              (subst (λ l. Stands g level p.child l fence) at.left.fits.low left_now)
           | inr more ↦ elim more [
-            | inl e ↦ subst (λ (c : Branch). Stands g level c.child c.low c.high) e (subst (λ h. Stands g level q.child (fence + 1) h) at.fits.high right_now)
+            | inl e ↦ subst (λ (c : Branch). Stands g level c.child c.frame.low c.frame.high) e
+                (subst (λ h. Stands g level q.child (fence + 1) h) at.fits.high right_now)
             | inr back ↦ in_back b back
           ]
         ]
@@ -279,7 +295,9 @@ module _ (f : Contents) (live : ℕ → Bool) (lawful : IsLawful f live) (n slot
     | inr other ↦ elim (cases_eq (times x left_spine) 0) [
       | inr some ↦ subst (Alike (f x)) (sym (all_times (λ y. g y ≡ up_to fence (f y)) left_spine x move.left (omega arith))) (alike_raised (f x) fence)
       | inl not_left ↦ elim (cases_eq (times x right_spine) 0) [
-        | inr some ↦ subst (Alike (f x)) (sym (all_times (λ y. g y ≡ after fence (f y)) right_spine x move.right (omega arith))) (alike_after (f x) fence)
+        | inr some ↦ subst (Alike (f x))
+            (sym (all_times (λ y. g y ≡ begins_after fence (f y)) right_spine x move.right
+            (omega arith))) (alike_after (f x) fence)
         | inl not_right ↦ subst (Alike (f x)) (sym (move.others x other not_left not_right)) (alike_same (f x))
       ]
     ]
@@ -309,16 +327,23 @@ module _ (f : Contents) (live : ℕ → Bool) (lawful : IsLawful f live) (n slot
   outside : (x : ℕ) → times x below_parent ≡ 0 → g x ≡ f x
   outside x none =
       let split : times x below_parent ≡ once (eqb x n) + times x (flat_map under (branches level (f n))) = refl in
-      let p_in = times_flat_map_from under (branches level (f n)) (record { child = p.child; level = level; low = next_low (f n).low at.front; high = p.separator }) x
-      (subst (λ bs. In (record { child = p.child; level = level; low = next_low (f n).low at.front; high = p.separator }) bs) (sym at.left.before) (in_right (branches_from level (f n).low at.front) _ _ (inl refl))) in
-      let q_in = times_flat_map_from under (branches level (f n)) (record { child = q.child; level = level; low = p.separator + 1; high = q.separator }) x
-      (subst (λ bs. In (record { child = q.child; level = level; low = p.separator + 1; high = q.separator }) bs) (sym at.left.before) (in_right (branches_from level (f n).low at.front) _ _ (inr (inl refl)))) in
+      let p_in = times_flat_map_from under (branches level (f n))
+      (branch p.child level (next_low (f n).low at.front) p.separator) x
+      (subst (λ bs. In (branch p.child level (next_low (f n).low at.front) p.separator) bs)
+      (sym at.left.before) (in_right (branches_from level (f n).low at.front) _ _ (inl refl)))
+      in
+      let q_in = times_flat_map_from under (branches level (f n))
+      (branch q.child level (p.separator + 1) q.separator) x
+      (subst (λ bs. In (branch q.child level (p.separator + 1) q.separator) bs) (sym at.left.before)
+      (in_right (branches_from level (f n).low at.front) _ _ (inr (inl refl)))) in
       out_of x (omega arith) (omega arith) (λ e. let one : once (eqb x n) ≡ 1 = ap (λ y. once (eqb x y)) (sym e) ∙ once_same x in absurd (omega arith))
 
-  says : (x : ℕ) → 0 < times x below_parent → IsOrdered (g x) × ((b : Branch) → In b (own_branches g x) → Fits g b)
+  says : (x : ℕ) → 0 < times x below_parent →
+      IsOrdered (g x) × ((b : Branch) → In b (own_branches g x) → FitsParent g b)
   says x there = stands_says g (suc level) n (f n).low (f n).high parent_now x (subst (λ l. 0 < times x l) (sym (nodes_now (suc level) n)) there)
 
-  fits_outside : (x : ℕ) → IsTrue (live x) → times x below_parent ≡ 0 → (b : Branch) → In b (own_branches f x) → Fits g b
+  fits_outside : (x : ℕ) → IsTrue (live x) → times x below_parent ≡ 0 → (b : Branch) →
+      In b (own_branches f x) → FitsParent g b
   fits_outside x alive none b own =
       let fits = child_fits f live tree x alive b own in
       elim (cases_eq (times b.child below_parent) 0) [
@@ -366,8 +391,10 @@ module _ (f : Contents) (live : ℕ → Bool) (lawful : IsLawful f live) (n slot
           | inr some ↦ (says x (omega arith)).0
         ];
         fitting = λ x alive. elim (cases_eq (times x below_parent) 0) [
-          | inl none ↦ subst (λ s. AllByRecursion (Fits g) (branches (s.level - 1) s)) (sym (outside x none)) (all_from (Fits g) (own_branches f x) (fits_outside x alive none))
-          | inr some ↦ all_from (Fits g) (own_branches g x) (says x (omega arith)).1
+          | inl none ↦ subst (λ s. AllByRecursion (FitsParent g) (branches (s.level - 1) s))
+              (sym (outside x none))
+              (all_from (FitsParent g) (own_branches f x) (fits_outside x alive none))
+          | inr some ↦ all_from (FitsParent g) (own_branches g x) (says x (omega arith)).1
         ];
       };
       filled = λ x alive. (alike x).filled x (lawful.filled x alive);

@@ -1,10 +1,12 @@
 -- Lists of a few nodes, and what halves, shares and joined nodes hold.
-use Rattle.std.proofs.Common.{◌≡◌, ◌≢◌, ℕ, ◌+◌, ◌/◌, ◌<◌, ◌≤◌, List, [], ◌∷◌, ◌++◌, length, ap, sym, ◌∙◌, subst, arith, true, false, cond, eqb, inl, inr}
+use Rattle.std.proofs.Common.{◌≡◌, ◌≢◌, ℕ, ◌+◌, ◌/◌, ◌<◌, ◌≤◌, List, [], ◌∷◌, ◌++◌, length, ap, sym}
+use Rattle.std.proofs.Common.{◌∙◌, subst, arith, true, false, cond, eqb, inl, inr}
 use Rattle.std.proofs.lemmas.Bool.{cases_eq, ne_eqb, lt-ltb, le-ltb, both_ways}
 use Rattle.std.proofs.lemmas.List.{length-take-le, length-drop, length-append}
 use Rattle.tree_shape.specs.Numbers.{times, is_among}
 use Rattle.tree_shape.specs.Shapes.{Shape, Body, Pairs, Entries, Link, pairs_in}
-use Rattle.tree_shape.specs.Changes.{first_half, last_half, both, first_part, last_part, size, FitAs, OverfillAs}
+use Rattle.tree_shape.specs.Changes.{first_half, last_half, both, first_part, last_part, size}
+use Rattle.tree_shape.specs.Changes.{FitAs, OverfillAs}
 use Rattle.tree_shape.specs.Lawful.{IsFilled, IsFilledAs, fewest_pairs, fewest_entries}
 use Rattle.tree_shape.specs.Steps.{middle, IsFull}
 use Rattle.tree_shape.proofs.Times.{In, once_other, once_most, times_head}

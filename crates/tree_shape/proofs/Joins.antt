@@ -12,9 +12,9 @@ use Rattle.tree_shape.specs.declared.pair.Pair.{Pair}
 use Rattle.tree_shape.specs.Numbers.{times, once, is_among}
 use Rattle.tree_shape.specs.Shapes.{Shape, entries_of, pairs_of, Cut}
 use Rattle.tree_shape.specs.Changes.{first_half, joined, at_slot, swallow_next, separate_at}
-use Rattle.tree_shape.specs.Changes.{first_part, end_of, size}
-use Rattle.tree_shape.specs.Trees.{Contents, Branch, branches_from, branches, nodes}
-use Rattle.tree_shape.specs.Lawful.{IsTree, IsLawful, IsOrdered, IsFilled, Fits}
+use Rattle.tree_shape.specs.Changes.{first_part, body_end, size}
+use Rattle.tree_shape.specs.Trees.{Contents, Branch, branch, branches_from, branches, nodes}
+use Rattle.tree_shape.specs.Lawful.{IsTree, IsLawfulTree, IsOrdered, IsFilled, FitsParent}
 use Rattle.tree_shape.specs.LocalChange.{IsChangeOf, either}
 use Rattle.tree_shape.specs.Steps.{Keeps, IsJoin, IsShare, without_node}
 use Rattle.tree_shape.proofs.Times.{In, some_same, once_same, once_other, once_most, times-append}
@@ -51,7 +51,7 @@ pub record Neighbours (f : Contents) (live : ℕ → Bool) (n slot : ℕ) (p q :
   pub changed : (change : Pair → List Pair → List Pair) → at_slot change slot (pairs_of (f n)) ≡ front ++ change p (q ∷ back)
   pub left : Slotted f live n front p (q ∷ back)
   pub alive : IsTrue (live q.child)
-  pub fits : Fits f (record { child = q.child; level = left.level; low = p.separator + 1; high = q.separator })
+  pub fits : FitsParent f (branch q.child left.level (p.separator + 1) q.separator)
   pub no_root : q.child ≢ 0
   pub no_parent : q.child ≢ n
   pub different : p.child ≢ q.child
@@ -73,8 +73,8 @@ neighbours f live tree n slot p q alive at next =
     let is : pairs_of (f n) ≡ place.front ++ p ∷ q ∷ more.0 = place.is ∙ ap (λ ps. place.front ++ p ∷ ps) more.1 in
     let left = slotted f live tree n alive place.front p (q ∷ more.0) is in
     let count : length (pairs_of (f n)) ≡ length place.front + suc (suc (length more.0)) = ap length is ∙ length-append place.front (p ∷ q ∷ more.0) in
-    let b : Branch = record { child = q.child; level = left.level; low = p.separator + 1; high = q.separator } in
-    let a : Branch = record { child = p.child; level = left.level; low = next_low (f n).low place.front; high = p.separator } in
+    let b : Branch = branch q.child left.level (p.separator + 1) q.separator in
+    let a : Branch = branch p.child left.level (next_low (f n).low place.front) p.separator in
     let own : In b (own_branches f n) = subst (λ bs. In b bs) (sym (own_at f n left.level left.at ∙ left.before))
     (in_right (branches_from left.level (f n).low place.front) (a ∷ b ∷ branches_from left.level (q.separator + 1) more.0) b (inr (inl refl))) in
     let fits = child_fits f live tree n alive b own in
@@ -152,7 +152,7 @@ one_of_three P n c d pn pc pd x touched = elim (or_cases (eqb x n || is_among (c
   ]
 ]
 
-pub join_changes : (f : Contents) (live : ℕ → Bool) → IsLawful f live →
+pub join_changes : (f : Contents) (live : ℕ → Bool) → IsLawfulTree f live →
     (n slot : ℕ) (p q : Pair) (g : Contents) →
     IsJoin f live n slot p q g → IsChangeOf f live n (n ∷ p.child ∷ q.child ∷ []) [] g None
     (n ∷ p.child ∷ [])
@@ -162,9 +162,9 @@ join_changes f live lawful n slot p q g join =
     let right = at.fits in
     let low = next_low (f n).low at.front in
     let level = at.left.level in
-    let one : Branch = record { child = p.child; level = level; low = low; high = p.separator } in
-    let two : Branch = record { child = q.child; level = level; low = p.separator + 1; high = q.separator } in
-    let both' : Branch = record { child = p.child; level = level; low = low; high = q.separator } in
+    let one : Branch = branch p.child level low p.separator in
+    let two : Branch = branch q.child level (p.separator + 1) q.separator in
+    let both' : Branch = branch p.child level low q.separator in
     let whole = neighbours_join f live lawful.tree n slot p q at (fit_kind (f p.child).body (f q.child).body join.fit) in
     let piece : JoinsTo (f p.child) (f q.child) (g p.child) = subst (λ x. JoinsTo (f p.child) (f q.child) x) (sym join.left) whole in
     let pairs_now : pairs_of (g n) ≡ at.front ++ swallow_next p (q ∷ at.back) = ap pairs_of join.above ∙ at.changed swallow_next in
@@ -194,7 +194,7 @@ join_changes f live lawful n slot p q g join =
         subst (λ ps. Cut (f n).low (f n).high ps) (sym (at.changed swallow_next)) (cut_swallowed (f n).low (f n).high at.front at.back p q at.cut.1),
       );
       ordered = one_of (λ b. IsOrdered (g b.child)) both' piece.ordered;
-      fits = one_of (Fits g) both' (record {
+      fits = one_of (FitsParent g) both' (record {
         level = ap (λ x. x.level) join.left ∙ left.level;
         low = ap (λ x. x.low) join.left ∙ left.low;
         high = ap (λ x. x.high) join.left ∙ right.high;
@@ -209,7 +209,7 @@ join_changes f live lawful n slot p q g join =
     (one_of (λ b. IsFilled b.child (g b.child)) both'
     (subst (IsFilled p.child) (sym join.left) (joined_filled p.child (f p.child).body (f q.child).body join.fit (lawful.filled p.child at.left.alive))))
 
-pub join_keeps : (f : Contents) (live : ℕ → Bool) → IsLawful f live →
+pub join_keeps : (f : Contents) (live : ℕ → Bool) → IsLawfulTree f live →
     (n slot : ℕ) (p q : Pair) (g : Contents) →
     IsJoin f live n slot p q g → Keeps f live g (without_node q.child live)
 join_keeps f live lawful n slot p q g join =
@@ -246,7 +246,7 @@ share_exits f g (suc level) c d s join cut =
     ap (λ l. branches level (g c) ++ l) (append-nil (branches level (g d))) ∙ cut.children level
     ∙ sym (join.children level) ∙ ap (λ l. branches level (f c) ++ l) (sym (append-nil (branches level (f d))))
 
-pub share_changes : (f : Contents) (live : ℕ → Bool) → IsLawful f live →
+pub share_changes : (f : Contents) (live : ℕ → Bool) → IsLawfulTree f live →
     (n slot : ℕ) (p q : Pair) (g : Contents) →
     IsShare f live n slot p q g → IsChangeOf f live n (n ∷ p.child ∷ q.child ∷ []) [] g None
     (n ∷ p.child ∷ q.child ∷ [])
@@ -258,11 +258,11 @@ share_changes f live lawful n slot p q g share =
     let level = at.left.level in
     let s = joined (f p.child) (f q.child) in
     let h = (size (f p.child).body + size (f q.child).body) / 2 in
-    let fence = end_of (first_part h s.body) in
-    let one : Branch = record { child = p.child; level = level; low = low; high = p.separator } in
-    let two : Branch = record { child = q.child; level = level; low = p.separator + 1; high = q.separator } in
-    let one' : Branch = record { child = p.child; level = level; low = low; high = fence } in
-    let two' : Branch = record { child = q.child; level = level; low = fence + 1; high = q.separator } in
+    let fence = body_end (first_part h s.body) in
+    let one : Branch = branch p.child level low p.separator in
+    let two : Branch = branch q.child level (p.separator + 1) q.separator in
+    let one' : Branch = branch p.child level low fence in
+    let two' : Branch = branch q.child level (fence + 1) q.separator in
     let whole = neighbours_join f live lawful.tree n slot p q at (overfill_kind (f p.child).body (f q.child).body share.overfill) in
     let some = shares (f p.child).body (f q.child).body share.overfill in
     let halves = cuts h s.level s.low s.high s.body whole.ordered some.0 some.1 in
@@ -296,7 +296,7 @@ share_changes f live lawful n slot p q g share =
         subst (λ ps. Cut (f n).low (f n).high ps) (sym (at.changed (separate_at fence))) (cut_separated (f n).low (f n).high at.front at.back p q fence at.cut.1 above below),
       );
       ordered = two_of (λ b. IsOrdered (g b.child)) one' two' pieces.first_ordered pieces.last_ordered;
-      fits = two_of (Fits g) one' two'
+      fits = two_of (FitsParent g) one' two'
           (record { level = pieces.first_level ∙ left.level; low = pieces.low ∙ left.low; high = ap (λ x. x.high) share.left })
           (record { level = pieces.last_level ∙ left.level; low = ap (λ x. x.low) share.right; high = pieces.high ∙ right.high });
     } in
@@ -311,7 +311,7 @@ share_changes f live lawful n slot p q g share =
     (subst (IsFilled n) (sym share.above) (omega arith, omega arith))
     (two_of (λ b. IsFilled b.child (g b.child)) one' two' (subst (IsFilled p.child) (sym share.left) filled.0) (subst (IsFilled q.child) (sym share.right) filled.1))
 
-pub share_keeps : (f : Contents) (live : ℕ → Bool) → IsLawful f live →
+pub share_keeps : (f : Contents) (live : ℕ → Bool) → IsLawfulTree f live →
     (n slot : ℕ) (p q : Pair) (g : Contents) →
     IsShare f live n slot p q g → Keeps f live g live
 share_keeps f live lawful n slot p q g share =

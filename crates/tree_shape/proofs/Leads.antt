@@ -8,7 +8,7 @@ use Rattle.tree_shape.specs.declared.pair.Pair.{Pair}
 use Rattle.tree_shape.specs.Numbers.{times}
 use Rattle.tree_shape.specs.Shapes.{Shape, Body, Pairs, Entries, Link, pairs_of, pairs_in}
 use Rattle.tree_shape.specs.Shapes.{entries_of, entries_in, EntriesWithin, Cut}
-use Rattle.tree_shape.specs.Trees.{Contents, Branch, branches_from, branches, nodes_under}
+use Rattle.tree_shape.specs.Trees.{Contents, Branch, branch, branches_from, branches, nodes_under}
 use Rattle.tree_shape.specs.Trees.{child_for, leaf_under}
 use Rattle.tree_shape.specs.Lawful.{IsTree, IsOrderedAs}
 use Rattle.tree_shape.proofs.Times.{In, times_cases, times_flat_map}
@@ -34,15 +34,17 @@ pub entry_inside : (low high : ℕ) (entries : List Member) (m : Member) → Ent
     (low ≤ m.span.first) × (m.span.last ≤ high)
 entry_inside low high [] m within there = absurd there
 entry_inside low high (e ∷ entries) m within there = elim there [
-  | inl same ↦ subst (λ (x : Member). (low ≤ x.span.first) × (x.span.last ≤ high)) same (within.0, within.2)
-  | inr later ↦ let rest = entry_inside (e.span.last + 1) high entries m within.3 later in (omega arith, rest.1)
+  | inl same ↦ subst (λ (x : Member). (low ≤ x.span.first) × (x.span.last ≤ high)) same
+      (within.0.0, within.1.0)
+  | inr later ↦ let rest = entry_inside (e.span.last + 1) high entries m (within.0.2, within.1.1)
+      later in (omega arith, rest.1)
 ]
 
 pub entry_ordered : (low high : ℕ) (entries : List Member) (m : Member) → EntriesWithin low high entries → In m entries → m.span.first ≤ m.span.last
 entry_ordered low high [] m within there = absurd there
 entry_ordered low high (e ∷ entries) m within there = elim there [
-  | inl same ↦ subst (λ (x : Member). x.span.first ≤ x.span.last) same within.1
-  | inr later ↦ entry_ordered (e.span.last + 1) high entries m within.3 later
+  | inl same ↦ subst (λ (x : Member). x.span.first ≤ x.span.last) same within.0.1
+  | inr later ↦ entry_ordered (e.span.last + 1) high entries m (within.0.2, within.1.1) later
 ]
 
 -- no separator lies above the high fence
@@ -51,20 +53,30 @@ last_below low high [] cut = omega arith
 last_below low high (p ∷ pairs) cut = let rest = last_below (p.separator + 1) high pairs cut.1 in omega arith
 
 -- a branch lies between the fences of what is cut
-pub branch_inside : (level low high : ℕ) (pairs : List Pair) (b : Branch) → Cut low high pairs → In b (branches_from level low pairs) → (low ≤ b.low) × (b.low ≤ b.high) × (b.high ≤ high)
+pub branch_inside : (level low high : ℕ) (pairs : List Pair) (b : Branch) → Cut low high pairs →
+    In b (branches_from level low pairs) →
+    (low ≤ b.frame.low) × (b.frame.low ≤ b.frame.high) × (b.frame.high ≤ high)
 branch_inside level low high [] b cut there = absurd there
 branch_inside level low high (p ∷ pairs) b cut there = elim there [
-  | inl same ↦ subst (λ (x : Branch). (low ≤ x.low) × (x.low ≤ x.high) × (x.high ≤ high)) same (omega arith, cut.0, omega (arith, last_below (p.separator + 1) high pairs cut.1))
+  | inl same
+      ↦ subst (λ (x : Branch). (low ≤ x.frame.low) × (x.frame.low ≤ x.frame.high)
+      × (x.frame.high ≤ high)) same (
+        omega arith,
+        cut.0,
+        omega (arith, last_below (p.separator + 1) high pairs cut.1),
+      )
   | inr later ↦ let rest = branch_inside level (p.separator + 1) high pairs b cut.1 later in (omega arith, rest.1, rest.2)
 ]
 
 -- the child for an address between a branch's fences is the branch's
-pub child_for_branch : (pc level low high : ℕ) (pairs : List Pair) (b : Branch) → Cut low high pairs → In b (branches_from level low pairs) → b.low ≤ pc → pc ≤ b.high →
+pub child_for_branch : (pc level low high : ℕ) (pairs : List Pair) (b : Branch) →
+    Cut low high pairs → In b (branches_from level low pairs) → b.frame.low ≤ pc →
+    pc ≤ b.frame.high →
     child_for pc pairs ≡ b.child
 child_for_branch pc level low high [] b cut there above below = absurd there
 child_for_branch pc level low high (p ∷ pairs) b cut there above below = elim there [
   | inl same ↦
-      let end : p.separator ≡ b.high = ap (λ (x : Branch). x.high) same in
+      let end : p.separator ≡ b.frame.high = ap (λ (x : Branch). x.frame.high) same in
       cond-true (leb pc p.separator) p.child (child_for pc pairs) (le-leb pc p.separator (omega arith)) ∙ ap (λ (x : Branch). x.child) same
   | inr later ↦
       let inside = branch_inside level (p.separator + 1) high pairs b cut.1 later in
@@ -74,13 +86,14 @@ child_for_branch pc level low high (p ∷ pairs) b cut there above below = elim 
 
 -- an address between the fences lies between those of a branch
 pub some_branch : (pc level low high : ℕ) (pairs : List Pair) → Cut low high pairs → low ≤ pc → pc ≤ high →
-    (b : Branch) × (In b (branches_from level low pairs) × ((b.low ≤ pc) × (pc ≤ b.high)))
+    (b : Branch)
+    × (In b (branches_from level low pairs) × ((b.frame.low ≤ pc) × (pc ≤ b.frame.high)))
 some_branch pc level low high [] cut above below = absurd (omega arith)
 some_branch pc level low high (p ∷ pairs) cut above below = elim (cases_lt p.separator pc) [
   | inl past ↦
       let rest = some_branch pc level (p.separator + 1) high pairs cut.1 (omega arith) below in
       (rest.0, (inr rest.1.0, rest.1.1))
-  | inr here ↦ (record { child = p.child; level = level; low = low; high = p.separator }, (inl refl, (above, here)))
+  | inr here ↦ (branch p.child level low p.separator, (inl refl, (above, here)))
 ]
 
 -- what an ordered node says by its level

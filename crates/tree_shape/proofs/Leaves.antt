@@ -18,8 +18,9 @@ use Rattle.tree_shape.specs.Numbers.{times, is_among}
 use Rattle.tree_shape.specs.Shapes.{Shape, Entries, entries_of, EntriesWithin, IsLeaf}
 use Rattle.tree_shape.specs.Changes.{with_entry}
 use Rattle.tree_shape.specs.Trees.{Contents, branches, within, leaving, HasEntry}
-use Rattle.tree_shape.specs.Lawful.{IsTree, IsLawful, IsOrdered, IsOrderedAs, IsFilled, IsFilledAs}
-use Rattle.tree_shape.specs.Lawful.{Fits, fewest_entries}
+use Rattle.tree_shape.specs.Lawful.{IsTree, IsLawfulTree, IsOrdered, IsOrderedAs, IsFilled}
+use Rattle.tree_shape.specs.Lawful.{IsFilledAs}
+use Rattle.tree_shape.specs.Lawful.{FitsParent, fewest_entries}
 use Rattle.tree_shape.specs.LocalChange.{IsLocalChange, IsChangeOf, EntriesBecome, either}
 use Rattle.tree_shape.specs.LocalChange.{live_after, reached_nodes}
 use Rattle.tree_shape.specs.Steps.{IsPut, Adds, IsTake, Takes}
@@ -84,8 +85,13 @@ module _ (f : Contents) (live : ℕ → Bool) (tree : IsTree f live) (n : ℕ) (
     height = λ root. (let z = still_zero in omega arith);
     ordered = subst (AllByRecursion (λ x. IsOrdered (g x))) (sym new_alone) (now_ordered, tt);
     reached_once = λ x. subst (λ l. times x l ≤ 1) (sym new_alone) (omega (arith, once_most (eqb x n)));
-    fitting = subst (AllByRecursion (λ x. AllByRecursion (λ b. IsTrue (either (alone n) nothing b.child) → Fits g b) (branches ((g x).level - 1) (g x)))) (sym new_alone)
-        (subst (λ s. AllByRecursion (λ b. IsTrue (either (alone n) nothing b.child) → Fits g b) (branches (s.level - 1) s)) (sym r.above) tt, tt);
+    fitting =
+        subst (AllByRecursion (λ x. AllByRecursion (λ b. IsTrue (either (alone n) nothing b.child) →
+        FitsParent g b) (branches ((g x).level - 1) (g x)))) (sym new_alone) (
+          subst (λ s. AllByRecursion (λ b. IsTrue (either (alone n) nothing b.child) →
+              FitsParent g b) (branches (s.level - 1) s)) (sym r.above) tt,
+          tt,
+        );
     exits = ap (λ l. leaving (either (alone n) nothing) g l n) still_zero ∙ sym (ap (λ l. leaving (alone n) f l n) at_zero);
   }
 
@@ -163,22 +169,31 @@ module _ (f : Contents) (live : ℕ → Bool) (tree : IsTree f live) (n : ℕ) (
 -- a span apart from ordered entries, put among them
 put_within : (low high : ℕ) (entries : List Member) (m : Member) → EntriesWithin low high entries → low ≤ m.span.first → m.span.first ≤ m.span.last → m.span.last ≤ high →
     AllByRecursion (λ e. ¬ Overlaps e.span m.span) entries → EntriesWithin low high (with_entry m entries)
-put_within low high [] m within above order below free = (above, order, below, tt)
+put_within low high [] m within above order below free = ((above, order, tt), (below, tt))
 put_within low high (e ∷ entries) m within above order below free = elim (cases_Bool (ltb m.span.first e.span.first)) [
   | inl before ↦
       let first = ltb-true m.span.first e.span.first before in
       let apart : m.span.last < e.span.first = elim (cases_lt m.span.last e.span.first) [
         | inl lt ↦ lt
-        | inr meets ↦ absurd (free.0 (e.span.first, (contains_from e.span e.span.first (omega arith) within.1, contains_from m.span e.span.first (omega arith) meets)))
+        | inr meets
+            ↦ absurd (free.0 (
+              e.span.first,
+              (
+                contains_from e.span e.span.first (omega arith) within.0.1,
+                contains_from m.span e.span.first (omega arith) meets,
+              ),
+            ))
       ] in
-      rw (before) (above, order, below, (omega arith, within.1, within.2, within.3))
+      rw (before) ((above, order, (omega arith, within.0.1, within.0.2)), (below, within.1))
   | inr after ↦
       let first = ltb-false m.span.first e.span.first after in
       let apart : e.span.last < m.span.first = elim (cases_lt e.span.last m.span.first) [
         | inl lt ↦ lt
         | inr meets ↦ absurd (free.0 (m.span.first, (contains_from e.span m.span.first first meets, contains_from m.span m.span.first (omega arith) order)))
       ] in
-      rw (after) (within.0, within.1, within.2, put_within (e.span.last + 1) high entries m within.3 (omega arith) order below free.1)
+      let rest = put_within (e.span.last + 1) high entries m (within.0.2, within.1.1) (omega arith)
+      order below free.1 in
+      rw (after) ((within.0.0, within.0.1, rest.0), (within.1.0, rest.1))
 ]
 
 put_in : (entries : List Member) (m x : Member) → In x (with_entry m entries) → In x entries ⊎ (m ≡ x)
@@ -213,7 +228,7 @@ put_length (e ∷ entries) m =
       | false ↦ ap suc (put_length entries m)
     ]
 
-put_rewrites : (f : Contents) (live : ℕ → Bool) → IsLawful f live →
+put_rewrites : (f : Contents) (live : ℕ → Bool) → IsLawfulTree f live →
     (n : ℕ) (member : Member) (g : Contents) →
     IsPut f live n member g → Rewrites f live n (with_entry member (entries_of (f n))) g
 put_rewrites f live lawful n member g put =
@@ -249,7 +264,7 @@ put_becomes f live n member g put = (
   ),
 )
 
-pub put_changes : (f : Contents) (live : ℕ → Bool) → IsLawful f live →
+pub put_changes : (f : Contents) (live : ℕ → Bool) → IsLawfulTree f live →
     (n : ℕ) (member : Member) (g : Contents) →
     IsPut f live n member g → IsChangeOf f live n (n ∷ []) [] g (Some (Register member)) (n ∷ [])
 put_changes f live lawful n member g put =
@@ -262,15 +277,15 @@ put_changes f live lawful n member g put =
     (subst (IsFilled n) (sym put.above) (omega arith, omega arith))
 
 -- the tree after a leaf's change that stays lawful
-leaf_lawful : (f : Contents) (live : ℕ → Bool) → IsLawful f live → (n : ℕ) → IsTrue (live n) →
+leaf_lawful : (f : Contents) (live : ℕ → Bool) → IsLawfulTree f live → (n : ℕ) → IsTrue (live n) →
     (g : Contents) (update : Option Update) →
-    IsChangeOf f live n (n ∷ []) [] g update (n ∷ []) → IsLawful g live
+    IsChangeOf f live n (n ∷ []) [] g update (n ∷ []) → IsLawfulTree g live
 leaf_lawful f live lawful n alive g update change =
     (lawful_now f live live n (n ∷ []) [] g update (n ∷ []) lawful change
     (live_now live live n (n ∷ []) [] g (n ∷ []) change.reaches
     (alive ∙ sym (among (n ∷ []) n (times_head n [])), tt) tt (λ x not_group not_fresh. refl))).0
 
-pub put_adds : (f : Contents) (live : ℕ → Bool) → IsLawful f live →
+pub put_adds : (f : Contents) (live : ℕ → Bool) → IsLawfulTree f live →
     (n : ℕ) (member : Member) (g : Contents) →
     IsPut f live n member g → Adds f live member g
 put_adds f live lawful n member g put = record {
@@ -284,11 +299,11 @@ put_adds f live lawful n member g put = record {
 
 -- what is left of ordered entries is ordered
 left_within : (test : Member → Bool) (low high : ℕ) (entries : List Member) → EntriesWithin low high entries → EntriesWithin low high (filter test entries)
-left_within test low high [] within = tt
+left_within test low high [] within = (tt, tt)
 left_within test low high (e ∷ entries) within =
-    let rest = left_within test (e.span.last + 1) high entries within.3 in
+    let rest = left_within test (e.span.last + 1) high entries (within.0.2, within.1.1) in
     elim (test e) as (λ v. EntriesWithin low high (cond v (e ∷ filter test entries) (filter test entries))) [
-      | true ↦ (within.0, within.1, within.2, rest)
+      | true ↦ ((within.0.0, within.0.1, rest.0), (within.1.0, rest.1))
       | false ↦ entries_lower (e.span.last + 1) low high (filter test entries) rest (omega arith)
     ]
 
@@ -336,17 +351,18 @@ left_length : (base low high : ℕ) (entries : List Member) → EntriesWithin lo
 left_length base low high [] within = (omega arith, omega arith)
 left_length base low high (e ∷ entries) within = elim (cases_Bool (eqb e.span.first base)) [
   | inl same ↦
-      let none = none_at base (e.span.last + 1) high entries within.3 (omega (arith, eqb-true e.span.first base same)) in
+      let none = none_at base (e.span.last + 1) high entries (within.0.2, within.1.1)
+      (omega (arith, eqb-true e.span.first base same)) in
       let len : length (without base entries) ≡ length entries = ap length none.others in
       subst (λ v. (length (cond (not v) (e ∷ without base entries) (without base entries)) ≤ suc (length entries)) × (suc (length entries) ≤ suc (length (cond (not v) (e ∷ without base entries) (without base entries))))) (sym same)
       (omega arith, omega arith)
   | inr other ↦
-      let rest = left_length base (e.span.last + 1) high entries within.3 in
+      let rest = left_length base (e.span.last + 1) high entries (within.0.2, within.1.1) in
       subst (λ v. (length (cond (not v) (e ∷ without base entries) (without base entries)) ≤ suc (length entries)) × (suc (length entries) ≤ suc (length (cond (not v) (e ∷ without base entries) (without base entries))))) (sym other)
       (omega (arith, rest.0), omega (arith, rest.1))
 ]
 
-take_rewrites : (f : Contents) (live : ℕ → Bool) → IsLawful f live →
+take_rewrites : (f : Contents) (live : ℕ → Bool) → IsLawfulTree f live →
     (n base : ℕ) (member : Member) (g : Contents) →
     IsTake f live n base member g → Rewrites f live n (without base (entries_of (f n))) g
 take_rewrites f live lawful n base member g take' =
@@ -369,7 +385,7 @@ take_becomes f live n base member g take' =
       λ m. (left_in base (entries_of (f n)) m, λ h. left_from base (entries_of (f n)) m h.0 h.1),
     )
 
-pub take_changes : (f : Contents) (live : ℕ → Bool) → IsLawful f live →
+pub take_changes : (f : Contents) (live : ℕ → Bool) → IsLawfulTree f live →
     (n base : ℕ) (member : Member) (g : Contents) →
     IsTake f live n base member g → fewest_entries n < length (entries_of (f n)) →
     IsChangeOf f live n (n ∷ []) [] g (Some (Deregister base)) (n ∷ [])
@@ -382,7 +398,7 @@ take_changes f live lawful n base member g take' spare =
     (Some (Deregister base)) (take_becomes f live n base member g take')
     (subst (IsFilled n) (sym take'.above) (omega (arith, len.1), omega (arith, len.0)))
 
-pub take_takes : (f : Contents) (live : ℕ → Bool) → IsLawful f live →
+pub take_takes : (f : Contents) (live : ℕ → Bool) → IsLawfulTree f live →
     (n base : ℕ) (member : Member) (g : Contents) →
     IsTake f live n base member g → Takes f live n member g
 take_takes f live lawful n base member g take' =

@@ -24,3 +24,4 @@ pub mod Listed
 pub mod RootSplits
 pub mod SpineWays
 pub mod FenceChange
+pub mod Fillings

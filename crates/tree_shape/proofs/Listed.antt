@@ -10,7 +10,7 @@ use Rattle.reg_model.specs.declared.span.Member.{Member}
 use Rattle.reg_model.specs.declared.answer.Update.{Update}
 use Rattle.tree_shape.specs.Numbers.{once, is_among}
 use Rattle.tree_shape.specs.Trees.{Contents, HasEntry}
-use Rattle.tree_shape.specs.Lawful.{IsTree, IsLawful}
+use Rattle.tree_shape.specs.Lawful.{IsTree, IsLawfulTree}
 use Rattle.tree_shape.specs.LocalChange.{IsLawfulChange, IsChangeOf, EntriesBecome, either}
 use Rattle.tree_shape.specs.LocalChange.{live_after, reached_nodes}
 use Rattle.tree_shape.specs.Steps.{Keeps, with_node, without_node}
@@ -77,9 +77,9 @@ live_now live live' top group fresh g reached is of_group of_fresh outside x =
 
 pub lawful_now : (f : Contents) (live live' : ℕ → Bool) (top : ℕ) (group fresh : List ℕ)
     (g : Contents) (update : Option Update) (reached : List ℕ) →
-    IsLawful f live → IsChangeOf f live top group fresh g update reached →
+    IsLawfulTree f live → IsChangeOf f live top group fresh g update reached →
     ((x : ℕ) → live_after live top (is_among group) (is_among fresh) g x ≡ live' x) →
-    IsLawful g live' × EntriesBecome update (HasEntry f live) (HasEntry g live')
+    IsLawfulTree g live' × EntriesBecome update (HasEntry f live) (HasEntry g live')
 lawful_now f live live' top group fresh g update reached lawful change same =
     let local = change.lawful.change in
     let after' = live_after live top (is_among group) (is_among fresh) g in (
@@ -99,7 +99,7 @@ lawful_now f live live' top group fresh g update reached lawful change same =
 
 pub keeps_now : (f : Contents) (live live' : ℕ → Bool) (top : ℕ) (group fresh : List ℕ)
     (g : Contents) (reached : List ℕ) →
-    IsLawful f live → IsChangeOf f live top group fresh g None reached →
+    IsLawfulTree f live → IsChangeOf f live top group fresh g None reached →
     AllByRecursion (λ x. live' x ≡ is_among reached x) group →
     AllByRecursion (λ x. live' x ≡ is_among reached x) fresh →
     ((x : ℕ) → is_among group x ≡ false → is_among fresh x ≡ false → live' x ≡ live x) →

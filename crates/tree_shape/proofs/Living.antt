@@ -1,15 +1,25 @@
 -- What a tree tree says of its live nodes: their children are live, and each has one parent at most.
-use Rattle.std.proofs.Common.{◌≡◌, ℕ, zero, suc, ◌+◌, ◌-◌, ◌<◌, ◌≤◌, List, [], ◌∷◌, ◌++◌, map, refl, ap, sym, ◌∙◌, subst, arith, Bool, true, false, IsTrue, eqb, inl, inr, ◌⊎◌}
-use Rattle.std.specs.List.{flat_map}
+use Rattle.std.proofs.Common.{◌≡◌, ℕ, zero, suc, ◌+◌, ◌-◌, ◌<◌, ◌≤◌, List, [], ◌∷◌, ◌++◌, map, refl}
+use Rattle.std.proofs.Common.{ap, sym, ◌∙◌, subst, arith, Bool, true, false, IsTrue, eqb, inl, inr}
+use Rattle.std.proofs.Common.{◌⊎◌}
+use Rattle.std.specs.List.{flat_map, AllByRecursion}
 use Rattle.std.proofs.lemmas.Bool.{cases_eq, cases_Bool}
 use Rattle.std.proofs.lemmas.List.Concat.{flat_map-append}
 use Rattle.tree_shape.specs.declared.pair.Pair.{Pair}
 use Rattle.tree_shape.specs.Numbers.{times, once}
 use Rattle.tree_shape.specs.Shapes.{Shape, Body, Pairs, Entries, Link, pairs_of, pairs_in}
-use Rattle.tree_shape.specs.Trees.{Contents, Branch, branches_from, branches, nodes_under, nodes, within, leaving}
-use Rattle.tree_shape.specs.Lawful.{IsTree, IsOrdered, IsOrderedAs, Fits}
-use Rattle.tree_shape.proofs.Times.{In, all_at, once_same, once_true, once_from, once_most, times-append, times_head, times_cases, times_flat_map, times_flat_map_from, times_under, times_two, in_flat_map, in_flat_map_from}
-use Rattle.tree_shape.proofs.Reach.{children, branch_level, branch_child, onward, outward, onward_in, onward_from, outward_in, outward_inside, outward_outside, within_under, within_top, under_top, under_within}
+use Rattle.tree_shape.specs.Trees.{Contents, Branch, branch, branches_from, branches, nodes_under}
+use Rattle.tree_shape.specs.Trees.{nodes, within, leaving}
+use Rattle.tree_shape.specs.Lawful.{IsTree, IsOrdered, IsOrderedAs, FitsParent}
+use Rattle.tree_shape.proofs.Times.{In, all_at, all_from, once_same, once_true, once_from}
+use Rattle.tree_shape.proofs.Times.{once_most}
+use Rattle.tree_shape.proofs.Times.{times-append, times_head, times_cases, times_flat_map}
+use Rattle.tree_shape.proofs.Times.{times_flat_map_from, times_under, times_two, in_flat_map}
+use Rattle.tree_shape.proofs.Times.{in_flat_map_from}
+use Rattle.tree_shape.proofs.Reach.{children, branch_level, branch_child, onward, outward}
+use Rattle.tree_shape.proofs.Reach.{onward_in, onward_from, outward_in, outward_inside}
+use Rattle.tree_shape.proofs.Reach.{outward_outside, within_under, within_top, under_top}
+use Rattle.tree_shape.proofs.Reach.{under_within}
 
 -- the children that a node of the tree has by its own level
 abbrev pub own_branches : Contents → ℕ → List Branch
@@ -33,7 +43,8 @@ own_at f n k level = let e : (f n).level - 1 ≡ k = omega arith in ap (λ l. br
 -- What is said of contents below a node n: each node that is reached is ordered, and each of its children is as named.
 pub record Sound (set : ℕ → Bool) (f : Contents) (level n : ℕ) : Type 0 where
   pub ordered : (x : ℕ) → 0 < times x (within set f level n) → IsOrdered (f x)
-  pub fitting : (x : ℕ) → 0 < times x (within set f level n) → (b : Branch) → In b (own_branches f x) → IsTrue (set b.child) → Fits f b
+  pub fitting : (x : ℕ) → 0 < times x (within set f level n) → (b : Branch) →
+      In b (own_branches f x) → IsTrue (set b.child) → FitsParent f b
 
 -- the same below a child
 pub sound_below : (set : ℕ → Bool) (f : Contents) (level n : ℕ) (b : Branch) → Sound set f (suc level) n → In b (branches level (f n)) → IsTrue (set b.child) →
@@ -126,7 +137,7 @@ parents_of_pairs : (f : Contents) (x level : ℕ) (low : ℕ) (pairs : List Pair
 parents_of_pairs f x level low [] each = omega arith
 parents_of_pairs f x level low (p ∷ pairs) each =
     let rest = parents_of_pairs f x level (p.separator + 1) pairs (λ b there. each b (inr there)) in
-    let one = each (record { child = p.child; level = level; low = low; high = p.separator }) (inl refl) in
+    let one = each (branch p.child level low p.separator) (inl refl) in
     let tail = flat_map (λ (b : Branch). nodes_under f level b.child) (branches_from level (p.separator + 1) pairs) in
     omega (
       arith,
@@ -154,7 +165,8 @@ sound_whole f live tree =
     λ x there. node_live f live tree x (omega (arith, within_under (λ _. true) f x (f 0).level 0)) in
     record {
       ordered = λ x there. tree.ordered x (alive x there);
-      fitting = λ x there b own inside. all_at (Fits f) (own_branches f x) b (tree.fitting x (alive x there)) own;
+      fitting = λ x there b own inside. all_at (FitsParent f) (own_branches f x) b
+          (tree.fitting x (alive x there)) own;
     }
 
 -- a child of a live node is live, and is as its parent names it
@@ -166,8 +178,10 @@ child_live f live tree n alive b own =
       | inr out ↦ absurd (cc (out.0))
     ]
 
-pub child_fits : (f : Contents) (live : ℕ → Bool) → IsTree f live → (n : ℕ) → IsTrue (live n) → (b : Branch) → In b (own_branches f n) → Fits f b
-child_fits f live tree n alive b own = all_at (Fits f) (own_branches f n) b (tree.fitting n alive) own
+pub child_fits : (f : Contents) (live : ℕ → Bool) → IsTree f live → (n : ℕ) → IsTrue (live n) →
+    (b : Branch) → In b (own_branches f n) → FitsParent f b
+child_fits f live tree n alive b own = all_at (FitsParent f) (own_branches f n) b
+    (tree.fitting n alive) own
 
 -- what a live node reaches is live
 pub live_within : (f : Contents) (live : ℕ → Bool) → IsTree f live → (set : ℕ → Bool) (level n : ℕ) → IsTrue (live n) → (f n).level ≡ level →
@@ -238,3 +252,10 @@ one_parent f live tree x y n alive also there at =
 -- a child by a branch is a child
 pub own_child : (f : Contents) (n : ℕ) (b : Branch) → In b (own_branches f n) → 0 < times b.child (children f n)
 own_child f n b own = branch_child ((f n).level - 1) (f n).low (pairs_of (f n)) b own
+
+-- the children of a live node
+pub live_children : (f : Contents) (live : ℕ → Bool) (n : ℕ) → IsTree f live → IsTrue (live n) →
+    AllByRecursion (λ b. IsTrue (live b.child) × FitsParent f b) (own_branches f n)
+live_children f live n tree alive =
+    all_from (λ b. IsTrue (live b.child) × FitsParent f b) (own_branches f n)
+    (λ b own. (child_live f live tree n alive b own, child_fits f live tree n alive b own))

@@ -12,7 +12,7 @@ use Rattle.tree_shape.specs.Numbers.{times, once, is_among}
 use Rattle.tree_shape.specs.Shapes.{entries_of}
 use Rattle.tree_shape.specs.Trees.{Contents, Branch, branches, nodes_under, nodes, within, leaving}
 use Rattle.tree_shape.specs.Trees.{HasEntry}
-use Rattle.tree_shape.specs.Lawful.{IsTree, IsOrdered, IsFilled, Fits}
+use Rattle.tree_shape.specs.Lawful.{IsTree, IsOrdered, IsFilled, FitsParent}
 use Rattle.tree_shape.specs.LocalChange.{IsLocalChange, either, live_after, reached_nodes}
 use Rattle.tree_shape.proofs.Times.{In, all_at, all_from, all_times, times-append}
 use Rattle.tree_shape.proofs.Times.{times_flat_map_from, flat_map_same}
@@ -34,13 +34,19 @@ all_but-true : (top n : ℕ) → IsTrue (all_but top n) → n ≢ top
 all_but-true top n is e = both_ways (all_but top n) (not_from_true (eqb n top) (eq-eqb n top e)) is
 
 -- a list of branches to one node, of which there is one
-one_branch : (f : Contents) (top level : ℕ) (bs : List Branch) → ((b : Branch) → In b bs → (b.child ≡ top) × (b.level ≡ level)) → times top (flat_map (below f) bs) ≡ 1 →
-    (b : Branch) × ((bs ≡ b ∷ []) × ((b.child ≡ top) × (b.level ≡ level)))
+one_branch : (f : Contents) (top level : ℕ) (bs : List Branch) →
+    ((b : Branch) → In b bs → (b.child ≡ top) × (b.frame.level ≡ level)) →
+    times top (flat_map (below f) bs) ≡ 1 →
+    (b : Branch) × ((bs ≡ b ∷ []) × ((b.child ≡ top) × (b.frame.level ≡ level)))
 one_branch f top level [] each count = absurd (omega arith)
 one_branch f top level (b ∷ []) each count = (b, (refl, each b (inl refl)))
 one_branch f top level (b ∷ c ∷ bs) each count =
-    let first : 0 < times top (below f b) = subst (λ n. 0 < times n (below f b)) (each b (inl refl)).0 (under_top f b.level b.child) in
-    let second : 0 < times top (below f c) = subst (λ n. 0 < times n (below f c)) (each c (inr (inl refl))).0 (under_top f c.level c.child) in
+    let first : 0 < times top (below f b) =
+    subst (λ n. 0 < times n (below f b)) (each b (inl refl)).0
+    (under_top f b.frame.level b.child) in
+    let second : 0 < times top (below f c) =
+    subst (λ n. 0 < times n (below f c)) (each c (inr (inl refl))).0
+    (under_top f c.frame.level c.child) in
     absurd (omega (arith, times-append top (below f b) (below f c ++ flat_map (below f) bs), times-append top (below f c) (flat_map (below f) bs)))
 
 -- What stands around a live node that isn't the root: the numbers, and the one branch that leads to the node.
@@ -48,12 +54,13 @@ record Around (f : Contents) (top : ℕ) : Type 0 where
   branch : Branch
   exits : leaving (all_but top) f (f 0).level 0 ≡ branch ∷ []
   child : branch.child ≡ top
-  level : branch.level ≡ (f top).level
+  level : branch.frame.level ≡ (f top).level
 
 around : (f : Contents) (live : ℕ → Bool) → IsTree f live → (top : ℕ) → IsTrue (live top) → top ≢ 0 → Around f top
 around f live tree top alive other =
     let sound = sound_at f live tree (all_but top) (f 0).level 0 (root_live f live tree) refl in
-    let each : (b : Branch) → In b (leaving (all_but top) f (f 0).level 0) → (b.child ≡ top) × (b.level ≡ (f top).level) =
+    let each : (b : Branch) → In b (leaving (all_but top) f (f 0).level 0) →
+    (b.child ≡ top) × (b.frame.level ≡ (f top).level) =
     λ b there.
     let from = leaves_from (all_but top) f (f 0).level 0 sound refl b there in
     let child = all_but-false top b.child from.0 in
@@ -73,12 +80,16 @@ around f live tree top alive other =
     record { branch = one.0; exits = one.1.0; child = one.1.1.0; level = one.1.1.1 }
 
 -- the numbers of the tree are those around the node and those below it
-around_parts : (f : Contents) (top level : ℕ) (branch : Branch) → leaving (all_but top) f (f 0).level 0 ≡ branch ∷ [] → branch.child ≡ top → branch.level ≡ level → (x : ℕ) →
+around_parts : (f : Contents) (top level : ℕ) (branch : Branch) →
+    leaving (all_but top) f (f 0).level 0 ≡ branch ∷ [] → branch.child ≡ top →
+    branch.frame.level ≡ level → (x : ℕ) →
     times x (nodes f) ≡ times x (within (all_but top) f (f 0).level 0) + times x (nodes_under f level top)
 around_parts f top level branch exits child at x =
     let parts = reached_parts (all_but top) f x (f 0).level 0 in
     let whole : times x (flat_map (below f) (leaving (all_but top) f (f 0).level 0)) ≡ times x (below f branch ++ []) = ap (λ bs. times x (flat_map (below f) bs)) exits in
-    let same : times x (below f branch) ≡ times x (nodes_under f level top) = ap (λ n. times x (nodes_under f branch.level n)) child ∙ ap (λ l. times x (nodes_under f l top)) at in
+    let same : times x (below f branch) ≡ times x (nodes_under f level top) =
+    ap (λ n. times x (nodes_under f branch.frame.level n)) child
+    ∙ ap (λ l. times x (nodes_under f l top)) at in
     omega (arith, times-append x (below f branch) [])
 
 -- what a live node reaches stands in the tree no more often than there
@@ -105,9 +116,10 @@ sound_change f live top group fresh g change = record {
   ordered = λ x there. all_times (λ n. IsOrdered (g n)) (reached_nodes top group fresh g) x
       change.ordered there;
   fitting = λ x there b own.
-      all_at (λ (c : Branch). IsTrue (either group fresh c.child) → Fits g c) (own_branches g x) b
+      all_at (λ (c : Branch). IsTrue (either group fresh c.child) → FitsParent g c)
+      (own_branches g x) b
       (all_times (λ n. AllByRecursion (λ (c : Branch). IsTrue (either group fresh c.child) →
-      Fits g c) (own_branches g n))
+      FitsParent g c) (own_branches g n))
       (reached_nodes top group fresh g) x change.fitting there) own;
 }
 
@@ -148,7 +160,7 @@ module _ (f : Contents) (live : ℕ → Bool) (top : ℕ) (group fresh : ℕ →
   -- so it stays what it was
   rest_same : flat_map (below g) (leaving group f (f top).level top) ≡ flat_map (below f) (leaving group f (f top).level top)
   rest_same = flat_map_same (below g) (below f) (leaving group f (f top).level top)
-      (λ b there. same_under f g b.level b.child
+      (λ b there. same_under f g b.frame.level b.child
       (λ x at. untouched_stays x (rest_apart x (omega (arith, times_flat_map_from (below f) (leaving group f (f top).level top) b x there)))))
 
   new_parts : (x : ℕ) → times x (nodes_under g (g top).level top)
@@ -186,7 +198,8 @@ module _ (f : Contents) (live : ℕ → Bool) (top : ℕ) (group fresh : ℕ →
         let same = same_within (all_but top) f g (f 0).level 0 agree in
         let exits : leaving (all_but top) g (g 0).level 0 ≡ place.branch ∷ [] = ap (λ l. leaving (all_but top) g l 0) root ∙ (same.1 ∙ place.exits) in
         let numbers : within (all_but top) g (g 0).level 0 ≡ within (all_but top) f (f 0).level 0 = ap (λ l. within (all_but top) g l 0) root ∙ same.0 in
-        let level : place.branch.level ≡ (g top).level = place.level ∙ sym (change.level other) in
+        let level : place.branch.frame.level ≡ (g top).level = place.level
+        ∙ sym (change.level other) in
         record {
           others = within (all_but top) f (f 0).level 0;
           apart = around_apart other;
@@ -272,7 +285,7 @@ module _ (f : Contents) (live : ℕ → Bool) (top : ℕ) (group fresh : ℕ →
   sound_new = sound_change f live top group fresh g change
 
   -- a branch to a node that isn't touched fits as before
-  fits_still : (b : Branch) → either group fresh b.child ≡ false → Fits f b → Fits g b
+  fits_still : (b : Branch) → either group fresh b.child ≡ false → FitsParent f b → FitsParent g b
   fits_still b untouched fits =
       let same = untouched_stays b.child untouched in
       record {
@@ -282,7 +295,7 @@ module _ (f : Contents) (live : ℕ → Bool) (top : ℕ) (group fresh : ℕ →
       }
 
   -- the children of an untouched node are untouched, or the top
-  fits_outside : (x : ℕ) → WasLive x → (b : Branch) → In b (own_branches f x) → Fits g b
+  fits_outside : (x : ℕ) → WasLive x → (b : Branch) → In b (own_branches f x) → FitsParent g b
   fits_outside x was b own =
       let fits = child_fits f live tree x was.alive b own in
       let alive = child_live f live tree x was.alive b own in
@@ -310,17 +323,21 @@ module _ (f : Contents) (live : ℕ → Bool) (top : ℕ) (group fresh : ℕ →
             ]
       ]
 
-  fitting_after : (x : ℕ) → IsTrue (live_after live top group fresh g x) → AllByRecursion (Fits g) (own_branches g x)
+  fitting_after : (x : ℕ) → IsTrue (live_after live top group fresh g x) →
+      AllByRecursion (FitsParent g) (own_branches g x)
   fitting_after x alive = elim (live_cases x alive) [
-    | inl now ↦ all_from (Fits g) (own_branches g x) (λ b own. elim (goes_on (either group fresh) g (g top).level top sound_new refl x now.1 b own) [
-      | inl on ↦ sound_new.fitting x now.1 b own on.0
-      | inr out ↦
-          let left : In b (leaving group f (f top).level top) = subst (λ bs. In b bs) change.exits out.1 in
-          let from = leaves_from group f (f top).level top (sound_at f live tree group (f top).level top change.top_live refl) refl b left in
-          let parent = live_within f live tree group (f top).level top change.top_live refl from.1.0 from.1.1.0 in
-          fits_still b out.0 (child_fits f live tree from.1.0 parent b from.1.1.1)
-    ])
-    | inr was ↦ subst (λ s. AllByRecursion (Fits g) (branches (s.level - 1) s)) (sym was.stays) (all_from (Fits g) (own_branches f x) (fits_outside x was))
+    | inl now ↦ all_from (FitsParent g) (own_branches g x)
+        (λ b own. elim (goes_on (either group fresh) g (g top).level top sound_new refl x now.1 b
+        own) [
+          | inl on ↦ sound_new.fitting x now.1 b own on.0
+          | inr out ↦
+              let left : In b (leaving group f (f top).level top) = subst (λ bs. In b bs) change.exits out.1 in
+              let from = leaves_from group f (f top).level top (sound_at f live tree group (f top).level top change.top_live refl) refl b left in
+              let parent = live_within f live tree group (f top).level top change.top_live refl from.1.0 from.1.1.0 in
+              fits_still b out.0 (child_fits f live tree from.1.0 parent b from.1.1.1)
+        ])
+    | inr was ↦ subst (λ s. AllByRecursion (FitsParent g) (branches (s.level - 1) s))
+        (sym was.stays) (all_from (FitsParent g) (own_branches f x) (fits_outside x was))
   ]
 
   -- the fences and the height of the root

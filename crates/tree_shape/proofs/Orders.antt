@@ -1,5 +1,7 @@
 -- What the order of a node's entries and separators gives.
-use Rattle.std.proofs.Common.{◌≡◌, ℕ, zero, suc, ◌+◌, ◌-◌, ◌^◌, ◌<◌, ◌≤◌, List, [], ◌∷◌, ◌++◌, length, take, get_or, refl, ap, sym, ◌∙◌, subst, arith, Some, inl, inr}
+use Rattle.std.proofs.Common.{◌≡◌, ℕ, zero, suc, ◌+◌, ◌-◌, ◌^◌, ◌<◌, ◌≤◌, List, [], ◌∷◌, ◌++◌}
+use Rattle.std.proofs.Common.{length, take, get_or, refl, ap, sym, ◌∙◌, subst, arith, Some, inl}
+use Rattle.std.proofs.Common.{inr}
 use Rattle.std.proofs.Math.Seq.{take-append-add}
 use Rattle.std.proofs.lemmas.List.{take-append-le}
 use Rattle.std.proofs.lemmas.Bool.{cases_lt}
@@ -9,8 +11,10 @@ use Rattle.reg_model.specs.Interval.{Interval, Overlaps}
 use Rattle.reg_model.specs.State.{IsFree, IsLowestOverlap}
 use Rattle.reg_model.specs.declared.span.Member.{Member}
 use Rattle.tree_shape.specs.declared.pair.Pair.{Pair}
-use Rattle.tree_shape.specs.Shapes.{Shape, Entries, Pairs, entries_of, pairs_of, pairs_in, Body, Link, IsLeaf, IsInner, InOrder, InOrderAs, EntriesWithin, Cut}
-use Rattle.tree_shape.specs.Changes.{entries_end, pairs_end, ends_at, ends_at_as, Overfill, OverfillAs}
+use Rattle.tree_shape.specs.Shapes.{Shape, Entries, Pairs, entries_of, pairs_of, pairs_in, Body}
+use Rattle.tree_shape.specs.Shapes.{Link, IsLeaf, IsInner, InOrder, InOrderAs, EntriesWithin, Cut}
+use Rattle.tree_shape.specs.Changes.{entries_end, pairs_end, ends_at, ends_at_as, Overfill}
+use Rattle.tree_shape.specs.Changes.{OverfillAs}
 use Rattle.tree_shape.specs.Nodes.{body_of}
 use Rattle.tree_shape.specs.declared.node.Content.{Content}
 use Rattle.tree_shape.specs.declared.node.Content.TheVariants.{Inner, Leaf, Free}
@@ -69,18 +73,24 @@ shares_below left right middle high n cut_left cut_right neighbours top inside =
 -- an entry begins at or above the low fence, and no later one begins below it
 pub begins_inside : (low high : ℕ) (entries : List Member) (k : ℕ) (d : Member) → EntriesWithin low high entries → k < length entries → low ≤ (get_or entries k d).span.first
 begins_inside low high [] k d within inside = absurd (omega arith)
-begins_inside low high (m ∷ entries) zero d within inside = within.0
+begins_inside low high (m ∷ entries) zero d within inside = within.0.0
 begins_inside low high (m ∷ entries) (suc k) d within inside =
-    let above : m.span.last + 1 ≤ (get_or entries k d).span.first = begins_inside (m.span.last + 1) high entries k d within.3 (omega arith) in omega arith
+    let above : m.span.last + 1 ≤ (get_or entries k d).span.first =
+    begins_inside (m.span.last + 1) high entries k d (within.0.2, within.1.1) (omega arith) in
+    omega arith
 
 pub begin_in_order : (low high : ℕ) (entries : List Member) (i k : ℕ) (d : Member) → EntriesWithin low high entries → i ≤ k → k < length entries →
     (get_or entries i d).span.first ≤ (get_or entries k d).span.first
 begin_in_order low high [] i k d within order inside = absurd (omega arith)
 begin_in_order low high (m ∷ entries) zero zero d within order inside = omega arith
 begin_in_order low high (m ∷ entries) zero (suc k) d within order inside =
-    let above : m.span.last + 1 ≤ (get_or entries k d).span.first = begins_inside (m.span.last + 1) high entries k d within.3 (omega arith) in omega arith
+    let above : m.span.last + 1 ≤ (get_or entries k d).span.first =
+    begins_inside (m.span.last + 1) high entries k d (within.0.2, within.1.1) (omega arith) in
+    omega arith
 begin_in_order low high (m ∷ entries) (suc i) zero d within order inside = absurd (omega arith)
-begin_in_order low high (m ∷ entries) (suc i) (suc k) d within order inside = begin_in_order (m.span.last + 1) high entries i k d within.3 (omega arith) (omega arith)
+begin_in_order low high (m ∷ entries) (suc i) (suc k) d within order inside =
+    begin_in_order (m.span.last + 1) high entries i k d (within.0.2, within.1.1) (omega arith)
+    (omega arith)
 
 -- the first entry that overlaps begins lowest of those that do
 pub first_is_lowest : (low high : ℕ) (entries : List Member) (span : Interval) (i : ℕ) (m : Member) → EntriesWithin low high entries → i < length entries →

@@ -1,5 +1,6 @@
 -- What the edits of one pair or entry build, from the parts of the list.
-use Rattle.std.proofs.Common.{◌≡◌, ℕ, suc, ◌+◌, ◌-◌, ◌<◌, List, [], ◌∷◌, ◌++◌, length, take, drop, get_or, ap, sym, ◌∙◌, arith, Some, IsSome}
+use Rattle.std.proofs.Common.{◌≡◌, ℕ, suc, ◌+◌, ◌-◌, ◌<◌, List, [], ◌∷◌, ◌++◌, length, take, drop}
+use Rattle.std.proofs.Common.{get_or, ap, sym, ◌∙◌, arith, Some, IsSome}
 use Rattle.std.proofs.Math.Numerals.{add-one}
 use Rattle.std.proofs.Math.Seq.{drop-cons}
 use Rattle.std.proofs.lemmas.List.{append_assoc, append-nil, take_rest}
@@ -8,7 +9,8 @@ use Rattle.reg_model.specs.State.{at_base}
 use Rattle.reg_model.specs.History.{without}
 use Rattle.tree_shape.specs.declared.pair.Pair.{Pair}
 use Rattle.tree_shape.specs.Shapes.{EntriesWithin, place_for}
-use Rattle.tree_shape.specs.Changes.{at_slot, divide, swallow_next, separate_at, with_entry, ends_at}
+use Rattle.tree_shape.specs.Changes.{at_slot, divide, swallow_next, separate_at, with_entry}
+use Rattle.tree_shape.specs.Changes.{ends_at}
 use Rattle.tree_shape.proofs.Slots.{at_slot-parts, ends_at-parts, with_entry-parts, at_place}
 
 -- two pairs in place of one

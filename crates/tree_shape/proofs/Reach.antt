@@ -1,19 +1,28 @@
 -- What a node reaches, by all ways and by ways inside a set. Nothing here asks for a lawful tree.
-use Rattle.std.proofs.Common.{◌≡◌, ◌≢◌, ℕ, zero, suc, ◌+◌, ◌<◌, ◌≤◌, List, [], ◌∷◌, refl, ap, sym, ◌∙◌, subst, arith, Bool, true, false, cond, IsTrue, map, inl, inr, ◌⊎◌}
+use Rattle.std.proofs.Common.{◌≡◌, ◌≢◌, ℕ, zero, suc, ◌+◌, ◌<◌, ◌≤◌, List, [], ◌∷◌, refl, ap, sym}
+use Rattle.std.proofs.Common.{◌∙◌, subst, arith, Bool, true, false, cond, IsTrue, map, inl, inr}
+use Rattle.std.proofs.Common.{◌⊎◌}
 use Rattle.std.specs.List.{flat_map}
 use Rattle.std.proofs.lemmas.Bool.{cases_eq}
 use Rattle.std.proofs.lemmas.List.Concat.{flat_map-append}
 use Rattle.tree_shape.specs.declared.pair.Pair.{Pair}
 use Rattle.tree_shape.specs.Numbers.{times}
 use Rattle.tree_shape.specs.Shapes.{pairs_of}
-use Rattle.tree_shape.specs.Trees.{Contents, Branch, branches_from, branches, nodes_under, within, leaving}
-use Rattle.tree_shape.proofs.Times.{In, times-append, times_head, times_cases, times_flat_map, times_flat_map_from, flat_map_same}
+use Rattle.tree_shape.specs.Trees.{Contents, Branch, branch, branches_from, branches, nodes_under}
+use Rattle.tree_shape.specs.Trees.{within, leaving}
+use Rattle.tree_shape.proofs.Times.{In, times-append, times_head, times_cases, times_flat_map}
+use Rattle.tree_shape.proofs.Times.{times_flat_map_from, flat_map_same}
 
 -- a branch has the level that was asked for, and its child is one of the pairs'
-pub branch_level : (level low : ℕ) (pairs : List Pair) (b : Branch) → In b (branches_from level low pairs) → b.level ≡ level
+pub branch_level : (level low : ℕ) (pairs : List Pair) (b : Branch) →
+    In b (branches_from level low pairs) → b.frame.level ≡ level
 branch_level level low [] b there = absurd there
 branch_level level low (p ∷ pairs) b there =
-    elim there [ inl e ↦ sym (ap (λ (x : Branch). x.level) e) | inr later ↦ branch_level level (p.separator + 1) pairs b later ]
+    elim there [
+      | inl e ↦ sym (ap (λ (x : Branch). x.frame.level) e)
+      | inr later ↦ branch_level level
+          (p.separator + 1) pairs b later
+    ]
 
 -- the children of a node
 abbrev pub children : Contents → ℕ → List ℕ
@@ -39,7 +48,7 @@ outward set f level b = cond (set b.child) (leaving set f level b.child) (b ∷ 
 
 -- all that is reached below a branch
 abbrev pub below : Contents → Branch → List ℕ
-below f b = nodes_under f b.level b.child
+below f b = nodes_under f b.frame.level b.child
 
 -- What is reached by all ways is what is reached by ways inside a set, and all below the branches by which these leave it.
 parts_of_pairs : (set : ℕ → Bool) (f : Contents) (x level : ℕ) →
@@ -49,7 +58,7 @@ parts_of_pairs : (set : ℕ → Bool) (f : Contents) (x level : ℕ) →
     ≡ times x (flat_map (onward set f level) (branches_from level low pairs)) + times x (flat_map (below f) (flat_map (outward set f level) (branches_from level low pairs)))
 parts_of_pairs set f x level each low [] = omega arith
 parts_of_pairs set f x level each low (p ∷ pairs) =
-    let b : Branch = record { child = p.child; level = level; low = low; high = p.separator } in
+    let b : Branch = branch p.child level low p.separator in
     let rest = parts_of_pairs set f x level each (p.separator + 1) pairs in
     let tail = branches_from level (p.separator + 1) pairs in
     let one : times x (nodes_under f level p.child) ≡ times x (onward set f level b) + times x (flat_map (below f) (outward set f level b)) =

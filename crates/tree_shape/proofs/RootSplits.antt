@@ -11,9 +11,9 @@ use Rattle.reg_model.specs.declared.span.Member.{Member}
 use Rattle.tree_shape.specs.declared.pair.Pair.{Pair}
 use Rattle.tree_shape.specs.Numbers.{times, is_among}
 use Rattle.tree_shape.specs.Shapes.{Shape, Pairs, entries_of, pairs_of}
-use Rattle.tree_shape.specs.Changes.{first_half, last_half, first_part, end_of, at_slot, divide}
-use Rattle.tree_shape.specs.Trees.{Contents, Branch, branches, within, leaving, HasEntry}
-use Rattle.tree_shape.specs.Lawful.{IsLawful, IsOrdered, IsFilled, Fits}
+use Rattle.tree_shape.specs.Changes.{first_half, last_half, first_part, body_end, at_slot, divide}
+use Rattle.tree_shape.specs.Trees.{Contents, Branch, branch, branches, within, leaving, HasEntry}
+use Rattle.tree_shape.specs.Lawful.{IsLawfulTree, IsOrdered, IsFilled, FitsParent}
 use Rattle.tree_shape.specs.LocalChange.{IsLocalChange, IsChangeOf, either, reached_nodes}
 use Rattle.tree_shape.specs.Steps.{Keeps, IsLift, IsSplit, IsRootSplit, with_node, middle}
 use Rattle.tree_shape.proofs.Times.{In, some_same, all_from, all_among, in_append, in_left}
@@ -28,13 +28,13 @@ use Rattle.tree_shape.proofs.Halves.{among, not_among, not_one, only, two_of, se
 use Rattle.tree_shape.proofs.Halves.{full_middle, halves_filled}
 use Rattle.tree_shape.proofs.Roots.{exit_own, own_exit}
 
-module _ (f : Contents) (live : ℕ → Bool) (lawful : IsLawful f live) (a r : ℕ) (g : Contents)
+module _ (f : Contents) (live : ℕ → Bool) (lawful : IsLawfulTree f live) (a r : ℕ) (g : Contents)
     (split : IsRootSplit f live a r g) where
   abbrev level : ℕ
   level = (f 0).level
 
   abbrev fence : ℕ
-  fence = end_of (first_part (middle (f 0).body) (f 0).body)
+  fence = body_end (first_part (middle (f 0).body) (f 0).body)
 
   abbrev group : ℕ → Bool
   group = is_among (0 ∷ [])
@@ -43,10 +43,10 @@ module _ (f : Contents) (live : ℕ → Bool) (lawful : IsLawful f live) (a r : 
   fresh = is_among (a ∷ r ∷ [])
 
   abbrev one : Branch
-  one = record { child = a; level = level; low = (f 0).low; high = fence }
+  one = branch a level ((f 0).low) fence
 
   abbrev two : Branch
-  two = record { child = r; level = level; low = fence + 1; high = (f 0).high }
+  two = branch r level (fence + 1) ((f 0).high)
 
   root : IsTrue (live 0)
   root = root_live f live lawful.tree
@@ -163,9 +163,9 @@ module _ (f : Contents) (live : ℕ → Bool) (lawful : IsLawful f live) (a r : 
     reached_once = λ x. subst (λ l. times x l ≤ 1) (sym reached_now) (once_three x);
     fitting =
         subst (AllByRecursion (λ x. AllByRecursion (λ c. IsTrue (either group fresh c.child) →
-        Fits g c) (own_branches g x))) (sym reached_now) (
-          all_from (λ c. IsTrue (either group fresh c.child) → Fits g c) (own_branches g 0)
-              (λ c own touched. two_of (Fits g) one two
+        FitsParent g c) (own_branches g x))) (sym reached_now) (
+          all_from (λ c. IsTrue (either group fresh c.child) → FitsParent g c) (own_branches g 0)
+              (λ c own touched. two_of (FitsParent g) one two
               (record {
                 level = pieces.first_level;
                 low = pieces.low;
@@ -180,13 +180,14 @@ module _ (f : Contents) (live : ℕ → Bool) (lawful : IsLawful f live) (a r : 
               })
               c (subst (λ bs. In c bs) (own_at g 0 level root_level ∙ root_branches) own)),
           (
-            all_from (λ c. IsTrue (either group fresh c.child) → Fits g c) (own_branches g a)
+            all_from (λ c. IsTrue (either group fresh c.child) → FitsParent g c) (own_branches g a)
                 (λ c own touched.
                 absurd (both_ways (either group fresh c.child)
                 (from_left c (own_exit g level a c pieces.first_ordered pieces.first_level own))
                 touched)),
             (
-              all_from (λ c. IsTrue (either group fresh c.child) → Fits g c) (own_branches g r)
+              all_from (λ c. IsTrue (either group fresh c.child) → FitsParent g c)
+                  (own_branches g r)
                   (λ c own touched.
                   absurd (both_ways (either group fresh c.child)
                   (from_right c (own_exit g level r c pieces.last_ordered pieces.last_level own))
@@ -314,7 +315,7 @@ abbrev divided_root : ℕ → Shape → Shape → Shape
 divided_root r s c =
     record s {
       body =
-          Pairs (at_slot (divide (end_of (first_part (middle c.body) c.body)) r) 0 (pairs_of s));
+          Pairs (at_slot (divide (body_end (first_part (middle c.body) c.body)) r) 0 (pairs_of s));
     }
 
 lift_split : (f : Contents) (live : ℕ → Bool) (a : ℕ) (h : Contents) → IsLift f live a h →
@@ -345,7 +346,8 @@ lift_split f live a h lift p r g split =
           ∙ lift.others n not_root not_a;
     }
 
-pub lift_split_keeps : (f : Contents) (live : ℕ → Bool) → IsLawful f live → (a : ℕ) (h : Contents) →
+pub lift_split_keeps : (f : Contents) (live : ℕ → Bool) → IsLawfulTree f live →
+    (a : ℕ) (h : Contents) →
     IsLift f live a h → (p : Pair) (r : ℕ) (g : Contents) →
     IsSplit h (with_node a live) 0 0 p r g → Keeps f live g (with_node r (with_node a live))
 lift_split_keeps f live lawful a h lift p r g split =

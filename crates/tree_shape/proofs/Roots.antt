@@ -14,8 +14,8 @@ use Rattle.tree_shape.specs.declared.pair.Pair.{Pair}
 use Rattle.tree_shape.specs.Numbers.{times, is_among}
 use Rattle.tree_shape.specs.Shapes.{Body, Pairs, Entries, Link, entries_of, pairs_of, Cut}
 use Rattle.tree_shape.specs.Changes.{joined, both, FitAs}
-use Rattle.tree_shape.specs.Trees.{Contents, Branch, branches, within, leaving, HasEntry}
-use Rattle.tree_shape.specs.Lawful.{IsLawful, IsOrdered, IsFilled, IsFilledAs, Fits}
+use Rattle.tree_shape.specs.Trees.{Contents, Branch, branch, branches, within, leaving, HasEntry}
+use Rattle.tree_shape.specs.Lawful.{IsLawfulTree, IsOrdered, IsFilled, IsFilledAs, FitsParent}
 use Rattle.tree_shape.specs.LocalChange.{IsLocalChange, IsChangeOf, either, live_after}
 use Rattle.tree_shape.specs.LocalChange.{reached_nodes}
 use Rattle.tree_shape.specs.Steps.{Keeps, IsLift, Lifts, IsSink, IsFull, with_node, without_node}
@@ -55,7 +55,8 @@ own_exit f (suc level) n c ordered at own = subst (λ bs. In c bs) (own_at f n l
 abbrev root_only : ℕ → Bool
 root_only x = eqb x 0
 
-module _ (f : Contents) (live : ℕ → Bool) (lawful : IsLawful f live) (a : ℕ) (g : Contents) (lift : IsLift f live a g) where
+module _ (f : Contents) (live : ℕ → Bool) (lawful : IsLawfulTree f live) (a : ℕ) (g : Contents)
+    (lift : IsLift f live a g) where
   a_other : (x : ℕ) → IsTrue (live x) → a ≢ x
   a_other x alive e = both_ways (live a) lift.free (subst (λ y. IsTrue (live y)) (sym e) alive)
 
@@ -63,7 +64,7 @@ module _ (f : Contents) (live : ℕ → Bool) (lawful : IsLawful f live) (a : �
   a_below = a_other 0 (root_live f live lawful.tree)
 
   abbrev b : Branch
-  b = record { child = a; level = (f 0).level; low = (f 0).low; high = (f 0).high }
+  b = branch a ((f 0).level) ((f 0).low) ((f 0).high)
 
   -- the old root's children aren't touched
   child_apart : (c : Branch) → In c (own_branches f 0) → (root_only c.child ≡ false) × (either root_only (λ x. eqb x a) c.child ≡ false)
@@ -123,20 +124,30 @@ module _ (f : Contents) (live : ℕ → Bool) (lawful : IsLawful f live) (a : �
     height = λ _. (let top = lift.height in let at = root_level in omega arith);
     ordered = subst (AllByRecursion (λ x. IsOrdered (g x))) (sym reached_lift) (root_ordered, (moved_ordered, tt));
     reached_once = λ x. subst (λ l. times x l ≤ 1) (sym reached_lift) (once_pair x);
-    fitting = subst (AllByRecursion (λ x. AllByRecursion (λ c. IsTrue (either root_only (λ y. eqb y a) c.child) → Fits g c) (own_branches g x))) (sym reached_lift) (
-      all_from (λ c. IsTrue (either root_only (λ y. eqb y a) c.child) → Fits g c) (own_branches g 0)
-          (λ c own touched. elim (subst (λ bs. In c bs) (own_at g 0 (f 0).level root_level ∙ root_branches) own) [
-            | inl e ↦ subst (Fits g) e (record { level = ap (λ s. s.level) lift.moved; low = ap (λ s. s.low) lift.moved; high = ap (λ s. s.high) lift.moved })
-            | inr none ↦ absurd none
-          ]),
-      (
-        all_from (λ c. IsTrue (either root_only (λ y. eqb y a) c.child) → Fits g c) (own_branches g a)
-            (λ c own touched.
-            let own' : In c (own_branches f 0) = subst (λ s. In c (branches (s.level - 1) s)) lift.moved own in
-            absurd (both_ways (either root_only (λ y. eqb y a) c.child) (child_apart c own').1 touched)),
-        tt,
-      ),
-    );
+    fitting =
+        subst (AllByRecursion
+        (λ x. AllByRecursion (λ c. IsTrue (either root_only (λ y. eqb y a) c.child) →
+        FitsParent g c) (own_branches g x))) (sym reached_lift) (
+          all_from (λ c. IsTrue (either root_only (λ y. eqb y a) c.child) → FitsParent g c)
+              (own_branches g 0)
+              (λ c own touched. elim (subst (λ bs. In c bs) (own_at g 0 (f 0).level root_level ∙ root_branches) own) [
+                | inl e ↦ subst (FitsParent g) e
+                    (record {
+                      level = ap (λ s. s.level) lift.moved;
+                      low = ap (λ s. s.low) lift.moved;
+                      high = ap (λ s. s.high) lift.moved;
+                    })
+                | inr none ↦ absurd none
+              ]),
+          (
+            all_from (λ c. IsTrue (either root_only (λ y. eqb y a) c.child) → FitsParent g c)
+                (own_branches g a)
+                (λ c own touched.
+                let own' : In c (own_branches f 0) = subst (λ s. In c (branches (s.level - 1) s)) lift.moved own in
+                absurd (both_ways (either root_only (λ y. eqb y a) c.child) (child_apart c own').1 touched)),
+            tt,
+          ),
+        );
     exits = ap (λ l. leaving (either root_only (λ x. eqb x a)) g l 0) root_level ∙ lift_new.1
         ∙ append-nil (exits_of g (f 0).level a ++ []) ∙ append-nil (exits_of g (f 0).level a) ∙ moved_exits ∙ sym lift_old.1;
   }
@@ -213,7 +224,8 @@ root_joined n (Link next) c fit filled = absurd fit
 cut_two : (low high : ℕ) (p q : Pair) → Cut low high (p ∷ q ∷ []) → (low ≤ p.separator) × (p.separator < q.separator) × (q.separator ≡ high)
 cut_two low high p q cut = (cut.0, omega (arith, cut.1.0), omega (arith, cut.1.1))
 
-module _ (f : Contents) (live : ℕ → Bool) (lawful : IsLawful f live) (p q : Pair) (g : Contents) (sink : IsSink f live p q g) where
+module _ (f : Contents) (live : ℕ → Bool) (lawful : IsLawfulTree f live) (p q : Pair) (g : Contents)
+    (sink : IsSink f live p q g) where
   at : Neighbours f live 0 0 p q
   at = neighbours f live lawful.tree 0 0 p q (root_live f live lawful.tree) (ap (λ ps. slice_get ps 0) sink.pairs) (ap (λ ps. slice_get ps (0 + 1)) sink.pairs)
 
@@ -221,10 +233,10 @@ module _ (f : Contents) (live : ℕ → Bool) (lawful : IsLawful f live) (p q : 
   left = slotted f live lawful.tree 0 (root_live f live lawful.tree) [] p (q ∷ []) sink.pairs
 
   abbrev one : Branch
-  one = record { child = p.child; level = left.level; low = (f 0).low; high = p.separator }
+  one = branch p.child left.level (f 0).low p.separator
 
   abbrev two : Branch
-  two = record { child = q.child; level = left.level; low = p.separator + 1; high = q.separator }
+  two = branch q.child left.level (p.separator + 1) q.separator
 
   same_level : at.left.level ≡ left.level
   same_level = let a' = at.left.at in let b' = left.at in omega arith
@@ -297,11 +309,15 @@ module _ (f : Contents) (live : ℕ → Bool) (lawful : IsLawful f live) (p q : 
     height = λ _. (let top = lawful.tree.height in let up = left.at in let now = root_level_now in omega arith);
     ordered = subst (AllByRecursion (λ x. IsOrdered (g x))) (sym reached_sink) (root_ordered_now, tt);
     reached_once = λ x. subst (λ l. times x l ≤ 1) (sym reached_sink) (omega (arith, once_most (eqb x 0)));
-    fitting = subst (AllByRecursion (λ x. AllByRecursion (λ c. IsTrue (either (family 0 (one ∷ two ∷ [])) (λ _. false) c.child) → Fits g c) (own_branches g x))) (sym reached_sink) (
-      all_from (λ c. IsTrue (either (family 0 (one ∷ two ∷ [])) (λ _. false) c.child) → Fits g c) (own_branches g 0)
-          (λ c own touched. absurd (both_ways (either (family 0 (one ∷ two ∷ [])) (λ _. false) c.child) (exit_apart c (own_exit g left.level 0 c root_ordered_now root_level_now own)) touched)),
-      tt,
-    );
+    fitting =
+        subst (AllByRecursion
+        (λ x. AllByRecursion (λ c. IsTrue (either (family 0 (one ∷ two ∷ [])) (λ _. false) c.child)
+        → FitsParent g c) (own_branches g x))) (sym reached_sink) (
+          all_from (λ c. IsTrue (either (family 0 (one ∷ two ∷ [])) (λ _. false) c.child) →
+              FitsParent g c) (own_branches g 0)
+              (λ c own touched. absurd (both_ways (either (family 0 (one ∷ two ∷ [])) (λ _. false) c.child) (exit_apart c (own_exit g left.level 0 c root_ordered_now root_level_now own)) touched)),
+          tt,
+        );
     exits = ap (λ l. leaving (either (family 0 (one ∷ two ∷ [])) (λ _. false)) g l 0) root_level_now ∙ sink_new.1 ∙ exits_now
         ∙ sym (append-nil (flat_map (λ (b : Branch). exits_of f left.level b.child) (one ∷ two ∷ [])))
         ∙ sym sink_old.1 ∙ ap (λ l. leaving (family 0 (one ∷ two ∷ [])) f l 0) (sym left.at);

@@ -1,11 +1,13 @@
 -- Runs of separators and of entries that are cut in two, or joined.
-use Rattle.std.proofs.Common.{◌≡◌, ℕ, ◌+◌, ◌-◌, ◌<◌, ◌≤◌, List, [], ◌∷◌, ◌++◌, length, take, drop, refl, ap, sym, ◌∙◌, subst, arith}
+use Rattle.std.proofs.Common.{◌≡◌, ℕ, ◌+◌, ◌-◌, ◌<◌, ◌≤◌, List, [], ◌∷◌, ◌++◌, length, take, drop}
+use Rattle.std.proofs.Common.{refl, ap, sym, ◌∙◌, subst, arith}
 use Rattle.std.proofs.lemmas.List.{take-append-drop, length-take-le, length-drop, length-append}
 use Rattle.reg_model.specs.declared.span.Member.{Member}
 use Rattle.tree_shape.specs.declared.pair.Pair.{Pair}
-use Rattle.tree_shape.specs.Shapes.{Shape, Body, Pairs, Entries, Link, entries_of, EntriesWithin, Cut}
+use Rattle.tree_shape.specs.Shapes.{Shape, Body, Pairs, Entries, Link, entries_of, EntriesWithin}
+use Rattle.tree_shape.specs.Shapes.{Cut}
 use Rattle.tree_shape.specs.Changes.{entries_end, pairs_end, first_half, last_half, joined, size}
-use Rattle.tree_shape.specs.Trees.{branches_from, branches}
+use Rattle.tree_shape.specs.Trees.{branch, branches_from, branches}
 use Rattle.tree_shape.specs.Lawful.{IsOrdered, IsOrderedAs}
 use Rattle.tree_shape.proofs.Slots.{some_left}
 
@@ -28,7 +30,8 @@ next_low-cut low high (p ∷ pairs) cut = next_low-cut (p.separator + 1) high pa
 
 pub branches-append : (level low : ℕ) (xs ys : List Pair) → branches_from level low (xs ++ ys) ≡ branches_from level low xs ++ branches_from level (next_low low xs) ys
 branches-append level low [] ys = refl
-branches-append level low (p ∷ xs) ys = ap (λ bs. record { child = p.child; level = level; low = low; high = p.separator } ∷ bs) (branches-append level (p.separator + 1) xs ys)
+branches-append level low (p ∷ xs) ys = ap (λ bs. branch p.child level low p.separator ∷ bs)
+    (branches-append level (p.separator + 1) xs ys)
 
 pub cut_parts : (low high e : ℕ) (xs ys : List Pair) → Cut low high (xs ++ ys) → next_low low xs ≡ e + 1 → Cut low e xs × Cut (e + 1) high ys
 cut_parts low high e [] ys cut at = (at, subst (λ l. Cut l high ys) at cut)
@@ -39,22 +42,23 @@ cut_join low high e [] ys first last = subst (λ l. Cut l high ys) (sym first) l
 cut_join low high e (p ∷ xs) ys first last = (first.0, cut_join (p.separator + 1) high e xs ys first.1 last)
 
 pub entries_lower : (low lower high : ℕ) (entries : List Member) → EntriesWithin low high entries → lower ≤ low → EntriesWithin lower high entries
-entries_lower low lower high [] within below = tt
-entries_lower low lower high (m ∷ entries) within below = (omega arith, within.1, within.2, within.3)
+entries_lower low lower high [] within below = (tt, tt)
+entries_lower low lower high (m ∷ entries) within below =
+    ((omega arith, within.0.1, within.0.2), within.1)
 
 pub entries_parts : (start high : ℕ) (xs ys : List Member) → EntriesWithin (start + 1) high (xs ++ ys) →
     EntriesWithin (start + 1) (entries_end start xs) xs × EntriesWithin (entries_end start xs + 1) high ys × (start ≤ entries_end start xs)
-entries_parts start high [] ys within = (tt, within, omega arith)
+entries_parts start high [] ys within = ((tt, tt), within, omega arith)
 entries_parts start high (m ∷ xs) ys within =
-    let rest = entries_parts m.span.last high xs ys within.3 in
-    ((within.0, within.1, rest.2, rest.0), rest.1, omega arith)
+    let rest = entries_parts m.span.last high xs ys (within.0.2, within.1.1) in
+    (((within.0.0, within.0.1, rest.0.0), (rest.2, rest.0.1)), rest.1, omega arith)
 
 pub entries_cut : (low high : ℕ) (xs ys : List Member) → EntriesWithin low high (xs ++ ys) → 0 < length xs →
     EntriesWithin low (entries_end 0 xs) xs × EntriesWithin (entries_end 0 xs + 1) high ys × (low ≤ entries_end 0 xs)
 entries_cut low high [] ys within some = absurd (omega arith)
 entries_cut low high (m ∷ xs) ys within some =
-    let rest = entries_parts m.span.last high xs ys within.3 in
-    ((within.0, within.1, rest.2, rest.0), rest.1, omega arith)
+    let rest = entries_parts m.span.last high xs ys (within.0.2, within.1.1) in
+    (((within.0.0, within.0.1, rest.0.0), (rest.2, rest.0.1)), rest.1, omega arith)
 
 pub entries_below : (low high : ℕ) (entries : List Member) → EntriesWithin low high entries → 0 < length entries → low ≤ high
 entries_below low high [] within some = absurd (omega arith)
@@ -62,7 +66,10 @@ entries_below low high (m ∷ entries) within some = omega arith
 
 pub entries_join : (low high e : ℕ) (xs ys : List Member) → EntriesWithin low e xs → EntriesWithin (e + 1) high ys → e ≤ high → low ≤ e + 1 → EntriesWithin low high (xs ++ ys)
 entries_join low high e [] ys first last order below = entries_lower (e + 1) low high ys last below
-entries_join low high e (m ∷ xs) ys first last order below = (first.0, first.1, omega arith, entries_join (m.span.last + 1) high e xs ys first.3 last order (omega arith))
+entries_join low high e (m ∷ xs) ys first last order below =
+    let rest = entries_join (m.span.last + 1) high e xs ys (first.0.2, first.1.1) last order
+    (omega arith) in
+    ((first.0.0, first.0.1, rest.0), (omega arith, rest.1))
 
 -- A node that is cut in two: both parts are in order, and bring the same children and entries.
 pub record CutsTo (s first last : Shape) : Type 0 where

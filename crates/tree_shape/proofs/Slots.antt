@@ -1,7 +1,10 @@
 -- Pairs and entries by their places.
-use Rattle.std.proofs.Common.{◌≡◌, ℕ, zero, suc, ◌+◌, ◌<◌, ◌≤◌, List, [], ◌∷◌, ◌++◌, length, take, drop, get_or, refl, ap, arith, Some, None, IsSome, eqb, ltb, leb, inl, inr}
+use Rattle.std.proofs.Common.{◌≡◌, ℕ, zero, suc, ◌+◌, ◌<◌, ◌≤◌, List, [], ◌∷◌, ◌++◌, length, take}
+use Rattle.std.proofs.Common.{drop, get_or, refl, ap, arith, Some, None, IsSome, eqb, ltb, leb, inl}
+use Rattle.std.proofs.Common.{inr}
 use Rattle.std.proofs.Math.Numerals.{add-one}
-use Rattle.std.proofs.lemmas.Bool.{cond_both, cond-true, leb-false, ltb-true, eqb-true, ne_eqb, lt-ltb, le-ltb, cases_Bool}
+use Rattle.std.proofs.lemmas.Bool.{cond_both, cond-true, leb-false, ltb-true, eqb-true, ne_eqb}
+use Rattle.std.proofs.lemmas.Bool.{lt-ltb, le-ltb, cases_Bool}
 use Rattle.std.specs.List.{slice_get}
 use Rattle.std.specs.Option.{option_map_or}
 use Rattle.reg_model.specs.declared.span.Member.{Member}
@@ -60,7 +63,7 @@ none_at base low high [] within above = record { place = refl; others = refl; no
 none_at base low high (m ∷ entries) within above =
     let below : base < m.span.first = omega arith in
     let other : m.span.first ≡ base → ⊥ = λ e. omega arith in
-    let rest = none_at base (m.span.last + 1) high entries within.3 (omega arith) in
+    let rest = none_at base (m.span.last + 1) high entries (within.0.2, within.1.1) (omega arith) in
     record {
       place = cond-true (ltb base m.span.first) 0 (place_for base entries + 1) (lt-ltb base m.span.first below);
       others = rw (ne_eqb m.span.first base other) (ap (λ es. m ∷ es) rest.others);
@@ -74,7 +77,8 @@ at_place base low high (m ∷ entries) within held =
     elim (cases_Bool (eqb m.span.first base)) [
       | inl t ↦
           let same : m.span.first ≡ base = eqb-true m.span.first base t in
-          let rest = none_at base (m.span.last + 1) high entries within.3 (omega arith) in (
+          let rest = none_at base (m.span.last + 1) high entries (within.0.2, within.1.1)
+          (omega arith) in (
             0,
             record {
               place = rw (le-ltb base m.span.first (omega arith), rest.place) refl;
@@ -84,10 +88,11 @@ at_place base low high (m ∷ entries) within held =
           )
       | inr f ↦
           let held' : IsSome (at_base base entries) = rw f at held in
-          let found = at_place base (m.span.last + 1) high entries within.3 held' in
+          let found = at_place base (m.span.last + 1) high entries (within.0.2, within.1.1) held' in
           elim (cases_Bool (ltb base m.span.first)) [
             | inl t ↦
-                let rest = none_at base (m.span.last + 1) high entries within.3 (omega (arith, ltb-true base m.span.first t)) in
+                let rest = none_at base (m.span.last + 1) high entries (within.0.2, within.1.1)
+                (omega (arith, ltb-true base m.span.first t)) in
                 absurd (cc (rest.place, found.1.place))
             | inr g ↦ (
               suc found.0,

@@ -9,8 +9,8 @@ use Rattle.tree_shape.specs.Numbers.{times, is_among}
 use Rattle.tree_shape.specs.Shapes.{Shape, Body, Pairs, Entries, Link, entries_of, pairs_of}
 use Rattle.tree_shape.specs.Shapes.{pairs_in, Cut}
 use Rattle.tree_shape.specs.Changes.{at_slot}
-use Rattle.tree_shape.specs.Trees.{Contents, Branch, branches_from, branches}
-use Rattle.tree_shape.specs.Lawful.{IsTree, IsOrderedAs, IsFilled, Fits}
+use Rattle.tree_shape.specs.Trees.{Contents, Branch, branch, branches_from, branches}
+use Rattle.tree_shape.specs.Lawful.{IsTree, IsOrderedAs, IsFilled, FitsParent}
 use Rattle.tree_shape.specs.LocalChange.{IsChangeOf}
 use Rattle.tree_shape.proofs.Times.{In, in_right, some_same, listed_family}
 use Rattle.tree_shape.proofs.Living.{own_branches, own_at, child_live, child_fits, root_no_child}
@@ -93,9 +93,10 @@ pub record Slotted (f : Contents) (live : ℕ → Bool) (n : ℕ) (front : List 
   pub level : ℕ
   pub at : (f n).level ≡ suc level
   pub before : branches level (f n) ≡ branches_from level (f n).low front
-      ++ (record { child = p.child; level = level; low = next_low (f n).low front; high = p.separator } ∷ [] ++ branches_from level (p.separator + 1) back)
+      ++ (branch p.child level (next_low (f n).low front) p.separator ∷ [] ++ branches_from level
+      (p.separator + 1) back)
   pub alive : IsTrue (live p.child)
-  pub fits : Fits f (record { child = p.child; level = level; low = next_low (f n).low front; high = p.separator })
+  pub fits : FitsParent f (branch p.child level (next_low (f n).low front) p.separator)
   pub no_root : p.child ≢ 0
   pub no_parent : p.child ≢ n
 
@@ -104,7 +105,7 @@ pub slotted : (f : Contents) (live : ℕ → Bool) → IsTree f live → (n : �
 slotted f live tree n alive front p back is =
     let len : length (pairs_of (f n)) ≡ length front + suc (length back) = ap length is ∙ length-append front (p ∷ back) in
     let up = above_zero (f n) (f n).body (tree.ordered n alive) (omega arith) in
-    let b : Branch = record { child = p.child; level = up.0; low = next_low (f n).low front; high = p.separator } in
+    let b : Branch = branch p.child up.0 (next_low (f n).low front) p.separator in
     let before : branches up.0 (f n) ≡ branches_from up.0 (f n).low front ++ (b ∷ branches_from up.0 (p.separator + 1) back) =
     ap (branches_from up.0 (f n).low) is ∙ branches-append up.0 (f n).low front (p ∷ back) in
     let own : In b (own_branches f n) = subst (λ bs. In b bs) (sym (own_at f n up.0 up.1 ∙ before)) (in_right (branches_from up.0 (f n).low front) (b ∷ branches_from up.0 (p.separator + 1) back) b (inl refl)) in

@@ -7,8 +7,9 @@ use Rattle.std.proofs.lemmas.List.{append-nil}
 use Rattle.tree_shape.specs.declared.pair.Pair.{Pair}
 use Rattle.tree_shape.specs.Numbers.{times}
 use Rattle.tree_shape.specs.Shapes.{pairs_of, Cut}
-use Rattle.tree_shape.specs.Changes.{ends_at, up_to, after}
-use Rattle.tree_shape.specs.Trees.{Contents, Branch, branches_from, branches, nodes_under, within}
+use Rattle.tree_shape.specs.Changes.{ends_at, up_to, begins_after}
+use Rattle.tree_shape.specs.Trees.{Contents, Branch, branch, branches_from, branches, nodes_under}
+use Rattle.tree_shape.specs.Trees.{within}
 use Rattle.tree_shape.specs.Trees.{leaving}
 use Rattle.tree_shape.specs.Steps.{last_child, first_child, last_spine, first_spine}
 use Rattle.tree_shape.proofs.Times.{In, times-append, times_flat_map_from, once_other, once_same}
@@ -78,7 +79,8 @@ left_ways set f g fence (suc level) n low high stands spine rest once' =
     }
   where
     of_pairs : (low : ℕ) (pairs : List Pair) (start : ℕ) → Cut low high pairs → low ≤ high →
-        AllByRecursion (λ b. Stands f level b.child b.low b.high) (branches_from level low pairs) →
+        AllByRecursion (λ b. Stands f level b.child b.frame.low b.frame.high)
+        (branches_from level low pairs) →
         ((m l h : ℕ) → Stands f level m l h →
         ((x : ℕ) → 0 < times x (last_spine f level m) → IsTrue (set x) × (g x ≡ up_to fence (f x)))
         →
@@ -103,8 +105,8 @@ left_ways set f g fence (suc level) n low high stands spine rest once' =
         (outward set f level) (branches_from level low pairs))
     of_pairs low [] start cut order all each sp re on = absurd (omega arith)
     of_pairs low (p ∷ []) start cut order all each sp re on =
-        let b : Branch = record { child = p.child; level = level; low = low; high = p.separator } in
-        let b' : Branch = record { child = p.child; level = level; low = low; high = fence } in
+        let b : Branch = branch p.child level low p.separator in
+        let b' : Branch = branch p.child level low fence in
         let inside = (sp p.child (last_top f level p.child)).0 in
         let deeper = each p.child low p.separator all.0 sp
         (λ x there none. re x (omega (arith, times-append x (nodes_under f level p.child) [])) none)
@@ -119,7 +121,7 @@ left_ways set f g fence (suc level) n low high stands spine rest once' =
         let tail = flat_map (λ (b : Branch). nodes_under f level b.child)
         (branches_from level (p.separator + 1) (q ∷ pairs)) in
         let order' = some_left (p.separator + 1) high (q ∷ pairs) cut.1 (omega arith) in
-        let b : Branch = record { child = p.child; level = level; low = low; high = p.separator } in
+        let b : Branch = branch p.child level low p.separator in
         let first = under_top f level p.child in
         let spine_in = last_of_pairs f level p.child (p.separator + 1) high (q ∷ pairs) p.child
         cut.1 order' all.1 in
@@ -146,7 +148,8 @@ left_ways set f g fence (suc level) n low high stands spine rest once' =
 
 pub right_ways : (set : ℕ → Bool) (f g : Contents) (fence level n low high : ℕ) →
     Stands f level n low high →
-    ((x : ℕ) → 0 < times x (first_spine f level n) → IsTrue (set x) × (g x ≡ after fence (f x))) →
+    ((x : ℕ) → 0 < times x (first_spine f level n) →
+    IsTrue (set x) × (g x ≡ begins_after fence (f x))) →
     ((x : ℕ) → 0 < times x (nodes_under f level n) → times x (first_spine f level n) ≡ 0 →
     set x ≡ false) →
     ((x : ℕ) → times x (nodes_under f level n) ≤ 1) →
@@ -181,16 +184,18 @@ right_ways set f g fence (suc level) n low high stands spine rest once' =
     }
   where
     of_pairs : (low : ℕ) (pairs : List Pair) → Cut low high pairs → low ≤ high →
-        AllByRecursion (λ b. Stands f level b.child b.low b.high) (branches_from level low pairs) →
+        AllByRecursion (λ b. Stands f level b.child b.frame.low b.frame.high)
+        (branches_from level low pairs) →
         ((m l h : ℕ) →
-        ((x : ℕ) → 0 < times x (first_spine f level m) → IsTrue (set x) × (g x ≡ after fence (f x)))
+        ((x : ℕ) → 0 < times x (first_spine f level m) →
+        IsTrue (set x) × (g x ≡ begins_after fence (f x)))
         →
         ((x : ℕ) → 0 < times x (nodes_under f level m) → times x (first_spine f level m) ≡ 0 →
         set x ≡ false) →
         ((x : ℕ) → times x (nodes_under f level m) ≤ 1) → Stands f level m l h →
         WaysAlong set f g level m (first_spine f level m)) →
         ((x : ℕ) → 0 < times x (first_spine f level (first_child 0 pairs)) →
-        IsTrue (set x) × (g x ≡ after fence (f x))) →
+        IsTrue (set x) × (g x ≡ begins_after fence (f x))) →
         ((x : ℕ) →
         0 < times x (flat_map (λ (b : Branch). nodes_under f level b.child)
         (branches_from level low pairs)) →
@@ -208,14 +213,8 @@ right_ways set f g fence (suc level) n low high stands spine rest once' =
     of_pairs low (p ∷ pairs) cut order all each sp re on =
         let bs = branches_from level (p.separator + 1) pairs in
         let tail = flat_map (λ (b : Branch). nodes_under f level b.child) bs in
-        let b : Branch = record { child = p.child; level = level; low = low; high = p.separator } in
-        let b' : Branch = record {
-          child = p.child;
-          level = level;
-          low = fence + 1;
-          high =
-              p.separator;
-        } in
+        let b : Branch = branch p.child level low p.separator in
+        let b' : Branch = branch p.child level (fence + 1) p.separator in
         let inside = (sp p.child (first_top f level p.child)).0 in
         let deeper = each p.child low p.separator sp
         (λ x there none. re x (omega (arith, times-append x (nodes_under f level p.child) tail))

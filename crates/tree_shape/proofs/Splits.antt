@@ -8,9 +8,9 @@ use Rattle.std.proofs.lemmas.List.{append-nil, length-append}
 use Rattle.tree_shape.specs.declared.pair.Pair.{Pair}
 use Rattle.tree_shape.specs.Numbers.{is_among}
 use Rattle.tree_shape.specs.Shapes.{entries_of, pairs_of, Cut}
-use Rattle.tree_shape.specs.Changes.{first_half, at_slot, divide, first_part, end_of}
-use Rattle.tree_shape.specs.Trees.{Contents, Branch, branches_from, branches}
-use Rattle.tree_shape.specs.Lawful.{IsLawful, IsOrdered, IsFilled, Fits}
+use Rattle.tree_shape.specs.Changes.{first_half, at_slot, divide, first_part, body_end}
+use Rattle.tree_shape.specs.Trees.{Contents, Branch, branch, branches_from, branches}
+use Rattle.tree_shape.specs.Lawful.{IsLawfulTree, IsOrdered, IsFilled, FitsParent}
 use Rattle.tree_shape.specs.LocalChange.{IsChangeOf, either}
 use Rattle.tree_shape.specs.Steps.{Keeps, IsSplit, with_node, middle}
 use Rattle.tree_shape.proofs.Times.{listed_one, times_head}
@@ -34,7 +34,7 @@ cut_exits f g zero c r cut = refl
 cut_exits f g (suc level) c r cut = ap (λ l. branches level (g c) ++ l) (append-nil (branches level (g r))) ∙ cut.children level ∙ sym (append-nil (branches level (f c)))
 
 -- A live node of which a child is split: what the law's two parts both use.
-pub split_changes : (f : Contents) (live : ℕ → Bool) → IsLawful f live →
+pub split_changes : (f : Contents) (live : ℕ → Bool) → IsLawfulTree f live →
     (n slot : ℕ) (p : Pair) (r : ℕ) (g : Contents) →
     IsSplit f live n slot p r g → IsChangeOf f live n (n ∷ p.child ∷ []) (r ∷ []) g None
     (n ∷ p.child ∷ r ∷ [])
@@ -42,16 +42,16 @@ split_changes f live lawful n slot p r g split =
     let tree = lawful.tree in
     let s = f p.child in
     let h = middle s.body in
-    let fence = end_of (first_part h s.body) in
+    let fence = body_end (first_part h s.body) in
     let place = around_slot (pairs_of (f n)) slot p split.at in
     let at = slotted f live tree n split.live_parent place.front p place.back place.is in
     let mid = full_middle s.body split.full in
     let halves = cuts h s.level s.low s.high s.body (tree.ordered p.child at.alive) mid.0 mid.1 in
     let pieces : CutsTo s (g p.child) (g r) = subst (λ x. CutsTo s x (g r)) (sym split.left) (subst (λ x. CutsTo s (first_half h s) x) (sym split.right) halves) in
     let low = next_low (f n).low place.front in
-    let old : Branch = record { child = p.child; level = at.level; low = low; high = p.separator } in
-    let one : Branch = record { child = p.child; level = at.level; low = low; high = fence } in
-    let two : Branch = record { child = r; level = at.level; low = fence + 1; high = p.separator } in
+    let old : Branch = branch p.child at.level low p.separator in
+    let one : Branch = branch p.child at.level low fence in
+    let two : Branch = branch r at.level (fence + 1) p.separator in
     let pairs_now : pairs_of (g n) ≡ place.front ++ divide fence r p place.back = ap pairs_of split.above ∙ place.changed (divide fence r) in
     let fits = at.fits in
     let above : low ≤ fence = omega (arith, halves.above, fits.low) in
@@ -87,7 +87,7 @@ split_changes f live lawful n slot p r g split =
             (subst (λ ps. Cut (f n).low (f n).high ps) place.is (ordered_pairs (f n) (f n).body (tree.ordered n split.live_parent) (omega arith)).1) above below),
       );
       ordered = two_of (λ b. IsOrdered (g b.child)) one two pieces.first_ordered pieces.last_ordered;
-      fits = two_of (Fits g) one two
+      fits = two_of (FitsParent g) one two
           (record { level = pieces.first_level ∙ fits.level; low = pieces.low ∙ fits.low; high = ap (λ x. x.high) split.left })
           (record { level = pieces.last_level ∙ fits.level; low = ap (λ x. x.low) split.right; high = pieces.high ∙ fits.high });
     } in
@@ -105,7 +105,7 @@ split_changes f live lawful n slot p r g split =
     (subst (IsFilled n) (sym split.above) (omega (arith, before.0), omega arith))
     (two_of (λ b. IsFilled b.child (g b.child)) one two (subst (IsFilled p.child) (sym split.left) full'.0) (subst (IsFilled r) (sym split.right) full'.1))
 
-pub split_keeps : (f : Contents) (live : ℕ → Bool) → IsLawful f live →
+pub split_keeps : (f : Contents) (live : ℕ → Bool) → IsLawfulTree f live →
     (n slot : ℕ) (p : Pair) (r : ℕ) (g : Contents) →
     IsSplit f live n slot p r g → Keeps f live g (with_node r live)
 split_keeps f live lawful n slot p r g split =

@@ -1,8 +1,10 @@
 -- How often numbers stand in lists, and what stands in a list.
 use Rattle.std.proofs.Common.{◌≡◌, ◌≢◌, ℕ, ◌+◌, ◌<◌, ◌≤◌, List, [], ◌∷◌, ◌++◌, refl, ap, sym, ◌∙◌}
-use Rattle.std.proofs.Common.{subst, arith, Bool, true, false, IsTrue, eqb, inl, inr, ◌⊎◌, Some}
+use Rattle.std.proofs.Common.{subst, arith, Bool, true, false, cond, IsTrue, eqb, inl, inr, ◌⊎◌}
+use Rattle.std.proofs.Common.{Some}
 use Rattle.std.proofs.Common.{ltb, ◌||◌}
-use Rattle.std.specs.List.{flat_map, AllByRecursion}
+use Rattle.std.specs.List.{flat_map, AllByRecursion, count_by}
+use Rattle.std.proofs.lemmas.List.Recursion.{is_count_by}
 use Rattle.std.proofs.lemmas.Bool.{eq-eqb, ne_eqb, cases_eq, ltb-true, lt-ltb}
 use Rattle.std.specs.Option.{option_map_or}
 use Rattle.tree_shape.specs.Numbers.{times, once, is_among}
@@ -155,3 +157,14 @@ listed_family n xs x = elim (eqb x n) as (λ v. (v || is_among xs x) ≡ ltb 0 (
   | true ↦ sym (lt-ltb 0 (1 + times x xs) (omega arith))
   | false ↦ ap (ltb 0) (omega arith)
 ]
+
+-- the count is std's, which goes from the left and so doesn't compute on a list's first number
+pub times-count_by : (n : ℕ) (xs : List ℕ) → times n xs ≡ count_by (λ x. eqb n x) xs
+times-count_by n xs = is_count_by (times n) (λ x. eqb n x) refl each xs
+  where
+    each : (x : ℕ) (xs : List ℕ) →
+        times n (x ∷ xs) ≡ cond (eqb n x) (1 + times n xs) (times n xs)
+    each x xs = elim (eqb n x) as (λ v. once v + times n xs ≡ cond v (1 + times n xs) (times n xs)) [
+      | true ↦ refl
+      | false ↦ omega arith
+    ]

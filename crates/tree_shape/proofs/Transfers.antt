@@ -12,7 +12,7 @@ use Rattle.reg_model.specs.declared.answer.Update.TheVariants.{Register, Deregis
 use Rattle.tree_shape.specs.Numbers.{times, is_among}
 use Rattle.tree_shape.specs.Shapes.{entries_of}
 use Rattle.tree_shape.specs.Trees.{Contents, Branch, branches, within, leaving, HasEntry}
-use Rattle.tree_shape.specs.Lawful.{IsTree, IsOrdered, IsFilled, Fits}
+use Rattle.tree_shape.specs.Lawful.{IsTree, IsOrdered, IsFilled, FitsParent}
 use Rattle.tree_shape.specs.LocalChange.{IsLocalChange, IsLawfulChange, IsSameChange, EntriesBecome}
 use Rattle.tree_shape.specs.LocalChange.{either, reached_nodes}
 use Rattle.tree_shape.proofs.Times.{In, all_from, all_times, in_times, times_flat_map_from}
@@ -98,7 +98,7 @@ module _ (top : ℕ) (group fresh : ℕ → Bool) (f : Contents) (live : ℕ →
 
   -- a branch to a touched node leads to one that is reached
   fits_now : (x : ℕ) → 0 < times x reached → (b : Branch) → In b (own_branches g x) →
-      IsTrue (set b.child) → Fits g' b
+      IsTrue (set b.child) → FitsParent g' b
   fits_now x there b own touched =
       let sound = sound_change f live top group fresh g change in
       let fits = sound.fitting x there b own touched in
@@ -130,11 +130,12 @@ module _ (top : ℕ) (group fresh : ℕ → Bool) (f : Contents) (live : ℕ →
         (all_times (λ n. IsOrdered (g n)) reached x change.ordered there));
     reached_once = λ n. subst (λ l. times n l ≤ 1) (sym same_reached) (change.reached_once n);
     fitting =
-        all_reached (λ n. AllByRecursion (λ b. IsTrue (set b.child) → Fits g' b)
+        all_reached (λ n. AllByRecursion (λ b. IsTrue (set b.child) → FitsParent g' b)
         (own_branches g' n)) (λ x there.
-        subst (λ s. AllByRecursion (λ b. IsTrue (set b.child) → Fits g' b)
+        subst (λ s. AllByRecursion (λ b. IsTrue (set b.child) → FitsParent g' b)
         (branches (s.level - 1) s)) (sym (new_agree x there))
-        (all_from (λ b. IsTrue (set b.child) → Fits g' b) (own_branches g x) (fits_now x there)));
+        (all_from (λ b. IsTrue (set b.child) → FitsParent g' b) (own_branches g x)
+        (fits_now x there)));
     exits = ap (λ s. leaving set g' s.level top) new_top
         ∙ (same_within set g g' (g top).level top new_agree).1
         ∙ change.exits ∙ sym old_ways.1;
@@ -270,12 +271,12 @@ module _ (f : Contents) (live : ℕ → Bool) (top : ℕ) (group fresh more : �
     reached_once = λ n. subst (λ l. times n l ≤ 1) (sym ways.0) (change.reached_once n);
     fitting =
         subst (AllByRecursion (λ n. AllByRecursion (λ b. IsTrue (either group more b.child) →
-        Fits g b) (own_branches g n))) (sym ways.0)
-        (all_from (λ n. AllByRecursion (λ b. IsTrue (either group more b.child) → Fits g b)
+        FitsParent g b) (own_branches g n))) (sym ways.0)
+        (all_from (λ n. AllByRecursion (λ b. IsTrue (either group more b.child) → FitsParent g b)
         (own_branches g n)) (reached_nodes top group fresh g) (λ x there.
         let at = in_times (reached_nodes top group fresh g) x there in
         let sound = sound_change f live top group fresh g change in
-        all_from (λ b. IsTrue (either group more b.child) → Fits g b) (own_branches g x)
+        all_from (λ b. IsTrue (either group more b.child) → FitsParent g b) (own_branches g x)
         (λ b own touched. sound.fitting x at b own (sym (no_more x at b own) ∙ touched))));
     exits = ways.1 ∙ change.exits;
   }

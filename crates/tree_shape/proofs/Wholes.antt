@@ -1,46 +1,44 @@
 -- Laws of whole trees: entries in order, lookups, and fillings.
-use Rattle.std.proofs.Common.{◌≡◌, ◌≢◌, ℕ, zero, suc, ◌+◌, ◌-◌, ◌*◌, ◌^◌, ◌<◌, ◌≤◌, ◌↔◌, List, []}
-use Rattle.std.proofs.Common.{◌∷◌, ◌++◌, length, map, refl, ap, sym, ◌∙◌, subst, arith, Bool}
+use Rattle.std.proofs.Common.{◌≡◌, ℕ, zero, suc, ◌+◌, ◌-◌, ◌^◌, ◌<◌, ◌≤◌, ◌↔◌, List, []}
+use Rattle.std.proofs.Common.{◌∷◌, ◌++◌, refl, ap, sym, ◌∙◌, subst, arith, Bool}
 use Rattle.std.proofs.Common.{IsTrue, inl, inr, Some}
 use Rattle.std.specs.List.{flat_map, Contains}
 use Rattle.std.proofs.lemmas.Bool.{cases_Bool, cond-true, cond-false}
-use Rattle.std.proofs.lemmas.List.{append-nil, length-append}
+use Rattle.std.proofs.lemmas.List.{append-nil}
 use Rattle.std.proofs.lemmas.List.Concat.{flat_map-append}
-use Rattle.std.proofs.Math.Nat.{mul-le-mul_right, pow-suc}
 use Rattle.reg_model.specs.declared.span.Member.{Member}
 use Rattle.reg_model.specs.Interval.{contains}
 use Rattle.reg_model.specs.Query.{member_at}
 use Rattle.reg_model.proofs.Spans.{contains_bounds, contains_from}
 use Rattle.tree_shape.specs.declared.pair.Pair.{Pair}
-use Rattle.tree_shape.specs.Numbers.{times}
 use Rattle.tree_shape.specs.Shapes.{Shape, Body, Pairs, Entries, Link, entries_of, entries_in}
-use Rattle.tree_shape.specs.Shapes.{pairs_of, pairs_in, EntriesWithin, Cut, IsLeaf, IsInFences}
+use Rattle.tree_shape.specs.Shapes.{pairs_of, EntriesWithin, Cut, IsLeaf, IsInFences}
 use Rattle.tree_shape.specs.Shapes.{LiesInFences}
-use Rattle.tree_shape.specs.Trees.{Contents, Branch, branches_from, branches, nodes_under, nodes}
+use Rattle.tree_shape.specs.Trees.{Contents, Branch, branch, branches_from, branches, nodes_under}
+use Rattle.tree_shape.specs.Trees.{nodes}
 use Rattle.tree_shape.specs.Trees.{entries, leaf_for, HasEntry}
-use Rattle.tree_shape.specs.Lawful.{IsTree, IsLawful, IsOrderedAs, IsFilledAs, fewest_pairs}
-use Rattle.tree_shape.specs.Lawful.{fewest_entries}
+use Rattle.tree_shape.specs.Lawful.{IsTree, IsOrderedAs}
 use Rattle.tree_shape.proofs.Times.{In, some_same, in_times, times_in, in_flat_map}
 use Rattle.tree_shape.proofs.Times.{in_flat_map_from}
 use Rattle.tree_shape.proofs.Reach.{branch_level}
 use Rattle.tree_shape.proofs.Living.{own_branches, own_at, live_node, node_live, root_live}
-use Rattle.tree_shape.proofs.Living.{root_no_child, child_live, child_fits, own_child}
+use Rattle.tree_shape.proofs.Living.{child_live, child_fits}
 use Rattle.tree_shape.proofs.Leads.{contains_in, in_contains, entry_inside, entry_ordered}
 use Rattle.tree_shape.proofs.Leads.{last_below, leaf_says, leaf_at_zero, inner_above, leads_inside}
 use Rattle.tree_shape.proofs.Leads.{leads, leads_to}
 use Rattle.tree_shape.proofs.Runs.{entries_join}
-use Rattle.tree_shape.proofs.Halves.{fewest_below, fewest_pairs_some}
 
-abbrev held_by : Contents → ℕ → List Member
+abbrev pub held_by : Contents → ℕ → List Member
 held_by f n = entries_of (f n)
 
 -- The entries below a node are in order between its fences.
 order_of_pairs : (f : Contents) (level low high : ℕ) (pairs : List Pair) → Cut low high pairs →
-    ((b : Branch) → In b (branches_from level low pairs) → EntriesWithin b.low b.high (flat_map (held_by f) (nodes_under f level b.child))) →
+    ((b : Branch) → In b (branches_from level low pairs) → EntriesWithin
+    b.frame.low b.frame.high (flat_map (held_by f) (nodes_under f level b.child))) →
     EntriesWithin low high (flat_map (held_by f) (flat_map (λ (b : Branch). nodes_under f level b.child) (branches_from level low pairs)))
-order_of_pairs f level low high [] cut each = tt
+order_of_pairs f level low high [] cut each = (tt, tt)
 order_of_pairs f level low high (p ∷ pairs) cut each =
-    let first = each (record { child = p.child; level = level; low = low; high = p.separator }) (inl refl) in
+    let first = each (branch p.child level low p.separator) (inl refl) in
     let rest = order_of_pairs f level (p.separator + 1) high pairs cut.1 (λ b there. each b (inr there)) in
     let top = last_below (p.separator + 1) high pairs cut.1 in
     subst (EntriesWithin low high)
@@ -64,7 +62,8 @@ in_order f live tree (suc level) n alive at =
     let own : In b (own_branches f n) = subst (λ bs. In b bs) (sym (own_at f n level at)) there in
     let fits = child_fits f live tree n alive b own in
     let below' = in_order f live tree level b.child (child_live f live tree n alive b own) (fits.level ∙ branch_level level (f n).low (pairs_of (f n)) b there) in
-    subst (λ l. EntriesWithin l b.high (flat_map (held_by f) (nodes_under f level b.child))) fits.low
+    subst (λ l. EntriesWithin l b.frame.high (flat_map (held_by f) (nodes_under f level b.child)))
+    fits.low
     (subst (λ h. EntriesWithin (f b.child).low h (flat_map (held_by f) (nodes_under f level b.child))) fits.high below')))
 
 pub entries_in_order : (f : Contents) (live : ℕ → Bool) → IsTree f live → EntriesWithin 0 (2 ^ 64 - 1) (entries f)
@@ -101,9 +100,10 @@ found_from pc low high (e ∷ es) m within there holds = elim there [
     | inl also ↦
         let at = contains_bounds m.span pc holds in
         let at' = contains_bounds e.span pc also in
-        let inside = entry_inside (e.span.last + 1) high es m within.3 later in
+        let inside = entry_inside (e.span.last + 1) high es m (within.0.2, within.1.1) later in
         absurd (omega (arith, at.0, at'.1, inside.0))
-    | inr misses ↦ cond-false (contains e.span pc) (Some e) (member_at pc es) misses ∙ found_from pc (e.span.last + 1) high es m within.3 later holds
+    | inr misses ↦ cond-false (contains e.span pc) (Some e) (member_at pc es) misses
+        ∙ found_from pc (e.span.last + 1) high es m (within.0.2, within.1.1) later holds
   ]
 ]
 
@@ -228,113 +228,3 @@ one_at f live tree m x (n, (alive, held)) other same =
           order,
     ))
     ∙ (found x).1 (other, contains_from x.span m.span.first (omega arith) (omega arith)))
-
--- Fillings.
-branch_count : (level low : ℕ) (pairs : List Pair) → length (branches_from level low pairs) ≡ length pairs
-branch_count level low [] = refl
-branch_count level low (p ∷ pairs) = ap suc (branch_count level (p.separator + 1) pairs)
-
-leaf_entries : (n : ℕ) (s : Shape) (b : Body) → IsOrderedAs s b → IsFilledAs n b → s.level ≡ 0 → fewest_entries n ≤ length (entries_in b)
-leaf_entries n s (Pairs pairs) ordered filled at = absurd (omega arith)
-leaf_entries n s (Entries es) ordered filled at = filled.0
-leaf_entries n s (Link next) ordered filled at = absurd ordered
-
-inner_pairs : (n : ℕ) (s : Shape) (b : Body) → IsOrderedAs s b → IsFilledAs n b → 0 < s.level → fewest_pairs n ≤ length (pairs_in b)
-inner_pairs n s (Pairs pairs) ordered filled above = filled.0
-inner_pairs n s (Entries es) ordered filled above = absurd (omega arith)
-inner_pairs n s (Link next) ordered filled above = absurd ordered
-
--- sums over branches
-more_entries : {X : Type 0} (f : Contents) (under : X → List ℕ) (bs : List X) →
-    ((b : X) → In b bs → length (under b) + length (under b) + 2 ≤ length (flat_map (held_by f) (under b))) →
-    length (flat_map under bs) + length (flat_map under bs) + (length bs + length bs) ≤ length (flat_map (held_by f) (flat_map under bs))
-more_entries f under [] each = omega arith
-more_entries f under (b ∷ bs) each =
-    let one = each b (inl refl) in
-    let rest = more_entries f under bs (λ c there. each c (inr there)) in
-    omega (
-      arith,
-      length-append (under b) (flat_map under bs),
-      ap length (flat_map-append (held_by f) (under b) (flat_map under bs)),
-      length-append (flat_map (held_by f) (under b)) (flat_map (held_by f) (flat_map under bs)),
-    )
-
-many : {X : Type 0} (m : ℕ) (under : X → List ℕ) (bs : List X) → ((b : X) → In b bs → m ≤ length (under b)) → length bs * m ≤ length (flat_map under bs)
-many m under [] each = omega arith
-many m under (b ∷ bs) each =
-    let one = each b (inl refl) in
-    let rest = many m under bs (λ c there. each c (inr there)) in
-    omega (arith, length-append (under b) (flat_map under bs))
-
-child_below : (f : Contents) (live : ℕ → Bool) → IsTree f live → (n level : ℕ) → IsTrue (live n) → (f n).level ≡ suc level → (b : Branch) → In b (branches level (f n)) →
-    IsTrue (live b.child) × ((f b.child).level ≡ level) × (b.child ≢ 0)
-child_below f live tree n level alive at b there =
-    let own : In b (own_branches f n) = subst (λ bs. In b bs) (sym (own_at f n level at)) there in
-    let fits = child_fits f live tree n alive b own in (
-      child_live f live tree n alive b own,
-      fits.level ∙ branch_level level (f n).low (pairs_of (f n)) b there,
-      λ e. root_no_child f live tree n alive (subst (λ x. 0 < times x (map (λ (p : Pair). p.child) (pairs_of (f n)))) e (own_child f n b own)),
-    )
-
-twice_below : (f : Contents) (live : ℕ → Bool) → IsLawful f live → (level n : ℕ) → IsTrue (live n) → (f n).level ≡ level → n ≢ 0 →
-    length (nodes_under f level n) + length (nodes_under f level n) + 2 ≤ length (flat_map (held_by f) (nodes_under f level n))
-twice_below f live lawful zero n alive at below =
-    let some = leaf_entries n (f n) (f n).body (lawful.tree.ordered n alive) (lawful.filled n alive) at in
-    omega (arith, some, (fewest_below n below).0, length-append (entries_of (f n)) [])
-twice_below f live lawful (suc level) n alive at below =
-    let some = inner_pairs n (f n) (f n).body (lawful.tree.ordered n alive) (lawful.filled n alive) (omega arith) in
-    let sums = more_entries f (λ (b : Branch). nodes_under f level b.child) (branches level (f n)) (λ b there.
-    let child = child_below f live lawful.tree n level alive at b there in
-    twice_below f live lawful level b.child child.0 child.1 child.2) in
-    omega (
-      arith,
-      some,
-      fewest_pairs_some n,
-      sums,
-      branch_count level (f n).low (pairs_of (f n)),
-      length-append (entries_of (f n)) (flat_map (held_by f) (flat_map (λ (b : Branch). nodes_under f level b.child) (branches level (f n)))),
-    )
-
-pub twice_as_many : (f : Contents) (live : ℕ → Bool) → IsLawful f live → 2 ≤ length (nodes f) → 2 * length (nodes f) ≤ length (entries f)
-twice_as_many f live lawful two = at_level (f 0).level refl two
-  where
-    at_level : (level : ℕ) → (f 0).level ≡ level → 2 ≤ length (nodes_under f level 0) → 2 * length (nodes_under f level 0) ≤ length (flat_map (held_by f) (nodes_under f level 0))
-    at_level zero at two = absurd (omega arith)
-    at_level (suc level) at two =
-        let some = inner_pairs 0 (f 0) (f 0).body (lawful.tree.ordered 0 (root_live f live lawful.tree)) (lawful.filled 0 (root_live f live lawful.tree)) (omega arith) in
-        let sums = more_entries f (λ (b : Branch). nodes_under f level b.child) (branches level (f 0)) (λ b there.
-        let child = child_below f live lawful.tree 0 level (root_live f live lawful.tree) at b there in
-        twice_below f live lawful level b.child child.0 child.1 child.2) in
-        omega (
-          arith,
-          some,
-          sums,
-          branch_count level (f 0).low (pairs_of (f 0)),
-          length-append (entries_of (f 0)) (flat_map (held_by f) (flat_map (λ (b : Branch). nodes_under f level b.child) (branches level (f 0)))),
-        )
-
-six_each : (f : Contents) (live : ℕ → Bool) → IsLawful f live → (level n : ℕ) → IsTrue (live n) → (f n).level ≡ level → n ≢ 0 → 6 ^ level ≤ length (nodes_under f level n)
-six_each f live lawful zero n alive at below = omega arith
-six_each f live lawful (suc level) n alive at below =
-    let some = inner_pairs n (f n) (f n).body (lawful.tree.ordered n alive) (lawful.filled n alive) (omega arith) in
-    let six : 6 ≤ length (branches level (f n)) = omega (arith, some, (fewest_below n below).1, branch_count level (f n).low (pairs_of (f n))) in
-    let sums = many (6 ^ level) (λ (b : Branch). nodes_under f level b.child) (branches level (f n)) (λ b there.
-    let child = child_below f live lawful.tree n level alive at b there in
-    six_each f live lawful level b.child child.0 child.1 child.2) in
-    let product : 6 * 6 ^ level ≤ length (branches level (f n)) * 6 ^ level = mul-le-mul_right (6 ^ level) six in
-    omega (arith, product, sums, pow-suc 6 level)
-
-pub tall_is_large : (f : Contents) (live : ℕ → Bool) → IsLawful f live → (f 0).level ≡ 12 → 16384 < length (nodes f)
-tall_is_large f live lawful at =
-    let level = (f 0).level - 1 in
-    let up : (f 0).level ≡ suc level = omega arith in
-    let some = inner_pairs 0 (f 0) (f 0).body (lawful.tree.ordered 0 (root_live f live lawful.tree)) (lawful.filled 0 (root_live f live lawful.tree)) (omega arith) in
-    let two : 2 ≤ length (branches level (f 0)) = omega (arith, some, branch_count level (f 0).low (pairs_of (f 0))) in
-    let sums = many (6 ^ level) (λ (b : Branch). nodes_under f level b.child) (branches level (f 0)) (λ b there.
-    let child = child_below f live lawful.tree 0 level (root_live f live lawful.tree) up b there in
-    six_each f live lawful level b.child child.0 child.1 child.2) in
-    let product : 2 * 6 ^ level ≤ length (branches level (f 0)) * 6 ^ level = mul-le-mul_right (6 ^ level) two in
-    let eleven : level ≡ 11 = omega arith in
-    let power : 6 ^ level ≡ 362797056 = ap (λ l. 6 ^ l) eleven in
-    let whole : length (nodes f) ≡ suc (length (flat_map (λ (b : Branch). nodes_under f level b.child) (branches level (f 0)))) = ap (λ l. length (nodes_under f l 0)) up in
-    omega (arith, product, sums)

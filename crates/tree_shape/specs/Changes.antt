@@ -1,7 +1,9 @@
 -- What the changes of nodes make of shapes.
-use Rattle.std.specs.Prelude.{ℕ, zero, suc, ◌+◌, ◌<◌, ◌≤◌, List, [], ◌∷◌, ◌++◌, length, take, drop, nat_lt, if◌then◌else◌}
+use Rattle.std.specs.Prelude.{ℕ, zero, suc, ◌+◌, ◌<◌, ◌≤◌, List, [], ◌∷◌, ◌++◌, length, take, drop}
+use Rattle.std.specs.Prelude.{◌/◌, nat_lt, if◌then◌else◌}
 use Rattle.reg_model.specs.declared.span.Member.{Member}
 use Rattle.tree_shape.specs.declared.pair.Pair.{Pair}
+use Rattle.tree_shape.specs.declared.limits.TheConstants.{PAIRS, ENTRIES}
 use Rattle.tree_shape.specs.Shapes.{Shape, Body, Pairs, Entries, Link}
 
 -- a child with its separator
@@ -36,18 +38,18 @@ last_part n (Entries entries) = Entries (drop n entries)
 last_part n (Link next) = Link next
 
 -- where what is held ends: at the last address of the last entry, or at the last separator
-abbrev pub end_of : Body → ℕ
-end_of (Pairs pairs) = pairs_end 0 pairs
-end_of (Entries entries) = entries_end 0 entries
-end_of (Link next) = 0
+abbrev pub body_end : Body → ℕ
+body_end (Pairs pairs) = pairs_end 0 pairs
+body_end (Entries entries) = entries_end 0 entries
+body_end (Link next) = 0
 
--- The two nodes that a node is cut into: the first has its first n pairs or entries and the fence where these end, the
--- second has the others and begins after that fence.
+-- The two nodes that a node is cut into: the first has its first n pairs or entries and the fence
+-- where these end, the second has the others and begins after that fence.
 abbrev pub first_half : ℕ → Shape → Shape
-first_half n s = record s { high = end_of (first_part n s.body); body = first_part n s.body }
+first_half n s = record s { high = body_end (first_part n s.body); body = first_part n s.body }
 
 abbrev pub last_half : ℕ → Shape → Shape
-last_half n s = record s { low = end_of (first_part n s.body) + 1; body = last_part n s.body }
+last_half n s = record s { low = body_end (first_part n s.body) + 1; body = last_part n s.body }
 
 -- the pairs or entries of two nodes of one kind
 abbrev pub both : Body → Body → Body
@@ -65,20 +67,24 @@ joined left right = record left { high = right.high; body = both left.body right
 
 -- two nodes of one kind fit into one, or don't
 abbrev pub FitAs : Body → Body → Type 0
-FitAs (Pairs left) (Pairs right) = length left + length right ≤ 15
-FitAs (Entries left) (Entries right) = length left + length right ≤ 10
+FitAs (Pairs left) (Pairs right) = length left + length right ≤ PAIRS
+FitAs (Entries left) (Entries right) = length left + length right ≤ ENTRIES
 FitAs _ _ = ⊥
 
 abbrev pub Fit : Shape → Shape → Type 0
 Fit left right = FitAs left.body right.body
 
 abbrev pub OverfillAs : Body → Body → Type 0
-OverfillAs (Pairs left) (Pairs right) = 15 < length left + length right
-OverfillAs (Entries left) (Entries right) = 10 < length left + length right
+OverfillAs (Pairs left) (Pairs right) = PAIRS < length left + length right
+OverfillAs (Entries left) (Entries right) = ENTRIES < length left + length right
 OverfillAs _ _ = ⊥
 
 abbrev pub Overfill : Shape → Shape → Type 0
 Overfill left right = OverfillAs left.body right.body
+
+-- how much the left one of two nodes gets of what both hold: the smaller half
+abbrev pub share_of : Shape → Shape → ℕ
+share_of left right = (size left.body + size right.body) / 2
 
 -- pairs whose last separator is raised
 abbrev pub ends_at : ℕ → List Pair → List Pair
@@ -95,8 +101,8 @@ ends_at_as fence (Link next) = Link next
 abbrev pub up_to : ℕ → Shape → Shape
 up_to fence s = record s { high = fence; body = ends_at_as fence s.body }
 
-abbrev pub after : ℕ → Shape → Shape
-after fence s = record s { low = fence + 1 }
+abbrev pub begins_after : ℕ → Shape → Shape
+begins_after fence s = record s { low = fence + 1 }
 
 -- the list where what stands at a slot, and all after it, is changed
 abbrev pub at_slot : (Pair → List Pair → List Pair) → ℕ → List Pair → List Pair
@@ -106,7 +112,7 @@ at_slot change (suc slot) (p ∷ pairs) = p ∷ at_slot change slot pairs
 
 -- the pair's child with the new separator, and the new child with the pair's
 abbrev pub divide : ℕ → ℕ → Pair → List Pair → List Pair
-divide separator child p pairs = record p { separator = separator } ∷ record p { child = child } ∷ pairs
+divide separator child p pairs = pair p.child separator ∷ pair child p.separator ∷ pairs
 
 -- the pair's child with the separator of the next pair, which goes
 abbrev pub swallow_next : Pair → List Pair → List Pair
@@ -120,4 +126,5 @@ separate_at separator p pairs = record p { separator = separator } ∷ pairs
 -- the entries with one more, in its place
 abbrev pub with_entry : Member → List Member → List Member
 with_entry m [] = m ∷ []
-with_entry m (e ∷ entries) = if nat_lt m.span.first e.span.first then m ∷ e ∷ entries else (e ∷ with_entry m entries)
+with_entry m (e ∷ entries) =
+    if nat_lt m.span.first e.span.first then m ∷ e ∷ entries else (e ∷ with_entry m entries)

@@ -5,9 +5,10 @@ use Rattle.std.specs.List.{AllByRecursion}
 use Rattle.reg_model.specs.declared.span.Member.{Member}
 use Rattle.reg_model.specs.declared.answer.Update.{Update}
 use Rattle.reg_model.specs.declared.answer.Update.TheVariants.{Register, Deregister, Load, Unload}
+use Rattle.tree_shape.specs.declared.limits.TheConstants.{HIGHEST_LEVEL}
 use Rattle.tree_shape.specs.Numbers.{times, is_among}
 use Rattle.tree_shape.specs.Trees.{Contents, branches, within, leaving, HasEntry}
-use Rattle.tree_shape.specs.Lawful.{IsOrdered, IsFilled, Fits}
+use Rattle.tree_shape.specs.Lawful.{IsOrdered, IsFilled, FitsParent}
 
 -- in the group, or fresh
 abbrev pub either : (ℕ → Bool) → (ℕ → Bool) → ℕ → Bool
@@ -31,13 +32,13 @@ pub record IsLocalChange (f : Contents) (live : ℕ → Bool) (top : ℕ) (group
   pub low : (g top).low ≡ (f top).low
   pub high : (g top).high ≡ (f top).high
   pub level : top ≢ 0 → (g top).level ≡ (f top).level
-  pub height : top ≡ 0 → (g top).level ≤ 12
+  pub height : top ≡ 0 → (g top).level ≤ HIGHEST_LEVEL
   -- Each node with new contents that the top now reaches is in order by itself.
   pub ordered : AllByRecursion (λ n. IsOrdered (g n)) (reached_nodes top group fresh g)
   -- Each is reached by one way, with the level and the fences that its parent gives.
   pub reached_once : (n : ℕ) → times n (reached_nodes top group fresh g) ≤ 1
   pub fitting : AllByRecursion
-      (λ n. AllByRecursion (λ b. IsTrue (either group fresh b.child) → Fits g b)
+      (λ n. AllByRecursion (λ b. IsTrue (either group fresh b.child) → FitsParent g b)
       (branches ((g n).level - 1) (g n))) (reached_nodes top group fresh g)
   -- These ways lead outside to the children that the old ones led to, in their order, with the same
   -- levels and fences.

@@ -3,6 +3,7 @@ use Rattle.std.specs.Prelude.{◌≤◌, take}
 use Rattle.tree_shape.specs.Shapes.{Shape, Body, Pairs, Entries, Link}
 use Rattle.tree_shape.specs.declared.node.Content.{Content}
 use Rattle.tree_shape.specs.declared.node.Content.TheVariants.{Inner, Leaf, Free}
+use Rattle.tree_shape.specs.declared.limits.TheConstants.{PAIRS, ENTRIES}
 use Rattle.tree_shape.specs.declared.node.Frame.{Frame}
 use Rattle.tree_shape.specs.declared.node.Node.TheInside.{Inside}
 
@@ -17,8 +18,8 @@ shape_of n = record { level = n.level; low = n.low; high = n.high; body = body_o
 
 -- the count is at most the length of the array
 abbrev pub IsCounted : Content → Type 0
-IsCounted (Inner count pairs) = count ≤ 15
-IsCounted (Leaf count entries) = count ≤ 10
+IsCounted (Inner count pairs) = count ≤ PAIRS
+IsCounted (Leaf count entries) = count ≤ ENTRIES
 IsCounted (Free next) = Unit {0}
 
 -- the node of this level and these fences that holds this

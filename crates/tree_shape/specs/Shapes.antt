@@ -1,8 +1,11 @@
 -- What contracts see of a node: its level, its two fences, and what it holds as a list.
 use Rattle.std.specs.Prelude.{◌≡◌, ℕ, ◌+◌, ◌≤◌, List, [], ◌∷◌, nat_le, nat_lt, if◌then◌else◌}
+use Rattle.std.specs.List.{AllByRecursion}
 use Rattle.reg_model.specs.declared.span.Member.{Member}
 use Rattle.reg_model.specs.Interval.{Interval}
+use Rattle.segment_array.specs.Ascending.{AscendFrom}
 use Rattle.tree_shape.specs.declared.pair.Pair.{Pair}
+use Rattle.tree_shape.specs.declared.node.Frame.{Frame}
 
 -- what a node holds: children with their separators, or members, or the next free node
 pub data Body : Type 0 where
@@ -16,6 +19,10 @@ pub record Shape : Type 0 where
   pub low : ℕ
   pub high : ℕ
   pub body : Body
+
+-- its level and its fences
+abbrev pub frame_of : Shape → Frame
+frame_of s = record { level = s.level; low = s.low; high = s.high }
 
 -- the pairs of an inner node, and none of another
 abbrev pub pairs_in : Body → List Pair
@@ -49,21 +56,20 @@ IsInFences pc s = (s.low ≤ pc) × (pc ≤ s.high)
 abbrev pub LiesInFences : Interval → Shape → Type 0
 LiesInFences span s = (s.low ≤ span.first) × (span.last ≤ s.high)
 
--- Entries one after another from `low` to `high`: each begins at or above `low`, ends at or below `high`, and those
--- after it begin above its last address. So they ascend, are disjoint and lie inside the fences.
+-- Entries that ascend from `low` on, and of which each ends at or below `high`. So they ascend, are
+-- disjoint and lie inside the fences.
 abbrev pub EntriesWithin : ℕ → ℕ → List Member → Type 0
-EntriesWithin low high [] = Unit {0}
-EntriesWithin low high (m ∷ entries) =
-    (low ≤ m.span.first) × (m.span.first ≤ m.span.last) × (m.span.last ≤ high) × EntriesWithin (m.span.last + 1) high entries
+EntriesWithin low high entries =
+    AscendFrom low entries × AllByRecursion (λ m. m.span.last ≤ high) entries
 
--- The separators cut the addresses from `low` to `high` into parts, of which none is empty: they ascend, the first is at
--- least `low`, and the last is `high`.
+-- The separators cut the addresses from `low` to `high` into parts, of which none is empty: they
+-- ascend, the first is at least `low`, and the last is `high`.
 abbrev pub Cut : ℕ → ℕ → List Pair → Type 0
 Cut low high [] = low ≡ high + 1
 Cut low high (p ∷ pairs) = (low ≤ p.separator) × Cut (p.separator + 1) high pairs
 
--- What every call may take for granted of a node: a leaf's entries ascend, are disjoint and lie inside its fences; an inner
--- node's separators ascend, and the last is its high fence.
+-- What every call may take for granted of a node: a leaf's entries ascend, are disjoint and lie
+-- inside its fences; an inner node's separators ascend, and the last is its high fence.
 abbrev pub InOrderAs : Shape → Body → Type 0
 InOrderAs s (Entries entries) = EntriesWithin s.low s.high entries
 InOrderAs s (Pairs pairs) = Cut 0 s.high pairs

@@ -1,5 +1,5 @@
 -- The changes of nodes put into a tree: which contents g come of contents f.
-use Rattle.std.specs.Prelude.{◌≡◌, ◌≢◌, ℕ, zero, suc, ◌+◌, ◌/◌, ◌<◌, ◌≤◌, ◌↔◌, ◌⊎◌, Bool, true}
+use Rattle.std.specs.Prelude.{◌≡◌, ◌≢◌, ℕ, zero, suc, ◌+◌, ◌<◌, ◌≤◌, ◌↔◌, ◌⊎◌, Bool, true}
 use Rattle.std.specs.Prelude.{false, List, [], ◌∷◌, ◌++◌, length, Some, IsTrue, ◌==◌, if◌then◌else◌}
 use Rattle.std.specs.List.{AllByRecursion, slice_get}
 use Rattle.reg_model.specs.declared.span.Member.{Member}
@@ -9,15 +9,17 @@ use Rattle.reg_model.specs.History.{without}
 use Rattle.tree_shape.specs.declared.pair.Pair.{Pair}
 use Rattle.tree_shape.specs.Shapes.{Shape, Body, Pairs, Entries, Link, pairs_of, entries_of, IsLeaf}
 use Rattle.tree_shape.specs.Changes.{first_half, last_half, joined, at_slot, divide, swallow_next}
-use Rattle.tree_shape.specs.Changes.{separate_at, with_entry, first_part, end_of, size, up_to}
-use Rattle.tree_shape.specs.Changes.{after, pair, Fit, Overfill}
+use Rattle.tree_shape.specs.Changes.{separate_at, with_entry, first_part, body_end, up_to}
+use Rattle.tree_shape.specs.Changes.{begins_after, pair, Fit, Overfill, share_of}
+use Rattle.tree_shape.specs.declared.limits.TheConstants.{PAIRS, ENTRIES, LEFT_PAIRS, LEFT_ENTRIES}
+use Rattle.tree_shape.specs.declared.limits.TheConstants.{HIGHEST_LEVEL}
 use Rattle.tree_shape.specs.Numbers.{times}
 use Rattle.tree_shape.specs.Trees.{Contents, HasEntry}
-use Rattle.tree_shape.specs.Lawful.{IsTree, IsLawful, IsFilled, fewest_pairs, fewest_entries}
+use Rattle.tree_shape.specs.Lawful.{IsTree, IsLawfulTree, IsFilled, fewest_pairs, fewest_entries}
 
 -- g is a lawful tree with the entries of f
 pub record Keeps (f : Contents) (live : ℕ → Bool) (g : Contents) (live' : ℕ → Bool) : Type 0 where
-  pub lawful : IsLawful g live'
+  pub lawful : IsLawfulTree g live'
   pub entries : (m : Member) → HasEntry g live' m ↔ HasEntry f live m
 
 -- the live nodes and one more, or without one
@@ -27,20 +29,20 @@ with_node n live x = if x == n then true else live x
 abbrev pub without_node : ℕ → (ℕ → Bool) → ℕ → Bool
 without_node n live x = if x == n then false else live x
 
--- where a full node is cut: a leaf after 5 entries, an inner node after 7 pairs
+-- where a full node is cut
 abbrev pub middle : Body → ℕ
-middle (Pairs pairs) = 7
-middle (Entries entries) = 5
+middle (Pairs pairs) = LEFT_PAIRS
+middle (Entries entries) = LEFT_ENTRIES
 middle (Link next) = 0
 
 -- the fence between its halves
 abbrev pub middle_fence : Shape → ℕ
-middle_fence s = end_of (first_part (middle s.body) s.body)
+middle_fence s = body_end (first_part (middle s.body) s.body)
 
 -- it holds as much as it can
 abbrev pub IsFull : Body → Type 0
-IsFull (Pairs pairs) = length pairs ≡ 15
-IsFull (Entries entries) = length entries ≡ 10
+IsFull (Pairs pairs) = length pairs ≡ PAIRS
+IsFull (Entries entries) = length entries ≡ ENTRIES
 IsFull (Link next) = ⊥
 
 -- A child is split, and its parent has a pair more: the child keeps the first half, the node
@@ -49,7 +51,7 @@ pub record IsSplit (f : Contents) (live : ℕ → Bool) (parent slot : ℕ) (p :
     (g : Contents) : Type 0 where
   pub live_parent : IsTrue (live parent)
   pub at : slice_get (pairs_of (f parent)) slot ≡ Some p
-  pub room : length (pairs_of (f parent)) < 15
+  pub room : length (pairs_of (f parent)) < PAIRS
   pub full : IsFull (f p.child).body
   pub free : live fresh ≡ false
   pub above : let s = f parent in
@@ -73,10 +75,6 @@ pub record IsJoin (f : Contents) (live : ℕ → Bool) (parent slot : ℕ) (p q 
   pub left : g p.child ≡ joined (f p.child) (f q.child)
   pub others : (n : ℕ) → n ≢ parent → n ≢ p.child → n ≢ q.child → g n ≡ f n
 
--- how much the left one of two nodes gets of what both hold: the smaller half
-abbrev pub share_of : Shape → Shape → ℕ
-share_of left right = (size left.body + size right.body) / 2
-
 -- Two neighbouring children that don't fit into one are given even shares.
 pub record IsShare (f : Contents) (live : ℕ → Bool) (parent slot : ℕ) (p q : Pair) (g : Contents)
     : Type 0 where
@@ -86,7 +84,7 @@ pub record IsShare (f : Contents) (live : ℕ → Bool) (parent slot : ℕ) (p q
   pub overfill : Overfill (f p.child) (f q.child)
   pub above : let s = f parent in
       let both = joined (f p.child) (f q.child) in
-      let fence = end_of (first_part (share_of (f p.child) (f q.child)) both.body) in
+      let fence = body_end (first_part (share_of (f p.child) (f q.child)) both.body) in
       g parent ≡ record s { body = Pairs (at_slot (separate_at fence) slot (pairs_of s)) }
   pub left : g p.child
       ≡ first_half (share_of (f p.child) (f q.child)) (joined (f p.child) (f q.child))
@@ -99,7 +97,7 @@ pub record IsPut (f : Contents) (live : ℕ → Bool) (leaf : ℕ) (member : Mem
     : Type 0 where
   pub live_leaf : IsTrue (live leaf)
   pub is_leaf : IsLeaf (f leaf)
-  pub room : length (entries_of (f leaf)) < 10
+  pub room : length (entries_of (f leaf)) < ENTRIES
   pub span : IsSpan member.span
   pub low : (f leaf).low ≤ member.span.first
   pub high : member.span.last ≤ (f leaf).high
@@ -110,7 +108,7 @@ pub record IsPut (f : Contents) (live : ℕ → Bool) (leaf : ℕ) (member : Mem
 
 -- The tree is lawful and has exactly one member more.
 pub record Adds (f : Contents) (live : ℕ → Bool) (member : Member) (g : Contents) : Type 0 where
-  pub lawful : IsLawful g live
+  pub lawful : IsLawfulTree g live
   pub entries : (m : Member) → HasEntry g live m ↔ (HasEntry f live m ⊎ (m ≡ member))
 
 -- A leaf loses the entry that begins at an address.
@@ -128,12 +126,12 @@ pub record IsTake (f : Contents) (live : ℕ → Bool) (leaf base : ℕ) (member
 pub record Takes (f : Contents) (live : ℕ → Bool) (leaf : ℕ) (member : Member) (g : Contents)
     : Type 0 where
   pub tree : IsTree g live
-  pub lawful : fewest_entries leaf < length (entries_of (f leaf)) → IsLawful g live
+  pub lawful : fewest_entries leaf < length (entries_of (f leaf)) → IsLawfulTree g live
   pub entries : (m : Member) → HasEntry g live m ↔ (HasEntry f live m × (m ≢ member))
 
 -- The root is lifted: what it had moves to the node `fresh`, its one child.
 pub record IsLift (f : Contents) (live : ℕ → Bool) (fresh : ℕ) (g : Contents) : Type 0 where
-  pub height : (f 0).level < 12
+  pub height : (f 0).level < HIGHEST_LEVEL
   pub full : IsFull (f 0).body
   pub free : live fresh ≡ false
   pub root : let s = f 0 in
@@ -159,7 +157,7 @@ root_over left right fence s = record s {
 -- become its children.
 pub record IsRootSplit (f : Contents) (live : ℕ → Bool) (left right : ℕ) (g : Contents) : Type 0
   where
-    pub height : (f 0).level < 12
+    pub height : (f 0).level < HIGHEST_LEVEL
     pub full : IsFull (f 0).body
     pub free_left : live left ≡ false
     pub free_right : live right ≡ false
@@ -214,7 +212,7 @@ pub record IsFenceMove (f : Contents) (live : ℕ → Bool) (parent slot : ℕ) 
   pub above : let s = f parent in
       g parent ≡ record s { body = Pairs (at_slot (separate_at fence) slot (pairs_of s)) }
   pub left : AllByRecursion (λ n. g n ≡ up_to fence (f n)) (last_spine f (f p.child).level p.child)
-  pub right : AllByRecursion (λ n. g n ≡ after fence (f n))
+  pub right : AllByRecursion (λ n. g n ≡ begins_after fence (f n))
       (first_spine f (f q.child).level q.child)
   pub others : (n : ℕ) → n ≢ parent → times n (last_spine f (f p.child).level p.child) ≡ 0
       → times n (first_spine f (f q.child).level q.child) ≡ 0 → g n ≡ f n

@@ -1,12 +1,15 @@
 //! Single pairs and entries of a node.
 
-ghost use Rattle.std.specs.Prelude.{◌≡◌, ◌+◌, ◌-◌, ◌<◌, ◌≤◌, ◌++◌, Some, length, take, drop, IsSome};
+ghost use Rattle.std.specs.Prelude.{◌≡◌, ◌+◌, ◌-◌, ◌<◌, ◌≤◌, ◌++◌, length, take, drop};
+ghost use Rattle.std.specs.Prelude.{Some, IsSome};
 ghost use Rattle.reg_model.specs.State.{at_base};
 ghost use Rattle.reg_model.specs.History.{without};
-ghost use Rattle.tree_shape.specs.Shapes.{Pairs, Entries, IsLeaf, IsInner, InOrder, entries_of, pairs_of, place_for};
+ghost use Rattle.tree_shape.specs.Shapes.{Pairs, Entries, IsLeaf, IsInner, InOrder};
+ghost use Rattle.tree_shape.specs.Shapes.{entries_of, pairs_of, place_for};
 ghost use Rattle.tree_shape.specs.Nodes.{body_of, IsCounted};
 ghost use Rattle.tree_shape.specs.Changes.{at_slot, divide, swallow_next, separate_at, with_entry};
 
+use crate::limits::{ENTRIES, PAIRS};
 use crate::node::{Content, Node, inner_of, leaf_of};
 use crate::pair::Pair;
 use reg_model::Member;
@@ -15,8 +18,9 @@ use reg_model::Member;
 fn replaced(pairs: &[Pair], slot: usize, items: &[Pair], rest: usize) -> Content
     requires order { slot ≤ rest }
     requires inside { rest ≤ length pairs.now }
-    requires room { slot + length items.now + (length pairs.now - rest) ≤ 15 }
-    ensures body { body_of result ≡ Pairs (take slot pairs.now ++ items.now ++ drop rest pairs.now) }
+    requires room { slot + length items.now + (length pairs.now - rest) ≤ PAIRS }
+    ensures body { body_of result
+        ≡ Pairs (take slot pairs.now ++ items.now ++ drop rest pairs.now) }
     ensures counted { IsCounted result }
 {
     inner_of(&pairs[..slot], items, &pairs[rest..])
@@ -25,9 +29,10 @@ fn replaced(pairs: &[Pair], slot: usize, items: &[Pair], rest: usize) -> Content
 /// A pair's part cut in two: its child ends at the new separator, and the new child comes after it.
 pub fn put_pair(node: &Node, slot: usize, separator: u64, child: u32) -> Node
     requires inner { IsInner node.now }
-    requires room { length (pairs_of node.now) < 15 }
+    requires room { length (pairs_of node.now) < PAIRS }
     requires slot { slot < length (pairs_of node.now) }
-    ensures { let s = node.now in result ≡ record s { body = Pairs (at_slot (divide separator child) slot (pairs_of s)) } }
+    ensures { let s = node.now in
+        result ≡ record s { body = Pairs (at_slot (divide separator child) slot (pairs_of s)) } }
 {
     let pairs = node.pairs();
     let old = pairs[slot];
@@ -46,7 +51,8 @@ pub fn put_pair(node: &Node, slot: usize, separator: u64, child: u32) -> Node
 pub fn drop_pair(node: &Node, slot: usize) -> Node
     requires inner { IsInner node.now }
     requires next { slot + 1 < length (pairs_of node.now) }
-    ensures { let s = node.now in result ≡ record s { body = Pairs (at_slot swallow_next slot (pairs_of s)) } }
+    ensures { let s = node.now in
+        result ≡ record s { body = Pairs (at_slot swallow_next slot (pairs_of s)) } }
 {
     let pairs = node.pairs();
     let both = Pair {
@@ -60,7 +66,8 @@ pub fn drop_pair(node: &Node, slot: usize) -> Node
 pub fn set_separator(node: &Node, slot: usize, separator: u64) -> Node
     requires inner { IsInner node.now }
     requires slot { slot < length (pairs_of node.now) }
-    ensures { let s = node.now in result ≡ record s { body = Pairs (at_slot (separate_at separator) slot (pairs_of s)) } }
+    ensures { let s = node.now in
+        result ≡ record s { body = Pairs (at_slot (separate_at separator) slot (pairs_of s)) } }
 {
     let pairs = node.pairs();
     let moved = Pair {
@@ -86,8 +93,9 @@ fn place(entries: &[Member], pc: u64) -> usize
 /// A leaf with one more entry, in its place.
 pub fn put_entry(node: &Node, member: &Member) -> Node
     requires leaf { IsLeaf node.now }
-    requires room { length (entries_of node.now) < 10 }
-    ensures { let s = node.now in result ≡ record s { body = Entries (with_entry member.now (entries_of s)) } }
+    requires room { length (entries_of node.now) < ENTRIES }
+    ensures { let s = node.now in
+        result ≡ record s { body = Entries (with_entry member.now (entries_of s)) } }
 {
     let entries = node.entries();
     let place = place(entries, member.span.first());
@@ -99,7 +107,8 @@ pub fn take_entry(node: &Node, base: u64) -> (Node, Member)
     requires leaf { IsLeaf node.now }
     requires ordered { InOrder node.now }
     requires held { IsSome (at_base base (entries_of node.now)) }
-    ensures left { let s = node.now in result.0 ≡ record s { body = Entries (without base (entries_of s)) } }
+    ensures left { let s = node.now in
+        result.0 ≡ record s { body = Entries (without base (entries_of s)) } }
     ensures taken { at_base base (entries_of node.now) ≡ Some result.1 }
 {
     let entries = node.entries();

@@ -9,7 +9,8 @@ ghost use Rattle.tree_shape.specs.Shapes.{IsLeaf, IsInner, entries_of, pairs_of,
 use crate::node::Node;
 use reg_model::{Member, Span};
 
-/// The place of the first pair whose separator is at least the address: its child is the one that the address leads to.
+/// The place of the first pair whose separator is at least the address: its child is the one that
+/// the address leads to.
 pub fn inner_slot(node: &Node, pc: u64) -> usize
     requires inner { IsInner node.now }
     requires ordered { InOrder node.now }

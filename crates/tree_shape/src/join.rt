@@ -3,7 +3,8 @@
 ghost use Rattle.std.specs.Prelude.{◌≡◌, ◌+◌, ◌/◌, ◌<◌};
 ghost use Rattle.tree_shape.specs.Shapes.{IsInner, InOrder, AreNeighbours};
 ghost use Rattle.tree_shape.specs.Nodes.{body_of, IsCounted};
-ghost use Rattle.tree_shape.specs.Changes.{both, Fit, Overfill, joined, first_half, last_half, size, ends_at_as, up_to, after};
+ghost use Rattle.tree_shape.specs.Changes.{both, Fit, Overfill, joined, first_half, last_half};
+ghost use Rattle.tree_shape.specs.Changes.{share_of, size, ends_at_as, up_to, begins_after};
 
 use crate::node::{Content, Frame, Node, inner_of, leaf_of};
 use crate::pair::Pair;
@@ -40,8 +41,10 @@ pub fn even_pair(left: &Node, right: &Node) -> (Node, Node)
     requires overfill { Overfill left.now right.now }
     requires left_ordered { InOrder left.now }
     requires right_ordered { InOrder right.now }
-    ensures left { result.0 ≡ first_half ((size left.now.body + size right.now.body) / 2) (joined left.now right.now) }
-    ensures right { result.1 ≡ last_half ((size left.now.body + size right.now.body) / 2) (joined left.now right.now) }
+    ensures left { result.0
+        ≡ first_half (share_of left.now right.now) (joined left.now right.now) }
+    ensures right { result.1
+        ≡ last_half (share_of left.now right.now) (joined left.now right.now) }
 {
     let end = right.frame();
     let frame = Frame {
@@ -64,7 +67,8 @@ pub fn even_pair(left: &Node, right: &Node) -> (Node, Node)
 /// The root in place of its only two children, which fit together: it takes their level.
 pub fn sink_root(root: &Node, left: &Node, right: &Node) -> Node
     requires { Fit left.now right.now }
-    ensures { let s = joined left.now right.now in result ≡ record s { low = root.now.low; high = root.now.high } }
+    ensures { let s = joined left.now right.now in
+        result ≡ record s { low = root.now.low; high = root.now.high } }
 {
     let level = left.level;
     Node {
@@ -92,11 +96,12 @@ fn raised_content(node: &Node, fence: u64) -> Content
     inner_of(&pairs[..before], &[last], &[])
 }
 
-/// Two neighbours with a higher fence between them. Where the left one is an inner node, its last separator is the fence.
+/// Two neighbours with a higher fence between them. Where the left one is an inner node, its last
+/// separator is the fence.
 pub fn move_fence(left: &Node, right: &Node, fence: u64) -> (Node, Node)
     requires { fence < right.now.high }
     ensures left { result.0 ≡ up_to fence left.now }
-    ensures right { result.1 ≡ after fence right.now }
+    ensures right { result.1 ≡ begins_after fence right.now }
 {
     let high = right.high();
     let raised = Node {

@@ -1,18 +1,20 @@
 //! Laws of lawful trees. Each is the contract of a function that does nothing.
 
 ghost use Rattle.std.specs.Prelude.{◌≡◌, ℕ, ◌*◌, ◌-◌, ◌^◌, ◌<◌, ◌≤◌, ◌↔◌, Bool, false, IsTrue};
-ghost use Rattle.std.specs.Prelude.{Option, None, Some, [], ◌∷◌, Contains, length};
+ghost use Rattle.std.specs.Prelude.{Option, None, Some, [], ◌∷◌, ◌⊎◌, Contains, length};
 ghost use Rattle.std.specs.List.{AllByRecursion};
 ghost use Rattle.reg_model.specs.declared.span.Member.{Member};
 ghost use Rattle.reg_model.specs.declared.answer.Update.{Update};
 ghost use Rattle.reg_model.specs.declared.answer.Update.TheVariants.{Register, Deregister};
 ghost use Rattle.tree_shape.specs.declared.pair.Pair.{Pair};
+ghost use Rattle.tree_shape.specs.declared.limits.TheConstants.{PAIRS, ENTRIES, HIGHEST_LEVEL};
 ghost use Rattle.reg_model.specs.Interval.{contains};
 ghost use Rattle.reg_model.specs.Query.{member_at};
-ghost use Rattle.tree_shape.specs.Shapes.{IsLeaf, EntriesWithin, entries_of};
+ghost use Rattle.tree_shape.specs.Shapes.{IsLeaf, EntriesWithin, entries_of, pairs_of};
 ghost use Rattle.tree_shape.specs.Shapes.{IsInFences, LiesInFences};
-ghost use Rattle.tree_shape.specs.Trees.{Contents, nodes, entries, leaf_for, HasEntry};
-ghost use Rattle.tree_shape.specs.Lawful.{IsTree, IsLawful, IsFilled, fewest_entries};
+ghost use Rattle.tree_shape.specs.Trees.{Contents, branches, nodes, entries, leaf_for, HasEntry};
+ghost use Rattle.tree_shape.specs.Lawful.{IsTree, IsLawfulTree, IsFilled, FitsParent};
+ghost use Rattle.tree_shape.specs.Lawful.{fewest_entries};
 ghost use Rattle.tree_shape.specs.LocalChange.{IsLocalChange, reached_nodes, live_after};
 ghost use Rattle.tree_shape.specs.LocalChange.{IsLawfulChange, ChangesEntries, EntriesBecome};
 ghost use Rattle.tree_shape.specs.LocalChange.{IsChangeOf, IsSameChange};
@@ -46,6 +48,15 @@ pub fn leaf_fences()
         ↔ (HasEntry f live m × IsTrue (contains m.span pc)) }
 {}
 
+/// The root is live, and so are the children of a live node, each with the level and the fences
+/// that it gives them.
+pub fn children()
+    ensures root { (f : Contents) (live : ℕ → Bool) → IsTree f live → IsTrue (live 0) }
+    ensures live { (f : Contents) (live : ℕ → Bool) (n : ℕ) → IsTree f live → IsTrue (live n)
+        → AllByRecursion (λ b. IsTrue (live b.child) × FitsParent f b)
+        (branches ((f n).level - 1) (f n)) }
+{}
+
 /// A tree's entries from left to right are those of its live nodes, and ascend.
 pub fn order()
     ensures entries { (f : Contents) (live : ℕ → Bool) (m : Member) → IsTree f live
@@ -54,12 +65,16 @@ pub fn order()
         → EntriesWithin 0 (2 ^ 64 - 1) (entries f) }
 {}
 
-/// A lawful tree of two nodes or more has at least twice as many entries as nodes, and one whose
-/// root has level 12 has more than 16,384 nodes.
+/// A lawful tree of two nodes or more has at least twice as many entries as nodes, one with a full
+/// node has ten, and one whose root has level 12 has more than 16,384 nodes.
 pub fn fillings()
-    ensures entries { (f : Contents) (live : ℕ → Bool) → IsLawful f live → 2 ≤ length (nodes f)
+    ensures entries { (f : Contents) (live : ℕ → Bool) → IsLawfulTree f live → 2 ≤ length (nodes f)
         → 2 * length (nodes f) ≤ length (entries f) }
-    ensures height { (f : Contents) (live : ℕ → Bool) → IsLawful f live → (f 0).level ≡ 12
+    ensures full { (f : Contents) (live : ℕ → Bool) (n : ℕ) → IsLawfulTree f live → IsTrue (live n)
+        → (PAIRS ≤ length (pairs_of (f n))) ⊎ (ENTRIES ≤ length (entries_of (f n)))
+        → ENTRIES ≤ length (entries f) }
+    ensures height { (f : Contents) (live : ℕ → Bool) → IsLawfulTree f live
+        → (f 0).level ≡ HIGHEST_LEVEL
         → 16384 < length (nodes f) }
 {}
 
@@ -78,11 +93,11 @@ pub fn local_change()
         → ChangesEntries f live top group fresh g }
     ensures lawful { (f : Contents) (live : ℕ → Bool) (top : ℕ)
         (group fresh : ℕ → Bool) (g : Contents)
-        → IsLawful f live → IsLocalChange f live top group fresh g
+        → IsLawfulTree f live → IsLocalChange f live top group fresh g
         → AllByRecursion (λ n. IsFilled n (g n)) (reached_nodes top group fresh g)
-        → IsLawful g (live_after live top group fresh g) }
+        → IsLawfulTree g (live_after live top group fresh g) }
     ensures update { (f : Contents) (live : ℕ → Bool) (top : ℕ)
-        (group fresh : ℕ → Bool) (g : Contents) (update : Option Update) → IsLawful f live
+        (group fresh : ℕ → Bool) (g : Contents) (update : Option Update) → IsLawfulTree f live
         → IsLawfulChange f live top group fresh g update
         → EntriesBecome update (HasEntry f live) (HasEntry g (live_after live top group fresh g)) }
 {}
@@ -130,11 +145,11 @@ pub fn widen()
 pub fn split()
     ensures kept { (f : Contents) (live : ℕ → Bool) (parent slot : ℕ) (p : Pair)
         (fresh : ℕ) (g : Contents)
-        → IsLawful f live → IsSplit f live parent slot p fresh g
+        → IsLawfulTree f live → IsSplit f live parent slot p fresh g
         → Keeps f live g (with_node fresh live) }
     ensures change { (f : Contents) (live : ℕ → Bool) (parent slot : ℕ) (p : Pair)
         (fresh : ℕ) (g : Contents)
-        → IsLawful f live → IsSplit f live parent slot p fresh g
+        → IsLawfulTree f live → IsSplit f live parent slot p fresh g
         → IsChangeOf f live parent (parent ∷ p.child ∷ []) (fresh ∷ []) g None
         (parent ∷ p.child ∷ fresh ∷ []) }
 {}
@@ -142,10 +157,10 @@ pub fn split()
 /// Two children that are joined, with their parent's pair less.
 pub fn join()
     ensures kept { (f : Contents) (live : ℕ → Bool) (parent slot : ℕ) (p q : Pair) (g : Contents)
-        → IsLawful f live → IsJoin f live parent slot p q g
+        → IsLawfulTree f live → IsJoin f live parent slot p q g
         → Keeps f live g (without_node q.child live) }
     ensures change { (f : Contents) (live : ℕ → Bool) (parent slot : ℕ) (p q : Pair) (g : Contents)
-        → IsLawful f live → IsJoin f live parent slot p q g
+        → IsLawfulTree f live → IsJoin f live parent slot p q g
         → IsChangeOf f live parent (parent ∷ p.child ∷ q.child ∷ []) [] g None
         (parent ∷ p.child ∷ []) }
 {}
@@ -153,9 +168,9 @@ pub fn join()
 /// Two children that are given even shares, with their parent's new separator.
 pub fn share()
     ensures kept { (f : Contents) (live : ℕ → Bool) (parent slot : ℕ) (p q : Pair) (g : Contents)
-        → IsLawful f live → IsShare f live parent slot p q g → Keeps f live g live }
+        → IsLawfulTree f live → IsShare f live parent slot p q g → Keeps f live g live }
     ensures change { (f : Contents) (live : ℕ → Bool) (parent slot : ℕ) (p q : Pair) (g : Contents)
-        → IsLawful f live → IsShare f live parent slot p q g
+        → IsLawfulTree f live → IsShare f live parent slot p q g
         → IsChangeOf f live parent (parent ∷ p.child ∷ q.child ∷ []) [] g None
         (parent ∷ p.child ∷ q.child ∷ []) }
 {}
@@ -164,10 +179,10 @@ pub fn share()
 pub fn move_fence()
     ensures kept { (f : Contents) (live : ℕ → Bool) (parent slot : ℕ) (p q : Pair)
         (fence : ℕ) (g : Contents)
-        → IsLawful f live → IsFenceMove f live parent slot p q fence g → Keeps f live g live }
+        → IsLawfulTree f live → IsFenceMove f live parent slot p q fence g → Keeps f live g live }
     ensures change { (f : Contents) (live : ℕ → Bool) (parent slot : ℕ) (p q : Pair)
         (fence : ℕ) (g : Contents)
-        → IsLawful f live → IsFenceMove f live parent slot p q fence g
+        → IsLawfulTree f live → IsFenceMove f live parent slot p q fence g
         → IsChangeOf f live parent (fence_nodes f parent p q) [] g None (fence_nodes f parent p q) }
 {}
 
@@ -175,39 +190,40 @@ pub fn move_fence()
 /// follows makes it lawful.
 pub fn lift()
     ensures lifted { (f : Contents) (live : ℕ → Bool) (fresh : ℕ) (g : Contents)
-        → IsLawful f live → IsLift f live fresh g → Lifts f live g (with_node fresh live) }
+        → IsLawfulTree f live → IsLift f live fresh g → Lifts f live g (with_node fresh live) }
     ensures split { (f : Contents) (live : ℕ → Bool) (moved : ℕ) (h : Contents) (p : Pair)
         (fresh : ℕ) (g : Contents)
-        → IsLawful f live → IsLift f live moved h → IsSplit h (with_node moved live) 0 0 p fresh g
+        → IsLawfulTree f live → IsLift f live moved h
+        → IsSplit h (with_node moved live) 0 0 p fresh g
         → Keeps f live g (with_node fresh (with_node moved live)) }
 {}
 
 /// The root that is lifted and split in one step.
 pub fn split_root()
     ensures kept { (f : Contents) (live : ℕ → Bool) (left right : ℕ) (g : Contents)
-        → IsLawful f live → IsRootSplit f live left right g
+        → IsLawfulTree f live → IsRootSplit f live left right g
         → Keeps f live g (with_node right (with_node left live)) }
     ensures change { (f : Contents) (live : ℕ → Bool) (left right : ℕ) (g : Contents)
-        → IsLawful f live → IsRootSplit f live left right g
+        → IsLawfulTree f live → IsRootSplit f live left right g
         → IsChangeOf f live 0 (0 ∷ []) (left ∷ right ∷ []) g None (0 ∷ left ∷ right ∷ []) }
 {}
 
 /// The root that takes the place of its only two children.
 pub fn sink()
     ensures kept { (f : Contents) (live : ℕ → Bool) (p q : Pair) (g : Contents)
-        → IsLawful f live → IsSink f live p q g
+        → IsLawfulTree f live → IsSink f live p q g
         → Keeps f live g (without_node p.child (without_node q.child live)) }
     ensures change { (f : Contents) (live : ℕ → Bool) (p q : Pair) (g : Contents)
-        → IsLawful f live → IsSink f live p q g
+        → IsLawfulTree f live → IsSink f live p q g
         → IsChangeOf f live 0 (0 ∷ p.child ∷ q.child ∷ []) [] g None (0 ∷ []) }
 {}
 
 /// A leaf that gets one more entry adds exactly this member.
 pub fn put()
     ensures added { (f : Contents) (live : ℕ → Bool) (leaf : ℕ) (member : Member) (g : Contents)
-        → IsLawful f live → IsPut f live leaf member g → Adds f live member g }
+        → IsLawfulTree f live → IsPut f live leaf member g → Adds f live member g }
     ensures change { (f : Contents) (live : ℕ → Bool) (leaf : ℕ) (member : Member) (g : Contents)
-        → IsLawful f live → IsPut f live leaf member g
+        → IsLawfulTree f live → IsPut f live leaf member g
         → IsChangeOf f live leaf (leaf ∷ []) [] g (Some (Register member)) (leaf ∷ []) }
 {}
 
@@ -216,10 +232,10 @@ pub fn put()
 pub fn take()
     ensures taken { (f : Contents) (live : ℕ → Bool) (leaf base : ℕ) (member : Member)
         (g : Contents)
-        → IsLawful f live → IsTake f live leaf base member g → Takes f live leaf member g }
+        → IsLawfulTree f live → IsTake f live leaf base member g → Takes f live leaf member g }
     ensures change { (f : Contents) (live : ℕ → Bool) (leaf base : ℕ) (member : Member)
         (g : Contents)
-        → IsLawful f live → IsTake f live leaf base member g
+        → IsLawfulTree f live → IsTake f live leaf base member g
         → fewest_entries leaf < length (entries_of (f leaf))
         → IsChangeOf f live leaf (leaf ∷ []) [] g (Some (Deregister base)) (leaf ∷ []) }
 {}

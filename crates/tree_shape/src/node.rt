@@ -1,26 +1,29 @@
 //! Nodes of the tree as plain values.
 
 ghost use Rattle.std.specs.Prelude.{◌≡◌, ◌≤◌, ◌+◌, ◌-◌, ◌^◌, [], ◌++◌, length};
-ghost use Rattle.tree_shape.specs.Shapes.{Entries, Pairs, entries_of, pairs_of};
+ghost use Rattle.tree_shape.specs.Shapes.{Entries, Pairs, entries_of, frame_of, pairs_of};
 ghost use Rattle.tree_shape.specs.Nodes.{body_of, IsCounted};
 
+use crate::limits::{ENTRIES, PAIRS};
 use crate::pair::Pair;
 use crate::row::fill;
 use reg_model::{Member, Span};
 use std::marker::Model;
 
-/// The greatest number of pairs of an inner node.
-pub const PAIRS: usize = 15;
-
-/// The greatest number of entries of a leaf.
-pub const ENTRIES: usize = 10;
-
 /// What a node holds. The first `count` places of an array are in use.
 #[derive(Drop)]
 pub enum Content {
-    Inner { count: u32, pairs: [Pair; 15] },
-    Leaf { count: u32, entries: [Member; 10] },
-    Free { next: u32 },
+    Inner {
+        count: u32,
+        pairs: [Pair; PAIRS],
+    },
+    Leaf {
+        count: u32,
+        entries: [Member; ENTRIES],
+    },
+    Free {
+        next: u32,
+    },
 }
 
 /// A node's level and its two fences.
@@ -62,7 +65,7 @@ fn unused() -> Member {
 
 /// A leaf's content: three lists of entries, one after another.
 pub fn leaf_of(first: &[Member], middle: &[Member], last: &[Member]) -> Content
-    requires { length first.now + length middle.now + length last.now ≤ 10 }
+    requires { length first.now + length middle.now + length last.now ≤ ENTRIES }
     ensures body { body_of result ≡ Entries (first.now ++ middle.now ++ last.now) }
     ensures counted { IsCounted result }
 {
@@ -74,7 +77,7 @@ pub fn leaf_of(first: &[Member], middle: &[Member], last: &[Member]) -> Content
 
 /// An inner node's content: three lists of pairs, one after another.
 pub fn inner_of(first: &[Pair], middle: &[Pair], last: &[Pair]) -> Content
-    requires { length first.now + length middle.now + length last.now ≤ 15 }
+    requires { length first.now + length middle.now + length last.now ≤ PAIRS }
     ensures body { body_of result ≡ Pairs (first.now ++ middle.now ++ last.now) }
     ensures counted { IsCounted result }
 {
@@ -118,7 +121,7 @@ impl Node {
 
     /// The level and the fences.
     pub(crate) fn frame(&self) -> Frame
-        ensures value { result ≡ record { level = self.now.level; low = self.now.low; high = self.now.high } }
+        ensures value { result ≡ frame_of self.now }
         ensures low_fits { self.now.low ≤ 2 ^ 64 - 1 }
         ensures high_fits { self.now.high ≤ 2 ^ 64 - 1 }
     {
@@ -157,7 +160,7 @@ impl Node {
     /// The entries of a leaf, and none of another node.
     pub(crate) fn entries(&self) -> &[Member]
         ensures value { result.now ≡ entries_of self.now }
-        ensures count { length (entries_of self.now) ≤ 10 }
+        ensures count { length (entries_of self.now) ≤ ENTRIES }
     {
         match &self.content {
             Content::Leaf { count, entries } => &entries[..*count as usize],
@@ -168,7 +171,7 @@ impl Node {
     /// The pairs of an inner node, and none of another.
     pub(crate) fn pairs(&self) -> &[Pair]
         ensures value { result.now ≡ pairs_of self.now }
-        ensures count { length (pairs_of self.now) ≤ 15 }
+        ensures count { length (pairs_of self.now) ≤ PAIRS }
     {
         match &self.content {
             Content::Inner { count, pairs } => &pairs[..*count as usize],

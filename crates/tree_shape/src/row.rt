@@ -13,7 +13,8 @@ fn put<T: Copy>(row: &mut [T], place: usize, items: &[T])
 /// Writes three lists to the front of a row, one after another.
 pub fn fill<T: Copy>(row: &mut [T], first: &[T], middle: &[T], last: &[T])
     requires { length first.now + length middle.now + length last.now ≤ length row.old }
-    ensures { take (length first.now + length middle.now + length last.now) row.new ≡ first.now ++ middle.now ++ last.now }
+    ensures { take (length first.now + length middle.now + length last.now) row.new
+        ≡ first.now ++ middle.now ++ last.now }
 {
     let from = first.len();
     put(row, 0, first);
@@ -21,7 +22,8 @@ pub fn fill<T: Copy>(row: &mut [T], first: &[T], middle: &[T], last: &[T])
     put(row, from + middle.len(), last);
 }
 
-/// Two lists one after another, cut after `n` items: the two parts of what comes before the cut, and of what comes after.
+/// Two lists one after another, cut after `n` items: the two parts of what comes before the cut, and
+/// of what comes after.
 pub fn cut<'a, T: Copy>(
     first: &'a [T],
     last: &'a [T],

@@ -1,10 +1,12 @@
 //! One node made into two.
 
 ghost use Rattle.std.specs.Prelude.{◌≡◌, ◌+◌, ◌-◌, ◌<◌, ◌≤◌, ◌^◌, [], ◌∷◌, ◌++◌, length, take};
-ghost use Rattle.tree_shape.specs.Shapes.{IsLeaf, IsInner, Pairs, Entries, entries_of, pairs_of, InOrder};
+ghost use Rattle.tree_shape.specs.Shapes.{IsLeaf, IsInner, Pairs, Entries, InOrder};
+ghost use Rattle.tree_shape.specs.Shapes.{entries_of, pairs_of};
 ghost use Rattle.tree_shape.specs.Nodes.{framed};
-ghost use Rattle.tree_shape.specs.Changes.{first_half, last_half, pairs_end};
+ghost use Rattle.tree_shape.specs.Changes.{first_half, last_half, pair, pairs_end};
 
+use crate::limits::{ENTRIES, HIGHEST_LEVEL, LEFT_ENTRIES, LEFT_PAIRS, PAIRS};
 use crate::node::{Frame, Node, inner_of, leaf_of};
 use crate::pair::Pair;
 use crate::row::{cut, item};
@@ -13,9 +15,9 @@ use reg_model::Member;
 /// The two leaves that a leaf with these entries is cut into.
 pub fn cut_leaf(frame: Frame, first: &[Member], last: &[Member], n: usize) -> (Node, Node)
     requires some { 0 < n }
-    requires left { n ≤ 10 }
+    requires left { n ≤ ENTRIES }
     requires enough { n < length first.now + length last.now }
-    requires right { length first.now + length last.now ≤ n + 10 }
+    requires right { length first.now + length last.now ≤ n + ENTRIES }
     ensures left { result.0 ≡ first_half n (framed frame (Entries (first.now ++ last.now))) }
     ensures right { result.1 ≡ last_half n (framed frame (Entries (first.now ++ last.now))) }
 {
@@ -39,9 +41,9 @@ pub fn cut_leaf(frame: Frame, first: &[Member], last: &[Member], n: usize) -> (N
 /// The two inner nodes that an inner node with these pairs is cut into.
 pub fn cut_inner(frame: Frame, first: &[Pair], last: &[Pair], n: usize) -> (Node, Node)
     requires some { 0 < n }
-    requires left { n ≤ 15 }
+    requires left { n ≤ PAIRS }
     requires enough { n < length first.now + length last.now }
-    requires right { length first.now + length last.now ≤ n + 15 }
+    requires right { length first.now + length last.now ≤ n + PAIRS }
     requires below_top { pairs_end 0 (take n (first.now ++ last.now)) < 2 ^ 64 - 1 }
     ensures left { result.0 ≡ first_half n (framed frame (Pairs (first.now ++ last.now))) }
     ensures right { result.1 ≡ last_half n (framed frame (Pairs (first.now ++ last.now))) }
@@ -63,31 +65,34 @@ pub fn cut_inner(frame: Frame, first: &[Pair], last: &[Pair], n: usize) -> (Node
     (left, right)
 }
 
-/// A full leaf's first five and last five entries. The fence between them is the last address of the fifth.
+/// A full leaf's first five and last five entries. The fence between them is the last address of
+/// the fifth.
 pub fn split_leaf(node: &Node) -> (Node, Node)
     requires leaf { IsLeaf node.now }
-    requires full { length (entries_of node.now) ≡ 10 }
-    ensures left { result.0 ≡ first_half 5 node.now }
-    ensures right { result.1 ≡ last_half 5 node.now }
+    requires full { length (entries_of node.now) ≡ ENTRIES }
+    ensures left { result.0 ≡ first_half LEFT_ENTRIES node.now }
+    ensures right { result.1 ≡ last_half LEFT_ENTRIES node.now }
 {
-    cut_leaf(node.frame(), node.entries(), &[], 5)
+    cut_leaf(node.frame(), node.entries(), &[], LEFT_ENTRIES)
 }
 
-/// A full inner node's first seven and last eight pairs. The fence between them is the seventh separator.
+/// A full inner node's first seven and last eight pairs. The fence between them is the seventh
+/// separator.
 pub fn split_inner(node: &Node) -> (Node, Node)
     requires inner { IsInner node.now }
-    requires full { length (pairs_of node.now) ≡ 15 }
+    requires full { length (pairs_of node.now) ≡ PAIRS }
     requires ordered { InOrder node.now }
-    ensures left { result.0 ≡ first_half 7 node.now }
-    ensures right { result.1 ≡ last_half 7 node.now }
+    ensures left { result.0 ≡ first_half LEFT_PAIRS node.now }
+    ensures right { result.1 ≡ last_half LEFT_PAIRS node.now }
 {
-    cut_inner(node.frame(), node.pairs(), &[], 7)
+    cut_inner(node.frame(), node.pairs(), &[], LEFT_PAIRS)
 }
 
 /// The root raised by a level, with one child, and that child, which has what the root had.
 pub fn lift_root(node: &Node, child: u32) -> (Node, Node)
-    requires level { node.now.level < 12 }
-    ensures root { let s = node.now in result.0 ≡ record s { level = s.level + 1; body = Pairs (record { child = child; separator = s.high } ∷ []) } }
+    requires level { node.now.level < HIGHEST_LEVEL }
+    ensures root { let s = node.now in
+        result.0 ≡ record s { level = s.level + 1; body = Pairs (pair child s.high ∷ []) } }
     ensures moved { result.1 ≡ node.now }
 {
     let all = Pair {

@@ -9,10 +9,10 @@ use lib.ListN.{get_elem?}
 use Rattle.reg_model.specs.declared.answer.Update.{Update}
 use Rattle.reg_model.specs.declared.span.Member.{Member}
 use Rattle.tree_shape.specs.declared.node.Frame.{Frame}
-use Rattle.tree_shape.specs.Shapes.{Shape}
+use Rattle.tree_shape.specs.Shapes.{frame_of, Shape}
 use Rattle.tree_shape.specs.Trees.{Contents, within, HasEntry}
 use Rattle.tree_shape.specs.Numbers.{times, once, is_among}
-use Rattle.tree_shape.specs.Lawful.{IsTree, IsLawful, IsFilled}
+use Rattle.tree_shape.specs.Lawful.{IsTree, IsLawfulTree, IsFilled}
 use Rattle.tree_shape.specs.LocalChange.{either, reached_nodes, live_after, IsLocalChange, IsLawfulChange, IsSameChange, EntriesBecome}
 use Rattle.tree_shape.proofs.Reach.{within_set}
 use Rattle.tree_shape.proofs.Times.{times-append}
@@ -21,7 +21,7 @@ use Rattle.word_rule.specs.declared.log.Holding.{Holding}
 use Rattle.word_rule.specs.declared.log.Log.{Log}
 use Rattle.word_rule.specs.Memory.{NodeWords}
 use Rattle.word_rule.specs.Spelling.{spelled, SpellsNode}
-use Rattle.word_rule.specs.Held.{held_of, settled_shape, settled_in, now_of, now_shape, now_in, is_marked, marked_in, frame_of}
+use Rattle.word_rule.specs.Held.{held_of, settled_shape, settled_in, now_of, now_shape, now_in, is_marked, marked_in}
 use Rattle.word_rule.specs.Exchange.{is_fresh, exchanged_in, reached_in, is_reached, node_of, out_after, IsLawfulExchange, mark_after, exchange}
 use Rattle.word_rule.specs.Callers.{total}
 use Rattle.word_rule.specs.Nodes.{Shadow, NodesHold, HoldsNode, IsPlaced}
@@ -37,8 +37,8 @@ pub record ChangeLaws : Type 0 where
   pub reached : (top : ℕ) (group fresh : ℕ → Bool) (f : Contents) (live : ℕ → Bool) (g f' : Contents) (live' : ℕ → Bool) (g' : Contents) → IsLocalChange f live top group fresh g → IsSameChange top group fresh f g f' live' g' → reached_nodes top group fresh g' ≡ reached_nodes top group fresh g
   pub widen : (f : Contents) (live : ℕ → Bool) (top : ℕ) (group fresh more : ℕ → Bool) (g : Contents) (update : Option Update) → IsTree f live → IsLawfulChange f live top group fresh g update → ((n : ℕ) → IsTrue (fresh n) → IsTrue (more n)) → ((n : ℕ) → IsTrue (more n) → live n ≡ false) → IsLawfulChange f live top group more g update
   pub wider : (f : Contents) (live : ℕ → Bool) (top : ℕ) (group fresh more : ℕ → Bool) (g : Contents) → IsTree f live → IsLocalChange f live top group fresh g → ((n : ℕ) → IsTrue (fresh n) → IsTrue (more n)) → ((n : ℕ) → IsTrue (more n) → live n ≡ false) → reached_nodes top group more g ≡ reached_nodes top group fresh g
-  pub lawful : (f : Contents) (live : ℕ → Bool) (top : ℕ) (group fresh : ℕ → Bool) (g : Contents) → IsLawful f live → IsLocalChange f live top group fresh g → AllByRecursion (λ n. IsFilled n (g n)) (reached_nodes top group fresh g) → IsLawful g (live_after live top group fresh g)
-  pub update : (f : Contents) (live : ℕ → Bool) (top : ℕ) (group fresh : ℕ → Bool) (g : Contents) (update : Option Update) → IsLawful f live → IsLawfulChange f live top group fresh g update → EntriesBecome update (HasEntry f live) (HasEntry g (live_after live top group fresh g))
+  pub lawful : (f : Contents) (live : ℕ → Bool) (top : ℕ) (group fresh : ℕ → Bool) (g : Contents) → IsLawfulTree f live → IsLocalChange f live top group fresh g → AllByRecursion (λ n. IsFilled n (g n)) (reached_nodes top group fresh g) → IsLawfulTree g (live_after live top group fresh g)
+  pub update : (f : Contents) (live : ℕ → Bool) (top : ℕ) (group fresh : ℕ → Bool) (g : Contents) (update : Option Update) → IsLawfulTree f live → IsLawfulChange f live top group fresh g update → EntriesBecome update (HasEntry f live) (HasEntry g (live_after live top group fresh g))
 
 both_true : (a b : Bool) → (a && b) ≡ true → (a ≡ true) × (b ≡ true)
 both_true true b h = (refl, h)
@@ -268,7 +268,7 @@ module _ (laws : ChangeLaws) (t : Terms) (words : NodeWords) (views : List Log) 
   reaches : reached_nodes top group loose settled' ≡ reached_in v top group
   reaches = laws.reached top group loose shadow.settled shadow.live mid shadow.settled shadow.live settled' change_wide.change same_last ∙ reach_wide
 
-  pub lawful_after : IsLawful settled' live'
+  pub lawful_after : IsLawfulTree settled' live'
   lawful_after = laws.lawful shadow.settled shadow.live top group loose settled' r.lawful change_last.change change_last.filled
 
   pub entries_after : (m : Member) → HasEntry settled' live' m ↔ HasEntry shadow.settled shadow.live m

@@ -9,7 +9,7 @@ use Rattle.reg_model.specs.declared.span.Member.{Member}
 use Rattle.tree_shape.specs.Shapes.{Shape, Body, Link, Entries, entries_of}
 use Rattle.tree_shape.specs.Trees.{HasEntry, branches}
 use Rattle.tree_shape.specs.Numbers.{times, once}
-use Rattle.tree_shape.specs.Lawful.{IsLawful, IsOrdered, IsFilled, Fits}
+use Rattle.tree_shape.specs.Lawful.{IsLawfulTree, IsOrdered, IsFilled, FitsParent}
 use Rattle.word_rule.specs.declared.log.Terms.{Terms}
 use Rattle.word_rule.specs.Places.{copy_words, copy_place, initial_kind, initial_link, initial_node, initial_nodes, initial_words}
 use Rattle.word_rule.specs.Memory.{memory_of, part, copy_of}
@@ -68,15 +68,15 @@ initial_spells nodes (suc n) h small =
 sum_zero : (n : ℕ) → once (n == 0) + 0 ≡ once (is_root n)
 sum_zero n = omega arith
 
-initial_lawful : (nodes : ℕ) → IsLawful (initial_shape nodes) is_root
+initial_lawful : (nodes : ℕ) → IsLawfulTree (initial_shape nodes) is_root
 initial_lawful nodes = record {
   tree = record {
     root_low = refl;
     root_high = refl;
     height = omega arith;
     reached = λ n. sum_zero n;
-    ordered = λ n h. subst (λ k. IsOrdered (initial_shape nodes k)) (sym (root_only n h)) (refl, tt);
-    fitting = λ n h. subst (λ k. AllByRecursion (Fits (initial_shape nodes)) (branches ((initial_shape nodes k).level - 1) (initial_shape nodes k))) (sym (root_only n h)) tt;
+    ordered = λ n h. subst (λ k. IsOrdered (initial_shape nodes k)) (sym (root_only n h)) (refl, (tt, tt));
+    fitting = λ n h. subst (λ k. AllByRecursion (FitsParent (initial_shape nodes)) (branches ((initial_shape nodes k).level - 1) (initial_shape nodes k))) (sym (root_only n h)) tt;
   };
   filled = λ n h. subst (λ k. IsFilled k (initial_shape nodes k)) (sym (root_only n h)) (omega arith, omega arith);
 }

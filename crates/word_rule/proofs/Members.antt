@@ -23,13 +23,13 @@ contains_drop_one (z ∷ ys) (suc k) y x h is ne (suc j, l, e) = let r = contain
 
 entries_above : (low high : ℕ) (xs : List Member) (z : Member) → EntriesWithin low high xs → Contains xs z → low ≤ z.span.first
 entries_above low high [] z h (k, l, e) = absurd (omega (arith, l))
-entries_above low high (x ∷ xs) z h (zero, l, e) = let a = h.0 in subst (λ m. low ≤ m.span.first) e a
-entries_above low high (x ∷ xs) z h (suc k, l, e) = let r = entries_above (x.span.last + 1) high xs z h.3 (k, omega (arith, l), e) in let a = h.0 in let b = h.1 in omega (arith, r, a, b)
+entries_above low high (x ∷ xs) z h (zero, l, e) = let a = h.0.0 in subst (λ m. low ≤ m.span.first) e a
+entries_above low high (x ∷ xs) z h (suc k, l, e) = let r = entries_above (x.span.last + 1) high xs z (h.0.2, h.1.1) (k, omega (arith, l), e) in let a = h.0.0 in let b = h.0.1 in omega (arith, r, a, b)
 
 pub ascending_fit : (low high : ℕ) (xs ys : List Member) → EntriesWithin low high xs → ((x : Member) → Contains xs x → Contains ys x) → length xs ≤ length ys
 ascending_fit low high [] ys h all = omega arith
 ascending_fit low high (x ∷ xs) ys h all =
     let c = all x (0, omega arith, refl) in
-    let other : (z : Member) → Contains xs z → x ≢ z = (λ z in_rest same. let above = entries_above (x.span.last + 1) high xs z h.3 in_rest in let b = h.1 in let e : z.span.first ≡ x.span.first = ap (λ m. m.span.first) (sym same) in omega (arith, above, b, e)) in
-    let rest = ascending_fit (x.span.last + 1) high xs (drop_one ys c.0) h.3 (λ z in_rest. contains_drop_one ys c.0 x z c.1 c.2 (other z in_rest) (all z (suc in_rest.0, (let l = in_rest.1 in omega (arith, l)), in_rest.2))) in
+    let other : (z : Member) → Contains xs z → x ≢ z = (λ z in_rest same. let above = entries_above (x.span.last + 1) high xs z (h.0.2, h.1.1) in_rest in let b = h.0.1 in let e : z.span.first ≡ x.span.first = ap (λ m. m.span.first) (sym same) in omega (arith, above, b, e)) in
+    let rest = ascending_fit (x.span.last + 1) high xs (drop_one ys c.0) (h.0.2, h.1.1) (λ z in_rest. contains_drop_one ys c.0 x z c.1 c.2 (other z in_rest) (all z (suc in_rest.0, (let l = in_rest.1 in omega (arith, l)), in_rest.2))) in
     let len = length_drop_one ys c.0 c.1 in omega (arith, rest, len)

@@ -15,7 +15,7 @@ use Rattle.reg_model.specs.declared.answer.Receipt.{Receipt}
 use Rattle.reg_model.specs.declared.span.Member.{Member}
 use Rattle.tree_shape.specs.Shapes.{EntriesWithin, pairs_of, entries_of}
 use Rattle.tree_shape.specs.Trees.{Contents, entries, HasEntry}
-use Rattle.tree_shape.specs.Lawful.{IsTree, IsLawful}
+use Rattle.tree_shape.specs.Lawful.{IsTree, IsLawfulTree}
 use Rattle.word_rule.specs.declared.log.Role.TheVariants as role
 use Rattle.word_rule.specs.declared.log.Terms.{Terms}
 use Rattle.word_rule.specs.declared.log.Holding.{Holding}
@@ -64,7 +64,7 @@ last_within t past callers since (r ∷ rs) low h = let w = h.0.within in last_w
 
 -- a live node that is full has ten members in the tree: a law of tree_shape
 abbrev pub FullLaw : Type 0
-FullLaw = (f : Contents) (live : ℕ → Bool) (n : ℕ) → IsLawful f live → IsTrue (live n) → (15 ≤ length (pairs_of (f n))) ⊎ (10 ≤ length (entries_of (f n))) → 10 ≤ length (entries f)
+FullLaw = (f : Contents) (live : ℕ → Bool) (n : ℕ) → IsLawfulTree f live → IsTrue (live n) → (15 ≤ length (pairs_of (f n))) ⊎ (10 ≤ length (entries_of (f n))) → 10 ≤ length (entries f)
 
 -- the entries of a tree ascend, and are those of its live nodes: a law of tree_shape
 pub record OrderLaw : Type 0 where

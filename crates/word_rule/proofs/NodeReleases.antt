@@ -10,7 +10,7 @@ use Rattle.atomic_table.specs.Table.{State, Me, step, Act, keeps, Allows}
 use Rattle.reg_model.specs.History.{state_after}
 use Rattle.reg_model.specs.declared.span.Member.{Member}
 use Rattle.tree_shape.specs.declared.node.Frame.{Frame}
-use Rattle.tree_shape.specs.Shapes.{Shape}
+use Rattle.tree_shape.specs.Shapes.{frame_of, Shape}
 use Rattle.tree_shape.specs.Trees.{HasEntry}
 use Rattle.tree_shape.specs.Numbers.{times, once}
 use Rattle.tree_shape.specs.LocalChange.{either}
@@ -22,7 +22,7 @@ use Rattle.word_rule.specs.declared.log.NodeSight.{NodeSight}
 use Rattle.word_rule.specs.declared.log.Log.{Log}
 use Rattle.word_rule.specs.Memory.{NodeWords, Memory, memory_of, updated, counters}
 use Rattle.word_rule.specs.Spelling.{spelled, SpellsNode}
-use Rattle.word_rule.specs.Held.{held_of, without_lock, now_of, now_shape, now_in, marked_in, is_marked, frame_of}
+use Rattle.word_rule.specs.Held.{held_of, without_lock, now_of, now_shape, now_in, marked_in, is_marked}
 use Rattle.word_rule.specs.Logs.{is_spent, weight, turns, after_spending}
 use Rattle.word_rule.specs.Exchange.{is_reached, is_fresh, out_after, IsLawfulExchange, exchange, after_exchange}
 use Rattle.word_rule.specs.Steps.{head_without, after_node_release_same, AfterNodeRelease}

@@ -13,7 +13,7 @@ use Rattle.tree_shape.specs.declared.node.Frame.{Frame}
 use Rattle.tree_shape.specs.declared.pair.Pair.{Pair}
 use Rattle.tree_shape.specs.Shapes.{Shape, Body, Pairs, Entries, Link, pairs_of, pairs_in}
 use Rattle.tree_shape.specs.Trees.{Contents, Branch, branches, branches_from}
-use Rattle.tree_shape.specs.Lawful.{IsTree, IsOrdered, IsOrderedAs, Fits}
+use Rattle.tree_shape.specs.Lawful.{IsTree, IsOrdered, IsOrderedAs, FitsParent}
 use Rattle.word_rule.specs.declared.log.Role.TheVariants as role
 use Rattle.word_rule.specs.declared.log.Ask.{Ask}
 use Rattle.word_rule.specs.declared.log.Ask.TheVariants as ask
@@ -44,7 +44,7 @@ use Rattle.word_rule.proofs.NodeLocks.{of_version}
 
 -- the children of a live node are live, and as it names them: a law of tree_shape
 abbrev pub ChildrenLaw : Type 0
-ChildrenLaw = (f : Contents) (live : ℕ → Bool) (n : ℕ) → IsTree f live → IsTrue (live n) → AllByRecursion (λ b. IsTrue (live b.child) × Fits f b) (branches ((f n).level - 1) (f n))
+ChildrenLaw = (f : Contents) (live : ℕ → Bool) (n : ℕ) → IsTree f live → IsTrue (live n) → AllByRecursion (λ b. IsTrue (live b.child) × FitsParent f b) (branches ((f n).level - 1) (f n))
 
 -- a loaded word is the node's
 loaded_is : (words : List ℕ) (loaded : List LoadedWord) (at x : ℕ) → AreOfNode words loaded → loaded_word at loaded ≡ Some x → node_word words at ≡ x
@@ -68,11 +68,11 @@ mapped (Some y) x e = (y, (refl, sym (same_Some _ _ e)))
 module _ (f : Contents) (live : ℕ → Bool) (words : List ℕ) (loaded : List LoadedWord) (all : AreOfNode words loaded) (child : ℕ) (place : Frame) where
   -- the child that is named among the pairs from the i-th on is live, at the place that its pair gives
   named : (i more low : ℕ) (pairs : List Pair) (p : Frame) → pairs_at words (6 + 2 * i) more ≡ Some pairs → ((l : ℕ) → low_of place i loaded ≡ Some l → l ≡ low)
-      → AllByRecursion (λ b. IsTrue (live b.child) × Fits f b) (branches_from (place.level - 1) low pairs) → named_place child place loaded i more ≡ Some p → IsTrue (live child) × IsPlaced (f child) p
+      → AllByRecursion (λ b. IsTrue (live b.child) × FitsParent f b) (branches_from (place.level - 1) low pairs) → named_place child place loaded i more ≡ Some p → IsTrue (live child) × IsPlaced (f child) p
   named i zero low pairs p read first hold e = absurd (none-some p e)
   named i (suc more) low pairs p read first hold e = by_pair (λ low' ys. named (i + 1) more low' ys p) (is_short (node_word words (6 + 2 * i))) (pairs_at words (6 + 2 * i + 2) more) refl read
     where
-      later : ((low' : ℕ) (ys : List Pair) → pairs_at words (6 + 2 * (i + 1)) more ≡ Some ys → ((l : ℕ) → low_of place (i + 1) loaded ≡ Some l → l ≡ low') → AllByRecursion (λ b. IsTrue (live b.child) × Fits f b) (branches_from (place.level - 1) low' ys) → named_place child place loaded (i + 1) more ≡ Some p → IsTrue (live child) × IsPlaced (f child) p) → (ys : List Pair) → pairs_at words (6 + 2 * i + 2) more ≡ Some ys → AllByRecursion (λ b. IsTrue (live b.child) × Fits f b) (branches_from (place.level - 1) (node_word words (6 + 2 * i + 1) + 1) ys) → named_place child place loaded (i + 1) more ≡ Some p → IsTrue (live child) × IsPlaced (f child) p
+      later : ((low' : ℕ) (ys : List Pair) → pairs_at words (6 + 2 * (i + 1)) more ≡ Some ys → ((l : ℕ) → low_of place (i + 1) loaded ≡ Some l → l ≡ low') → AllByRecursion (λ b. IsTrue (live b.child) × FitsParent f b) (branches_from (place.level - 1) low' ys) → named_place child place loaded (i + 1) more ≡ Some p → IsTrue (live child) × IsPlaced (f child) p) → (ys : List Pair) → pairs_at words (6 + 2 * i + 2) more ≡ Some ys → AllByRecursion (λ b. IsTrue (live b.child) × FitsParent f b) (branches_from (place.level - 1) (node_word words (6 + 2 * i + 1) + 1) ys) → named_place child place loaded (i + 1) more ≡ Some p → IsTrue (live child) × IsPlaced (f child) p
       later again ys rest hold' e' =
           let place_is : 6 + 2 * i + 2 ≡ 6 + 2 * (i + 1) = omega arith in
           let separator : 7 + 2 * i ≡ 6 + 2 * i + 1 = omega arith in
@@ -80,14 +80,14 @@ module _ (f : Contents) (live : ℕ → Bool) (words : List ℕ) (loaded : List 
           again (node_word words (6 + 2 * i + 1) + 1) ys (ap (λ k. pairs_at words k more) (sym place_is) ∙ rest)
           (λ l e''. let m = mapped (loaded_word (7 + 2 * i) loaded) l (subst (λ k. low_of place k loaded ≡ Some l) next e'') in m.1.1 ∙ ap (λ k. k + 1) (sym (loaded_is words loaded (7 + 2 * i) m.0 all m.1.0) ∙ ap (node_word words) separator)) hold' e'
 
-      here : ((low' : ℕ) (ys : List Pair) → pairs_at words (6 + 2 * (i + 1)) more ≡ Some ys → ((l : ℕ) → low_of place (i + 1) loaded ≡ Some l → l ≡ low') → AllByRecursion (λ b. IsTrue (live b.child) × Fits f b) (branches_from (place.level - 1) low' ys) → named_place child place loaded (i + 1) more ≡ Some p → IsTrue (live child) × IsPlaced (f child) p) → (y : Pair) (ys : List Pair) → y ≡ pair_at words (6 + 2 * i) → pairs ≡ y ∷ ys → (b : Bool) → is_loaded_as child (loaded_word (6 + 2 * i) loaded) ≡ b
+      here : ((low' : ℕ) (ys : List Pair) → pairs_at words (6 + 2 * (i + 1)) more ≡ Some ys → ((l : ℕ) → low_of place (i + 1) loaded ≡ Some l → l ≡ low') → AllByRecursion (λ b. IsTrue (live b.child) × FitsParent f b) (branches_from (place.level - 1) low' ys) → named_place child place loaded (i + 1) more ≡ Some p → IsTrue (live child) × IsPlaced (f child) p) → (y : Pair) (ys : List Pair) → y ≡ pair_at words (6 + 2 * i) → pairs ≡ y ∷ ys → (b : Bool) → is_loaded_as child (loaded_word (6 + 2 * i) loaded) ≡ b
           → (if b then place_between place (low_of place i loaded) (loaded_word (7 + 2 * i) loaded) else named_place child place loaded (i + 1) more) ≡ Some p → pairs_at words (6 + 2 * i + 2) more ≡ Some ys → IsTrue (live child) × IsPlaced (f child) p
       here again y ys y_is pairs_are true test e' rest =
           let parts = between place (low_of place i loaded) (loaded_word (7 + 2 * i) loaded) p e' in
           let named_word : node_word words (6 + 2 * i) ≡ child = child_word (loaded_word (6 + 2 * i) loaded) refl test in
           let separator : 7 + 2 * i ≡ 6 + 2 * i + 1 = omega arith in
           let high : parts.1 ≡ y.separator = sym (loaded_is words loaded (7 + 2 * i) parts.1 all parts.2.1) ∙ (ap (node_word words) separator ∙ ap (λ z. z.separator) (sym y_is)) in
-          let whole = subst (λ ps. AllByRecursion (λ b. IsTrue (live b.child) × Fits f b) (branches_from (place.level - 1) low ps)) pairs_are hold in
+          let whole = subst (λ ps. AllByRecursion (λ b. IsTrue (live b.child) × FitsParent f b) (branches_from (place.level - 1) low ps)) pairs_are hold in
           let is_child : y.child ≡ child = ap (λ z. z.child) y_is ∙ named_word in
           let fit = whole.0.1 in
           let low_is = first parts.0 parts.2.0 in (
@@ -107,10 +107,10 @@ module _ (f : Contents) (live : ℕ → Bool) (words : List ℕ) (loaded : List 
               same_number (yes e'') = e''
               same_number (no ne) = absurd (true≢false (sym t ∙ ne_eqb z child ne))
       here again y ys y_is pairs_are false test e' rest =
-          let whole = subst (λ ps. AllByRecursion (λ b. IsTrue (live b.child) × Fits f b) (branches_from (place.level - 1) low ps)) pairs_are hold in
-          later again ys rest (subst (λ z. AllByRecursion (λ b. IsTrue (live b.child) × Fits f b) (branches_from (place.level - 1) (z.separator + 1) ys)) y_is whole.1) e'
+          let whole = subst (λ ps. AllByRecursion (λ b. IsTrue (live b.child) × FitsParent f b) (branches_from (place.level - 1) low ps)) pairs_are hold in
+          later again ys rest (subst (λ z. AllByRecursion (λ b. IsTrue (live b.child) × FitsParent f b) (branches_from (place.level - 1) (z.separator + 1) ys)) y_is whole.1) e'
 
-      by_pair : ((low' : ℕ) (ys : List Pair) → pairs_at words (6 + 2 * (i + 1)) more ≡ Some ys → ((l : ℕ) → low_of place (i + 1) loaded ≡ Some l → l ≡ low') → AllByRecursion (λ b. IsTrue (live b.child) × Fits f b) (branches_from (place.level - 1) low' ys) → named_place child place loaded (i + 1) more ≡ Some p → IsTrue (live child) × IsPlaced (f child) p) → (b : Bool) (o : Option (List Pair)) → pairs_at words (6 + 2 * i + 2) more ≡ o → ◌≡◌ {A = Option (List Pair)} (if b then option_map (λ ps. pair_at words (6 + 2 * i) ∷ ps) o else None) (Some pairs) → IsTrue (live child) × IsPlaced (f child) p
+      by_pair : ((low' : ℕ) (ys : List Pair) → pairs_at words (6 + 2 * (i + 1)) more ≡ Some ys → ((l : ℕ) → low_of place (i + 1) loaded ≡ Some l → l ≡ low') → AllByRecursion (λ b. IsTrue (live b.child) × FitsParent f b) (branches_from (place.level - 1) low' ys) → named_place child place loaded (i + 1) more ≡ Some p → IsTrue (live child) × IsPlaced (f child) p) → (b : Bool) (o : Option (List Pair)) → pairs_at words (6 + 2 * i + 2) more ≡ o → ◌≡◌ {A = Option (List Pair)} (if b then option_map (λ ps. pair_at words (6 + 2 * i) ∷ ps) o else None) (Some pairs) → IsTrue (live child) × IsPlaced (f child) p
       by_pair again true None is read' = absurd (none-some pairs read')
       by_pair again true (Some ys) is read' = here again (pair_at words (6 + 2 * i)) ys refl (sym (same_Some _ _ read')) (is_loaded_as child (loaded_word (6 + 2 * i) loaded)) refl e is
       by_pair again false o is read' = absurd (none-some pairs read')
@@ -140,9 +140,9 @@ module _ (t : Terms) (words : NodeWords) (views : List Log) (history : List Upda
                   let read = reads_pairs (words.contents s.node) (shadow.settled s.node) ps spells is in
                   let zero_place : 6 + 2 * 0 ≡ 6 = omega arith in
                   let kids = law shadow.settled shadow.live s.node r.lawful.tree marked.0 in
-                  let kids' : AllByRecursion (λ b. IsTrue (shadow.live b.child) × Fits shadow.settled b) (branches_from (place.level - 1) (shadow.settled s.node).low ps) =
-                  subst (λ q. AllByRecursion (λ b. IsTrue (shadow.live b.child) × Fits shadow.settled b) (branches_from (q - 1) (shadow.settled s.node).low ps)) marked.1.0
-                  (subst (λ q. AllByRecursion (λ b. IsTrue (shadow.live b.child) × Fits shadow.settled b) (branches_from ((shadow.settled s.node).level - 1) (shadow.settled s.node).low (pairs_in q))) is kids) in
+                  let kids' : AllByRecursion (λ b. IsTrue (shadow.live b.child) × FitsParent shadow.settled b) (branches_from (place.level - 1) (shadow.settled s.node).low ps) =
+                  subst (λ q. AllByRecursion (λ b. IsTrue (shadow.live b.child) × FitsParent shadow.settled b) (branches_from (q - 1) (shadow.settled s.node).low ps)) marked.1.0
+                  (subst (λ q. AllByRecursion (λ b. IsTrue (shadow.live b.child) × FitsParent shadow.settled b) (branches_from ((shadow.settled s.node).level - 1) (shadow.settled s.node).low (pairs_in q))) is kids) in
                   named shadow.settled shadow.live (words.contents s.node) s.words (h.loaded stands) child place 0 n (shadow.settled s.node).low ps p
                   (ap (λ k. pairs_at (words.contents s.node) k n) zero_place ∙ (ap (pairs_at (words.contents s.node) 6) (sym number) ∙ read))
                   (λ l q. sym (same_Some _ _ q) ∙ sym marked.1.1) kids' z

@@ -3,7 +3,7 @@
 use Rattle.std.specs.Prelude.{◌≡◌, ◌≢◌, ℕ, ◌≤◌, Bool, true, false, ◌&&◌, ◌||◌, not, IsTrue, IsSome, is_some, List, ◌++◌, length, Option, Some, None, ◌⊎◌, map, if◌then◌else◌}
 use Rattle.std.specs.List.{AllByRecursion, filter}
 use Rattle.reg_model.specs.declared.answer.Update.{Update}
-use Rattle.tree_shape.specs.Shapes.{Shape}
+use Rattle.tree_shape.specs.Shapes.{Shape, frame_of}
 use Rattle.tree_shape.specs.Trees.{Contents}
 use Rattle.tree_shape.specs.Numbers.{is_among}
 use Rattle.tree_shape.specs.LocalChange.{either, reached_nodes, IsLawfulChange}
@@ -11,7 +11,7 @@ use Rattle.word_rule.specs.declared.log.Log.{Log}
 use Rattle.word_rule.specs.declared.log.Holding.{Holding}
 use Rattle.tree_shape.specs.declared.node.Frame.{Frame}
 use Rattle.word_rule.specs.Spelling.{spelled, SpellsNode}
-use Rattle.word_rule.specs.Held.{held_of, settled_in, now_in, now_of, marked_in, frame_of}
+use Rattle.word_rule.specs.Held.{held_of, settled_in, now_in, now_of, marked_in}
 
 -- the words of a held node spell another content than its settled one
 abbrev pub Differs : Holding → Type 0

@@ -54,7 +54,3 @@ is_marked (Some h) = is_some h.mark
 
 abbrev pub marked_in : List Holding → ℕ → Bool
 marked_in held n = is_marked (held_of n held)
-
--- the place in the tree that a content has
-abbrev pub frame_of : Shape → Frame
-frame_of s = record { level = s.level; low = s.low; high = s.high }

@@ -10,7 +10,7 @@ use Rattle.tree_shape.specs.declared.node.Frame.{Frame}
 use Rattle.tree_shape.specs.Shapes.{Shape}
 use Rattle.tree_shape.specs.Trees.{Contents, HasEntry}
 use Rattle.tree_shape.specs.Numbers.{times, once}
-use Rattle.tree_shape.specs.Lawful.{IsLawful}
+use Rattle.tree_shape.specs.Lawful.{IsLawfulTree}
 use Rattle.word_rule.specs.declared.log.Terms.{Terms}
 use Rattle.word_rule.specs.declared.log.Holding.{Holding}
 use Rattle.word_rule.specs.declared.log.Holdings.{Holdings}
@@ -78,7 +78,7 @@ IsChain contents head (n ∷ free) =
 -- What holds of the nodes: the settled contents are a lawful tree whose entries are the registered
 -- members, and each node is live, or free, or out with one caller.
 pub record NodesHold (t : Terms) (words : NodeWords) (views : List Log) (history : List Update) (shadow : Shadow) : Type 0 where
-  pub lawful : IsLawful shadow.settled shadow.live
+  pub lawful : IsLawfulTree shadow.settled shadow.live
   pub entries : (x : Member) → HasEntry shadow.settled shadow.live x ↔ Contains (state_after (start t) history).registered x
   pub unlocked : (n : ℕ) → n < t.nodes → IsOpen (words.versions n) (words.contents n) (shadow.settled n) (shadow.holder n)
   pub holdings : (id : ℕ) (v : Log) → get_elem? views id ≡ some v → HoldingsHold t words shadow id v.holdings

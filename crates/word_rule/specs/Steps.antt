@@ -32,7 +32,7 @@ use Rattle.word_rule.specs.Copies.{ListsMembers}
 -- The mark of a node at its lock: the root is live, and so is one that the settled content of a held live node names, at
 -- the place that it is given there.
 abbrev pub place_in : ℕ → List Branch → Option Frame
-place_in n bs = option_map (λ b. record { level = b.level; low = b.low; high = b.high }) (find (λ b. b.child == n) bs)
+place_in n bs = option_map (λ b. b.frame) (find (λ b. b.child == n) bs)
 
 abbrev pub place_by : ℕ → Option Frame → Holding → Option Frame
 place_by n None h = None

@@ -1,4 +1,4 @@
-use Rattle.tree_shape.proofs.Wholes.{twice_as_many, tall_is_large}
+use Rattle.tree_shape.proofs.Fillings.{twice_as_many, full_members, tall_is_large}
 use Rattle.tree_shape.proofs.laws.fillings.Goals as goal
 
 pub returns-clause-entries : goal.returns-clause-entries
@@ -6,3 +6,6 @@ returns-clause-entries c = twice_as_many
 
 pub returns-clause-height : goal.returns-clause-height
 returns-clause-height c = tall_is_large
+
+pub returns-clause-full : goal.returns-clause-full
+returns-clause-full c = full_members
