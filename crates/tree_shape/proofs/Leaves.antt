@@ -307,7 +307,7 @@ left_within test low high (e ∷ entries) within =
       | false ↦ entries_lower (e.span.last + 1) low high (filter test entries) rest (omega arith)
     ]
 
-left_in : (base : ℕ) (entries : List Member) (m : Member) → In m (without base entries) → In m entries × (m.span.first ≢ base)
+pub left_in : (base : ℕ) (entries : List Member) (m : Member) → In m (without base entries) → In m entries × (m.span.first ≢ base)
 left_in base [] m there = absurd there
 left_in base (e ∷ entries) m there = elim (cases_Bool (eqb e.span.first base)) [
   | inl same ↦
@@ -321,7 +321,7 @@ left_in base (e ∷ entries) m there = elim (cases_Bool (eqb e.span.first base))
       ]
 ]
 
-left_from : (base : ℕ) (entries : List Member) (m : Member) → In m entries → m.span.first ≢ base → In m (without base entries)
+pub left_from : (base : ℕ) (entries : List Member) (m : Member) → In m entries → m.span.first ≢ base → In m (without base entries)
 left_from base [] m there other = absurd there
 left_from base (e ∷ entries) m there other =
     let rest : In m entries → In m (without base entries) = λ at. left_from base entries m at other in

@@ -25,3 +25,4 @@ pub mod RootSplits
 pub mod SpineWays
 pub mod FenceChange
 pub mod Fillings
+pub mod Deciding

@@ -6,3 +6,4 @@ pub mod Changes
 pub mod Lawful
 pub mod LocalChange
 pub mod Steps
+pub mod Decisions

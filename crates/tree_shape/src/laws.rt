@@ -1,7 +1,9 @@
 //! Laws of lawful trees. Each is the contract of a function that does nothing.
 
 ghost use Rattle.std.specs.Prelude.{◌≡◌, ℕ, ◌*◌, ◌-◌, ◌^◌, ◌<◌, ◌≤◌, ◌↔◌, Bool, false, IsTrue};
-ghost use Rattle.std.specs.Prelude.{Option, None, Some, [], ◌∷◌, ◌⊎◌, Contains, length};
+ghost use Rattle.std.specs.Prelude.{Option, None, Some, List, [], ◌∷◌, ◌⊎◌, Contains};
+ghost use Rattle.std.specs.Prelude.{length};
+ghost use Rattle.std.specs.Bool.{Decides};
 ghost use Rattle.std.specs.List.{AllByRecursion};
 ghost use Rattle.reg_model.specs.declared.span.Member.{Member};
 ghost use Rattle.reg_model.specs.declared.answer.Update.{Update};
@@ -17,7 +19,9 @@ ghost use Rattle.tree_shape.specs.Lawful.{IsTree, IsLawfulTree, IsFilled, FitsPa
 ghost use Rattle.tree_shape.specs.Lawful.{fewest_entries};
 ghost use Rattle.tree_shape.specs.LocalChange.{IsLocalChange, reached_nodes, live_after};
 ghost use Rattle.tree_shape.specs.LocalChange.{IsLawfulChange, ChangesEntries, EntriesBecome};
-ghost use Rattle.tree_shape.specs.LocalChange.{IsChangeOf, IsSameChange};
+ghost use Rattle.tree_shape.specs.LocalChange.{IsChangeOf, IsSameChange, either};
+ghost use Rattle.tree_shape.specs.Decisions.{is_lawful_change};
+ghost use Rattle.tree_shape.specs.Numbers.{is_among};
 ghost use Rattle.tree_shape.specs.Steps.{Keeps, IsSplit, IsJoin, IsShare, with_node, without_node};
 ghost use Rattle.tree_shape.specs.Steps.{IsFenceMove, fence_nodes, IsLift, Lifts, IsRootSplit};
 ghost use Rattle.tree_shape.specs.Steps.{IsSink, IsPut, Adds, IsTake, Takes};
@@ -139,6 +143,17 @@ pub fn widen()
         → ((n : ℕ) → IsTrue (fresh n) → IsTrue (more n))
         → ((n : ℕ) → IsTrue (more n) → live n ≡ false)
         → reached_nodes top group more g ≡ reached_nodes top group fresh g }
+{}
+
+/// The premises of a lawful change of listed nodes are tests over finite lists: the test is true
+/// exactly where they hold.
+pub fn decided()
+    ensures { (f : Contents) (live : ℕ → Bool) (top : ℕ) (group : List ℕ) (fresh : ℕ → Bool)
+        (fresh_nodes : List ℕ) (g : Contents) (update : Option Update)
+        → ((n : ℕ) → either (is_among group) fresh n ≡ false → g n ≡ f n)
+        → ((n : ℕ) → IsTrue (fresh n) → IsTrue (is_among fresh_nodes n))
+        → Decides (is_lawful_change f live top group fresh fresh_nodes g update)
+        (IsLawfulChange f live top (is_among group) fresh g update) }
 {}
 
 /// A child that is split, with its parent's new pair.

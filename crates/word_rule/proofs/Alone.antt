@@ -1,5 +1,5 @@
 -- One that is alone has all that was ever done.
-use Rattle.std.proofs.Common.{◌≡◌, ◌≢◌, ℕ, zero, suc, ◌+◌, ◌%◌, ◌<◌, ◌≤◌, List, [], ◌∷◌, ◌++◌, length, length-append, set, get_or, ne_eqb, sym, refl, ap, ◌∙◌, subst, ⊎_elim, arith, Option, Some, None, false, true, Bool, max, lt_of_not-le}
+use Rattle.std.proofs.Common.{◌≡◌, ◌≢◌, ℕ, ◌+◌, ◌%◌, ◌<◌, ◌≤◌, List, [], ◌∷◌, length, length-append, set, get_or, ne_eqb, sym, refl, ap, ◌∙◌, subst, arith, Option, Some, None, false, true, max, lt_of_not-le}
 use Rattle.std.specs.List.{AllByRecursion, count_by}
 use Rattle.std.proofs.lemmas.List.Sums.{sum_by-cons}
 use mathlib.Core.Option.{none, some, some-injective, some-ne-none}
@@ -13,14 +13,12 @@ use Rattle.reg_model.specs.declared.answer.Update.{Update}
 use Rattle.reg_model.specs.declared.answer.Receipt.{Receipt}
 use Rattle.word_rule.specs.declared.log.Log.{Log}
 use Rattle.word_rule.specs.declared.log.Terms.{Terms}
-use Rattle.word_rule.specs.Names.{name_count, is_same}
 use Rattle.tree_shape.specs.Numbers.{once}
 use Rattle.word_rule.specs.Logs.{is_spent}
-use Rattle.word_rule.specs.Callers.{total, CallersHold, LogHolds, LineageHolds, IsRecord, ReceiptsHold, IsAlone, IsWhole, is_done_as, is_done, dones, dones_of_all, dones_in, number_of, start}
+use Rattle.word_rule.specs.Callers.{total, CallersHold, LogHolds, IsRecord, ReceiptsHold, IsAlone, IsWhole, is_done_as, is_done, dones, dones_of_all, dones_in, number_of, start}
 use Rattle.word_rule.specs.TableInvariant.{TableInvariant}
 use Rattle.word_rule.specs.Plays.{confirms}
 use Rattle.word_rule.proofs.Facts.{part_of_total, all_of_total}
-use Rattle.word_rule.proofs.Names.{same_or}
 use Rattle.word_rule.specs.Memory.{Memory, memory_of}
 use Rattle.word_rule.proofs.Lineages.{others_spent}
 use Rattle.word_rule.proofs.Memories.{set_same}

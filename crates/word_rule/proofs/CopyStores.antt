@@ -1,10 +1,10 @@
 -- A store in the copy that is not active keeps the rule.
-use Rattle.std.proofs.Common.{◌≡◌, ◌≢◌, ℕ, ◌+◌, ◌-◌, ◌*◌, ◌/◌, ◌%◌, ◌<◌, ◌≤◌, List, [], ◌∷◌, length, get_or, set, length-set, sym, refl, ap, ◌∙◌, subst, arith, false, Option, Some, None, option_map, IfSome, append-nil}
+use Rattle.std.proofs.Common.{◌≡◌, ◌≢◌, ℕ, ◌+◌, ◌-◌, ◌%◌, ◌<◌, List, [], get_or, set, length-set, sym, refl, ap, ◌∙◌, subst, arith, false, Option, Some, None, option_map, append-nil}
 use Rattle.std.proofs.lemmas.Option.{same_Some}
 use Rattle.std.specs.List.{AllByRecursion}
 use mathlib.Core.Option.{none, some}
 use lib.ListN.{get_elem?}
-use Rattle.atomic_table.specs.Table.{State, Me, step, Act, keeps, Allows}
+use Rattle.atomic_table.specs.Table.{step, keeps, Allows}
 use Rattle.atomic_table.proofs.Lists.{set_here}
 use Rattle.word_rule.specs.declared.log.Role.TheVariants as role
 use Rattle.word_rule.specs.declared.log.Terms.{Terms}
@@ -13,11 +13,11 @@ use Rattle.word_rule.specs.declared.log.CopySight.{CopySight}
 use Rattle.word_rule.specs.declared.log.Log.{Log}
 use Rattle.word_rule.specs.Places.{copy_place, copy_words, upper, spare}
 use Rattle.word_rule.specs.Memory.{Memory, memory_of, updated}
-use Rattle.word_rule.specs.Logs.{is_spent, weight, turns}
+use Rattle.word_rule.specs.Logs.{is_spent}
 use Rattle.word_rule.specs.Steps.{store_in_copy, after_copy_store}
 use Rattle.reg_model.specs.History.{state_after}
-use Rattle.word_rule.specs.Callers.{total, IsIdle, HoldsLoader, AtLoader, LoaderLock, start}
-use Rattle.word_rule.specs.Copies.{ListsAll, ActiveCopy, AreOfCopy, CopySightHolds}
+use Rattle.word_rule.specs.Callers.{HoldsLoader, AtLoader, LoaderLock, start}
+use Rattle.word_rule.specs.Copies.{ListsAll, CopySightHolds}
 use Rattle.word_rule.specs.TableInvariant.{TableInvariant}
 use Rattle.word_rule.specs.Plays.{Seated, stores_copy}
 use Rattle.word_rule.proofs.Facts.{after_step, within}

@@ -1,24 +1,21 @@
 -- The table's invariant after a step of one log, from what holds of its parts.
-use Rattle.std.proofs.Common.{◌≡◌, ◌≢◌, ℕ, ◌+◌, ◌<◌, ◌≤◌, List, [], ◌∷◌, ◌++◌, length, get_or, set, length-set, sym, ap, ◌∙◌, subst, arith, Bool, false, refl, append-nil}
+use Rattle.std.proofs.Common.{◌≡◌, ℕ, ◌+◌, ◌<◌, ◌≤◌, List, [], ◌∷◌, ◌++◌, length, get_or, set, sym, ◌∙◌, subst, arith, false}
 use Rattle.std.specs.List.{AllByRecursion}
 use mathlib.Core.Option.{some}
 use lib.ListN.{get_elem?}
 use Rattle.atomic_table.specs.Table.{State}
-use Rattle.reg_model.specs.declared.answer.Update.{Update}
 use Rattle.word_rule.specs.declared.log.Terms.{Terms}
 use Rattle.word_rule.specs.declared.log.LoadEvent.{LoadEvent}
 use Rattle.word_rule.specs.declared.log.Log.{Log}
 use Rattle.word_rule.specs.Memory.{Memory, memory_of}
 use Rattle.word_rule.specs.Logs.{is_spent, turns}
-use Rattle.word_rule.specs.Callers.{total, CallersHold, IsAlone, LineageHolds}
-use Rattle.word_rule.specs.Nodes.{Shadow}
+use Rattle.word_rule.specs.Callers.{total, CallersHold, IsAlone}
 use Rattle.word_rule.specs.Observations.{ObservationsHold}
 use Rattle.word_rule.specs.TableInvariant.{MemoryHolds, TableInvariant, IsStill}
 use Rattle.word_rule.proofs.Facts.{total_same, after_step}
 use Rattle.word_rule.proofs.Each.{all_map, all_append}
 use Rattle.word_rule.proofs.Lineages.{none_alone}
 use Rattle.word_rule.proofs.NodesFrame.{nodes_same}
-use Rattle.word_rule.proofs.ObservationsFrame.{observations_over}
 
 -- the table as the kit has it
 abbrev pub Sit : Type 0

@@ -1,5 +1,5 @@
 -- Callers and notes that come and go keep the rule.
-use Rattle.std.proofs.Common.{◌≡◌, ◌≢◌, ℕ, zero, suc, ◌+◌, ◌*◌, ◌<◌, ◌≤◌, List, [], ◌∷◌, ◌++◌, length, length-append, set, sym, refl, ap, ◌∙◌, subst, ⊎_elim, arith, append-nil, lt_of_not-le, le_of_lt, Option, Some, None, false, true, true≢false, max, IfSome}
+use Rattle.std.proofs.Common.{◌≡◌, ◌≢◌, ℕ, ◌+◌, ◌*◌, ◌<◌, ◌≤◌, List, [], ◌∷◌, ◌++◌, length, length-append, set, sym, refl, ap, ◌∙◌, subst, ⊎_elim, arith, append-nil, lt_of_not-le, le_of_lt, Option, Some, None, false, true, true≢false, max, IfSome}
 use Rattle.std.specs.List.{AllByRecursion, count_by}
 use Rattle.std.proofs.lemmas.List.Sums.{sum_by-cons, sum_by-append}
 use Rattle.word_rule.specs.declared.log.Role.TheVariants as role
@@ -26,14 +26,14 @@ use Rattle.word_rule.specs.Names.{name_count, is_same, child_name, after_fork, j
 use Rattle.word_rule.specs.Logs.{is_spent, weight, turns, child_log, after_split, split_off, after_note, note_of, after_join, after_learn, spent_log, longer, budget_given}
 use Rattle.word_rule.specs.Callers.{total, CallersHold, IsIdle, IsAlone, LogHolds, LineageHolds, LineagesHold, AtLoader, LoaderLock, IsRecord, ReceiptsHold, dones, dones_of_all, dones_in, is_done, start}
 use Rattle.word_rule.specs.CallerInvariant.{IsNote}
-use Rattle.word_rule.proofs.Facts.{total_set, total_snoc, part_of_total, two_of_total, some_of_total, total_set_two, after_step, within, decided, behind}
+use Rattle.word_rule.proofs.Facts.{total_set, total_snoc, total_set_two, after_step, within, decided, behind}
 use Rattle.word_rule.proofs.Names.{same_or, once_same, once_other, once_small, count_append, new_lineage_holds, fork_holds, join_holds}
 use Rattle.word_rule.specs.Memory.{Memory, memory_of}
 use Rattle.word_rule.specs.Nodes.{Shadow}
 use Rattle.word_rule.specs.Copies.{CopySightHolds}
 use Rattle.word_rule.specs.Observations.{SightHolds, WasFull, ObservationsHold}
 use Rattle.word_rule.specs.TableInvariant.{TableInvariant, IsStill}
-use Rattle.word_rule.proofs.Lineages.{snoc_is_long, snoc_parts, one_place, unused_childless, none_alone}
+use Rattle.word_rule.proofs.Lineages.{snoc_parts, one_place, unused_childless, none_alone}
 use Rattle.word_rule.proofs.SeatNodes.{nodes_fork, nodes_join}
 use Rattle.word_rule.proofs.ObservationsFrame.{no_more, observations_over, observations_same}
 use Rattle.word_rule.proofs.Frames.{still_after_turn}

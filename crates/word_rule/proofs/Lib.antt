@@ -29,3 +29,4 @@ pub mod InitialTable
 pub mod Exchanging
 pub mod NodeReleases
 pub mod TreeLaws
+pub mod Exchanges

@@ -1,11 +1,10 @@
 -- Listings of copies, and what a history makes of the loaded members.
-use Rattle.std.proofs.Common.{◌≡◌, ◌≢◌, ℕ, zero, suc, ◌+◌, ◌-◌, ◌<◌, ◌≤◌, ◌⊎◌, List, [], ◌∷◌, ◌++◌, length, get_or, Contains, sym, refl, ap, ◌∙◌, subst, inl, inr, ⊎_elim, arith, append-nil, ◌==◌, not, Bool, true, false, true≢false, IsSome, Option, Some, None, eq-eqb, ne_eqb, if◌then◌else◌}
+use Rattle.std.proofs.Common.{◌≡◌, ◌≢◌, ℕ, zero, suc, ◌+◌, ◌<◌, ◌≤◌, List, [], ◌∷◌, ◌++◌, length, get_or, Contains, sym, refl, ap, ◌∙◌, subst, ⊎_elim, arith, append-nil, ◌==◌, not, Bool, true, false, true≢false, IsSome, Some, if◌then◌else◌}
 use Rattle.std.specs.List.{AllByRecursion, All, filter, find}
-use Rattle.std.proofs.lemmas.List.Elements.{All-contains, Contains-get_or, Contains-push_cases, All-head, All-tail}
-use native.Mathlib.Decide.{ℕ_discrete}
+use Rattle.std.proofs.lemmas.List.Elements.{All-contains, Contains-get_or, Contains-push_cases}
 use Rattle.reg_model.specs.Interval.{IsSpan, Overlaps}
-use Rattle.reg_model.specs.State.{State, AreDisjoint, IsFree, IsLawful, objects, opening, at_base}
-use Rattle.reg_model.specs.History.{after, state_after, IsHistory, without}
+use Rattle.reg_model.specs.State.{State, AreDisjoint, IsFree, IsLawful}
+use Rattle.reg_model.specs.History.{after, state_after, IsHistory}
 use Rattle.reg_model.specs.declared.span.Member.{Member}
 use Rattle.reg_model.specs.declared.answer.Update.{Update}
 use Rattle.reg_model.specs.declared.answer.Update.TheVariants as update

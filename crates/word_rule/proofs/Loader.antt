@@ -1,29 +1,28 @@
 -- Steps on the loader's lock keep the rule.
-use Rattle.std.proofs.Common.{◌≡◌, ◌≢◌, ℕ, ◌+◌, ◌-◌, ◌/◌, ◌%◌, ◌^◌, ◌<◌, ◌≤◌, ◌⊎◌, List, [], ◌∷◌, ◌++◌, length, get_or, set, sym, refl, ap, ◌∙◌, subst, inl, inr, ⊎_elim, arith, eq-eqb, ne_eqb, ◌==◌, MatchBool, IfSome, IsSome, IsSomeAnd, bit_or, true≢false, Option, Some, None, false, true, Bool, length-set}
+use Rattle.std.proofs.Common.{◌≡◌, ◌≢◌, ℕ, ◌+◌, ◌-◌, ◌/◌, ◌%◌, ◌^◌, ◌<◌, ◌≤◌, List, [], ◌∷◌, length, get_or, set, sym, refl, ap, ◌∙◌, subst, inl, inr, ⊎_elim, arith, ◌==◌, MatchBool, IfSome, IsSome, IsSomeAnd, bit_or, Option, Some, None, false, length-set}
 use Rattle.std.specs.List.{AllByRecursion}
 use Rattle.std.proofs.lemmas.Option.{none-some, same_Some}
 use Rattle.std.proofs.lemmas.Nat.{or_disjoint}
 use Rattle.std.specs.Int.Bits.{or_add_and}
 use lib.Bits.{and_mask}
-use mathlib.Core.Option.{none, some, some-injective}
-use native.Mathlib.Decide.{ℕ_discrete}
+use mathlib.Core.Option.{none, some}
 use lib.ListN.{get_elem?}
 use prog.Atomic.{either}
-use Rattle.atomic_table.specs.Table.{State, Me, step, Act, keeps, stepped, carried_after, Valid, Allows}
-use Rattle.atomic_table.proofs.Lists.{set_here, set_else}
+use Rattle.atomic_table.specs.Table.{step, Act, keeps, stepped, carried_after, Valid, Allows}
+use Rattle.atomic_table.proofs.Lists.{set_here}
 use Rattle.word_rule.specs.declared.log.Role.TheVariants as role
 use Rattle.word_rule.specs.declared.log.Log.{Log}
 use Rattle.word_rule.specs.declared.log.Terms.{Terms}
 use Rattle.word_rule.specs.declared.log.LoadEvent.{LoadEvent}
 use Rattle.word_rule.specs.declared.log.LoaderHolding.{LoaderHolding}
-use Rattle.word_rule.specs.Places.{spare, upper, copy_words}
-use Rattle.word_rule.specs.Memory.{Memory, memory_of, part, copy_of}
+use Rattle.word_rule.specs.Places.{spare, upper}
+use Rattle.word_rule.specs.Memory.{Memory, memory_of, copy_of}
 use Rattle.word_rule.specs.Logs.{is_spent, weight, turns, load_of, IsTaken, after_load, after_loader_lock, after_write, after_loader_release, after_loader_release_same}
-use Rattle.word_rule.specs.Callers.{total, CallersHold, IsIdle, HoldsLoader, AtLoader, LoaderLock, IsLockedAt}
+use Rattle.word_rule.specs.Callers.{total, AtLoader, LoaderLock, IsLockedAt}
 use Rattle.word_rule.specs.Observations.{ObservationsHold, WasFull}
 use Rattle.word_rule.specs.TableInvariant.{TableInvariant, IsStill}
 use Rattle.word_rule.specs.Plays.{Seated, looks, locks, marks, releases, releases_same}
-use Rattle.word_rule.proofs.Facts.{after_step, within, decided}
+use Rattle.word_rule.proofs.Facts.{after_step, within}
 use Rattle.word_rule.proofs.Each.{all_map, some_of}
 use Rattle.word_rule.proofs.Memories.{set_loader, set_same, copy_length, by_same}
 use Rattle.word_rule.proofs.CallersFrame.{IsLike, callers_step, lock_stays, busy}

@@ -3,8 +3,8 @@ use Rattle.std.proofs.Common.{◌≡◌, ◌≢◌, ℕ, zero, suc, ◌+◌, ◌
 use native.Mathlib.Decide.{ℕ_discrete, dec_le}
 use borrow.Author.Tests.{lt-ltb, le-ltb}
 use Rattle.word_rule.specs.declared.log.Terms.{Terms}
-use Rattle.word_rule.specs.Places.{node_place, copy_place, copy_words, word_count}
-use Rattle.word_rule.specs.Memory.{NodeWords, Memory, memory_of, part, copy_of, updated}
+use Rattle.word_rule.specs.Places.{copy_place, copy_words, word_count}
+use Rattle.word_rule.specs.Memory.{Memory, memory_of, part, copy_of, updated}
 
 -- a list with an item put where it stands already
 pub set_same : (words : List ℕ) (j : ℕ) → set words j (get_or words j 0) ≡ words

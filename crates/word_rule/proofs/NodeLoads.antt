@@ -1,13 +1,11 @@
 -- Loads of words of nodes and copies keep the rule.
-use Rattle.std.proofs.Common.{◌≡◌, ◌≢◌, ℕ, ◌+◌, ◌-◌, ◌*◌, ◌<◌, ◌≤◌, ◌%◌, ◌⊎◌, List, [], ◌∷◌, ◌++◌, length, get_or, set, take, take_all, sym, refl, ap, ◌∙◌, subst, inl, inr, ⊎_elim, arith, ◌&&◌, nat_le, nat_lt, Bool, true, false, IsTrue, true≢false, Option, Some, None, IfSome, IsSome, is_some, option_map, max, Contains, if◌then◌else◌, ◌↔◌, ◌^◌, lt_of_not-le}
-use Rattle.std.specs.List.{AllByRecursion}
+use Rattle.std.proofs.Common.{◌≡◌, ℕ, ◌+◌, ◌-◌, ◌*◌, ◌<◌, ◌≤◌, ◌%◌, ◌⊎◌, List, [], ◌∷◌, length, get_or, take_all, sym, refl, ap, ◌∙◌, subst, inl, inr, ⊎_elim, arith, nat_le, nat_lt, Bool, true, false, IsTrue, true≢false, Option, Some, None, IfSome, IsSome, option_map, max, Contains, if◌then◌else◌, ◌↔◌, ◌^◌, lt_of_not-le}
 use Rattle.std.proofs.lemmas.Bool.{and_parts}
 use mathlib.Core.Option.{none, some}
-use mathlib.Core.List.{IsPrefix}
 use native.Mathlib.Decide.{dec_le}
 use borrow.Author.Tests.{lt-leb, le-ltb}
 use lib.ListN.{get_elem?}
-use Rattle.atomic_table.specs.Table.{State, Me, step, Act, keeps, Allows}
+use Rattle.atomic_table.specs.Table.{step, keeps, Allows}
 use Rattle.reg_model.specs.History.{state_after, state_at}
 use Rattle.reg_model.specs.Receipt.{moment, AllHold}
 use Rattle.reg_model.specs.declared.answer.Update.{Update}
@@ -19,27 +17,26 @@ use Rattle.tree_shape.specs.Lawful.{IsTree, IsLawfulTree}
 use Rattle.word_rule.specs.declared.log.Role.TheVariants as role
 use Rattle.word_rule.specs.declared.log.Terms.{Terms}
 use Rattle.word_rule.specs.declared.log.Holding.{Holding}
-use Rattle.word_rule.specs.declared.log.LoadEvent.{LoadEvent}
 use Rattle.word_rule.specs.declared.log.CopySight.{CopySight}
 use Rattle.word_rule.specs.declared.log.Log.{Log}
 use Rattle.word_rule.specs.Places.{is_of_copy, copy_place, copy_words}
-use Rattle.word_rule.specs.Memory.{NodeWords, Memory, memory_of, copy_of}
-use Rattle.word_rule.specs.Spelling.{node_word, SpellsNode}
+use Rattle.word_rule.specs.Memory.{Memory, memory_of, copy_of}
+use Rattle.word_rule.specs.Spelling.{node_word}
 use Rattle.word_rule.specs.Held.{held_of}
-use Rattle.word_rule.specs.Logs.{is_spent, weight, turns, load_of, after_load}
+use Rattle.word_rule.specs.Logs.{is_spent, load_of}
 use Rattle.word_rule.specs.Sights.{with_copy_word, after_copy_load, after_node_load}
-use Rattle.word_rule.specs.Callers.{total, CallersHold, IsIdle, IsAlone, IsRecord, start}
+use Rattle.word_rule.specs.Callers.{total, start}
 use Rattle.word_rule.specs.Nodes.{Shadow, HoldsNode, IsPlaced}
-use Rattle.word_rule.specs.Copies.{CopySightHolds, AreOfCopy}
-use Rattle.word_rule.specs.Observations.{last_moment, HadMembers, IsFullCount, IsFullBody, WasFull, ObservationsHold}
-use Rattle.word_rule.specs.TableInvariant.{TableInvariant, IsStill}
+use Rattle.word_rule.specs.Copies.{CopySightHolds}
+use Rattle.word_rule.specs.Observations.{last_moment, HadMembers, IsFullCount, WasFull}
+use Rattle.word_rule.specs.TableInvariant.{TableInvariant}
 use Rattle.word_rule.specs.Plays.{Seated, loads_copy, loads_node}
-use Rattle.word_rule.proofs.Each.{all_map, held_is}
+use Rattle.word_rule.proofs.Each.{all_map}
 use Rattle.word_rule.proofs.Members.{ascending_fit}
 use Rattle.word_rule.proofs.Memories.{load_content_at, load_copy_at}
 use Rattle.word_rule.proofs.Spells.{reads_full}
-use Rattle.word_rule.proofs.CallersFrame.{IsLike, busy}
-use Rattle.word_rule.proofs.ObservationsFrame.{Loads, observations_own, observations_same, longer_length}
+use Rattle.word_rule.proofs.CallersFrame.{busy}
+use Rattle.word_rule.proofs.ObservationsFrame.{observations_own, observations_same, longer_length}
 use Rattle.word_rule.proofs.Frames.{Sit, still_after_load}
 use Rattle.word_rule.proofs.Quiet.{quiet}
 

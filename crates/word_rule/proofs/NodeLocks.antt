@@ -1,30 +1,29 @@
 -- The lock of a node keeps the rule.
-use Rattle.std.proofs.Common.{◌≡◌, ◌≢◌, ℕ, zero, suc, ◌+◌, ◌-◌, ◌*◌, ◌/◌, ◌%◌, ◌^◌, ◌<◌, ◌≤◌, ◌⊎◌, List, [], ◌∷◌, ◌++◌, length, get_or, set, length-set, sym, refl, ap, ◌∙◌, subst, inl, inr, ⊎_elim, arith, ◌==◌, MatchBool, Bool, true, false, IsTrue, true≢false, Option, Some, None, IfSome, IsSome, eq-eqb, ne_eqb, if◌then◌else◌, append-nil}
-use Rattle.std.proofs.lemmas.Option.{none-some, same_Some}
+use Rattle.std.proofs.Common.{◌≡◌, ◌≢◌, ℕ, zero, suc, ◌+◌, ◌*◌, ◌/◌, ◌%◌, ◌^◌, ◌<◌, ◌≤◌, List, [], ◌∷◌, length, get_or, set, length-set, sym, refl, ap, ◌∙◌, subst, inl, inr, ⊎_elim, arith, ◌==◌, MatchBool, false, IsTrue, Option, Some, None, IfSome, IsSome, eq-eqb, ne_eqb, append-nil}
+use Rattle.std.proofs.lemmas.Option.{none-some}
 use Rattle.std.proofs.lemmas.List.Sums.{sum_by-cons}
 use Rattle.std.specs.List.{AllByRecursion, count_by}
 use mathlib.Core.Option.{none, some}
 use native.Mathlib.Decide.{ℕ_discrete}
 use lib.ListN.{get_elem?}
 use prog.Atomic.{either}
-use Rattle.atomic_table.specs.Table.{State, Me, step, Act, keeps, stepped, carried_after, Valid, Allows}
+use Rattle.atomic_table.specs.Table.{step, Act, keeps, stepped, carried_after, Valid, Allows}
 use Rattle.atomic_table.proofs.Lists.{set_here}
 use Rattle.tree_shape.specs.Shapes.{Shape}
 use Rattle.tree_shape.specs.Numbers.{times, once}
 use Rattle.word_rule.specs.declared.log.Role.TheVariants as role
 use Rattle.word_rule.specs.declared.log.Terms.{Terms}
 use Rattle.word_rule.specs.declared.log.Holding.{Holding}
-use Rattle.word_rule.specs.declared.log.LoadEvent.{LoadEvent}
 use Rattle.word_rule.specs.declared.log.NodeSight.{NodeSight}
 use Rattle.word_rule.specs.declared.log.Log.{Log}
-use Rattle.word_rule.specs.Memory.{NodeWords, Memory, memory_of, updated, node_counters, counters}
+use Rattle.word_rule.specs.Memory.{NodeWords, Memory, memory_of, updated, node_counters}
 use Rattle.word_rule.specs.Spelling.{SpellsNode}
 use Rattle.word_rule.specs.Held.{held_of}
-use Rattle.word_rule.specs.Logs.{is_spent, weight, turns, load_of, after_load}
+use Rattle.word_rule.specs.Logs.{is_spent, load_of, after_load}
 use Rattle.word_rule.specs.Steps.{mark_at_lock, head_without, after_node_lock}
-use Rattle.word_rule.specs.Callers.{total, IsIdle, IsLockedAt}
+use Rattle.word_rule.specs.Callers.{total, IsLockedAt}
 use Rattle.word_rule.specs.Nodes.{Shadow, NodesHold, HoldsNode, HoldingsHold, HeldBy, IsOpen, IsPlaced}
-use Rattle.word_rule.specs.Observations.{Stands, SightHolds, IsFullCount, HadMembers, WasFull}
+use Rattle.word_rule.specs.Observations.{SightHolds, IsFullCount, HadMembers, WasFull}
 use Rattle.word_rule.specs.TableInvariant.{TableInvariant}
 use Rattle.word_rule.specs.Plays.{Seated, locks_node}
 use Rattle.word_rule.proofs.Facts.{total_same, after_step, within, node_counters_at}

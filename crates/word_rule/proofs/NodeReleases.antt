@@ -1,38 +1,37 @@
 -- A release of a node that exchanges settled contents keeps the rule.
-use Rattle.std.proofs.Common.{◌≡◌, ◌≢◌, ℕ, suc, ◌+◌, ◌-◌, ◌*◌, ◌/◌, ◌%◌, ◌<◌, ◌≤◌, ◌⊎◌, ◌↔◌, List, [], ◌∷◌, ◌++◌, length, get_or, set, length-set, map, sym, refl, ap, ◌∙◌, subst, inl, inr, ⊎_elim, arith, ◌==◌, ◌&&◌, ◌||◌, not, nat_lt, Bool, true, false, IsTrue, true≢false, Option, Some, None, IfSome, IsSome, is_some, eq-eqb, ne_eqb, if◌then◌else◌, append-nil, Contains}
+use Rattle.std.proofs.Common.{◌≡◌, ◌≢◌, ℕ, ◌+◌, ◌*◌, ◌%◌, ◌<◌, ◌≤◌, ◌⊎◌, List, [], ◌∷◌, set, length-set, map, sym, refl, ap, ◌∙◌, subst, inl, inr, ⊎_elim, arith, ◌==◌, ◌&&◌, Bool, true, false, IsTrue, true≢false, Option, Some, None, IfSome, IsSome, is_some, eq-eqb, ne_eqb, append-nil}
 use Rattle.std.proofs.lemmas.Option.{none-some, same_Some}
 use Rattle.std.proofs.lemmas.List.Sums.{sum_by-cons}
-use Rattle.std.specs.List.{AllByRecursion, filter, count_by}
+use Rattle.std.specs.List.{AllByRecursion, count_by}
 use mathlib.Core.Option.{none, some}
 use native.Mathlib.Decide.{ℕ_discrete}
 use lib.ListN.{get_elem?}
-use Rattle.atomic_table.specs.Table.{State, Me, step, Act, keeps, Allows}
-use Rattle.reg_model.specs.History.{state_after}
-use Rattle.reg_model.specs.declared.span.Member.{Member}
+use Rattle.atomic_table.specs.Table.{step, keeps, Allows}
 use Rattle.tree_shape.specs.declared.node.Frame.{Frame}
 use Rattle.tree_shape.specs.Shapes.{frame_of, Shape}
-use Rattle.tree_shape.specs.Trees.{HasEntry}
 use Rattle.tree_shape.specs.Numbers.{times, once}
 use Rattle.tree_shape.specs.LocalChange.{either}
 use Rattle.word_rule.specs.declared.log.Role.TheVariants as role
 use Rattle.word_rule.specs.declared.log.Terms.{Terms}
 use Rattle.word_rule.specs.declared.log.Holding.{Holding}
-use Rattle.word_rule.specs.declared.log.Holdings.{Holdings}
 use Rattle.word_rule.specs.declared.log.NodeSight.{NodeSight}
 use Rattle.word_rule.specs.declared.log.Log.{Log}
 use Rattle.word_rule.specs.Memory.{NodeWords, Memory, memory_of, updated, counters}
 use Rattle.word_rule.specs.Spelling.{spelled, SpellsNode}
 use Rattle.word_rule.specs.Held.{held_of, without_lock, now_of, now_shape, now_in, marked_in, is_marked}
-use Rattle.word_rule.specs.Logs.{is_spent, weight, turns, after_spending}
-use Rattle.word_rule.specs.Exchange.{is_reached, is_fresh, out_after, IsLawfulExchange, exchange, after_exchange}
-use Rattle.word_rule.specs.Steps.{head_without, after_node_release_same, AfterNodeRelease}
-use Rattle.word_rule.specs.Callers.{total, IsIdle, IsLockedAt, start}
+use Rattle.word_rule.specs.Logs.{is_spent, after_spending}
+use Rattle.word_rule.specs.Exchange.{is_reached, is_fresh, IsLawfulExchange, exchange, after_exchange, group_of, is_lawful, settle, settle_free, top_of}
+use Rattle.tree_shape.specs.Numbers.{is_among}
+use Rattle.word_rule.proofs.Exchanges.{DecidedLaw, exchange_decides}
+use Rattle.std.proofs.lemmas.Bool.{cond-true}
+use Rattle.word_rule.specs.Steps.{head_without, after_node_release_same}
+use Rattle.word_rule.specs.Callers.{IsLockedAt}
 use Rattle.word_rule.specs.Nodes.{Shadow, NodesHold, HoldsNode, HoldingsHold, HeldBy, IsOpen, IsPlaced}
 use Rattle.word_rule.specs.Observations.{Stands, SightHolds}
 use Rattle.word_rule.specs.TableInvariant.{TableInvariant}
 use Rattle.word_rule.specs.Plays.{Seated, releases_node}
 use Rattle.word_rule.proofs.Facts.{total_set, after_step, node_counters_at}
-use Rattle.word_rule.proofs.Each.{all_map, all_both, held_is}
+use Rattle.word_rule.proofs.Each.{all_map, held_is}
 use Rattle.word_rule.proofs.Memories.{set_version}
 use Rattle.word_rule.proofs.Standing.{locked_is_odd, held_by}
 use Rattle.word_rule.proofs.Frames.{Sit}
@@ -438,13 +437,16 @@ module _ (laws : ChangeLaws) (t : Terms) (slots id : ℕ) (me : Seated) (caller 
         (callers_over_nodes t s.words s.views r id me.0 w at stands words' like refl fewer (busy me.0 w caller)) nodes r.memory.active refl sights (λ k p. p)
         (record { own = refl; sights = refl; loads = refl; turn = omega arith })
 
-  -- a release that exchanges a group under a top, where that is lawful
-  pub releases_exchanging : (n : ℕ) (hn : Holding) → held_of n me.0.holdings.held ≡ Some hn → IsSome (spelled hn.words) → 0 < me.0.budget.credit → (top : ℕ) (group : ℕ → Bool) → IsLawfulExchange me.0 None top group
+  -- a release that exchanges what the caller changed, where that is lawful
+  pub releases_exchanging : DecidedLaw → (n : ℕ) (hn : Holding) → held_of n me.0.holdings.held ≡ Some hn → IsSome (spelled hn.words) → 0 < me.0.budget.credit → IsTrue (is_lawful me.0 None)
       → Allows Holds slots id me (4 + 36 * n) (λ _. hn.version + 4) (releases_node n (step slots (4 + 36 * n) (hn.version + 4) 0 none) me)
-  releases_exchanging n hn found spells some_credit top group ex s r deep at small = (
-    record (after_node_release_same n (after_exchange me.0 top group)) { budget = after_spending me.0.budget },
-    keeps,
-    tt,
-    released n hn found spells some_credit top group ex s r at,
-    ((after_exchange me.0 top group, (inl (inr (top, group, (ex, refl))), refl)), refl),
-  )
+  releases_exchanging law n hn found spells some_credit lawful s r deep at small =
+      let top : ℕ = top_of me.0 None in
+      let group : ℕ → Bool = is_among (group_of me.0 None) in
+      let settled : after_exchange me.0 top group ≡ settle None me.0 = sym (cond-true (is_lawful me.0 None) (after_exchange me.0 top group) (settle_free me.0) lawful) in (
+        record (after_node_release_same n (after_exchange me.0 top group)) { budget = after_spending me.0.budget },
+        keeps,
+        tt,
+        released n hn found spells some_credit top group ((exchange_decides law me.0 None).0 lawful) s r at,
+        (ap (λ (u : Log). record (after_node_release_same n u) { budget = after_spending u.budget }) settled, refl),
+      )

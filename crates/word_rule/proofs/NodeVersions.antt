@@ -1,42 +1,37 @@
 -- A load of a node's version keeps the rule: a sight begins, or one that is found to stand marks those that it names.
-use Rattle.std.proofs.Common.{◌≡◌, ◌≢◌, ℕ, zero, suc, ◌+◌, ◌-◌, ◌*◌, ◌%◌, ◌<◌, ◌≤◌, ◌⊎◌, List, [], ◌∷◌, ◌++◌, length, get_or, map, sym, refl, ap, ◌∙◌, subst, inl, inr, arith, ◌==◌, not, nat_le, nat_lt, Bool, true, false, IsTrue, true≢false, Option, Some, None, IfSome, IsSome, option_map, append-nil, eq-eqb, ne_eqb, if◌then◌else◌}
+use Rattle.std.proofs.Common.{◌≡◌, ℕ, zero, suc, ◌+◌, ◌-◌, ◌*◌, ◌%◌, ◌<◌, ◌⊎◌, List, [], ◌∷◌, ◌++◌, get_or, map, sym, refl, ap, ◌∙◌, subst, inl, inr, arith, ◌==◌, not, nat_le, nat_lt, Bool, true, false, IsTrue, true≢false, Option, Some, None, IfSome, option_map, append-nil, eq-eqb, ne_eqb, if◌then◌else◌}
 use Rattle.std.proofs.lemmas.Option.{none-some, same_Some}
-use Rattle.std.specs.List.{AllByRecursion, find, filter}
-use mathlib.Core.Option.{none, some}
+use Rattle.std.specs.List.{AllByRecursion}
+use mathlib.Core.Option.{none}
 use native.Mathlib.Decide.{ℕ_discrete}
-use lib.ListN.{get_elem?}
-use Rattle.atomic_table.specs.Table.{State, Me, step, Act, keeps, Allows}
-use Rattle.reg_model.specs.declared.span.Member.{Member}
+use Rattle.atomic_table.specs.Table.{step, keeps, Allows}
 use Rattle.reg_model.specs.declared.answer.Update.{Update}
 use Rattle.reg_model.specs.declared.answer.Receipt.{Receipt}
 use Rattle.tree_shape.specs.declared.node.Frame.{Frame}
 use Rattle.tree_shape.specs.declared.pair.Pair.{Pair}
-use Rattle.tree_shape.specs.Shapes.{Shape, Body, Pairs, Entries, Link, pairs_of, pairs_in}
-use Rattle.tree_shape.specs.Trees.{Contents, Branch, branches, branches_from}
-use Rattle.tree_shape.specs.Lawful.{IsTree, IsOrdered, IsOrderedAs, FitsParent}
+use Rattle.tree_shape.specs.Shapes.{Body, Pairs, Entries, Link, pairs_in}
+use Rattle.tree_shape.specs.Trees.{Contents, branches, branches_from}
+use Rattle.tree_shape.specs.Lawful.{IsTree, IsOrderedAs, FitsParent}
 use Rattle.word_rule.specs.declared.log.Role.TheVariants as role
-use Rattle.word_rule.specs.declared.log.Ask.{Ask}
 use Rattle.word_rule.specs.declared.log.Ask.TheVariants as ask
 use Rattle.word_rule.specs.declared.log.Terms.{Terms}
-use Rattle.word_rule.specs.declared.log.Receipts.{Receipts}
 use Rattle.word_rule.specs.declared.log.LoadedWord.{LoadedWord}
 use Rattle.word_rule.specs.declared.log.NodeSight.{NodeSight}
 use Rattle.word_rule.specs.declared.log.Log.{Log}
 use Rattle.word_rule.specs.Memory.{NodeWords, Memory, memory_of}
 use Rattle.word_rule.specs.Spelling.{node_word, is_short, pair_at, pairs_at, SpellsNode}
-use Rattle.word_rule.specs.Logs.{is_spent, weight, turns, load_of, after_load}
+use Rattle.word_rule.specs.Logs.{is_spent, load_of}
 use Rattle.word_rule.specs.Sights.{sight_of, without_sight, loaded_word, place_of, low_of, place_between, is_loaded_as, named_place, pairs_in_sight, place_under, or_mark, mark_child, sight_begun, sights_after_version, receipts_after_version, after_node_version}
-use Rattle.word_rule.specs.Callers.{total, IsIdle}
+use Rattle.word_rule.specs.Callers.{total}
 use Rattle.word_rule.specs.Nodes.{Shadow, NodesHold, IsOpen, IsPlaced}
-use Rattle.word_rule.specs.Observations.{Stands, AreOfNode, SightHolds, ObservationsHold}
+use Rattle.word_rule.specs.Observations.{Stands, AreOfNode, SightHolds}
 use Rattle.word_rule.specs.TableInvariant.{TableInvariant}
 use Rattle.word_rule.specs.Plays.{Seated, loads_version}
-use Rattle.word_rule.proofs.Each.{all_map}
 use Rattle.word_rule.proofs.Memories.{load_version_at}
-use Rattle.word_rule.proofs.Spells.{Reads, reads, reads_pairs}
+use Rattle.word_rule.proofs.Spells.{reads_pairs}
 use Rattle.word_rule.proofs.Standing.{even_is_open, stands_spells}
-use Rattle.word_rule.proofs.CallersFrame.{IsLike, busy}
-use Rattle.word_rule.proofs.ObservationsFrame.{Loads, observations_own}
+use Rattle.word_rule.proofs.CallersFrame.{busy}
+use Rattle.word_rule.proofs.ObservationsFrame.{observations_own}
 use Rattle.word_rule.proofs.Frames.{Sit, still_after_load}
 use Rattle.word_rule.proofs.Quiet.{quiet}
 use Rattle.word_rule.proofs.NodeLoads.{ltb_true}

@@ -1,5 +1,5 @@
 -- What is said of nodes stays over a step that changes one log and no node.
-use Rattle.std.proofs.Common.{◌≡◌, ◌≢◌, ℕ, ◌+◌, ◌≤◌, List, [], ◌∷◌, set, sym, ap, ◌∙◌, subst, ⊎_elim, Option, Some, None, IsSome}
+use Rattle.std.proofs.Common.{◌≡◌, ◌≢◌, ℕ, ◌+◌, List, set, sym, ap, ◌∙◌, subst, ⊎_elim, Option, Some, None, IsSome}
 use mathlib.Core.Option.{some, some-injective}
 use lib.ListN.{get_elem?}
 use Rattle.atomic_table.proofs.Lists.{set_here, set_else}
@@ -9,7 +9,6 @@ use Rattle.word_rule.specs.declared.log.Log.{Log}
 use Rattle.word_rule.specs.declared.log.Terms.{Terms}
 use Rattle.word_rule.specs.Memory.{NodeWords}
 use Rattle.word_rule.specs.Held.{held_of}
-use Rattle.word_rule.specs.Callers.{total}
 use Rattle.word_rule.specs.Nodes.{Shadow, NodesHold, HoldingsHold, HeldBy}
 use Rattle.word_rule.proofs.Facts.{total_same, after_step, within, decided}
 

@@ -1,5 +1,5 @@
 -- What is said of sights and loads stays over a step: over what it makes of the words, and of its own log.
-use Rattle.std.proofs.Common.{◌≡◌, ◌≢◌, ℕ, ◌+◌, ◌-◌, ◌*◌, ◌<◌, ◌≤◌, List, [], ◌∷◌, ◌++◌, length, length-append, get_or, sym, ap, ◌∙◌, subst, arith, Option, Some, None, IfSome, IsTrue, append-nil, refl}
+use Rattle.std.proofs.Common.{◌≡◌, ℕ, ◌+◌, ◌-◌, ◌*◌, ◌≤◌, List, [], ◌++◌, length, length-append, sym, ap, ◌∙◌, subst, arith, Option, Some, None, IfSome, IsTrue, append-nil}
 use Rattle.std.specs.List.{AllByRecursion}
 use mathlib.Core.List.{IsPrefix}
 use Rattle.reg_model.specs.History.{state_at}
@@ -12,12 +12,12 @@ use Rattle.word_rule.specs.declared.log.NodeSight.{NodeSight}
 use Rattle.word_rule.specs.declared.log.CopySight.{CopySight}
 use Rattle.word_rule.specs.declared.log.Log.{Log}
 use Rattle.word_rule.specs.Memory.{NodeWords, Memory}
-use Rattle.word_rule.specs.Logs.{turns, load_of}
+use Rattle.word_rule.specs.Logs.{turns}
 use Rattle.word_rule.specs.Sights.{place_of}
 use Rattle.word_rule.specs.Callers.{start}
 use Rattle.word_rule.specs.Nodes.{Shadow, IsPlaced}
 use Rattle.word_rule.specs.Copies.{CopySightHolds}
-use Rattle.word_rule.specs.Observations.{Stands, AreOfNode, AreInside, SightHolds, HadMembers, IsFullCount, WasFull, ObservationsHold, last_moment}
+use Rattle.word_rule.specs.Observations.{Stands, AreOfNode, AreInside, SightHolds, HadMembers, IsFullCount, WasFull, ObservationsHold}
 use Rattle.word_rule.proofs.Each.{all_map, all_append, all_of}
 
 -- a state of the past is that of any longer history

@@ -1,20 +1,18 @@
 -- A publication keeps the rule: the history has an update of the loader more, and the copies change their parts.
-use Rattle.std.proofs.Common.{◌≡◌, ◌≢◌, ℕ, ◌+◌, ◌-◌, ◌*◌, ◌/◌, ◌%◌, ◌^◌, ◌<◌, ◌≤◌, ◌⊎◌, ◌↔◌, List, [], ◌∷◌, ◌++◌, length, length-append, get_or, set, length-set, sym, refl, ap, ◌∙◌, subst, inl, inr, ⊎_elim, arith, ◌==◌, not, Bool, true, false, true≢false, Option, Some, None, option_map, IfSome, IsSome, IsSomeAnd, MatchOption, append-nil, append_assoc, Contains, eq-eqb, ne_eqb, slice_get}
+use Rattle.std.proofs.Common.{◌≡◌, ℕ, ◌+◌, ◌/◌, ◌%◌, ◌^◌, ◌<◌, ◌≤◌, ◌↔◌, List, [], ◌∷◌, ◌++◌, length, length-append, get_or, set, length-set, sym, refl, ap, ◌∙◌, subst, inl, inr, ⊎_elim, arith, ◌==◌, not, true, false, true≢false, Option, Some, None, option_map, IfSome, IsSomeAnd, append-nil, append_assoc, Contains, eq-eqb, ne_eqb}
 use Rattle.std.proofs.lemmas.Option.{none-some, same_Some}
 use Rattle.std.proofs.lemmas.List.Sums.{sum_by_push, count_by-le-length}
 use Rattle.std.proofs.lemmas.List.Elements.{Contains-append_left, Contains-append_right, Contains-append_cases, Contains-push, Contains-push_cases}
-use Rattle.std.specs.List.{AllByRecursion, count_by}
+use Rattle.std.specs.List.{AllByRecursion}
 use mathlib.Core.Option.{none, some}
 use mathlib.Core.List.{IsPrefix}
-use native.Mathlib.Decide.{ℕ_discrete}
 use lib.ListN.{get_elem?}
-use Rattle.atomic_table.specs.Table.{State as TableState, Me, step, Act, keeps, Allows}
+use Rattle.atomic_table.specs.Table.{step, keeps, Allows}
 use Rattle.atomic_table.proofs.Lists.{set_here}
-use Rattle.reg_model.specs.Interval.{IsSpan}
-use Rattle.reg_model.specs.State.{State, IsFree, objects, at_base}
-use Rattle.reg_model.specs.History.{Fits, after, state_after, IsHistory}
-use Rattle.reg_model.specs.Current.{LeadsTo, Step}
-use Rattle.reg_model.specs.Receipt.{moment, accepted, made, Holds, AllHold, IsFilled}
+use Rattle.reg_model.specs.State.{State, at_base}
+use Rattle.reg_model.specs.History.{Fits, after, state_after}
+use Rattle.reg_model.specs.Current.{Step}
+use Rattle.reg_model.specs.Receipt.{moment, accepted, made, Holds, IsFilled}
 use Rattle.reg_model.specs.declared.span.Member.{Member}
 use Rattle.reg_model.specs.declared.answer.Update.{Update}
 use Rattle.reg_model.specs.declared.answer.Update.TheVariants as update
@@ -28,20 +26,16 @@ use Rattle.tree_shape.specs.Numbers.{once}
 use Rattle.tree_shape.specs.Trees.{HasEntry}
 use Rattle.word_rule.specs.declared.log.Role.TheVariants as role
 use Rattle.word_rule.specs.declared.log.Terms.{Terms}
-use Rattle.word_rule.specs.declared.log.Receipts.{Receipts}
-use Rattle.word_rule.specs.declared.log.LoadEvent.{LoadEvent}
 use Rattle.word_rule.specs.declared.log.LoaderHolding.{LoaderHolding}
-use Rattle.word_rule.specs.declared.log.NodeSight.{NodeSight}
-use Rattle.word_rule.specs.declared.log.CopySight.{CopySight}
 use Rattle.word_rule.specs.declared.log.Log.{Log}
-use Rattle.word_rule.specs.Places.{lower, upper, spare}
-use Rattle.word_rule.specs.Memory.{Memory, memory_of, counters}
+use Rattle.word_rule.specs.Places.{upper}
+use Rattle.word_rule.specs.Memory.{Memory, memory_of}
 use Rattle.word_rule.specs.Logs.{is_spent, weight, turns}
 use Rattle.word_rule.specs.Steps.{IsDone, exchange_copies, after_publish, AfterPublish, Publishes, MayPublish}
-use Rattle.word_rule.specs.Callers.{total, CallersHold, LogHolds, IsRecord, ReceiptsHold, IsIdle, HoldsLoader, AtLoader, LoaderLock, IsOfTerms, is_of_loader, publications, is_done, dones, dones_of_all, dones_in, number_of, start}
+use Rattle.word_rule.specs.Callers.{total, CallersHold, LogHolds, ReceiptsHold, HoldsLoader, AtLoader, LoaderLock, IsOfTerms, is_of_loader, dones_in, number_of, start}
 use Rattle.word_rule.specs.Nodes.{Shadow, NodesHold}
-use Rattle.word_rule.specs.Copies.{ListsMembers, ListsAll, ActiveCopy, CopySightHolds}
-use Rattle.word_rule.specs.Observations.{SightHolds, WasFull, HadMembers, IsFullCount, ObservationsHold, last_moment}
+use Rattle.word_rule.specs.Copies.{ListsMembers, ActiveCopy, CopySightHolds}
+use Rattle.word_rule.specs.Observations.{SightHolds, WasFull, ObservationsHold, last_moment}
 use Rattle.word_rule.specs.TableInvariant.{TableInvariant}
 use Rattle.word_rule.specs.Plays.{Seated, publishes}
 use Rattle.word_rule.proofs.Facts.{total_set, total_same, part_of_total, after_step, within}
@@ -53,7 +47,7 @@ use Rattle.word_rule.proofs.ObservationsFrame.{observations_over, sight_over}
 use Rattle.word_rule.proofs.Frames.{Sit, table_step, still_after_turn}
 use Rattle.word_rule.proofs.Listings.{lists_same, contains_filter, filter_contains, find_contains, contains_find, state_fixed, loaded_spans, loaded_disjoint, disjoint_fit, free_of}
 use Rattle.word_rule.proofs.Receiving.{all_hold_snoc, in_order_next, done_snoc, number_snoc}
-use Rattle.word_rule.proofs.Joins.{record_later, records_later, log_later}
+use Rattle.word_rule.proofs.Joins.{record_later, records_later}
 use Rattle.word_rule.proofs.CopyStores.{other_loader, loader_held}
 
 -- An update of the loader that fits, as the one after so many, has its receipt.

@@ -1,5 +1,5 @@
 -- A step that changes no word keeps the rule where its log does.
-use Rattle.std.proofs.Common.{◌≡◌, ◌≢◌, ℕ, ◌+◌, ◌≤◌, List, get_or, set, length-set, sym, refl, ap, ◌∙◌, subst, arith, IsSome, false}
+use Rattle.std.proofs.Common.{◌≡◌, ℕ, ◌+◌, List, get_or, set, length-set, sym, refl, ap, subst, arith, IsSome, false}
 use mathlib.Core.Option.{some}
 use lib.ListN.{get_elem?}
 use Rattle.tree_shape.specs.Numbers.{times}

@@ -1,6 +1,6 @@
 -- One receipt more, and one update more.
-use Rattle.std.proofs.Common.{◌≡◌, ◌≢◌, ℕ, ◌+◌, ◌-◌, ◌<◌, ◌≤◌, List, [], ◌∷◌, ◌++◌, length, sym, refl, ap, ◌∙◌, subst, arith, ◌==◌, ◌&&◌, nat_le, Bool, true, false, Option, Some, None, max, eq-eqb, ne_eqb, lt_of_not-le}
-use Rattle.std.specs.List.{AllByRecursion, count_by}
+use Rattle.std.proofs.Common.{◌≡◌, ℕ, ◌+◌, ◌<◌, ◌≤◌, List, [], ◌∷◌, ◌++◌, length, refl, ap, ◌∙◌, arith, ◌==◌, nat_le, true, false, Some, max, eq-eqb, ne_eqb, lt_of_not-le}
+use Rattle.std.specs.List.{count_by}
 use Rattle.std.proofs.lemmas.List.Sums.{sum_by_push}
 use native.Mathlib.Decide.{ℕ_discrete, dec_le}
 use borrow.Author.Tests.{le-leb, lt-leb}

@@ -1,5 +1,5 @@
 -- What a node that words spell tells of the words.
-use Rattle.std.proofs.Common.{◌≡◌, ℕ, zero, suc, ◌+◌, List, [], ◌∷◌, length, Option, Some, None, Bool, true, false, true≢false, ◌==◌, ◌&&◌, nat_le, option_map, sym, refl, ap, ◌∙◌, subst, arith, if◌then◌else◌, ◌⊎◌, inl, inr}
+use Rattle.std.proofs.Common.{◌≡◌, ℕ, zero, suc, ◌+◌, List, ◌∷◌, length, Option, Some, None, Bool, true, false, true≢false, ◌==◌, ◌&&◌, nat_le, option_map, sym, refl, ap, ◌∙◌, subst, if◌then◌else◌, ◌⊎◌, inl, inr}
 use Rattle.std.proofs.lemmas.Option.{none-some, same_Some}
 use Rattle.std.proofs.lemmas.Bool.{and_parts}
 use native.Mathlib.Decide.{ℕ_discrete}
@@ -7,7 +7,7 @@ use Rattle.std.proofs.Common.{ne_eqb}
 use Rattle.reg_model.specs.declared.span.Member.{Member}
 use Rattle.tree_shape.specs.declared.pair.Pair.{Pair}
 use Rattle.tree_shape.specs.Shapes.{Shape, Body, Pairs, Entries, Link, pairs_of, entries_of, pairs_in, entries_in}
-use Rattle.word_rule.specs.Spelling.{node_word, is_short, pair_at, pairs_at, entry_at, is_entry_at, entries_at, body_of_kind, spelled, SpellsNode}
+use Rattle.word_rule.specs.Spelling.{node_word, is_short, pair_at, pairs_at, entry_at, is_entry_at, entries_at, body_of_kind, SpellsNode}
 use Rattle.word_rule.specs.Observations.{IsFullBody}
 
 -- a test of two numbers that holds

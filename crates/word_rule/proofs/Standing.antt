@@ -1,9 +1,8 @@
 -- Who holds a node, and what a sight that stands tells of it.
-use Rattle.std.proofs.Common.{◌≡◌, ◌≢◌, ℕ, ◌+◌, ◌<◌, ◌≤◌, ◌%◌, ◌⊎◌, List, sym, refl, ap, ◌∙◌, subst, inl, inr, ⊎_elim, arith, Option, Some, None, IsSome, false}
-use mathlib.Core.Option.{some, some-injective}
+use Rattle.std.proofs.Common.{◌≡◌, ◌≢◌, ℕ, ◌+◌, ◌<◌, ◌%◌, List, refl, ap, ◌∙◌, subst, ⊎_elim, arith, Option, Some, None, false}
+use mathlib.Core.Option.{some}
 use lib.ListN.{get_elem?}
 use Rattle.reg_model.specs.declared.answer.Update.{Update}
-use Rattle.tree_shape.specs.Shapes.{Shape}
 use Rattle.word_rule.specs.declared.log.Terms.{Terms}
 use Rattle.word_rule.specs.declared.log.Holding.{Holding}
 use Rattle.word_rule.specs.declared.log.NodeSight.{NodeSight}
@@ -12,8 +11,8 @@ use Rattle.word_rule.specs.Memory.{NodeWords}
 use Rattle.word_rule.specs.Spelling.{SpellsNode}
 use Rattle.word_rule.specs.Held.{held_of}
 use Rattle.word_rule.specs.Callers.{IsLockedAt}
-use Rattle.word_rule.specs.Nodes.{Shadow, NodesHold, HoldsNode, HoldingsHold, HeldBy, IsOpen}
-use Rattle.word_rule.specs.Observations.{Stands, SightHolds}
+use Rattle.word_rule.specs.Nodes.{Shadow, NodesHold, HoldsNode, HeldBy, IsOpen}
+use Rattle.word_rule.specs.Observations.{Stands}
 use Rattle.word_rule.proofs.Each.{held_is, some_of}
 
 pub locked_is_odd : (version word : ℕ) → IsLockedAt version word → word % 4 ≢ 0

@@ -8,6 +8,8 @@ use Rattle.tree_shape.proofs.Local.{tree_after, filled_after}
 use Rattle.word_rule.proofs.NodeLoads.{FullLaw, OrderLaw}
 use Rattle.word_rule.proofs.HeadPlays.{RootLaw}
 use Rattle.word_rule.proofs.NodeVersions.{ChildrenLaw}
+use Rattle.tree_shape.proofs.Deciding.{lawful_decides}
+use Rattle.word_rule.proofs.Exchanges.{DecidedLaw}
 use Rattle.word_rule.proofs.Exchanging.{ChangeLaws}
 
 pub root_law : RootLaw
@@ -34,3 +36,6 @@ change_laws = record {
 
 pub full_law : FullLaw
 full_law f live n lawful alive full = full_members f live n lawful alive full
+
+pub decided_law : DecidedLaw
+decided_law = lawful_decides

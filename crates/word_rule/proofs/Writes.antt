@@ -1,5 +1,5 @@
 -- A step that changes a word keeps the rule where what it makes of nodes, copies and callers does.
-use Rattle.std.proofs.Common.{◌≡◌, ◌≢◌, ℕ, ◌+◌, ◌<◌, ◌≤◌, List, [], length, set, sym, refl, ap, ◌∙◌, subst, arith, Option, Some, None, false, append-nil}
+use Rattle.std.proofs.Common.{◌≡◌, ℕ, ◌+◌, ◌<◌, ◌≤◌, List, [], length, set, sym, refl, subst, arith, Option, Some, None, false}
 use mathlib.Core.Option.{some}
 use mathlib.Core.List.{IsPrefix}
 use lib.ListN.{get_elem?}

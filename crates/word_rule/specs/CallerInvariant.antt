@@ -1,10 +1,9 @@
 -- How what a caller or a note keeps plainly is tied to its log.
-use Rattle.std.specs.Prelude.{◌≡◌, ℕ, ◌+◌, ◌*◌, ◌≤◌, ◌<◌, ◌^◌, List, [], length, slice_index, IfSome, None, false}
+use Rattle.std.specs.Prelude.{◌≡◌, ℕ, ◌+◌, ◌*◌, ◌≤◌, ◌<◌, ◌^◌, List, [], length, slice_index, IfSome, None}
 use Rattle.word_rule.specs.declared.log.Role.TheVariants as role
 use Rattle.word_rule.specs.declared.log.Log.{Log}
 use Rattle.word_rule.specs.declared.log.Lineage.{Lineage}
 use Rattle.word_rule.specs.declared.lineage.Names.{Names}
-use Rattle.word_rule.specs.Logs.{is_spent}
 use Rattle.word_rule.specs.Places.{ALLOWANCE, CALL_CREDIT}
 use Rattle.word_rule.specs.Plays.{Seated}
 

@@ -1,8 +1,10 @@
 -- When and how the settled contents of the nodes that a caller holds become what their words spell. Nothing is asked of the
 -- rest of the tree.
-use Rattle.std.specs.Prelude.{◌≡◌, ◌≢◌, ℕ, ◌≤◌, Bool, true, false, ◌&&◌, ◌||◌, not, IsTrue, IsSome, is_some, List, ◌++◌, length, Option, Some, None, ◌⊎◌, map, if◌then◌else◌}
-use Rattle.std.specs.List.{AllByRecursion, filter}
+use Rattle.std.specs.Prelude.{◌≡◌, ◌≢◌, ℕ, ◌≤◌, Bool, true, false, ◌&&◌, ◌||◌, not, IsTrue, IsSome, is_some, List, ◌++◌, length, Option, Some, None, map, nat_le, nat_lt, [], ◌∷◌, if◌then◌else◌}
+use Rattle.std.specs.List.{AllByRecursion, filter, list_all}
 use Rattle.reg_model.specs.declared.answer.Update.{Update}
+use Rattle.reg_model.specs.declared.answer.Update.TheVariants.{Register, Deregister, Load, Unload}
+use Rattle.tree_shape.specs.Decisions.{same_shape, is_entries, is_lawful_change}
 use Rattle.tree_shape.specs.Shapes.{Shape, frame_of}
 use Rattle.tree_shape.specs.Trees.{Contents}
 use Rattle.tree_shape.specs.Numbers.{is_among}
@@ -55,11 +57,6 @@ pub record IsLawfulExchange (v : Log) (update : Option Update) (top : ℕ) (grou
   pub enters : AllByRecursion (λ h. IsTrue (is_fresh v.holdings.held v.holdings.out h.node) → IsTrue (is_reached v top group h.node) → h.stored ≡ true) v.holdings.held
   pub room : length (out_after v top group) ≤ 4
 
--- no held live node differs from its settled content, and no update is made
-abbrev pub IsQuiet : Log → Option Update → Type 0
-IsQuiet v None = AllByRecursion (λ h. IsSome h.mark → spelled (h.words) ≡ Some h.settled) v.holdings.held
-IsQuiet v (Some update) = ⊥
-
 -- A held node's settled content becomes what its words spell, where it is in the group or isn't live. It is marked where
 -- it is reached, and no more where it is of the group and isn't.
 abbrev pub mark_after : Shape → (ℕ → Bool) → (ℕ → Bool) → Holding → Option Frame
@@ -82,15 +79,81 @@ nothing_reached n = false
 abbrev pub settle_free : Log → Log
 settle_free v = record v { holdings = record v.holdings { held = map (exchange nothing_reached nothing_reached) v.holdings.held } }
 
--- some exchange is lawful
-abbrev pub MayExchange : Log → Option Update → Type 0
-MayExchange v update = (top : ℕ) × (group : ℕ → Bool) × IsLawfulExchange v update top group
+-- whether what words spell is this content
+abbrev pub are_spelled : Option Shape → Shape → Bool
+are_spelled None s = false
+are_spelled (Some t) s = same_shape t s
 
--- What an exchange makes of a log: where no live node differs only the others settle, else a lawful exchange is made.
-abbrev pub Exchanges : Option Update → Log → Log → Type 0
-Exchanges update v w = (IsQuiet v update × (w ≡ settle_free v)) ⊎ ((top : ℕ) × (group : ℕ → Bool) × (IsLawfulExchange v update top group × (w ≡ after_exchange v top group)))
+-- the address that an update is about
+abbrev pub address_of : Update → ℕ
+address_of (Register m) = m.span.first
+address_of (Deregister base) = base
+address_of (Load m) = m.span.first
+address_of (Unload base) = base
 
--- An exchange that is made exactly where it is lawful, as at the release of a node and at a store that makes one free. Held
--- nodes that aren't live settle in any case.
-abbrev pub ExchangesWhereLawful : Log → Log → Type 0
-ExchangesWhereLawful v w = Exchanges None v w ⊎ ((¬ IsQuiet v None) × (¬ MayExchange v None) × (w ≡ settle_free v))
+-- whether the words spell a leaf whose fences hold the address
+abbrev pub is_leaf_at : ℕ → Option Shape → Bool
+is_leaf_at pc None = false
+is_leaf_at pc (Some s) = is_entries s.body && (nat_le s.low pc && nat_le pc s.high)
+
+-- whether a commit of the update is made in this node
+abbrev pub is_updated : Option Update → Holding → Bool
+is_updated None h = false
+is_updated (Some update) h = is_leaf_at (address_of update) (spelled h.words)
+
+-- whether the caller changed a live node: its words spell something else than its settled content,
+-- or the update is made there
+abbrev pub is_changed : Option Update → Holding → Bool
+is_changed update h =
+    is_some h.mark && (not (are_spelled (spelled h.words) h.settled) || is_updated update h)
+
+abbrev pub changed_of : Log → Option Update → List Holding
+changed_of v update = filter (is_changed update) v.holdings.held
+
+-- the group of an exchange: all live nodes that the caller changed
+abbrev pub group_of : Log → Option Update → List ℕ
+group_of v update = map node_of (changed_of v update)
+
+-- Its top: the one with the greatest settled level. If two have it neither reaches the other, and
+-- no exchange of them is lawful, whichever is taken.
+abbrev pub highest : ℕ → ℕ → List Holding → ℕ
+highest node level [] = node
+highest node level (h ∷ held) =
+    if nat_lt level h.settled.level then highest h.node h.settled.level held
+    else highest node level held
+
+abbrev pub highest_of : List Holding → ℕ
+highest_of [] = 0
+highest_of (h ∷ held) = highest h.node h.settled.level held
+
+abbrev pub top_of : Log → Option Update → ℕ
+top_of v update = highest_of (changed_of v update)
+
+-- whether each holding with the one property has the other
+abbrev pub each_with : (Holding → Bool) → (Holding → Bool) → List Holding → Bool
+each_with some more held = list_all (λ h. not (some h) || more h) held
+
+-- Whether the exchange of all that the caller changed is lawful. It is true exactly where
+-- `IsLawfulExchange` holds of this top and this group.
+abbrev pub is_lawful : Log → Option Update → Bool
+is_lawful v update =
+    let held = v.holdings.held in
+    let top = top_of v update in
+    let nodes = group_of v update in
+    let group = is_among nodes in
+    let fresh = is_fresh held v.holdings.out in
+    let reached = is_reached v top group in
+    each_with (λ h. group h.node || reached h.node) (λ h. is_some (spelled h.words)) held
+    && (list_all (marked_in held) nodes
+    && (is_lawful_change (settled_in held) (marked_in held) top nodes fresh v.holdings.out
+    (exchanged_in v group) update
+    && (each_with (λ h. group h.node && not (reached h.node)) (λ h. h.stored) held
+    && (each_with (λ h. fresh h.node && reached h.node) (λ h. h.stored) held
+    && nat_le (length (out_after v top group)) 4))))
+
+-- The log after a step at which contents settle: after the exchange where it is lawful, else with
+-- the nodes alone that aren't live.
+abbrev pub settle : Option Update → Log → Log
+settle update v =
+    if is_lawful v update then after_exchange v (top_of v update) (is_among (group_of v update))
+    else settle_free v

@@ -1,5 +1,5 @@
 -- What holds of what a log has loaded: its sights of nodes, and the counts that it found full.
-use Rattle.std.specs.Prelude.{◌≡◌, ℕ, ◌+◌, ◌-◌, ◌*◌, ◌<◌, ◌≤◌, ◌%◌, ◌⊎◌, ◌↔◌, false, IsTrue, List, [], ◌∷◌, length, max, IfSome, IsSome, slice_index, Contains}
+use Rattle.std.specs.Prelude.{◌≡◌, ℕ, ◌+◌, ◌-◌, ◌*◌, ◌<◌, ◌≤◌, ◌%◌, ◌⊎◌, ◌↔◌, false, IsTrue, List, [], ◌∷◌, length, max, IfSome, IsSome, Contains}
 use Rattle.std.specs.List.{AllByRecursion}
 use Rattle.reg_model.specs.History.{state_at}
 use Rattle.reg_model.specs.Receipt.{moment}

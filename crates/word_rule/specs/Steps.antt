@@ -21,7 +21,7 @@ use Rattle.tree_shape.specs.declared.node.Frame.{Frame}
 use Rattle.word_rule.specs.Places.{HEAD}
 use Rattle.word_rule.specs.Spelling.{spelled}
 use Rattle.word_rule.specs.Held.{held_of, edited, without_lock, all_but, marked_in}
-use Rattle.word_rule.specs.Exchange.{Exchanges, ExchangesWhereLawful, MayExchange, Differs}
+use Rattle.word_rule.specs.Exchange.{Differs, is_lawful, settle}
 use Rattle.tree_shape.specs.Numbers.{is_among}
 use Rattle.word_rule.specs.Logs.{after_load, after_write, after_spending}
 use Rattle.word_rule.specs.Sights.{with_receipts}
@@ -68,12 +68,14 @@ after_node_release_same n v = record (after_write v) { holdings = record v.holdi
 
 -- A node was let go with the next version: its content settled where that is lawful.
 abbrev pub AfterNodeRelease : ℕ → Log → Log → Type 0
-AfterNodeRelease n v w = (u : Log) × (ExchangesWhereLawful v u × (w ≡ record (after_node_release_same n u) { budget = after_spending u.budget }))
+AfterNodeRelease n v w =
+    let u = settle None v in
+    w ≡ record (after_node_release_same n u) { budget = after_spending u.budget }
 
 -- A release asks that the node's words spell a node, and, where it is live and they spell another content, for a lawful
 -- exchange.
 abbrev pub MayRelease : ℕ → Log → Type 0
-MayRelease n v = IsSomeAnd (held_of n v.holdings.held) (λ h. IsSome (spelled (h.words)) × (IsSome h.mark → Differs h → MayExchange v None))
+MayRelease n v = IsSomeAnd (held_of n v.holdings.held) (λ h. IsSome (spelled (h.words)) × (IsSome h.mark → Differs h → IsTrue (is_lawful v None)))
 
 -- a word was stored in a held node, counted from its version word
 abbrev pub store_in : ℕ → ℕ → Holding → Holding
@@ -85,7 +87,7 @@ stored_log n at value v = record v { trace = record v.trace { writes = v.trace.w
 -- A word of a held node was stored. Where it made a live node free, the contents settle where that is lawful.
 abbrev pub AfterStore : ℕ → ℕ → ℕ → Log → Log → Type 0
 AfterStore n at value v w =
-    (((at ≡ 1) × (value ≡ 2) × IsTrue (marked_in v.holdings.held n)) × ExchangesWhereLawful (stored_log n at value v) w)
+    (((at ≡ 1) × (value ≡ 2) × IsTrue (marked_in v.holdings.held n)) × (w ≡ settle None (stored_log n at value v)))
     ⊎ ((¬ ((at ≡ 1) × (value ≡ 2) × IsTrue (marked_in v.holdings.held n))) × (w ≡ stored_log n at value v))
 
 -- a store asks that the node is held, and live or out
@@ -106,12 +108,13 @@ after_update u before r v = record (with_receipts (r ∷ []) (after_write v)) { 
 
 -- A commit: the update of the tree was accepted, and the contents settled.
 abbrev pub AfterCommit : Update → Log → Log → Type 0
-AfterCommit u v w = (before : List Update) × (r : Receipt) × (settled : Log) ×
-    (IsDone u (length before + 1) (state_after (start v.terms) before) r × Exchanges (Some u) v settled × (w ≡ after_update u before r settled))
+AfterCommit u v w = (before : List Update) × (r : Receipt) ×
+    (IsDone u (length before + 1) (state_after (start v.terms) before) r
+    × (w ≡ after_update u before r (settle (Some u) v)))
 
 -- a commit asks for a lawful exchange, in which its update changes the entries
 abbrev pub MayCommit : Update → Log → Type 0
-MayCommit u v = MayExchange v (Some u)
+MayCommit u v = IsTrue (is_lawful v (Some u))
 
 -- A word of the copy that is not active was stored, counted from the copy's first.
 abbrev pub store_in_copy : ℕ → ℕ → LoaderHolding → LoaderHolding

@@ -17,6 +17,7 @@
 #![tactic(auto)]
 
 mod caller;
+pub mod exchange;
 mod initial;
 mod lifecycle;
 mod lineage;

@@ -1,5 +1,4 @@
 use Rattle.std.proofs.Common.{sym, ap, ◌∙◌, arith}
-use Rattle.word_rule.specs.Logs.{is_spent}
 use Rattle.word_rule.proofs.Joins.{learns}
 use Rattle.word_rule.proofs.words.Words.learn.Goals as goal
 
