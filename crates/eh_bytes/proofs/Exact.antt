@@ -2,31 +2,31 @@
 use Rattle.std.proofs.Common.{◌≡◌, ℕ, ◌+◌, ◌≤◌, List, [], ◌∷◌, ◌++◌, length, take, drop, Bool, true, false, Option, Some, None, Result, Ok, Err, nat_lt, refl, sym, ap, subst, ◌∙◌, append_assoc, length-append, arith, inl, inr}
 use Rattle.std.proofs.lemmas.Bool.{ltb-false, ltb-true, le-ltb, lt-ltb}
 use Rattle.std.proofs.lemmas.List.{take-append-drop, take_at, drop_at, length-take}
-use Rattle.eh_bytes.specs.Rest.{Rest, skipped}
+use Rattle.eh_bytes.specs.CursorData.{CursorData, skipped}
 use Rattle.eh_bytes.specs.Results.{◌and_then◌}
 use Rattle.eh_bytes.specs.Grammar.{Part, ◌>>=◌, give, here, refuse, when, check, found, given, lift, block}
 use Rattle.eh_bytes.proofs.Results.{ok_is, err_is, bind_ok, bind_err, with_fault_ok, with_fault_err, cond_err, cond_errs, guarded}
 
 -- what is left at a place
-abbrev pub left : ℕ → List ℕ → Rest
+abbrev pub left : ℕ → List ℕ → CursorData
 left p bytes = record { bytes = bytes; at = p }
 
 -- a text at the front spells x, and leads from r to what is left
-pub record Takes {F A : Type 0} (g : Part F A) (r : Rest) (x : A) (behind : Rest) : Type 0 where
+pub record Takes {F A : Type 0} (g : Part F A) (r : CursorData) (x : A) (behind : CursorData) : Type 0 where
   pub front : List ℕ
   pub parts : r.bytes ≡ front ++ behind.bytes
   pub place : behind.at ≡ r.at + length front
   pub spells : g.Spells r.at front x
 
 pub record IsExact {F A : Type 0} (g : Part F A) : Type 0 where
-  pub takes : (r : Rest) (x : A) (behind : Rest) → g.read r ≡ Ok (x, behind) → Takes g r x behind
-  pub refuses : (r : Rest) (f : F) → g.read r ≡ Err f → g.Refuses r.at r.bytes f
+  pub takes : (r : CursorData) (x : A) (behind : CursorData) → g.read r ≡ Ok (x, behind) → Takes g r x behind
+  pub refuses : (r : CursorData) (f : F) → g.read r ≡ Err f → g.Refuses r.at r.bytes f
   pub again : (p : ℕ) (front back : List ℕ) (x : A) → g.Spells p front x → g.read (left p (front ++ back)) ≡ Ok (x, left (p + length front) back)
   pub refused : (p : ℕ) (bytes : List ℕ) (f : F) → g.Refuses p bytes f → g.read (left p bytes) ≡ Err f
 
 -- ---- one part and then another
 
-Takes-then : {F A B : Type 0} (g : Part F A) (h : A → Part F B) (r : Rest) (x : A) (mid : Rest) (y : B) (behind : Rest)
+Takes-then : {F A B : Type 0} (g : Part F A) (h : A → Part F B) (r : CursorData) (x : A) (mid : CursorData) (y : B) (behind : CursorData)
     → Takes g r x mid → Takes (h x) mid y behind → Takes (g >>= h) r y behind
 Takes-then g h r x mid y behind s t =
     record {
@@ -73,16 +73,16 @@ no_text : (p : ℕ) (front back : List ℕ) → front ≡ [] → left p (front +
 no_text p [] back e = ap (λ (q : ℕ). left q back) (omega arith)
 no_text p (b ∷ bs) back e = absurd cc
 
-stays : {F A : Type 0} (g : Part F A) (r : Rest) (x : A) → g.Spells r.at [] x → Takes g r x r
+stays : {F A : Type 0} (g : Part F A) (r : CursorData) (x : A) → g.Spells r.at [] x → Takes g r x r
 stays g r x s = record { front = []; parts = refl; place = omega arith; spells = s }
 
 pub give_exact : {F A : Type 0} (x : A) → IsExact (give {F = F} x)
 give_exact {F} {A} x = record {
   takes = λ r y behind e.
       let same : (x, r) ≡ (y, behind) = ok_is {F = F} (x, r) (y, behind) e in
-      subst (λ (z : A × Rest). Takes (give {F = F} x) r z.0 z.1) same (stays (give {F = F} x) r x (refl, refl));
+      subst (λ (z : A × CursorData). Takes (give {F = F} x) r z.0 z.1) same (stays (give {F = F} x) r x (refl, refl));
   refuses = λ r f e. absurd cc;
-  again = λ p front back y s. ap (λ (z : Rest). Ok (x, z)) (no_text p front back s.0) ∙ ap (λ (v : A). Ok (v, left (p + length front) back)) s.1;
+  again = λ p front back y s. ap (λ (z : CursorData). Ok (x, z)) (no_text p front back s.0) ∙ ap (λ (v : A). Ok (v, left (p + length front) back)) s.1;
   refused = λ p bytes f s. absurd s;
 }
 
@@ -90,16 +90,16 @@ pub here_exact : {F : Type 0} → IsExact (here {F = F})
 here_exact {F} = record {
   takes = λ r y behind e.
       let same : (r.at, r) ≡ (y, behind) = ok_is {F = F} (r.at, r) (y, behind) e in
-      subst (λ (z : ℕ × Rest). Takes (here {F = F}) r z.0 z.1) same (stays (here {F = F}) r r.at (refl, refl));
+      subst (λ (z : ℕ × CursorData). Takes (here {F = F}) r z.0 z.1) same (stays (here {F = F}) r r.at (refl, refl));
   refuses = λ r f e. absurd cc;
-  again = λ p front back y s. ap (λ (z : Rest). Ok (p, z)) (no_text p front back s.0) ∙ ap (λ (v : ℕ). Ok (v, left (p + length front) back)) s.1;
+  again = λ p front back y s. ap (λ (z : CursorData). Ok (p, z)) (no_text p front back s.0) ∙ ap (λ (v : ℕ). Ok (v, left (p + length front) back)) s.1;
   refused = λ p bytes f s. absurd s;
 }
 
 pub refuse_exact : {F A : Type 0} (f : F) → IsExact (refuse {A = A} f)
 refuse_exact {F} {A} f = record {
   takes = λ r y behind e. absurd cc;
-  refuses = λ r e same. sym (err_is {A = A × Rest} f e same);
+  refuses = λ r e same. sym (err_is {A = A × CursorData} f e same);
   again = λ p front back y s. absurd s;
   refused = λ p bytes e s. ap (λ (v : F). Err v) (sym s);
 }
@@ -151,7 +151,7 @@ pub block_exact : {F A : Type 0} (short : F) (n : ℕ) (g : Part F A) → IsExac
 block_exact {F} {A} short n g eg = record {
   takes = λ r y behind e.
       let inside = left r.at (take n r.bytes) in
-      let opened = guarded {A = Rest × Rest} {B = A × Rest} (nat_lt (length r.bytes) n) short (inside, skipped n r) (λ d. ◌and_then◌ (g.read d.0) (λ z. Ok (z.0, d.1))) in
+      let opened = guarded {A = CursorData × CursorData} {B = A × CursorData} (nat_lt (length r.bytes) n) short (inside, skipped n r) (λ d. ◌and_then◌ (g.read d.0) (λ z. Ok (z.0, d.1))) in
       let a = cond_err (nat_lt (length r.bytes) n) short (◌and_then◌ (g.read inside) (λ z. Ok (z.0, skipped n r))) (y, behind) (sym opened ∙ e) in
       let long : n ≤ length r.bytes = ltb-false _ _ a.0 in
       let b = bind_ok (g.read inside) (λ z. Ok (z.0, skipped n r)) (y, behind) a.1 in
@@ -164,10 +164,10 @@ block_exact {F} {A} short n g eg = record {
         spells = (size, (t.front, b.0.1.bytes, t.parts, t.spells));
       } in
       let same : (b.0.0, skipped n r) ≡ (y, behind) = ok_is {F = F} (b.0.0, skipped n r) (y, behind) b.2 in
-      subst (λ (z : A × Rest). Takes (block short n g) r z.0 z.1) {x = (b.0.0, skipped n r)} {y = (y, behind)} same made;
+      subst (λ (z : A × CursorData). Takes (block short n g) r z.0 z.1) {x = (b.0.0, skipped n r)} {y = (y, behind)} same made;
   refuses = λ r f e.
       let inside = left r.at (take n r.bytes) in
-      let opened = guarded {A = Rest × Rest} {B = A × Rest} (nat_lt (length r.bytes) n) short (inside, skipped n r) (λ d. ◌and_then◌ (g.read d.0) (λ z. Ok (z.0, d.1))) in
+      let opened = guarded {A = CursorData × CursorData} {B = A × CursorData} (nat_lt (length r.bytes) n) short (inside, skipped n r) (λ d. ◌and_then◌ (g.read d.0) (λ z. Ok (z.0, d.1))) in
       elim (cond_errs (nat_lt (length r.bytes) n) short (◌and_then◌ (g.read inside) (λ z. Ok (z.0, skipped n r))) f (sym opened ∙ e)) [
         | inl a ↦ inl (ltb-true _ _ a.0, a.1)
         | inr a ↦

@@ -7,7 +7,7 @@ use Rattle.byteorder.specs.Endian.{little_number}
 use Rattle.byteorder.specs.Numbers.{little_from-append}
 use Rattle.eh_bytes.specs.declared.fault.ByteFault.{ByteFault}
 use Rattle.eh_bytes.specs.declared.fault.ByteFault.TheVariants as bytes
-use Rattle.eh_bytes.specs.Rest.{Rest, skipped, text_len, text_of, text_at}
+use Rattle.eh_bytes.specs.CursorData.{CursorData, skipped, text_len, text_of, text_at}
 use Rattle.eh_bytes.specs.Leb.{IsLeb, leb_len, uleb_value, sleb_value, fits_signed, uleb_of, sleb_of}
 use Rattle.eh_bytes.specs.Fields.{fixed, uleb, sleb, text}
 use Rattle.eh_bytes.proofs.Results.{ok_is, guard_ok, guard_err, fits_ok, fits_err}
@@ -15,7 +15,7 @@ use Rattle.eh_bytes.proofs.Exact.{left, Takes, IsExact}
 
 -- ---- numbers of fixed width
 
-front_of : (n : ℕ) (r : Rest) → n ≤ length r.bytes → length (take n r.bytes) ≡ n
+front_of : (n : ℕ) (r : CursorData) → n ≤ length r.bytes → length (take n r.bytes) ≡ n
 front_of n r le = omega (arith, length-take n r.bytes)
 
 number_front : (n : ℕ) (bytes : List ℕ) → n ≤ length bytes → little_number n (take n bytes) ≡ little_number n bytes
@@ -33,7 +33,7 @@ fixed_exact n = record {
         place = omega (arith, front_of n r long);
         spells = (front_of n r long, number_front n r.bytes long);
       } in
-      subst (λ (z : ℕ × Rest). Takes (fixed n) r z.0 z.1) g.1 made;
+      subst (λ (z : ℕ × CursorData). Takes (fixed n) r z.0 z.1) g.1 made;
   refuses = λ r f e.
       let g = guard_err (nat_lt (length r.bytes) n) (bytes.Short r.at) f (little_number n r.bytes, skipped n r) e in
       (ltb-true _ _ g.0, g.1);
@@ -86,15 +86,15 @@ IsLeb-take xs n e =
 
 -- ---- unsigned numbers
 
-uleb_some : (r : Rest) (o : Option ℕ) (x : ℕ) (behind : Rest) → uleb_of r o ≡ Ok (x, behind)
-    → (n : ℕ) × (o ≡ Some n) × (nat_lt (uleb_value (take n r.bytes)) (2 ^ 64) ≡ true) × (let made : ℕ × Rest = (uleb_value (take n r.bytes), skipped n r) in made ≡ (x, behind))
+uleb_some : (r : CursorData) (o : Option ℕ) (x : ℕ) (behind : CursorData) → uleb_of r o ≡ Ok (x, behind)
+    → (n : ℕ) × (o ≡ Some n) × (nat_lt (uleb_value (take n r.bytes)) (2 ^ 64) ≡ true) × (let made : ℕ × CursorData = (uleb_value (take n r.bytes), skipped n r) in made ≡ (x, behind))
 unfolding uleb_of
 uleb_some r None x behind e = absurd cc
 uleb_some r (Some n) x behind e =
     let g = fits_ok (nat_lt (uleb_value (take n r.bytes)) (2 ^ 64)) (bytes.TooWide r.at) (uleb_value (take n r.bytes), skipped n r) (x, behind) e in
     (n, refl, g.0, g.1)
 
-uleb_none : (r : Rest) (o : Option ℕ) (e : ByteFault) → uleb_of r o ≡ Err e
+uleb_none : (r : CursorData) (o : Option ℕ) (e : ByteFault) → uleb_of r o ≡ Err e
     → ((o ≡ None) × (e ≡ bytes.Short r.at)) ⊎ ((n : ℕ) × (o ≡ Some n) × (nat_lt (uleb_value (take n r.bytes)) (2 ^ 64) ≡ false) × (e ≡ bytes.TooWide r.at))
 unfolding uleb_of
 uleb_none r None e same = inl (refl, sym (let made : bytes.Short r.at ≡ e = cc in made))
@@ -114,7 +114,7 @@ uleb_exact = record {
         place = omega (arith, leb.0);
         spells = (leb.1, ltb-true _ _ a.2, refl);
       } in
-      subst (λ (z : ℕ × Rest). Takes uleb r z.0 z.1) a.3 made;
+      subst (λ (z : ℕ × CursorData). Takes uleb r z.0 z.1) a.3 made;
   refuses = λ r f e.
       elim (uleb_none r (leb_len r.bytes) f e) [
         | inl a ↦ inl (a.0, a.1)
@@ -141,15 +141,15 @@ uleb_exact = record {
 
 -- ---- signed numbers
 
-sleb_some : (r : Rest) (o : Option ℕ) (x : ℤ) (behind : Rest) → sleb_of r o ≡ Ok (x, behind)
-    → (n : ℕ) × (o ≡ Some n) × (fits_signed (sleb_value (take n r.bytes)) ≡ true) × (let made : ℤ × Rest = (sleb_value (take n r.bytes), skipped n r) in made ≡ (x, behind))
+sleb_some : (r : CursorData) (o : Option ℕ) (x : ℤ) (behind : CursorData) → sleb_of r o ≡ Ok (x, behind)
+    → (n : ℕ) × (o ≡ Some n) × (fits_signed (sleb_value (take n r.bytes)) ≡ true) × (let made : ℤ × CursorData = (sleb_value (take n r.bytes), skipped n r) in made ≡ (x, behind))
 unfolding sleb_of
 sleb_some r None x behind e = absurd cc
 sleb_some r (Some n) x behind e =
     let g = fits_ok (fits_signed (sleb_value (take n r.bytes))) (bytes.TooWide r.at) (sleb_value (take n r.bytes), skipped n r) (x, behind) e in
     (n, refl, g.0, g.1)
 
-sleb_none : (r : Rest) (o : Option ℕ) (e : ByteFault) → sleb_of r o ≡ Err e
+sleb_none : (r : CursorData) (o : Option ℕ) (e : ByteFault) → sleb_of r o ≡ Err e
     → ((o ≡ None) × (e ≡ bytes.Short r.at)) ⊎ ((n : ℕ) × (o ≡ Some n) × (fits_signed (sleb_value (take n r.bytes)) ≡ false) × (e ≡ bytes.TooWide r.at))
 unfolding sleb_of
 sleb_none r None e same = inl (refl, sym (let made : bytes.Short r.at ≡ e = cc in made))
@@ -169,7 +169,7 @@ sleb_exact = record {
         place = omega (arith, leb.0);
         spells = (leb.1, a.2, refl);
       } in
-      subst (λ (z : ℤ × Rest). Takes sleb r z.0 z.1) a.3 made;
+      subst (λ (z : ℤ × CursorData). Takes sleb r z.0 z.1) a.3 made;
   refuses = λ r f e.
       elim (sleb_none r (leb_len r.bytes) f e) [
         | inl a ↦ inl (a.0, a.1)
@@ -228,13 +228,13 @@ unfolding text_len
 text_len-whole [] ys e = refl
 text_len-whole (b ∷ bs) ys e = text_step (nat_eq b 0) (text_len bs) (text_len (bs ++ 0 ∷ ys)) (length bs) (text_len-whole bs ys) e
 
-text_some : (r : Rest) (o : Option ℕ) (x : List ℕ) (behind : Rest) → text_of r o ≡ Ok (x, behind)
-    → (n : ℕ) × (o ≡ Some n) × (let made : List ℕ × Rest = (take n r.bytes, skipped (n + 1) r) in made ≡ (x, behind))
+text_some : (r : CursorData) (o : Option ℕ) (x : List ℕ) (behind : CursorData) → text_of r o ≡ Ok (x, behind)
+    → (n : ℕ) × (o ≡ Some n) × (let made : List ℕ × CursorData = (take n r.bytes, skipped (n + 1) r) in made ≡ (x, behind))
 unfolding text_of
 text_some r None x behind e = absurd cc
 text_some r (Some n) x behind e = (n, refl, ok_is {F = ByteFault} (take n r.bytes, skipped (n + 1) r) (x, behind) e)
 
-text_none : (r : Rest) (o : Option ℕ) (e : ByteFault) → text_of r o ≡ Err e → (o ≡ None) × (e ≡ bytes.Short r.at)
+text_none : (r : CursorData) (o : Option ℕ) (e : ByteFault) → text_of r o ≡ Err e → (o ≡ None) × (e ≡ bytes.Short r.at)
 unfolding text_of
 text_none r None e same = (refl, sym (let made : bytes.Short r.at ≡ e = cc in made))
 text_none r (Some n) e same = absurd cc
@@ -251,7 +251,7 @@ text_exact = record {
         place = omega (arith, t.0, length-take a.0 r.bytes, length-append (take a.0 r.bytes) (0 ∷ []));
         spells = (t.1, refl);
       } in
-      subst (λ (z : List ℕ × Rest). Takes text r z.0 z.1) a.2 made;
+      subst (λ (z : List ℕ × CursorData). Takes text r z.0 z.1) a.2 made;
   refuses = λ r f e.
       let a = text_none r (text_len r.bytes) f e in
       (a.0, a.1);

@@ -2,7 +2,7 @@
 use Rattle.std.proofs.Common.{◌≡◌, ℕ, zero, suc, ◌+◌, ◌<◌, ◌≤◌, ◌≢◌, List, [], ◌∷◌, length, drop, get_or, Some, None, refl, arith, add-one, drop-cons}
 use Rattle.std.specs.Option.{option_map}
 use Rattle.std.proofs.lemmas.Bool.Decides.{nat_tests}
-use Rattle.eh_bytes.specs.Rest.{text_len}
+use Rattle.eh_bytes.specs.CursorData.{text_len}
 
 pub text_len-last : (bs : List ℕ) (i : ℕ) → i < length bs → get_or bs i 0 ≡ 0 → text_len (drop i bs) ≡ Some 0
 unfolding text_len

@@ -2,20 +2,20 @@
 use Rattle.std.proofs.Common.{◌≡◌, ℕ, ◌+◌, ◌≤◌, List, [], ◌++◌, length, take, drop, Bool, true, false, Result, Ok, Err, nat_lt, refl, sym, ap, subst, ◌∙◌, length-append, arith, inl, inr}
 use Rattle.std.proofs.lemmas.Bool.{ltb-false, ltb-true, le-ltb, lt-ltb}
 use Rattle.std.proofs.lemmas.List.{append-nil, take-append-drop, take_at, drop_at, length-take}
-use Rattle.eh_bytes.specs.Rest.{Rest, skipped}
+use Rattle.eh_bytes.specs.CursorData.{CursorData, skipped}
 use Rattle.eh_bytes.specs.Results.{◌and_then◌}
 use Rattle.eh_bytes.specs.Grammar.{Part, ◌>>=◌, give, when, lift, filled, with_rest, ended, bytes_of}
 use Rattle.eh_bytes.proofs.Results.{ok_is, bind_ok, bind_err, with_fault_ok, with_fault_err, cond_err, cond_errs, guarded}
 use Rattle.eh_bytes.proofs.Exact.{left, Takes, IsExact}
 
 -- the part spells all that is left
-pub record TakesAll {F A : Type 0} (g : Part F A) (r : Rest) (x : A) (behind : Rest) : Type 0 where
+pub record TakesAll {F A : Type 0} (g : Part F A) (r : CursorData) (x : A) (behind : CursorData) : Type 0 where
   pub nothing : behind ≡ left (r.at + length r.bytes) []
   pub spells : g.Spells r.at r.bytes x
 
 pub record IsWhole {F A : Type 0} (g : Part F A) : Type 0 where
-  pub takes : (r : Rest) (x : A) (behind : Rest) → g.read r ≡ Ok (x, behind) → TakesAll g r x behind
-  pub refuses : (r : Rest) (f : F) → g.read r ≡ Err f → g.Refuses r.at r.bytes f
+  pub takes : (r : CursorData) (x : A) (behind : CursorData) → g.read r ≡ Ok (x, behind) → TakesAll g r x behind
+  pub refuses : (r : CursorData) (f : F) → g.read r ≡ Err f → g.Refuses r.at r.bytes f
   pub again : (p : ℕ) (text : List ℕ) (x : A) → g.Spells p text x → g.read (left p text) ≡ Ok (x, left (p + length text) [])
   pub refused : (p : ℕ) (bytes : List ℕ) (f : F) → g.Refuses p bytes f → g.read (left p bytes) ≡ Err f
 
@@ -65,7 +65,7 @@ give_whole {F} {A} {B} g k eg = record {
       let t = eg.takes r a.0.0 a.0.1 a.1 in
       let same : (k a.0.0, a.0.1) ≡ (y, behind) = ok_is {F = F} (k a.0.0, a.0.1) (y, behind) a.2 in
       let made : TakesAll (g >>= λ x. give (k x)) r (k a.0.0) a.0.1 = record { nothing = t.nothing; spells = (a.0.0, r.bytes, [], sym (append-nil r.bytes), t.spells, (refl, refl)) } in
-      subst (λ (z : B × Rest). TakesAll (g >>= λ x. give (k x)) r z.0 z.1) same made;
+      subst (λ (z : B × CursorData). TakesAll (g >>= λ x. give (k x)) r z.0 z.1) same made;
   refuses = λ r f e.
       elim (bind_err (g.read r) (λ z. Ok (k z.0, z.1)) f e) [
         | inl stopped ↦ inl (eg.refuses r f stopped)
@@ -108,13 +108,13 @@ lift_whole {F} {G} {A} place g eg = record {
 
 -- ---- a test at the end
 
-with_rest_ok : {F A : Type 0} (m : Result A F) (r behind : Rest) (y : A) → with_rest m r ≡ Ok (y, behind) → (m ≡ Ok y) × (r ≡ behind)
+with_rest_ok : {F A : Type 0} (m : Result A F) (r behind : CursorData) (y : A) → with_rest m r ≡ Ok (y, behind) → (m ≡ Ok y) × (r ≡ behind)
 with_rest_ok {F} {A} (Ok x) r behind y e =
     let same : (x, r) ≡ (y, behind) = ok_is {F = F} (x, r) (y, behind) e in
-    (ap (λ (z : A × Rest). Ok z.0) same, ap (λ (z : A × Rest). z.1) same)
+    (ap (λ (z : A × CursorData). Ok z.0) same, ap (λ (z : A × CursorData). z.1) same)
 with_rest_ok {F} {A} (Err d) r behind y e = absurd cc
 
-with_rest_err : {F A : Type 0} (m : Result A F) (r : Rest) (f : F) → with_rest m r ≡ Err f → m ≡ Err f
+with_rest_err : {F A : Type 0} (m : Result A F) (r : CursorData) (f : F) → with_rest m r ≡ Err f → m ≡ Err f
 with_rest_err (Ok x) r f e = absurd cc
 with_rest_err (Err d) r f e = let same : d ≡ f = cc in ap (λ v. Err v) same
 
@@ -124,7 +124,7 @@ ended_whole {F} {A} {B} g test eg = record {
       let a = bind_ok (g.read r) (λ x. with_rest (test x.1.at x.0) x.1) (y, behind) e in
       let t = eg.takes r a.0.0 a.0.1 a.1 in
       let w = with_rest_ok (test a.0.1.at a.0.0) a.0.1 behind y a.2 in
-      let place : a.0.1.at ≡ r.at + length r.bytes = ap (λ (z : Rest). z.at) t.nothing in
+      let place : a.0.1.at ≡ r.at + length r.bytes = ap (λ (z : CursorData). z.at) t.nothing in
       record {
         nothing = sym w.1 ∙ t.nothing;
         spells = (a.0.0, t.spells, ap (λ (q : ℕ). test q a.0.0) (sym place) ∙ w.0);
@@ -134,7 +134,7 @@ ended_whole {F} {A} {B} g test eg = record {
         | inl stopped ↦ inl (eg.refuses r f stopped)
         | inr a ↦
             let t = eg.takes r a.0.0 a.0.1 a.1 in
-            let place : a.0.1.at ≡ r.at + length r.bytes = ap (λ (z : Rest). z.at) t.nothing in
+            let place : a.0.1.at ≡ r.at + length r.bytes = ap (λ (z : CursorData). z.at) t.nothing in
             inr (a.0.0, t.spells, ap (λ (q : ℕ). test q a.0.0) (sym place) ∙ with_rest_err (test a.0.1.at a.0.0) a.0.1 f a.2)
       ];
   again = λ p text y s. rw (eg.again p text s.0 s.1, s.2) refl;
@@ -152,7 +152,7 @@ bytes_of_whole {F} {A} g eg = record {
       let t = eg.takes r a.0.0 a.0.1 a.1 in
       let same : (r.bytes, a.0.1) ≡ (y, behind) = ok_is {F = F} (r.bytes, a.0.1) (y, behind) a.2 in
       let made : TakesAll (bytes_of g) r r.bytes a.0.1 = record { nothing = t.nothing; spells = ((a.0.0, t.spells), refl) } in
-      subst (λ (z : List ℕ × Rest). TakesAll (bytes_of g) r z.0 z.1) same made;
+      subst (λ (z : List ℕ × CursorData). TakesAll (bytes_of g) r z.0 z.1) same made;
   refuses = λ r f e.
       elim (bind_err (g.read r) (λ x. Ok (r.bytes, x.1)) f e) [
         | inl stopped ↦ eg.refuses r f stopped
@@ -167,7 +167,7 @@ pub filled_exact : {F A : Type 0} (short : F) (n : ℕ) (g : Part F A) → IsWho
 filled_exact {F} {A} short n g eg = record {
   takes = λ r y behind e.
       let inside = left r.at (take n r.bytes) in
-      let opened = guarded {A = Rest × Rest} {B = A × Rest} (nat_lt (length r.bytes) n) short (inside, skipped n r) (λ d. ◌and_then◌ (g.read d.0) (λ z. Ok (z.0, d.1))) in
+      let opened = guarded {A = CursorData × CursorData} {B = A × CursorData} (nat_lt (length r.bytes) n) short (inside, skipped n r) (λ d. ◌and_then◌ (g.read d.0) (λ z. Ok (z.0, d.1))) in
       let a = cond_err (nat_lt (length r.bytes) n) short (◌and_then◌ (g.read inside) (λ z. Ok (z.0, skipped n r))) (y, behind) (sym opened ∙ e) in
       let long : n ≤ length r.bytes = ltb-false _ _ a.0 in
       let b = bind_ok (g.read inside) (λ z. Ok (z.0, skipped n r)) (y, behind) a.1 in
@@ -180,10 +180,10 @@ filled_exact {F} {A} short n g eg = record {
         spells = (size, t.spells);
       } in
       let same : (b.0.0, skipped n r) ≡ (y, behind) = ok_is {F = F} (b.0.0, skipped n r) (y, behind) b.2 in
-      subst (λ (z : A × Rest). Takes (filled short n g) r z.0 z.1) {x = (b.0.0, skipped n r)} {y = (y, behind)} same made;
+      subst (λ (z : A × CursorData). Takes (filled short n g) r z.0 z.1) {x = (b.0.0, skipped n r)} {y = (y, behind)} same made;
   refuses = λ r f e.
       let inside = left r.at (take n r.bytes) in
-      let opened = guarded {A = Rest × Rest} {B = A × Rest} (nat_lt (length r.bytes) n) short (inside, skipped n r) (λ d. ◌and_then◌ (g.read d.0) (λ z. Ok (z.0, d.1))) in
+      let opened = guarded {A = CursorData × CursorData} {B = A × CursorData} (nat_lt (length r.bytes) n) short (inside, skipped n r) (λ d. ◌and_then◌ (g.read d.0) (λ z. Ok (z.0, d.1))) in
       elim (cond_errs (nat_lt (length r.bytes) n) short (◌and_then◌ (g.read inside) (λ z. Ok (z.0, skipped n r))) f (sym opened ∙ e)) [
         | inl a ↦ inl (ltb-true _ _ a.0, a.1)
         | inr a ↦

@@ -6,13 +6,13 @@
 -- parts (`IsExact` in proofs/Exact, `IsWhole` in proofs/Wholes).
 use Rattle.std.specs.Prelude.{◌≡◌, ℕ, ◌+◌, ◌<◌, ◌⊎◌, List, [], ◌++◌, length, Bool, true, false}
 use Rattle.std.specs.Prelude.{Option, Some, None, Result, Ok, Err, if◌then◌else◌}
-use Rattle.eh_bytes.specs.Rest.{Rest, data_at}
+use Rattle.eh_bytes.specs.CursorData.{CursorData, data_at}
 use Rattle.eh_bytes.specs.Results.{◌and_then◌, with_fault}
 
 pub record Part (F A : Type 0) : Type 1 where
   pub Spells : ℕ → List ℕ → A → Type 0
   pub Refuses : ℕ → List ℕ → F → Type 0
-  pub read : Rest → Result (A × Rest) F
+  pub read : CursorData → Result (A × CursorData) F
 
 -- One part and then another, which may depend on what the first one spells. Their texts stand one after
 -- the other; what is refused is refused by the first part, or by the second after a whole first one.
@@ -108,7 +108,7 @@ filled short n g = record {
 }
 
 -- the answer of a test, with what is left
-abbrev pub with_rest : {F A : Type 0} → Result A F → Rest → Result (A × Rest) F
+abbrev pub with_rest : {F A : Type 0} → Result A F → CursorData → Result (A × CursorData) F
 with_rest m r = m and_then λ x. Ok (x, r)
 
 -- a part that takes all bytes, and at their end a test of its value

@@ -4,7 +4,7 @@ use Rattle.std.specs.Prelude.{◌≡◌, ℕ, suc, ◌+◌, ◌*◌, ◌%◌, �
 use Rattle.std.specs.Option.{option_map}
 use Rattle.eh_bytes.specs.declared.fault.ByteFault.{ByteFault}
 use Rattle.eh_bytes.specs.declared.fault.ByteFault.TheVariants.{Short, TooWide}
-use Rattle.eh_bytes.specs.Rest.{Rest, skipped}
+use Rattle.eh_bytes.specs.CursorData.{CursorData, skipped}
 
 -- how many bytes there are up to the first whose high bit is clear, which is the number's last
 unfoldable pub leb_len : List ℕ → Option ℕ
@@ -36,19 +36,19 @@ fits_signed (pos n) = nat_lt n (2 ^ 63)
 fits_signed (negsuc n) = nat_lt n (2 ^ 63)
 
 -- an unsigned number: its bytes must come to an end, and its value must fit 64 bits
-unfoldable pub uleb_of : Rest → Option ℕ → Result (ℕ × Rest) ByteFault
+unfoldable pub uleb_of : CursorData → Option ℕ → Result (ℕ × CursorData) ByteFault
 uleb_of r None = Err (Short r.at)
 uleb_of r (Some n) =
     if nat_lt (uleb_value (take n r.bytes)) (2 ^ 64) then Ok (uleb_value (take n r.bytes), skipped n r) else Err (TooWide r.at)
 
-abbrev pub uleb_at : Rest → Result (ℕ × Rest) ByteFault
+abbrev pub uleb_at : CursorData → Result (ℕ × CursorData) ByteFault
 uleb_at r = uleb_of r (leb_len r.bytes)
 
 -- a signed number, in the same way
-unfoldable pub sleb_of : Rest → Option ℕ → Result (ℤ × Rest) ByteFault
+unfoldable pub sleb_of : CursorData → Option ℕ → Result (ℤ × CursorData) ByteFault
 sleb_of r None = Err (Short r.at)
 sleb_of r (Some n) =
     if fits_signed (sleb_value (take n r.bytes)) then Ok (sleb_value (take n r.bytes), skipped n r) else Err (TooWide r.at)
 
-abbrev pub sleb_at : Rest → Result (ℤ × Rest) ByteFault
+abbrev pub sleb_at : CursorData → Result (ℤ × CursorData) ByteFault
 sleb_at r = sleb_of r (leb_len r.bytes)

@@ -1,5 +1,5 @@
 pub mod Results
-pub mod Rest
+pub mod CursorData
 pub mod Leb
 pub mod Pointer
 pub mod Grammar

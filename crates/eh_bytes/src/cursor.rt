@@ -1,7 +1,7 @@
 //! A place in the bytes of a section, which moves forward field by field.
 
 ghost use Rattle.std.specs.Prelude.{◌≡◌, ◌≤◌, ◌<◌, length, slice_range, IfSome};
-ghost use Rattle.eh_bytes.specs.Rest.{Rest, Reads, text_len, bytes_at, part_at, text_at, fixed_at};
+ghost use Rattle.eh_bytes.specs.CursorData.{CursorData, Reads, text_len, bytes_at, part_at, text_at, fixed_at};
 ghost use Rattle.eh_bytes.specs.Fields.{signed_fixed};
 ghost use Rattle.std.specs.Int.{w8, w16, w32};
 ghost use Rattle.eh_bytes.specs.Leb.{uleb_at, sleb_at};
@@ -26,9 +26,9 @@ pub struct Cursor<'a> {
 
 impl<'a> Model for Cursor<'a> {
     ghost use Rattle.std.specs.Prelude.{◌-◌, ◌≤◌, length};
-    ghost use Rattle.eh_bytes.specs.Rest.{Rest};
+    ghost use Rattle.eh_bytes.specs.CursorData.{CursorData};
 
-    ghost Value = { Rest };
+    ghost Value = { CursorData };
 
     ghost view = { λ c. record { bytes = c.rest.now; at = c.end - length c.rest.now } };
 
@@ -94,7 +94,7 @@ impl<'a> Cursor<'a> {
     }
 
     /// The bytes of a text that a 0 ends, without the 0.
-    #[tactic(auto, unfolding(crate::specs::Rest::text_of))]
+    #[tactic(auto, unfolding(crate::specs::CursorData::text_of))]
     pub fn text(&mut self) -> Result<&'a [u8], ByteFault>
         ensures { Reads (λ text. text.now) text_at self.old result self.new }
     {

@@ -3,7 +3,7 @@ use Rattle.std.proofs.Common.{◌≡◌, ◌≢◌, ◌⊎◌, inl, inr, ℕ, su
 use Rattle.std.specs.List.{flat_map, AllByRecursion}
 use Rattle.std.proofs.lemmas.Bool.{eqb-false}
 use Rattle.std.proofs.lemmas.Grind.{flat_map-append}
-use Rattle.reg_model.specs.Interval.{Interval}
+use Rattle.reg_model.specs.SpanData.{SpanData}
 use Rattle.event_script.specs.ScriptData.{ScriptData, AreFixed, IsThread, IsRunnable, IsBuilt}
 use Rattle.event_script.specs.Fields.{with_first, pieces}
 use Rattle.event_script.specs.Spelling.{statement_text, statements_text, first_statements, body_statements, script_text, IsScript}

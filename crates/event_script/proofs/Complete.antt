@@ -4,8 +4,8 @@ use Rattle.std.specs.List.{flat_map, All, AllByRecursion, slice_get}
 use Rattle.std.specs.Option.{ok_or}
 use Rattle.std.proofs.lemmas.Bool.{and_from, cond-true, cond-false}
 use Rattle.std.proofs.lemmas.List.Elements.{All-head, All-tail, recursion_from_All}
-use Rattle.reg_model.specs.Interval.{Interval, IsSpan}
-use Rattle.frame_parse.specs.Sections.{Contents}
+use Rattle.reg_model.specs.SpanData.{SpanData, IsSpan}
+use Rattle.frame_parse.specs.Sections.{SectionData}
 use Rattle.frame_parse.specs.declared.fault.FrameFault.{FrameFault}
 use Rattle.frame_parse.specs.Reading.{section_of}
 use Rattle.event_script.specs.ScriptData.{ScriptData, ImageData, IsSectionOf, span_of, AreFixed, IsEvent, IsThread, IsRound}
@@ -119,7 +119,7 @@ abbrev good : DraftData → Result DraftData Reason
 good known = Ok known
 
 module _ (nodes loads : ℕ) where
-  abbrev at : Stage → List Interval → List Contents → List ℕ → List (List (List Event)) → List (List Event) → List Event → DraftData
+  abbrev at : Stage → List SpanData → List SectionData → List ℕ → List (List (List Event)) → List (List Event) → List Event → DraftData
   at stage images sections fixed rounds threads events = record {
     stage = stage;
     script = record { nodes = nodes; loads = loads; images = images; sections = sections; fixed = fixed; rounds = rounds };
@@ -144,7 +144,7 @@ module _ (nodes loads : ℕ) where
 
   -- ---- images
 
-  module _ (front : List Interval) (before : List Contents) (number : ℕ) (span : Interval) (section : Contents) (same : number ≡ length front) (room : length front < 4096) (is : IsSpan span) (whole : IsSectionOf section) where
+  module _ (front : List SpanData) (before : List SectionData) (number : ℕ) (span : SpanData) (section : SectionData) (same : number ≡ length front) (room : length front < 4096) (is : IsSpan span) (whole : IsSectionOf section) where
     abbrev image_known : DraftData
     image_known = at stage.Images front before [] [] [] []
 
@@ -163,13 +163,13 @@ module _ (nodes loads : ℕ) where
         let last : span.first + (span.last + 1 - span.first) - 1 ≡ span.last = omega arith in
         ap (λ (l : ℕ). made l) last
       where
-        made : ℕ → Interval
+        made : ℕ → SpanData
         made l = record { first = span.first; last = l }
 
     image_after : with_statement image_known (statement.Image this) ≡ image_next
     image_after =
-        ap (λ (given : Result Contents FrameFault). with_image image_known this (contents_or_none section.address section.bytes given)) section_known
-        ∙ ap (λ (s : Interval). at stage.Images (front ++ s ∷ []) (before ++ section ∷ []) [] [] [] []) span_again
+        ap (λ (given : Result SectionData FrameFault). with_image image_known this (contents_or_none section.address section.bytes given)) section_known
+        ∙ ap (λ (s : SpanData). at stage.Images (front ++ s ∷ []) (before ++ section ∷ []) [] [] [] []) span_again
 
     image_good : image_added image_known this ≡ good (with_image image_known this section)
     image_good =
@@ -179,7 +179,7 @@ module _ (nodes loads : ℕ) where
         let limit : (ltb (length front) 4096 && leb (length section.bytes) 65536) ≡ true = and_from _ _ (lt-ltb _ _ room) (le-leb _ _ whole.size) in
         let some : ltb 0 (span.last + 1 - span.first) ≡ true = lt-ltb _ _ (omega arith) in
         let inside : leb (span.first + (span.last + 1 - span.first)) (2 ^ 64 - 1) ≡ true = le-leb _ _ (omega arith) in
-        let from = λ (given : Result Contents FrameFault). section_or given >=> λ c. good (with_image image_known this c) in
+        let from = λ (given : Result SectionData FrameFault). section_or given >=> λ c. good (with_image image_known this c) in
         cond-true (eqb number (length front)) _ (Err reason.Order) order
         ∙ cond-true (ltb (length front) 4096 && leb (length section.bytes) 65536) _ (Err reason.Limit) limit
         ∙ cond-true (ltb 0 (span.last + 1 - span.first) && leb (span.first + (span.last + 1 - span.first)) (2 ^ 64 - 1)) (from (section_of section.address section.bytes)) (Err reason.Span) (and_from _ _ some inside)
@@ -194,19 +194,19 @@ module _ (nodes loads : ℕ) where
           may = refl;
           built = refl;
           form = (omega arith, omega arith, omega arith, whole.address, whole.bytes);
-          is = image_good ∙ sym (ap (λ (given : Result Contents FrameFault). good (with_image image_known this (contents_or_none section.address section.bytes given))) section_known);
+          is = image_good ∙ sym (ap (λ (given : Result SectionData FrameFault). good (with_image image_known this (contents_or_none section.address section.bytes given))) section_known);
         }
 
-  adds_images : (front images : List Interval) (number : ℕ) (before sections : List Contents) → number ≡ length front → length sections ≡ length images → length front + length images ≤ 4096 → AllByRecursion IsSpan images → AllByRecursion IsSectionOf sections
+  adds_images : (front images : List SpanData) (number : ℕ) (before sections : List SectionData) → number ≡ length front → length sections ≡ length images → length front + length images ≤ 4096 → AllByRecursion IsSpan images → AllByRecursion IsSectionOf sections
       → Adds (at stage.Images front before [] [] [] []) (image_statements number images sections) (at stage.Images (front ++ images) (before ++ sections) [] [] [] [])
-  adds_images front [] number before [] same each room spans whole = ap₂ (λ (x : List Interval) (y : List Contents). at stage.Images x y [] [] [] []) (sym (append-nil front)) (sym (append-nil before))
+  adds_images front [] number before [] same each room spans whole = ap₂ (λ (x : List SpanData) (y : List SectionData). at stage.Images x y [] [] [] []) (sym (append-nil front)) (sym (append-nil before))
   adds_images front [] number before (section ∷ sections) same each room spans whole = absurd (omega arith)
   adds_images front (span ∷ images) number before [] same each room spans whole = absurd (omega arith)
   adds_images front (span ∷ images) number before (section ∷ sections) same each room spans whole =
       let rest = adds_images (front ++ span ∷ []) images (number + 1) (before ++ section ∷ []) sections (omega (arith, length-append front (span ∷ []))) (omega arith) (omega (arith, length-append front (span ∷ []))) spans.1 whole.1 in
       let few : length front < 4096 = omega arith in
       let last : at stage.Images ((front ++ span ∷ []) ++ images) ((before ++ section ∷ []) ++ sections) [] [] [] [] ≡ at stage.Images (front ++ span ∷ images) (before ++ section ∷ sections) [] [] [] [] =
-      ap₂ (λ (x : List Interval) (y : List Contents). at stage.Images x y [] [] [] []) (append_assoc front (span ∷ []) images) (append_assoc before (section ∷ []) sections) in (
+      ap₂ (λ (x : List SpanData) (y : List SectionData). at stage.Images x y [] [] [] []) (append_assoc front (span ∷ []) images) (append_assoc before (section ∷ []) sections) in (
         image_can front before number span section same few spans.0 whole.0,
         subst (λ (d : DraftData). Adds d (image_statements (number + 1) images sections) (at stage.Images (front ++ span ∷ images) (before ++ section ∷ sections) [] [] [] [])) (sym (image_after front before number span section same few spans.0 whole.0))
             (subst (Adds (at stage.Images (front ++ span ∷ []) (before ++ section ∷ []) [] [] [] []) (image_statements (number + 1) images sections)) last rest),
@@ -223,7 +223,7 @@ module _ (nodes loads : ℕ) where
   still_fixed [] = refl
   still_fixed (image ∷ fixed) = refl
 
-  module _ (images : List Interval) (sections : List Contents) (few : length images ≤ 4096) where
+  module _ (images : List SpanData) (sections : List SectionData) (few : length images ≤ 4096) where
     abbrev with_fixed : Stage → List ℕ → DraftData
     with_fixed start fixed = at start images sections fixed [] [] []
 
@@ -234,12 +234,12 @@ module _ (nodes loads : ℕ) where
     unfolding added
     fixed_can start front image may named above =
         let next = with_fixed stage.Fixed (front ++ image ∷ []) in
-        let fixed_if : Interval → Result DraftData Reason = λ span. cond (is_above (last_fixed images front) span) (Ok next) (Err reason.Fixed) in
+        let fixed_if : SpanData → Result DraftData Reason = λ span. cond (is_above (last_fixed images front) span) (Ok next) (Err reason.Fixed) in
         record {
           may = may;
           built = refl;
           form = omega arith;
-          is = ap (λ (o : Option Interval). ok_or o reason.Name >=> fixed_if) (found_span images image named)
+          is = ap (λ (o : Option SpanData). ok_or o reason.Name >=> fixed_if) (found_span images image named)
               ∙ cond-true (is_above (last_fixed images front) (span_of images image)) (good next) (Err reason.Fixed) above;
         }
 

@@ -3,8 +3,8 @@ use Rattle.std.proofs.Common.{◌≡◌, ◌≢◌, ◌⊎◌, inl, inr, ℕ, �
 use Rattle.std.specs.List.{slice_get}
 use Rattle.std.specs.Option.{ok_or}
 use Rattle.std.proofs.lemmas.Bool.{ltb-false}
-use Rattle.reg_model.specs.Interval.{Interval}
-use Rattle.frame_parse.specs.Sections.{Contents}
+use Rattle.reg_model.specs.SpanData.{SpanData}
+use Rattle.frame_parse.specs.Sections.{SectionData}
 use Rattle.frame_parse.specs.Reading.{section_of}
 use Rattle.frame_parse.specs.declared.fault.FrameFault.{FrameFault}
 use Rattle.event_script.specs.ScriptData.{ScriptData, ImageData}
@@ -33,13 +33,13 @@ use Rattle.event_script.proofs.Complete.{whole, outcome_complete, one_script}
 
 image_made : (known next : DraftData) (image : ImageData) → image_added known image ≡ Ok next → with_statement known (statement.Image image) ≡ next
 image_made known next image e =
-    let made : Contents → Result DraftData Reason = λ section. Ok (with_image known image section) in
+    let made : SectionData → Result DraftData Reason = λ section. Ok (with_image known image section) in
     let order = guard_then (eqb image.number (length known.script.images)) reason.Order _ next e in
     let limit = guard_then (ltb (length known.script.images) 4096 && leb (length image.bytes) 65536) reason.Limit _ next order.1 in
     let span = guard_then (ltb 0 image.size && leb (image.base + image.size) (2 ^ 64 - 1)) reason.Span _ next limit.1 in
     let read = bind_ok (section_or (section_of image.section image.bytes)) made next span.1 in
     let found = section_from_or (section_of image.section image.bytes) read.0 read.1 in
-    ap (λ (given : Result Contents FrameFault). with_image known image (contents_or_none image.section image.bytes given)) found
+    ap (λ (given : Result SectionData FrameFault). with_image known image (contents_or_none image.section image.bytes given)) found
     ∙ ok_is (with_image known image read.0) next read.2
 
 pub added_makes : (known next : DraftData) (s : Statement) → added known s ≡ Ok next → with_statement known s ≡ next
@@ -202,7 +202,7 @@ reads_lines known last (first ∷ second ∷ before) number line others (s, says
 one_section : (text : LineText) (a b : FrameFault) → SaysSome text (HasBadSection a) → SaysSome text (HasBadSection b) → a ≡ b
 one_section text a b (s, says, p) (t, other, q) = at s p (subst (HasBadSection b) (says_one text t s other says) q)
   where
-    fault_is : (r : Result Contents FrameFault) (x y : FrameFault) → r ≡ Err x → r ≡ Err y → x ≡ y
+    fault_is : (r : Result SectionData FrameFault) (x y : FrameFault) → r ≡ Err x → r ≡ Err y → x ≡ y
     fault_is r x y p q = cc
 
     at : (s : Statement) → HasBadSection a s → HasBadSection b s → a ≡ b

@@ -6,44 +6,44 @@ use Rattle.std.proofs.lemmas.Bool.{and_parts, or_cases, ltb-false}
 use Rattle.std.proofs.lemmas.Map.Steps.{length-le_from_distinct_below}
 use Rattle.std.proofs.lemmas.List.Elements.{All-head, All-tail, All-push, All-from_recursion, recursion_from_All}
 use Rattle.std.proofs.lemmas.Option.{slice_get_within, slice_get-get_or, unwrap_or-slice_get}
-use Rattle.reg_model.specs.Interval.{Interval, IsSpan, contains, Overlaps}
+use Rattle.reg_model.specs.SpanData.{SpanData, IsSpan, contains, Overlaps}
 use Rattle.reg_model.specs.State.{IsFree, AreDisjoint}
 use Rattle.reg_model.specs.declared.span.Member.{Member}
 use Rattle.event_script.specs.ScriptData.{span_of, Rise, AreFixed}
 use Rattle.event_script.specs.Reading.{last_fixed, is_above}
 use Rattle.event_script.specs.Lawful.{image_member}
 
-abbrev nowhere : Interval
+abbrev nowhere : SpanData
 nowhere = record { first = 0; last = 0 }
 
-span_is : (images : List Interval) (image : ℕ) (span : Interval) → slice_get images image ≡ Some span → span_of images image ≡ span
-span_is images image span e = ap (λ (o : Option Interval). unwrap_or o nowhere) e
+span_is : (images : List SpanData) (image : ℕ) (span : SpanData) → slice_get images image ≡ Some span → span_of images image ≡ span
+span_is images image span e = ap (λ (o : Option SpanData). unwrap_or o nowhere) e
 
-pub found_span : (images : List Interval) (image : ℕ) → image < length images → slice_get images image ≡ Some (span_of images image)
+pub found_span : (images : List SpanData) (image : ℕ) → image < length images → slice_get images image ≡ Some (span_of images image)
 found_span images image lt = slice_get-get_or images image nowhere lt ∙ ap Some (sym (unwrap_or-slice_get images image nowhere))
 
 -- the last of a list is the last of its rest
-last_rest : (images : List Interval) (a b : ℕ) (fixed : List ℕ) → last_fixed images (a ∷ b ∷ fixed) ≡ last_fixed images (b ∷ fixed)
+last_rest : (images : List SpanData) (a b : ℕ) (fixed : List ℕ) → last_fixed images (a ∷ b ∷ fixed) ≡ last_fixed images (b ∷ fixed)
 last_rest images a b fixed =
     let at : length (a ∷ b ∷ fixed) - 1 ≡ suc (length (b ∷ fixed) - 1) = omega arith in
     ap (λ (i : ℕ). option_and_then (slice_get images) (slice_get (a ∷ b ∷ fixed) i)) at
 
-module _ (images : List Interval) where
+module _ (images : List SpanData) where
   abbrev IsNamed : ℕ → Type 0
   IsNamed image = image < length images
 
   -- ---- what is read rises
 
-  rise_push : (fixed : List ℕ) (image : ℕ) (span : Interval) → All IsNamed fixed → Rise (map (span_of images) fixed) → span_of images image ≡ span → is_above (last_fixed images fixed) span ≡ true → Rise (map (span_of images) (fixed ++ image ∷ []))
+  rise_push : (fixed : List ℕ) (image : ℕ) (span : SpanData) → All IsNamed fixed → Rise (map (span_of images) fixed) → span_of images image ≡ span → is_above (last_fixed images fixed) span ≡ true → Rise (map (span_of images) (fixed ++ image ∷ []))
   rise_push [] image span named rise is above = tt
   rise_push (x ∷ []) image span named rise is above =
       let at = found_span images x (All-head IsNamed x [] named) in
-      let lt = ltb-true (span_of images x).last span.first (sym (ap (λ (o : Option Interval). is_above o span) at) ∙ above) in
-      (subst (λ (s : Interval). (span_of images x).last < s.first) (sym is) lt, tt)
+      let lt = ltb-true (span_of images x).last span.first (sym (ap (λ (o : Option SpanData). is_above o span) at) ∙ above) in
+      (subst (λ (s : SpanData). (span_of images x).last < s.first) (sym is) lt, tt)
   rise_push (x ∷ y ∷ fixed) image span named rise is above =
-      (rise.0, rise_push (y ∷ fixed) image span (All-tail IsNamed x (y ∷ fixed) named) rise.1 is (sym (ap (λ (o : Option Interval). is_above o span) (last_rest images x y fixed)) ∙ above))
+      (rise.0, rise_push (y ∷ fixed) image span (All-tail IsNamed x (y ∷ fixed) named) rise.1 is (sym (ap (λ (o : Option SpanData). is_above o span) (last_rest images x y fixed)) ∙ above))
 
-  pub fixed_push : (fixed : List ℕ) (image : ℕ) (span : Interval) → AreFixed images fixed → slice_get images image ≡ Some span → is_above (last_fixed images fixed) span ≡ true → AreFixed images (fixed ++ image ∷ [])
+  pub fixed_push : (fixed : List ℕ) (image : ℕ) (span : SpanData) → AreFixed images fixed → slice_get images image ≡ Some span → is_above (last_fixed images fixed) span ≡ true → AreFixed images (fixed ++ image ∷ [])
   fixed_push fixed image span are found above = record {
     named = All-push IsNamed fixed image are.named (slice_get_within images image span found);
     rising = rise_push fixed image span are.named are.rising (span_is images image span found) above;
@@ -54,22 +54,22 @@ module _ (images : List Interval) where
   pub rise_at : (front : List ℕ) (image : ℕ) (fixed : List ℕ) → All IsNamed (front ++ image ∷ fixed) → Rise (map (span_of images) (front ++ image ∷ fixed)) → is_above (last_fixed images front) (span_of images image) ≡ true
   rise_at [] image fixed named rise = refl
   rise_at (x ∷ []) image [] named rise =
-      ap (λ (o : Option Interval). is_above o (span_of images image)) (found_span images x (All-head IsNamed x (image ∷ []) named)) ∙ lt-ltb _ _ rise.0
+      ap (λ (o : Option SpanData). is_above o (span_of images image)) (found_span images x (All-head IsNamed x (image ∷ []) named)) ∙ lt-ltb _ _ rise.0
   rise_at (x ∷ []) image (next ∷ fixed) named rise =
-      ap (λ (o : Option Interval). is_above o (span_of images image)) (found_span images x (All-head IsNamed x (image ∷ next ∷ fixed) named)) ∙ lt-ltb _ _ rise.0
+      ap (λ (o : Option SpanData). is_above o (span_of images image)) (found_span images x (All-head IsNamed x (image ∷ next ∷ fixed) named)) ∙ lt-ltb _ _ rise.0
   rise_at (x ∷ y ∷ front) image fixed named rise =
-      ap (λ (o : Option Interval). is_above o (span_of images image)) (last_rest images x y front)
+      ap (λ (o : Option SpanData). is_above o (span_of images image)) (last_rest images x y front)
       ∙ rise_at (y ∷ front) image fixed (All-tail IsNamed x ((y ∷ front) ++ image ∷ fixed) named) rise.1
 
   -- ---- what rises is disjoint
 
-  apart : (a b : Interval) → a.last < b.first → ¬ Overlaps b a
+  apart : (a b : SpanData) → a.last < b.first → ¬ Overlaps b a
   apart a b above (pc, (in_b, in_a)) =
       let low = leb-true b.first pc (and_parts (leb b.first pc) (leb pc b.last) in_b).0 in
       let high = leb-true pc a.last (and_parts (leb a.first pc) (leb pc a.last) in_a).1 in
       absurd (omega arith)
 
-  free_above : (span : Interval) (image : ℕ) (fixed : List ℕ) → AllByRecursion (λ i. IsSpan (span_of images i)) (image ∷ fixed) → span.last < (span_of images image).first → Rise (map (span_of images) (image ∷ fixed)) → AllByRecursion (λ (m : Member). ¬ Overlaps m.span span) (map (image_member images) (image ∷ fixed))
+  free_above : (span : SpanData) (image : ℕ) (fixed : List ℕ) → AllByRecursion (λ i. IsSpan (span_of images i)) (image ∷ fixed) → span.last < (span_of images image).first → Rise (map (span_of images) (image ∷ fixed)) → AllByRecursion (λ (m : Member). ¬ Overlaps m.span span) (map (image_member images) (image ∷ fixed))
   free_above span image [] are above rise = (apart span (span_of images image) above, tt)
   free_above span image (next ∷ fixed) are above rise =
       let ordered = are.0.ordered in
@@ -120,33 +120,33 @@ module _ (images : List Interval) where
 
 -- ---- whether a span is above the last fixed one
 
-module _ (images : List Interval) (fixed : List ℕ) (image : ℕ) (span : Interval) (is : slice_get images image ≡ Some span) where
+module _ (images : List SpanData) (fixed : List ℕ) (image : ℕ) (span : SpanData) (is : slice_get images image ≡ Some span) where
   -- the last fixed image's span, and this one's, which begins too low
   abbrev IsTooLow : Type 0
   IsTooLow =
-      (last : ℕ) × (below above : Interval) × (slice_get fixed (length fixed - 1) ≡ Some last)
+      (last : ℕ) × (below above : SpanData) × (slice_get fixed (length fixed - 1) ≡ Some last)
       × (slice_get images last ≡ Some below) × (slice_get images image ≡ Some above) × (above.first ≤ below.last)
 
-  same_span : (o : Option Interval) (a b : Interval) → o ≡ Some a → o ≡ Some b → a ≡ b
+  same_span : (o : Option SpanData) (a b : SpanData) → o ≡ Some a → o ≡ Some b → a ≡ b
   same_span o a b p q = (let e : some_span a ≡ some_span b = sym p ∙ q in is_some a b e)
     where
-      some_span : Interval → Option Interval
+      some_span : SpanData → Option SpanData
       some_span x = Some x
 
-      is_some : (x y : Interval) → Some x ≡ Some y → x ≡ y
+      is_some : (x y : SpanData) → Some x ≡ Some y → x ≡ y
       is_some x y e = cc
 
   pub above_low : is_above (last_fixed images fixed) span ≡ true → IsTooLow → ⊥
   above_low test (last, below, above, at, found, own, low) =
-      let known : is_above (Some below) span ≡ true = sym (ap (λ (o : Option ℕ). is_above (option_and_then (slice_get images) o) span) at ∙ ap (λ (o : Option Interval). is_above o span) found) ∙ test in
+      let known : is_above (Some below) span ≡ true = sym (ap (λ (o : Option ℕ). is_above (option_and_then (slice_get images) o) span) at ∙ ap (λ (o : Option SpanData). is_above o span) found) ∙ test in
       let lt = ltb-true below.last span.first known in
-      let same = ap (λ (s : Interval). s.first) (same_span (slice_get images image) above span own is) in
+      let same = ap (λ (s : SpanData). s.first) (same_span (slice_get images image) above span own is) in
       absurd (omega arith)
 
   pub too_low : is_above (last_fixed images fixed) span ≡ false → IsTooLow
   too_low test = by (slice_get fixed (length fixed - 1)) refl test
     where
-      at : (last : ℕ) → slice_get fixed (length fixed - 1) ≡ Some last → (o : Option Interval) → slice_get images last ≡ o → is_above o span ≡ false → IsTooLow
+      at : (last : ℕ) → slice_get fixed (length fixed - 1) ≡ Some last → (o : Option SpanData) → slice_get images last ≡ o → is_above o span ≡ false → IsTooLow
       at last here None found test = absurd cc
       at last here (Some below) found test = (last, below, span, here, found, is, ltb-false below.last span.first test)
 

@@ -4,8 +4,8 @@ use Rattle.std.specs.List.{slice_get}
 use Rattle.std.specs.Option.{ok_or, option_and_then}
 use Rattle.std.proofs.lemmas.Bool.{and_parts, eqb-false, ltb-false, leb-false}
 use Rattle.std.proofs.lemmas.Option.{slice_get_within, slice_get_past}
-use Rattle.reg_model.specs.Interval.{Interval}
-use Rattle.frame_parse.specs.Sections.{Contents, IsRefused}
+use Rattle.reg_model.specs.SpanData.{SpanData}
+use Rattle.frame_parse.specs.Sections.{SectionData, IsRefused}
 use Rattle.frame_parse.specs.Reading.{section_of}
 use Rattle.frame_parse.specs.declared.fault.FrameFault.{FrameFault}
 use Rattle.event_script.specs.ScriptData.{ImageData, span_of}
@@ -211,7 +211,7 @@ inside low high n e (inl below) = let p = and_parts (leb low n) (leb n high) e i
 inside low high n e (inr above) = let p = and_parts (leb low n) (leb n high) e in let le = leb-true n high p.1 in absurd (omega arith)
 
 module _ (known : DraftData) (text : LineText) where
-  -- a statement with a limit alone
+  -- a statement with only a limit
   by_limit : (s : Statement) → Says text s → Passed known text 9 → (IsOutOfOrder known s → ⊥) → (IsNoSpan s → ⊥) → ((fault : FrameFault) → HasBadSection fault s → ⊥) → (IsNameless known s → ⊥) → (IsNotAbove known s → ⊥)
       → (t : Bool) → (t ≡ true → IsOutsideLimit known s → ⊥) → (t ≡ false → IsOutsideLimit known s) → (next : DraftData) → Judged known text (cond t (Ok next) (Err reason.Limit))
   by_limit s says before order span section name fixed true within beyond next = good known text s says before (record { order = order; limit = within refl; span = span; section = section; name = name; fixed = fixed })
@@ -219,10 +219,10 @@ module _ (known : DraftData) (text : LineText) where
 
 -- ---- small facts
 
-section_or_fault : (r : Result Contents FrameFault) (section : Contents) (fault : FrameFault) → r ≡ Ok section → r ≡ Err fault → ⊥
+section_or_fault : (r : Result SectionData FrameFault) (section : SectionData) (fault : FrameFault) → r ≡ Ok section → r ≡ Err fault → ⊥
 section_or_fault r section fault p q = cc
 
-some_or_none : (o : Option Interval) (span : Interval) → o ≡ Some span → o ≡ None → ⊥
+some_or_none : (o : Option SpanData) (span : SpanData) → o ≡ Some span → o ≡ None → ⊥
 some_or_none o span p q = cc
 
 some_pieces_not : (pieces : Line) (first : List ℕ) (others : Line) → pieces ≡ first ∷ others → pieces ≡ [] → ⊥
@@ -262,10 +262,10 @@ module _ (known : DraftData) (text : LineText) (image : ImageData) (says : Says 
   abbrev has_span : Bool
   has_span = ltb 0 image.size && leb (image.base + image.size) (2 ^ 64 - 1)
 
-  abbrev with_section : Result Contents FrameFault → Result DraftData Reason
+  abbrev with_section : Result SectionData FrameFault → Result DraftData Reason
   with_section given = section_or given >=> λ section. Ok (with_image known image section)
 
-  image_read : (given : Result Contents FrameFault) → section_of image.section image.bytes ≡ given → (IsOutOfOrder known line_image → ⊥) → (IsOutsideLimit known line_image → ⊥) → (IsNoSpan line_image → ⊥) → Judged known text (with_section given)
+  image_read : (given : Result SectionData FrameFault) → section_of image.section image.bytes ≡ given → (IsOutOfOrder known line_image → ⊥) → (IsOutsideLimit known line_image → ⊥) → (IsNoSpan line_image → ⊥) → Judged known text (with_section given)
   image_read (Ok section) is order limit span = good known text line_image says before (record {
     order = order;
     limit = limit;
@@ -313,18 +313,18 @@ module _ (known : DraftData) (text : LineText) (image : ℕ) (says : Says text (
   abbrev line_fixed : Statement
   line_fixed = statement.Fixed image
 
-  is_there : (span : Interval) → slice_get known.script.images image ≡ Some span → length known.script.images ≤ image → ⊥
+  is_there : (span : SpanData) → slice_get known.script.images image ≡ Some span → length known.script.images ≤ image → ⊥
   is_there span is past = let within = slice_get_within known.script.images image span is in absurd (omega arith)
 
   is_missing : slice_get known.script.images image ≡ None → (t : Bool) → ltb image (length known.script.images) ≡ t → length known.script.images ≤ image
   is_missing none false e = ltb-false _ _ e
   is_missing none true e = absurd (some_or_none (slice_get known.script.images image) (span_of known.script.images image) (found_span known.script.images image (ltb-true _ _ e)) none)
 
-  fixed_above : (span : Interval) → slice_get known.script.images image ≡ Some span → (t : Bool) → is_above (last_fixed known.script.images known.script.fixed) span ≡ t → Judged known text (cond t (Ok (with_statement known line_fixed)) (Err reason.Fixed))
+  fixed_above : (span : SpanData) → slice_get known.script.images image ≡ Some span → (t : Bool) → is_above (last_fixed known.script.images known.script.fixed) span ≡ t → Judged known text (cond t (Ok (with_statement known line_fixed)) (Err reason.Fixed))
   fixed_above span is true test = good known text line_fixed says before (record { order = nothing; limit = nothing; span = nothing; section = no_section; name = is_there span is; fixed = above_low known.script.images known.script.fixed image span is test })
   fixed_above span is false test = refused known text reason.Fixed (to_fixed known text line_fixed says before nothing nothing nothing no_section (is_there span is)) (line_fixed, says, too_low known.script.images known.script.fixed image span is test)
 
-  fixed_named : (o : Option Interval) → slice_get known.script.images image ≡ o → Judged known text (ok_or o reason.Name >=> λ span. cond (is_above (last_fixed known.script.images known.script.fixed) span) (Ok (with_statement known line_fixed)) (Err reason.Fixed))
+  fixed_named : (o : Option SpanData) → slice_get known.script.images image ≡ o → Judged known text (ok_or o reason.Name >=> λ span. cond (is_above (last_fixed known.script.images known.script.fixed) span) (Ok (with_statement known line_fixed)) (Err reason.Fixed))
   fixed_named (Some span) is = fixed_above span is (is_above (last_fixed known.script.images known.script.fixed) span) refl
   fixed_named None is = refused known text reason.Name (to_name known text line_fixed says before nothing nothing nothing no_section) (line_fixed, says, is_missing is (ltb image (length known.script.images)) refl)
 

@@ -1,7 +1,7 @@
 -- How many lines there are.
 use Rattle.std.proofs.Common.{◌≡◌, ℕ, ◌+◌, ◌-◌, ◌≤◌, false, List, [], ◌∷◌, ◌++◌, length, map, All, Ok, refl, ap, ap₂, ◌∙◌, arith, length-append}
-use Rattle.frame_parse.specs.Sections.{Contents}
-use Rattle.reg_model.specs.Interval.{Interval, IsSpan}
+use Rattle.frame_parse.specs.Sections.{SectionData}
+use Rattle.reg_model.specs.SpanData.{SpanData, IsSpan}
 use Rattle.event_script.specs.declared.script.Event.{Event}
 use Rattle.event_script.specs.declared.reader.fault.Reason.TheVariants as reason
 use Rattle.event_script.specs.declared.reader.kinds.Stage.{Stage}
@@ -21,7 +21,7 @@ map_count : {A B : Type 0} (f : A → B) (xs : List A) → length (map f xs) ≡
 map_count f [] = refl
 map_count f (x ∷ xs) = omega (arith, map_count f xs)
 
-images_count : (number : ℕ) (images : List Interval) (sections : List Contents) → length (image_statements number images sections) ≤ length images
+images_count : (number : ℕ) (images : List SpanData) (sections : List SectionData) → length (image_statements number images sections) ≤ length images
 images_count number [] sections = omega arith
 images_count number (span ∷ images) [] = omega arith
 images_count number (span ∷ images) (section ∷ sections) = omega (arith, images_count (number + 1) images sections)

@@ -14,11 +14,11 @@ use Rattle.frame_parse.specs.declared.fault.FrameFault.{FrameFault}
 use Rattle.frame_parse.specs.declared.fault.FrameFault.TheVariants as frame_fault
 use Rattle.frame_parse.specs.Entries.{Record}
 use Rattle.frame_parse.specs.Entries.{FdeRecord}
-use Rattle.frame_parse.specs.Sections.{Contents, HasFdes, IsSection, IsRefused, fdes_of}
+use Rattle.frame_parse.specs.Sections.{SectionData, HasFdes, IsSection, IsRefused, fdes_of}
 use Rattle.frame_parse.specs.Reading.{section_of}
 use Rattle.frame_parse.proofs.OneAnswer.{one_answer, answered}
 use Rattle.event_script.specs.Lower.{is_lower}
-use Rattle.event_script.specs.Fields.{bytes_if, bytes_in}
+use Rattle.event_script.specs.Fields.{bytes_if, section_bytes}
 use Rattle.event_script.specs.Statements.{section_digits}
 use Rattle.event_script.specs.Reading.{IsOfBytes}
 use Rattle.event_script.specs.declared.reader.fault.Reason.TheVariants as reason
@@ -111,20 +111,20 @@ none_unless : {A : Type 0} (o : Option A) → ((x : A) → o ≡ Some x → ⊥)
 none_unless None never = refl
 none_unless (Some x) never = absurd (never x refl)
 
-pub dash_in : (field : List ℕ) → bytes_eq field (codes "-") ≡ true → bytes_in field ≡ Some []
-unfolding bytes_in
+pub dash_in : (field : List ℕ) → bytes_eq field (codes "-") ≡ true → section_bytes field ≡ Some []
+unfolding section_bytes
 dash_in field dash = cond-true (bytes_eq field (codes "-")) (Some []) (bytes_if field (decode_of field)) dash
 
 module _ (field : List ℕ) (no_dash : bytes_eq field (codes "-") ≡ false) where
-  decoded : bytes_in field ≡ bytes_if field (decode_of field)
-  unfolding bytes_in
+  decoded : section_bytes field ≡ bytes_if field (decode_of field)
+  unfolding section_bytes
   decoded = cond-false (bytes_eq field (codes "-")) (Some []) (bytes_if field (decode_of field)) no_dash
 
   -- text that doesn't decode
-  pub undecoded_in : (e : FromHexError) → decode_of field ≡ Err e → bytes_in field ≡ None
+  pub undecoded_in : (e : FromHexError) → decode_of field ≡ Err e → section_bytes field ≡ None
   undecoded_in e is = decoded ∙ ap (bytes_if field) is
 
-  pub empty_in : length field ≡ 0 → bytes_in field ≡ None
+  pub empty_in : length field ≡ 0 → section_bytes field ≡ None
   unfolding decode_pairs
   empty_in none = decoded ∙ by field none
     where
@@ -133,8 +133,8 @@ module _ (field : List ℕ) (no_dash : bytes_eq field (codes "-") ≡ false) whe
       by (b ∷ field) none = absurd (omega arith)
 
   -- text with another byte than digits in lower case
-  pub not_lower_in : list_all is_lower field ≡ false → bytes_in field ≡ None
-  not_lower_in other = none_unless (bytes_in field) (λ bytes e. by (decode_of field) refl bytes (sym decoded ∙ e))
+  pub not_lower_in : list_all is_lower field ≡ false → section_bytes field ≡ None
+  not_lower_in other = none_unless (section_bytes field) (λ bytes e. by (decode_of field) refl bytes (sym decoded ∙ e))
     where
       same : (b : ℕ) (rest bytes : List ℕ) → decode_of field ≡ Ok (b ∷ rest) → (t : Bool) → bytes_eq field (encode_lower (b ∷ rest)) ≡ t → cond t (Some (b ∷ rest)) None ≡ Some bytes → ⊥
       same b rest bytes is true eq e =
@@ -148,7 +148,7 @@ module _ (field : List ℕ) (no_dash : bytes_eq field (codes "-") ≡ false) whe
       by (Ok []) is bytes e = cc
       by (Ok (b ∷ rest)) is bytes e = same b rest bytes is (bytes_eq field (encode_lower (b ∷ rest))) refl e
 
-  pub decoded_in : (bytes : List ℕ) → length field ≢ 0 → list_all is_lower field ≡ true → decode_of field ≡ Ok bytes → bytes_in field ≡ Some bytes
+  pub decoded_in : (bytes : List ℕ) → length field ≢ 0 → list_all is_lower field ≡ true → decode_of field ≡ Ok bytes → section_bytes field ≡ Some bytes
   decoded_in bytes some lower is = decoded ∙ ap (bytes_if field) is ∙ by bytes (decode_of-ok field bytes is).2 (lower_again field bytes lower is)
     where
       by : (bytes : List ℕ) → length field ≡ 2 * length bytes → encode_lower bytes ≡ field → bytes_if field (Ok bytes) ≡ Some bytes
@@ -160,8 +160,8 @@ encoded_text : (b : ℕ) (bytes : List ℕ) → IsBytes (b ∷ bytes) → bytes_
 unfolding encode_with
 encoded_text b bytes fits = and_right _ _ refl
 
-pub bytes_again : (bytes : List ℕ) → IsBytes bytes → bytes_in (section_digits bytes) ≡ Some bytes
-unfolding bytes_in
+pub bytes_again : (bytes : List ℕ) → IsBytes bytes → section_bytes (section_digits bytes) ≡ Some bytes
+unfolding section_bytes
 bytes_again [] fits = refl
 bytes_again (b ∷ bytes) fits =
     let text = encode_lower (b ∷ bytes) in
@@ -198,7 +198,7 @@ module _ (address : ℕ) (bytes : List ℕ) where
   section_bad = (answered address bytes).refusal
 
   -- what was found is a section
-  pub section_is : (section : Contents) → section_of address bytes ≡ Ok section → (section.address ≡ address) × (section.bytes ≡ bytes) × HasFdes section.address section.bytes section.fdes
+  pub section_is : (section : SectionData) → section_of address bytes ≡ Ok section → (section.address ≡ address) × (section.bytes ≡ bytes) × HasFdes section.address section.bytes section.fdes
   unfolding HasFdes
   section_is section e = by (one_answer address bytes).some
     where
@@ -206,11 +206,11 @@ module _ (address : ℕ) (bytes : List ℕ) where
       by (inl found) =
           let is = section_ok (fdes_of found.0) (found.0, found.1, refl) in
           let same : record { address = address; bytes = bytes; fdes = fdes_of found.0 } ≡ section = cc in
-          subst (λ (s : Contents). (s.address ≡ address) × (s.bytes ≡ bytes) × HasFdes s.address s.bytes s.fdes) same (refl, refl, (found.0, found.1, refl))
+          subst (λ (s : SectionData). (s.address ≡ address) × (s.bytes ≡ bytes) × HasFdes s.address s.bytes s.fdes) same (refl, refl, (found.0, found.1, refl))
       by (inr refused) = (let is = section_bad refused.0 refused.1 in absurd cc)
 
   -- a section that was read is the one that the bytes are
-  pub section_ok_of : (section : Contents) → section.address ≡ address → section.bytes ≡ bytes → HasFdes address bytes section.fdes → section_of address bytes ≡ Ok section
+  pub section_ok_of : (section : SectionData) → section.address ≡ address → section.bytes ≡ bytes → HasFdes address bytes section.fdes → section_of address bytes ≡ Ok section
   section_ok_of section at is has = section_ok section.fdes has ∙ ap₂ (λ (a : ℕ) (b : List ℕ). Ok (record { address = a; bytes = b; fdes = section.fdes })) (sym at) (sym is)
 
   pub section_bad_or : (f : FrameFault) → (f ≡ frame_fault.NoMemory → ⊥) → (f ≡ frame_fault.NoMemory) ⊎ IsRefused address bytes f → section_of address bytes ≡ Err f
@@ -222,10 +222,10 @@ module _ (address : ℕ) (bytes : List ℕ) where
   unfolding HasFdes
   section_refused f e = by (one_answer address bytes).some
     where
-      fault_is : (r : Result Contents FrameFault) (x y : FrameFault) → r ≡ Err x → r ≡ Err y → x ≡ y
+      fault_is : (r : Result SectionData FrameFault) (x y : FrameFault) → r ≡ Err x → r ≡ Err y → x ≡ y
       fault_is r x y p q = cc
 
-      never : (r : Result Contents FrameFault) (section : Contents) → r ≡ Ok section → r ≡ Err f → ⊥
+      never : (r : Result SectionData FrameFault) (section : SectionData) → r ≡ Ok section → r ≡ Err f → ⊥
       never r section p q = cc
 
       by : some_answer → IsRefused address bytes f

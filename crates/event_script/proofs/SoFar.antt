@@ -1,7 +1,7 @@
 -- What the lines so far say, and what holds of what they make known.
 use Rattle.std.proofs.Common.{◌≡◌, ℕ, ◌+◌, ◌<◌, ◌≤◌, List, [], ◌∷◌, ◌++◌, length, All, subst, arith}
 use Rattle.std.proofs.lemmas.List.Elements.{All-from_recursion}
-use Rattle.reg_model.specs.Interval.{Interval, IsSpan}
+use Rattle.reg_model.specs.SpanData.{SpanData, IsSpan}
 use Rattle.event_script.specs.ScriptData.{ScriptData, IsSectionOf, AreFixed, IsEvent, IsThread, IsRound}
 use Rattle.event_script.specs.Spelling.{body_statements}
 use Rattle.event_script.specs.Draft.{DraftData, rounds_so_far}
@@ -76,5 +76,5 @@ same_step known made next s e step = subst (λ (n : DraftData). Step known n s) 
 pub no_events : (images : ℕ) → IsThread images []
 no_events images = (omega arith, All-from_recursion (IsEvent images) [] tt)
 
-pub no_fixed : (images : List Interval) → AreFixed images []
+pub no_fixed : (images : List SpanData) → AreFixed images []
 no_fixed images = record { named = All-from_recursion (λ image. image < length images) [] tt; rising = tt }

@@ -7,8 +7,8 @@ use Rattle.std.proofs.lemmas.Grind.{flat_map-append}
 use Rattle.std.proofs.lemmas.List.{map-append}
 use Rattle.std.proofs.lemmas.List.Elements.{All-push, All-from_recursion}
 use Rattle.hex.specs.Hex.{IsBytes}
-use Rattle.reg_model.specs.Interval.{Interval, IsSpan}
-use Rattle.frame_parse.specs.Sections.{Contents}
+use Rattle.reg_model.specs.SpanData.{SpanData, IsSpan}
+use Rattle.frame_parse.specs.Sections.{SectionData}
 use Rattle.frame_parse.specs.Reading.{section_of}
 use Rattle.frame_parse.specs.declared.fault.FrameFault.{FrameFault}
 use Rattle.event_script.specs.ScriptData.{ScriptData, ImageData, IsSectionOf, AreFixed, IsEvent, IsThread, IsRound}
@@ -36,7 +36,7 @@ use Rattle.event_script.proofs.SoFar.{statements_at, statements_so_far, NodesAt,
 
 -- ---- lists of what lines say
 
-pub images_push : (number : ℕ) (images : List Interval) (sections : List Contents) (span : Interval) (section : Contents) → length sections ≡ length images
+pub images_push : (number : ℕ) (images : List SpanData) (sections : List SectionData) (span : SpanData) (section : SectionData) → length sections ≡ length images
     → image_statements number (images ++ span ∷ []) (sections ++ section ∷ []) ≡ image_statements number images sections ++ statement.Image (image_data (number + length images) span section) ∷ []
 images_push number [] [] span section e = ap (λ (n : ℕ). statement.Image (image_data n span section) ∷ []) (omega arith)
 images_push number [] (a ∷ sections) span section e = absurd (omega arith)
@@ -88,18 +88,18 @@ no_rounds_at images rounds none =
 
 -- ---- sections
 
-abbrev found_section : Contents → Result Contents Reason
+abbrev found_section : SectionData → Result SectionData Reason
 found_section section = Ok section
 
-contents_is : (x y : Contents) → found_section x ≡ found_section y → x ≡ y
+contents_is : (x y : SectionData) → found_section x ≡ found_section y → x ≡ y
 contents_is x y e = cc
 
-pub section_from_or : (given : Result Contents FrameFault) (section : Contents) → section_or given ≡ Ok section → given ≡ Ok section
+pub section_from_or : (given : Result SectionData FrameFault) (section : SectionData) → section_or given ≡ Ok section → given ≡ Ok section
 section_from_or (Ok found) section e = ap Ok (contents_is found section e)
 section_from_or (Err fault) section e = absurd cc
 
 -- an image's line, from what it says
-image_is : (image : ImageData) (section : Contents) (count : ℕ) → image.number ≡ count → 0 < image.size → section.address ≡ image.section → section.bytes ≡ image.bytes → image_data (0 + count) (span_from image) section ≡ image
+image_is : (image : ImageData) (section : SectionData) (count : ℕ) → image.number ≡ count → 0 < image.size → section.address ≡ image.section → section.bytes ≡ image.bytes → image_data (0 + count) (span_from image) section ≡ image
 image_is image section count number some address bytes =
     let number_is : 0 + count ≡ image.number = omega arith in
     let size_is : image.base + image.size - 1 + 1 - image.base ≡ image.size = omega arith in
@@ -148,7 +148,7 @@ module _ (script : ScriptData) (threads : List (List Event)) (events : List Even
       let limits = and_parts (leb 1 loads) (leb loads 1024) g.0 in
       same_step _ made next _ g.1 (record {
         sound = record { each = s.each; sections = s.sections; nodes = s.nodes; loads = (leb-true 1 loads limits.0, leb-true loads 1024 limits.1); count = s.count; spans = s.spans; fixed = s.fixed; events = s.events; shape = (s.shape.1, s.shape.2, s.shape.3, s.shape.4) };
-        statements = ap₂ (λ (is : List Interval) (rs : List (List (List Event))). statement.Version 1 ∷ statement.Nodes script.nodes ∷ statement.Loads loads ∷ (image_statements 0 is script.sections ++ map statement.Fixed script.fixed ++ round_statements rs)) s.shape.0 s.shape.1
+        statements = ap₂ (λ (is : List SpanData) (rs : List (List (List Event))). statement.Version 1 ∷ statement.Nodes script.nodes ∷ statement.Loads loads ∷ (image_statements 0 is script.sections ++ map statement.Fixed script.fixed ++ round_statements rs)) s.shape.0 s.shape.1
             ∙ ap (λ (f : List ℕ). statement.Version 1 ∷ statement.Nodes script.nodes ∷ statement.Loads loads ∷ (map statement.Fixed f ++ [])) s.shape.4;
       })
 

@@ -5,8 +5,8 @@ use Rattle.std.specs.Fmt.{decimal}
 use Rattle.std.proofs.lemmas.Fmt.{decimal_digit}
 use Rattle.std.proofs.lemmas.Grind.{flat_map-append}
 use Rattle.std.proofs.lemmas.List.{take_more, length-take-le}
-use Rattle.frame_parse.specs.Sections.{Contents}
-use Rattle.reg_model.specs.Interval.{Interval}
+use Rattle.frame_parse.specs.Sections.{SectionData}
+use Rattle.reg_model.specs.SpanData.{SpanData}
 use Rattle.event_script.specs.declared.script.Event.{Event}
 use Rattle.event_script.specs.declared.reader.statement.Statement.{Statement}
 use Rattle.event_script.specs.declared.reader.statement.Statement.TheVariants as statement
@@ -70,7 +70,7 @@ round_more old text begun new rounds i threads shown lt is same p b q =
     lines_more old text new (round_statements (take i rounds)) (statement.Round ∷ thread_statements threads) p more
     ∙ ap (λ (lines : List Statement). old ++ statements_text lines) (sym (ap round_statements (taken rounds i threads lt is) ∙ rounds_push (take i rounds) threads))
 
-pub image_more : (old text new : List ℕ) (images : List Interval) (sections : List Contents) (i : ℕ) (span : Interval) (section : Contents) → i < length images → length sections ≡ length images
+pub image_more : (old text new : List ℕ) (images : List SpanData) (sections : List SectionData) (i : ℕ) (span : SpanData) (section : SectionData) → i < length images → length sections ≡ length images
     → span ≡ get_or images i span → section ≡ get_or sections i section
     → text ≡ old ++ statements_text (image_statements 0 (take i images) (take i sections)) → new ≡ text ++ statement_text (statement.Image (image_data i span section))
     → new ≡ old ++ statements_text (image_statements 0 (take (i + 1) images) (take (i + 1) sections))
@@ -78,7 +78,7 @@ image_more old text new images sections i span section lt each span_is section_i
     let long = length-take-le i images (omega arith) in
     let number : 0 + length (take i images) ≡ i = omega (arith, long) in
     let lines : image_statements 0 (take (i + 1) images) (take (i + 1) sections) ≡ image_statements 0 (take i images) (take i sections) ++ statement.Image (image_data i span section) ∷ [] =
-    ap₂ (λ (x : List Interval) (y : List Contents). image_statements 0 x y) (taken images i span lt span_is) (taken sections i section (omega arith) section_is)
+    ap₂ (λ (x : List SpanData) (y : List SectionData). image_statements 0 x y) (taken images i span lt span_is) (taken sections i section (omega arith) section_is)
     ∙ images_push 0 (take i images) (take i sections) span section (omega (arith, long, length-take-le i sections (omega arith)))
     ∙ ap (λ (n : ℕ). image_statements 0 (take i images) (take i sections) ++ statement.Image (image_data n span section) ∷ []) number in
     line_more old text new (image_statements 0 (take i images) (take i sections)) (statement.Image (image_data i span section)) p q
@@ -93,13 +93,13 @@ first_three nodes loads empty one two three e p q r =
     let second = line_more [] one two (statement.Version 1 ∷ []) (statement.Nodes nodes) first q in
     line_more [] two three (statement.Version 1 ∷ statement.Nodes nodes ∷ []) (statement.Loads loads) second r
 
-pub all_lines : (s : ScriptData) (images : List Interval) (sections : List Contents) (fixed : List ℕ) (rounds : List (List (List Event))) (begun imaged kept gone new : List ℕ) → images ≡ s.images → sections ≡ s.sections → fixed ≡ s.fixed → rounds ≡ s.rounds
+pub all_lines : (s : ScriptData) (images : List SpanData) (sections : List SectionData) (fixed : List ℕ) (rounds : List (List (List Event))) (begun imaged kept gone new : List ℕ) → images ≡ s.images → sections ≡ s.sections → fixed ≡ s.fixed → rounds ≡ s.rounds
     → begun ≡ statements_text (first_statements s.nodes s.loads) → imaged ≡ begun ++ statements_text (image_statements 0 images sections) → kept ≡ imaged ++ statements_text (map statement.Fixed fixed) → gone ≡ kept ++ statements_text (round_statements rounds) → new ≡ gone ++ codes "end\n"
     → new ≡ script_text s
 unfolding script_text
 all_lines s images sections fixed rounds begun imaged kept gone new same_images same_sections same_fixed same_rounds b i f r e =
     let first : begun ≡ [] ++ statements_text (first_statements s.nodes s.loads) = b in
-    let second = lines_more [] begun imaged (first_statements s.nodes s.loads) (image_statements 0 s.images s.sections) first (i ∙ ap₂ (λ (x : List Interval) (y : List Contents). begun ++ statements_text (image_statements 0 x y)) same_images same_sections) in
+    let second = lines_more [] begun imaged (first_statements s.nodes s.loads) (image_statements 0 s.images s.sections) first (i ∙ ap₂ (λ (x : List SpanData) (y : List SectionData). begun ++ statements_text (image_statements 0 x y)) same_images same_sections) in
     let between = lines_more [] imaged kept (first_statements s.nodes s.loads ++ image_statements 0 s.images s.sections) (map statement.Fixed s.fixed) second (f ∙ ap (λ (x : List ℕ). imaged ++ statements_text (map statement.Fixed x)) same_fixed) in
     let third = lines_more [] kept gone (first_statements s.nodes s.loads ++ image_statements 0 s.images s.sections ++ map statement.Fixed s.fixed) (round_statements s.rounds) between (r ∙ ap (λ (x : List (List (List Event))). kept ++ statements_text (round_statements x)) same_rounds) in
     line_more [] gone new (body_statements s) statement.End third e

@@ -4,11 +4,11 @@ use Rattle.std.specs.Option.{ok_or}
 use Rattle.std.specs.Fmt.{decimal}
 use Rattle.event_script.specs.Digits.{hex}
 use Rattle.event_script.specs.ScriptData.{ImageData}
-use Rattle.event_script.specs.Fields.{decimal_in, hex_in, bytes_in}
+use Rattle.event_script.specs.Fields.{decimal_in, hex_in, section_bytes}
 use Rattle.event_script.specs.Statements.{word_of, Form, Decimal, Hexadecimal, Bytes, forms, section_digits, IsField, AreFields, kind_of_event, event_fields, kind_of_statement, statement_fields, statement_line, HasEventForm, HasForm}
 use Rattle.event_script.specs.Spelling.{Line}
 use Rattle.event_script.specs.Reasons.{LineText, Says}
-use Rattle.event_script.specs.Reading.{◌>=>◌, kind_of, has_any, only, five, one_decimal, one_hex, image_fields, alone, statement_of}
+use Rattle.event_script.specs.Reading.{◌>=>◌, kind_of, has_any, only, five, one_decimal, one_hex, image_fields, fieldless, statement_of}
 use Rattle.event_script.specs.declared.script.Event.{Event}
 use Rattle.event_script.specs.declared.script.Event.TheVariants as event
 use Rattle.event_script.specs.declared.reader.fault.Reason.{Reason}
@@ -47,7 +47,7 @@ hex_spoken k make fields s line form e =
     let is = one_hex_is fields a.0 a.1 in
     same_spoken k fields (make a.0) s a.2 (record { line = ap (λ (x : Line). word_of k ∷ x) is.1 ∙ sym (line a.0); form = form a.0 is.0 })
 
-alone_spoken : (k : Kind) (made : Statement) (fields : Line) (s : Statement) → statement_line made ≡ word_of k ∷ [] → HasForm made → alone fields made ≡ Ok s → Spoken k fields s
+alone_spoken : (k : Kind) (made : Statement) (fields : Line) (s : Statement) → statement_line made ≡ word_of k ∷ [] → HasForm made → fieldless fields made ≡ Ok s → Spoken k fields s
 alone_spoken k made [] s line form e = same_spoken k [] made s e (record { line = sym line; form = form })
 alone_spoken k made (field ∷ fields) s line form e = absurd cc
 
@@ -158,8 +158,8 @@ hex_none field none (n, lt, is) = never (hex_in field) none (ap hex_in is ∙ he
     never : (o : Option ℕ) → o ≡ None → o ≡ Some n → ⊥
     never o p q = cc
 
-bytes_none : (field : List ℕ) → bytes_in field ≡ None → IsField Bytes field → ⊥
-bytes_none field none (bytes, are, is) = never (bytes_in field) none (ap bytes_in is ∙ bytes_again bytes are)
+bytes_none : (field : List ℕ) → section_bytes field ≡ None → IsField Bytes field → ⊥
+bytes_none field none (bytes, are, is) = never (section_bytes field) none (ap section_bytes is ∙ bytes_again bytes are)
   where
     never : (o : Option (List ℕ)) → o ≡ None → o ≡ Some bytes → ⊥
     never o p q = cc
@@ -180,7 +180,7 @@ hex_wrong [] why e = miscounted {A = ℕ} (Hexadecimal ∷ []) [] why (λ same. 
 hex_wrong (field ∷ []) why e = let o = or_err (hex_in field) reason.Spelling why e in misspelled (Hexadecimal ∷ []) (field ∷ []) why refl (λ are. hex_none field o.0 are.0) o.1
 hex_wrong (field ∷ next ∷ fields) why e = miscounted {A = ℕ} (Hexadecimal ∷ []) (field ∷ next ∷ fields) why (λ same. omega arith) e
 
-alone_wrong : (made : Statement) (fields : Line) (why : Reason) → alone fields made ≡ Err why → Wrong [] fields why
+alone_wrong : (made : Statement) (fields : Line) (why : Reason) → fieldless fields made ≡ Err why → Wrong [] fields why
 alone_wrong made [] why e = absurd cc
 alone_wrong made (field ∷ fields) why e = miscounted {A = Statement} [] (field ∷ fields) why (λ same. omega arith) e
 
@@ -196,8 +196,8 @@ five_wrong a b c d x why e = elim (bind_err (ok_or (decimal_in a) reason.Spellin
       | inl r ↦ (let o = or_err (hex_in c) reason.Spelling why r in bad (λ are. hex_none c o.0 are.1.1.0) o.1)
       | inr r ↦ elim (bind_err (ok_or (hex_in d) reason.Spelling) _ why r.2) [
         | inl s ↦ (let o = or_err (hex_in d) reason.Spelling why s in bad (λ are. hex_none d o.0 are.1.1.1.0) o.1)
-        | inr s ↦ elim (bind_err (ok_or (bytes_in x) reason.Spelling) _ why s.2) [
-          | inl t ↦ (let o = or_err (bytes_in x) reason.Spelling why t in bad (λ are. bytes_none x o.0 are.1.1.1.1.0) o.1)
+        | inr s ↦ elim (bind_err (ok_or (section_bytes x) reason.Spelling) _ why s.2) [
+          | inl t ↦ (let o = or_err (section_bytes x) reason.Spelling why t in bad (λ are. bytes_none x o.0 are.1.1.1.1.0) o.1)
           | inr t ↦ never _ t.2
         ]
       ]

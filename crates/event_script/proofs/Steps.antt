@@ -16,7 +16,7 @@ use Rattle.event_script.specs.Digits.{hex}
 use Rattle.event_script.specs.ScriptData.{ImageData}
 use Rattle.event_script.specs.Statements.{word_of, section_digits}
 use Rattle.event_script.specs.Spelling.{Line}
-use Rattle.event_script.specs.Fields.{decimal_in, hex_in, bytes_if, bytes_in}
+use Rattle.event_script.specs.Fields.{decimal_in, hex_in, bytes_if, section_bytes}
 use Rattle.event_script.specs.Reading.{◌>=>◌, only, five, has_any, one_decimal, one_hex, image_fields, kind_of, kinds}
 use Rattle.event_script.proofs.Numbers.{number_is}
 
@@ -102,8 +102,8 @@ bytes_parts field (Ok (b ∷ others)) bytes is found = by (bytes_eq field (encod
 no_bytes : IsBytes []
 no_bytes i = omega arith
 
-pub bytes_are : (field bytes : List ℕ) → bytes_in field ≡ Some bytes → IsBytes bytes × (field ≡ section_digits bytes)
-unfolding bytes_in
+pub bytes_are : (field bytes : List ℕ) → section_bytes field ≡ Some bytes → IsBytes bytes × (field ≡ section_digits bytes)
+unfolding section_bytes
 bytes_are field bytes e = by (bytes_eq field (codes "-")) refl e
   where
     by : (t : Bool) → bytes_eq field (codes "-") ≡ t → cond t (Some []) (bytes_if field (decode_of field)) ≡ Some bytes → IsBytes bytes × (field ≡ section_digits bytes)
@@ -134,12 +134,12 @@ image_fields_are fields image e =
     let b = bind_ok (ok_or (hex_in f.0.1) reason.Spelling) _ image n.2 in
     let s = bind_ok (ok_or (hex_in f.0.2) reason.Spelling) _ image b.2 in
     let a = bind_ok (ok_or (hex_in f.0.3) reason.Spelling) _ image s.2 in
-    let c = bind_ok (ok_or (bytes_in f.0.4) reason.Spelling) _ image a.2 in
+    let c = bind_ok (ok_or (section_bytes f.0.4) reason.Spelling) _ image a.2 in
     let number = decimal_is f.0.0 n.0 (some_from (decimal_in f.0.0) reason.Spelling n.0 n.1) in
     let base = hex_is f.0.1 b.0 (some_from (hex_in f.0.1) reason.Spelling b.0 b.1) in
     let size = hex_is f.0.2 s.0 (some_from (hex_in f.0.2) reason.Spelling s.0 s.1) in
     let section = hex_is f.0.3 a.0 (some_from (hex_in f.0.3) reason.Spelling a.0 a.1) in
-    let bytes = bytes_are f.0.4 c.0 (some_from (bytes_in f.0.4) reason.Spelling c.0 c.1) in
+    let bytes = bytes_are f.0.4 c.0 (some_from (section_bytes f.0.4) reason.Spelling c.0 c.1) in
     let parts = five_is fields f.0 (some_from (five fields) reason.Fields f.0 f.1) in
     same_image fields (record { number = n.0; base = b.0; size = s.0; section = a.0; bytes = c.0 }) image
     (record { is = five_same fields _ _ _ _ _ _ _ _ _ _ parts number.1 base.1 size.1 section.1 bytes.1; number = number.0; base = base.0; size = size.0; section = section.0; bytes = bytes.0 }) c.2

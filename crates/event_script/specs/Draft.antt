@@ -1,7 +1,7 @@
 -- A script as far as its lines have come: which lines may come, and what each adds.
 use Rattle.std.specs.Prelude.{◌≡◌, ℕ, ◌+◌, ◌-◌, List, [], ◌∷◌, ◌++◌, Bool, true, false, Result, Ok, Err}
-use Rattle.reg_model.specs.Interval.{Interval}
-use Rattle.frame_parse.specs.Sections.{Contents}
+use Rattle.reg_model.specs.SpanData.{SpanData}
+use Rattle.frame_parse.specs.Sections.{SectionData}
 use Rattle.frame_parse.specs.Reading.{section_of}
 use Rattle.frame_parse.specs.declared.fault.FrameFault.{FrameFault}
 use Rattle.event_script.specs.ScriptData.{ScriptData, ImageData}
@@ -104,15 +104,15 @@ abbrev pub rounds_so_far : DraftData → List (List (List Event))
 rounds_so_far known = rounds_at known.stage known.script.rounds known.threads known.events
 
 -- the span of an image
-abbrev pub span_from : ImageData → Interval
+abbrev pub span_from : ImageData → SpanData
 span_from image = record { first = image.base; last = image.base + image.size - 1 }
 
 -- the section that the bytes at an address are; where they are none, it has no FDEs
-abbrev pub contents_or_none : ℕ → List ℕ → Result Contents FrameFault → Contents
+abbrev pub contents_or_none : ℕ → List ℕ → Result SectionData FrameFault → SectionData
 contents_or_none address bytes (Ok contents) = contents
 contents_or_none address bytes (Err fault) = record { address = address; bytes = bytes; fdes = [] }
 
-abbrev pub with_image : DraftData → ImageData → Contents → DraftData
+abbrev pub with_image : DraftData → ImageData → SectionData → DraftData
 with_image known image section =
     record known {
       script = record known.script {

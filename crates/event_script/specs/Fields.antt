@@ -49,5 +49,5 @@ bytes_if field (Ok []) = None
 bytes_if field (Ok (b ∷ bytes)) = if bytes_eq field (encode_lower (b ∷ bytes)) then Some (b ∷ bytes) else None
 
 -- the bytes of a section: none of a dash, else those whose lower-case digits the field is
-unfoldable pub bytes_in : List ℕ → Option (List ℕ)
-bytes_in field = if bytes_eq field (codes "-") then Some [] else bytes_if field (decode_of field)
+unfoldable pub section_bytes : List ℕ → Option (List ℕ)
+section_bytes field = if bytes_eq field (codes "-") then Some [] else bytes_if field (decode_of field)

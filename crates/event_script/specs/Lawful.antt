@@ -1,7 +1,7 @@
 -- Lawful journals: what the answers to a script's events may be.
 use Rattle.std.specs.Prelude.{◌≡◌, ℕ, ◌+◌, ◌≤◌, List, [], ◌∷◌, length, map, is_some, All, count_by}
 use Rattle.std.specs.List.{AllZip, flat_map}
-use Rattle.reg_model.specs.Interval.{Interval}
+use Rattle.reg_model.specs.SpanData.{SpanData}
 use Rattle.reg_model.specs.State.{State, opening}
 use Rattle.reg_model.specs.History.{IsHistory}
 use Rattle.reg_model.specs.Receipt.{moment, accepted, AllHold, AreInOrder, IsPlace, receipts_of_place}
@@ -18,7 +18,7 @@ use Rattle.event_script.specs.declared.journal.Answer.{Answer}
 use Rattle.event_script.specs.declared.journal.Answer.TheVariants.{Register, Deregister, Load, Unload, Find}
 
 -- the member that is meant by the number of an image
-abbrev pub image_member : List Interval → ℕ → Member
+abbrev pub image_member : List SpanData → ℕ → Member
 image_member images image = record { span = span_of images image; payload = image }
 
 -- the answer is of the event's kind, with its image, base or address
@@ -31,7 +31,7 @@ AnswersEvent (event.Find pc) (Find asked place) = (asked ≡ pc) × IsPlace plac
 AnswersEvent _ _ = ⊥
 
 -- the receipts of an event: that of its update, or those of its place
-abbrev pub receipts_of : List Interval → Answer → List Receipt
+abbrev pub receipts_of : List SpanData → Answer → List Receipt
 receipts_of images (Register image answer) = receipt.Register (image_member images image) answer ∷ []
 receipts_of images (Deregister base answer) = receipt.Deregister base answer ∷ []
 receipts_of images (Load image answer) = receipt.Load (image_member images image) answer ∷ []
@@ -39,7 +39,7 @@ receipts_of images (Unload base answer) = receipt.Unload base answer ∷ []
 receipts_of images (Find pc place) = receipts_of_place pc place
 
 -- the receipts of each thread, by round
-abbrev pub thread_receipts : List Interval → JournalData → List (List (List Receipt))
+abbrev pub thread_receipts : List SpanData → JournalData → List (List (List Receipt))
 thread_receipts images journal = map (λ round. map (λ answers. flat_map (receipts_of images) answers) round) journal.rounds
 
 -- all of them, in order of round and thread
@@ -71,7 +71,7 @@ abbrev pub start_of : ScriptData → State
 start_of script = opening (fixed_members script) script.loads
 
 -- A journal of the script may be this. Its history is read off its own numbers.
-pub record IsLawful (script : ScriptData) (journal : JournalData) : Type 0 where
+pub record IsLawfulJournal (script : ScriptData) (journal : JournalData) : Type 0 where
   pub answered : AllZip (AllZip (AllZip AnswersEvent)) script.rounds journal.rounds
   pub numbered : AreNumbered journal.updates (in_one (thread_receipts script.images journal))
   pub history : IsHistory (start_of script) (history_of (in_one (thread_receipts script.images journal)) journal.updates)

@@ -4,14 +4,14 @@ use Rattle.std.specs.Prelude.{◌≡◌, ℕ, ◌+◌, ◌-◌, ◌^◌, List, [
 use Rattle.std.specs.List.{find}
 use Rattle.std.specs.Option.{ok_or, option_and_then}
 use Rattle.std.specs.Str.{bytes_eq}
-use Rattle.reg_model.specs.Interval.{Interval}
-use Rattle.frame_parse.specs.Sections.{Contents}
+use Rattle.reg_model.specs.SpanData.{SpanData}
+use Rattle.frame_parse.specs.Sections.{SectionData}
 use Rattle.frame_parse.specs.declared.fault.FrameFault.{FrameFault}
 use Rattle.frame_parse.specs.declared.fault.FrameFault.TheVariants as frame_fault
 use Rattle.frame_parse.specs.Reading.{section_of}
 use Rattle.event_script.specs.declared.limits.TheConstants.{VERSION, LEAST_NODES, MOST_NODES, LEAST_LOADS, MOST_LOADS, MOST_IMAGES, MOST_SECTION_BYTES, MOST_ROUNDS, MOST_THREADS, MOST_EVENTS}
 use Rattle.event_script.specs.ScriptData.{ImageData}
-use Rattle.event_script.specs.Fields.{pieces, is_printable, decimal_in, hex_in, bytes_in}
+use Rattle.event_script.specs.Fields.{pieces, is_printable, decimal_in, hex_in, section_bytes}
 use Rattle.event_script.specs.Statements.{word_of}
 use Rattle.event_script.specs.Draft.{DraftData, nothing_known, may_come, is_ended, is_unbuilt, threads_so_far, rounds_so_far, with_image, with_statement}
 use Rattle.event_script.specs.declared.script.Event.{Event}
@@ -82,12 +82,12 @@ image_fields fields =
     ok_or (hex_in image.1) reason.Spelling >=> λ base.
     ok_or (hex_in image.2) reason.Spelling >=> λ size.
     ok_or (hex_in image.3) reason.Spelling >=> λ section.
-    ok_or (bytes_in image.4) reason.Spelling >=> λ bytes.
+    ok_or (section_bytes image.4) reason.Spelling >=> λ bytes.
     Ok (record { number = number; base = base; size = size; section = section; bytes = bytes })
 
 -- where no field follows
-abbrev pub alone : List (List ℕ) → Statement → Result Statement Reason
-alone fields s = if has_any fields then Err reason.Fields else Ok s
+abbrev pub fieldless : List (List ℕ) → Statement → Result Statement Reason
+fieldless fields s = if has_any fields then Err reason.Fields else Ok s
 
 unfoldable pub statement_of : Kind → List (List ℕ) → Result Statement Reason
 statement_of kind.Version fields = one_decimal fields >=> λ version. Ok (statement.Version version)
@@ -95,20 +95,20 @@ statement_of kind.Nodes fields = one_decimal fields >=> λ nodes. Ok (statement.
 statement_of kind.Loads fields = one_decimal fields >=> λ loads. Ok (statement.Loads loads)
 statement_of kind.Image fields = image_fields fields >=> λ image. Ok (statement.Image image)
 statement_of kind.Fixed fields = one_decimal fields >=> λ image. Ok (statement.Fixed image)
-statement_of kind.Round fields = alone fields statement.Round
-statement_of kind.Thread fields = alone fields statement.Thread
+statement_of kind.Round fields = fieldless fields statement.Round
+statement_of kind.Thread fields = fieldless fields statement.Thread
 statement_of kind.Register fields = one_decimal fields >=> λ image. Ok (statement.Event (event.Register image))
 statement_of kind.Deregister fields = one_hex fields >=> λ base. Ok (statement.Event (event.Deregister base))
 statement_of kind.Load fields = one_decimal fields >=> λ image. Ok (statement.Event (event.Load image))
 statement_of kind.Unload fields = one_hex fields >=> λ base. Ok (statement.Event (event.Unload base))
 statement_of kind.Find fields = one_hex fields >=> λ pc. Ok (statement.Event (event.Find pc))
-statement_of kind.End fields = alone fields statement.End
+statement_of kind.End fields = fieldless fields statement.End
 statement_of _ fields = Err reason.Unbuilt
 
 -- ---- what is known after it, or why it is bad
 
 -- the section of an image, or the reason that it is none
-abbrev pub section_or : Result Contents FrameFault → Result Contents Reason
+abbrev pub section_or : Result SectionData FrameFault → Result SectionData Reason
 section_or (Ok section) = Ok section
 section_or (Err fault) = Err (reason.Section fault)
 
@@ -123,11 +123,11 @@ image_added known image =
     else Err reason.Order
 
 -- the span of the image that was fixed last
-abbrev pub last_fixed : List Interval → List ℕ → Option Interval
+abbrev pub last_fixed : List SpanData → List ℕ → Option SpanData
 last_fixed images fixed = option_and_then (slice_get images) (slice_get fixed (length fixed - 1))
 
 -- whether the span is wholly above another, where there is one
-abbrev pub is_above : Option Interval → Interval → Bool
+abbrev pub is_above : Option SpanData → SpanData → Bool
 is_above None span = true
 is_above (Some before) span = nat_lt before.last span.first
 

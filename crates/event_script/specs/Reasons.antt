@@ -3,7 +3,7 @@ use Rattle.std.specs.Prelude.{◌≡◌, ◌≢◌, ◌⊎◌, ℕ, ◌+◌, ◌
 use Rattle.frame_parse.specs.Sections.{IsRefused}
 use Rattle.frame_parse.specs.declared.fault.FrameFault.{FrameFault}
 use Rattle.event_script.specs.declared.limits.TheConstants.{VERSION, LEAST_NODES, MOST_NODES, LEAST_LOADS, MOST_LOADS, MOST_IMAGES, MOST_SECTION_BYTES, MOST_ROUNDS, MOST_THREADS, MOST_EVENTS}
-use Rattle.reg_model.specs.Interval.{Interval}
+use Rattle.reg_model.specs.SpanData.{SpanData}
 use Rattle.event_script.specs.Fields.{pieces, is_printable}
 use Rattle.event_script.specs.Statements.{word_of, forms, AreFields, statement_line, HasForm}
 use Rattle.event_script.specs.Spelling.{Line}
@@ -79,7 +79,7 @@ IsNameless known _ = ⊥
 -- its span isn't wholly above that of the fixed image before it
 abbrev pub IsNotAbove : DraftData → Statement → Type 0
 IsNotAbove known (statement.Fixed image) =
-    (last : ℕ) × (below above : Interval)
+    (last : ℕ) × (below above : SpanData)
     × (slice_get known.script.fixed (length known.script.fixed - 1) ≡ Some last)
     × (slice_get known.script.images last ≡ Some below)
     × (slice_get known.script.images image ≡ Some above)

@@ -1,8 +1,8 @@
 -- Scripts as plain data, and their limits.
 use Rattle.std.specs.Prelude.{◌≡◌, ℕ, ◌^◌, ◌<◌, ◌≤◌, List, [], ◌∷◌, length, map, All, unwrap_or, slice_get}
-use Rattle.reg_model.specs.Interval.{Interval, IsSpan}
+use Rattle.reg_model.specs.SpanData.{SpanData, IsSpan}
 use Rattle.hex.specs.Hex.{IsBytes}
-use Rattle.frame_parse.specs.Sections.{Contents, HasFdes}
+use Rattle.frame_parse.specs.Sections.{SectionData, HasFdes}
 use Rattle.event_script.specs.declared.limits.TheConstants.{LEAST_NODES, MOST_NODES, LEAST_LOADS, MOST_LOADS, MOST_IMAGES, MOST_SECTION_BYTES, MOST_ROUNDS, MOST_THREADS, MOST_EVENTS}
 use Rattle.event_script.specs.declared.script.Event.{Event}
 use Rattle.event_script.specs.declared.script.Event.TheVariants.{Register, Deregister, Load, Unload, Find}
@@ -11,8 +11,8 @@ use Rattle.event_script.specs.declared.script.Event.TheVariants.{Register, Dereg
 pub record ScriptData : Type 0 where
   pub nodes : ℕ
   pub loads : ℕ
-  pub images : List Interval
-  pub sections : List Contents
+  pub images : List SpanData
+  pub sections : List SectionData
   pub fixed : List ℕ
   pub rounds : List (List (List Event))
 
@@ -31,24 +31,24 @@ abbrev pub IsRound : ℕ → List (List Event) → Type 0
 IsRound images threads = (length threads ≤ MOST_THREADS) × All (IsThread images) threads
 
 -- the section of an image, whose bytes are records of `.eh_frame`
-pub record IsSectionOf (section : Contents) : Type 0 where
+pub record IsSectionOf (section : SectionData) : Type 0 where
   pub address : section.address < 2 ^ 64
   pub size : length section.bytes ≤ MOST_SECTION_BYTES
   pub bytes : IsBytes section.bytes
   pub records : HasFdes section.address section.bytes section.fdes
 
 -- the span of an image, by its number
-abbrev pub span_of : List Interval → ℕ → Interval
+abbrev pub span_of : List SpanData → ℕ → SpanData
 span_of images image = unwrap_or (slice_get images image) (record { first = 0; last = 0 })
 
 -- each span is wholly above the one before
-abbrev pub Rise : List Interval → Type 0
+abbrev pub Rise : List SpanData → Type 0
 Rise [] = Unit {0}
 Rise (span ∷ []) = Unit {0}
 Rise (span ∷ next ∷ spans) = (span.last < next.first) × Rise (next ∷ spans)
 
 -- the fixed images: each is there, and its span is wholly above that of the one before
-pub record AreFixed (images : List Interval) (fixed : List ℕ) : Type 0 where
+pub record AreFixed (images : List SpanData) (fixed : List ℕ) : Type 0 where
   pub named : All (λ image. image < length images) fixed
   pub rising : Rise (map (span_of images) fixed)
 

@@ -1,8 +1,8 @@
 -- The grammar of scripts: which bytes spell which script.
 use Rattle.std.specs.Prelude.{◌≡◌, ℕ, ◌+◌, ◌-◌, List, [], ◌∷◌, ◌++◌, map}
 use Rattle.std.specs.List.{flat_map}
-use Rattle.frame_parse.specs.Sections.{Contents}
-use Rattle.reg_model.specs.Interval.{Interval}
+use Rattle.frame_parse.specs.Sections.{SectionData}
+use Rattle.reg_model.specs.SpanData.{SpanData}
 use Rattle.event_script.specs.declared.limits.TheConstants.{VERSION}
 use Rattle.event_script.specs.ScriptData.{ScriptData, ImageData, IsRunnable, IsBuilt}
 use Rattle.event_script.specs.Statements.{statement_line}
@@ -29,7 +29,7 @@ abbrev pub statements_text : List Statement → List ℕ
 statements_text statements = flat_map statement_text statements
 
 -- what the line of an image says, from its number, span and section
-abbrev pub image_data : ℕ → Interval → Contents → ImageData
+abbrev pub image_data : ℕ → SpanData → SectionData → ImageData
 image_data number span section = record {
   number = number;
   base = span.first;
@@ -39,7 +39,7 @@ image_data number span section = record {
 }
 
 -- the images, numbered upwards, each with its section
-abbrev pub image_statements : ℕ → List Interval → List Contents → List Statement
+abbrev pub image_statements : ℕ → List SpanData → List SectionData → List Statement
 image_statements number [] sections = []
 image_statements number (span ∷ images) [] = []
 image_statements number (span ∷ images) (section ∷ sections) =

@@ -1,7 +1,7 @@
 -- The value, worked out operation by operation.
 use Rattle.std.proofs.Common.{◌≡◌, ℕ, suc, ◌<◌, ◌≤◌, List, [], ◌∷◌, length, drop, Option, Some, None, Result, Ok, Err, true, refl, sym, ap, subst, ◌∙◌, arith}
 use Rattle.std.proofs.lemmas.List.{length-drop}
-use Rattle.eh_bytes.specs.Rest.{Rest}
+use Rattle.eh_bytes.specs.CursorData.{CursorData}
 use Rattle.eh_bytes.specs.Results.{◌and_then◌}
 use Rattle.eh_bytes.specs.Steps.{AreSteps}
 use Rattle.eh_bytes.proofs.Steps.{no_steps, next_step, no_refusal, step_shrinks}
@@ -46,7 +46,7 @@ after_length columns regions (Compare k) s t le e = long _ t _ e (omega (arith, 
 -- ---- between two operations
 
 -- These operations are left, and their value on this stack is the value of all.
-pub record IsAt (depth : ℕ) (bytes columns : List ℕ) (regions : List RegionData) (start : Option ℕ) (r : Rest) (s : List ℕ) : Type 0 where
+pub record IsAt (depth : ℕ) (bytes columns : List ℕ) (regions : List RegionData) (start : Option ℕ) (r : CursorData) (s : List ℕ) : Type 0 where
   pub all : List Operation
   pub os : List Operation
   pub last : ℕ
@@ -82,20 +82,20 @@ value_end : (columns : List ℕ) (regions : List RegionData) (s : List ℕ) → 
 unfolding value_of
 value_end columns regions s = refl
 
-pub at_depth : (d e : ℕ) (r : Rest) (q : Result ((Operation × ℕ) × Rest) ExprFault) → d ≡ e → (next_operation d).read r ≡ q → (next_operation e).read r ≡ q
+pub at_depth : (d e : ℕ) (r : CursorData) (q : Result ((Operation × ℕ) × CursorData) ExprFault) → d ≡ e → (next_operation d).read r ≡ q → (next_operation e).read r ≡ q
 at_depth d e r q same read = subst (λ (n : ℕ). (next_operation n).read r ≡ q) same read
 
-pub fits_on : (s : List ℕ) (r : Rest) (o : Operation) (k : ℕ) (m : Rest) → (next_operation (length s)).read r ≡ Ok ((o, k), m) → fits (length s) o ≡ true
+pub fits_on : (s : List ℕ) (r : CursorData) (o : Operation) (k : ℕ) (m : CursorData) → (next_operation (length s)).read r ≡ Ok ((o, k), m) → fits (length s) o ≡ true
 fits_on s r o k m read =
     let t = (operation_exact (length s)).takes r (o, k) m read in
     (operation_fits (length s) r.at t.front (o, k) t.spells).0
 
-deep_on : (s : List ℕ) (r : Rest) (o : Operation) (k : ℕ) (m : Rest) → (next_operation (length s)).read r ≡ Ok ((o, k), m) → k ≡ depth_after (length s) o
+deep_on : (s : List ℕ) (r : CursorData) (o : Operation) (k : ℕ) (m : CursorData) → (next_operation (length s)).read r ≡ Ok ((o, k), m) → k ≡ depth_after (length s) o
 deep_on s r o k m read =
     let t = (operation_exact (length s)).takes r (o, k) m read in
     (operation_fits (length s) r.at t.front (o, k) t.spells).1
 
-pub one_on : (depth : ℕ) (bytes columns : List ℕ) (regions : List RegionData) (start : Option ℕ) (r : Rest) (s : List ℕ) (o : Operation) (k : ℕ) (m : Rest) (t : List ℕ) → IsAt depth bytes columns regions start r s
+pub one_on : (depth : ℕ) (bytes columns : List ℕ) (regions : List RegionData) (start : Option ℕ) (r : CursorData) (s : List ℕ) (o : Operation) (k : ℕ) (m : CursorData) (t : List ℕ) → IsAt depth bytes columns regions start r s
     → 0 < length r.bytes → (next_operation (length s)).read r ≡ Ok ((o, k), m) → stack_after columns regions o s ≡ stacked t → IsAt depth bytes columns regions start m t
 one_on depth bytes columns regions start r s o k m t at some read done =
     let n = next_step next_operation r (length s) at.os at.last o k m operations_sound some at.spelled read in
@@ -113,24 +113,24 @@ one_on depth bytes columns regions start r s o k m t at some read done =
       deep = omega (arith, deep, below (length s) o fit);
     }
 
-pub shorter_on : (s : List ℕ) (r : Rest) (o : Operation) (k : ℕ) (m : Rest) → (next_operation (length s)).read r ≡ Ok ((o, k), m) → length m.bytes < length r.bytes
+pub shorter_on : (s : List ℕ) (r : CursorData) (o : Operation) (k : ℕ) (m : CursorData) → (next_operation (length s)).read r ≡ Ok ((o, k), m) → length m.bytes < length r.bytes
 shorter_on s r o k m read = step_shrinks next_operation (length s) r (o, k) m operations_sound read
 
-pub stops_on : (depth : ℕ) (bytes columns : List ℕ) (regions : List RegionData) (start : Option ℕ) (r : Rest) (s : List ℕ) (o : Operation) (k : ℕ) (m : Rest) (f : NoBytes) → IsAt depth bytes columns regions start r s
+pub stops_on : (depth : ℕ) (bytes columns : List ℕ) (regions : List RegionData) (start : Option ℕ) (r : CursorData) (s : List ℕ) (o : Operation) (k : ℕ) (m : CursorData) (f : NoBytes) → IsAt depth bytes columns regions start r s
     → 0 < length r.bytes → (next_operation (length s)).read r ≡ Ok ((o, k), m) → stack_after columns regions o s ≡ Err f → IsValue depth bytes columns regions start (Err f)
 stops_on depth bytes columns regions start r s o k m f at some read done =
     let n = next_step next_operation r (length s) at.os at.last o k m operations_sound some at.spelled read in
     (at.all, at.whole, sym (at.same ∙ ap (λ (ps : List Operation). value_of columns regions ps s) n.1 ∙ value_on columns regions o n.0 s (Err f) done))
 
-pub no_fault : (depth : ℕ) (bytes columns : List ℕ) (regions : List RegionData) (start : Option ℕ) (r : Rest) (s : List ℕ) (f : ExprFault) → IsAt depth bytes columns regions start r s
+pub no_fault : (depth : ℕ) (bytes columns : List ℕ) (regions : List RegionData) (start : Option ℕ) (r : CursorData) (s : List ℕ) (f : ExprFault) → IsAt depth bytes columns regions start r s
     → 0 < length r.bytes → (next_operation (length s)).read r ≡ Err f → ⊥
 no_fault depth bytes columns regions start r s f at some read = no_refusal next_operation r (length s) at.os at.last f operations_sound some at.spelled read
 
-last_entry : (r : Rest) (s : List ℕ) (os : List Operation) (last : ℕ) → AreSteps next_operation r.at (length s) r.bytes os last → os ≡ [] → 0 < last → 0 < length s
+last_entry : (r : CursorData) (s : List ℕ) (os : List Operation) (last : ℕ) → AreSteps next_operation r.at (length s) r.bytes os last → os ≡ [] → 0 < last → 0 < length s
 last_entry r s [] last steps none some = omega (arith, steps.1)
 last_entry r s (o ∷ os) last steps none some = absurd cc
 
-pub at_last : (depth : ℕ) (bytes columns : List ℕ) (regions : List RegionData) (start : Option ℕ) (r : Rest) (s : List ℕ) → IsAt depth bytes columns regions start r s
+pub at_last : (depth : ℕ) (bytes columns : List ℕ) (regions : List RegionData) (start : Option ℕ) (r : CursorData) (s : List ℕ) → IsAt depth bytes columns regions start r s
     → length r.bytes ≤ 0 → IsValue depth bytes columns regions start (Ok (entry 0 s)) × (0 < length s)
 at_last depth bytes columns regions start r s at none =
     let n = no_steps next_operation r.at (length s) r.bytes at.os at.last operations_sound at.spelled none in

@@ -4,7 +4,7 @@ use Rattle.std.specs.Prelude.{◌&&◌, is_ok, slice_range, IfOk, IfErr}
 use Rattle.std.proofs.lemmas.List.{take_all}
 use Rattle.std.specs.Int.{w8, w16, w32}
 use Rattle.std.proofs.lemmas.Bool.{ltb-true, lt-ltb, leb-true}
-use Rattle.eh_bytes.specs.Rest.{Rest, Gives}
+use Rattle.eh_bytes.specs.CursorData.{CursorData, Gives}
 use Rattle.eh_bytes.specs.Steps.{AreSteps, steps_from}
 use Rattle.eh_bytes.proofs.Results.{err_is}
 use Rattle.eh_bytes.proofs.Exact.{left, IsExact, then_exact, give_exact, here_exact, check_exact, found_exact, lift_exact}
@@ -169,7 +169,7 @@ anywhere d p bytes y s =
     let o = operations_in d p bytes y s in
     ap is_ok (of_expr d bytes o.0 (o.1, steps_alike next_operation operation_alike p 0 d o.1 bytes o.0 o.2, o.3))
 
-read_expr : (d : ℕ) (bytes : List ℕ) (m : Result (List ℕ × Rest) ExprFault) → (expression d).read (whole bytes) ≡ m → is_ok m ≡ true → (os : List Operation) × IsExpr d bytes os
+read_expr : (d : ℕ) (bytes : List ℕ) (m : Result (List ℕ × CursorData) ExprFault) → (expression d).read (whole bytes) ≡ m → is_ok m ≡ true → (os : List Operation) × IsExpr d bytes os
 read_expr d bytes (Ok z) e ok =
     let t = (expression_whole d).takes (whole bytes) z.0 z.1 e in
     let o = operations_in d 0 bytes z.0 t.spells in
@@ -181,7 +181,7 @@ known d bytes ok = read_expr d bytes ((expression d).read (whole bytes)) refl ok
 
 -- ---- one answer
 
-decided : (d : ℕ) (bytes : List ℕ) (m : Result (List ℕ × Rest) ExprFault) → (expression d).read (whole bytes) ≡ m → IsExprOrRefused d bytes
+decided : (d : ℕ) (bytes : List ℕ) (m : Result (List ℕ × CursorData) ExprFault) → (expression d).read (whole bytes) ≡ m → IsExprOrRefused d bytes
 decided d bytes (Ok z) e =
     let k = read_expr d bytes (Ok z) e refl in
     inl (
@@ -193,7 +193,7 @@ decided d bytes (Ok z) e =
 decided d bytes (Err f) e = inr (
   f,
   (expression_whole d).refuses (whole bytes) f e,
-  (λ g t. err_is {A = List ℕ × Rest} g f (sym ((expression_whole d).refused 0 bytes g t) ∙ e)),
+  (λ g t. err_is {A = List ℕ × CursorData} g f (sym ((expression_whole d).refused 0 bytes g t) ∙ e)),
   (λ ps t. let both = sym (of_expr d bytes ps t) ∙ e in absurd cc),
 )
 
@@ -202,28 +202,28 @@ one_answer d bytes = decided d bytes ((expression d).read (whole bytes)) refl
 
 -- ---- reading operation by operation
 
-pub read_on : (d : ℕ) (old r : Rest) (e : ℕ) (x : Operation × ℕ) (mid : Rest) → (steps_from next_operation d).read old ≡ (steps_from next_operation e).read r → 0 < length r.bytes
+pub read_on : (d : ℕ) (old r : CursorData) (e : ℕ) (x : Operation × ℕ) (mid : CursorData) → (steps_from next_operation d).read old ≡ (steps_from next_operation e).read r → 0 < length r.bytes
     → (next_operation e).read r ≡ Ok (x, mid) → ((steps_from next_operation d).read old ≡ (steps_from next_operation x.1).read mid) × (x.1 ≤ 32) × (length mid.bytes < length r.bytes)
 read_on d old r e x mid so some read =
     let t = (operation_exact e).takes r x mid read in
     let f = operation_fits e r.at t.front x t.spells in
     (so ∙ read_step next_operation e r x mid operations_sound some read, omega (arith, f.1, below e x.0 f.0), step_shrinks next_operation e r x mid operations_sound read)
 
-pub read_refused : (d : ℕ) (old r : Rest) (e : ℕ) (f : ExprFault) → (steps_from next_operation d).read old ≡ (steps_from next_operation e).read r → 0 < length r.bytes
+pub read_refused : (d : ℕ) (old r : CursorData) (e : ℕ) (f : ExprFault) → (steps_from next_operation d).read old ≡ (steps_from next_operation e).read r → 0 < length r.bytes
     → (next_operation e).read r ≡ Err f → (expression d).read old ≡ Err f
 unfolding expression
 read_refused d old r e f so some read =
     let stopped = so ∙ read_refusal next_operation e r f some read in
     rw stopped refl
 
-pub read_empty : (d : ℕ) (old r : Rest) (e : ℕ) → (steps_from next_operation d).read old ≡ (steps_from next_operation e).read r → length r.bytes ≤ 0 → e ≡ 0
+pub read_empty : (d : ℕ) (old r : CursorData) (e : ℕ) → (steps_from next_operation d).read old ≡ (steps_from next_operation e).read r → length r.bytes ≤ 0 → e ≡ 0
     → (expression d).read old ≡ Err (faults.Depth r.at)
 unfolding expression
 read_empty d old r e so none empty =
     let last = so ∙ read_end next_operation e r none in
     rw (last, empty) refl
 
-pub read_whole : (d : ℕ) (old r : Rest) (e : ℕ) → (steps_from next_operation d).read old ≡ (steps_from next_operation e).read r → length r.bytes ≤ 0 → 0 < e
+pub read_whole : (d : ℕ) (old r : CursorData) (e : ℕ) → (steps_from next_operation d).read old ≡ (steps_from next_operation e).read r → length r.bytes ≤ 0 → 0 < e
     → (expression d).read old ≡ Ok (old.bytes, r)
 unfolding expression
 read_whole d old r e so none some =
@@ -231,25 +231,25 @@ read_whole d old r e so none some =
     let test : nat_lt 0 e ≡ true = lt-ltb _ _ some in
     rw (last, test) refl
 
-pub is_read : (d : ℕ) (old r : Rest) (y : List ℕ) → (expression d).read old ≡ Ok (y, r) → is_expression d old.bytes ≡ true
+pub is_read : (d : ℕ) (old r : CursorData) (y : List ℕ) → (expression d).read old ≡ Ok (y, r) → is_expression d old.bytes ≡ true
 is_read d old r y read =
     let t = (expression_whole d).takes old y r read in
     anywhere d old.at old.bytes y t.spells
 
 -- ---- bytes from the start
 
-pub from_start : (r : Rest) (bytes : List ℕ) → r.bytes ≡ slice_range bytes 0 (length bytes) → r.at ≡ 0 → r ≡ whole bytes
+pub from_start : (r : CursorData) (bytes : List ℕ) → r.bytes ≡ slice_range bytes 0 (length bytes) → r.at ≡ 0 → r ≡ whole bytes
 from_start r bytes same at =
     let all : slice_range bytes 0 (length bytes) ≡ bytes = take_all (length bytes - 0) bytes (omega arith) in
     ap (λ (l : List ℕ). left r.at l) (same ∙ all) ∙ ap (λ (q : ℕ). left q bytes) at
 
-pub read_gives : {X : Type 0} (d : ℕ) (view : X → List ℕ) (bytes : List ℕ) (r : Rest) (m : Result X ExprFault) (new : Rest) → r ≡ whole bytes
+pub read_gives : {X : Type 0} (d : ℕ) (view : X → List ℕ) (bytes : List ℕ) (r : CursorData) (m : Result X ExprFault) (new : CursorData) → r ≡ whole bytes
     → Gives view (expression d).read r m new
     → IfOk m (λ e. view e ≡ bytes) × IfOk m (λ e. (os : List Operation) × IsExpr d bytes os) × IfErr m (IsRefusedExpr d bytes)
 read_gives d view bytes r (Ok x) new same e =
-    let read : (expression d).read (whole bytes) ≡ Ok (view x, new) = subst (λ (z : Rest). (expression d).read z ≡ Ok (view x, new)) same e in
+    let read : (expression d).read (whole bytes) ≡ Ok (view x, new) = subst (λ (z : CursorData). (expression d).read z ≡ Ok (view x, new)) same e in
     let t = (expression_whole d).takes (whole bytes) (view x) new read in
     (sym (spelled_by d 0 bytes (view x) t.spells), read_expr d bytes (Ok (view x, new)) read refl, tt)
 read_gives d view bytes r (Err f) new same e =
-    let read : (expression d).read (whole bytes) ≡ Err f = subst (λ (z : Rest). (expression d).read z ≡ Err f) same e in
+    let read : (expression d).read (whole bytes) ≡ Err f = subst (λ (z : CursorData). (expression d).read z ≡ Err f) same e in
     (tt, tt, (expression_whole d).refuses (whole bytes) f read)

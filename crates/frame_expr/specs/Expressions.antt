@@ -2,7 +2,7 @@
 use Rattle.std.specs.Prelude.{◌≡◌, ℕ, ◌<◌, ◌⊎◌, List, Bool, Option, Result, Ok, Err, is_ok, nat_lt, if◌then◌else◌}
 use Rattle.eh_bytes.specs.declared.fault.ByteFault.{ByteFault}
 use Rattle.eh_bytes.specs.declared.fault.ByteFault.TheVariants as bytes
-use Rattle.eh_bytes.specs.Rest.{Rest}
+use Rattle.eh_bytes.specs.CursorData.{CursorData}
 use Rattle.eh_bytes.specs.Grammar.{Part, ◌>>=◌, give, here, check, found, lift, ended, bytes_of}
 use Rattle.eh_bytes.specs.Fields.{fixed}
 use Rattle.eh_bytes.specs.Steps.{AreSteps, steps_from}
@@ -49,7 +49,7 @@ unfoldable pub expression : ℕ → Part ExprFault (List ℕ)
 expression d = bytes_of (operations d)
 
 -- all bytes, counted from 0
-abbrev pub whole : List ℕ → Rest
+abbrev pub whole : List ℕ → CursorData
 whole bytes = record { bytes = bytes; at = 0 }
 
 -- the bytes are read as an expression, whose stack has so many entries at the start, without a fault

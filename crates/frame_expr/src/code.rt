@@ -1,7 +1,7 @@
 //! What an operation's byte says, and its operand.
 
 ghost use Rattle.std.specs.Prelude.{◌≡◌};
-ghost use Rattle.eh_bytes.specs.Rest.{Reads};
+ghost use Rattle.eh_bytes.specs.CursorData.{Reads};
 ghost use Rattle.frame_expr.specs.declared.operation.Operation.TheVariants as operations;
 ghost use Rattle.frame_expr.specs.Operations.{code, alone, constant_code, stack_code, comparison_code, operation_code, operand_of, with_operand};
 

@@ -1,7 +1,7 @@
 //! Expressions, lent from the bytes that spell them.
 
 ghost use Rattle.std.specs.Prelude.{◌≡◌, ◌≤◌, List, ℕ, IfOk, IfErr, true};
-ghost use Rattle.eh_bytes.specs.Rest.{Gives};
+ghost use Rattle.eh_bytes.specs.CursorData.{Gives};
 ghost use Rattle.frame_expr.specs.declared.operation.Operation.{Operation};
 ghost use Rattle.frame_expr.specs.Expressions.{expression, is_expression, IsExpr, IsRefusedExpr, IsExprOrRefused};
 

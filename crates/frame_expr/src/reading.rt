@@ -2,7 +2,7 @@
 
 ghost use Rattle.std.specs.Prelude.{◌≡◌, ◌≤◌};
 ghost use Rattle.eh_bytes.specs.Results.{with_fault};
-ghost use Rattle.eh_bytes.specs.Rest.{Gives};
+ghost use Rattle.eh_bytes.specs.CursorData.{Gives};
 ghost use Rattle.frame_expr.specs.Expressions.{expr_fault, coded, next_operation};
 
 use crate::code::{operand, operation_code, with_operand};

@@ -6,7 +6,7 @@ use Rattle.std.proofs.lemmas.Bool.{eqb-true, ne_eqb, le-leb}
 use Rattle.std.proofs.lemmas.List.{append-nil}
 use Rattle.byteorder.specs.Endian.{little_number}
 use Rattle.byteorder.specs.Numbers.{little_from-append}
-use Rattle.eh_bytes.specs.Rest.{Rest}
+use Rattle.eh_bytes.specs.CursorData.{CursorData}
 use Rattle.eh_bytes.specs.Results.{◌and_then◌}
 use Rattle.frame_parse.specs.declared.fault.FrameFault.{FrameFault}
 use Rattle.frame_parse.specs.declared.records.CieRecord.{CieRecord}
@@ -126,20 +126,20 @@ refused_read (suc n) section p earlier (r ∷ rs) front back f lt s on refusal =
     ap (λ (l : List ℕ). read_all (suc n) section earlier (left p l)) regrouped ∙ rw (more, first, later) refl
 
 -- what reading gives are records and their end, or a refusal behind records
-abbrev EndsAt : ℕ → List CieRecord → Rest → List Record → Type 0
+abbrev EndsAt : ℕ → List CieRecord → CursorData → List Record → Type 0
 EndsAt section earlier r rs = (front : List ℕ) × (back : List ℕ) × (r.bytes ≡ front ++ back) × AreRecords section r.at earlier front rs × (is_end back ≡ true)
 
-abbrev StopsAt : ℕ → List CieRecord → Rest → FrameFault → Type 0
+abbrev StopsAt : ℕ → List CieRecord → CursorData → FrameFault → Type 0
 StopsAt section earlier r f = (rs : List Record) × (front : List ℕ) × (back : List ℕ) × (r.bytes ≡ front ++ back) × AreRecords section r.at earlier front rs × (is_end back ≡ false)
     × (whole_record section (earlier ++ cies_of rs)).Refuses (r.at + length front) back f
 
-EndsAt-more : (section : ℕ) (earlier : List CieRecord) (r : Rest) (x : Record) (mid : Rest) (rs : List Record) → Takes (whole_record section earlier) r x mid
+EndsAt-more : (section : ℕ) (earlier : List CieRecord) (r : CursorData) (x : Record) (mid : CursorData) (rs : List Record) → Takes (whole_record section earlier) r x mid
     → EndsAt section (with_record earlier x) mid rs → EndsAt section earlier r (x ∷ rs)
 EndsAt-more section earlier r x mid rs t s =
     let whole : r.bytes ≡ (t.front ++ s.0) ++ s.1 = t.parts ∙ ap (λ (l : List ℕ). t.front ++ l) s.2 ∙ sym (append_assoc t.front s.0 s.1) in
     (t.front ++ s.0, s.1, whole, (t.front, s.0, refl, t.spells, subst (λ (p : ℕ). AreRecords section p (with_record earlier x) s.0 rs) t.place s.3), s.4)
 
-StopsAt-more : (section : ℕ) (earlier : List CieRecord) (r : Rest) (x : Record) (mid : Rest) (f : FrameFault) → Takes (whole_record section earlier) r x mid
+StopsAt-more : (section : ℕ) (earlier : List CieRecord) (r : CursorData) (x : Record) (mid : CursorData) (f : FrameFault) → Takes (whole_record section earlier) r x mid
     → StopsAt section (with_record earlier x) mid f → StopsAt section earlier r f
 StopsAt-more section earlier r x mid f t s =
     let whole : r.bytes ≡ (t.front ++ s.1) ++ s.2 = t.parts ∙ ap (λ (l : List ℕ). t.front ++ l) s.3 ∙ sym (append_assoc t.front s.1 s.2) in
@@ -149,17 +149,17 @@ StopsAt-more section earlier r x mid f t s =
     (subst (λ (cs : List CieRecord). (whole_record section cs).Refuses (mid.at + length s.1) s.2 f) (sym (cies-step earlier x s.0)) s.6) in
     (x ∷ s.0, t.front ++ s.1, s.2, whole, (t.front, s.1, refl, t.spells, subst (λ (p : ℕ). AreRecords section p (with_record earlier x) s.1 s.0) t.place s.4), s.5, there)
 
-abbrev Outcome : ℕ → List CieRecord → Rest → Result (List Record) FrameFault → Type 0
+abbrev Outcome : ℕ → List CieRecord → CursorData → Result (List Record) FrameFault → Type 0
 Outcome section earlier r (Ok rs) = EndsAt section earlier r rs
 Outcome section earlier r (Err f) = StopsAt section earlier r f
 
-outcome_of_next : (section : ℕ) (earlier : List CieRecord) (r : Rest) (x : Record) (mid : Rest) (m : Result (List Record) FrameFault) → Takes (whole_record section earlier) r x mid
+outcome_of_next : (section : ℕ) (earlier : List CieRecord) (r : CursorData) (x : Record) (mid : CursorData) (m : Result (List Record) FrameFault) → Takes (whole_record section earlier) r x mid
     → Outcome section (with_record earlier x) mid m → Outcome section earlier r (◌and_then◌ m (λ rs. Ok (x ∷ rs)))
 outcome_of_next section earlier r x mid (Ok rs) t s = EndsAt-more section earlier r x mid rs t s
 outcome_of_next section earlier r x mid (Err f) t s = StopsAt-more section earlier r x mid f t s
 
-outcome_of_record : (n section : ℕ) (earlier : List CieRecord) (r : Rest) (m : Result (Record × Rest) FrameFault) → (whole_record section earlier).read r ≡ m → is_end r.bytes ≡ false → length r.bytes < suc n
-    → ((x : Record) (mid : Rest) → length mid.bytes < n → Outcome section (with_record earlier x) mid (read_all n section (with_record earlier x) mid))
+outcome_of_record : (n section : ℕ) (earlier : List CieRecord) (r : CursorData) (m : Result (Record × CursorData) FrameFault) → (whole_record section earlier).read r ≡ m → is_end r.bytes ≡ false → length r.bytes < suc n
+    → ((x : Record) (mid : CursorData) → length mid.bytes < n → Outcome section (with_record earlier x) mid (read_all n section (with_record earlier x) mid))
     → Outcome section earlier r (◌and_then◌ m (λ x. ◌and_then◌ (read_all n section (with_record earlier x.0) x.1) (λ rs. Ok (x.0 ∷ rs))))
 outcome_of_record n section earlier r (Ok x) e on lt more =
     let t = (whole_record_exact section earlier).takes r x.0 x.1 e in
@@ -172,13 +172,13 @@ outcome_of_record n section earlier r (Err f) e on lt more =
     (subst (λ (cs : List CieRecord). (whole_record section cs).Refuses r.at r.bytes f) (sym (append-nil earlier)) refusal) in
     ([], [], r.bytes, refl, refl, on, here)
 
-outcome_of_end : (n section : ℕ) (earlier : List CieRecord) (r : Rest) (b : Bool) → is_end r.bytes ≡ b → length r.bytes < suc n
-    → ((x : Record) (mid : Rest) → length mid.bytes < n → Outcome section (with_record earlier x) mid (read_all n section (with_record earlier x) mid))
+outcome_of_end : (n section : ℕ) (earlier : List CieRecord) (r : CursorData) (b : Bool) → is_end r.bytes ≡ b → length r.bytes < suc n
+    → ((x : Record) (mid : CursorData) → length mid.bytes < n → Outcome section (with_record earlier x) mid (read_all n section (with_record earlier x) mid))
     → Outcome section earlier r (cond b (Ok []) (◌and_then◌ ((whole_record section earlier).read r) (λ x. ◌and_then◌ (read_all n section (with_record earlier x.0) x.1) (λ rs. Ok (x.0 ∷ rs)))))
 outcome_of_end n section earlier r true e lt more = ([], r.bytes, refl, refl, e)
 outcome_of_end n section earlier r false e lt more = outcome_of_record n section earlier r ((whole_record section earlier).read r) refl e lt more
 
-read_outcome : (n section : ℕ) (earlier : List CieRecord) (r : Rest) → length r.bytes < n → Outcome section earlier r (read_all n section earlier r)
+read_outcome : (n section : ℕ) (earlier : List CieRecord) (r : CursorData) → length r.bytes < n → Outcome section earlier r (read_all n section earlier r)
 unfolding read_all
 read_outcome zero section earlier r lt = absurd (omega arith)
 read_outcome (suc n) section earlier r lt =

@@ -12,7 +12,7 @@ use Rattle.frame_parse.specs.declared.instructions.Operation.TheVariants as oper
 use Rattle.frame_parse.specs.declared.instructions.Step.{Step}
 use Rattle.frame_parse.specs.declared.program_state.State.{State}
 use Rattle.eh_bytes.specs.Grammar.{given}
-use Rattle.frame_parse.specs.Programs.{moves, effect_of, effect, step, instruction_of, top, below_top, ProgramRest, HasSteps}
+use Rattle.frame_parse.specs.Programs.{moves, effect_of, effect, step, instruction_of, top, below_top, ProgramData, HasSteps}
 use Rattle.eh_bytes.specs.Steps.{AreSteps}
 use Rattle.frame_parse.specs.Order.{Moves, IsAscendingFrom, AreAt, MayStandAt, depth_behind, IsBalanced, AreOrdered}
 
@@ -112,7 +112,7 @@ balanced_from c p s text (x ∷ xs) t a =
     let later = balanced_from c (p + length a.1) a.0 a.2 xs t a.5 in
     (one.change.may, subst (λ (k : ℕ). IsBalanced k xs) one.change.depth later)
 
-pub ordered : (p : ProgramRest) (steps : List Step) → HasSteps p steps → AreOrdered p steps
+pub ordered : (p : ProgramData) (steps : List Step) → HasSteps p steps → AreOrdered p steps
 unfolding HasSteps
 ordered p steps a = record {
   ascending = ascending_from p.context p.rest.at p.state p.rest.bytes steps a.0 a.1;

@@ -2,7 +2,7 @@
 use Rattle.std.proofs.Common.{map, ◌≡◌, ℕ, zero, suc, ◌+◌, ◌<◌, List, [], ◌∷◌, ◌++◌, length, get_or, true, false, Ok, Err, refl, sym, ap, subst, ◌∙◌, append_assoc, length-append, arith, inl, inr}
 use Rattle.std.proofs.lemmas.Bool.{cases_lt}
 use Rattle.std.proofs.lemmas.List.{append-nil, map-append}
-use Rattle.eh_bytes.specs.Rest.{Rest}
+use Rattle.eh_bytes.specs.CursorData.{CursorData}
 use Rattle.frame_parse.specs.declared.fault.FrameFault.{FrameFault}
 use Rattle.frame_parse.specs.declared.records.CieRecord.{CieRecord}
 use Rattle.std.specs.List.{All}
@@ -16,7 +16,7 @@ use Rattle.frame_parse.proofs.RecordWholes.{whole_record_exact}
 use Rattle.frame_parse.proofs.OneAnswer.{cies-step, record_grows}
 use Rattle.frame_parse.proofs.Searches.{starts-length}
 
-pub record ReadSoFar (section : ℕ) (bytes : List ℕ) (cursor : Rest) (cies : List CieRecord) (fdes : List FdeEntry) : Type 0 where
+pub record ReadSoFar (section : ℕ) (bytes : List ℕ) (cursor : CursorData) (cies : List CieRecord) (fdes : List FdeEntry) : Type 0 where
   pub records : List Record
   pub front : List ℕ
   pub parts : bytes ≡ front ++ cursor.bytes
@@ -134,7 +134,7 @@ nothing_yet section bytes = record {
 }
 
 -- the next record behind those so far
-next_spelled : (section : ℕ) (bytes : List ℕ) (cursor : Rest) (cies : List CieRecord) (fdes : List FdeEntry) (r : Record) (new : Rest) (s : ReadSoFar section bytes cursor cies fdes)
+next_spelled : (section : ℕ) (bytes : List ℕ) (cursor : CursorData) (cies : List CieRecord) (fdes : List FdeEntry) (r : Record) (new : CursorData) (s : ReadSoFar section bytes cursor cies fdes)
     → (t : Takes (whole_record section cies) cursor r new) → AreRecords section 0 [] (s.front ++ t.front) (s.records ++ r ∷ [])
 next_spelled section bytes cursor cies fdes r new s t =
     let place : cursor.at ≡ 0 + length s.front = omega (arith, s.place) in
@@ -142,7 +142,7 @@ next_spelled section bytes cursor cies fdes r new s t =
     (subst (λ (q : ℕ). (whole_record section (cies_of s.records)).Spells q t.front r) place
     (subst (λ (cs : List CieRecord). (whole_record section cs).Spells cursor.at t.front r) s.cies_are t.spells))
 
-pub next_cie : (section : ℕ) (bytes : List ℕ) (cursor : Rest) (cies : List CieRecord) (fdes : List FdeEntry) (c : CieRecord) (new : Rest) → ReadSoFar section bytes cursor cies fdes
+pub next_cie : (section : ℕ) (bytes : List ℕ) (cursor : CursorData) (cies : List CieRecord) (fdes : List FdeEntry) (c : CieRecord) (new : CursorData) → ReadSoFar section bytes cursor cies fdes
     → (whole_record section cies).read cursor ≡ Ok (Cie c, new) → c.start ≡ cursor.at → ReadSoFar section bytes new (cies ++ c ∷ []) fdes
 next_cie section bytes cursor cies fdes c new s e begins =
     let t = (whole_record_exact section cies).takes cursor (Cie c) new e in
@@ -160,7 +160,7 @@ next_cie section bytes cursor cies fdes c new s e begins =
       below = below-end cies c cursor.at new.at s.below begins (omega (arith, t.place, grown));
     }
 
-pub next_fde : (section : ℕ) (bytes : List ℕ) (cursor : Rest) (cies : List CieRecord) (fdes : List FdeEntry) (f : FdeEntry) (new : Rest) → ReadSoFar section bytes cursor cies fdes
+pub next_fde : (section : ℕ) (bytes : List ℕ) (cursor : CursorData) (cies : List CieRecord) (fdes : List FdeEntry) (f : FdeEntry) (new : CursorData) → ReadSoFar section bytes cursor cies fdes
     → (whole_record section cies).read cursor ≡ Ok (Fde (fde_among cies f), new) → HasCie (length cies) f → ReadSoFar section bytes new cies (fdes ++ f ∷ [])
 next_fde section bytes cursor cies fdes f new s e has =
     let g = fde_among cies f in
@@ -180,11 +180,11 @@ next_fde section bytes cursor cies fdes f new s e has =
 
 -- ---- the end, and a refusal
 
-pub all_read : (section : ℕ) (bytes : List ℕ) (cursor : Rest) (cies : List CieRecord) (fdes : List FdeEntry) → ReadSoFar section bytes cursor cies fdes → is_end cursor.bytes ≡ true → HasFdes section bytes (map (fde_among cies) fdes)
+pub all_read : (section : ℕ) (bytes : List ℕ) (cursor : CursorData) (cies : List CieRecord) (fdes : List FdeEntry) → ReadSoFar section bytes cursor cies fdes → is_end cursor.bytes ≡ true → HasFdes section bytes (map (fde_among cies) fdes)
 unfolding HasFdes IsSection
 all_read section bytes cursor cies fdes s e = (s.records, (s.front, cursor.bytes, s.parts, s.spelled, e), sym s.fdes_are)
 
-pub none_further : (section : ℕ) (bytes : List ℕ) (cursor : Rest) (cies : List CieRecord) (fdes : List FdeEntry) (f : FrameFault) → ReadSoFar section bytes cursor cies fdes → is_end cursor.bytes ≡ false
+pub none_further : (section : ℕ) (bytes : List ℕ) (cursor : CursorData) (cies : List CieRecord) (fdes : List FdeEntry) (f : FrameFault) → ReadSoFar section bytes cursor cies fdes → is_end cursor.bytes ≡ false
     → (whole_record section cies).read cursor ≡ Err f → IsRefused section bytes f
 unfolding IsRefused
 none_further section bytes cursor cies fdes f s on e =

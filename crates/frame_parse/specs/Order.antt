@@ -4,7 +4,7 @@ use Rattle.frame_parse.specs.declared.instructions.Instruction.{Instruction}
 use Rattle.frame_parse.specs.declared.instructions.Instruction.TheVariants.{Advance, Remember, RestoreState}
 use Rattle.frame_parse.specs.declared.instructions.Step.{Step}
 use Rattle.frame_parse.specs.declared.instructions.context.ProgramKind.TheVariants.{Initial}
-use Rattle.frame_parse.specs.Programs.{ProgramRest}
+use Rattle.frame_parse.specs.Programs.{ProgramData}
 
 -- an Advance may move the location up, every other instruction leaves it
 abbrev pub Moves : Instruction → ℕ → ℕ → Type 0
@@ -39,7 +39,7 @@ IsBalanced depth [] = Unit {0}
 IsBalanced depth (x ∷ xs) = MayStandAt depth x.instruction × IsBalanced (depth_behind depth x.instruction) xs
 
 -- what holds along the steps that a program goes on with
-pub record AreOrdered (p : ProgramRest) (steps : List Step) : Type 0 where
+pub record AreOrdered (p : ProgramData) (steps : List Step) : Type 0 where
   pub ascending : IsAscendingFrom p.state.location steps
   -- in a CIE
   pub staying : p.context.kind ≡ Initial → AreAt p.state.location steps

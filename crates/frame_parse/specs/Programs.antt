@@ -1,7 +1,7 @@
 -- Call frame instructions, after DWARF 5, section 6.4.2, and the programs that they make.
 use Rattle.std.specs.Prelude.{slice_range, ◌≡◌, ℕ, ◌+◌, ◌-◌, ◌*◌, ◌/◌, ◌%◌, ◌^◌, List, [], ◌∷◌, ◌++◌, length, take, get_or, Bool, true, false, Result, Ok, Err, nat_lt, nat_le, ◌==◌, ◌&&◌, ◌||◌, if◌then◌else◌}
 use Rattle.std.specs.Int.{w64, cast_unsigned}
-use Rattle.eh_bytes.specs.Rest.{Rest}
+use Rattle.eh_bytes.specs.CursorData.{CursorData}
 use Rattle.eh_bytes.specs.Steps.{AreSteps}
 use Rattle.frame_parse.specs.declared.fault.RecordFault.{RecordFault}
 use Rattle.frame_parse.specs.declared.fault.RecordFault.TheVariants as faults
@@ -52,8 +52,8 @@ other i = operations.Other i
 abbrev pub set : ℕ → ReadRule → Instruction
 set r rule = if nat_lt 16 r then Nop else Set r rule
 
-abbrev pub restored : ℕ → Instruction
-restored r = if nat_lt 16 r then Nop else Restore r
+abbrev pub restore : ℕ → Instruction
+restore r = if nat_lt 16 r then Nop else Restore r
 
 -- a column of the CFA is at most 16
 unfoldable pub cfa_column : Part RecordFault ℕ
@@ -80,7 +80,7 @@ extended_operation c at b =
     (when (b == DW_CFA_advance_loc2) (field (fixed 2) >>= λ d. give (operations.Advance d))
     (when (b == DW_CFA_advance_loc4) (field (fixed 4) >>= λ d. give (operations.Advance d))
     (when (b == DW_CFA_offset_extended) (field uleb >>= λ r. field uleb >>= λ n. give (other (set r (rules.Offset (factored c n)))))
-    (when (b == DW_CFA_restore_extended) (field uleb >>= λ r. give (other (restored r)))
+    (when (b == DW_CFA_restore_extended) (field uleb >>= λ r. give (other (restore r)))
     (when (b == DW_CFA_undefined) (field uleb >>= λ r. give (other (set r rules.Undefined)))
     (when (b == DW_CFA_same_value) (field uleb >>= λ r. give (other (set r rules.Same)))
     (when (b == DW_CFA_register) (field uleb >>= λ r. second_column r >>= λ q. give (other (set r (rules.Register q))))
@@ -104,7 +104,7 @@ operation c = do
   b ← field (fixed 1)
   when (b / 64 == DW_CFA_advance_loc) (give (operations.Advance (b % 64)))
       (when (b / 64 == DW_CFA_offset) (field uleb >>= λ n. give (other (set (b % 64) (rules.Offset (factored c n)))))
-      (when (b / 64 == DW_CFA_restore) (give (other (restored (b % 64))))
+      (when (b / 64 == DW_CFA_restore) (give (other (restore (b % 64))))
       (extended_operation c at b)))
 
 -- ---- what it is tested against, and what it changes
@@ -171,13 +171,13 @@ abbrev pub first_state : CieRecord → ℕ → State
 first_state c first = record { location = first; offset = c.offset; remembered = [] }
 
 -- what contracts see of a program: where it goes on, and what its instructions refer to
-pub record ProgramRest : Type 0 where
+pub record ProgramData : Type 0 where
   pub context : Context
   pub state : State
-  pub rest : Rest
+  pub rest : CursorData
 
 -- the steps that a program goes on with: the pairs of location and instruction that its bytes spell
-unfoldable pub HasSteps : ProgramRest → List Step → Type 0
+unfoldable pub HasSteps : ProgramData → List Step → Type 0
 HasSteps p steps = (t : State) × AreSteps (step p.context) p.rest.at p.state p.rest.bytes steps t
 
 -- the text that stands at an extent of the bytes
@@ -185,15 +185,15 @@ abbrev pub IsExtent : List ℕ → Extent → List ℕ → Type 0
 IsExtent bytes e text = (before : List ℕ) × (after : List ℕ) × (bytes ≡ before ++ (text ++ after)) × (e.at ≡ length before) × (e.end ≡ e.at + length text)
 
 -- the bytes between the two places of an extent
-abbrev pub text_at : List ℕ → Extent → List ℕ
-text_at bytes e = slice_range bytes e.at e.end
+abbrev pub text_in : List ℕ → Extent → List ℕ
+text_in bytes e = slice_range bytes e.at e.end
 
 -- the instructions of an FDE, which start at its first address
-abbrev pub program_of : ℕ → FdeRecord → List ℕ → ProgramRest
+abbrev pub program_of : ℕ → FdeRecord → List ℕ → ProgramData
 program_of section f text = record { context = context_of section f.cie Own; state = first_state f.cie f.first; rest = record { bytes = text; at = f.program.at } }
 
 -- the initial instructions of its CIE, at that address
-abbrev pub initial_of : ℕ → FdeRecord → List ℕ → ProgramRest
+abbrev pub initial_of : ℕ → FdeRecord → List ℕ → ProgramData
 initial_of section f text = record { context = context_of section f.cie Initial; state = record initial_state { location = f.first }; rest = record { bytes = text; at = f.cie.initial.at } }
 
 -- both programs of an FDE stand in the bytes, and were read without fault

@@ -40,12 +40,12 @@ fault_in start (faults.CfaRule at) = frames.CfaRule start at
 abbrev pub is_letter : ℕ → Bool
 is_letter l = l == 76 || l == 80 || l == 82 || l == 83
 
-abbrev pub is_among : ℕ → List ℕ → Bool
-is_among l ls = list_any (λ k. l == k) ls
+abbrev pub is_one_of : ℕ → List ℕ → Bool
+is_one_of l ls = list_any (λ k. l == k) ls
 
 abbrev pub are_letters : List ℕ → Bool
 are_letters [] = true
-are_letters (l ∷ ls) = is_letter l && not (is_among l ls) && are_letters ls
+are_letters (l ∷ ls) = is_letter l && not (is_one_of l ls) && are_letters ls
 
 -- nothing, or z and letters
 abbrev pub is_augmentation : List ℕ → Bool

@@ -80,13 +80,13 @@ BeginsAt place (entries.Cie c) = c.start ≡ place
 BeginsAt place (entries.Fde f) = Unit {0}
 
 -- what contracts see of a section: its address and bytes, and its FDEs in order of bytes
-pub record Contents : Type 0 where
+pub record SectionData : Type 0 where
   pub address : ℕ
   pub bytes : List ℕ
   pub fdes : List FdeRecord
 
 -- what contracts see of an FDE: its section's address and bytes, and its record
-pub record FdeContents : Type 0 where
+pub record FdeData : Type 0 where
   pub section : ℕ
   pub bytes : List ℕ
   pub entry : FdeRecord

@@ -3,7 +3,7 @@
 ghost use Rattle.std.specs.Prelude.{◌≡◌, List};
 ghost use Rattle.frame_parse.specs.declared.instructions.Step.{Step};
 ghost use Rattle.frame_parse.specs.Entries.{with_cie};
-ghost use Rattle.frame_parse.specs.Programs.{HasPrograms, HasSteps, initial_of, program_of, text_at};
+ghost use Rattle.frame_parse.specs.Programs.{HasPrograms, HasSteps, initial_of, program_of, text_in};
 
 use crate::instructions::{Context, ProgramKind, first_state};
 use crate::program::Program;
@@ -24,9 +24,9 @@ pub struct Fde<'a> {
 impl<'a> Model for Fde<'a> {
     ghost use Rattle.frame_parse.specs.Entries.{with_cie};
     ghost use Rattle.frame_parse.specs.Programs.{HasPrograms};
-    ghost use Rattle.frame_parse.specs.Sections.{FdeContents};
+    ghost use Rattle.frame_parse.specs.Sections.{FdeData};
 
-    ghost Value = { FdeContents };
+    ghost Value = { FdeData };
 
     ghost view = { λ f. record { section = f.section; bytes = f.bytes.now; entry = with_cie f.cie.now f.entry.now } };
 
@@ -91,7 +91,7 @@ impl<'a> Fde<'a> {
     /// The initial instructions of its CIE, at its first address.
     pub fn initial(&self) -> Program<'a>
         ensures program { result ≡ initial_of self.now.section self.now.entry
-            (text_at self.now.bytes self.now.entry.cie.initial) }
+            (text_in self.now.bytes self.now.entry.cie.initial) }
         ensures known { (steps : List Step) × HasSteps result steps }
     {
         let entry = self.entry;
@@ -109,7 +109,7 @@ impl<'a> Fde<'a> {
     /// Its instructions.
     pub fn program(&self) -> Program<'a>
         ensures program { result ≡ program_of self.now.section self.now.entry
-            (text_at self.now.bytes self.now.entry.program) }
+            (text_in self.now.bytes self.now.entry.program) }
         ensures known { (steps : List Step) × HasSteps result steps }
     {
         let entry = self.entry;

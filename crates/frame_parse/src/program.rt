@@ -20,9 +20,9 @@ pub struct Program<'a> {
 impl<'a> Model for Program<'a> {
     ghost use Rattle.std.specs.Prelude.{List};
     ghost use Rattle.frame_parse.specs.declared.instructions.Step.{Step};
-    ghost use Rattle.frame_parse.specs.Programs.{ProgramRest, HasSteps};
+    ghost use Rattle.frame_parse.specs.Programs.{ProgramData, HasSteps};
 
-    ghost Value = { ProgramRest };
+    ghost Value = { ProgramData };
 
     ghost view = { λ p. record { context = p.context; state = p.state; rest = p.cursor } };
 

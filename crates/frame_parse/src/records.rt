@@ -1,7 +1,7 @@
 //! Records: what they say, field by field, and how they are read.
 
 ghost use Rattle.std.specs.Prelude.{◌≡◌, ◌<◌, length, slice_index_or, IfOk, OnOk};
-ghost use Rattle.eh_bytes.specs.Rest.{Gives};
+ghost use Rattle.eh_bytes.specs.CursorData.{Gives};
 ghost use Rattle.eh_bytes.specs.Grammar.{lift};
 ghost use Rattle.eh_bytes.specs.Fields.{fixed};
 ghost use Rattle.frame_parse.specs.Entries.{no_cie, record_among, HasItsCie};

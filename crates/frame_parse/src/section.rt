@@ -67,9 +67,9 @@ pub struct Section {
 }
 
 impl Model for Section {
-    ghost use Rattle.frame_parse.specs.Sections.{Contents, HasFdes};
+    ghost use Rattle.frame_parse.specs.Sections.{SectionData, HasFdes};
 
-    ghost Value = { Contents };
+    ghost Value = { SectionData };
 
     ghost view = { λ s. record { address = s.address; bytes = s.bytes.items; fdes = s.fdes } };
 

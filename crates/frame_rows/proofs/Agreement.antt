@@ -15,7 +15,7 @@ use Rattle.frame_rows.specs.declared.row.Rule.TheVariants as rules
 use Rattle.frame_rows.specs.declared.row.CfaRule.{CfaRule}
 use Rattle.frame_rows.specs.declared.row.CfaRule.TheVariants as cfas
 use Rattle.frame_rows.specs.declared.row.Row.{Row}
-use Rattle.frame_rows.specs.Columns.{Column, opening, restore_from, rule_of, register_step, cfa_step, instructions, up_to, initial_rule, rule_at, initial_cfa, cfa_at}
+use Rattle.frame_rows.specs.Columns.{Column, new_column, restore_from, rule_of, register_step, cfa_step, instructions, up_to, initial_rule, rule_at, initial_cfa, cfa_at}
 use Rattle.frame_rows.specs.Rows.{Rows, unset, beside, restored, rows_step, rows_behind, base_row}
 
 -- ---- all rows have seventeen columns
@@ -146,8 +146,8 @@ base_is r first initial lt at =
     let all : instructions (up_to first initial) ≡ instructions initial = ap instructions (all_up_to first initial at) in
     let folded = column_fold r unset (beside unset []) (instructions (up_to first initial)) lt unset_full in
     ap (λ (c : Column Rule). c.rule) folded
-    ∙ ap (λ (k : Rule). (fold (register_step r k) (opening k) (instructions (up_to first initial))).rule) (unset_rule r lt)
-    ∙ ap (λ (is : List Instruction). (fold (register_step r rules.Unset) (opening rules.Unset) is).rule) all
+    ∙ ap (λ (k : Rule). (fold (register_step r k) (new_column k) (instructions (up_to first initial))).rule) (unset_rule r lt)
+    ∙ ap (λ (is : List Instruction). (fold (register_step r rules.Unset) (new_column rules.Unset) is).rule) all
 
 column_agrees : (r first pc : ℕ) (initial steps : List Step) → r < 17 → AreAt first initial → get_or (row_from (base_row first initial) pc steps).columns r rules.Unset ≡ rule_at r initial steps pc
 unfolding rule_at
@@ -155,7 +155,7 @@ column_agrees r first pc initial steps lt at =
     let base = base_row first initial in
     let folded = column_fold r base (beside base []) (instructions (up_to pc steps)) lt (base_full first initial, tt) in
     ap (λ (c : Column Rule). c.rule) folded
-    ∙ ap (λ (k : Rule). (fold (register_step r k) (opening k) (instructions (up_to pc steps))).rule) (base_is r first initial lt at)
+    ∙ ap (λ (k : Rule). (fold (register_step r k) (new_column k) (instructions (up_to pc steps))).rule) (base_is r first initial lt at)
 
 columns_full : (first pc : ℕ) (initial steps : List Step) → length (row_from (base_row first initial) pc steps).columns ≡ 17
 columns_full first pc initial steps =
@@ -167,14 +167,14 @@ unfolding initial_cfa
 base_cfa first initial at =
     let all : instructions (up_to first initial) ≡ instructions initial = ap instructions (all_up_to first initial at) in
     ap (λ (c : Column CfaRule). c.rule) (cfa_fold unset (beside unset []) (instructions (up_to first initial)))
-    ∙ ap (λ (is : List Instruction). (fold cfa_step (opening cfas.Missing) is).rule) all
+    ∙ ap (λ (is : List Instruction). (fold cfa_step (new_column cfas.Missing) is).rule) all
 
 cfa_agrees : (first pc : ℕ) (initial steps : List Step) → AreAt first initial → (row_from (base_row first initial) pc steps).cfa ≡ cfa_at initial steps pc
 unfolding cfa_at
 cfa_agrees first pc initial steps at =
     let base = base_row first initial in
     ap (λ (c : Column CfaRule). c.rule) (cfa_fold base (beside base []) (instructions (up_to pc steps)))
-    ∙ ap (λ (k : CfaRule). (fold cfa_step (opening k) (instructions (up_to pc steps))).rule) (base_cfa first initial at)
+    ∙ ap (λ (k : CfaRule). (fold cfa_step (new_column k) (instructions (up_to pc steps))).rule) (base_cfa first initial at)
 
 -- ---- put together
 

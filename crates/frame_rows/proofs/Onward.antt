@@ -4,17 +4,17 @@ use Rattle.std.proofs.lemmas.Bool.{le-leb, lt-leb}
 use Rattle.frame_parse.specs.declared.instructions.Instruction.{Instruction}
 use Rattle.frame_parse.specs.declared.instructions.Instruction.TheVariants.{Nop, Advance, Set, Restore, Remember, RestoreState, Cfa, CfaColumn, CfaOffset}
 use Rattle.frame_parse.specs.declared.instructions.Step.{Step}
-use Rattle.frame_parse.specs.Programs.{ProgramRest, HasSteps}
+use Rattle.frame_parse.specs.Programs.{ProgramData, HasSteps}
 use Rattle.frame_parse.specs.Order.{Moves, IsAscendingFrom, IsBalanced, MayStandAt, depth_behind}
 use Rattle.frame_rows.specs.declared.row.Row.{Row}
 use Rattle.frame_rows.specs.declared.walk.Stop.{Stop}
 use Rattle.frame_rows.specs.declared.walk.Stop.TheVariants.{End, Restored}
 use Rattle.frame_rows.specs.Columns.{up_to}
 use Rattle.frame_rows.specs.Rows.{Rows, applied, beside, rows_step, rows_behind}
-use Rattle.frame_rows.specs.Walk.{GoesOn, LeadsTo, TakesBack, Walks}
+use Rattle.frame_rows.specs.Walk.{GoesOn, ComesTo, TakesBack, Walks}
 
 -- the next step of p is x, and q is what is left
-abbrev pub Gives : ProgramRest → Step → ProgramRest → Type 0
+abbrev pub Gives : ProgramData → Step → ProgramData → Type 0
 Gives p x q = (steps : List Step) → HasSteps p steps → (more : List Step) × (steps ≡ x ∷ more) × HasSteps q more
 
 -- ---- the steps that are left
@@ -56,7 +56,7 @@ none_up_to pc l (x ∷ xs) lt a =
 not_advance : (pc : ℕ) (x : Step) (i : Instruction) → x.instruction ≡ i → (i ≡ Advance → ⊥) → IsReached pc x
 not_advance pc x i is never = λ e. absurd (never (sym is ∙ e))
 
-record Next (x : Step) (q : ProgramRest) (pc depth : ℕ) (steps : List Step) : Type 0 where
+record Next (x : Step) (q : ProgramData) (pc depth : ℕ) (steps : List Step) : Type 0 where
   more : List Step
   are : steps ≡ x ∷ more
   on : x.location ≤ pc → GoesOn q pc (depth_behind depth x.instruction) more
@@ -64,7 +64,7 @@ record Next (x : Step) (q : ProgramRest) (pc depth : ℕ) (steps : List Step) : 
   above : IsAscendingFrom x.location more
   stays : IsReached pc x → x.location ≤ pc
 
-next_of : (p q : ProgramRest) (x : Step) (pc depth : ℕ) (steps : List Step) → Gives p x q → GoesOn p pc depth steps → Next x q pc depth steps
+next_of : (p q : ProgramData) (x : Step) (pc depth : ℕ) (steps : List Step) → Gives p x q → GoesOn p pc depth steps → Next x q pc depth steps
 next_of p q x pc depth steps gives g =
     let n = gives steps g.has in
     let ascending : IsAscendingFrom g.location (x ∷ n.0) = subst (λ (l : List Step). IsAscendingFrom g.location l) n.1 g.ascending in
@@ -85,16 +85,16 @@ rows_on base pc s x more steps are le =
 
 -- ---- how a walk goes on
 
-pub leads_here : (base : Row) (pc : ℕ) (p : ProgramRest) (row : Row) → LeadsTo base pc p row p row
+pub leads_here : (base : Row) (pc : ℕ) (p : ProgramData) (row : Row) → ComesTo base pc p row p row
 leads_here base pc p row = λ steps below g. record { more = steps; on = g; same = refl }
 
-pub leads_on : (base : Row) (pc : ℕ) (p q r : ProgramRest) (row other last : Row) → LeadsTo base pc p row q other → LeadsTo base pc q other r last → LeadsTo base pc p row r last
+pub leads_on : (base : Row) (pc : ℕ) (p q r : ProgramData) (row other last : Row) → ComesTo base pc p row q other → ComesTo base pc q other r last → ComesTo base pc p row r last
 leads_on base pc p q r row other last a b = λ steps below g.
     let one = a steps below g in
     let two = b one.more below one.on in
     record { more = two.more; on = two.on; same = one.same ∙ two.same }
 
-pub leads_stop : (base : Row) (pc : ℕ) (p q r : ProgramRest) (row other last : Row) (stop : Stop) → LeadsTo base pc p row q other → Walks base pc q other stop r last → Walks base pc p row stop r last
+pub leads_stop : (base : Row) (pc : ℕ) (p q r : ProgramData) (row other last : Row) (stop : Stop) → ComesTo base pc p row q other → Walks base pc q other stop r last → Walks base pc p row stop r last
 leads_stop base pc p q r row other last End a b = λ steps below g.
     let one = a steps below g in
     ap (λ (s : Rows). s.row) one.same ∙ b one.more below one.on
@@ -119,8 +119,8 @@ plain (Cfa q n) a b = record { flat = λ d. refl; stays = λ base row below. ref
 plain (CfaColumn q) a b = record { flat = λ d. refl; stays = λ base row below. refl }
 plain (CfaOffset n) a b = record { flat = λ d. refl; stays = λ base row below. refl }
 
-pub leads_plain : (base : Row) (pc : ℕ) (p q : ProgramRest) (row : Row) (x : Step) → Gives p x q → IsReached pc x → (x.instruction ≡ Remember → ⊥) → (x.instruction ≡ RestoreState → ⊥)
-    → LeadsTo base pc p row q (applied base row x.instruction)
+pub leads_plain : (base : Row) (pc : ℕ) (p q : ProgramData) (row : Row) (x : Step) → Gives p x q → IsReached pc x → (x.instruction ≡ Remember → ⊥) → (x.instruction ≡ RestoreState → ⊥)
+    → ComesTo base pc p row q (applied base row x.instruction)
 leads_plain base pc p q row x gives reached a b =
     let i = plain x.instruction a b in
     λ steps below g.
@@ -133,14 +133,14 @@ leads_plain base pc p q row x gives reached a b =
     }
 
 -- behind an Advance that doesn't lead past the address
-pub leads_advance : (base : Row) (pc : ℕ) (p q : ProgramRest) (row : Row) (x : Step) → Gives p x q → x.location ≤ pc → x.instruction ≡ Advance → LeadsTo base pc p row q row
+pub leads_advance : (base : Row) (pc : ℕ) (p q : ProgramData) (row : Row) (x : Step) → Gives p x q → x.location ≤ pc → x.instruction ≡ Advance → ComesTo base pc p row q row
 leads_advance base pc p q row x gives le is =
     let plain = leads_plain base pc p q row x gives (λ e. le) (λ e. absurd (let two = sym is ∙ e in cc)) (λ e. absurd (let two = sym is ∙ e in cc)) in
-    subst (λ (k : Row). LeadsTo base pc p row q k) (ap (applied base row) is) plain
+    subst (λ (k : Row). ComesTo base pc p row q k) (ap (applied base row) is) plain
 
 -- behind remember_state, up to the step that takes the row back
-pub leads_back : (base : Row) (pc : ℕ) (p q r : ProgramRest) (row other : Row) (x : Step) → Gives p x q → x.instruction ≡ Remember → Walks base pc q row Restored r other
-    → LeadsTo base pc p row r row
+pub leads_back : (base : Row) (pc : ℕ) (p q r : ProgramData) (row other : Row) (x : Step) → Gives p x q → x.instruction ≡ Remember → Walks base pc q row Restored r other
+    → ComesTo base pc p row r row
 leads_back base pc p q r row other x gives is inner = λ steps below g.
     let n = next_of p q x pc (length below) steps gives g in
     let le = n.stays (not_advance pc x _ is (λ e. cc)) in
@@ -158,7 +158,7 @@ leads_back base pc p q r row other x gives is inner = λ steps below g.
 
 -- ---- how it stops
 
-pub stops_inside : (base : Row) (pc : ℕ) (p q r : ProgramRest) (row other : Row) (x : Step) → Gives p x q → x.instruction ≡ Remember → Walks base pc q row End r other → Walks base pc p row End r other
+pub stops_inside : (base : Row) (pc : ℕ) (p q r : ProgramData) (row other : Row) (x : Step) → Gives p x q → x.instruction ≡ Remember → Walks base pc q row End r other → Walks base pc p row End r other
 stops_inside base pc p q r row other x gives is inner = λ steps below g.
     let n = next_of p q x pc (length below) steps gives g in
     let le = n.stays (not_advance pc x _ is (λ e. cc)) in
@@ -167,17 +167,17 @@ stops_inside base pc p q r row other x gives is inner = λ steps below g.
     ap (λ (s : Rows). s.row) (rows_on base pc (beside row below) x n.more steps n.are le ∙ ap (λ (s : Rows). rows_behind base pc s n.more) stepped)
     ∙ inner n.more (row ∷ below) (subst (λ (d : ℕ). GoesOn q pc d n.more) deeper (n.on le))
 
-pub stops_above : (base : Row) (pc : ℕ) (p q : ProgramRest) (row : Row) (x : Step) → Gives p x q → pc < x.location → Walks base pc p row End q row
+pub stops_above : (base : Row) (pc : ℕ) (p q : ProgramData) (row : Row) (x : Step) → Gives p x q → pc < x.location → Walks base pc p row End q row
 stops_above base pc p q row x gives lt = λ steps below g.
     let n = next_of p q x pc (length below) steps gives g in
     let above : nat_le x.location pc ≡ false = lt-leb _ _ lt in
     let none = none_up_to pc x.location n.more lt n.above in
     ap (λ (l : List Step). (rows_behind base pc (beside row below) l).row) n.are ∙ rw (above, none) refl
 
-pub stops_behind : (base : Row) (pc : ℕ) (p q : ProgramRest) (row : Row) → ((steps : List Step) → HasSteps p steps → steps ≡ []) → Walks base pc p row End q row
+pub stops_behind : (base : Row) (pc : ℕ) (p q : ProgramData) (row : Row) → ((steps : List Step) → HasSteps p steps → steps ≡ []) → Walks base pc p row End q row
 stops_behind base pc p q row none = λ steps below g. ap (λ (l : List Step). (rows_behind base pc (beside row below) l).row) (none steps g.has)
 
-taken_back : (base : Row) (pc : ℕ) (row : Row) (below : List Row) (steps : List Step) (q : ProgramRest) (x : Step) → Next x q pc (length below) steps → x.instruction ≡ RestoreState → TakesBack base pc row below steps q
+taken_back : (base : Row) (pc : ℕ) (row : Row) (below : List Row) (steps : List Step) (q : ProgramData) (x : Step) → Next x q pc (length below) steps → x.instruction ≡ RestoreState → TakesBack base pc row below steps q
 taken_back base pc row [] steps q x n is = absurd (let may : 0 < 0 = subst (MayStandAt 0) is n.may in omega (arith, may))
 taken_back base pc row (last ∷ others) steps q x n is =
     let le = n.stays (not_advance pc x _ is (λ e. cc)) in
@@ -194,14 +194,14 @@ taken_back base pc row (last ∷ others) steps q x n is =
       };
     }
 
-pub stops_restored : (base : Row) (pc : ℕ) (p q : ProgramRest) (row other : Row) (x : Step) → Gives p x q → x.instruction ≡ RestoreState → Walks base pc p row Restored q other
+pub stops_restored : (base : Row) (pc : ℕ) (p q : ProgramData) (row other : Row) (x : Step) → Gives p x q → x.instruction ≡ RestoreState → Walks base pc p row Restored q other
 stops_restored base pc p q row other x gives is = λ steps below g. taken_back base pc row below steps q x (next_of p q x pc (length below) steps gives g) is
 
 -- a walk on which nothing was remembered before goes to the end
-pub whole : (base : Row) (pc : ℕ) (p q : ProgramRest) (row other : Row) (stop : Stop) → Walks base pc p row stop q other → (steps : List Step) → GoesOn p pc 0 steps → (rows_behind base pc (beside row []) steps).row ≡ other
+pub whole : (base : Row) (pc : ℕ) (p q : ProgramData) (row other : Row) (stop : Stop) → Walks base pc p row stop q other → (steps : List Step) → GoesOn p pc 0 steps → (rows_behind base pc (beside row []) steps).row ≡ other
 whole base pc p q row other End w steps g = w steps [] g
 whole base pc p q row other Restored w steps g = absurd (let none = (w steps [] g).are in cc)
 
 -- the laws of a program's steps, at its start
-pub goes_on_from : (p : ProgramRest) (pc location : ℕ) (steps : List Step) → location ≤ pc → HasSteps p steps → IsAscendingFrom location steps → IsBalanced 0 steps → GoesOn p pc 0 steps
+pub goes_on_from : (p : ProgramData) (pc location : ℕ) (steps : List Step) → location ≤ pc → HasSteps p steps → IsAscendingFrom location steps → IsBalanced 0 steps → GoesOn p pc 0 steps
 goes_on_from p pc location steps reached has ascending balanced = record { has = has; location = location; reached = reached; ascending = ascending; balanced = balanced }

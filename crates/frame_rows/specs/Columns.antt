@@ -6,8 +6,8 @@ use Rattle.frame_parse.specs.declared.instructions.ReadRule.TheVariants as read
 use Rattle.frame_parse.specs.declared.instructions.Instruction.{Instruction}
 use Rattle.frame_parse.specs.declared.instructions.Instruction.TheVariants.{Nop, Advance, Set, Restore, Remember, RestoreState, Cfa, CfaColumn, CfaOffset}
 use Rattle.frame_parse.specs.declared.instructions.Step.{Step}
-use Rattle.frame_parse.specs.Programs.{HasSteps, initial_of, program_of, text_at}
-use Rattle.frame_parse.specs.Sections.{FdeContents}
+use Rattle.frame_parse.specs.Programs.{HasSteps, initial_of, program_of, text_in}
+use Rattle.frame_parse.specs.Sections.{FdeData}
 use Rattle.frame_rows.specs.declared.row.Rule.{Rule}
 use Rattle.frame_rows.specs.declared.row.Rule.TheVariants as rules
 use Rattle.frame_rows.specs.declared.row.CfaRule.{CfaRule}
@@ -19,8 +19,8 @@ pub record Column (A : Type 0) : Type 0 where
   pub remembered : List A
 
 -- nothing is remembered at the start of a program
-abbrev pub opening : {A : Type 0} → A → Column A
-opening rule = record { rule = rule; remembered = [] }
+abbrev pub new_column : {A : Type 0} → A → Column A
+new_column rule = record { rule = rule; remembered = [] }
 
 -- remember_state keeps the rule beside those kept before
 abbrev pub remember : {A : Type 0} → Column A → Column A
@@ -89,22 +89,22 @@ up_to pc steps = filter (λ (x : Step). nat_le x.location pc) steps
 
 -- The rule that the initial instructions leave. Inside them a restore leaves nothing set.
 unfoldable pub initial_rule : ℕ → List Step → Rule
-initial_rule r initial = (fold (register_step r rules.Unset) (opening rules.Unset) (instructions initial)).rule
+initial_rule r initial = (fold (register_step r rules.Unset) (new_column rules.Unset) (instructions initial)).rule
 
 -- The rule of column r at an address, where the FDE's programs are these steps.
 unfoldable pub rule_at : ℕ → List Step → List Step → ℕ → Rule
-rule_at r initial steps pc = (fold (register_step r (initial_rule r initial)) (opening (initial_rule r initial)) (instructions (up_to pc steps))).rule
+rule_at r initial steps pc = (fold (register_step r (initial_rule r initial)) (new_column (initial_rule r initial)) (instructions (up_to pc steps))).rule
 
 unfoldable pub initial_cfa : List Step → CfaRule
-initial_cfa initial = (fold cfa_step (opening cfas.Missing) (instructions initial)).rule
+initial_cfa initial = (fold cfa_step (new_column cfas.Missing) (instructions initial)).rule
 
 -- the rule of the CFA at an address
 unfoldable pub cfa_at : List Step → List Step → ℕ → CfaRule
-cfa_at initial steps pc = (fold cfa_step (opening (initial_cfa initial)) (instructions (up_to pc steps))).rule
+cfa_at initial steps pc = (fold cfa_step (new_column (initial_cfa initial)) (instructions (up_to pc steps))).rule
 
 -- the steps that an FDE's initial instructions spell, and those of its own
-abbrev pub HasInitial : FdeContents → List Step → Type 0
-HasInitial f steps = HasSteps (initial_of f.section f.entry (text_at f.bytes f.entry.cie.initial)) steps
+abbrev pub HasInitial : FdeData → List Step → Type 0
+HasInitial f steps = HasSteps (initial_of f.section f.entry (text_in f.bytes f.entry.cie.initial)) steps
 
-abbrev pub HasProgram : FdeContents → List Step → Type 0
-HasProgram f steps = HasSteps (program_of f.section f.entry (text_at f.bytes f.entry.program)) steps
+abbrev pub HasProgram : FdeData → List Step → Type 0
+HasProgram f steps = HasSteps (program_of f.section f.entry (text_in f.bytes f.entry.program)) steps

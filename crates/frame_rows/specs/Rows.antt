@@ -4,7 +4,7 @@ use Rattle.std.specs.List.{fold}
 use Rattle.frame_parse.specs.declared.instructions.Instruction.{Instruction}
 use Rattle.frame_parse.specs.declared.instructions.Instruction.TheVariants.{Nop, Advance, Set, Restore, Remember, RestoreState, Cfa, CfaColumn, CfaOffset}
 use Rattle.frame_parse.specs.declared.instructions.Step.{Step}
-use Rattle.frame_parse.specs.Sections.{FdeContents}
+use Rattle.frame_parse.specs.Sections.{FdeData}
 use Rattle.frame_rows.specs.declared.row.Rule.TheVariants as rules
 use Rattle.frame_rows.specs.declared.row.CfaRule.TheVariants as cfas
 use Rattle.frame_rows.specs.declared.row.Row.{Row}
@@ -58,5 +58,5 @@ abbrev pub base_row : ℕ → List Step → Row
 base_row first initial = (rows_behind unset first (beside unset []) initial).row
 
 -- the row whose rules a restore gives back among the instructions of an FDE itself
-abbrev pub IsBaseRow : FdeContents → Row → Type 0
+abbrev pub IsBaseRow : FdeData → Row → Type 0
 IsBaseRow f row = (initial : List Step) × HasInitial f initial × (row ≡ base_row f.entry.first initial)

@@ -7,9 +7,9 @@ use Rattle.std.proofs.lemmas.List.{append-nil}
 use Rattle.std.proofs.lemmas.List.Sums.{sum_by-cons}
 use Rattle.reg_model.specs.State.{State}
 use Rattle.reg_model.specs.History.{Fits, after}
-use Rattle.reg_model.specs.Receipt.{moment, accepted, made, IsFilled}
+use Rattle.reg_model.specs.Receipt.{moment, accepted, made, HadTenMembers}
 use Rattle.reg_model.specs.Numbers.{has_number}
-use Rattle.reg_model.specs.Current.{Current, LeadsTo, Step}
+use Rattle.reg_model.specs.PlainRegistryData.{PlainRegistryData, LeadsTo, Step}
 use Rattle.reg_model.specs.Chain.{Chain, HasRoom, PlainStep, all_made, HoldsAlways, IsBetween, Rises}
 use Rattle.reg_model.specs.declared.answer.Inserted.TheVariants as inserted
 use Rattle.reg_model.specs.declared.answer.Update.{Update}
@@ -17,7 +17,7 @@ use Rattle.reg_model.specs.declared.answer.Receipt.{Receipt}
 use Rattle.reg_model.specs.declared.answer.Receipt.TheVariants.{Register, Deregister, Load, Unload, Query}
 use Rattle.reg_model.proofs.Receipts.{step_holds, holds_on}
 
-filled_from : (start : State) (history : List Update) (since : ℕ) (r : Receipt) → HasRoom r → IsFilled start history since r
+filled_from : (start : State) (history : List Update) (since : ℕ) (r : Receipt) → HasRoom r → HadTenMembers start history since r
 filled_from start history since (Register m (inserted.Full stamp)) room = absurd room
 filled_from start history since (Register m (inserted.Done number)) room = tt
 filled_from start history since (Register m (inserted.Overlap other stamp)) room = tt
@@ -27,13 +27,13 @@ filled_from start history since (Load m answer) room = tt
 filled_from start history since (Unload base answer) room = tt
 filled_from start history since (Query half pc found) room = tt
 
-pub chain_leads : (start : State) (history : List Update) (a b : Current) (receipts : List Receipt) → LeadsTo start history a → Chain PlainStep a receipts b → LeadsTo start (history ++ all_made receipts) b
+pub chain_leads : (start : State) (history : List Update) (a b : PlainRegistryData) (receipts : List Receipt) → LeadsTo start history a → Chain PlainStep a receipts b → LeadsTo start (history ++ all_made receipts) b
 chain_leads start history a b [] leads chain = rw (append-nil, chain) leads
 chain_leads start history a b (r ∷ receipts) leads (mid, call, chain) =
     let next = step_holds start history a mid 0 0 0 r leads call.step (filled_from start (history ++ made r) 0 r call.room) in
     rw (← append_assoc history (made r) (all_made receipts)) (chain_leads start (history ++ made r) mid b receipts next.0 chain)
 
-pub chain_holds : (start : State) (history : List Update) (a b : Current) (receipts : List Receipt) → LeadsTo start history a → Chain PlainStep a receipts b → AllByRecursion (HoldsAlways start (history ++ all_made receipts)) receipts
+pub chain_holds : (start : State) (history : List Update) (a b : PlainRegistryData) (receipts : List Receipt) → LeadsTo start history a → Chain PlainStep a receipts b → AllByRecursion (HoldsAlways start (history ++ all_made receipts)) receipts
 chain_holds start history a b [] leads chain = tt
 chain_holds start history a b (r ∷ receipts) leads (mid, call, chain) =
     let next = λ (nodes callers since : ℕ). step_holds start history a mid nodes callers since r leads call.step (filled_from start (history ++ made r) since r call.room) in
@@ -48,11 +48,11 @@ record Moves (old : ℕ) (n : ℕ) (a : Option Update) (new : ℕ) : Type 0 wher
   now : n ≡ new
   from : new ≡ old + cond (is_some a) 1 0
 
-moves_by : (old new : Current) (n : ℕ) (a : Option Update) → MatchOption a ((n ≡ old.updates) × (new ≡ old)) (λ u. Fits u old.state × (n ≡ old.updates + 1) × (new ≡ record { state = after u old.state; updates = old.updates + 1 })) → Moves old.updates n a new.updates
-moves_by old new n None changes = (let same : new.updates ≡ old.updates = ap (λ (c : Current). c.updates) changes.1 in let now = changes.0 in record { now = omega arith; from = omega arith })
-moves_by old new n (Some u) changes = (let more : new.updates ≡ old.updates + 1 = ap (λ (c : Current). c.updates) changes.2 in let now = changes.1 in record { now = omega arith; from = omega arith })
+moves_by : (old new : PlainRegistryData) (n : ℕ) (a : Option Update) → MatchOption a ((n ≡ old.updates) × (new ≡ old)) (λ u. Fits u old.state × (n ≡ old.updates + 1) × (new ≡ record { state = after u old.state; updates = old.updates + 1 })) → Moves old.updates n a new.updates
+moves_by old new n None changes = (let same : new.updates ≡ old.updates = ap (λ (c : PlainRegistryData). c.updates) changes.1 in let now = changes.0 in record { now = omega arith; from = omega arith })
+moves_by old new n (Some u) changes = (let more : new.updates ≡ old.updates + 1 = ap (λ (c : PlainRegistryData). c.updates) changes.2 in let now = changes.1 in record { now = omega arith; from = omega arith })
 
-moves : (old new : Current) (r : Receipt) → Step old r new → Moves old.updates (moment r) (accepted r) new.updates
+moves : (old new : PlainRegistryData) (r : Receipt) → Step old r new → Moves old.updates (moment r) (accepted r) new.updates
 moves old new r step = moves_by old new (moment r) (accepted r) step.changes
 
 between_wider : (low low' high : ℕ) (receipts : List Receipt) → low' ≤ low → AllByRecursion (IsBetween low high) receipts → AllByRecursion (IsBetween low' high) receipts
@@ -82,9 +82,9 @@ once_step low mid high n number (Some u) move within =
 once_none : (low number : ℕ) → 0 ≡ once low low number
 once_none low number = grind (arith, nat_tests)
 
-pub chain_rises : (a b : Current) (receipts : List Receipt) → Chain PlainStep a receipts b → Rises a receipts b
+pub chain_rises : (a b : PlainRegistryData) (receipts : List Receipt) → Chain PlainStep a receipts b → Rises a receipts b
 chain_rises a b [] chain = record {
-  count = (let same = ap (λ (c : Current). c.updates) chain in omega arith);
+  count = (let same = ap (λ (c : PlainRegistryData). c.updates) chain in omega arith);
   between = tt;
   order = λ since before. tt;
   numbers = λ number. rw chain (once_none a.updates number);

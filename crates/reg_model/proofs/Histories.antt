@@ -3,10 +3,10 @@ use Rattle.std.proofs.Common.{◌≡◌, ℕ, ◌<◌, ◌≤◌, zero, suc, Lis
 use Rattle.std.specs.List.{slice_get, filter, All, Contains}
 use Rattle.std.proofs.lemmas.List.{take-append-le, take_all}
 use Rattle.std.proofs.lemmas.List.Elements.{All-filter, All-push, All-cons, All-head, All-tail, All-contains, Contains-append_cases, Contains-push_cases}
-use Rattle.reg_model.specs.Interval.{Overlaps}
+use Rattle.reg_model.specs.SpanData.{Overlaps}
 use Rattle.reg_model.specs.State.{State, objects, IsFree, AreDisjoint, IsLawful}
 use Rattle.reg_model.specs.Query.{member_at}
-use Rattle.reg_model.specs.Interval.{contains}
+use Rattle.reg_model.specs.SpanData.{contains}
 use Rattle.reg_model.specs.History.{Fits, after, IsHistory, state_after, state_at}
 use Rattle.reg_model.specs.declared.span.Member.{Member}
 use Rattle.reg_model.specs.declared.answer.Update.{Update}

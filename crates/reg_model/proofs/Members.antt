@@ -2,22 +2,22 @@
 use Rattle.std.proofs.Common.{◌<◌, ◌≤◌, List, [], ◌∷◌, ◌++◌, Option, Some, None, MatchOption, IfSome, arith}
 use Rattle.std.proofs.lemmas.List.Elements.{All-append, All-push, All-weaker, Contains-append_left, Contains-append_right, Contains-push}
 use Rattle.std.specs.List.{All}
-use Rattle.reg_model.specs.Interval.{Interval, Overlaps}
+use Rattle.reg_model.specs.SpanData.{SpanData, Overlaps}
 use Rattle.reg_model.specs.State.{IsFree, IsLowestOverlap}
 use Rattle.reg_model.specs.declared.span.Member.{Member}
 
 -- the lowest of the members that overlap, if one does
-abbrev pub IsLowest : Interval → List Member → Option Member → Type 0
+abbrev pub IsLowest : SpanData → List Member → Option Member → Type 0
 IsLowest span members lowest = MatchOption lowest (IsFree span members) (IsLowestOverlap span members)
 
-abbrev Apart : Interval → Member → Type 0
+abbrev Apart : SpanData → Member → Type 0
 Apart span m = ¬ Overlaps m.span span
 
 -- a member that overlaps begins no lower than m
-abbrev BeginsFrom : Interval → Member → Member → Type 0
+abbrev BeginsFrom : SpanData → Member → Member → Type 0
 BeginsFrom span m other = Overlaps other.span span → m.span.first ≤ other.span.first
 
-pub passed_over : (span : Interval) (members : List Member) (lowest : Option Member) (m : Member) → IsLowest span members lowest → (Overlaps m.span span → ¬ IfSome lowest (λ best. m.span.first < best.span.first)) → IsLowest span (members ++ m ∷ []) lowest
+pub passed_over : (span : SpanData) (members : List Member) (lowest : Option Member) (m : Member) → IsLowest span members lowest → (Overlaps m.span span → ¬ IfSome lowest (λ best. m.span.first < best.span.first)) → IsLowest span (members ++ m ∷ []) lowest
 passed_over span members None m free not_lower = All-push (Apart span) members m free (λ overlaps. not_lower overlaps tt)
 passed_over span members (Some best) m is not_lower =
     let from_best : BeginsFrom span best m = λ overlaps. (let not_below : ¬ (m.span.first < best.span.first) = not_lower overlaps in omega arith) in
@@ -27,7 +27,7 @@ passed_over span members (Some best) m is not_lower =
       lowest = All-push (BeginsFrom span best) members m is.lowest from_best;
     }
 
-pub taken : (span : Interval) (members : List Member) (lowest : Option Member) (m : Member) → IsLowest span members lowest → Overlaps m.span span → IfSome lowest (λ best. m.span.first < best.span.first) → IsLowest span (members ++ m ∷ []) (Some m)
+pub taken : (span : SpanData) (members : List Member) (lowest : Option Member) (m : Member) → IsLowest span members lowest → Overlaps m.span span → IfSome lowest (λ best. m.span.first < best.span.first) → IsLowest span (members ++ m ∷ []) (Some m)
 taken span members None m free overlaps below =
     let weaker : (other : Member) → Apart span other → BeginsFrom span m other = λ other apart meets. absurd (apart meets) in
     record {
@@ -45,7 +45,7 @@ taken span members (Some best) m is overlaps below =
 
 -- Of two lists one behind another: the lowest of the second one where it begins below that of the first, or else that of
 -- the first.
-pub taken_from : (span : Interval) (front members : List Member) (lowest : Option Member) (m : Member) → IsLowest span front lowest → IsLowestOverlap span members m → IfSome lowest (λ best. m.span.first < best.span.first) → IsLowestOverlap span (front ++ members) m
+pub taken_from : (span : SpanData) (front members : List Member) (lowest : Option Member) (m : Member) → IsLowest span front lowest → IsLowestOverlap span members m → IfSome lowest (λ best. m.span.first < best.span.first) → IsLowestOverlap span (front ++ members) m
 taken_from span front members lowest m before is below = record {
   listed = Contains-append_right front members m is.listed;
   overlaps = is.overlaps;
@@ -57,7 +57,7 @@ taken_from span front members lowest m before is below = record {
     from_front (Some best) least below =
         All-weaker (BeginsFrom span best) (BeginsFrom span m) (λ other from_best meets. (let above : best.span.first ≤ other.span.first = from_best meets in omega arith)) front least.lowest
 
-pub passed_over_all : (span : Interval) (front members : List Member) (lowest behind : Option Member) → IsLowest span front lowest → IsLowest span members behind → IfSome behind (λ m. ¬ IfSome lowest (λ best. m.span.first < best.span.first)) → IsLowest span (front ++ members) lowest
+pub passed_over_all : (span : SpanData) (front members : List Member) (lowest behind : Option Member) → IsLowest span front lowest → IsLowest span members behind → IfSome behind (λ m. ¬ IfSome lowest (λ best. m.span.first < best.span.first)) → IsLowest span (front ++ members) lowest
 passed_over_all span front members None None before after_it not_lower = All-append (Apart span) front members before after_it
 passed_over_all span front members None (Some m) before after_it not_lower = absurd (not_lower tt)
 passed_over_all span front members (Some best) behind is after_it not_lower = record {

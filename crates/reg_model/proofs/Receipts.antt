@@ -6,8 +6,8 @@ use Rattle.std.proofs.lemmas.List.{append-nil}
 use Rattle.reg_model.proofs.Histories.{state_after-append, IsHistory-append, state_at-append, state_at-length, slice_get-append, slice_get-next}
 use Rattle.reg_model.specs.State.{State}
 use Rattle.reg_model.specs.History.{Fits, after, state_at}
-use Rattle.reg_model.specs.Receipt.{moment, accepted, made, made_before, IsRight, IsFilled, Holds}
-use Rattle.reg_model.specs.Current.{Current, LeadsTo, Step}
+use Rattle.reg_model.specs.Receipt.{moment, accepted, made, made_before, IsRight, HadTenMembers, Holds}
+use Rattle.reg_model.specs.PlainRegistryData.{PlainRegistryData, LeadsTo, Step}
 use Rattle.reg_model.specs.declared.answer.Update.{Update}
 use Rattle.reg_model.specs.declared.answer.Receipt.{Receipt}
 use Rattle.reg_model.specs.declared.answer.Receipt.TheVariants.{Register, Deregister, Load, Unload, Query}
@@ -23,7 +23,7 @@ before_within None n m within = within
 before_within (Some u) n m within = omega arith
 
 -- ten members were registered at a moment that stays
-filled_on : (start : State) (history more : List Update) (since : ℕ) (r : Receipt) → moment r ≤ length history → IsFilled start history since r → IsFilled start (history ++ more) since r
+filled_on : (start : State) (history more : List Update) (since : ℕ) (r : Receipt) → moment r ≤ length history → HadTenMembers start history since r → HadTenMembers start (history ++ more) since r
 filled_on start history more since (Register m (inserted.Full stamp)) within (j, from, to, many) =
     (j, from, to, rw (state_at-append start history more j (omega arith)) many)
 filled_on start history more since (Register m (inserted.Done number)) within filled = tt
@@ -52,13 +52,13 @@ moment_is None n m P Q R changes = changes.0
 moment_is (Some u) n m P Q R changes = changes.1
 
 -- the receipt was given after all of the history, and before what it adds
-right_here : (start : State) (history more : List Update) (now : Current) (k : ℕ) (r : Receipt) → LeadsTo start history now → k ≡ now.updates → IsRight now.state r → IsRight (state_at start (history ++ more) k) r
+right_here : (start : State) (history more : List Update) (now : PlainRegistryData) (k : ℕ) (r : Receipt) → LeadsTo start history now → k ≡ now.updates → IsRight now.state r → IsRight (state_at start (history ++ more) k) r
 right_here start history more now k r leads is right =
     let P : State → Type 0 = λ s. IsRight s r in
     let here : state_at start (history ++ more) k ≡ now.state = ap (state_at start (history ++ more)) (is ∙ sym leads.updates) ∙ state_at-length start history more ∙ leads.state in
     subst P (sym here) right
 
-grown : (start : State) (history : List Update) (old new : Current) (n : ℕ) (a : Option Update) → LeadsTo start history old → MatchOption a ((n ≡ old.updates) × (new ≡ old)) (λ u. Fits u old.state × (n ≡ old.updates + 1) × (new ≡ record { state = after u old.state; updates = old.updates + 1 })) → LeadsTo start (history ++ option_to_list a) new
+grown : (start : State) (history : List Update) (old new : PlainRegistryData) (n : ℕ) (a : Option Update) → LeadsTo start history old → MatchOption a ((n ≡ old.updates) × (new ≡ old)) (λ u. Fits u old.state × (n ≡ old.updates + 1) × (new ≡ record { state = after u old.state; updates = old.updates + 1 })) → LeadsTo start (history ++ option_to_list a) new
 grown start history old new n None leads changes = rw (append-nil, changes.1) leads
 grown start history old new n (Some u) leads changes = rw changes.2 (record {
   lawful = IsHistory-append start history (u ∷ []) leads.lawful (rw leads.state (changes.0, tt));
@@ -73,7 +73,7 @@ numbered_next history n m (Some u) is moment =
     (rw length-append (omega arith), (omega arith, ap (slice_get (history ++ u ∷ [])) last ∙ slice_get-next history u []))
 
 -- What a step of the registry for one thread answers holds in the history, which grows by what the step made.
-pub step_holds : (start : State) (history : List Update) (old new : Current) (nodes callers since : ℕ) (r : Receipt) → LeadsTo start history old → Step old r new → IsFilled start (history ++ made r) since r → LeadsTo start (history ++ made r) new × Holds start (history ++ made r) nodes callers since r
+pub step_holds : (start : State) (history : List Update) (old new : PlainRegistryData) (nodes callers since : ℕ) (r : Receipt) → LeadsTo start history old → Step old r new → HadTenMembers start (history ++ made r) since r → LeadsTo start (history ++ made r) new × Holds start (history ++ made r) nodes callers since r
 step_holds start history old new nodes callers since r leads step filled =
     let now = moment_is (accepted r) (moment r) old.updates (new ≡ old) (λ u. Fits u old.state) (λ u. new ≡ record { state = after u old.state; updates = old.updates + 1 }) step.changes in
     let next = numbered_next history (moment r) old.updates (accepted r) leads.updates now in (

@@ -4,7 +4,7 @@ use Rattle.std.specs.List.{flat_map, AllByRecursion}
 use Rattle.reg_model.specs.State.{State}
 use Rattle.reg_model.specs.Receipt.{moment, accepted, made, Holds, AreInOrder}
 use Rattle.reg_model.specs.Numbers.{has_number}
-use Rattle.reg_model.specs.Current.{Current, Step}
+use Rattle.reg_model.specs.PlainRegistryData.{PlainRegistryData, Step}
 use Rattle.reg_model.specs.declared.answer.Inserted.TheVariants as inserted
 use Rattle.reg_model.specs.declared.answer.Update.{Update}
 use Rattle.reg_model.specs.declared.answer.Receipt.{Receipt}
@@ -21,7 +21,7 @@ HasRoom (Register member (inserted.Full stamp)) = ⊥
 HasRoom _ = Unit {0}
 
 -- a call of the registry over plain lists, which have room
-pub record PlainStep (old : Current) (r : Receipt) (new : Current) : Type 0 where
+pub record PlainStep (old : PlainRegistryData) (r : Receipt) (new : PlainRegistryData) : Type 0 where
   pub step : Step old r new
   pub room : HasRoom r
 
@@ -41,7 +41,7 @@ abbrev pub IsBetween : ℕ → ℕ → Receipt → Type 0
 IsBetween low high r = (low ≤ moment r) × (moment r ≤ high)
 
 -- Along a chain stamps and numbers rise, and the numbers are those of its updates, each once.
-pub record Rises (old : Current) (receipts : List Receipt) (new : Current) : Type 0 where
+pub record Rises (old : PlainRegistryData) (receipts : List Receipt) (new : PlainRegistryData) : Type 0 where
   pub count : new.updates ≡ old.updates + made_count receipts
   pub between : AllByRecursion (IsBetween old.updates new.updates) receipts
   pub order : (since : ℕ) → since ≤ old.updates → AreInOrder since receipts

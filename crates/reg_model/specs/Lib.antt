@@ -1,8 +1,8 @@
-pub mod Interval
+pub mod SpanData
 pub mod State
 pub mod History
 pub mod Query
 pub mod Receipt
 pub mod Numbers
-pub mod Current
+pub mod PlainRegistryData
 pub mod Chain

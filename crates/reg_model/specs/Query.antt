@@ -1,7 +1,7 @@
 -- Queries: which member contains an address.
 use Rattle.std.specs.Prelude.{ℕ, List, Option}
 use Rattle.std.specs.List.{find}
-use Rattle.reg_model.specs.Interval.{contains}
+use Rattle.reg_model.specs.SpanData.{contains}
 use Rattle.reg_model.specs.State.{State, objects}
 use Rattle.reg_model.specs.declared.span.Member.{Member}
 use Rattle.reg_model.specs.declared.answer.Half.{Half}

@@ -85,10 +85,10 @@ IsRight s (Query half pc found) = query half pc s ≡ member_of found
 
 -- A tree that is full has two leaves or a full one: at some moment since, and not after the stamp, ten members were
 -- registered. (That the number of members grows with the nodes is not said yet.)
-abbrev pub IsFilled : State → List Update → ℕ → Receipt → Type 0
-IsFilled start history since (Register m (inserted.Full stamp)) =
+abbrev pub HadTenMembers : State → List Update → ℕ → Receipt → Type 0
+HadTenMembers start history since (Register m (inserted.Full stamp)) =
     (j : ℕ) × (since ≤ j) × (j ≤ stamp) × (10 ≤ length (state_at start history j).registered)
-IsFilled start history since _ = Unit {0}
+HadTenMembers start history since _ = Unit {0}
 
 -- an accepted update stands in the history under its number
 abbrev pub IsAtNumber : List Update → Receipt → Type 0
@@ -100,7 +100,7 @@ pub record Holds (start : State) (history : List Update) (nodes callers since : 
   pub within : moment r ≤ length history
   pub numbered : IsAtNumber history r
   pub right : IsRight (state_at start history (made_before r)) r
-  pub filled : IsFilled start history since r
+  pub filled : HadTenMembers start history since r
 
 -- each receipt of a list holds
 abbrev pub AllHold : State → List Update → ℕ → ℕ → ℕ → List Receipt → Type 0

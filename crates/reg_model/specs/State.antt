@@ -1,7 +1,7 @@
 -- The state of a registry: three lists of members.
 use Rattle.std.specs.Prelude.{ℕ, ◌≤◌, List, [], ◌∷◌, ◌++◌, length, Option, ◌==◌, All, Contains}
 use Rattle.std.specs.List.{find}
-use Rattle.reg_model.specs.Interval.{Interval, Overlaps}
+use Rattle.reg_model.specs.SpanData.{SpanData, Overlaps}
 use Rattle.reg_model.specs.declared.span.Member.{Member}
 
 -- what is registered, what the loader has loaded, what it was given for good, and how many may be loaded
@@ -20,7 +20,7 @@ abbrev pub objects : State → List Member
 objects s = s.fixed ++ s.loaded
 
 -- no member overlaps the span
-abbrev pub IsFree : Interval → List Member → Type 0
+abbrev pub IsFree : SpanData → List Member → Type 0
 IsFree span members = All (λ m. ¬ Overlaps m.span span) members
 
 -- no two members overlap
@@ -40,7 +40,7 @@ abbrev pub at_base : ℕ → List Member → Option Member
 at_base base members = find (λ m. m.span.first == base) members
 
 -- of the members that overlap the span, this one has the least first address
-pub record IsLowestOverlap (span : Interval) (members : List Member) (m : Member) : Type 0 where
+pub record IsLowestOverlap (span : SpanData) (members : List Member) (m : Member) : Type 0 where
   pub listed : Contains members m
   pub overlaps : Overlaps m.span span
   pub lowest : All (λ other. Overlaps other.span span → m.span.first ≤ other.span.first) members

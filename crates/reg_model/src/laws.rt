@@ -2,13 +2,13 @@
 
 ghost use Rattle.std.specs.Prelude.{◌≡◌, ℕ, ◌≤◌, ◌++◌, List, Some, Contains, IsTrue, length};
 ghost use Rattle.std.specs.List.{AllByRecursion};
-ghost use Rattle.reg_model.specs.Interval.{contains};
+ghost use Rattle.reg_model.specs.SpanData.{contains};
 ghost use Rattle.reg_model.specs.State.{State, AreDisjoint, IsLawful};
 ghost use Rattle.reg_model.specs.History.{IsHistory, state_after};
 ghost use Rattle.reg_model.specs.Query.{member_at};
-ghost use Rattle.reg_model.specs.Receipt.{Holds, IsAtNumber, IsFilled, made};
+ghost use Rattle.reg_model.specs.Receipt.{Holds, IsAtNumber, HadTenMembers, made};
 ghost use Rattle.reg_model.specs.Numbers.{AreNumbered, history_of};
-ghost use Rattle.reg_model.specs.Current.{Current, LeadsTo, Step};
+ghost use Rattle.reg_model.specs.PlainRegistryData.{PlainRegistryData, LeadsTo, Step};
 ghost use Rattle.reg_model.specs.Chain.{Chain, PlainStep, HoldsAlways, Rises, all_made};
 ghost use Rattle.reg_model.specs.declared.answer.Receipt.{Receipt};
 ghost use Rattle.reg_model.specs.declared.answer.Update.{Update};
@@ -16,8 +16,8 @@ ghost use Rattle.reg_model.specs.declared.span.Member.{Member};
 
 /// What the registry for one thread answers holds in its history, which grows by the update that was accepted.
 pub fn answers_hold()
-    ensures { (start : State) (history : List Update) (old new : Current) (nodes callers since : ℕ) (r : Receipt)
-        → LeadsTo start history old → Step old r new → IsFilled start (history ++ made r) since r
+    ensures { (start : State) (history : List Update) (old new : PlainRegistryData) (nodes callers since : ℕ) (r : Receipt)
+        → LeadsTo start history old → Step old r new → HadTenMembers start (history ++ made r) since r
         → LeadsTo start (history ++ made r) new × Holds start (history ++ made r) nodes callers since r }
 {}
 
@@ -50,8 +50,8 @@ pub fn numbers_tell_histories()
 /// Calls of the registry over plain lists, one after another: their receipts hold in the history that they make, however many
 /// nodes and callers there are; stamps and numbers rise, and each number is given once.
 pub fn chains_hold()
-    ensures hold { (start : State) (history : List Update) (old new : Current) (receipts : List Receipt)
+    ensures hold { (start : State) (history : List Update) (old new : PlainRegistryData) (receipts : List Receipt)
         → LeadsTo start history old → Chain PlainStep old receipts new
         → LeadsTo start (history ++ all_made receipts) new × AllByRecursion (HoldsAlways start (history ++ all_made receipts)) receipts }
-    ensures rise { (old new : Current) (receipts : List Receipt) → Chain PlainStep old receipts new → Rises old receipts new }
+    ensures rise { (old new : PlainRegistryData) (receipts : List Receipt) → Chain PlainStep old receipts new → Rises old receipts new }
 {}

@@ -4,7 +4,7 @@ ghost use Rattle.std.specs.Prelude.{◌≡◌, ℕ, ◌+◌, ◌^◌, ◌<◌, �
 ghost use Rattle.reg_model.specs.State.{opening, at_base, IsFree, AreDisjoint, IsLowestOverlap};
 ghost use Rattle.reg_model.specs.History.{without};
 ghost use Rattle.reg_model.specs.Query.{member_at};
-ghost use Rattle.reg_model.specs.Current.{Step, IsDoneOrOverlap};
+ghost use Rattle.reg_model.specs.PlainRegistryData.{Step, IsDoneOrOverlap};
 ghost use Rattle.reg_model.specs.Receipt.{IsPlace};
 ghost use Rattle.reg_model.specs.declared.answer.Receipt.TheVariants as receipt;
 ghost use Rattle.reg_model.specs.declared.answer.Half.TheVariants as half;
@@ -28,9 +28,9 @@ pub struct PlainRegistry {
 
 impl Model for PlainRegistry {
     ghost use Rattle.std.specs.Prelude.{◌≤◌, vec_len};
-    ghost use Rattle.reg_model.specs.Current.{Current};
+    ghost use Rattle.reg_model.specs.PlainRegistryData.{PlainRegistryData};
 
-    ghost Value = { Current };
+    ghost Value = { PlainRegistryData };
 
     ghost view = { λ r. record { state = record { registered = r.registered.items; loaded = r.loaded.items; fixed = r.fixed.items; loads = r.loads }; updates = r.updates } };
 

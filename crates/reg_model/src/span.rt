@@ -1,7 +1,7 @@
 //! Spans of addresses, and members: a span with the number of an image.
 
 ghost use Rattle.std.specs.Prelude.{◌≡◌, ℕ, ◌+◌, ◌-◌, ◌^◌, ◌<◌, ◌≤◌, ◌↔◌, IsTrue, IsSome, IfSome};
-ghost use Rattle.reg_model.specs.Interval.{Interval, IsSpan, contains, Overlaps};
+ghost use Rattle.reg_model.specs.SpanData.{SpanData, IsSpan, contains, Overlaps};
 
 use std::marker::Model;
 
@@ -13,9 +13,9 @@ pub struct Span {
 }
 
 impl Model for Span {
-    ghost use Rattle.reg_model.specs.Interval.{Interval, IsSpan};
+    ghost use Rattle.reg_model.specs.SpanData.{SpanData, IsSpan};
 
-    ghost Value = { Interval };
+    ghost Value = { SpanData };
 
     ghost view = { λ s. record { first = s.first; last = s.last } };
 

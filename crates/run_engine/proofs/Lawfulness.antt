@@ -2,18 +2,18 @@
 use Rattle.std.proofs.Common.{◌≡◌, ℕ, ◌+◌, ◌≤◌, List, [], ◌∷◌, ◌++◌, length, map, refl, sym, ◌∙◌, ap, subst, max, arith}
 use Rattle.std.specs.List.{All, AllByRecursion, AllZip, flat_map}
 use Rattle.std.proofs.lemmas.List.Elements.{All-from_recursion, All-head, All-map, All-tail, All-weaker}
-use Rattle.reg_model.specs.Interval.{Interval}
+use Rattle.reg_model.specs.SpanData.{SpanData}
 use Rattle.reg_model.specs.State.{State}
 use Rattle.reg_model.specs.History.{IsHistory}
 use Rattle.reg_model.specs.Receipt.{moment, AllHold, AreInOrder, IsAtNumber}
 use Rattle.reg_model.specs.Numbers.{AreNumbered, history_of}
-use Rattle.reg_model.specs.Current.{Current, LeadsTo}
+use Rattle.reg_model.specs.PlainRegistryData.{PlainRegistryData, LeadsTo}
 use Rattle.reg_model.specs.Chain.{Chain, PlainStep, all_made, made_count, HoldsAlways, IsBetween, Rises}
 use Rattle.reg_model.specs.declared.answer.Update.{Update}
 use Rattle.reg_model.specs.declared.answer.Receipt.{Receipt}
 use Rattle.event_script.specs.ScriptData.{ScriptData}
 use Rattle.event_script.specs.JournalData.{JournalData}
-use Rattle.event_script.specs.Lawful.{IsLawful, AnswersEvent, receipts_of, thread_receipts, in_one, start_of, RoundsHold, AreInRounds}
+use Rattle.event_script.specs.Lawful.{IsLawfulJournal, AnswersEvent, receipts_of, thread_receipts, in_one, start_of, RoundsHold, AreInRounds}
 use Rattle.event_script.specs.declared.journal.Answer.{Answer}
 use Rattle.run_engine.specs.Outcome.{IsUnfilled}
 use Rattle.run_engine.proofs.Lists.{AllByRecursion-append, AllByRecursion-parts, AllZip-map, AllZip-weaker, flat_map-map, flat_map-same}
@@ -45,7 +45,7 @@ rounds_at start history nodes callers (round ∷ rounds) holds =
 
 -- Where every event is answered, there is one history with each number on one receipt, each thread's record holds in it, and
 -- the rounds keep their bounds, the journal is lawful. Nothing is asked of the order in which the calls were made.
-pub records_lawful : ((history : List Update) (receipts : List Receipt) → AllByRecursion (IsAtNumber history) receipts → AreNumbered (length history) receipts → history_of receipts (length history) ≡ history) → (script : ScriptData) (journal : JournalData) (history : List Update) → AllZip (AllZip (AllZip AnswersEvent)) script.rounds journal.rounds → length history ≡ journal.updates → IsHistory (start_of script) history → AreNumbered journal.updates (in_one (thread_receipts script.images journal)) → RoundsHold (start_of script) history script.nodes 1 (thread_receipts script.images journal) → AreInRounds 0 (thread_receipts script.images journal) → IsLawful script journal
+pub records_lawful : ((history : List Update) (receipts : List Receipt) → AllByRecursion (IsAtNumber history) receipts → AreNumbered (length history) receipts → history_of receipts (length history) ≡ history) → (script : ScriptData) (journal : JournalData) (history : List Update) → AllZip (AllZip (AllZip AnswersEvent)) script.rounds journal.rounds → length history ≡ journal.updates → IsHistory (start_of script) history → AreNumbered journal.updates (in_one (thread_receipts script.images journal)) → RoundsHold (start_of script) history script.nodes 1 (thread_receipts script.images journal) → AreInRounds 0 (thread_receipts script.images journal) → IsLawfulJournal script journal
 records_lawful tell script journal history answered count is numbered holds rounds =
     let receipts = in_one (thread_receipts script.images journal) in
     let P : ℕ → Type 0 = λ n. AreNumbered n receipts in
@@ -64,13 +64,13 @@ record_always start history nodes callers since [] all = tt
 record_always start history nodes callers since (r ∷ receipts) all = (all.0.always nodes callers since, record_always start history nodes callers (max since (moment r)) receipts all.1)
 
 -- the receipts of a round whose threads hold their answers in a type of their own
-round_receipts : {T : Type 0} (images : List Interval) (answers_of : T → List Answer) (threads : List T) → of_round (map (λ answers. flat_map (receipts_of images) answers) (map answers_of threads)) ≡ flat_map (λ thread. flat_map (receipts_of images) (answers_of thread)) threads
+round_receipts : {T : Type 0} (images : List SpanData) (answers_of : T → List Answer) (threads : List T) → of_round (map (λ answers. flat_map (receipts_of images) answers) (map answers_of threads)) ≡ flat_map (λ thread. flat_map (receipts_of images) (answers_of thread)) threads
 round_receipts images answers_of threads =
     flat_map-map (λ (receipts : List Receipt). receipts) (λ answers. flat_map (receipts_of images) answers) (map answers_of threads)
     ∙ flat_map-map (λ (answers : List Answer). flat_map (receipts_of images) answers) answers_of threads
 
 -- the same of all rounds
-all_receipts : {T U : Type 0} (images : List Interval) (answers_of : T → List Answer) (threads_of : U → List T) (rounds : List U) (updates : ℕ) → in_one (thread_receipts images (record { rounds = map (λ round. map answers_of (threads_of round)) rounds; updates = updates })) ≡ flat_map (λ round. flat_map (λ thread. flat_map (receipts_of images) (answers_of thread)) (threads_of round)) rounds
+all_receipts : {T U : Type 0} (images : List SpanData) (answers_of : T → List Answer) (threads_of : U → List T) (rounds : List U) (updates : ℕ) → in_one (thread_receipts images (record { rounds = map (λ round. map answers_of (threads_of round)) rounds; updates = updates })) ≡ flat_map (λ round. flat_map (λ thread. flat_map (receipts_of images) (answers_of thread)) (threads_of round)) rounds
 all_receipts {T} {U} images answers_of threads_of rounds updates =
     let round_of : U → List (List Answer) = λ round. map answers_of (threads_of round) in
     let receipts_in : List (List Answer) → List (List Receipt) = λ round. map (λ answers. flat_map (receipts_of images) answers) round in
@@ -84,8 +84,8 @@ answered_play {T} {U} R answers_of threads_of events rounds answered =
     (AllZip-weaker _ _ (λ threads round zipped. AllZip-map (AllZip R) answers_of threads (threads_of round) zipped) events rounds answered)
 
 -- a chain of calls, from what the laws say of it
-module _ (rise : (old new : Current) (receipts : List Receipt) → Chain PlainStep old receipts new → Rises old receipts new) where
-  threads_hold : (start : State) (history : List Update) (nodes callers : ℕ) (threads : List (List Receipt)) (a b : Current) → Chain PlainStep a (of_round threads) b → AllByRecursion (HoldsAlways start history) (of_round threads) → AllByRecursion (λ receipts. AllHold start history nodes callers 0 receipts × AreInOrder 0 receipts) threads
+module _ (rise : (old new : PlainRegistryData) (receipts : List Receipt) → Chain PlainStep old receipts new → Rises old receipts new) where
+  threads_hold : (start : State) (history : List Update) (nodes callers : ℕ) (threads : List (List Receipt)) (a b : PlainRegistryData) → Chain PlainStep a (of_round threads) b → AllByRecursion (HoldsAlways start history) (of_round threads) → AllByRecursion (λ receipts. AllHold start history nodes callers 0 receipts × AreInOrder 0 receipts) threads
   threads_hold start history nodes callers [] a b chain all = tt
   threads_hold start history nodes callers (receipts ∷ threads) a b chain all =
       let parts = Chain-parts PlainStep a b receipts (of_round threads) chain in
@@ -94,7 +94,7 @@ module _ (rise : (old new : Current) (receipts : List Receipt) → Chain PlainSt
         threads_hold start history nodes callers threads parts.0 b parts.1.1 holds.1,
       )
 
-  rounds_hold : (start : State) (history : List Update) (nodes callers : ℕ) (rounds : List (List (List Receipt))) (a b : Current) → Chain PlainStep a (in_one rounds) b → AllByRecursion (HoldsAlways start history) (in_one rounds) → RoundsHold start history nodes callers rounds
+  rounds_hold : (start : State) (history : List Update) (nodes callers : ℕ) (rounds : List (List (List Receipt))) (a b : PlainRegistryData) → Chain PlainStep a (in_one rounds) b → AllByRecursion (HoldsAlways start history) (in_one rounds) → RoundsHold start history nodes callers rounds
   rounds_hold start history nodes callers [] a b chain all = tt
   rounds_hold start history nodes callers (round ∷ rounds) a b chain all =
       let parts = Chain-parts PlainStep a b (of_round round) (in_one rounds) chain in
@@ -103,7 +103,7 @@ module _ (rise : (old new : Current) (receipts : List Receipt) → Chain PlainSt
         rounds_hold start history nodes (callers + length round) rounds parts.0 b parts.1.1 holds.1,
       )
 
-  rounds_between : (rounds : List (List (List Receipt))) (done : ℕ) (a b : Current) → done ≡ a.updates → Chain PlainStep a (in_one rounds) b → AreInRounds done rounds
+  rounds_between : (rounds : List (List (List Receipt))) (done : ℕ) (a b : PlainRegistryData) → done ≡ a.updates → Chain PlainStep a (in_one rounds) b → AreInRounds done rounds
   rounds_between [] done a b is chain = tt
   rounds_between (round ∷ rounds) done a b is chain =
       let parts = Chain-parts PlainStep a b (of_round round) (in_one rounds) chain in
@@ -118,10 +118,10 @@ module _ (rise : (old new : Current) (receipts : List Receipt) → Chain PlainSt
       )
 
   -- calls one after another from the opening state, by the receipts of each thread of each round
-  pub chain_lawful : ((history : List Update) (receipts : List Receipt) → AllByRecursion (IsAtNumber history) receipts → AreNumbered (length history) receipts → history_of receipts (length history) ≡ history) → ((start : State) (history : List Update) (old new : Current) (receipts : List Receipt) → LeadsTo start history old → Chain PlainStep old receipts new → LeadsTo start (history ++ all_made receipts) new × AllByRecursion (HoldsAlways start (history ++ all_made receipts)) receipts) → (script : ScriptData) (journal : JournalData) (end : Current) → AllZip (AllZip (AllZip AnswersEvent)) script.rounds journal.rounds → journal.updates ≡ end.updates → Chain PlainStep (record { state = start_of script; updates = 0 }) (in_one (thread_receipts script.images journal)) end → IsLawful script journal
+  pub chain_lawful : ((history : List Update) (receipts : List Receipt) → AllByRecursion (IsAtNumber history) receipts → AreNumbered (length history) receipts → history_of receipts (length history) ≡ history) → ((start : State) (history : List Update) (old new : PlainRegistryData) (receipts : List Receipt) → LeadsTo start history old → Chain PlainStep old receipts new → LeadsTo start (history ++ all_made receipts) new × AllByRecursion (HoldsAlways start (history ++ all_made receipts)) receipts) → (script : ScriptData) (journal : JournalData) (end : PlainRegistryData) → AllZip (AllZip (AllZip AnswersEvent)) script.rounds journal.rounds → journal.updates ≡ end.updates → Chain PlainStep (record { state = start_of script; updates = 0 }) (in_one (thread_receipts script.images journal)) end → IsLawfulJournal script journal
   chain_lawful tell hold script journal end answered updates chain =
       let start = start_of script in
-      let first : Current = record { state = start; updates = 0 } in
+      let first : PlainRegistryData = record { state = start; updates = 0 } in
       let receipts = in_one (thread_receipts script.images journal) in
       let leads : LeadsTo start [] first = record { lawful = tt; state = refl; updates = refl } in
       let held = hold start [] first end receipts leads chain in
@@ -135,7 +135,7 @@ module _ (rise : (old new : Current) (receipts : List Receipt) → Chain PlainSt
       (rounds_between (thread_receipts script.images journal) 0 first end refl chain)
 
   -- the same where rounds and threads are held in types of their own
-  pub lawful_play : ((history : List Update) (receipts : List Receipt) → AllByRecursion (IsAtNumber history) receipts → AreNumbered (length history) receipts → history_of receipts (length history) ≡ history) → ((start : State) (history : List Update) (old new : Current) (receipts : List Receipt) → LeadsTo start history old → Chain PlainStep old receipts new → LeadsTo start (history ++ all_made receipts) new × AllByRecursion (HoldsAlways start (history ++ all_made receipts)) receipts) → {T U : Type 0} (answers_of : T → List Answer) (threads_of : U → List T) (script : ScriptData) (rounds : List U) (updates : ℕ) (end : Current) → AllZip (λ threads round. AllZip (λ events thread. AllZip AnswersEvent events (answers_of thread)) threads (threads_of round)) script.rounds rounds → updates ≡ end.updates → Chain PlainStep (record { state = start_of script; updates = 0 }) (flat_map (λ round. flat_map (λ thread. flat_map (receipts_of script.images) (answers_of thread)) (threads_of round)) rounds) end → IsLawful script (record { rounds = map (λ round. map answers_of (threads_of round)) rounds; updates = updates })
+  pub lawful_play : ((history : List Update) (receipts : List Receipt) → AllByRecursion (IsAtNumber history) receipts → AreNumbered (length history) receipts → history_of receipts (length history) ≡ history) → ((start : State) (history : List Update) (old new : PlainRegistryData) (receipts : List Receipt) → LeadsTo start history old → Chain PlainStep old receipts new → LeadsTo start (history ++ all_made receipts) new × AllByRecursion (HoldsAlways start (history ++ all_made receipts)) receipts) → {T U : Type 0} (answers_of : T → List Answer) (threads_of : U → List T) (script : ScriptData) (rounds : List U) (updates : ℕ) (end : PlainRegistryData) → AllZip (λ threads round. AllZip (λ events thread. AllZip AnswersEvent events (answers_of thread)) threads (threads_of round)) script.rounds rounds → updates ≡ end.updates → Chain PlainStep (record { state = start_of script; updates = 0 }) (flat_map (λ round. flat_map (λ thread. flat_map (receipts_of script.images) (answers_of thread)) (threads_of round)) rounds) end → IsLawfulJournal script (record { rounds = map (λ round. map answers_of (threads_of round)) rounds; updates = updates })
   lawful_play tell hold {T} {U} answers_of threads_of script rounds updates end answered same chain =
       let P : List Receipt → Type 0 = λ receipts. Chain PlainStep (record { state = start_of script; updates = 0 }) receipts end in
       chain_lawful tell hold script (record { rounds = map (λ round. map answers_of (threads_of round)) rounds; updates = updates }) end

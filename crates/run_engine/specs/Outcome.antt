@@ -9,7 +9,7 @@ use Rattle.event_script.specs.JournalData.{JournalData}
 use Rattle.event_script.specs.declared.journal.Answer.{Answer}
 use Rattle.event_script.specs.declared.journal.Answer.TheVariants as answer
 use Rattle.reg_model.specs.declared.answer.Inserted.TheVariants as inserted
-use Rattle.event_script.specs.Lawful.{IsLawful}
+use Rattle.event_script.specs.Lawful.{IsLawfulJournal}
 use Rattle.event_script.specs.Text.{journal_text}
 use Rattle.run_engine.specs.Ports.{Rose, Gains, GainsPart}
 use Rattle.run_engine.specs.declared.status.Status.{Status}
@@ -40,7 +40,7 @@ pub record IsAnswer (input : Option (List ℕ)) (text : List ℕ) : Type 0 where
   pub script : ScriptData
   pub journal : JournalData
   pub spelled : IfSome input (λ bytes. (length bytes ≤ limit) × IsScript bytes script)
-  pub lawful : IsLawful script journal
+  pub lawful : IsLawfulJournal script journal
   pub unfilled : All (All (All IsUnfilled)) journal.rounds
   pub text_is : text ≡ journal_text journal
 

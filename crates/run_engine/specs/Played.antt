@@ -1,6 +1,6 @@
 -- What playing a script gives: few answers, each of which can be written.
 use Rattle.std.specs.Prelude.{ℕ, ◌-◌, ◌^◌, ◌≤◌, List, length, All}
-use Rattle.reg_model.specs.Current.{Current}
+use Rattle.reg_model.specs.PlainRegistryData.{PlainRegistryData}
 use Rattle.event_script.specs.Text.{IsPrintable}
 use Rattle.event_script.specs.declared.journal.Answer.{Answer}
 
@@ -15,5 +15,5 @@ abbrev pub IsPlayed : List (List (List Answer)) → Type 0
 IsPlayed rounds = (length rounds ≤ 64) × All IsPlayedRound rounds
 
 -- how many more updates may be asked of a registry over plain lists
-abbrev pub updates_left : Current → ℕ
+abbrev pub updates_left : PlainRegistryData → ℕ
 updates_left registry = 2 ^ 26 - registry.updates

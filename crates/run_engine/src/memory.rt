@@ -19,9 +19,9 @@ pub struct MemorySource {
 
 impl Model for MemorySource {
     ghost use Rattle.std.specs.Prelude.{◌≤◌, drop, vec_len};
-    ghost use Rattle.run_engine.specs.Devices.{Tape};
+    ghost use Rattle.run_engine.specs.Devices.{MemorySourceData};
 
-    ghost Value = { Tape };
+    ghost Value = { MemorySourceData };
 
     ghost view = { λ s. record { rest = drop s.at s.bytes.items; fails = s.fails.items; calls = s.calls; faults = s.faults } };
 
@@ -153,9 +153,9 @@ pub struct MemorySink {
 }
 
 impl Model for MemorySink {
-    ghost use Rattle.run_engine.specs.Devices.{Pad};
+    ghost use Rattle.run_engine.specs.Devices.{MemorySinkData};
 
-    ghost Value = { Pad };
+    ghost Value = { MemorySinkData };
 
     ghost view = { λ s. record { bytes = s.bytes.items; fails = s.fails.items; calls = s.calls; faults = s.faults } };
 }

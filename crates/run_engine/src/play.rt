@@ -4,7 +4,7 @@ ghost use Rattle.std.specs.Prelude.{◌≡◌, ◌+◌, ◌*◌, ◌<◌, ◌≤
 ghost use Rattle.std.specs.List.{AllZip};
 ghost use Rattle.reg_model.specs.Chain.{Chain, PlainStep};
 ghost use Rattle.event_script.specs.ScriptData.{IsRound};
-ghost use Rattle.event_script.specs.Lawful.{AnswersEvent, image_member, receipts_of, IsLawful};
+ghost use Rattle.event_script.specs.Lawful.{AnswersEvent, image_member, receipts_of, IsLawfulJournal};
 ghost use Rattle.run_engine.specs.Outcome.{IsUnfilled};
 ghost use Rattle.run_engine.specs.Played.{IsPlayedThread, IsPlayed, updates_left};
 
@@ -91,7 +91,7 @@ pub fn play<R: Wait, G: Gate>(
     gate: &G,
     script: &Script,
 ) -> Result<Journal, NoMemory>
-    ensures lawful { IfOk result (λ journal. IsLawful script.now journal) }
+    ensures lawful { IfOk result (λ journal. IsLawfulJournal script.now journal) }
     ensures unfilled { IfOk result (λ journal. All (All (All IsUnfilled)) journal.rounds) }
     ensures played { IfOk result (λ journal. IsPlayed journal.rounds) }
 {

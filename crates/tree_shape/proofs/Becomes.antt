@@ -9,7 +9,7 @@ use Rattle.reg_model.specs.declared.span.Member.{Member}
 use Rattle.reg_model.specs.declared.answer.Update.{Update}
 use Rattle.reg_model.specs.declared.answer.Update.TheVariants.{Register, Deregister, Load, Unload}
 use Rattle.tree_shape.specs.Numbers.{times, is_among}
-use Rattle.tree_shape.specs.Shapes.{entries_of}
+use Rattle.tree_shape.specs.NodeData.{entries_of}
 use Rattle.tree_shape.specs.Trees.{Contents, HasEntry}
 use Rattle.tree_shape.specs.Lawful.{IsTree}
 use Rattle.tree_shape.specs.LocalChange.{IsLocalChange, EntriesBecome, either, live_after}

@@ -13,7 +13,7 @@ use Rattle.reg_model.specs.declared.answer.Update.{Update}
 use Rattle.reg_model.specs.declared.answer.Update.TheVariants.{Register, Deregister, Load, Unload}
 use Rattle.tree_shape.specs.declared.pair.Pair.{Pair}
 use Rattle.tree_shape.specs.declared.limits.TheConstants.{HIGHEST_LEVEL}
-use Rattle.tree_shape.specs.Shapes.{Shape, Body, Pairs, Entries, Link, entries_of, entries_in, pairs_in, EntriesWithin, Cut}
+use Rattle.tree_shape.specs.NodeData.{NodeData, Body, Pairs, Entries, Link, entries_of, entries_in, pairs_in, EntriesWithin, Cut}
 use Rattle.tree_shape.specs.Numbers.{times, is_among}
 use Rattle.tree_shape.specs.Trees.{Contents, Branch, branches, within, leaving, HasEntry}
 use Rattle.tree_shape.specs.Lawful.{IsOrdered, IsOrderedAs, IsFilled, IsFilledAs, FitsParent}
@@ -85,7 +85,7 @@ same_body_decides (Entries entries) (Link other) = (λ e. absurd (cc (e)), λ e.
 same_body_decides (Link next) (Pairs others) = (λ e. absurd (cc (e)), λ e. absurd (cc (e)))
 same_body_decides (Link next) (Entries others) = (λ e. absurd (cc (e)), λ e. absurd (cc (e)))
 
-pub same_shape_decides : (s t : Shape) → Decides (same_shape s t) (s ≡ t)
+pub same_shape_decides : (s t : NodeData) → Decides (same_shape s t) (s ≡ t)
 same_shape_decides s t = Decides-like (same_shape s t)
     (λ (h : (s.level ≡ t.level) × ((s.low ≡ t.low) × ((s.high ≡ t.high) × (s.body ≡ t.body)))).
     λ i. record { level = h.0 i; low = h.1.0 i; high = h.1.1.0 i; body = h.1.1.1 i })
@@ -109,7 +109,7 @@ cut_decides : (low high : ℕ) (pairs : List Pair) → Decides (do_cut low high 
 cut_decides low high [] = Decides-eqb low (high + 1)
 cut_decides low high (p ∷ pairs) = Decides-and (nat_le low p.separator) (do_cut (p.separator + 1) high pairs) (le_decides low p.separator) (cut_decides (p.separator + 1) high pairs)
 
-order_decides : (s : Shape) (b : Body) → Decides (has_order_as s b) (IsOrderedAs s b)
+order_decides : (s : NodeData) (b : Body) → Decides (has_order_as s b) (IsOrderedAs s b)
 order_decides s (Entries entries) = Decides-and (s.level == 0) (lie_within s.low s.high entries) (Decides-eqb s.level 0) (within_decides s.low s.high entries)
 order_decides s (Pairs pairs) = Decides-and (nat_lt 0 s.level) (do_cut s.low s.high pairs) (Decides-ltb 0 s.level) (cut_decides s.low s.high pairs)
 order_decides s (Link next) = (λ e. absurd (cc (e)), λ h. absurd h)
@@ -136,7 +136,7 @@ children_decide : (g : Contents) (set : ℕ → Bool) (n : ℕ) →
 children_decide g set n = all_decides (λ b. not (set b.child) || fits_parent g b) (λ b. IsTrue (set b.child) → FitsParent g b)
     (λ b. implies_decides (set b.child) (fits_parent g b) (FitsParent g b) (fits_decides g b)) (branches ((g n).level - 1) (g n))
 
-level_decides : (top : ℕ) (s t : Shape) →
+level_decides : (top : ℕ) (s t : NodeData) →
     Decides (keeps_level top s t) ((top ≢ 0 → t.level ≡ s.level) × (top ≡ 0 → t.level ≤ HIGHEST_LEVEL))
 level_decides top s t = elim (cases_eq top 0) [
   | inl e ↦

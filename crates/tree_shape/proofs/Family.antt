@@ -10,7 +10,7 @@ use Rattle.std.proofs.lemmas.List.{append-nil}
 use Rattle.reg_model.specs.declared.span.Member.{Member}
 use Rattle.tree_shape.specs.declared.pair.Pair.{Pair}
 use Rattle.tree_shape.specs.Numbers.{times, once, is_among}
-use Rattle.tree_shape.specs.Shapes.{entries_of, pairs_of}
+use Rattle.tree_shape.specs.NodeData.{entries_of, pairs_of}
 use Rattle.tree_shape.specs.Trees.{Contents, Branch, branches_from, branches, nodes, within}
 use Rattle.tree_shape.specs.Trees.{leaving, HasEntry}
 use Rattle.tree_shape.specs.Lawful.{IsTree, IsOrdered, FitsParent}

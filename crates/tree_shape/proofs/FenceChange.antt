@@ -9,7 +9,7 @@ use Rattle.std.proofs.lemmas.List.{append-nil}
 use Rattle.std.proofs.lemmas.List.Concat.{flat_map-append}
 use Rattle.tree_shape.specs.declared.pair.Pair.{Pair}
 use Rattle.tree_shape.specs.Numbers.{times, once, is_among}
-use Rattle.tree_shape.specs.Changes.{up_to, begins_after}
+use Rattle.tree_shape.specs.Changes.{ends_at_fence, begins_after}
 use Rattle.tree_shape.specs.Trees.{Contents, Branch, branches_from, branches, nodes_under, within}
 use Rattle.tree_shape.specs.Trees.{leaving}
 use Rattle.tree_shape.specs.Lawful.{IsLawfulTree, IsOrdered, IsFilled, FitsParent}
@@ -104,7 +104,7 @@ module _ (f : Contents) (live : ℕ → Bool) (lawful : IsLawfulTree f live) (n 
       let there' : 0 < times x left = subst (λ l. 0 < times x (last_spine f l p.child))
       (sym left_level) there in (
         among nodes_of x (omega (arith, count x)),
-        all_times (λ y. g y ≡ up_to fence (f y)) left x
+        all_times (λ y. g y ≡ ends_at_fence fence (f y)) left x
             move.left there',
       ))
       (λ x there none. none_changed x (omega (arith, parts x))

@@ -8,9 +8,9 @@ use Rattle.std.proofs.lemmas.List.{length-append, length-map}
 use Rattle.std.proofs.lemmas.List.Concat.{flat_map-append}
 use Rattle.tree_shape.specs.declared.pair.Pair.{Pair}
 use Rattle.tree_shape.specs.Numbers.{times, once}
-use Rattle.tree_shape.specs.Shapes.{Shape, Body, Pairs, Entries, Link, entries_of, entries_in}
-use Rattle.tree_shape.specs.Shapes.{pairs_of, Cut}
-use Rattle.tree_shape.specs.Changes.{at_slot, separate_at, ends_at, up_to, begins_after}
+use Rattle.tree_shape.specs.NodeData.{NodeData, Body, Pairs, Entries, Link, entries_of, entries_in}
+use Rattle.tree_shape.specs.NodeData.{pairs_of, Cut}
+use Rattle.tree_shape.specs.Changes.{at_slot, separate_at, ends_at, ends_at_fence, begins_after}
 use Rattle.tree_shape.specs.Trees.{Contents, Branch, branch, branches_from, branches, nodes_under}
 use Rattle.tree_shape.specs.Trees.{nodes}
 use Rattle.tree_shape.specs.Trees.{within}
@@ -42,16 +42,16 @@ raised_numbers fence (p ∷ []) = refl
 raised_numbers fence (p ∷ q ∷ pairs) = ap (λ l. p.child ∷ l) (raised_numbers fence (q ∷ pairs))
 
 -- A shape that is as another but for its fences and separators.
-pub record Alike (s t : Shape) : Type 0 where
+pub record Alike (s t : NodeData) : Type 0 where
   pub level : t.level ≡ s.level
   pub numbers : map (λ (p : Pair). p.child) (pairs_of t) ≡ map (λ (p : Pair). p.child) (pairs_of s)
   pub members : entries_of t ≡ entries_of s
   pub filled : (n : ℕ) → IsFilled n s → IsFilled n t
 
-alike_raised : (s : Shape) (fence : ℕ) → Alike s (up_to fence s)
+alike_raised : (s : NodeData) (fence : ℕ) → Alike s (ends_at_fence fence s)
 alike_raised s fence = by_body s.body
   where
-    by_body : (b : Body) → Alike (record s { body = b }) (up_to fence (record s { body = b }))
+    by_body : (b : Body) → Alike (record s { body = b }) (ends_at_fence fence (record s { body = b }))
     by_body (Pairs pairs) =
         let len : length (ends_at fence pairs) ≡ length pairs = lengths (ends_at fence pairs) pairs (raised_numbers fence pairs) in
         record { level = refl; numbers = raised_numbers fence pairs; members = refl; filled = λ n filled. (omega (arith, filled.0), omega (arith, filled.1)) }
@@ -61,10 +61,10 @@ alike_raised s fence = by_body s.body
     by_body (Entries es) = record { level = refl; numbers = refl; members = refl; filled = λ n filled. filled }
     by_body (Link next) = record { level = refl; numbers = refl; members = refl; filled = λ n filled. filled }
 
-alike_after : (s : Shape) (fence : ℕ) → Alike s (begins_after fence s)
+alike_after : (s : NodeData) (fence : ℕ) → Alike s (begins_after fence s)
 alike_after s fence = record { level = refl; numbers = refl; members = refl; filled = λ n filled. filled }
 
-alike_same : (s : Shape) → Alike s s
+alike_same : (s : NodeData) → Alike s s
 alike_same s = record { level = refl; numbers = refl; members = refl; filled = λ n filled. filled }
 
 -- below contents that are alike stand the same nodes
@@ -185,7 +185,7 @@ module _ (f : Contents) (live : ℕ → Bool) (lawful : IsLawfulTree f live) (n 
 
   left_now : Stands g level p.child (f p.child).low fence
   left_now = left_stands f g fence level p.child (f p.child).low (f p.child).high left_before move.raised
-      (λ x there. all_times (λ y. g y ≡ up_to fence (f y)) left_spine x move.left (subst (λ l. 0 < times x (last_spine f l p.child)) (sym left_level) there))
+      (λ x there. all_times (λ y. g y ≡ ends_at_fence fence (f y)) left_spine x move.left (subst (λ l. 0 < times x (last_spine f l p.child)) (sym left_level) there))
       (λ x there none. move.others x (not_parent x (omega arith))
       (subst (λ l. times x (last_spine f l p.child) ≡ 0) (sym left_level) none)
       (omega (arith, parts x, right_in x)))
@@ -293,7 +293,7 @@ module _ (f : Contents) (live : ℕ → Bool) (lawful : IsLawfulTree f live) (n 
   alike x = elim (cases_eq x n) [
     | inl e ↦ subst (λ y. Alike (f y) (g y)) (sym e) (subst (Alike (f n)) (sym move.above) separated)
     | inr other ↦ elim (cases_eq (times x left_spine) 0) [
-      | inr some ↦ subst (Alike (f x)) (sym (all_times (λ y. g y ≡ up_to fence (f y)) left_spine x move.left (omega arith))) (alike_raised (f x) fence)
+      | inr some ↦ subst (Alike (f x)) (sym (all_times (λ y. g y ≡ ends_at_fence fence (f y)) left_spine x move.left (omega arith))) (alike_raised (f x) fence)
       | inl not_left ↦ elim (cases_eq (times x right_spine) 0) [
         | inr some ↦ subst (Alike (f x))
             (sym (all_times (λ y. g y ≡ begins_after fence (f y)) right_spine x move.right

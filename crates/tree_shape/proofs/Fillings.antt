@@ -8,8 +8,8 @@ use Rattle.std.proofs.lemmas.List.Concat.{flat_map-append}
 use Rattle.std.proofs.Math.Nat.{mul-le-mul_right, pow-suc}
 use Rattle.tree_shape.specs.declared.pair.Pair.{Pair}
 use Rattle.tree_shape.specs.Numbers.{times}
-use Rattle.tree_shape.specs.Shapes.{Shape, Body, Pairs, Entries, Link, entries_of, entries_in}
-use Rattle.tree_shape.specs.Shapes.{pairs_of, pairs_in}
+use Rattle.tree_shape.specs.NodeData.{NodeData, Body, Pairs, Entries, Link, entries_of, entries_in}
+use Rattle.tree_shape.specs.NodeData.{pairs_of, pairs_in}
 use Rattle.tree_shape.specs.Trees.{Contents, Branch, branches_from, branches, nodes_under}
 use Rattle.tree_shape.specs.Trees.{nodes}
 use Rattle.tree_shape.specs.Trees.{entries}
@@ -30,13 +30,13 @@ branch_count : (level low : ℕ) (pairs : List Pair) →
 branch_count level low [] = refl
 branch_count level low (p ∷ pairs) = ap suc (branch_count level (p.separator + 1) pairs)
 
-leaf_entries : (n : ℕ) (s : Shape) (b : Body) → IsOrderedAs s b → IsFilledAs n b → s.level ≡ 0 →
+leaf_entries : (n : ℕ) (s : NodeData) (b : Body) → IsOrderedAs s b → IsFilledAs n b → s.level ≡ 0 →
     fewest_entries n ≤ length (entries_in b)
 leaf_entries n s (Pairs pairs) ordered filled at = absurd (omega arith)
 leaf_entries n s (Entries es) ordered filled at = filled.0
 leaf_entries n s (Link next) ordered filled at = absurd ordered
 
-inner_pairs : (n : ℕ) (s : Shape) (b : Body) → IsOrderedAs s b → IsFilledAs n b → 0 < s.level →
+inner_pairs : (n : ℕ) (s : NodeData) (b : Body) → IsOrderedAs s b → IsFilledAs n b → 0 < s.level →
     fewest_pairs n ≤ length (pairs_in b)
 inner_pairs n s (Pairs pairs) ordered filled above = filled.0
 inner_pairs n s (Entries es) ordered filled above = absurd (omega arith)

@@ -4,7 +4,7 @@ use Rattle.std.proofs.Common.{◌∙◌, subst, arith, true, false, cond, eqb, i
 use Rattle.std.proofs.lemmas.Bool.{cases_eq, ne_eqb, lt-ltb, le-ltb, both_ways}
 use Rattle.std.proofs.lemmas.List.{length-take-le, length-drop, length-append}
 use Rattle.tree_shape.specs.Numbers.{times, is_among}
-use Rattle.tree_shape.specs.Shapes.{Shape, Body, Pairs, Entries, Link, pairs_in}
+use Rattle.tree_shape.specs.NodeData.{NodeData, Body, Pairs, Entries, Link, pairs_in}
 use Rattle.tree_shape.specs.Changes.{first_half, last_half, both, first_part, last_part, size}
 use Rattle.tree_shape.specs.Changes.{FitAs, OverfillAs}
 use Rattle.tree_shape.specs.Lawful.{IsFilled, IsFilledAs, fewest_pairs, fewest_entries}
@@ -36,7 +36,7 @@ full_middle (Entries entries) full = (omega arith, omega arith)
 full_middle (Link next) full = absurd full
 
 -- the halves of a node are filled where they hold enough and not too much
-pub halves_filled : (c r : ℕ) (s : Shape) → c ≢ 0 → r ≢ 0 → IsFull s.body → IsFilled c (first_half (middle s.body) s) × IsFilled r (last_half (middle s.body) s)
+pub halves_filled : (c r : ℕ) (s : NodeData) → c ≢ 0 → r ≢ 0 → IsFull s.body → IsFilled c (first_half (middle s.body) s) × IsFilled r (last_half (middle s.body) s)
 halves_filled c r s c_below r_below full = halves s.body full
   where
     halves : (b : Body) → IsFull b → IsFilledAs c (first_part (middle b) b) × IsFilledAs r (last_part (middle b) b)

@@ -10,7 +10,7 @@ use Rattle.std.proofs.lemmas.List.{append-nil, length-append, map-append}
 use Rattle.std.proofs.Math.Numerals.{add-one}
 use Rattle.tree_shape.specs.declared.pair.Pair.{Pair}
 use Rattle.tree_shape.specs.Numbers.{times, once, is_among}
-use Rattle.tree_shape.specs.Shapes.{Shape, entries_of, pairs_of, Cut}
+use Rattle.tree_shape.specs.NodeData.{NodeData, entries_of, pairs_of, Cut}
 use Rattle.tree_shape.specs.Changes.{first_half, joined, at_slot, swallow_next, separate_at}
 use Rattle.tree_shape.specs.Changes.{first_part, body_end, size}
 use Rattle.tree_shape.specs.Trees.{Contents, Branch, branch, branches_from, branches, nodes}
@@ -239,7 +239,7 @@ join_keeps f live lawful n slot p q g join =
     (λ x not_group not_fresh. without_other live q.child x
     (not_one group x q.child not_group (third n p.child q.child [])))
 
-share_exits : (f g : Contents) (level c d : ℕ) (s : Shape) → JoinsTo (f c) (f d) s → CutsTo s (g c) (g d) →
+share_exits : (f g : Contents) (level c d : ℕ) (s : NodeData) → JoinsTo (f c) (f d) s → CutsTo s (g c) (g d) →
     exits_of g level c ++ (exits_of g level d ++ []) ≡ exits_of f level c ++ (exits_of f level d ++ [])
 share_exits f g zero c d s join cut = refl
 share_exits f g (suc level) c d s join cut =

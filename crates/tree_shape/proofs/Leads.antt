@@ -6,8 +6,8 @@ use Rattle.std.proofs.lemmas.Bool.{cases_lt, cond-true, cond-false, le-leb, lt-l
 use Rattle.reg_model.specs.declared.span.Member.{Member}
 use Rattle.tree_shape.specs.declared.pair.Pair.{Pair}
 use Rattle.tree_shape.specs.Numbers.{times}
-use Rattle.tree_shape.specs.Shapes.{Shape, Body, Pairs, Entries, Link, pairs_of, pairs_in}
-use Rattle.tree_shape.specs.Shapes.{entries_of, entries_in, EntriesWithin, Cut}
+use Rattle.tree_shape.specs.NodeData.{NodeData, Body, Pairs, Entries, Link, pairs_of, pairs_in}
+use Rattle.tree_shape.specs.NodeData.{entries_of, entries_in, EntriesWithin, Cut}
 use Rattle.tree_shape.specs.Trees.{Contents, Branch, branch, branches_from, branches, nodes_under}
 use Rattle.tree_shape.specs.Trees.{child_for, leaf_under}
 use Rattle.tree_shape.specs.Lawful.{IsTree, IsOrderedAs}
@@ -97,17 +97,17 @@ some_branch pc level low high (p ∷ pairs) cut above below = elim (cases_lt p.s
 ]
 
 -- what an ordered node says by its level
-pub leaf_says : (s : Shape) (b : Body) → IsOrderedAs s b → (m : Member) → In m (entries_in b) → (s.level ≡ 0) × EntriesWithin s.low s.high (entries_in b)
+pub leaf_says : (s : NodeData) (b : Body) → IsOrderedAs s b → (m : Member) → In m (entries_in b) → (s.level ≡ 0) × EntriesWithin s.low s.high (entries_in b)
 leaf_says s (Pairs pairs) ordered m there = absurd there
 leaf_says s (Entries entries) ordered m there = ordered
 leaf_says s (Link next) ordered m there = absurd there
 
-pub leaf_at_zero : (s : Shape) (b : Body) → IsOrderedAs s b → s.level ≡ 0 → EntriesWithin s.low s.high (entries_in b)
+pub leaf_at_zero : (s : NodeData) (b : Body) → IsOrderedAs s b → s.level ≡ 0 → EntriesWithin s.low s.high (entries_in b)
 leaf_at_zero s (Pairs pairs) ordered level = absurd (omega arith)
 leaf_at_zero s (Entries entries) ordered level = ordered.1
 leaf_at_zero s (Link next) ordered level = absurd ordered
 
-pub inner_above : (s : Shape) (b : Body) → IsOrderedAs s b → 0 < s.level → Cut s.low s.high (pairs_in b)
+pub inner_above : (s : NodeData) (b : Body) → IsOrderedAs s b → 0 < s.level → Cut s.low s.high (pairs_in b)
 inner_above s (Pairs pairs) ordered level = ordered.1
 inner_above s (Entries entries) ordered level = absurd (omega arith)
 inner_above s (Link next) ordered level = absurd ordered

@@ -10,12 +10,12 @@ use Rattle.std.proofs.lemmas.List.Elements.{recursion_from_All}
 use Rattle.reg_model.specs.declared.span.Member.{Member}
 use Rattle.reg_model.specs.declared.answer.Update.{Update}
 use Rattle.reg_model.specs.declared.answer.Update.TheVariants.{Register, Deregister}
-use Rattle.reg_model.specs.Interval.{Overlaps}
+use Rattle.reg_model.specs.SpanData.{Overlaps}
 use Rattle.reg_model.specs.State.{at_base}
 use Rattle.reg_model.specs.History.{without}
 use Rattle.reg_model.proofs.Spans.{contains_from}
 use Rattle.tree_shape.specs.Numbers.{times, is_among}
-use Rattle.tree_shape.specs.Shapes.{Shape, Entries, entries_of, EntriesWithin, IsLeaf}
+use Rattle.tree_shape.specs.NodeData.{NodeData, Entries, entries_of, EntriesWithin, IsLeaf}
 use Rattle.tree_shape.specs.Changes.{with_entry}
 use Rattle.tree_shape.specs.Trees.{Contents, branches, within, leaving, HasEntry}
 use Rattle.tree_shape.specs.Lawful.{IsTree, IsLawfulTree, IsOrdered, IsOrderedAs, IsFilled}
@@ -50,10 +50,10 @@ record Rewrites (f : Contents) (live : ℕ → Bool) (n : ℕ) (entries : List M
   others : (x : ℕ) → x ≢ n → g x ≡ f x
   within : EntriesWithin (f n).low (f n).high entries
 
-leaf_ordered : (s : Shape) → IsLeaf s → IsOrdered s → (s.level ≡ 0) × EntriesWithin s.low s.high (entries_of s)
+leaf_ordered : (s : NodeData) → IsLeaf s → IsOrdered s → (s.level ≡ 0) × EntriesWithin s.low s.high (entries_of s)
 leaf_ordered s leaf ordered = subst (λ b. IsOrderedAs s b) leaf ordered
 
-leaf_filled : (n : ℕ) (s : Shape) → IsLeaf s → IsFilled n s → (fewest_entries n ≤ length (entries_of s)) × (length (entries_of s) ≤ 10)
+leaf_filled : (n : ℕ) (s : NodeData) → IsLeaf s → IsFilled n s → (fewest_entries n ≤ length (entries_of s)) × (length (entries_of s) ≤ 10)
 leaf_filled n s leaf filled = subst (λ b. IsFilledAs n b) leaf filled
 
 module _ (f : Contents) (live : ℕ → Bool) (tree : IsTree f live) (n : ℕ) (entries : List Member) (g : Contents) (r : Rewrites f live n entries g) where

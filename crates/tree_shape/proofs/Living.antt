@@ -7,7 +7,7 @@ use Rattle.std.proofs.lemmas.Bool.{cases_eq, cases_Bool}
 use Rattle.std.proofs.lemmas.List.Concat.{flat_map-append}
 use Rattle.tree_shape.specs.declared.pair.Pair.{Pair}
 use Rattle.tree_shape.specs.Numbers.{times, once}
-use Rattle.tree_shape.specs.Shapes.{Shape, Body, Pairs, Entries, Link, pairs_of, pairs_in}
+use Rattle.tree_shape.specs.NodeData.{NodeData, Body, Pairs, Entries, Link, pairs_of, pairs_in}
 use Rattle.tree_shape.specs.Trees.{Contents, Branch, branch, branches_from, branches, nodes_under}
 use Rattle.tree_shape.specs.Trees.{nodes, within, leaving}
 use Rattle.tree_shape.specs.Lawful.{IsTree, IsOrdered, IsOrderedAs, FitsParent}
@@ -26,12 +26,12 @@ abbrev pub own_branches : Contents → ℕ → List Branch
 own_branches f n = branches ((f n).level - 1) (f n)
 
 -- a node of level 0 has no pairs, and one without pairs has level 0
-pub leaf_has_none : (s : Shape) (b : Body) → IsOrderedAs s b → s.level ≡ 0 → pairs_in b ≡ []
+pub leaf_has_none : (s : NodeData) (b : Body) → IsOrderedAs s b → s.level ≡ 0 → pairs_in b ≡ []
 leaf_has_none s (Pairs pairs) ordered level = absurd (omega arith)
 leaf_has_none s (Entries entries) ordered level = refl
 leaf_has_none s (Link next) ordered level = refl
 
-pub no_branches : (s : Shape) (k : ℕ) (b : Branch) → IsOrdered s → s.level ≡ 0 → In b (branches k s) → ⊥
+pub no_branches : (s : NodeData) (k : ℕ) (b : Branch) → IsOrdered s → s.level ≡ 0 → In b (branches k s) → ⊥
 no_branches s k b ordered level there =
     let none : pairs_of s ≡ [] = leaf_has_none s s.body ordered level in
     subst (λ pairs. In b (branches_from k s.low pairs)) none there

@@ -9,7 +9,7 @@ use Rattle.std.proofs.lemmas.Bool.{or_left, or_cases, lt-ltb, ltb-true, not_from
 use Rattle.std.proofs.lemmas.Bool.{not_from_false, both_ways}
 use Rattle.reg_model.specs.declared.span.Member.{Member}
 use Rattle.tree_shape.specs.Numbers.{times, once, is_among}
-use Rattle.tree_shape.specs.Shapes.{entries_of}
+use Rattle.tree_shape.specs.NodeData.{entries_of}
 use Rattle.tree_shape.specs.Trees.{Contents, Branch, branches, nodes_under, nodes, within, leaving}
 use Rattle.tree_shape.specs.Trees.{HasEntry}
 use Rattle.tree_shape.specs.Lawful.{IsTree, IsOrdered, IsFilled, FitsParent}

@@ -7,12 +7,12 @@ use Rattle.std.proofs.lemmas.List.{take-append-le}
 use Rattle.std.proofs.lemmas.Bool.{cases_lt}
 use Rattle.std.specs.List.{slice_get}
 use Rattle.std.proofs.lemmas.List.{get_or-take, get_or_default, length-take-le}
-use Rattle.reg_model.specs.Interval.{Interval, Overlaps}
+use Rattle.reg_model.specs.SpanData.{SpanData, Overlaps}
 use Rattle.reg_model.specs.State.{IsFree, IsLowestOverlap}
 use Rattle.reg_model.specs.declared.span.Member.{Member}
 use Rattle.tree_shape.specs.declared.pair.Pair.{Pair}
-use Rattle.tree_shape.specs.Shapes.{Shape, Entries, Pairs, entries_of, pairs_of, pairs_in, Body}
-use Rattle.tree_shape.specs.Shapes.{Link, IsLeaf, IsInner, InOrder, InOrderAs, EntriesWithin, Cut}
+use Rattle.tree_shape.specs.NodeData.{NodeData, Entries, Pairs, entries_of, pairs_of, pairs_in, Body}
+use Rattle.tree_shape.specs.NodeData.{Link, IsLeaf, IsInner, InOrder, InOrderAs, EntriesWithin, Cut}
 use Rattle.tree_shape.specs.Changes.{entries_end, pairs_end, ends_at, ends_at_as, Overfill}
 use Rattle.tree_shape.specs.Changes.{OverfillAs}
 use Rattle.tree_shape.specs.Nodes.{body_of}
@@ -21,10 +21,10 @@ use Rattle.tree_shape.specs.declared.node.Content.TheVariants.{Inner, Leaf, Free
 use Rattle.tree_shape.proofs.Slots.{entries_end-take, pairs_end-take, pairs_end-below, some_left}
 
 -- the order of a leaf, and of an inner node
-pub leaf_order : (s : Shape) → IsLeaf s → InOrder s → EntriesWithin s.low s.high (entries_of s)
+pub leaf_order : (s : NodeData) → IsLeaf s → InOrder s → EntriesWithin s.low s.high (entries_of s)
 leaf_order s leaf order = subst (λ b. InOrderAs s b) leaf order
 
-pub inner_order : (s : Shape) → IsInner s → InOrder s → Cut 0 s.high (pairs_of s)
+pub inner_order : (s : NodeData) → IsInner s → InOrder s → Cut 0 s.high (pairs_of s)
 inner_order s inner order = subst (λ b. InOrderAs s b) inner order
 
 -- where the first entries or pairs of a list end
@@ -93,7 +93,7 @@ begin_in_order low high (m ∷ entries) (suc i) (suc k) d within order inside =
     (omega arith)
 
 -- the first entry that overlaps begins lowest of those that do
-pub first_is_lowest : (low high : ℕ) (entries : List Member) (span : Interval) (i : ℕ) (m : Member) → EntriesWithin low high entries → i < length entries →
+pub first_is_lowest : (low high : ℕ) (entries : List Member) (span : SpanData) (i : ℕ) (m : Member) → EntriesWithin low high entries → i < length entries →
     m ≡ get_or entries i m → IsFree span (take i entries) → Overlaps m.span span → IsLowestOverlap span entries m
 first_is_lowest low high entries span i m within inside is free overlaps = record {
   listed = (i, inside, sym is);
@@ -124,7 +124,7 @@ inner_bodies (Inner n ps) (Link next) no_leaf over = absurd over
 inner_bodies (Free next) b no_leaf over = absurd over
 
 -- two nodes that overfill one, where the left one is no leaf
-pub inner_shares : (content : Content) (s r : Shape) → body_of content ≡ s.body → ((n : ℕ) (es : List Member) → content ≡ Leaf n es → ⊥) → Overfill s r →
+pub inner_shares : (content : Content) (s r : NodeData) → body_of content ≡ s.body → ((n : ℕ) (es : List Member) → content ≡ Leaf n es → ⊥) → Overfill s r →
     (15 < length (pairs_of s) + length (pairs_of r)) × IsInner s × IsInner r
 inner_shares content s r is no_leaf over =
     subst (λ b. OverfillAs b r.body → (15 < length (pairs_in b) + length (pairs_of r)) × (b ≡ Pairs (pairs_in b)) × IsInner r) is (inner_bodies content r.body no_leaf) over

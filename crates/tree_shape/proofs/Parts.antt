@@ -8,7 +8,7 @@ use Rattle.reg_model.specs.declared.span.Member.{Member}
 use Rattle.reg_model.specs.State.{at_base}
 use Rattle.reg_model.specs.History.{without}
 use Rattle.tree_shape.specs.declared.pair.Pair.{Pair}
-use Rattle.tree_shape.specs.Shapes.{EntriesWithin, place_for}
+use Rattle.tree_shape.specs.NodeData.{EntriesWithin, place_for}
 use Rattle.tree_shape.specs.Changes.{at_slot, divide, swallow_next, separate_at, with_entry}
 use Rattle.tree_shape.specs.Changes.{ends_at}
 use Rattle.tree_shape.proofs.Slots.{at_slot-parts, ends_at-parts, with_entry-parts, at_place}

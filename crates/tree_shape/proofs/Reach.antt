@@ -7,7 +7,7 @@ use Rattle.std.proofs.lemmas.Bool.{cases_eq}
 use Rattle.std.proofs.lemmas.List.Concat.{flat_map-append}
 use Rattle.tree_shape.specs.declared.pair.Pair.{Pair}
 use Rattle.tree_shape.specs.Numbers.{times}
-use Rattle.tree_shape.specs.Shapes.{pairs_of}
+use Rattle.tree_shape.specs.NodeData.{pairs_of}
 use Rattle.tree_shape.specs.Trees.{Contents, Branch, branch, branches_from, branches, nodes_under}
 use Rattle.tree_shape.specs.Trees.{within, leaving}
 use Rattle.tree_shape.proofs.Times.{In, times-append, times_head, times_cases, times_flat_map}

@@ -10,7 +10,7 @@ use Rattle.std.proofs.Math.Numerals.{add-one}
 use Rattle.reg_model.specs.declared.span.Member.{Member}
 use Rattle.tree_shape.specs.declared.pair.Pair.{Pair}
 use Rattle.tree_shape.specs.Numbers.{times, is_among}
-use Rattle.tree_shape.specs.Shapes.{Shape, Pairs, entries_of, pairs_of}
+use Rattle.tree_shape.specs.NodeData.{NodeData, Pairs, entries_of, pairs_of}
 use Rattle.tree_shape.specs.Changes.{first_half, last_half, first_part, body_end, at_slot, divide}
 use Rattle.tree_shape.specs.Trees.{Contents, Branch, branch, branches, within, leaving, HasEntry}
 use Rattle.tree_shape.specs.Lawful.{IsLawfulTree, IsOrdered, IsFilled, FitsParent}
@@ -311,7 +311,7 @@ module _ (f : Contents) (live : ℕ → Bool) (lawful : IsLawfulTree f live) (a 
       ∙ with_other live a x (not_one (a ∷ r ∷ []) x a not_fresh (times_head a (r ∷ []))))
 
 -- A lift and the split that follows it are such a step.
-abbrev divided_root : ℕ → Shape → Shape → Shape
+abbrev divided_root : ℕ → NodeData → NodeData → NodeData
 divided_root r s c =
     record s {
       body =
@@ -325,7 +325,7 @@ lift_split f live a h lift p r g split =
     let s = f 0 in
     let pair : Pair = record { child = a; separator = s.high } in
     let is : pair ≡ p =
-    some_same pair p (subst (λ (t : Shape). slice_get (pairs_of t) 0 ≡ Some p) lift.root
+    some_same pair p (subst (λ (t : NodeData). slice_get (pairs_of t) 0 ≡ Some p) lift.root
     split.at) in
     let child : p.child ≡ a = ap (λ (x : Pair). x.child) (sym is) in
     let moved : h p.child ≡ f 0 = ap h child ∙ lift.moved in
@@ -339,9 +339,9 @@ lift_split f live a h lift p r g split =
       different = other;
       root = split.above ∙ ap (λ c. divided_root r (h 0) c) moved
           ∙ ap (λ t. divided_root r t (f 0)) lift.root;
-      first = sym (ap g child) ∙ split.left ∙ ap (λ (c : Shape). first_half (middle c.body) c)
+      first = sym (ap g child) ∙ split.left ∙ ap (λ (c : NodeData). first_half (middle c.body) c)
           moved;
-      last = split.right ∙ ap (λ (c : Shape). last_half (middle c.body) c) moved;
+      last = split.right ∙ ap (λ (c : NodeData). last_half (middle c.body) c) moved;
       others = λ n not_root not_a not_r. split.others n not_root (λ e. not_a (e ∙ child)) not_r
           ∙ lift.others n not_root not_a;
     }

@@ -12,7 +12,7 @@ use Rattle.std.proofs.Math.Numerals.{add-one}
 use Rattle.reg_model.specs.declared.span.Member.{Member}
 use Rattle.tree_shape.specs.declared.pair.Pair.{Pair}
 use Rattle.tree_shape.specs.Numbers.{times, is_among}
-use Rattle.tree_shape.specs.Shapes.{Body, Pairs, Entries, Link, entries_of, pairs_of, Cut}
+use Rattle.tree_shape.specs.NodeData.{Body, Pairs, Entries, Link, entries_of, pairs_of, Cut}
 use Rattle.tree_shape.specs.Changes.{joined, both, FitAs}
 use Rattle.tree_shape.specs.Trees.{Contents, Branch, branch, branches, within, leaving, HasEntry}
 use Rattle.tree_shape.specs.Lawful.{IsLawfulTree, IsOrdered, IsFilled, IsFilledAs, FitsParent}

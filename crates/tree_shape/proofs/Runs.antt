@@ -4,8 +4,8 @@ use Rattle.std.proofs.Common.{refl, ap, sym, ◌∙◌, subst, arith}
 use Rattle.std.proofs.lemmas.List.{take-append-drop, length-take-le, length-drop, length-append}
 use Rattle.reg_model.specs.declared.span.Member.{Member}
 use Rattle.tree_shape.specs.declared.pair.Pair.{Pair}
-use Rattle.tree_shape.specs.Shapes.{Shape, Body, Pairs, Entries, Link, entries_of, EntriesWithin}
-use Rattle.tree_shape.specs.Shapes.{Cut}
+use Rattle.tree_shape.specs.NodeData.{NodeData, Body, Pairs, Entries, Link, entries_of, EntriesWithin}
+use Rattle.tree_shape.specs.NodeData.{Cut}
 use Rattle.tree_shape.specs.Changes.{entries_end, pairs_end, first_half, last_half, joined, size}
 use Rattle.tree_shape.specs.Trees.{branch, branches_from, branches}
 use Rattle.tree_shape.specs.Lawful.{IsOrdered, IsOrderedAs}
@@ -72,7 +72,7 @@ entries_join low high e (m ∷ xs) ys first last order below =
     ((first.0.0, first.0.1, rest.0), (omega arith, rest.1))
 
 -- A node that is cut in two: both parts are in order, and bring the same children and entries.
-pub record CutsTo (s first last : Shape) : Type 0 where
+pub record CutsTo (s first last : NodeData) : Type 0 where
   pub low : first.low ≡ s.low
   pub fence : first.high + 1 ≡ last.low
   pub high : last.high ≡ s.high
@@ -85,7 +85,7 @@ pub record CutsTo (s first last : Shape) : Type 0 where
   pub children : (level : ℕ) → branches level first ++ branches level last ≡ branches level s
   pub members : entries_of first ++ entries_of last ≡ entries_of s
 
-pub cuts : (n level low high : ℕ) (b : Body) → let s : Shape = record { level = level; low = low; high = high; body = b } in
+pub cuts : (n level low high : ℕ) (b : Body) → let s : NodeData = record { level = level; low = low; high = high; body = b } in
     IsOrderedAs s b → 0 < n → n < size b → CutsTo s (first_half n s) (last_half n s)
 cuts n level low high (Pairs pairs) ordered some inside =
     let whole = take-append-drop n pairs in
@@ -133,15 +133,15 @@ SameKind (Pairs left) (Pairs right) = Unit {0}
 SameKind (Entries left) (Entries right) = Unit {0}
 SameKind _ _ = ⊥
 
-pub record JoinsTo (left right s : Shape) : Type 0 where
+pub record JoinsTo (left right s : NodeData) : Type 0 where
   pub ordered : IsOrdered s
   pub children : (level : ℕ) → branches level left ++ branches level right ≡ branches level s
   pub members : entries_of left ++ entries_of right ≡ entries_of s
   pub sizes : size left.body + size right.body ≡ size s.body
 
 pub joins : (level low high : ℕ) (b : Body) (level' low' high' : ℕ) (c : Body) →
-    let l : Shape = record { level = level; low = low; high = high; body = b } in
-    let r : Shape = record { level = level'; low = low'; high = high'; body = c } in
+    let l : NodeData = record { level = level; low = low; high = high; body = b } in
+    let r : NodeData = record { level = level'; low = low'; high = high'; body = c } in
     IsOrderedAs l b → IsOrderedAs r c → SameKind b c → low' ≡ high + 1 → low ≤ high + 1 → high ≤ high' → JoinsTo l r (joined l r)
 joins level low high (Pairs left) level' low' high' (Pairs right) first last kind fence order below = record {
   ordered = (first.0, cut_join low high' high left right first.1 (subst (λ l. Cut l high' right) fence last.1));

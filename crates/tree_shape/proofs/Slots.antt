@@ -11,7 +11,7 @@ use Rattle.reg_model.specs.declared.span.Member.{Member}
 use Rattle.reg_model.specs.State.{at_base}
 use Rattle.reg_model.specs.History.{without}
 use Rattle.tree_shape.specs.declared.pair.Pair.{Pair}
-use Rattle.tree_shape.specs.Shapes.{EntriesWithin, Cut, slot_for, place_for}
+use Rattle.tree_shape.specs.NodeData.{EntriesWithin, Cut, slot_for, place_for}
 use Rattle.tree_shape.specs.Changes.{at_slot, ends_at, with_entry, entries_end, pairs_end}
 
 -- the slot of an address inside the fences is a slot of the node

@@ -6,8 +6,8 @@ use Rattle.std.specs.Prelude.{None}
 use Rattle.std.proofs.lemmas.List.{length-append}
 use Rattle.tree_shape.specs.declared.pair.Pair.{Pair}
 use Rattle.tree_shape.specs.Numbers.{times, is_among}
-use Rattle.tree_shape.specs.Shapes.{Shape, Body, Pairs, Entries, Link, entries_of, pairs_of}
-use Rattle.tree_shape.specs.Shapes.{pairs_in, Cut}
+use Rattle.tree_shape.specs.NodeData.{NodeData, Body, Pairs, Entries, Link, entries_of, pairs_of}
+use Rattle.tree_shape.specs.NodeData.{pairs_in, Cut}
 use Rattle.tree_shape.specs.Changes.{at_slot}
 use Rattle.tree_shape.specs.Trees.{Contents, Branch, branch, branches_from, branches}
 use Rattle.tree_shape.specs.Lawful.{IsTree, IsOrderedAs, IsFilled, FitsParent}
@@ -44,17 +44,17 @@ around_slot (q ∷ pairs) (suc slot) p at =
     }
 
 -- a node with pairs stands above level 0
-pub above_zero : (s : Shape) (b : Body) → IsOrderedAs s b → 0 < length (pairs_in b) → (level : ℕ) × (s.level ≡ suc level)
+pub above_zero : (s : NodeData) (b : Body) → IsOrderedAs s b → 0 < length (pairs_in b) → (level : ℕ) × (s.level ≡ suc level)
 above_zero s (Pairs pairs) ordered some = (s.level - 1, omega arith)
 above_zero s (Entries entries) ordered some = absurd (omega arith)
 above_zero s (Link next) ordered some = absurd ordered
 
-pub ordered_pairs : (s : Shape) (b : Body) → IsOrderedAs s b → 0 < length (pairs_in b) → (0 < s.level) × Cut s.low s.high (pairs_in b)
+pub ordered_pairs : (s : NodeData) (b : Body) → IsOrderedAs s b → 0 < length (pairs_in b) → (0 < s.level) × Cut s.low s.high (pairs_in b)
 ordered_pairs s (Pairs pairs) ordered some = ordered
 ordered_pairs s (Entries entries) ordered some = absurd (omega arith)
 ordered_pairs s (Link next) ordered some = absurd ordered
 
-pub filled_pairs : (n : ℕ) (s : Shape) → IsFilled n s → 0 < length (pairs_of s) → s.body ≡ Pairs (pairs_of s)
+pub filled_pairs : (n : ℕ) (s : NodeData) → IsFilled n s → 0 < length (pairs_of s) → s.body ≡ Pairs (pairs_of s)
 filled_pairs n s filled some = is s.body some
   where
     is : (b : Body) → 0 < length (pairs_in b) → b ≡ Pairs (pairs_in b)

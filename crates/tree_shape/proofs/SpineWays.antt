@@ -6,8 +6,8 @@ use Rattle.std.specs.List.{flat_map, AllByRecursion}
 use Rattle.std.proofs.lemmas.List.{append-nil}
 use Rattle.tree_shape.specs.declared.pair.Pair.{Pair}
 use Rattle.tree_shape.specs.Numbers.{times}
-use Rattle.tree_shape.specs.Shapes.{pairs_of, Cut}
-use Rattle.tree_shape.specs.Changes.{ends_at, up_to, begins_after}
+use Rattle.tree_shape.specs.NodeData.{pairs_of, Cut}
+use Rattle.tree_shape.specs.Changes.{ends_at, ends_at_fence, begins_after}
 use Rattle.tree_shape.specs.Trees.{Contents, Branch, branch, branches_from, branches, nodes_under}
 use Rattle.tree_shape.specs.Trees.{within}
 use Rattle.tree_shape.specs.Trees.{leaving}
@@ -43,7 +43,7 @@ past set f level b outside = (
 
 pub left_ways : (set : ℕ → Bool) (f g : Contents) (fence level n low high : ℕ) →
     Stands f level n low high →
-    ((x : ℕ) → 0 < times x (last_spine f level n) → IsTrue (set x) × (g x ≡ up_to fence (f x))) →
+    ((x : ℕ) → 0 < times x (last_spine f level n) → IsTrue (set x) × (g x ≡ ends_at_fence fence (f x))) →
     ((x : ℕ) → 0 < times x (nodes_under f level n) → times x (last_spine f level n) ≡ 0 →
     set x ≡ false) →
     ((x : ℕ) → times x (nodes_under f level n) ≤ 1) →
@@ -82,14 +82,14 @@ left_ways set f g fence (suc level) n low high stands spine rest once' =
         AllByRecursion (λ b. Stands f level b.child b.frame.low b.frame.high)
         (branches_from level low pairs) →
         ((m l h : ℕ) → Stands f level m l h →
-        ((x : ℕ) → 0 < times x (last_spine f level m) → IsTrue (set x) × (g x ≡ up_to fence (f x)))
+        ((x : ℕ) → 0 < times x (last_spine f level m) → IsTrue (set x) × (g x ≡ ends_at_fence fence (f x)))
         →
         ((x : ℕ) → 0 < times x (nodes_under f level m) → times x (last_spine f level m) ≡ 0 →
         set x ≡ false) →
         ((x : ℕ) → times x (nodes_under f level m) ≤ 1) →
         WaysAlong set f g level m (last_spine f level m)) →
         ((x : ℕ) → 0 < times x (last_spine f level (last_child start pairs)) →
-        IsTrue (set x) × (g x ≡ up_to fence (f x))) →
+        IsTrue (set x) × (g x ≡ ends_at_fence fence (f x))) →
         ((x : ℕ) →
         0 < times x (flat_map (λ (b : Branch). nodes_under f level b.child)
         (branches_from level low pairs)) →

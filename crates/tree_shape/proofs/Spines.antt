@@ -5,9 +5,9 @@ use Rattle.std.specs.List.{flat_map, AllByRecursion}
 use Rattle.reg_model.specs.declared.span.Member.{Member}
 use Rattle.tree_shape.specs.declared.pair.Pair.{Pair}
 use Rattle.tree_shape.specs.Numbers.{times}
-use Rattle.tree_shape.specs.Shapes.{Shape, Body, Pairs, Entries, Link, pairs_of, pairs_in}
-use Rattle.tree_shape.specs.Shapes.{EntriesWithin, Cut}
-use Rattle.tree_shape.specs.Changes.{ends_at, ends_at_as, up_to, begins_after}
+use Rattle.tree_shape.specs.NodeData.{NodeData, Body, Pairs, Entries, Link, pairs_of, pairs_in}
+use Rattle.tree_shape.specs.NodeData.{EntriesWithin, Cut}
+use Rattle.tree_shape.specs.Changes.{ends_at, ends_at_as, ends_at_fence, begins_after}
 use Rattle.tree_shape.specs.Trees.{Contents, Branch, branches_from, branches, nodes_under, within}
 use Rattle.tree_shape.specs.Lawful.{IsTree, IsOrdered, IsOrderedAs, FitsParent}
 use Rattle.tree_shape.specs.Steps.{last_child, first_child, last_spine, first_spine, LiesAbove}
@@ -53,10 +53,10 @@ stands_live f live tree (suc level) n alive at order = (
 pub stands_same : (f g : Contents) (level n low high : ℕ) → ((x : ℕ) → 0 < times x (nodes_under f level n) → g x ≡ f x) → Stands f level n low high → Stands g level n low high
 unfolding Stands
 stands_same f g zero n low high agree stands =
-    subst (λ (s : Shape). (s.level ≡ zero) × (s.low ≡ low) × (s.high ≡ high) × IsOrdered s × (low ≤ high)) (sym (agree n (under_top f zero n))) stands
+    subst (λ (s : NodeData). (s.level ≡ zero) × (s.low ≡ low) × (s.high ≡ high) × IsOrdered s × (low ≤ high)) (sym (agree n (under_top f zero n))) stands
 stands_same f g (suc level) n low high agree stands =
     let same = agree n (under_top f (suc level) n) in (
-      subst (λ (s : Shape). (s.level ≡ suc level) × (s.low ≡ low) × (s.high ≡ high) × IsOrdered s × (low ≤ high)) (sym same) stands.0,
+      subst (λ (s : NodeData). (s.level ≡ suc level) × (s.low ≡ low) × (s.high ≡ high) × IsOrdered s × (low ≤ high)) (sym same) stands.0,
       subst (λ s. AllByRecursion (λ b. Stands g level b.child b.frame.low b.frame.high)
           (branches level s)) (sym same)
           (all_from (λ b. Stands g level b.child b.frame.low b.frame.high) (branches level (f n))
@@ -95,7 +95,7 @@ stands_says h (suc level) n low high stands x there = elim (times_cases x n (fla
       found.0 stands.1 found.1.0) x found.1.1
 ]
 
-pub ordered_cut : (s : Shape) (b : Body) → IsOrderedAs s b → 0 < s.level → (high : ℕ) →
+pub ordered_cut : (s : NodeData) (b : Body) → IsOrderedAs s b → 0 < s.level → (high : ℕ) →
     s.high ≡ high → Cut s.low high (pairs_in b)
 ordered_cut s b ordered above high is = subst (λ h. Cut s.low h (pairs_in b)) is (inner_above s b ordered above)
 
@@ -174,7 +174,7 @@ cut_higher low high fence (p ∷ []) cut order above = (omega (arith, cut.0, cut
 cut_higher low high fence (p ∷ q ∷ pairs) cut order above =
     (cut.0, cut_higher (p.separator + 1) high fence (q ∷ pairs) cut.1 (some_left (p.separator + 1) high (q ∷ pairs) cut.1 (omega arith)) above)
 
-raised_ordered : (s : Shape) (b : Body) (fence : ℕ) → IsOrderedAs s b → s.low ≤ s.high → s.high < fence → IsOrderedAs (record { level = s.level; low = s.low; high = fence; body = ends_at_as fence b }) (ends_at_as fence b)
+raised_ordered : (s : NodeData) (b : Body) (fence : ℕ) → IsOrderedAs s b → s.low ≤ s.high → s.high < fence → IsOrderedAs (record { level = s.level; low = s.low; high = fence; body = ends_at_as fence b }) (ends_at_as fence b)
 raised_ordered s (Pairs pairs) fence ordered order above = (ordered.0, cut_higher s.low s.high fence pairs ordered.1 order above)
 raised_ordered s (Entries es) fence ordered order above = (ordered.0, entries_higher s.low s.high fence es ordered.1 (omega arith))
 raised_ordered s (Link next) fence ordered order above = absurd ordered
@@ -189,7 +189,7 @@ entries_after_fence low high fence [] within above = (tt, tt)
 entries_after_fence low high fence (m ∷ entries) within above =
     ((omega (arith, above.0), within.0.1, within.0.2), within.1)
 
-shortened_ordered : (s : Shape) (b : Body) (fence : ℕ) → IsOrderedAs s b → s.low ≤ s.high → LiesAbove fence b → IsOrderedAs (record { level = s.level; low = fence + 1; high = s.high; body = b }) b
+shortened_ordered : (s : NodeData) (b : Body) (fence : ℕ) → IsOrderedAs s b → s.low ≤ s.high → LiesAbove fence b → IsOrderedAs (record { level = s.level; low = fence + 1; high = s.high; body = b }) b
 shortened_ordered s (Pairs pairs) fence ordered order above = (ordered.0, cut_lower s.low s.high fence pairs ordered.1 order above)
 shortened_ordered s (Entries es) fence ordered order above = (ordered.0, entries_after_fence s.low s.high fence es ordered.1 above)
 shortened_ordered s (Link next) fence ordered order above = absurd ordered
@@ -202,7 +202,7 @@ ends_at_pairs fence (Link next) = refl
 
 -- what stands, with the fence raised along the last spine
 pub left_stands : (f g : Contents) (fence level n low high : ℕ) → Stands f level n low high → high < fence →
-    ((x : ℕ) → 0 < times x (last_spine f level n) → g x ≡ up_to fence (f x)) →
+    ((x : ℕ) → 0 < times x (last_spine f level n) → g x ≡ ends_at_fence fence (f x)) →
     ((x : ℕ) → 0 < times x (nodes_under f level n) → times x (last_spine f level n) ≡ 0 → g x ≡ f x) →
     ((x : ℕ) → times x (nodes_under f level n) ≤ 1) → Stands g level n low fence
 unfolding Stands
@@ -244,10 +244,10 @@ left_stands f g fence (suc level) n low high stands above spine rest once' =
         AllByRecursion (λ b. Stands f level b.child b.frame.low b.frame.high)
         (branches_from level low pairs) →
         ((m l h : ℕ) → Stands f level m l h → h < fence →
-        ((x : ℕ) → 0 < times x (last_spine f level m) → g x ≡ up_to fence (f x)) →
+        ((x : ℕ) → 0 < times x (last_spine f level m) → g x ≡ ends_at_fence fence (f x)) →
         ((x : ℕ) → 0 < times x (nodes_under f level m) → times x (last_spine f level m) ≡ 0 → g x ≡ f x) →
         ((x : ℕ) → times x (nodes_under f level m) ≤ 1) → Stands g level m l fence) →
-        ((x : ℕ) → 0 < times x (last_spine f level (last_child start pairs)) → g x ≡ up_to fence (f x)) →
+        ((x : ℕ) → 0 < times x (last_spine f level (last_child start pairs)) → g x ≡ ends_at_fence fence (f x)) →
         ((x : ℕ) → 0 < times x (flat_map (λ (b : Branch). nodes_under f level b.child) (branches_from level low pairs)) → times x (last_spine f level (last_child start pairs)) ≡ 0 → g x ≡ f x) →
         ((x : ℕ) → times x (flat_map (λ (b : Branch). nodes_under f level b.child) (branches_from level low pairs)) ≤ 1) →
         AllByRecursion (λ b. Stands g level b.child b.frame.low b.frame.high)

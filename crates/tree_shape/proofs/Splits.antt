@@ -7,7 +7,7 @@ use Rattle.std.proofs.lemmas.Bool.{both_ways}
 use Rattle.std.proofs.lemmas.List.{append-nil, length-append}
 use Rattle.tree_shape.specs.declared.pair.Pair.{Pair}
 use Rattle.tree_shape.specs.Numbers.{is_among}
-use Rattle.tree_shape.specs.Shapes.{entries_of, pairs_of, Cut}
+use Rattle.tree_shape.specs.NodeData.{entries_of, pairs_of, Cut}
 use Rattle.tree_shape.specs.Changes.{first_half, at_slot, divide, first_part, body_end}
 use Rattle.tree_shape.specs.Trees.{Contents, Branch, branch, branches_from, branches}
 use Rattle.tree_shape.specs.Lawful.{IsLawfulTree, IsOrdered, IsFilled, FitsParent}

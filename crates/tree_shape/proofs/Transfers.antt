@@ -10,7 +10,7 @@ use Rattle.reg_model.specs.declared.span.Member.{Member}
 use Rattle.reg_model.specs.declared.answer.Update.{Update}
 use Rattle.reg_model.specs.declared.answer.Update.TheVariants.{Register, Deregister, Load, Unload}
 use Rattle.tree_shape.specs.Numbers.{times, is_among}
-use Rattle.tree_shape.specs.Shapes.{entries_of}
+use Rattle.tree_shape.specs.NodeData.{entries_of}
 use Rattle.tree_shape.specs.Trees.{Contents, Branch, branches, within, leaving, HasEntry}
 use Rattle.tree_shape.specs.Lawful.{IsTree, IsOrdered, IsFilled, FitsParent}
 use Rattle.tree_shape.specs.LocalChange.{IsLocalChange, IsLawfulChange, IsSameChange, EntriesBecome}

@@ -7,13 +7,13 @@ use Rattle.std.proofs.lemmas.Bool.{cases_Bool, cond-true, cond-false}
 use Rattle.std.proofs.lemmas.List.{append-nil}
 use Rattle.std.proofs.lemmas.List.Concat.{flat_map-append}
 use Rattle.reg_model.specs.declared.span.Member.{Member}
-use Rattle.reg_model.specs.Interval.{contains}
+use Rattle.reg_model.specs.SpanData.{contains}
 use Rattle.reg_model.specs.Query.{member_at}
 use Rattle.reg_model.proofs.Spans.{contains_bounds, contains_from}
 use Rattle.tree_shape.specs.declared.pair.Pair.{Pair}
-use Rattle.tree_shape.specs.Shapes.{Shape, Body, Pairs, Entries, Link, entries_of, entries_in}
-use Rattle.tree_shape.specs.Shapes.{pairs_of, EntriesWithin, Cut, IsLeaf, IsInFences}
-use Rattle.tree_shape.specs.Shapes.{LiesInFences}
+use Rattle.tree_shape.specs.NodeData.{NodeData, Body, Pairs, Entries, Link, entries_of, entries_in}
+use Rattle.tree_shape.specs.NodeData.{pairs_of, EntriesWithin, Cut, IsLeaf, IsInFences}
+use Rattle.tree_shape.specs.NodeData.{LiesInFences}
 use Rattle.tree_shape.specs.Trees.{Contents, Branch, branch, branches_from, branches, nodes_under}
 use Rattle.tree_shape.specs.Trees.{nodes}
 use Rattle.tree_shape.specs.Trees.{entries, leaf_for, HasEntry}
@@ -46,7 +46,7 @@ order_of_pairs f level low high (p ∷ pairs) cut each =
     (entries_join low high p.separator (flat_map (held_by f) (nodes_under f level p.child))
     (flat_map (held_by f) (flat_map (λ (b : Branch). nodes_under f level b.child) (branches_from level (p.separator + 1) pairs))) first rest (omega arith) (omega (arith, cut.0)))
 
-inner_holds_none : (s : Shape) (b : Body) → IsOrderedAs s b → 0 < s.level → entries_in b ≡ []
+inner_holds_none : (s : NodeData) (b : Body) → IsOrderedAs s b → 0 < s.level → entries_in b ≡ []
 inner_holds_none s (Pairs pairs) ordered above = refl
 inner_holds_none s (Entries es) ordered above = absurd (omega arith)
 inner_holds_none s (Link next) ordered above = refl
@@ -107,7 +107,7 @@ found_from pc low high (e ∷ es) m within there holds = elim there [
   ]
 ]
 
-is_leaf_at : (s : Shape) (b : Body) → IsOrderedAs s b → s.level ≡ 0 → b ≡ Entries (entries_in b)
+is_leaf_at : (s : NodeData) (b : Body) → IsOrderedAs s b → s.level ≡ 0 → b ≡ Entries (entries_in b)
 is_leaf_at s (Pairs pairs) ordered at = absurd (omega arith)
 is_leaf_at s (Entries es) ordered at = refl
 is_leaf_at s (Link next) ordered at = absurd ordered

@@ -4,7 +4,7 @@ use Rattle.std.specs.Prelude.{◌/◌, nat_lt, if◌then◌else◌}
 use Rattle.reg_model.specs.declared.span.Member.{Member}
 use Rattle.tree_shape.specs.declared.pair.Pair.{Pair}
 use Rattle.tree_shape.specs.declared.limits.TheConstants.{PAIRS, ENTRIES}
-use Rattle.tree_shape.specs.Shapes.{Shape, Body, Pairs, Entries, Link}
+use Rattle.tree_shape.specs.NodeData.{NodeData, Body, Pairs, Entries, Link}
 
 -- a child with its separator
 abbrev pub pair : ℕ → ℕ → Pair
@@ -45,10 +45,10 @@ body_end (Link next) = 0
 
 -- The two nodes that a node is cut into: the first has its first n pairs or entries and the fence
 -- where these end, the second has the others and begins after that fence.
-abbrev pub first_half : ℕ → Shape → Shape
+abbrev pub first_half : ℕ → NodeData → NodeData
 first_half n s = record s { high = body_end (first_part n s.body); body = first_part n s.body }
 
-abbrev pub last_half : ℕ → Shape → Shape
+abbrev pub last_half : ℕ → NodeData → NodeData
 last_half n s = record s { low = body_end (first_part n s.body) + 1; body = last_part n s.body }
 
 -- the pairs or entries of two nodes of one kind
@@ -62,7 +62,7 @@ both (Entries left) (Link next) = Link 0
 both (Link next) right = Link 0
 
 -- one node in place of two neighbours
-abbrev pub joined : Shape → Shape → Shape
+abbrev pub joined : NodeData → NodeData → NodeData
 joined left right = record left { high = right.high; body = both left.body right.body }
 
 -- two nodes of one kind fit into one, or don't
@@ -71,7 +71,7 @@ FitAs (Pairs left) (Pairs right) = length left + length right ≤ PAIRS
 FitAs (Entries left) (Entries right) = length left + length right ≤ ENTRIES
 FitAs _ _ = ⊥
 
-abbrev pub Fit : Shape → Shape → Type 0
+abbrev pub Fit : NodeData → NodeData → Type 0
 Fit left right = FitAs left.body right.body
 
 abbrev pub OverfillAs : Body → Body → Type 0
@@ -79,11 +79,11 @@ OverfillAs (Pairs left) (Pairs right) = PAIRS < length left + length right
 OverfillAs (Entries left) (Entries right) = ENTRIES < length left + length right
 OverfillAs _ _ = ⊥
 
-abbrev pub Overfill : Shape → Shape → Type 0
+abbrev pub Overfill : NodeData → NodeData → Type 0
 Overfill left right = OverfillAs left.body right.body
 
 -- how much the left one of two nodes gets of what both hold: the smaller half
-abbrev pub share_of : Shape → Shape → ℕ
+abbrev pub share_of : NodeData → NodeData → ℕ
 share_of left right = (size left.body + size right.body) / 2
 
 -- pairs whose last separator is raised
@@ -98,10 +98,10 @@ ends_at_as fence (Entries entries) = Entries entries
 ends_at_as fence (Link next) = Link next
 
 -- the left and the right one of two neighbours between which the fence was moved
-abbrev pub up_to : ℕ → Shape → Shape
-up_to fence s = record s { high = fence; body = ends_at_as fence s.body }
+abbrev pub ends_at_fence : ℕ → NodeData → NodeData
+ends_at_fence fence s = record s { high = fence; body = ends_at_as fence s.body }
 
-abbrev pub begins_after : ℕ → Shape → Shape
+abbrev pub begins_after : ℕ → NodeData → NodeData
 begins_after fence s = record s { low = fence + 1 }
 
 -- the list where what stands at a slot, and all after it, is changed

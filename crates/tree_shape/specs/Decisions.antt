@@ -9,7 +9,7 @@ use Rattle.reg_model.specs.declared.answer.Update.{Update}
 use Rattle.reg_model.specs.declared.answer.Update.TheVariants.{Register, Deregister, Load, Unload}
 use Rattle.tree_shape.specs.declared.pair.Pair.{Pair}
 use Rattle.tree_shape.specs.declared.limits.TheConstants.{PAIRS, ENTRIES, HIGHEST_LEVEL}
-use Rattle.tree_shape.specs.Shapes.{Shape, Body, Pairs, Entries, Link, entries_of}
+use Rattle.tree_shape.specs.NodeData.{NodeData, Body, Pairs, Entries, Link, entries_of}
 use Rattle.tree_shape.specs.Numbers.{times, is_among}
 use Rattle.tree_shape.specs.Trees.{Contents, Branch, branches, within, leaving}
 use Rattle.tree_shape.specs.Lawful.{fewest_entries, fewest_pairs}
@@ -33,7 +33,7 @@ same_body (Entries entries) (Entries others) = pointwise same_member entries oth
 same_body (Link next) (Link other) = next == other
 same_body _ _ = false
 
-abbrev pub same_shape : Shape → Shape → Bool
+abbrev pub same_shape : NodeData → NodeData → Bool
 same_shape s t = (s.level == t.level) && ((s.low == t.low) && ((s.high == t.high)
     && same_body s.body t.body))
 
@@ -59,12 +59,12 @@ do_cut low high [] = low == (high + 1)
 do_cut low high (p ∷ pairs) = nat_le low p.separator && do_cut (p.separator + 1) high pairs
 
 -- whether a node is in order by itself, and filled
-abbrev pub has_order_as : Shape → Body → Bool
+abbrev pub has_order_as : NodeData → Body → Bool
 has_order_as s (Entries entries) = (s.level == 0) && lie_within s.low s.high entries
 has_order_as s (Pairs pairs) = nat_lt 0 s.level && do_cut s.low s.high pairs
 has_order_as s (Link next) = false
 
-abbrev pub has_order : Shape → Bool
+abbrev pub has_order : NodeData → Bool
 has_order s = has_order_as s s.body
 
 abbrev pub is_filled_as : ℕ → Body → Bool
@@ -84,7 +84,7 @@ children_fit g set n =
     list_all (λ b. not (set b.child) || fits_parent g b) (branches ((g n).level - 1) (g n))
 
 -- whether the top keeps its level, or stands at most at the highest where it is the root
-abbrev pub keeps_level : ℕ → Shape → Shape → Bool
+abbrev pub keeps_level : ℕ → NodeData → NodeData → Bool
 keeps_level top s t =
     if top == 0 then nat_le t.level HIGHEST_LEVEL else (t.level == s.level)
 

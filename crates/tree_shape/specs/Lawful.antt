@@ -1,7 +1,7 @@
 -- When contents by node number are a tree that finds what it holds.
 use Rattle.std.specs.Prelude.{◌≡◌, ℕ, ◌-◌, ◌^◌, ◌<◌, ◌≤◌, Bool, length, IsTrue, ◌==◌, if◌then◌else◌}
 use Rattle.std.specs.List.{AllByRecursion}
-use Rattle.tree_shape.specs.Shapes.{Shape, Body, Pairs, Entries, Link, EntriesWithin, Cut}
+use Rattle.tree_shape.specs.NodeData.{NodeData, Body, Pairs, Entries, Link, EntriesWithin, Cut}
 use Rattle.tree_shape.specs.declared.limits.TheConstants.{PAIRS, ENTRIES, FEWEST_PAIRS}
 use Rattle.tree_shape.specs.declared.limits.TheConstants.{FEWEST_ROOT_PAIRS, FEWEST_ENTRIES}
 use Rattle.tree_shape.specs.declared.limits.TheConstants.{HIGHEST_LEVEL}
@@ -11,12 +11,12 @@ use Rattle.tree_shape.specs.Trees.{Contents, Branch, branches, nodes}
 -- A leaf has level 0 and entries that ascend, are disjoint and lie inside its fences; an inner node
 -- has a level above 0 and separators that ascend from its low fence on, of which the last is its
 -- high fence.
-abbrev pub IsOrderedAs : Shape → Body → Type 0
+abbrev pub IsOrderedAs : NodeData → Body → Type 0
 IsOrderedAs s (Entries entries) = (s.level ≡ 0) × EntriesWithin s.low s.high entries
 IsOrderedAs s (Pairs pairs) = (0 < s.level) × Cut s.low s.high pairs
 IsOrderedAs s (Link next) = ⊥
 
-abbrev pub IsOrdered : Shape → Type 0
+abbrev pub IsOrdered : NodeData → Type 0
 IsOrdered s = IsOrderedAs s s.body
 
 -- the fewest entries of the leaf n: none of the root
@@ -33,7 +33,7 @@ IsFilledAs n (Entries entries) = (fewest_entries n ≤ length entries) × (lengt
 IsFilledAs n (Pairs pairs) = (fewest_pairs n ≤ length pairs) × (length pairs ≤ PAIRS)
 IsFilledAs n (Link next) = ⊥
 
-abbrev pub IsFilled : ℕ → Shape → Type 0
+abbrev pub IsFilled : ℕ → NodeData → Type 0
 IsFilled n s = IsFilledAs n s.body
 
 -- the child is as its parent names it

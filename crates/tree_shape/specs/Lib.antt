@@ -1,4 +1,4 @@
-pub mod Shapes
+pub mod NodeData
 pub mod Nodes
 pub mod Numbers
 pub mod Trees

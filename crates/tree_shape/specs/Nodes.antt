@@ -1,6 +1,6 @@
 -- The value that contracts see of a node of the code, and what its type keeps.
 use Rattle.std.specs.Prelude.{◌≤◌, take}
-use Rattle.tree_shape.specs.Shapes.{Shape, Body, Pairs, Entries, Link}
+use Rattle.tree_shape.specs.NodeData.{NodeData, Body, Pairs, Entries, Link}
 use Rattle.tree_shape.specs.declared.node.Content.{Content}
 use Rattle.tree_shape.specs.declared.node.Content.TheVariants.{Inner, Leaf, Free}
 use Rattle.tree_shape.specs.declared.limits.TheConstants.{PAIRS, ENTRIES}
@@ -13,8 +13,8 @@ body_of (Inner count pairs) = Pairs (take count pairs)
 body_of (Leaf count entries) = Entries (take count entries)
 body_of (Free next) = Link next
 
-abbrev pub shape_of : Inside → Shape
-shape_of n = record { level = n.level; low = n.low; high = n.high; body = body_of n.content }
+abbrev pub node_data : Inside → NodeData
+node_data n = record { level = n.level; low = n.low; high = n.high; body = body_of n.content }
 
 -- the count is at most the length of the array
 abbrev pub IsCounted : Content → Type 0
@@ -23,5 +23,5 @@ IsCounted (Leaf count entries) = count ≤ ENTRIES
 IsCounted (Free next) = Unit {0}
 
 -- the node of this level and these fences that holds this
-abbrev pub framed : Frame → Body → Shape
+abbrev pub framed : Frame → Body → NodeData
 framed frame body = record { level = frame.level; low = frame.low; high = frame.high; body = body }

@@ -3,13 +3,13 @@ use Rattle.std.specs.Prelude.{◌≡◌, ◌≢◌, ℕ, zero, suc, ◌+◌, ◌
 use Rattle.std.specs.Prelude.{false, List, [], ◌∷◌, ◌++◌, length, Some, IsTrue, ◌==◌, if◌then◌else◌}
 use Rattle.std.specs.List.{AllByRecursion, slice_get}
 use Rattle.reg_model.specs.declared.span.Member.{Member}
-use Rattle.reg_model.specs.Interval.{IsSpan}
+use Rattle.reg_model.specs.SpanData.{IsSpan}
 use Rattle.reg_model.specs.State.{IsFree, at_base}
 use Rattle.reg_model.specs.History.{without}
 use Rattle.tree_shape.specs.declared.pair.Pair.{Pair}
-use Rattle.tree_shape.specs.Shapes.{Shape, Body, Pairs, Entries, Link, pairs_of, entries_of, IsLeaf}
+use Rattle.tree_shape.specs.NodeData.{NodeData, Body, Pairs, Entries, Link, pairs_of, entries_of, IsLeaf}
 use Rattle.tree_shape.specs.Changes.{first_half, last_half, joined, at_slot, divide, swallow_next}
-use Rattle.tree_shape.specs.Changes.{separate_at, with_entry, first_part, body_end, up_to}
+use Rattle.tree_shape.specs.Changes.{separate_at, with_entry, first_part, body_end, ends_at_fence}
 use Rattle.tree_shape.specs.Changes.{begins_after, pair, Fit, Overfill, share_of}
 use Rattle.tree_shape.specs.declared.limits.TheConstants.{PAIRS, ENTRIES, LEFT_PAIRS, LEFT_ENTRIES}
 use Rattle.tree_shape.specs.declared.limits.TheConstants.{HIGHEST_LEVEL}
@@ -36,7 +36,7 @@ middle (Entries entries) = LEFT_ENTRIES
 middle (Link next) = 0
 
 -- the fence between its halves
-abbrev pub middle_fence : Shape → ℕ
+abbrev pub middle_fence : NodeData → ℕ
 middle_fence s = body_end (first_part (middle s.body) s.body)
 
 -- it holds as much as it can
@@ -147,7 +147,7 @@ pub record Lifts (f : Contents) (live : ℕ → Bool) (g : Contents) (live' : �
   pub entries : (m : Member) → HasEntry g live' m ↔ HasEntry f live m
 
 -- a root one level higher, over two nodes between which this fence lies
-abbrev pub root_over : ℕ → ℕ → ℕ → Shape → Shape
+abbrev pub root_over : ℕ → ℕ → ℕ → NodeData → NodeData
 root_over left right fence s = record s {
   level = s.level + 1;
   body = Pairs (pair left fence ∷ pair right s.high ∷ []);
@@ -211,7 +211,7 @@ pub record IsFenceMove (f : Contents) (live : ℕ → Bool) (parent slot : ℕ) 
       (first_spine f (f q.child).level q.child)
   pub above : let s = f parent in
       g parent ≡ record s { body = Pairs (at_slot (separate_at fence) slot (pairs_of s)) }
-  pub left : AllByRecursion (λ n. g n ≡ up_to fence (f n)) (last_spine f (f p.child).level p.child)
+  pub left : AllByRecursion (λ n. g n ≡ ends_at_fence fence (f n)) (last_spine f (f p.child).level p.child)
   pub right : AllByRecursion (λ n. g n ≡ begins_after fence (f n))
       (first_spine f (f q.child).level q.child)
   pub others : (n : ℕ) → n ≢ parent → times n (last_spine f (f p.child).level p.child) ≡ 0

@@ -6,11 +6,11 @@ use Rattle.std.specs.List.{flat_map}
 use Rattle.reg_model.specs.declared.span.Member.{Member}
 use Rattle.tree_shape.specs.declared.pair.Pair.{Pair}
 use Rattle.tree_shape.specs.declared.node.Frame.{Frame}
-use Rattle.tree_shape.specs.Shapes.{Shape, pairs_of, entries_of}
+use Rattle.tree_shape.specs.NodeData.{NodeData, pairs_of, entries_of}
 
 -- what each node holds, by its number
 abbrev pub Contents : Type 0
-Contents = ℕ → Shape
+Contents = ℕ → NodeData
 
 -- a child as its parent names it: its number, and its level and fences
 pub record Branch : Type 0 where
@@ -32,7 +32,7 @@ branches_from level low (p ∷ pairs) =
     branch p.child level low p.separator ∷ branches_from level (p.separator + 1) pairs
 
 -- the children of a node, which are to have this level
-abbrev pub branches : ℕ → Shape → List Branch
+abbrev pub branches : ℕ → NodeData → List Branch
 branches level s = branches_from level s.low (pairs_of s)
 
 -- the node n and all that it reaches in so many levels, each as often as there are ways to it, from

@@ -4,8 +4,8 @@ ghost use Rattle.std.specs.Prelude.{◌≡◌, ◌+◌, ◌-◌, ◌<◌, ◌≤
 ghost use Rattle.std.specs.Prelude.{Some, IsSome};
 ghost use Rattle.reg_model.specs.State.{at_base};
 ghost use Rattle.reg_model.specs.History.{without};
-ghost use Rattle.tree_shape.specs.Shapes.{Pairs, Entries, IsLeaf, IsInner, InOrder};
-ghost use Rattle.tree_shape.specs.Shapes.{entries_of, pairs_of, place_for};
+ghost use Rattle.tree_shape.specs.NodeData.{Pairs, Entries, IsLeaf, IsInner, InOrder};
+ghost use Rattle.tree_shape.specs.NodeData.{entries_of, pairs_of, place_for};
 ghost use Rattle.tree_shape.specs.Nodes.{body_of, IsCounted};
 ghost use Rattle.tree_shape.specs.Changes.{at_slot, divide, swallow_next, separate_at, with_entry};
 

@@ -2,9 +2,9 @@
 
 ghost use Rattle.std.specs.Prelude.{◌≡◌, ◌≤◌, ◌<◌, length, IfSome, IfNone};
 ghost use Rattle.std.specs.List.{find};
-ghost use Rattle.reg_model.specs.Interval.{contains};
+ghost use Rattle.reg_model.specs.SpanData.{contains};
 ghost use Rattle.reg_model.specs.State.{IsFree, IsLowestOverlap};
-ghost use Rattle.tree_shape.specs.Shapes.{IsLeaf, IsInner, entries_of, pairs_of, InOrder, slot_for};
+ghost use Rattle.tree_shape.specs.NodeData.{IsLeaf, IsInner, entries_of, pairs_of, InOrder, slot_for};
 
 use crate::node::Node;
 use reg_model::{Member, Span};

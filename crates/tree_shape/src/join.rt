@@ -1,10 +1,10 @@
 //! Two neighbours made into one, or given even shares, or a new fence between them.
 
 ghost use Rattle.std.specs.Prelude.{◌≡◌, ◌+◌, ◌/◌, ◌<◌};
-ghost use Rattle.tree_shape.specs.Shapes.{IsInner, InOrder, AreNeighbours};
+ghost use Rattle.tree_shape.specs.NodeData.{IsInner, InOrder, AreNeighbours};
 ghost use Rattle.tree_shape.specs.Nodes.{body_of, IsCounted};
 ghost use Rattle.tree_shape.specs.Changes.{both, Fit, Overfill, joined, first_half, last_half};
-ghost use Rattle.tree_shape.specs.Changes.{share_of, size, ends_at_as, up_to, begins_after};
+ghost use Rattle.tree_shape.specs.Changes.{share_of, size, ends_at_as, ends_at_fence, begins_after};
 
 use crate::node::{Content, Frame, Node, inner_of, leaf_of};
 use crate::pair::Pair;
@@ -100,7 +100,7 @@ fn raised_content(node: &Node, fence: u64) -> Content
 /// separator is the fence.
 pub fn move_fence(left: &Node, right: &Node, fence: u64) -> (Node, Node)
     requires { fence < right.now.high }
-    ensures left { result.0 ≡ up_to fence left.now }
+    ensures left { result.0 ≡ ends_at_fence fence left.now }
     ensures right { result.1 ≡ begins_after fence right.now }
 {
     let high = right.high();

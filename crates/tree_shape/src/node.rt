@@ -1,7 +1,7 @@
 //! Nodes of the tree as plain values.
 
 ghost use Rattle.std.specs.Prelude.{◌≡◌, ◌≤◌, ◌+◌, ◌-◌, ◌^◌, [], ◌++◌, length};
-ghost use Rattle.tree_shape.specs.Shapes.{Entries, Pairs, entries_of, frame_of, pairs_of};
+ghost use Rattle.tree_shape.specs.NodeData.{Entries, Pairs, entries_of, frame_of, pairs_of};
 ghost use Rattle.tree_shape.specs.Nodes.{body_of, IsCounted};
 
 use crate::limits::{ENTRIES, PAIRS};
@@ -44,13 +44,13 @@ pub struct Node {
 }
 
 impl Model for Node {
-    ghost use Rattle.tree_shape.specs.Shapes.{Shape};
+    ghost use Rattle.tree_shape.specs.NodeData.{NodeData};
 
-    ghost Value = { Shape };
+    ghost Value = { NodeData };
 
-    ghost use Rattle.tree_shape.specs.Nodes.{shape_of, IsCounted};
+    ghost use Rattle.tree_shape.specs.Nodes.{node_data, IsCounted};
 
-    ghost view = { shape_of };
+    ghost view = { node_data };
 
     ghost invariant = { λ n. IsCounted n.content };
 }

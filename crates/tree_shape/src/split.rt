@@ -1,8 +1,8 @@
 //! One node made into two.
 
 ghost use Rattle.std.specs.Prelude.{◌≡◌, ◌+◌, ◌-◌, ◌<◌, ◌≤◌, ◌^◌, [], ◌∷◌, ◌++◌, length, take};
-ghost use Rattle.tree_shape.specs.Shapes.{IsLeaf, IsInner, Pairs, Entries, InOrder};
-ghost use Rattle.tree_shape.specs.Shapes.{entries_of, pairs_of};
+ghost use Rattle.tree_shape.specs.NodeData.{IsLeaf, IsInner, Pairs, Entries, InOrder};
+ghost use Rattle.tree_shape.specs.NodeData.{entries_of, pairs_of};
 ghost use Rattle.tree_shape.specs.Nodes.{framed};
 ghost use Rattle.tree_shape.specs.Changes.{first_half, last_half, pair, pairs_end};
 

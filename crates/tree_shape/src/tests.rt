@@ -2,7 +2,7 @@
 
 ghost use Rattle.std.specs.Prelude.{◌≡◌, ◌≤◌, ◌<◌, ◌↔◌, length, IsTrue, IsSome};
 ghost use Rattle.reg_model.specs.State.{at_base};
-ghost use Rattle.tree_shape.specs.Shapes.{IsLeaf, IsInner, InOrder, EntriesWithin, Cut, entries_of, pairs_of};
+ghost use Rattle.tree_shape.specs.NodeData.{IsLeaf, IsInner, InOrder, EntriesWithin, Cut, entries_of, pairs_of};
 ghost use Rattle.tree_shape.specs.Changes.{Fit, Overfill};
 
 use crate::edits::{drop_pair, put_entry, put_pair, set_separator, take_entry};

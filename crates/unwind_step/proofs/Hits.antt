@@ -6,7 +6,7 @@ use Rattle.reg_model.specs.declared.answer.Found.{Found}
 use Rattle.reg_model.specs.declared.answer.Found.TheVariants.{Hit, Miss}
 use Rattle.reg_model.specs.declared.answer.Half.TheVariants.{Registered, Loaded}
 use Rattle.reg_model.specs.declared.answer.Receipt.TheVariants.{Query}
-use Rattle.reg_model.specs.Current.{Current, Step}
+use Rattle.reg_model.specs.PlainRegistryData.{PlainRegistryData, Step}
 use Rattle.reg_model.specs.State.{objects}
 use Rattle.unwind_step.specs.Backtrace.{IsBelow}
 use Rattle.unwind_step.specs.Finders.{HasPayloadsBelow}
@@ -24,7 +24,7 @@ All-find {X} P test (y ∷ xs) x all found =
       | inr later ↦ All-find P test xs x (λ k d within. all (suc k) d (omega arith)) later
     ]
 
-pub place_below : (registry : Current) (bound pc : ℕ) (registered : Found) (loaded : Option Found) → HasPayloadsBelow bound registry.state → Step registry (Query Registered pc registered) registry → IfSome loaded (λ found. Step registry (Query Loaded pc found) registry) → IsBelow bound (record { registered = registered; loaded = loaded })
+pub place_below : (registry : PlainRegistryData) (bound pc : ℕ) (registered : Found) (loaded : Option Found) → HasPayloadsBelow bound registry.state → Step registry (Query Registered pc registered) registry → IfSome loaded (λ found. Step registry (Query Loaded pc found) registry) → IsBelow bound (record { registered = registered; loaded = loaded })
 place_below registry bound pc (Hit m stamp) loaded below step other = All-find (λ x. x.payload < bound) _ _ m below.registered step.right
 place_below registry bound pc (Miss stamp) None below step other = tt
 place_below registry bound pc (Miss stamp) (Some (Miss later)) below step other = tt

@@ -7,16 +7,16 @@ use Rattle.reg_model.specs.declared.answer.Removed.TheVariants as removed
 use Rattle.reg_model.specs.declared.answer.Receipt.{Receipt}
 use Rattle.reg_model.specs.declared.answer.Receipt.TheVariants.{Register, Deregister, Load, Unload}
 use Rattle.reg_model.specs.declared.span.Member.{Member}
-use Rattle.reg_model.specs.Current.{Current, Step}
+use Rattle.reg_model.specs.PlainRegistryData.{PlainRegistryData, Step}
 use Rattle.unwind_step.specs.Finders.{HasPayloadsBelow, AddsBelow}
 
-abbrev Below : ℕ → Current → Type 0
+abbrev Below : ℕ → PlainRegistryData → Type 0
 Below bound c = HasPayloadsBelow bound c.state
 
 abbrev Low : ℕ → Member → Type 0
 Low bound m = m.payload < bound
 
-pub below_after : (bound : ℕ) (old new : Current) (r : Receipt) → AddsBelow bound r → Step old r new → HasPayloadsBelow bound old.state → HasPayloadsBelow bound new.state
+pub below_after : (bound : ℕ) (old new : PlainRegistryData) (r : Receipt) → AddsBelow bound r → Step old r new → HasPayloadsBelow bound old.state → HasPayloadsBelow bound new.state
 below_after bound old new (Register m (inserted.Done n)) adds step below =
     subst (Below bound) (sym step.changes.2) (record { registered = All-push (Low bound) old.state.registered m below.registered adds; loaded = below.loaded; fixed = below.fixed })
 below_after bound old new (Load m (loading.Done n)) adds step below =

@@ -3,7 +3,7 @@ use Rattle.std.specs.Prelude.{◌≡◌, ℕ, ◌+◌, ◌-◌, ◌%◌, ◌^◌
 use Rattle.std.specs.List.{AllZip}
 use Rattle.frame_expr.specs.declared.regs.Regs.{Regs}
 use Rattle.frame_expr.specs.Regions.{RegionData}
-use Rattle.frame_parse.specs.Sections.{Contents, FdeContents, first_cover}
+use Rattle.frame_parse.specs.Sections.{SectionData, FdeData, first_cover}
 use Rattle.reg_model.specs.declared.answer.Place.{Place}
 use Rattle.reg_model.specs.declared.span.Member.{Member}
 use Rattle.reg_model.specs.Receipt.{member_of}
@@ -38,15 +38,15 @@ abbrev pub IsBelow : ℕ → Place → Type 0
 IsBelow bound place = IfSome (hit_of place) (λ m. m.payload < bound)
 
 -- the section of the image that a place found; payloads are the images' numbers
-abbrev pub hit_section : List Contents → Place → Option Contents
+abbrev pub hit_section : List SectionData → Place → Option SectionData
 hit_section sections place = option_and_then (λ m. slice_get sections m.payload) (hit_of place)
 
 -- the FDE at an address of a section: the first that covers it, in order of bytes
-abbrev pub fde_in : ℕ → Contents → Option FdeContents
+abbrev pub fde_in : ℕ → SectionData → Option FdeData
 fde_in pc s = option_map (λ e. record { section = s.address; bytes = s.bytes; entry = e }) (first_cover pc s.fdes)
 
 -- the FDE of the frame that a line shows
-abbrev pub fde_of : List Contents → FrameLine → Option FdeContents
+abbrev pub fde_of : List SectionData → FrameLine → Option FdeData
 fde_of sections line = option_and_then (fde_in line.look) (hit_section sections line.place)
 
 -- ---- frames and their lines
@@ -62,8 +62,8 @@ pub record Shows (frame : Frame) (line : FrameLine) : Type 0 where
   pub look : line.look ≡ lookup_address frame.address line.pc
 
 -- what comes of a frame by its FDE
-pub record HasOutcome (sections : List Contents) (memory : List RegionData) (frame : Frame) (line : FrameLine) (outcome : Stepped) : Type 0 where
-  pub fde : FdeContents
+pub record HasOutcome (sections : List SectionData) (memory : List RegionData) (frame : Frame) (line : FrameLine) (outcome : Stepped) : Type 0 where
+  pub fde : FdeData
   pub found : fde_of sections line ≡ Some fde
   pub is_next : IsNextFrame fde line.look frame.regs.columns memory outcome
 
@@ -73,8 +73,8 @@ address_kind true = Instruction
 address_kind false = Return
 
 -- the next frame of a backtrace, the one that called
-pub record IsCallingFrame (sections : List Contents) (memory : List RegionData) (frame : Frame) (line : FrameLine) (caller : Frame) : Type 0 where
-  pub fde : FdeContents
+pub record IsCallingFrame (sections : List SectionData) (memory : List RegionData) (frame : Frame) (line : FrameLine) (caller : Frame) : Type 0 where
+  pub fde : FdeData
   pub found : fde_of sections line ≡ Some fde
   pub is_next : IsNextFrame fde line.look frame.regs.columns memory (stepped.Frame caller.regs)
   pub kind : caller.address ≡ address_kind fde.entry.cie.augmentation.signal
@@ -82,9 +82,9 @@ pub record IsCallingFrame (sections : List Contents) (memory : List RegionData) 
 -- ---- whole traces
 
 -- why a trace of so many lines ends with this frame
-abbrev pub IsEnd : List Contents → List RegionData → ℕ → Frame → FrameLine → End → Type 0
+abbrev pub IsEnd : List SectionData → List RegionData → ℕ → Frame → FrameLine → End → Type 0
 IsEnd sections memory count frame line NoObject = hit_of line.place ≡ None
-IsEnd sections memory count frame line NoFde = (s : Contents) × (hit_section sections line.place ≡ Some s) × (first_cover line.look s.fdes ≡ None)
+IsEnd sections memory count frame line NoFde = (s : SectionData) × (hit_section sections line.place ≡ Some s) × (first_cover line.look s.fdes ≡ None)
 IsEnd sections memory count frame line NoRow = HasOutcome sections memory frame line stepped.NoRow
 IsEnd sections memory count frame line Undefined = HasOutcome sections memory frame line stepped.Undefined
 IsEnd sections memory count frame line (NoBytes a) = HasOutcome sections memory frame line (stepped.NoBytes a)
@@ -92,7 +92,7 @@ IsEnd sections memory count frame line Long = (count ≡ 256) × ((caller : Fram
 
 -- A trace unfolds where there are frames, as many as lines: the first one has the recorded registers; each line shows its
 -- frame; each further frame is the caller of the one before it; and the trace ends for the reason that the last frame has.
-pub record Unfolds (sections : List Contents) (memory : List RegionData) (regs : Regs) (trace : TraceData) : Type 0 where
+pub record Unfolds (sections : List SectionData) (memory : List RegionData) (regs : Regs) (trace : TraceData) : Type 0 where
   pub frames : List Frame
   pub first : slice_get frames 0 ≡ Some (innermost regs)
   pub shown : AllZip Shows frames trace.frames

@@ -4,7 +4,7 @@ use Rattle.reg_model.specs.declared.answer.Half.TheVariants.{Registered, Loaded}
 use Rattle.reg_model.specs.declared.answer.Place.{Place}
 use Rattle.reg_model.specs.declared.answer.Receipt.{Receipt}
 use Rattle.reg_model.specs.declared.answer.Receipt.TheVariants.{Register, Deregister, Load, Unload, Query}
-use Rattle.reg_model.specs.Current.{Current, Step}
+use Rattle.reg_model.specs.PlainRegistryData.{PlainRegistryData, Step}
 use Rattle.reg_model.specs.Receipt.{IsPlace}
 use Rattle.reg_model.specs.State.{State}
 use Rattle.unwind_step.specs.declared.backtrace.FrameLine.{FrameLine}
@@ -19,7 +19,7 @@ GoesThrough {A} answers before (line ∷ lines) end = (next : A) × answers befo
 
 -- what a contract sees of a finder in such a registry
 pub record PlainFinderData : Type 0 where
-  pub registry : Current
+  pub registry : PlainRegistryData
   pub bound : ℕ
 
 -- each member has a payload below the bound
@@ -37,7 +37,7 @@ AddsBelow bound (Unload base answer) = Unit {0}
 AddsBelow bound (Query half pc found) = Unit {0}
 
 -- each half that was asked answered right of the registry
-pub record IsPlainPlace (registry : Current) (pc : ℕ) (place : Place) : Type 0 where
+pub record IsPlainPlace (registry : PlainRegistryData) (pc : ℕ) (place : Place) : Type 0 where
   pub registered : Step registry (Query Registered pc place.registered) registry
   pub loaded : IfSome place.loaded (λ found. Step registry (Query Loaded pc found) registry)
   pub halves : IsPlace place

@@ -3,7 +3,7 @@ use Rattle.std.specs.Prelude.{◌≡◌, ◌≢◌, ◌⊎◌, ℕ, ◌<◌, Lis
 use Rattle.frame_expr.specs.declared.fault.NoBytes.{NoBytes}
 use Rattle.frame_expr.specs.Regions.{RegionData}
 use Rattle.frame_parse.specs.declared.instructions.Step.{Step}
-use Rattle.frame_parse.specs.Sections.{FdeContents}
+use Rattle.frame_parse.specs.Sections.{FdeData}
 use Rattle.frame_rows.specs.declared.row.CfaRule.TheVariants as cfas
 use Rattle.frame_rows.specs.declared.row.Row.{Row}
 use Rattle.frame_rows.specs.declared.row.Rule.{Rule}
@@ -57,7 +57,7 @@ IsStep row old memory (stepped.Frame regs) = IsFrame row old memory regs.columns
 IsStep row old memory (stepped.NoBytes a) = LacksBytes row old memory (record { address = a })
 
 -- the row of an FDE at an address: the CFA and each column have the rules that its instructions give them there
-pub record IsRow (f : FdeContents) (pc : ℕ) (row : Row) : Type 0 where
+pub record IsRow (f : FdeData) (pc : ℕ) (row : Row) : Type 0 where
   pub initial : List Step
   pub steps : List Step
   pub has_initial : HasInitial f initial
@@ -66,7 +66,7 @@ pub record IsRow (f : FdeContents) (pc : ℕ) (row : Row) : Type 0 where
   pub columns : (r : ℕ) → r < 17 → slice_get row.columns r ≡ Some (rule_at r initial steps pc)
 
 -- what an FDE makes of the old registers, at the address that was looked up
-pub record IsNextFrame (f : FdeContents) (look : ℕ) (old : List ℕ) (memory : List RegionData) (outcome : Stepped) : Type 0 where
+pub record IsNextFrame (f : FdeData) (look : ℕ) (old : List ℕ) (memory : List RegionData) (outcome : Stepped) : Type 0 where
   pub row : Row
   pub is_row : IsRow f look row
   pub is_step : IsStep row old memory outcome

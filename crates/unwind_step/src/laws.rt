@@ -3,7 +3,7 @@
 ghost use Rattle.std.specs.Prelude.{◌≡◌, ℕ, List, All};
 ghost use Rattle.frame_expr.specs.Regions.{RegionData};
 ghost use Rattle.frame_rows.specs.declared.row.Row.{Row};
-ghost use Rattle.reg_model.specs.Current.{Current, Step};
+ghost use Rattle.reg_model.specs.PlainRegistryData.{PlainRegistryData, Step};
 ghost use Rattle.reg_model.specs.declared.answer.Receipt.{Receipt};
 ghost use Rattle.unwind_step.specs.NextFrame.{IsStep};
 ghost use Rattle.unwind_step.specs.declared.backtrace.FrameLine.{FrameLine};
@@ -12,7 +12,7 @@ ghost use Rattle.unwind_step.specs.Finders.{AddsBelow, AnswersPlainly, GoesThrou
 
 /// Payloads below a bound stay below it along the calls of a registry over plain lists.
 pub fn payloads_stay_below()
-    ensures { (bound : ℕ) (old new : Current) (r : Receipt) → AddsBelow bound r → Step old r new
+    ensures { (bound : ℕ) (old new : PlainRegistryData) (r : Receipt) → AddsBelow bound r → Step old r new
         → HasPayloadsBelow bound old.state → HasPayloadsBelow bound new.state }
 {}
 

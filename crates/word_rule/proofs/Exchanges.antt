@@ -5,7 +5,7 @@ use Rattle.std.specs.List.{AllByRecursion, filter}
 use Rattle.std.proofs.lemmas.Bool.{cond-false, le-leb, leb-true}
 use Rattle.std.proofs.lemmas.Bool.Decides.{Decides-and, Decides-like}
 use Rattle.reg_model.specs.declared.answer.Update.{Update}
-use Rattle.tree_shape.specs.Shapes.{Shape}
+use Rattle.tree_shape.specs.NodeData.{NodeData}
 use Rattle.tree_shape.specs.Numbers.{is_among}
 use Rattle.tree_shape.specs.Trees.{Contents}
 use Rattle.tree_shape.specs.LocalChange.{IsLawfulChange, either}
@@ -28,7 +28,7 @@ DecidedLaw = (f : Contents) (live : ℕ → Bool) (top : ℕ) (group : List ℕ)
 some_decides : {X : Type 0} (o : Option X) → Decides (is_some o) (IsSome o)
 some_decides o = (λ e. e, λ e. e)
 
-spelled_decides : (o : Option Shape) (s : Shape) → Decides (are_spelled o s) (o ≡ Some s)
+spelled_decides : (o : Option NodeData) (s : NodeData) → Decides (are_spelled o s) (o ≡ Some s)
 spelled_decides None s = (λ e. absurd (cc (e)), λ e. absurd (cc (e)))
 spelled_decides (Some t) s = (λ e. ap Some ((same_shape_decides t s).0 e), λ e. (same_shape_decides t s).1 (cc (e)))
 

@@ -5,7 +5,7 @@ use mathlib.Core.Option.{none, some}
 use native.Mathlib.Decide.{ℕ_discrete}
 use lib.ListN.{get_elem?}
 use Rattle.atomic_table.specs.Table.{step, keeps, Allows}
-use Rattle.tree_shape.specs.Shapes.{Shape, Link}
+use Rattle.tree_shape.specs.NodeData.{NodeData, Link}
 use Rattle.tree_shape.specs.Trees.{Contents}
 use Rattle.tree_shape.specs.Numbers.{times, once, is_among}
 use Rattle.tree_shape.specs.Lawful.{IsTree}
@@ -145,7 +145,7 @@ module _ (t : Terms) (slots id : ℕ) (me : Seated) (caller : me.0.role ≡ role
     chain : IsChain (memory_of t s.words).nodes.contents n (n ∷ r.memory.shadow.free)
     chain =
         let lock = some_and_of (λ (h : Holding). IsSomeAnd (spelled h.words) (λ c. c.body ≡ Link first)) (held_of n me.0.holdings.held) free in
-        let shape = some_and_of (λ (c : Shape). c.body ≡ Link first) (spelled lock.0.words) lock.1.1 in
+        let shape = some_and_of (λ (c : NodeData). c.body ≡ Link first) (spelled lock.0.words) lock.1.1 in
         let link = reads_link lock.0.words shape.0 first shape.1.0 shape.1.1 in
         let h = held_by t words s.views r.memory.history r.memory.shadow r.memory.nodes id me.0 n lock.0 at lock.1.0 in
         let same : lock.0.words ≡ (memory_of t s.words).nodes.contents n = h.0.as_now ∙ ap (memory_of t s.words).nodes.contents h.1 in

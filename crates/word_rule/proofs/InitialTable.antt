@@ -6,7 +6,7 @@ use borrow.Author.Tests.{lt-ltb, le-ltb}
 use lib.ListN.{get_or-append}
 use lib.Seq.{drop-append_seam, drop-append-add, take-append_seam}
 use Rattle.reg_model.specs.declared.span.Member.{Member}
-use Rattle.tree_shape.specs.Shapes.{Shape, Body, Link, Entries, entries_of}
+use Rattle.tree_shape.specs.NodeData.{NodeData, Body, Link, Entries, entries_of}
 use Rattle.tree_shape.specs.Trees.{HasEntry, branches}
 use Rattle.tree_shape.specs.Numbers.{times, once}
 use Rattle.tree_shape.specs.Lawful.{IsLawfulTree, IsOrdered, IsFilled, FitsParent}
@@ -28,7 +28,7 @@ use Rattle.word_rule.proofs.InitialCallers.{callers_begin, initial_length, initi
 abbrev initial_body : ℕ → ℕ → Body
 initial_body nodes n = if n == 0 then Entries [] else Link (initial_link nodes n)
 
-abbrev initial_shape : ℕ → ℕ → Shape
+abbrev initial_shape : ℕ → ℕ → NodeData
 initial_shape nodes n = record { level = 0; low = 0; high = 18446744073709551615; body = initial_body nodes n }
 
 abbrev is_root : ℕ → Bool

@@ -2,7 +2,7 @@
 use Rattle.std.proofs.Common.{◌≡◌, ◌≢◌, ℕ, zero, suc, ◌+◌, ◌<◌, ◌≤◌, List, [], ◌∷◌, ◌++◌, length, get_or, Contains, sym, refl, ap, ◌∙◌, subst, ⊎_elim, arith, append-nil, ◌==◌, not, Bool, true, false, true≢false, IsSome, Some, if◌then◌else◌}
 use Rattle.std.specs.List.{AllByRecursion, All, filter, find}
 use Rattle.std.proofs.lemmas.List.Elements.{All-contains, Contains-get_or, Contains-push_cases}
-use Rattle.reg_model.specs.Interval.{IsSpan, Overlaps}
+use Rattle.reg_model.specs.SpanData.{IsSpan, Overlaps}
 use Rattle.reg_model.specs.State.{State, AreDisjoint, IsFree, IsLawful}
 use Rattle.reg_model.specs.History.{after, state_after, IsHistory}
 use Rattle.reg_model.specs.declared.span.Member.{Member}

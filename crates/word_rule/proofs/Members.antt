@@ -1,7 +1,7 @@
 -- Members that ascend are not more than those of any list that has them all.
 use Rattle.std.proofs.Common.{◌≡◌, ◌≢◌, ℕ, zero, suc, ◌+◌, ◌<◌, ◌≤◌, List, [], ◌∷◌, length, get_or, Contains, sym, refl, ap, ◌∙◌, subst, arith}
 use Rattle.reg_model.specs.declared.span.Member.{Member}
-use Rattle.tree_shape.specs.Shapes.{EntriesWithin}
+use Rattle.tree_shape.specs.NodeData.{EntriesWithin}
 
 -- the list without the one at k
 abbrev pub drop_one : List Member → ℕ → List Member

@@ -11,7 +11,7 @@ use Rattle.reg_model.specs.Receipt.{moment, AllHold}
 use Rattle.reg_model.specs.declared.answer.Update.{Update}
 use Rattle.reg_model.specs.declared.answer.Receipt.{Receipt}
 use Rattle.reg_model.specs.declared.span.Member.{Member}
-use Rattle.tree_shape.specs.Shapes.{EntriesWithin, pairs_of, entries_of}
+use Rattle.tree_shape.specs.NodeData.{EntriesWithin, pairs_of, entries_of}
 use Rattle.tree_shape.specs.Trees.{Contents, entries, HasEntry}
 use Rattle.tree_shape.specs.Lawful.{IsTree, IsLawfulTree}
 use Rattle.word_rule.specs.declared.log.Role.TheVariants as role

@@ -9,7 +9,7 @@ use lib.ListN.{get_elem?}
 use prog.Atomic.{either}
 use Rattle.atomic_table.specs.Table.{step, Act, keeps, stepped, carried_after, Valid, Allows}
 use Rattle.atomic_table.proofs.Lists.{set_here}
-use Rattle.tree_shape.specs.Shapes.{Shape}
+use Rattle.tree_shape.specs.NodeData.{NodeData}
 use Rattle.tree_shape.specs.Numbers.{times, once}
 use Rattle.word_rule.specs.declared.log.Role.TheVariants as role
 use Rattle.word_rule.specs.declared.log.Terms.{Terms}
@@ -239,7 +239,7 @@ module _ (t : Terms) (slots id : ℕ) (me : Seated) (caller : me.0.role ≡ role
     pub bounded : seen < 2 ^ 63
     bounded = let c = r.memory.callers.counted in let o = one_counter (memory_of t s.words).nodes.versions n t.nodes inside in let before = hit in omega (arith, c, o, before)
 
-    pub told : (settled : Shape) × (words : List ℕ) × (SpellsNode words settled × (length words ≡ 35) × ◌≡◌ {A = Seated} (w, me.1) (after_node_lock n seen settled words me.0, me.1))
+    pub told : (settled : NodeData) × (words : List ℕ) × (SpellsNode words settled × (length words ≡ 35) × ◌≡◌ {A = Seated} (w, me.1) (after_node_lock n seen settled words me.0, me.1))
     told = (r.memory.shadow.settled n, (memory_of t s.words).nodes.contents n, (was_open.1, content_length t s.words r.wide n inside, refl))
 
   -- the root's lock
@@ -247,7 +247,7 @@ module _ (t : Terms) (slots id : ℕ) (me : Seated) (caller : me.0.role ≡ role
   locks_root root seen even inside s r deep at small =
       let k : ℕ = get_or s.words (4 + 36 * 0) 0 in
       by_same k seen (λ b. (w : Log) × (a : Act (Unit {0})) × Valid s.homes me.1 a × Holds (stepped s (4 + 36 * 0) (either b (seen + 1) k) id me.1 w a) × MatchBool b
-      ((seen % 4 ≡ 0) × (seen < 2 ^ 63) × ((settled : Shape) × (words : List ℕ) × (SpellsNode words settled × (length words ≡ 35) × ◌≡◌ {A = Seated} (w, carried_after me.1 a) (after_node_lock 0 seen settled words me.0, me.1))))
+      ((seen % 4 ≡ 0) × (seen < 2 ^ 63) × ((settled : NodeData) × (words : List ℕ) × (SpellsNode words settled × (length words ≡ 35) × ◌≡◌ {A = Seated} (w, carried_after me.1 a) (after_node_lock 0 seen settled words me.0, me.1))))
       (◌≡◌ {A = Seated} (w, carried_after me.1 a) (after_load (4 + 36 * 0) k me.0, me.1)))
       (λ is.
       let hit : (memory_of t s.words).nodes.versions 0 ≡ seen = load_version_at t s.words 0 inside ∙ is in

@@ -8,7 +8,7 @@ use native.Mathlib.Decide.{ℕ_discrete}
 use lib.ListN.{get_elem?}
 use Rattle.atomic_table.specs.Table.{step, keeps, Allows}
 use Rattle.tree_shape.specs.declared.node.Frame.{Frame}
-use Rattle.tree_shape.specs.Shapes.{frame_of, Shape}
+use Rattle.tree_shape.specs.NodeData.{frame_of, NodeData}
 use Rattle.tree_shape.specs.Numbers.{times, once}
 use Rattle.tree_shape.specs.LocalChange.{either}
 use Rattle.word_rule.specs.declared.log.Role.TheVariants as role
@@ -90,7 +90,7 @@ module _ (laws : ChangeLaws) (t : Terms) (slots id : ℕ) (me : Seated) (caller 
     abbrev words' : NodeWords
     words' = record (memory_of t s.words).nodes { versions = updated (memory_of t s.words).nodes.versions n (hn.version + 4) }
 
-    abbrev now : ℕ → Shape
+    abbrev now : ℕ → NodeData
     now = settled' laws t (memory_of t s.words).nodes s.views r.memory.history r.memory.shadow r.memory.nodes id me.0 at top group ex
 
     abbrev alive : ℕ → Bool
@@ -215,7 +215,7 @@ module _ (laws : ChangeLaws) (t : Terms) (slots id : ℕ) (me : Seated) (caller 
       spells_now : IsSome (spelled h.words) → SpellsNode h.words (changed h).settled
       spells_now some_content = go (spelled h.words) refl some_content (tested (group k)) (tested (is_some h.mark))
         where
-          go : (o : Option Shape) → spelled h.words ≡ o → IsSome o → (group k ≡ true) ⊎ (group k ≡ false) → (is_some h.mark ≡ true) ⊎ (is_some h.mark ≡ false) → SpellsNode h.words (changed h).settled
+          go : (o : Option NodeData) → spelled h.words ≡ o → IsSome o → (group k ≡ true) ⊎ (group k ≡ false) → (is_some h.mark ≡ true) ⊎ (is_some h.mark ≡ false) → SpellsNode h.words (changed h).settled
           go None e some_one g m = absurd (true≢false (sym some_one))
           go (Some c) e some_one (inl g) m = e ∙ ap Some (sym (by_group g ∙ ap (now_of h) e))
           go (Some c) e some_one (inr g) (inl m) = covered m g ∙ ap Some (sym (by_mark g m))

@@ -9,7 +9,7 @@ use Rattle.reg_model.specs.declared.answer.Update.{Update}
 use Rattle.reg_model.specs.declared.answer.Receipt.{Receipt}
 use Rattle.tree_shape.specs.declared.node.Frame.{Frame}
 use Rattle.tree_shape.specs.declared.pair.Pair.{Pair}
-use Rattle.tree_shape.specs.Shapes.{Body, Pairs, Entries, Link, pairs_in}
+use Rattle.tree_shape.specs.NodeData.{Body, Pairs, Entries, Link, pairs_in}
 use Rattle.tree_shape.specs.Trees.{Contents, branches, branches_from}
 use Rattle.tree_shape.specs.Lawful.{IsTree, IsOrderedAs, FitsParent}
 use Rattle.word_rule.specs.declared.log.Role.TheVariants as role

@@ -11,7 +11,7 @@ use Rattle.atomic_table.specs.Table.{step, keeps, Allows}
 use Rattle.atomic_table.proofs.Lists.{set_here}
 use Rattle.reg_model.specs.State.{State, at_base}
 use Rattle.reg_model.specs.History.{Fits, after, state_after}
-use Rattle.reg_model.specs.Current.{Step}
+use Rattle.reg_model.specs.PlainRegistryData.{Step}
 use Rattle.reg_model.specs.Receipt.{moment, accepted, made, Holds, IsFilled}
 use Rattle.reg_model.specs.declared.span.Member.{Member}
 use Rattle.reg_model.specs.declared.answer.Update.{Update}

@@ -6,7 +6,7 @@ use native.Mathlib.Decide.{ℕ_discrete}
 use Rattle.std.proofs.Common.{ne_eqb}
 use Rattle.reg_model.specs.declared.span.Member.{Member}
 use Rattle.tree_shape.specs.declared.pair.Pair.{Pair}
-use Rattle.tree_shape.specs.Shapes.{Shape, Body, Pairs, Entries, Link, pairs_of, entries_of, pairs_in, entries_in}
+use Rattle.tree_shape.specs.NodeData.{NodeData, Body, Pairs, Entries, Link, pairs_of, entries_of, pairs_in, entries_in}
 use Rattle.word_rule.specs.Spelling.{node_word, is_short, pair_at, pairs_at, entry_at, is_entry_at, entries_at, body_of_kind, SpellsNode}
 use Rattle.word_rule.specs.Observations.{IsFullBody}
 
@@ -56,35 +56,35 @@ body_cases false few false low true pairs entries link body e = subst (ComesFrom
 body_cases false few false low false pairs entries link body e = absurd (none-some body e)
 
 -- What words that spell a node say of it.
-pub record Reads (words : List ℕ) (s : Shape) : Type 0 where
+pub record Reads (words : List ℕ) (s : NodeData) : Type 0 where
   pub level : s.level ≡ node_word words 2
   pub low : s.low ≡ node_word words 3
   pub high : s.high ≡ node_word words 4
   pub body : body_of_kind words (node_word words 1) (node_word words 5) ≡ Some s.body
 
-pub reads : (words : List ℕ) (s : Shape) → SpellsNode words s → Reads words s
+pub reads : (words : List ℕ) (s : NodeData) → SpellsNode words s → Reads words s
 reads words s e = go (is_short (node_word words 2)) (body_of_kind words (node_word words 1) (node_word words 5)) refl e
   where
     go : (b : Bool) (o : Option Body) → body_of_kind words (node_word words 1) (node_word words 5) ≡ o
-        → ◌≡◌ {A = Option Shape} (if b then option_map (λ body. record { level = node_word words 2; low = node_word words 3; high = node_word words 4; body = body }) o else None) (Some s) → Reads words s
+        → ◌≡◌ {A = Option NodeData} (if b then option_map (λ body. record { level = node_word words 2; low = node_word words 3; high = node_word words 4; body = body }) o else None) (Some s) → Reads words s
     go true None is f = absurd (none-some s f)
     go true (Some body) is f =
         let same : record { level = node_word words 2; low = node_word words 3; high = node_word words 4; body = body } ≡ s = same_Some _ _ f in
         record { level = sym (ap (λ k. k.level) same); low = sym (ap (λ k. k.low) same); high = sym (ap (λ k. k.high) same); body = is ∙ ap (λ k. Some k.body) same }
     go false o is f = absurd (none-some s f)
 
-comes : (words : List ℕ) (s : Shape) → SpellsNode words s
+comes : (words : List ℕ) (s : NodeData) → SpellsNode words s
     → ComesFrom (pairs_at words 6 (node_word words 5)) (entries_at words 6 (node_word words 5)) ((node_word words 1 == 2) && is_short (node_word words 6)) (node_word words 6) s.body
 comes words s e = body_cases (node_word words 1 == 0) (nat_le (node_word words 5) 15) (node_word words 1 == 1) (nat_le (node_word words 5) 10) ((node_word words 1 == 2) && is_short (node_word words 6)) (pairs_at words 6 (node_word words 5)) (entries_at words 6 (node_word words 5)) (node_word words 6) s.body (reads words s e).body
 
 -- words that spell a free node, linked to the next
-pub reads_link : (words : List ℕ) (s : Shape) (next : ℕ) → SpellsNode words s → s.body ≡ Link next → (node_word words 1 ≡ 2) × (node_word words 6 ≡ next)
+pub reads_link : (words : List ℕ) (s : NodeData) (next : ℕ) → SpellsNode words s → s.body ≡ Link next → (node_word words 1 ≡ 2) × (node_word words 6 ≡ next)
 reads_link words s next e link =
     let c = subst (ComesFrom (pairs_at words 6 (node_word words 5)) (entries_at words 6 (node_word words 5)) ((node_word words 1 == 2) && is_short (node_word words 6)) (node_word words 6)) link (comes words s e) in
     (eqb_true (node_word words 1) 2 (and_parts _ _ c.0).0, c.1)
 
 -- the count of a full node is the number of its pairs, or of its entries
-pub reads_full : (words : List ℕ) (s : Shape) (found : ℕ) → SpellsNode words s → found ≡ node_word words 5 → IsFullBody found s.body → (length (pairs_of s) ≡ 15) ⊎ (length (entries_of s) ≡ 10)
+pub reads_full : (words : List ℕ) (s : NodeData) (found : ℕ) → SpellsNode words s → found ≡ node_word words 5 → IsFullBody found s.body → (length (pairs_of s) ≡ 15) ⊎ (length (entries_of s) ≡ 10)
 reads_full words s found e count full = go s.body (comes words s e) full
   where
     go : (body : Body) → ComesFrom (pairs_at words 6 (node_word words 5)) (entries_at words 6 (node_word words 5)) ((node_word words 1 == 2) && is_short (node_word words 6)) (node_word words 6) body → IsFullBody found body
@@ -94,5 +94,5 @@ reads_full words s found e count full = go s.body (comes words s e) full
     go (Link next) c is = absurd is
 
 -- the pairs that are read
-pub reads_pairs : (words : List ℕ) (s : Shape) (xs : List Pair) → SpellsNode words s → s.body ≡ Pairs xs → pairs_at words 6 (node_word words 5) ≡ Some xs
+pub reads_pairs : (words : List ℕ) (s : NodeData) (xs : List Pair) → SpellsNode words s → s.body ≡ Pairs xs → pairs_at words 6 (node_word words 5) ≡ Some xs
 reads_pairs words s xs e is = subst (ComesFrom (pairs_at words 6 (node_word words 5)) (entries_at words 6 (node_word words 5)) ((node_word words 1 == 2) && is_short (node_word words 6)) (node_word words 6)) is (comes words s e)

@@ -5,7 +5,7 @@ use Rattle.std.specs.List.{AllByRecursion, filter, list_all}
 use Rattle.reg_model.specs.declared.answer.Update.{Update}
 use Rattle.reg_model.specs.declared.answer.Update.TheVariants.{Register, Deregister, Load, Unload}
 use Rattle.tree_shape.specs.Decisions.{same_shape, is_entries, is_lawful_change}
-use Rattle.tree_shape.specs.Shapes.{Shape, frame_of}
+use Rattle.tree_shape.specs.NodeData.{NodeData, frame_of}
 use Rattle.tree_shape.specs.Trees.{Contents}
 use Rattle.tree_shape.specs.Numbers.{is_among}
 use Rattle.tree_shape.specs.LocalChange.{either, reached_nodes, IsLawfulChange}
@@ -59,7 +59,7 @@ pub record IsLawfulExchange (v : Log) (update : Option Update) (top : ℕ) (grou
 
 -- A held node's settled content becomes what its words spell, where it is in the group or isn't live. It is marked where
 -- it is reached, and no more where it is of the group and isn't.
-abbrev pub mark_after : Shape → (ℕ → Bool) → (ℕ → Bool) → Holding → Option Frame
+abbrev pub mark_after : NodeData → (ℕ → Bool) → (ℕ → Bool) → Holding → Option Frame
 mark_after now group reached h = if reached h.node then Some (frame_of now) else (if group h.node then None else h.mark)
 
 abbrev pub exchange : (ℕ → Bool) → (ℕ → Bool) → Holding → Holding
@@ -80,7 +80,7 @@ abbrev pub settle_free : Log → Log
 settle_free v = record v { holdings = record v.holdings { held = map (exchange nothing_reached nothing_reached) v.holdings.held } }
 
 -- whether what words spell is this content
-abbrev pub are_spelled : Option Shape → Shape → Bool
+abbrev pub are_spelled : Option NodeData → NodeData → Bool
 are_spelled None s = false
 are_spelled (Some t) s = same_shape t s
 
@@ -92,7 +92,7 @@ address_of (Load m) = m.span.first
 address_of (Unload base) = base
 
 -- whether the words spell a leaf whose fences hold the address
-abbrev pub is_leaf_at : ℕ → Option Shape → Bool
+abbrev pub is_leaf_at : ℕ → Option NodeData → Bool
 is_leaf_at pc None = false
 is_leaf_at pc (Some s) = is_entries s.body && (nat_le s.low pc && nat_le pc s.high)
 

@@ -1,7 +1,7 @@
 -- The locks of nodes that a log has, by the node's number.
 use Rattle.std.specs.Prelude.{ℕ, Bool, false, ◌==◌, not, List, Option, Some, None, map, is_some, if◌then◌else◌}
 use Rattle.std.specs.List.{find, filter}
-use Rattle.tree_shape.specs.Shapes.{Shape, Link}
+use Rattle.tree_shape.specs.NodeData.{NodeData, Link}
 use Rattle.tree_shape.specs.Trees.{Contents}
 use Rattle.word_rule.specs.Spelling.{spelled}
 use Rattle.word_rule.specs.declared.log.Holding.{Holding}
@@ -23,11 +23,11 @@ abbrev pub all_but : ℕ → List ℕ → List ℕ
 all_but n nodes = filter (λ m. not (m == n)) nodes
 
 -- what stands in for a node that is not held
-abbrev pub no_shape : Shape
+abbrev pub no_shape : NodeData
 no_shape = record { level = 0; low = 0; high = 0; body = Link 0 }
 
 -- the settled contents that a log has
-abbrev pub settled_shape : Option Holding → Shape
+abbrev pub settled_shape : Option Holding → NodeData
 settled_shape None = no_shape
 settled_shape (Some h) = h.settled
 
@@ -35,11 +35,11 @@ abbrev pub settled_in : List Holding → Contents
 settled_in held n = settled_shape (held_of n held)
 
 -- what the words of a held node spell now, and its settled content where they spell nothing
-abbrev pub now_of : Holding → Option Shape → Shape
+abbrev pub now_of : Holding → Option NodeData → NodeData
 now_of h None = h.settled
 now_of h (Some shape) = shape
 
-abbrev pub now_shape : Option Holding → Shape
+abbrev pub now_shape : Option Holding → NodeData
 now_shape None = no_shape
 now_shape (Some h) = now_of h (spelled h.words)
 

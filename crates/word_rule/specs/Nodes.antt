@@ -7,7 +7,7 @@ use Rattle.reg_model.specs.History.{state_after}
 use Rattle.reg_model.specs.declared.answer.Update.{Update}
 use Rattle.reg_model.specs.declared.span.Member.{Member}
 use Rattle.tree_shape.specs.declared.node.Frame.{Frame}
-use Rattle.tree_shape.specs.Shapes.{Shape}
+use Rattle.tree_shape.specs.NodeData.{NodeData}
 use Rattle.tree_shape.specs.Trees.{Contents, HasEntry}
 use Rattle.tree_shape.specs.Numbers.{times, once}
 use Rattle.tree_shape.specs.Lawful.{IsLawfulTree}
@@ -30,7 +30,7 @@ pub record Shadow : Type 0 where
   pub free : List ℕ
 
 -- the content has this place in the tree
-abbrev pub IsPlaced : Shape → Frame → Type 0
+abbrev pub IsPlaced : NodeData → Frame → Type 0
 IsPlaced s f = (s.level ≡ f.level) × (s.low ≡ f.low) × (s.high ≡ f.high)
 
 -- One log's lock of a node: it is the holder, the version word is its version, locked, and it has
@@ -64,7 +64,7 @@ HeldBy n views None = Unit {0}
 HeldBy n views (Some id) = (v : Log) × ((get_elem? views id ≡ some v) × IsSome (held_of n v.holdings.held))
 
 -- an unlocked node's version is a multiple of 4, and its words spell its settled content
-abbrev pub IsOpen : ℕ → List ℕ → Shape → Option ℕ → Type 0
+abbrev pub IsOpen : ℕ → List ℕ → NodeData → Option ℕ → Type 0
 IsOpen version words settled None = (version % 4 ≡ 0) × SpellsNode words settled
 IsOpen version words settled (Some id) = Unit {0}
 

@@ -6,7 +6,7 @@ use Rattle.reg_model.specs.Receipt.{moment}
 use Rattle.reg_model.specs.declared.answer.Update.{Update}
 use Rattle.reg_model.specs.declared.answer.Receipt.{Receipt}
 use Rattle.reg_model.specs.declared.span.Member.{Member}
-use Rattle.tree_shape.specs.Shapes.{Shape, Body, Link, Pairs, Entries, entries_of}
+use Rattle.tree_shape.specs.NodeData.{NodeData, Body, Link, Pairs, Entries, entries_of}
 use Rattle.word_rule.specs.declared.log.Terms.{Terms}
 use Rattle.word_rule.specs.declared.log.Holding.{Holding}
 use Rattle.word_rule.specs.declared.log.LoadEvent.{LoadEvent}
@@ -32,7 +32,7 @@ abbrev pub AreOfNode : List ℕ → List LoadedWord → Type 0
 AreOfNode words loaded = AllByRecursion (λ w. node_word words w.at ≡ w.value) loaded
 
 -- the entries are the members inside the fences of the content
-abbrev pub AreInside : List Member → Shape → Type 0
+abbrev pub AreInside : List Member → NodeData → Type 0
 AreInside members s =
     (x : Member) → Contains (entries_of s) x ↔ (Contains members x × (s.low ≤ x.span.first) × (x.span.last ≤ s.high))
 

@@ -2,7 +2,7 @@
 use Rattle.std.specs.Prelude.{◌≡◌, ℕ, ◌%◌, ◌<◌, ◌^◌, ◌==◌, ◌≤◌, List, length, MatchBool, IfSome, false}
 use Rattle.atomic_table.specs.Table.{Me, Step}
 use Rattle.reg_model.specs.declared.answer.Update.{Update}
-use Rattle.tree_shape.specs.Shapes.{Shape}
+use Rattle.tree_shape.specs.NodeData.{NodeData}
 use Rattle.word_rule.specs.declared.log.Log.{Log}
 use Rattle.word_rule.specs.declared.log.LoaderHolding.{LoaderHolding}
 use Rattle.word_rule.specs.declared.log.Ask.{Ask}
@@ -63,7 +63,7 @@ loads_version ask n st me found me' = me' ≡ (after_node_version ask n found me
 -- an exchange at a node's version word for one with bit 0: the node is held, or another word was found
 abbrev pub locks_node : ℕ → Stepped → Seated → ℕ → Seated → Type 0
 locks_node n st me found me' = MatchBool (found == st.first)
-    ((st.first % 4 ≡ 0) × (st.first < 2 ^ 63) × ((settled : Shape) × (words : List ℕ) × (SpellsNode words settled × (length words ≡ CONTENT_WORDS) × (me' ≡ (after_node_lock n st.first settled words me.0, me.1)))))
+    ((st.first % 4 ≡ 0) × (st.first < 2 ^ 63) × ((settled : NodeData) × (words : List ℕ) × (SpellsNode words settled × (length words ≡ CONTENT_WORDS) × (me' ≡ (after_node_lock n st.first settled words me.0, me.1)))))
     (me' ≡ (after_load st.word found me.0, me.1))
 
 -- a node was put back on the free list

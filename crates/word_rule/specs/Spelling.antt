@@ -3,7 +3,7 @@
 use Rattle.std.specs.Prelude.{◌≡◌, ℕ, zero, suc, ◌+◌, ◌-◌, ◌^◌, Bool, ◌&&◌, ◌==◌, nat_lt, nat_le, List, [], ◌∷◌, Option, Some, None, option_map, slice_index, if◌then◌else◌}
 use Rattle.reg_model.specs.declared.span.Member.{Member}
 use Rattle.tree_shape.specs.declared.pair.Pair.{Pair}
-use Rattle.tree_shape.specs.Shapes.{Shape, Body, Pairs, Entries, Link}
+use Rattle.tree_shape.specs.NodeData.{NodeData, Body, Pairs, Entries, Link}
 use Rattle.word_rule.specs.Places.{TOP}
 
 -- the word of a node with this number, where these are the words after its version word
@@ -48,12 +48,12 @@ body_of_kind words kind count =
     else (if (kind == 2) && is_short (node_word words 6) then Some (Link (node_word words 6)) else None))
 
 -- the node that the words spell, if they spell one
-abbrev pub spelled : List ℕ → Option Shape
+abbrev pub spelled : List ℕ → Option NodeData
 spelled words =
     if is_short (node_word words 2)
     then option_map (λ body. record { level = node_word words 2; low = node_word words 3; high = node_word words 4; body = body })
     (body_of_kind words (node_word words 1) (node_word words 5))
     else None
 
-abbrev pub SpellsNode : List ℕ → Shape → Type 0
+abbrev pub SpellsNode : List ℕ → NodeData → Type 0
 SpellsNode words shape = spelled words ≡ Some shape

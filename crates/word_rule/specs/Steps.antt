@@ -12,7 +12,7 @@ use Rattle.reg_model.specs.declared.answer.Loading.TheVariants as loading
 use Rattle.reg_model.specs.declared.answer.Removed.TheVariants as removed
 use Rattle.reg_model.specs.declared.answer.Receipt.{Receipt}
 use Rattle.reg_model.specs.declared.answer.Receipt.TheVariants as receipt
-use Rattle.tree_shape.specs.Shapes.{Shape, Link}
+use Rattle.tree_shape.specs.NodeData.{NodeData, Link}
 use Rattle.tree_shape.specs.Trees.{branches, Branch}
 use Rattle.word_rule.specs.declared.log.Log.{Log}
 use Rattle.word_rule.specs.declared.log.Holding.{Holding}
@@ -46,7 +46,7 @@ abbrev pub place_by_held : ℕ → List Holding → Option Frame
 place_by_held n [] = None
 place_by_held n (h ∷ held) = first_mark (place_by n h.mark h) (place_by_held n held)
 
-abbrev pub mark_at_lock : ℕ → Shape → List Holding → Option Frame
+abbrev pub mark_at_lock : ℕ → NodeData → List Holding → Option Frame
 mark_at_lock n settled held = if n == 0 then Some record { level = settled.level; low = settled.low; high = settled.high } else place_by_held n held
 
 -- the head that is kept counts only under one lock of the root
@@ -54,7 +54,7 @@ abbrev pub head_without : ℕ → Option ℕ → Option ℕ
 head_without n head = if n == 0 then None else head
 
 -- A node was locked at a version, while it had this settled content and these words.
-abbrev pub after_node_lock : ℕ → ℕ → Shape → List ℕ → Log → Log
+abbrev pub after_node_lock : ℕ → ℕ → NodeData → List ℕ → Log → Log
 after_node_lock n version settled words v = record (after_write v) {
   holdings = record v.holdings {
     held = record { node = n; version = version; settled = settled; words = words; stored = false; mark = mark_at_lock n settled v.holdings.held } ∷ v.holdings.held;

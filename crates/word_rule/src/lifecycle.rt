@@ -1,7 +1,7 @@
 //! How the words are made and taken apart.
 ghost use Rattle.std.specs.Prelude.{◌≡◌, ◌+◌, ◌*◌, ◌^◌, ◌<◌, ◌≤◌, [], length, None, IfOk};
 ghost use Rattle.std.specs.List.{AllByRecursion};
-ghost use Rattle.reg_model.specs.Interval.{IsSpan};
+ghost use Rattle.reg_model.specs.SpanData.{IsSpan};
 ghost use Rattle.segment_array.specs.Ascending.{AscendFrom};
 ghost use Rattle.word_rule.specs.Logs.{first_log};
 ghost use Rattle.word_rule.specs.Places.{ALLOWANCE};

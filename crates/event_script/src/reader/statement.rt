@@ -2,12 +2,12 @@
 
 ghost use Rattle.std.specs.Prelude.{◌≡◌};
 ghost use Rattle.event_script.specs.Fields.{fields_behind};
-ghost use Rattle.event_script.specs.Reading.{GivesLine, one_decimal, one_hex, image_fields, alone, statement_of};
+ghost use Rattle.event_script.specs.Reading.{GivesLine, one_decimal, one_hex, image_fields, fieldless, statement_of};
 
 use crate::reader::fault::{LineFault, Reason};
 use crate::reader::fields::{five_fields, has_any, only_field};
 use crate::reader::kinds::Kind;
-use crate::reader::numbers::{bytes_in, decimal_in, hex_in};
+use crate::reader::numbers::{decimal_in, hex_in, section_bytes};
 use crate::script::Event;
 use std::alloc::Global;
 use std::marker::Model;
@@ -59,8 +59,8 @@ pub fn statement_of(alloc: Global, kind: Kind, rest: &[u8]) -> Result<Statement,
         Kind::Loads => Ok(Statement::Loads(one_decimal(rest)?)),
         Kind::Image => Ok(Statement::Image(image_fields(alloc, rest)?)),
         Kind::Fixed => Ok(Statement::Fixed(one_decimal(rest)?)),
-        Kind::Round => alone(rest, Statement::Round),
-        Kind::Thread => alone(rest, Statement::Thread),
+        Kind::Round => fieldless(rest, Statement::Round),
+        Kind::Thread => fieldless(rest, Statement::Thread),
         Kind::Register => {
             let image = one_decimal(rest)?;
             Ok(Statement::Event(Event::Register { image }))
@@ -81,14 +81,14 @@ pub fn statement_of(alloc: Global, kind: Kind, rest: &[u8]) -> Result<Statement,
             let pc = one_hex(rest)?;
             Ok(Statement::Event(Event::Find { pc }))
         }
-        Kind::End => alone(rest, Statement::End),
+        Kind::End => fieldless(rest, Statement::End),
         Kind::Snapshot | Kind::Unwind => Err(Reason::Unbuilt.into()),
     }
 }
 
 /// What a line says that has no field but its word.
-fn alone(rest: &[u8], statement: Statement) -> Result<Statement, LineFault>
-    ensures { GivesLine result (alone (fields_behind rest.now) statement) }
+fn fieldless(rest: &[u8], statement: Statement) -> Result<Statement, LineFault>
+    ensures { GivesLine result (fieldless (fields_behind rest.now) statement) }
 {
     if has_any(rest) {
         return Err(Reason::Fields.into());
@@ -121,7 +121,7 @@ fn image_fields(alloc: Global, rest: &[u8]) -> Result<ImageFields, LineFault>
     let base = hex_in(base).ok_or(Reason::Spelling)?;
     let size = hex_in(size).ok_or(Reason::Spelling)?;
     let section = hex_in(section).ok_or(Reason::Spelling)?;
-    let bytes = bytes_in(alloc, bytes)?.ok_or(Reason::Spelling)?;
+    let bytes = section_bytes(alloc, bytes)?.ok_or(Reason::Spelling)?;
     Ok(ImageFields {
         number,
         base,

@@ -1,9 +1,9 @@
 //! What one instruction spells, read where it stands.
 
 ghost use Rattle.std.specs.Prelude.{◌≡◌, ◌<◌, ◌≤◌, ◌*◌, ◌%◌, ◌^◌, ◌⊎◌, nat_lt, if◌then◌else◌, IfOk};
-ghost use Rattle.eh_bytes.specs.Rest.{Gives};
+ghost use Rattle.eh_bytes.specs.CursorData.{Gives};
 ghost use Rattle.frame_parse.specs.declared.instructions.ReadRule.TheVariants as rules;
-ghost use Rattle.frame_parse.specs.Programs.{other, factored, set, restored, cfa_column, second_column, extended_operation};
+ghost use Rattle.frame_parse.specs.Programs.{other, factored, set, restore, cfa_column, second_column, extended_operation};
 
 use super::context::Context;
 use super::opcodes::*;
@@ -37,8 +37,8 @@ pub(super) fn set(column: u64, rule: ReadRule) -> Instruction
 
 /// The initial rule of a column, which is applied up to column 16.
 #[inline(always)]
-pub(super) fn restored(column: u64) -> Instruction
-    ensures { result ≡ restored column }
+pub(super) fn restore(column: u64) -> Instruction
+    ensures { result ≡ restore column }
 {
     if column > 16 {
         Instruction::Nop
@@ -135,7 +135,7 @@ pub(super) fn extended_operation(
             let by = factored(context, uleb(cursor)?);
             Ok(other(set(column, ReadRule::Offset { by })))
         }
-        DW_CFA_restore_extended => Ok(other(restored(uleb(cursor)?))),
+        DW_CFA_restore_extended => Ok(other(restore(uleb(cursor)?))),
         DW_CFA_undefined => Ok(other(set(uleb(cursor)?, ReadRule::Undefined))),
         DW_CFA_same_value => Ok(other(set(uleb(cursor)?, ReadRule::Same))),
         DW_CFA_register => {

@@ -1,12 +1,12 @@
 //! The steps of a program, read one by one and tested on the way.
 
 ghost use Rattle.std.specs.Prelude.{◌≡◌, ◌/◌, ◌%◌};
-ghost use Rattle.eh_bytes.specs.Rest.{Gives};
+ghost use Rattle.eh_bytes.specs.CursorData.{Gives};
 ghost use Rattle.eh_bytes.specs.Steps.{steps_from};
 ghost use Rattle.frame_parse.specs.Programs.{instruction_of, extended_step, step, initial_state, first_state};
 
 use super::context::Context;
-use super::decode::{cfa_column, extended_operation, factored, restored, set};
+use super::decode::{cfa_column, extended_operation, factored, restore, set};
 use super::effect::{advance, change_cfa, effect, remember, restore_state};
 use super::opcodes::*;
 use super::{Instruction, Operation, ReadRule, Step};
@@ -138,7 +138,7 @@ pub(crate) fn step(
                 let by = factored(context, uleb(cursor)?);
                 Ok(here(state, set(low as u64, ReadRule::Offset { by })))
             }
-            DW_CFA_restore => Ok(here(state, restored(low as u64))),
+            DW_CFA_restore => Ok(here(state, restore(low as u64))),
             _ => extended_step(context, cursor, state, at, byte),
         }
     }

@@ -1,8 +1,8 @@
 //! The augmentation of a CIE: its letters, and the data that they speak of.
 
 ghost use Rattle.std.specs.Prelude.{◌≡◌};
-ghost use Rattle.eh_bytes.specs.Rest.{Gives};
-ghost use Rattle.frame_parse.specs.Records.{is_letter, is_among, are_letters, is_augmentation, letter, letters, augmentation_data};
+ghost use Rattle.eh_bytes.specs.CursorData.{Gives};
+ghost use Rattle.frame_parse.specs.Records.{is_letter, is_one_of, are_letters, is_augmentation, letter, letters, augmentation_data};
 
 use super::fields::{code_encoding, data, data_encoding, optional_pointer, uleb};
 use crate::fault::RecordFault;
@@ -29,8 +29,8 @@ impl Augmentation {
     };
 }
 
-fn is_among(letter: u8, letters: &[u8]) -> bool
-    ensures { result ≡ is_among letter letters.now }
+fn is_one_of(letter: u8, letters: &[u8]) -> bool
+    ensures { result ≡ is_one_of letter letters.now }
 {
     letters.iter().any(|other| letter == *other)
 }
@@ -41,7 +41,7 @@ fn are_letters(letters: &[u8]) -> bool
 {
     match letters {
         [] => true,
-        [b'L' | b'P' | b'R' | b'S', rest @ ..] => !is_among(letters[0], rest) && are_letters(rest),
+        [b'L' | b'P' | b'R' | b'S', rest @ ..] => !is_one_of(letters[0], rest) && are_letters(rest),
         _ => false,
     }
 }

@@ -1,7 +1,7 @@
 //! The fields of a CIE.
 
 ghost use Rattle.std.specs.Prelude.{◌≡◌, IfOk};
-ghost use Rattle.eh_bytes.specs.Rest.{Gives};
+ghost use Rattle.eh_bytes.specs.CursorData.{Gives};
 ghost use Rattle.frame_parse.specs.Records.{has_data, version, augmentation, return_column, cie};
 
 use super::augmentation::{augmentation_data, is_augmentation};

@@ -1,7 +1,7 @@
 //! The fields of an FDE.
 
 ghost use Rattle.std.specs.Prelude.{◌≡◌, IfOk};
-ghost use Rattle.eh_bytes.specs.Rest.{Gives};
+ghost use Rattle.eh_bytes.specs.CursorData.{Gives};
 ghost use Rattle.frame_parse.specs.Entries.{with_cie};
 ghost use Rattle.frame_parse.specs.Records.{range, lsda, fde};
 

@@ -1,5 +1,5 @@
 use Rattle.std.proofs.Common.{ℕ, ◌+◌, Some, drop, ap, sym, ◌∙◌, arith}
-use Rattle.eh_bytes.specs.Rest.{text_len}
+use Rattle.eh_bytes.specs.CursorData.{text_len}
 use Rattle.eh_bytes.proofs.Digits.{shifted, shifted-zero, shifted-suc}
 use Rattle.eh_bytes.proofs.Texts.{text_len-last, text_len-more, text_len-end}
 use Rattle.eh_bytes.proofs.cursor.text_length.Goals as goal

@@ -1,5 +1,5 @@
 use Rattle.std.proofs.Common.{◌≡◌, drop}
-use Rattle.eh_bytes.specs.Rest.{text_len}
+use Rattle.eh_bytes.specs.CursorData.{text_len}
 use Rattle.eh_bytes.proofs.Digits.{shifted}
 use Rattle.eh_bytes.proofs.cursor.text_length.Given as goal
 

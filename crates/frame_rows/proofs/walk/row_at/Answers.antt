@@ -1,5 +1,5 @@
 use Rattle.std.proofs.Common.{◌≡◌, Option, None, IfSome, sym, subst}
-use Rattle.frame_parse.specs.Sections.{FdeContents}
+use Rattle.frame_parse.specs.Sections.{FdeData}
 use Rattle.frame_rows.specs.declared.row.Row.{Row}
 use Rattle.frame_rows.specs.Rows.{IsBaseRow}
 use Rattle.frame_rows.proofs.Agreement.{cfa_of, column_of}
@@ -7,8 +7,8 @@ use Rattle.frame_rows.proofs.BothPrograms.{behind_both, behind_initial}
 use Rattle.frame_rows.proofs.walk.row_at.Goals as goal
 
 -- the row is told where none is kept
-told : (f g : FdeContents) (kept : Option Row) (base : Row) → g ≡ f → kept ≡ None → IsBaseRow f base → IsBaseRow g base × IfSome kept (λ (row : Row). row ≡ base)
-told f g kept base same none is = (subst (λ (k : FdeContents). IsBaseRow k base) (sym same) is, rw none tt)
+told : (f g : FdeData) (kept : Option Row) (base : Row) → g ≡ f → kept ≡ None → IsBaseRow f base → IsBaseRow g base × IfSome kept (λ (row : Row). row ≡ base)
+told f g kept base same none is = (subst (λ (k : FdeData). IsBaseRow k base) (sym same) is, rw none tt)
 
 pub returns-then-first-pc-clause-cfa : goal.returns-then-first-pc-clause-cfa
 returns-then-first-pc-clause-cfa c = λ initial steps has_initial has.

@@ -1,6 +1,6 @@
 use Rattle.std.proofs.Common.{sym, ◌∙◌}
 use Rattle.std.proofs.lemmas.List.Folds.{find-append}
-use Rattle.reg_model.specs.Interval.{contains}
+use Rattle.reg_model.specs.SpanData.{contains}
 use Rattle.reg_model.proofs.plain.object_containing.Goals as goal
 
 pub returns : goal.returns

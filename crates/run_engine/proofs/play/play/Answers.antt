@@ -1,5 +1,5 @@
 use Rattle.std.proofs.Common.{ℕ, List, ap, ap₂, ◌∙◌, map}
-use Rattle.reg_model.specs.Interval.{Interval}
+use Rattle.reg_model.specs.SpanData.{SpanData}
 use Rattle.reg_model.specs.State.{opening}
 use Rattle.event_script.specs.Lawful.{image_member}
 use Rattle.run_engine.proofs.Lawfulness.{lawful_play, unfilled_play}
@@ -10,7 +10,7 @@ use Rattle.run_engine.proofs.play.play.Goals as goal
 pub returns-clause-lawful : goal.returns-clause-lawful
 returns-clause-lawful g c =
     let loads = c.script.inside.loads in
-    let fixed = c.in_ok-fixed.ensures ∙ ap₂ (λ (images : List Interval) (numbers : List ℕ). map (image_member images) numbers) c.deref.ensures.value c.deref-2.ensures.value in
+    let fixed = c.in_ok-fixed.ensures ∙ ap₂ (λ (images : List SpanData) (numbers : List ℕ). map (image_member images) numbers) c.deref.ensures.value c.deref-2.ensures.value in
     let first = c.new-registry.ensures ∙ ap (λ fixed. record { state = opening fixed loads; updates = 0 }) fixed in
     rw (← c.script.view_is) (lawful_play c.chains_hold.ensures.rise c.numbers_tell_histories.ensures c.chains_hold.ensures.hold (λ thread. thread.items) (λ round. round.items) _ c.in_ok-rounds.rounds.items c.updates-updates.result c.play_rounds.new.registry
     (rw (← c.deref-4.ensures.value) c.in_ok-rounds.ensures.answered)

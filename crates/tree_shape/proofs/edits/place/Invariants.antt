@@ -1,5 +1,5 @@
 use Rattle.std.proofs.Common.{◌≡◌, ◌+◌, drop}
-use Rattle.tree_shape.specs.Shapes.{place_for}
+use Rattle.tree_shape.specs.NodeData.{place_for}
 use Rattle.tree_shape.proofs.edits.place.Given as goal
 
 -- the place is among the entries that are left

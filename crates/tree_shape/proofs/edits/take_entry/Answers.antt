@@ -1,5 +1,5 @@
 use Rattle.std.proofs.Common.{◌≡◌, arith, ap, ◌∙◌}
-use Rattle.tree_shape.specs.Shapes.{entries_of, place_for}
+use Rattle.tree_shape.specs.NodeData.{entries_of, place_for}
 use Rattle.tree_shape.proofs.Orders.{leaf_order}
 use Rattle.tree_shape.proofs.Parts.{taken, taken_at, place_above}
 use Rattle.tree_shape.proofs.edits.take_entry.Goals as goal

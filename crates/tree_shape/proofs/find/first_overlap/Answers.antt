@@ -2,10 +2,10 @@ use Rattle.std.proofs.Common.{◌≡◌, ◌∙◌, length, take, get_or, ap, ar
 use Rattle.std.proofs.lemmas.List.{take_all}
 use Rattle.std.proofs.lemmas.List.Elements.{All-more}
 use Rattle.std.proofs.lemmas.Bool.{both_ways}
-use Rattle.reg_model.specs.Interval.{Overlaps}
+use Rattle.reg_model.specs.SpanData.{Overlaps}
 use Rattle.reg_model.specs.State.{IsFree}
 use Rattle.reg_model.specs.declared.span.Member.{Member}
-use Rattle.tree_shape.specs.Shapes.{entries_of}
+use Rattle.tree_shape.specs.NodeData.{entries_of}
 use Rattle.tree_shape.proofs.Orders.{leaf_order, first_is_lowest}
 use Rattle.tree_shape.proofs.find.first_overlap.Goals as goal
 

@@ -1,6 +1,6 @@
 use Rattle.std.proofs.Common.{take}
 use Rattle.reg_model.specs.State.{IsFree}
-use Rattle.tree_shape.specs.Shapes.{entries_of}
+use Rattle.tree_shape.specs.NodeData.{entries_of}
 use Rattle.tree_shape.proofs.find.first_overlap.Given as goal
 
 -- none of the entries so far overlaps

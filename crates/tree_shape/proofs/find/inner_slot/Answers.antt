@@ -1,5 +1,5 @@
 use Rattle.std.proofs.Common.{length, ap, arith}
-use Rattle.tree_shape.specs.Shapes.{pairs_of}
+use Rattle.tree_shape.specs.NodeData.{pairs_of}
 use Rattle.tree_shape.proofs.Orders.{inner_order}
 use Rattle.tree_shape.proofs.Slots.{slot_inside}
 use Rattle.tree_shape.proofs.find.inner_slot.Goals as goal

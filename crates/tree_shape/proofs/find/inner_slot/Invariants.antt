@@ -1,5 +1,5 @@
 use Rattle.std.proofs.Common.{◌≡◌, ◌+◌, drop}
-use Rattle.tree_shape.specs.Shapes.{pairs_of, slot_for}
+use Rattle.tree_shape.specs.NodeData.{pairs_of, slot_for}
 use Rattle.tree_shape.proofs.find.inner_slot.Given as goal
 
 -- the slot is among the pairs that are left

@@ -1,7 +1,7 @@
 use Rattle.std.proofs.Common.{◌≡◌, drop}
 use Rattle.std.specs.List.{find}
-use Rattle.reg_model.specs.Interval.{contains}
-use Rattle.tree_shape.specs.Shapes.{entries_of}
+use Rattle.reg_model.specs.SpanData.{contains}
+use Rattle.tree_shape.specs.NodeData.{entries_of}
 use Rattle.tree_shape.proofs.find.leaf_slot.Given as goal
 
 -- the answer is among the entries that are left

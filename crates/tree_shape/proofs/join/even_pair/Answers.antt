@@ -1,13 +1,13 @@
 use Rattle.std.proofs.Common.{◌≡◌, ◌<◌, ◌≤◌, ◌+◌, ◌-◌, ◌/◌, ◌^◌, ◌++◌, List, length, take, ap, subst, arith}
 use Rattle.tree_shape.specs.declared.pair.Pair.{Pair}
 use Rattle.tree_shape.specs.Changes.{pairs_end}
-use Rattle.tree_shape.specs.Shapes.{Shape, pairs_of}
+use Rattle.tree_shape.specs.NodeData.{NodeData, pairs_of}
 use Rattle.tree_shape.proofs.Orders.{inner_order, inner_shares, shares_below}
 use Rattle.tree_shape.proofs.join.even_pair.Goals as goal
 
 pub cut_inner-requires : goal.cut_inner-requires
 cut_inner-requires c =
-    let is = ap (λ (s : Shape). s.body) c.left.view_is in
+    let is = ap (λ (s : NodeData). s.body) c.left.view_is in
     let inner = inner_shares c.left.inside.content c.args.left.now c.args.right.now is c.in_default.not-Leaf c.requires.overfill in
     let left = ap length c.pairs-first.ensures.value in
     let right = ap length c.pairs-last.ensures.value in

@@ -1,6 +1,6 @@
 use Rattle.std.proofs.Common.{◌<◌, length, ap, arith, ◌∙◌, sym}
 use Rattle.std.proofs.lemmas.Bool.{eqb-false}
-use Rattle.tree_shape.specs.Shapes.{pairs_of}
+use Rattle.tree_shape.specs.NodeData.{pairs_of}
 use Rattle.tree_shape.proofs.Orders.{ends_at-inner}
 use Rattle.tree_shape.proofs.Parts.{raised}
 use Rattle.tree_shape.proofs.join.raised_content.Goals as goal

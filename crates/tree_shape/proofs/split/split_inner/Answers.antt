@@ -1,6 +1,6 @@
 use Rattle.std.proofs.Common.{◌≡◌, ◌<◌, ◌-◌, ◌^◌, ◌++◌, ◌∙◌, [], take, sym, subst, arith}
 use Rattle.std.proofs.lemmas.List.{append-nil}
-use Rattle.tree_shape.specs.Shapes.{pairs_of}
+use Rattle.tree_shape.specs.NodeData.{pairs_of}
 use Rattle.tree_shape.specs.Changes.{pairs_end}
 use Rattle.tree_shape.proofs.Orders.{inner_order, pairs_end-inside}
 use Rattle.tree_shape.proofs.split.split_inner.Goals as goal

@@ -9,19 +9,19 @@ use Rattle.reg_model.specs.declared.answer.Inserted.TheVariants as inserted
 use Rattle.reg_model.specs.declared.answer.Receipt.{Receipt}
 
 -- the state, and the number of updates that led to it
-pub record Current : Type 0 where
+pub record PlainRegistryData : Type 0 where
   pub state : State
   pub updates : ℕ
 
 -- The registry is where this history leads to.
-pub record LeadsTo (start : State) (history : List Update) (now : Current) : Type 0 where
+pub record LeadsTo (start : State) (history : List Update) (now : PlainRegistryData) : Type 0 where
   pub lawful : IsHistory start history
   pub state : state_after start history ≡ now.state
   pub updates : length history ≡ now.updates
 
 -- A call answered with this receipt. An accepted update fits, has the next number and changes the state; any other answer
 -- has the number of updates as its stamp and changes nothing.
-pub record Step (old : Current) (r : Receipt) (new : Current) : Type 0 where
+pub record Step (old : PlainRegistryData) (r : Receipt) (new : PlainRegistryData) : Type 0 where
   pub right : IsRight old.state r
   pub changes : MatchOption (accepted r)
       ((moment r ≡ old.updates) × (new ≡ old))

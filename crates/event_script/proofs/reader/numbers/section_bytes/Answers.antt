@@ -3,7 +3,7 @@ use Rattle.std.specs.Prelude.{codes}
 use Rattle.std.specs.Str.{bytes_eq}
 use Rattle.std.proofs.lemmas.Bool.{eqb-false}
 use Rattle.event_script.proofs.Sections.{dash_in, undecoded_in, empty_in, not_lower_in, decoded_in}
-use Rattle.event_script.proofs.reader.numbers.bytes_in.Goals as goal
+use Rattle.event_script.proofs.reader.numbers.section_bytes.Goals as goal
 
 pub returns-then-eq : goal.returns-then-eq
 returns-then-eq c =

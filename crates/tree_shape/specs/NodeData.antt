@@ -2,7 +2,7 @@
 use Rattle.std.specs.Prelude.{◌≡◌, ℕ, ◌+◌, ◌≤◌, List, [], ◌∷◌, nat_le, nat_lt, if◌then◌else◌}
 use Rattle.std.specs.List.{AllByRecursion}
 use Rattle.reg_model.specs.declared.span.Member.{Member}
-use Rattle.reg_model.specs.Interval.{Interval}
+use Rattle.reg_model.specs.SpanData.{SpanData}
 use Rattle.segment_array.specs.Ascending.{AscendFrom}
 use Rattle.tree_shape.specs.declared.pair.Pair.{Pair}
 use Rattle.tree_shape.specs.declared.node.Frame.{Frame}
@@ -14,14 +14,14 @@ pub data Body : Type 0 where
   Link : ℕ → Body
 
 -- a node as contracts and callers' logs see it
-pub record Shape : Type 0 where
+pub record NodeData : Type 0 where
   pub level : ℕ
   pub low : ℕ
   pub high : ℕ
   pub body : Body
 
 -- its level and its fences
-abbrev pub frame_of : Shape → Frame
+abbrev pub frame_of : NodeData → Frame
 frame_of s = record { level = s.level; low = s.low; high = s.high }
 
 -- the pairs of an inner node, and none of another
@@ -30,7 +30,7 @@ pairs_in (Pairs pairs) = pairs
 pairs_in (Entries entries) = []
 pairs_in (Link next) = []
 
-abbrev pub pairs_of : Shape → List Pair
+abbrev pub pairs_of : NodeData → List Pair
 pairs_of s = pairs_in s.body
 
 -- the entries of a leaf, and none of another node
@@ -39,21 +39,21 @@ entries_in (Pairs pairs) = []
 entries_in (Entries entries) = entries
 entries_in (Link next) = []
 
-abbrev pub entries_of : Shape → List Member
+abbrev pub entries_of : NodeData → List Member
 entries_of s = entries_in s.body
 
 -- a leaf, and an inner node
-abbrev pub IsLeaf : Shape → Type 0
+abbrev pub IsLeaf : NodeData → Type 0
 IsLeaf s = s.body ≡ Entries (entries_of s)
 
-abbrev pub IsInner : Shape → Type 0
+abbrev pub IsInner : NodeData → Type 0
 IsInner s = s.body ≡ Pairs (pairs_of s)
 
 -- the node's fences hold the address, and the whole span
-abbrev pub IsInFences : ℕ → Shape → Type 0
+abbrev pub IsInFences : ℕ → NodeData → Type 0
 IsInFences pc s = (s.low ≤ pc) × (pc ≤ s.high)
 
-abbrev pub LiesInFences : Interval → Shape → Type 0
+abbrev pub LiesInFences : SpanData → NodeData → Type 0
 LiesInFences span s = (s.low ≤ span.first) × (span.last ≤ s.high)
 
 -- Entries that ascend from `low` on, and of which each ends at or below `high`. So they ascend, are
@@ -70,16 +70,16 @@ Cut low high (p ∷ pairs) = (low ≤ p.separator) × Cut (p.separator + 1) high
 
 -- What every call may take for granted of a node: a leaf's entries ascend, are disjoint and lie
 -- inside its fences; an inner node's separators ascend, and the last is its high fence.
-abbrev pub InOrderAs : Shape → Body → Type 0
+abbrev pub InOrderAs : NodeData → Body → Type 0
 InOrderAs s (Entries entries) = EntriesWithin s.low s.high entries
 InOrderAs s (Pairs pairs) = Cut 0 s.high pairs
 InOrderAs s (Link next) = Unit {0}
 
-abbrev pub InOrder : Shape → Type 0
+abbrev pub InOrder : NodeData → Type 0
 InOrder s = InOrderAs s s.body
 
 -- nodes of one level, of which the second begins where the first ends
-pub record AreNeighbours (left right : Shape) : Type 0 where
+pub record AreNeighbours (left right : NodeData) : Type 0 where
   pub level : left.level ≡ right.level
   pub fence : left.high + 1 ≡ right.low
 
