@@ -212,7 +212,7 @@ text_take b bs n false high more e =
     let whole : b ∷ bs ≡ b ∷ (take a.0 bs ++ 0 ∷ drop (suc a.0 + 1) (b ∷ bs)) = ap (λ (l : List ℕ). b ∷ l) (h.2 ∙ ap (λ (l : List ℕ). take a.0 bs ++ 0 ∷ l) tail) in
     subst (λ (k : ℕ). (k < suc (length bs)) × (text_len (take k (b ∷ bs)) ≡ None) × (b ∷ bs ≡ take k (b ∷ bs) ++ 0 ∷ drop (k + 1) (b ∷ bs))) a.2 (omega (arith, h.0), rw (high, h.1) refl, whole)
 
--- what stands before the first 0, and behind it
+-- what stands before the first 0, and after it
 text_len-take : (xs : List ℕ) (n : ℕ) → text_len xs ≡ Some n → (n < length xs) × (text_len (take n xs) ≡ None) × (xs ≡ take n xs ++ 0 ∷ drop (n + 1) xs)
 unfolding text_len
 text_len-take [] n e = absurd cc

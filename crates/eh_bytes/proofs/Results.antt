@@ -1,4 +1,4 @@
--- Results one after another, and behind tests.
+-- Results one after another, and after tests.
 use Rattle.std.proofs.Common.{◌≡◌, ◌⊎◌, Bool, true, false, cond, Result, Ok, Err, refl, sym, ap, inl, inr}
 use Rattle.eh_bytes.specs.Results.{◌and_then◌, with_fault}
 
@@ -31,7 +31,7 @@ pub with_fault_err : {A F G : Type 0} (place : F → G) (m : Result A F) (f : G)
 with_fault_err place (Ok y) f e = absurd cc
 with_fault_err {A} place (Err d) f e = (d, refl, sym (err_is {A = A} (place d) f e))
 
--- ---- behind tests
+-- ---- after tests
 
 pub cond_err : {A F : Type 0} (b : Bool) (d : F) (m : Result A F) (x : A) → cond b (Err d) m ≡ Ok x → (b ≡ false) × (m ≡ Ok x)
 cond_err true d m x e = absurd cc

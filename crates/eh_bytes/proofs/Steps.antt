@@ -61,7 +61,7 @@ refusal_read {F} {S} {X} (suc n) one (x ∷ xs) p s m front back f sound le a so
     let later = refusal_read n one xs (p + length a.1) a.0 m a.2 back f sound (omega (arith, grown, ap length regrouped, length-append a.1 (a.2 ++ back))) a.5 some there in
     ap (λ (l : List ℕ). run (suc n) one s (left p l)) regrouped ∙ rw (on, first, later) refl
 
--- ---- and what reading gives are steps, or a refusal behind steps
+-- ---- and what reading gives are steps, or a refusal after steps
 
 abbrev Ends : {F S X : Type 0} → (S → Part F (X × S)) → S → CursorData → S × CursorData → Type 0
 Ends {F} {S} {X} one s r z = (z.1 ≡ left (r.at + length r.bytes) []) × ((steps : List X) × AreSteps one r.at s r.bytes steps z.0)
@@ -136,7 +136,7 @@ enough {F} {S} {X} n one s r (Err f) sound le o = ap (λ (l : List ℕ). run n o
 pub run_enough : {F S X : Type 0} (n m : ℕ) (one : S → Part F (X × S)) (s : S) (r : CursorData) → AreSound one → length r.bytes ≤ n → length r.bytes ≤ m → run n one s r ≡ run m one s r
 run_enough {F} {S} {X} n m one s r sound le less = enough n one s r (run m one s r) sound le (run_outcome m one s r sound less)
 
--- one step, and then those from the state behind it
+-- one step, and then those from the state after it
 pub read_step : {F S X : Type 0} (one : S → Part F (X × S)) (s : S) (r : CursorData) (x : X × S) (mid : CursorData) → AreSound one → 0 < length r.bytes → (one s).read r ≡ Ok (x, mid)
     → (steps_from one s).read r ≡ (steps_from one x.1).read mid
 unfolding run

@@ -1,4 +1,4 @@
--- Fixed images: one behind another, each above the one before.
+-- Fixed images: one after another, each above the one before.
 use Rattle.std.proofs.Common.{◌≡◌, ℕ, suc, ◌+◌, ◌-◌, ◌<◌, ◌≤◌, ◌&&◌, ◌||◌, true, false, eqb, ltb, leb, List, [], ◌∷◌, ◌++◌, length, map, Option, Some, None, refl, sym, ap, ◌∙◌, inl, inr, eqb-true, ne_eqb, ltb-true, lt-ltb, leb-true, subst, arith}
 use Rattle.std.specs.List.{All, AllByRecursion, IsDistinct, list_any, slice_get}
 use Rattle.std.specs.Option.{unwrap_or, option_and_then}

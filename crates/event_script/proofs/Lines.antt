@@ -4,7 +4,7 @@ use Rattle.std.proofs.lemmas.List.{drop_all, drop_more}
 use Rattle.event_script.specs.declared.reader.ScriptFault.{ScriptFault}
 use Rattle.event_script.specs.declared.reader.ScriptFault.TheVariants.{Bad, NoMemory}
 use Rattle.event_script.specs.Fault.{FailsAt}
-use Rattle.event_script.specs.Fields.{pieces, pieces_behind}
+use Rattle.event_script.specs.Fields.{pieces, pieces_after}
 use Rattle.event_script.specs.Draft.{DraftData}
 use Rattle.event_script.specs.Reading.{◌>=>◌, BadLine, at_line, after_line, after_lines, at_end}
 use Rattle.event_script.proofs.Pieces.{pieces_cut, some_pieces}
@@ -20,7 +20,7 @@ line_first known number line bytes =
 module _ (known : DraftData) (number : ℕ) (rest : List ℕ) (end : ℕ) (within : end ≤ length rest) (before : (k : ℕ) → k < end → get_or rest k 0 ≢ 10) (found : end < length rest → get_or rest end 0 ≡ 10) where
   pub line_step : end < length rest → after_lines known number (pieces 10 rest) ≡ (at_line number (after_line known (take end rest)) >=> λ after. after_lines after (number + 1) (pieces 10 (drop (end + 1) rest)))
   line_step lt =
-      ap (after_lines known number) (pieces_cut 10 rest end within before found ∙ ap (λ (others : List ℕ). take end rest ∷ pieces_behind 10 others) (drop_more rest end 0 lt))
+      ap (after_lines known number) (pieces_cut 10 rest end within before found ∙ ap (λ (others : List ℕ). take end rest ∷ pieces_after 10 others) (drop_more rest end 0 lt))
       ∙ line_first known number (take end rest) (drop (end + 1) rest)
 
   -- what follows a line, from what it gives
@@ -42,5 +42,5 @@ module _ (known : DraftData) (number : ℕ) (rest : List ℕ) (end : ℕ) (withi
   unfolding after_lines
   lines_end total le so_far =
       sym (sym so_far
-      ∙ ap (after_lines known number) (pieces_cut 10 rest end within before found ∙ ap (λ (others : List ℕ). take end rest ∷ pieces_behind 10 others) (drop_all end rest le))
+      ∙ ap (after_lines known number) (pieces_cut 10 rest end within before found ∙ ap (λ (others : List ℕ). take end rest ∷ pieces_after 10 others) (drop_all end rest le))
       ∙ ap (λ (last : List ℕ). at_line number (at_end known last)) (take_all end rest le))

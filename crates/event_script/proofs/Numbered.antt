@@ -40,7 +40,7 @@ rounds_text_is answers_of threads_of rounds =
     ∙ numbered-same (λ number round. round_text number (map answers_of (threads_of round))) (λ number round. numbered (λ thread answers. thread_text number thread (answers_of answers)) 1 (threads_of round))
     (λ number round. numbered-map (thread_text number) answers_of 1 (threads_of round)) 1 rounds
 
--- one more text behind those of the first items
+-- one more text after those of the first items
 pub numbered_next : {X : Type 0} (text : ℕ → X → List ℕ) (xs : List X) (i : ℕ) (x : X) → i < length xs → x ≡ get_or xs i x → (old mid new : List ℕ) → mid ≡ old ++ numbered text 1 (take i xs) → new ≡ mid ++ text (i + 1) x → new ≡ old ++ numbered text 1 (take (i + 1) xs)
 numbered_next text xs i x within is old mid new first second =
     appended old mid new (numbered text 1 (take i xs)) (text (i + 1) x) first second

@@ -1,4 +1,4 @@
--- Texts that are added one behind another.
+-- Texts that are added one after another.
 use Rattle.std.proofs.Common.{◌≡◌, ℕ, List, [], ◌∷◌, ◌++◌, append_assoc, sym, ◌∙◌, ap}
 use Rattle.std.proofs.lemmas.List.{append-nil}
 

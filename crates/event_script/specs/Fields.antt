@@ -18,13 +18,13 @@ pieces separator [] = [] ∷ []
 pieces separator (b ∷ bytes) = if b == separator then [] ∷ pieces separator bytes else with_first b (pieces separator bytes)
 
 -- the pieces that follow another, if any; what is left begins with the separator before them
-abbrev pub pieces_behind : ℕ → List ℕ → List (List ℕ)
-pieces_behind separator [] = []
-pieces_behind separator (b ∷ bytes) = pieces separator bytes
+abbrev pub pieces_after : ℕ → List ℕ → List (List ℕ)
+pieces_after separator [] = []
+pieces_after separator (b ∷ bytes) = pieces separator bytes
 
 -- the fields that follow another, with a space (32) before each
-abbrev pub fields_behind : List ℕ → List (List ℕ)
-fields_behind rest = pieces_behind 32 rest
+abbrev pub fields_after : List ℕ → List (List ℕ)
+fields_after rest = pieces_after 32 rest
 
 -- no byte but those from the space to the tilde
 abbrev pub is_printable : List ℕ → Bool

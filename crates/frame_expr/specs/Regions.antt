@@ -8,17 +8,17 @@ pub record RegionData : Type 0 where
   pub address : ℕ
   pub bytes : List ℕ
 
--- the first address behind a region
+-- the first address after a region
 abbrev pub end : RegionData → ℕ
 end r = r.address + length r.bytes
 
--- the first address behind all regions, where they ascend
+-- the first address after all regions, where they ascend
 abbrev pub regions_end : List RegionData → ℕ
 regions_end [] = 0
 regions_end (r ∷ []) = end r
 regions_end (r ∷ q ∷ rs) = regions_end (q ∷ rs)
 
--- The regions stand at this address or above, each with a byte at least, each behind the one before, and
+-- The regions stand at this address or above, each with a byte at least, each after the one before, and
 -- none reaches past the last address, 2 ^ 64 - 2.
 abbrev pub AreFrom : ℕ → List RegionData → Type 0
 AreFrom low [] = Unit {0}

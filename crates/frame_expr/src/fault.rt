@@ -10,7 +10,7 @@ pub enum ExprFault {
     /// No operation that is known here begins with the byte.
     Operation { at: usize, byte: u8 },
     /// An operation finds too few numbers on the stack, or leaves more than 32. The place is its byte.
-    /// Or no number is left at the end, and the place is the first behind the bytes.
+    /// Or no number is left at the end, and the place is the first after the bytes.
     Depth { at: usize },
 }
 

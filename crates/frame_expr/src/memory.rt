@@ -41,7 +41,7 @@ impl<T: Drop> From<AllocFailed<T>> for RegionFault {
     }
 }
 
-/// Bytes that stand one behind another from an address on.
+/// Bytes that stand one after another from an address on.
 #[derive(Drop)]
 struct Region {
     address: u64,
@@ -57,7 +57,7 @@ impl Model for Region {
 }
 
 impl Region {
-    /// The first address behind it.
+    /// The first address after it.
     fn end(&self) -> u64
         requires { end self.now < 2 ^ 64 }
         ensures { result ≡ end self.now }
@@ -170,7 +170,7 @@ impl Memory {
     }
 }
 
-/// The first address behind the last region, or 0.
+/// The first address after the last region, or 0.
 fn regions_end(regions: &[Region]) -> u64
     requires { AreRegions regions.now }
     ensures { result ≡ regions_end regions.now }

@@ -66,7 +66,7 @@ pub enum Comparison {
     Ne,
 }
 
-/// How the number behind an operation's byte is written.
+/// How the number after an operation's byte is written.
 #[derive(Clone, Copy, Debug, PartialEq, Eq)]
 pub enum Operand {
     /// There is none.

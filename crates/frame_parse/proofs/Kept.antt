@@ -18,7 +18,7 @@ use Rattle.eh_bytes.specs.Grammar.{given, found}
 use Rattle.frame_parse.specs.Programs.{context_of, effect_of, effect, step, top, below_top, initial_state, first_state, HasSteps, IsExtent, HasPrograms}
 use Rattle.eh_bytes.specs.Steps.{AreSteps}
 use Rattle.frame_parse.specs.Sections.{AreRecords, fdes_of, IsSection, HasFdes, covers, first_cover}
-use Rattle.frame_parse.specs.Records.{cie, fde, cie_from, cie_behind, content, record_at, whole_record}
+use Rattle.frame_parse.specs.Records.{cie, fde, cie_from, cie_after, content, record_at, whole_record}
 
 -- ---- what a step doesn't look at
 
@@ -126,7 +126,7 @@ pub record CieKept (section : ℕ) (bytes : List ℕ) (c : CieRecord) : Type 0 w
   pub last : State
   pub spelled : AreSteps (step (context_of section c Initial)) c.initial.at initial_state text steps last
 
--- a text behind others, up to the end of its record
+-- a text after others, up to the end of its record
 extent : (bytes before head body text after : List ℕ) (p at end : ℕ) → bytes ≡ before ++ (text ++ after) → text ≡ head ++ body → p ≡ length before → at ≡ p + length head → end ≡ p + length text
     → IsExtent bytes (record { at = at; end = end }) body
 extent bytes before head body text after p at end whole parts start place size =
@@ -179,9 +179,9 @@ cie_from-kept : (section : ℕ) (bytes : List ℕ) (cs : List CieRecord) (place 
 cie_from-kept section bytes [] place c all e = absurd cc
 cie_from-kept section bytes (d ∷ cs) place c all e = kept_choice section bytes (nat_eq d.start place) d c (cie_from cs place) all.0 (cie_from-kept section bytes cs place c all.1) e
 
-kept_behind : (section : ℕ) (bytes : List ℕ) (b : Bool) (cs : List CieRecord) (place : ℕ) (c : CieRecord) → AllKept section bytes cs → cond b None (cie_from cs place) ≡ Some c → CieKept section bytes c
-kept_behind section bytes true cs place c all e = absurd cc
-kept_behind section bytes false cs place c all e = cie_from-kept section bytes cs place c all e
+kept_after : (section : ℕ) (bytes : List ℕ) (b : Bool) (cs : List CieRecord) (place : ℕ) (c : CieRecord) → AllKept section bytes cs → cond b None (cie_from cs place) ≡ Some c → CieKept section bytes c
+kept_after section bytes true cs place c all e = absurd cc
+kept_after section bytes false cs place c all e = cie_from-kept section bytes cs place c all e
 
 -- the programs of an FDE, whose CIE was kept
 programs_of : (section : ℕ) (bytes text : List ℕ) (f : FdeRecord) (steps : List Step) (t : State) → CieKept section bytes f.cie → IsExtent bytes f.program text
@@ -212,8 +212,8 @@ content_fde section p earlier start end text bytes before after f all s whole pl
           let v = u.5 in
           let rest = v.5 in
           let same : v.0 ≡ f = let made = rest.5.1 in cc in
-          let known = found_spells (cie_behind earlier s.0 id.0) (faults.NoCie s.0) _ u.1 u.0 u.4 in
-          let kept = kept_behind section bytes (nat_lt s.0 id.0) earlier (s.0 - id.0) u.0 all known.1 in
+          let known = found_spells (cie_after earlier s.0 id.0) (faults.NoCie s.0) _ u.1 u.0 u.4 in
+          let kept = kept_after section bytes (nat_lt s.0 id.0) earlier (s.0 - id.0) u.0 all known.1 in
           let head = id.1 ++ v.1 in
           let parts : text ≡ head ++ rest.1 =
           s.3 ∙ ap (λ (l : List ℕ). l ++ s.2) s.4.0 ∙ id.3
@@ -231,7 +231,7 @@ content_fde section p earlier start end text bytes before after f all s whole pl
 
 -- ---- whole records
 
--- what stands behind the length of a record
+-- what stands after the length of a record
 record Body (section p : ℕ) (earlier : List CieRecord) (bytes : List ℕ) (r : Record) : Type 0 where
   start : ℕ
   at : ℕ

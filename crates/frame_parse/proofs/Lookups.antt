@@ -21,7 +21,7 @@ few_apart [] lt = refl
 few_apart (a ∷ []) lt = refl
 few_apart (a ∷ b ∷ rs) lt = absurd (omega arith)
 
--- a range ends before all behind it begin
+-- a range ends before all after it begin
 above : (a : CoveredRange) (rs : List CoveredRange) (j : ℕ) (d : CoveredRange) → are_apart (a ∷ rs) ≡ true → j < length rs → a.first + a.range ≤ (get_or rs j d).first
 above a [] j d h lt = absurd (omega arith)
 above a (b ∷ rs) zero d h lt =
@@ -64,7 +64,7 @@ pub record AreLeft (rs : List CoveredRange) (pc base size : ℕ) : Type 0 where
 pub all_left : (rs : List CoveredRange) (pc : ℕ) → AreLeft rs pc 0 (length rs)
 all_left rs pc = record { within = omega arith; below = λ k d lt. absurd (omega arith); above = λ k d le lt. absurd (omega arith) }
 
--- a range that begins up to the address leaves itself and those behind it
+-- a range that begins up to the address leaves itself and those after it
 upper_left : (rs : List CoveredRange) (pc base size j : ℕ) (d : CoveredRange) → are_apart rs ≡ true → AreLeft rs pc base size → j < size → (get_or rs (base + j) d).first ≤ pc → AreLeft rs pc (base + j) (size - j)
 upper_left rs pc base size j d h left lt reached =
     let w = left.within in
@@ -119,7 +119,7 @@ half_left rs pc base size half d h left le lt = halved rs pc base size half d (n
 
 -- ---- a quarter at a time
 
--- a quarter is left behind a range that begins up to the address and before one that doesn't
+-- a quarter is left after a range that begins up to the address and before one that doesn't
 one_quarter : (rs : List CoveredRange) (pc base size q : ℕ) (d : CoveredRange) → are_apart rs ≡ true → AreLeft rs pc base size → q < size → pc < (get_or rs (base + q) d).first → q ≤ size - q → (more : ℕ) → q ≤ more → more ≤ size → AreLeft rs pc base more
 one_quarter rs pc base size q d h left lt beyond few more le within =
     let w = left.within in

@@ -35,7 +35,7 @@ record_grows section p earlier front r s =
     let four : length sized.1 ≡ 4 = sized.4.0 in
     omega (arith, four, grows inner.1 sized.1 sized.2 sized.3, grows s.2 inner.1 inner.2 inner.3, behind front s.1 s.2 s.3)
 
--- what is behind a length holds at least an id
+-- what is after a length holds at least an id
 content_grows : (section p : ℕ) (earlier : List CieRecord) (start end : ℕ) (front : List ℕ) (r : Record) → (content section earlier start end).Spells p front r → 4 ≤ length front
 unfolding content
 content_grows section p earlier start end front r s =
@@ -100,7 +100,7 @@ pub cies-step : (earlier : List CieRecord) (r : Record) (rs : List Record) → e
 cies-step earlier (Cie c) rs = sym (append_assoc earlier (c ∷ []) (cies_of rs))
 cies-step earlier (Fde f) rs = refl
 
--- a refusal behind records is what reading gives
+-- a refusal after records is what reading gives
 refused_read : (n section p : ℕ) (earlier : List CieRecord) (rs : List Record) (front back : List ℕ) (f : FrameFault) → length (front ++ back) < n → AreRecords section p earlier front rs
     → is_end back ≡ false → (whole_record section (earlier ++ cies_of rs)).Refuses (p + length front) back f → read_all n section earlier (left p (front ++ back)) ≡ Err f
 unfolding read_all
@@ -125,7 +125,7 @@ refused_read (suc n) section p earlier (r ∷ rs) front back f lt s on refusal =
     let later = refused_read n section (p + length s.0) (with_record earlier r) rs s.1 back f (omega (arith, grown, ap length regrouped, length-append s.0 (s.1 ++ back))) s.4 on there in
     ap (λ (l : List ℕ). read_all (suc n) section earlier (left p l)) regrouped ∙ rw (more, first, later) refl
 
--- what reading gives are records and their end, or a refusal behind records
+-- what reading gives are records and their end, or a refusal after records
 abbrev EndsAt : ℕ → List CieRecord → CursorData → List Record → Type 0
 EndsAt section earlier r rs = (front : List ℕ) × (back : List ℕ) × (r.bytes ≡ front ++ back) × AreRecords section r.at earlier front rs × (is_end back ≡ true)
 

@@ -133,7 +133,7 @@ nothing_yet section bytes = record {
   below = λ i lt. absurd (omega arith);
 }
 
--- the next record behind those so far
+-- the next record after those so far
 next_spelled : (section : ℕ) (bytes : List ℕ) (cursor : CursorData) (cies : List CieRecord) (fdes : List FdeEntry) (r : Record) (new : CursorData) (s : ReadSoFar section bytes cursor cies fdes)
     → (t : Takes (whole_record section cies) cursor r new) → AreRecords section 0 [] (s.front ++ t.front) (s.records ++ r ∷ [])
 next_spelled section bytes cursor cies fdes r new s t =

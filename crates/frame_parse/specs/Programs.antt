@@ -145,7 +145,7 @@ instruction_of (operations.Advance d) = Advance
 instruction_of (operations.SetLocation a) = Advance
 instruction_of (operations.Other i) = i
 
--- the step of an operation, with the location that holds behind it, and the state behind it
+-- the step of an operation, with the location that holds after it, and the state after it
 abbrev pub finished : ℕ → Context → State → Operation → Part RecordFault (Step × State)
 finished at c s o = given (effect at c s o) >>= λ t. give (record { location = t.location; instruction = instruction_of o }, t)
 
@@ -153,7 +153,7 @@ finished at c s o = given (effect at c s o) >>= λ t. give (record { location = 
 abbrev pub extended_step : Context → State → ℕ → ℕ → Part RecordFault (Step × State)
 extended_step c s at b = extended_operation c at b >>= λ o. finished at c s o
 
--- an instruction with the location that holds when it is met, and the state behind it
+-- an instruction with the location that holds when it is met, and the state after it
 unfoldable pub step : Context → State → Part RecordFault (Step × State)
 step c s = do
   at ← here
@@ -166,7 +166,7 @@ step c s = do
 abbrev pub initial_state : State
 initial_state = record { location = 0; offset = false; remembered = [] }
 
--- the state before the instructions of an FDE, behind those of its CIE
+-- the state before the instructions of an FDE, after those of its CIE
 abbrev pub first_state : CieRecord → ℕ → State
 first_state c first = record { location = first; offset = c.offset; remembered = [] }
 

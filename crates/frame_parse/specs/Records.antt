@@ -103,7 +103,7 @@ return_column v = do
   c ← when (v == 1) (field (fixed 1)) (field uleb)
   check (c == 16) (Column at c)
 
--- the fields of a CIE behind its id; nothing is known of the CFA before its instructions
+-- the fields of a CIE after its id; nothing is known of the CFA before its instructions
 unfoldable pub cie : ℕ → ℕ → ℕ → Part RecordFault CieRecord
 cie section start end = do
   v ← version
@@ -123,8 +123,8 @@ cie_from [] place = None
 cie_from (c ∷ cs) place = if c.start == place then Some c else cie_from cs place
 
 -- the earlier CIE to which a distance leads back from a place
-abbrev pub cie_behind : List CieRecord → ℕ → ℕ → Option CieRecord
-cie_behind earlier at distance = if nat_lt at distance then None else cie_from earlier (at - distance)
+abbrev pub cie_after : List CieRecord → ℕ → ℕ → Option CieRecord
+cie_after earlier at distance = if nat_lt at distance then None else cie_from earlier (at - distance)
 
 -- the range has its encoding's format; with it the last address is below 2 ^ 64
 unfoldable pub range : ℕ → ℕ → Part RecordFault ℕ
@@ -142,7 +142,7 @@ lsda section c = when c.has_data
     (when (c.augmentation.lsda == 255 || n == 0) (give None) (optional_pointer section c.augmentation.lsda)))
     (give None)
 
--- the fields of an FDE behind its id
+-- the fields of an FDE after its id
 unfoldable pub fde : ℕ → ℕ → CieRecord → Part RecordFault FdeRecord
 fde section end c = do
   first ← pointer section c.augmentation.pointers
@@ -153,7 +153,7 @@ fde section end c = do
 
 -- ---- records
 
--- An id of 0 is a CIE's; any other is the distance back to an FDE's. What is left behind the fields are
+-- An id of 0 is a CIE's; any other is the distance back to an FDE's. What is left after the fields are
 -- instructions: those of a CIE don't move, those of an FDE start at its first address.
 unfoldable pub content : ℕ → List CieRecord → ℕ → ℕ → Part RecordFault Record
 content section earlier start end = do
@@ -161,7 +161,7 @@ content section earlier start end = do
   id ← field (fixed 4)
   when (id == 0)
       (cie section start end >>= λ c. steps_from (step (context_of section c Initial)) initial_state >>= λ s. give (Cie (record c { offset = s.offset })))
-      (found (cie_behind earlier at id) (NoCie at) >>= λ c. fde section end c >>= λ f. steps_from (step (context_of section c Own)) (first_state c f.first) >>= λ s. give (Fde f))
+      (found (cie_after earlier at id) (NoCie at) >>= λ c. fde section end c >>= λ f. steps_from (step (context_of section c Own)) (first_state c f.first) >>= λ s. give (Fde f))
 
 -- the length of a record: four bytes, or eight after 0xffffffff; where it isn't whole, the record isn't
 unfoldable pub record_length : ℕ → Part RecordFault ℕ

@@ -17,7 +17,7 @@ abbrev pub with_record : List CieRecord → Record → List CieRecord
 with_record earlier (Cie c) = earlier ++ c ∷ []
 with_record earlier (Fde f) = earlier
 
--- the text, from place p on, spells these records behind the earlier CIEs
+-- the text, from place p on, spells these records after the earlier CIEs
 abbrev pub AreRecords : ℕ → ℕ → List CieRecord → List ℕ → List Record → Type 0
 AreRecords section p earlier text [] = text ≡ []
 AreRecords section p earlier text (r ∷ rs) =

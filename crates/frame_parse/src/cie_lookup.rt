@@ -3,7 +3,7 @@
 ghost use Rattle.std.specs.Prelude.{◌≡◌, ◌<◌, length, slice_index_or, IfSome};
 ghost use Rattle.std.specs.Option.{option_map};
 ghost use Rattle.frame_parse.specs.Entries.{no_cie};
-ghost use Rattle.frame_parse.specs.Records.{cie_from, cie_behind};
+ghost use Rattle.frame_parse.specs.Records.{cie_from, cie_after};
 ghost use Rattle.frame_parse.specs.Sections.{starts, IsAscending};
 
 use crate::records::CieRecord;
@@ -32,10 +32,10 @@ fn cie_from(cies: &[CieRecord], place: usize) -> Option<usize>
 }
 
 /// The number of the CIE to which a distance leads back from a place.
-pub(crate) fn cie_behind(cies: &[CieRecord], at: usize, distance: usize) -> Option<usize>
+pub(crate) fn cie_after(cies: &[CieRecord], at: usize, distance: usize) -> Option<usize>
     requires { IsAscending (starts cies.now) }
     ensures value { option_map (λ i. slice_index_or cies.now i no_cie) result
-        ≡ cie_behind cies.now at distance }
+        ≡ cie_after cies.now at distance }
     ensures within { IfSome result (λ i. i < length cies.now) }
 {
     if at < distance {

@@ -13,7 +13,7 @@ mod cie;
 mod fde;
 pub(crate) mod fields;
 
-use crate::cie_lookup::cie_behind;
+use crate::cie_lookup::cie_after;
 use crate::fault::{FrameFault, RecordFault};
 use crate::instructions::{Context, ProgramKind, first_state, initial_state, steps};
 pub use augmentation::Augmentation;
@@ -93,7 +93,7 @@ fn content(
         cie.offset = state.offset;
         return Ok(Entry::Cie(cie));
     }
-    match cie_behind(earlier, at, id as usize) {
+    match cie_after(earlier, at, id as usize) {
         None => Err(RecordFault::NoCie { at }),
         Some(index) => {
             let cie = cie_at(earlier, index);

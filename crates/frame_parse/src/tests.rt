@@ -122,7 +122,7 @@ const MOVED: [(usize, u8, &[(u64, Option<u64>)]); 3] = [
             (0x1020, None),
         ],
     ),
-    // It covers addresses of the first FDE, and some behind them: the first one counts.
+    // It covers addresses of the first FDE, and some after them: the first one counts.
     (
         64,
         0xd8,

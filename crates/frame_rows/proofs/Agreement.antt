@@ -16,7 +16,7 @@ use Rattle.frame_rows.specs.declared.row.CfaRule.{CfaRule}
 use Rattle.frame_rows.specs.declared.row.CfaRule.TheVariants as cfas
 use Rattle.frame_rows.specs.declared.row.Row.{Row}
 use Rattle.frame_rows.specs.Columns.{Column, new_column, restore_from, rule_of, register_step, cfa_step, instructions, up_to, initial_rule, rule_at, initial_cfa, cfa_at}
-use Rattle.frame_rows.specs.Rows.{Rows, unset, beside, restored, rows_step, rows_behind, base_row}
+use Rattle.frame_rows.specs.Rows.{Rows, unset, beside, restored, rows_step, rows_after, base_row}
 
 -- ---- all rows have seventeen columns
 
@@ -129,7 +129,7 @@ all_up_to location (x ∷ xs) a =
 
 -- the row at an address
 abbrev pub row_from : Row → ℕ → List Step → Row
-row_from base pc steps = (rows_behind base pc (beside base []) steps).row
+row_from base pc steps = (rows_after base pc (beside base []) steps).row
 
 unset_rule : (r : ℕ) → r < 17 → rule_in r unset ≡ rules.Unset
 unset_rule r lt = get_or-replicate 17 r rules.Unset rules.Unset lt
@@ -178,7 +178,7 @@ cfa_agrees first pc initial steps at =
 
 -- ---- put together
 
--- the row behind both programs of an FDE
+-- the row after both programs of an FDE
 pub record IsBehind (first pc : ℕ) (initial steps : List Step) (row : Row) : Type 0 where
   pub at : AreAt first initial
   pub is : row ≡ row_from (base_row first initial) pc steps

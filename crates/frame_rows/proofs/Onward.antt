@@ -5,12 +5,12 @@ use Rattle.frame_parse.specs.declared.instructions.Instruction.{Instruction}
 use Rattle.frame_parse.specs.declared.instructions.Instruction.TheVariants.{Nop, Advance, Set, Restore, Remember, RestoreState, Cfa, CfaColumn, CfaOffset}
 use Rattle.frame_parse.specs.declared.instructions.Step.{Step}
 use Rattle.frame_parse.specs.Programs.{ProgramData, HasSteps}
-use Rattle.frame_parse.specs.Order.{Moves, IsAscendingFrom, IsBalanced, MayStandAt, depth_behind}
+use Rattle.frame_parse.specs.Order.{Moves, IsAscendingFrom, IsBalanced, MayStandAt, states_after}
 use Rattle.frame_rows.specs.declared.row.Row.{Row}
 use Rattle.frame_rows.specs.declared.walk.Stop.{Stop}
 use Rattle.frame_rows.specs.declared.walk.Stop.TheVariants.{End, Restored}
 use Rattle.frame_rows.specs.Columns.{up_to}
-use Rattle.frame_rows.specs.Rows.{Rows, applied, beside, rows_step, rows_behind}
+use Rattle.frame_rows.specs.Rows.{Rows, applied, beside, rows_step, rows_after}
 use Rattle.frame_rows.specs.Walk.{GoesOn, ComesTo, TakesBack, Walks}
 
 -- the next step of p is x, and q is what is left
@@ -59,7 +59,7 @@ not_advance pc x i is never = λ e. absurd (never (sym is ∙ e))
 record Next (x : Step) (q : ProgramData) (pc depth : ℕ) (steps : List Step) : Type 0 where
   more : List Step
   are : steps ≡ x ∷ more
-  on : x.location ≤ pc → GoesOn q pc (depth_behind depth x.instruction) more
+  on : x.location ≤ pc → GoesOn q pc (states_after depth x.instruction) more
   may : MayStandAt depth x.instruction
   above : IsAscendingFrom x.location more
   stays : IsReached pc x → x.location ≤ pc
@@ -78,10 +78,10 @@ next_of p q x pc depth steps gives g =
       stays = within x.instruction pc g.location x.location ascending.0 g.reached;
     }
 
-rows_on : (base : Row) (pc : ℕ) (s : Rows) (x : Step) (more steps : List Step) → steps ≡ x ∷ more → x.location ≤ pc → rows_behind base pc s steps ≡ rows_behind base pc (rows_step base s x.instruction) more
+rows_on : (base : Row) (pc : ℕ) (s : Rows) (x : Step) (more steps : List Step) → steps ≡ x ∷ more → x.location ≤ pc → rows_after base pc s steps ≡ rows_after base pc (rows_step base s x.instruction) more
 rows_on base pc s x more steps are le =
     let here : nat_le x.location pc ≡ true = le-leb _ _ le in
-    ap (λ (l : List Step). rows_behind base pc s l) are ∙ rw here refl
+    ap (λ (l : List Step). rows_after base pc s l) are ∙ rw here refl
 
 -- ---- how a walk goes on
 
@@ -105,7 +105,7 @@ leads_stop base pc p q r row other last Restored a b = λ steps below g.
 
 -- an instruction that changes the row alone
 record IsPlain (i : Instruction) : Type 0 where
-  flat : (depth : ℕ) → depth_behind depth i ≡ depth
+  flat : (depth : ℕ) → states_after depth i ≡ depth
   stays : (base row : Row) (below : List Row) → rows_step base (beside row below) i ≡ beside (applied base row i) below
 
 plain : (i : Instruction) → (i ≡ Remember → ⊥) → (i ≡ RestoreState → ⊥) → IsPlain i
@@ -129,22 +129,22 @@ leads_plain base pc p q row x gives reached a b =
     record {
       more = n.more;
       on = subst (λ (d : ℕ). GoesOn q pc d n.more) (i.flat (length below)) (n.on le);
-      same = rows_on base pc (beside row below) x n.more steps n.are le ∙ ap (λ (s : Rows). rows_behind base pc s n.more) (i.stays base row below);
+      same = rows_on base pc (beside row below) x n.more steps n.are le ∙ ap (λ (s : Rows). rows_after base pc s n.more) (i.stays base row below);
     }
 
--- behind an Advance that doesn't lead past the address
+-- after an Advance that doesn't lead past the address
 pub leads_advance : (base : Row) (pc : ℕ) (p q : ProgramData) (row : Row) (x : Step) → Gives p x q → x.location ≤ pc → x.instruction ≡ Advance → ComesTo base pc p row q row
 leads_advance base pc p q row x gives le is =
     let plain = leads_plain base pc p q row x gives (λ e. le) (λ e. absurd (let two = sym is ∙ e in cc)) (λ e. absurd (let two = sym is ∙ e in cc)) in
     subst (λ (k : Row). ComesTo base pc p row q k) (ap (applied base row) is) plain
 
--- behind remember_state, up to the step that takes the row back
+-- after remember_state, up to the step that takes the row back
 pub leads_back : (base : Row) (pc : ℕ) (p q r : ProgramData) (row other : Row) (x : Step) → Gives p x q → x.instruction ≡ Remember → Walks base pc q row Restored r other
     → ComesTo base pc p row r row
 leads_back base pc p q r row other x gives is inner = λ steps below g.
     let n = next_of p q x pc (length below) steps gives g in
     let le = n.stays (not_advance pc x _ is (λ e. cc)) in
-    let deeper : depth_behind (length below) x.instruction ≡ length (row ∷ below) = ap (depth_behind (length below)) is ∙ omega arith in
+    let deeper : states_after (length below) x.instruction ≡ length (row ∷ below) = ap (states_after (length below)) is ∙ omega arith in
     let back = inner n.more (row ∷ below) (subst (λ (d : ℕ). GoesOn q pc d n.more) deeper (n.on le)) in
     let first : row ≡ back.last = let e = back.are in cc in
     let rest : below ≡ back.others = let e = back.are in cc in
@@ -153,7 +153,7 @@ leads_back base pc p q r row other x gives is inner = λ steps below g.
     record {
       more = back.onward.more;
       on = subst (λ (l : List Row). GoesOn r pc (length l) back.onward.more) (sym rest) back.onward.on;
-      same = rows_on base pc (beside row below) x n.more steps n.are le ∙ ap (λ (s : Rows). rows_behind base pc s n.more) stepped ∙ back.onward.same ∙ ap (λ (s : Rows). rows_behind base pc s back.onward.more) there;
+      same = rows_on base pc (beside row below) x n.more steps n.are le ∙ ap (λ (s : Rows). rows_after base pc s n.more) stepped ∙ back.onward.same ∙ ap (λ (s : Rows). rows_after base pc s back.onward.more) there;
     }
 
 -- ---- how it stops
@@ -162,9 +162,9 @@ pub stops_inside : (base : Row) (pc : ℕ) (p q r : ProgramData) (row other : Ro
 stops_inside base pc p q r row other x gives is inner = λ steps below g.
     let n = next_of p q x pc (length below) steps gives g in
     let le = n.stays (not_advance pc x _ is (λ e. cc)) in
-    let deeper : depth_behind (length below) x.instruction ≡ length (row ∷ below) = ap (depth_behind (length below)) is ∙ omega arith in
+    let deeper : states_after (length below) x.instruction ≡ length (row ∷ below) = ap (states_after (length below)) is ∙ omega arith in
     let stepped : rows_step base (beside row below) x.instruction ≡ beside row (row ∷ below) = ap (rows_step base (beside row below)) is in
-    ap (λ (s : Rows). s.row) (rows_on base pc (beside row below) x n.more steps n.are le ∙ ap (λ (s : Rows). rows_behind base pc s n.more) stepped)
+    ap (λ (s : Rows). s.row) (rows_on base pc (beside row below) x n.more steps n.are le ∙ ap (λ (s : Rows). rows_after base pc s n.more) stepped)
     ∙ inner n.more (row ∷ below) (subst (λ (d : ℕ). GoesOn q pc d n.more) deeper (n.on le))
 
 pub stops_above : (base : Row) (pc : ℕ) (p q : ProgramData) (row : Row) (x : Step) → Gives p x q → pc < x.location → Walks base pc p row End q row
@@ -172,16 +172,16 @@ stops_above base pc p q row x gives lt = λ steps below g.
     let n = next_of p q x pc (length below) steps gives g in
     let above : nat_le x.location pc ≡ false = lt-leb _ _ lt in
     let none = none_up_to pc x.location n.more lt n.above in
-    ap (λ (l : List Step). (rows_behind base pc (beside row below) l).row) n.are ∙ rw (above, none) refl
+    ap (λ (l : List Step). (rows_after base pc (beside row below) l).row) n.are ∙ rw (above, none) refl
 
-pub stops_behind : (base : Row) (pc : ℕ) (p q : ProgramData) (row : Row) → ((steps : List Step) → HasSteps p steps → steps ≡ []) → Walks base pc p row End q row
-stops_behind base pc p q row none = λ steps below g. ap (λ (l : List Step). (rows_behind base pc (beside row below) l).row) (none steps g.has)
+pub stops_after : (base : Row) (pc : ℕ) (p q : ProgramData) (row : Row) → ((steps : List Step) → HasSteps p steps → steps ≡ []) → Walks base pc p row End q row
+stops_after base pc p q row none = λ steps below g. ap (λ (l : List Step). (rows_after base pc (beside row below) l).row) (none steps g.has)
 
 taken_back : (base : Row) (pc : ℕ) (row : Row) (below : List Row) (steps : List Step) (q : ProgramData) (x : Step) → Next x q pc (length below) steps → x.instruction ≡ RestoreState → TakesBack base pc row below steps q
 taken_back base pc row [] steps q x n is = absurd (let may : 0 < 0 = subst (MayStandAt 0) is n.may in omega (arith, may))
 taken_back base pc row (last ∷ others) steps q x n is =
     let le = n.stays (not_advance pc x _ is (λ e. cc)) in
-    let higher : depth_behind (length (last ∷ others)) x.instruction ≡ length others = ap (depth_behind (length (last ∷ others))) is ∙ omega arith in
+    let higher : states_after (length (last ∷ others)) x.instruction ≡ length others = ap (states_after (length (last ∷ others))) is ∙ omega arith in
     let stepped : rows_step base (beside row (last ∷ others)) x.instruction ≡ beside last others = ap (rows_step base (beside row (last ∷ others))) is in
     record {
       last = last;
@@ -190,7 +190,7 @@ taken_back base pc row (last ∷ others) steps q x n is =
       onward = record {
         more = n.more;
         on = subst (λ (d : ℕ). GoesOn q pc d n.more) higher (n.on le);
-        same = rows_on base pc (beside row (last ∷ others)) x n.more steps n.are le ∙ ap (λ (s : Rows). rows_behind base pc s n.more) stepped;
+        same = rows_on base pc (beside row (last ∷ others)) x n.more steps n.are le ∙ ap (λ (s : Rows). rows_after base pc s n.more) stepped;
       };
     }
 
@@ -198,7 +198,7 @@ pub stops_restored : (base : Row) (pc : ℕ) (p q : ProgramData) (row other : Ro
 stops_restored base pc p q row other x gives is = λ steps below g. taken_back base pc row below steps q x (next_of p q x pc (length below) steps gives g) is
 
 -- a walk on which nothing was remembered before goes to the end
-pub whole : (base : Row) (pc : ℕ) (p q : ProgramData) (row other : Row) (stop : Stop) → Walks base pc p row stop q other → (steps : List Step) → GoesOn p pc 0 steps → (rows_behind base pc (beside row []) steps).row ≡ other
+pub whole : (base : Row) (pc : ℕ) (p q : ProgramData) (row other : Row) (stop : Stop) → Walks base pc p row stop q other → (steps : List Step) → GoesOn p pc 0 steps → (rows_after base pc (beside row []) steps).row ≡ other
 whole base pc p q row other End w steps g = w steps [] g
 whole base pc p q row other Restored w steps g = absurd (let none = (w steps [] g).are in cc)
 

@@ -14,7 +14,7 @@ use Rattle.frame_rows.specs.Columns.{HasInitial, rule_of, with_column, with_offs
 abbrev pub unset : Row
 unset = record { cfa = cfas.Missing; columns = replicate 17 rules.Unset }
 
--- the row behind an instruction that doesn't remember or restore a state
+-- the row after an instruction that doesn't remember or restore a state
 abbrev pub applied : Row → Row → Instruction → Row
 applied base row (Set q rule) = record row { columns = slice_set row.columns q (rule_of rule) }
 applied base row (Restore q) = record row { columns = slice_set row.columns q (slice_index_or base.columns q rules.Unset) }
@@ -49,13 +49,13 @@ rows_step base s (CfaOffset n) = record s { row = applied base s.row (CfaOffset 
 rows_step base s Nop = s
 rows_step base s Advance = s
 
--- the rows behind the steps up to an address
-abbrev pub rows_behind : Row → ℕ → Rows → List Step → Rows
-rows_behind base pc s steps = fold (rows_step base) s (instructions (up_to pc steps))
+-- the rows after the steps up to an address
+abbrev pub rows_after : Row → ℕ → Rows → List Step → Rows
+rows_after base pc s steps = fold (rows_step base) s (instructions (up_to pc steps))
 
 -- the row that the initial instructions leave; inside them a restore leaves nothing set
 abbrev pub base_row : ℕ → List Step → Row
-base_row first initial = (rows_behind unset first (beside unset []) initial).row
+base_row first initial = (rows_after unset first (beside unset []) initial).row
 
 -- the row whose rules a restore gives back among the instructions of an FDE itself
 abbrev pub IsBaseRow : FdeData → Row → Type 0

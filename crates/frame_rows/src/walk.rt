@@ -4,7 +4,7 @@ ghost use Rattle.std.specs.Prelude.{◌≡◌, ℕ, ◌<◌, ◌≤◌, List, []
 ghost use Rattle.frame_parse.specs.declared.instructions.Step.{Step};
 ghost use Rattle.frame_rows.specs.declared.row.Row.{Row};
 ghost use Rattle.frame_rows.specs.Columns.{HasInitial, HasProgram, rule_at, cfa_at};
-ghost use Rattle.frame_rows.specs.Rows.{base_row, beside, rows_behind, unset};
+ghost use Rattle.frame_rows.specs.Rows.{base_row, beside, rows_after, unset};
 ghost use Rattle.frame_rows.specs.Walk.{GoesOn, Walks};
 
 use crate::base::{Base, InitialRow, NothingSet};
@@ -65,10 +65,10 @@ fn walk_back<B: Base>(program: &mut Program<'_>, pc: u64, base: &mut B, row: &mu
     stop
 }
 
-/// Goes from a row on to the one behind all steps of a program up to an address.
+/// Goes from a row on to the one after all steps of a program up to an address.
 fn go_through<B: Base>(mut program: Program<'_>, pc: u64, base: &mut B, row: &mut Row)
     ensures { (given : Row) → B.gives base.old given → (steps : List Step) → GoesOn program.entry pc 0 steps
-        → row.new ≡ (rows_behind given pc (beside row.old []) steps).row }
+        → row.new ≡ (rows_after given pc (beside row.old []) steps).row }
 {
     walk(&mut program, pc, base, row);
 }

@@ -35,7 +35,7 @@ pub slice_get-next : {X : Type 0} (xs : List X) (y : X) (ys : List X) → slice_
 slice_get-next [] y ys = refl
 slice_get-next (x ∷ xs) y ys = slice_get-next xs y ys
 
--- disjoint members stay so behind one that overlaps none of them
+-- disjoint members stay so after one that overlaps none of them
 pub AreDisjoint-push : (members : List Member) (m : Member) → AreDisjoint members → IsFree m.span members → AreDisjoint (members ++ m ∷ [])
 AreDisjoint-push [] m disjoint free = (λ k d within. absurd (omega arith), tt)
 AreDisjoint-push (other ∷ members) m disjoint free =
@@ -48,7 +48,7 @@ All-filter_back : (P : Member → Type 0) (test : Member → Bool) (front member
 All-filter_back P test [] members all = All-filter test P members all
 All-filter_back P test (m ∷ front) members all = All-cons P m (front ++ filter test members) (All-head P m (front ++ members) all) (All-filter_back P test front members (All-tail P m (front ++ members) all))
 
--- fewer members behind a front are as disjoint
+-- fewer members after a front are as disjoint
 pub AreDisjoint-filter : (test : Member → Bool) (front members : List Member) → AreDisjoint (front ++ members) → AreDisjoint (front ++ filter test members)
 AreDisjoint-filter test [] [] disjoint = tt
 AreDisjoint-filter test [] (m ∷ members) disjoint =

@@ -43,7 +43,7 @@ taken span members (Some best) m is overlaps below =
       lowest = All-push (BeginsFrom span m) members m (All-weaker (BeginsFrom span best) (BeginsFrom span m) weaker members is.lowest) (λ _. omega arith);
     }
 
--- Of two lists one behind another: the lowest of the second one where it begins below that of the first, or else that of
+-- Of two lists one after another: the lowest of the second one where it begins below that of the first, or else that of
 -- the first.
 pub taken_from : (span : SpanData) (front members : List Member) (lowest : Option Member) (m : Member) → IsLowest span front lowest → IsLowestOverlap span members m → IfSome lowest (λ best. m.span.first < best.span.first) → IsLowestOverlap span (front ++ members) m
 taken_from span front members lowest m before is below = record {
@@ -63,10 +63,10 @@ passed_over_all span front members None (Some m) before after_it not_lower = abs
 passed_over_all span front members (Some best) behind is after_it not_lower = record {
   listed = Contains-append_left front members best is.listed;
   overlaps = is.overlaps;
-  lowest = All-append (BeginsFrom span best) front members is.lowest (from_behind behind after_it not_lower);
+  lowest = All-append (BeginsFrom span best) front members is.lowest (from_after behind after_it not_lower);
 }
   where
-    from_behind : (behind : Option Member) → IsLowest span members behind → IfSome behind (λ m. ¬ (m.span.first < best.span.first)) → All (BeginsFrom span best) members
-    from_behind None free not_lower = All-weaker (Apart span) (BeginsFrom span best) (λ other apart meets. absurd (apart meets)) members free
-    from_behind (Some m) least not_lower =
+    from_after : (behind : Option Member) → IsLowest span members behind → IfSome behind (λ m. ¬ (m.span.first < best.span.first)) → All (BeginsFrom span best) members
+    from_after None free not_lower = All-weaker (Apart span) (BeginsFrom span best) (λ other apart meets. absurd (apart meets)) members free
+    from_after (Some m) least not_lower =
         All-weaker (BeginsFrom span m) (BeginsFrom span best) (λ other from_m meets. (let above : m.span.first ≤ other.span.first = from_m meets in let not_below : ¬ (m.span.first < best.span.first) = not_lower in omega arith)) members least.lowest

@@ -171,7 +171,7 @@ fn the_lowest_overlap_is_named(rt: HostRuntime) -> Result<(), Fail> {
 }
 
 #[test]
-fn fixed_members_are_found_behind_the_registered_ones(rt: HostRuntime) -> Result<(), Fail> {
+fn fixed_members_are_found_after_the_registered_ones(rt: HostRuntime) -> Result<(), Fail> {
     let (fixed, own) = (image(0, 0x1000, 0x100)?, image(1, 0x1010, 0x10)?);
     let mut registry = PlainRegistry::new(rt.alloc(), vec![in rt.alloc(); fixed]?, 8);
     let behind = Place {

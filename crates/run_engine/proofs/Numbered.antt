@@ -1,4 +1,4 @@
--- Texts of numbered items, written one behind another.
+-- Texts of numbered items, written one after another.
 use Rattle.std.proofs.Common.{◌≡◌, ℕ, ◌+◌, ◌<◌, List, ◌++◌, length, take, drop, get_or, Option, sym, subst}
 use Rattle.event_script.specs.Text.{numbered}
 use Rattle.event_script.proofs.Numbered.{numbered-take_more, numbered-parts}

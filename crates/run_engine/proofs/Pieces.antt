@@ -1,4 +1,4 @@
--- What is handed out and gained, one piece behind another, and counts that rise.
+-- What is handed out and gained, one piece after another, and counts that rise.
 use Rattle.std.proofs.Common.{◌≡◌, ℕ, ◌<◌, ◌≤◌, List, [], ◌++◌, Option, Some, None, IfSome, length, length-append, subst, append_assoc, refl, sym, ◌∙◌, ap, inl, inr, arith}
 use Rattle.std.proofs.lemmas.List.{append-nil}
 use Rattle.run_engine.specs.Ports.{Rose, Hands, Gains, GainsPart}

@@ -4,7 +4,7 @@ use Rattle.std.proofs.Common.{arith}
 use Rattle.std.proofs.Math.Seq.{take-append-add, drop-append-add}
 use Rattle.std.proofs.lemmas.List.{take_all, length-drop}
 
--- a cut behind the first list
+-- a cut after the first list
 pub take_over : {A : Type 0} (xs ys : List A) (n : ℕ) → length xs ≤ n → xs ++ take (n - length xs) ys ≡ take n (xs ++ ys)
 take_over xs ys n behind =
     let sum : length xs + (n - length xs) ≡ n = omega arith in

@@ -24,7 +24,7 @@ pub record TraceData : Type 0 where
 
 -- ---- where a frame is looked up
 
--- A return address lies behind the call, which may be the last instruction of its function: so the address before it counts.
+-- A return address lies after the call, which may be the last instruction of its function: so the address before it counts.
 abbrev pub lookup_address : AddressKind → ℕ → ℕ
 lookup_address Instruction pc = pc
 lookup_address Return pc = (pc + (2 ^ 64 - 1)) % 2 ^ 64

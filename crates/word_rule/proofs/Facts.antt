@@ -104,6 +104,6 @@ decided j id = go (ℕ_discrete j id)
     go (yes e) = inl e
     go (no n) = inr n
 
--- what holds of all, and of one that comes behind them, holds of all then
+-- what holds of all, and of one that comes after them, holds of all then
 pub behind : (P : ℕ → Log → Type 0) (views : List Log) (c : Log) → ((j : ℕ) (u : Log) → get_elem? views j ≡ some u → P j u) → ((j : ℕ) → P j c) → (j : ℕ) (u : Log) → get_elem? (views ++ c ∷ []) j ≡ some u → P j u
 behind P views c all mine j u e = ⊎_elim (λ (h : get_elem? views j ≡ some u). all j u h) (λ (h : c ≡ u). subst (P j) h (mine j)) (at_snoc views c u j e)

@@ -2,7 +2,7 @@
 
 ghost use Rattle.std.specs.Prelude.{◌≡◌, ◌≤◌, Ok, [], length};
 ghost use Rattle.frame_parse.specs.Reading.{section_of};
-ghost use Rattle.event_script.specs.Fields.{fields_behind};
+ghost use Rattle.event_script.specs.Fields.{fields_after};
 ghost use Rattle.event_script.specs.declared.limits.TheConstants.{MOST_SECTION_BYTES};
 ghost use Rattle.event_script.specs.declared.reader.kinds.Stage.TheVariants as stage;
 ghost use Rattle.event_script.specs.declared.reader.statement.Statement.TheVariants as statement;
@@ -276,7 +276,7 @@ impl Draft {
 
     /// Adds what a line of the kind says with the fields that follow its word.
     fn read_fields(&mut self, alloc: Global, kind: Kind, rest: &[u8]) -> Result<(), LineFault>
-        ensures { LeavesDraft self.new result (spoken_added self.old kind (fields_behind rest.now)) }
+        ensures { LeavesDraft self.new result (spoken_added self.old kind (fields_after rest.now)) }
     {
         let statement = statement_of(alloc, kind, rest)?;
         self.add(alloc, statement)

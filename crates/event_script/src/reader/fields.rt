@@ -1,7 +1,7 @@
 //! Lines and fields, as parts of the bytes.
 
 ghost use Rattle.std.specs.Prelude.{◌≡◌, ℕ, ◌<◌, ◌≤◌, ◌≢◌, [], ◌∷◌, Some, None, length, slice_index, MatchOption};
-ghost use Rattle.event_script.specs.Fields.{pieces, fields_behind, is_printable};
+ghost use Rattle.event_script.specs.Fields.{pieces, fields_after, is_printable};
 ghost use Rattle.event_script.specs.Reading.{has_any, only, five};
 
 /// Where the byte stands first, or the length of the bytes where it doesn't stand in them.
@@ -27,14 +27,14 @@ pub fn is_printable(line: &[u8]) -> bool
 
 /// The first field of a line, and what follows it.
 pub fn first_field(line: &[u8]) -> (&[u8], &[u8])
-    ensures { pieces 32 line.now ≡ result.0.now ∷ fields_behind result.1.now }
+    ensures { pieces 32 line.now ≡ result.0.now ∷ fields_after result.1.now }
 {
     line.split_at(place_of(line, b' '))
 }
 
 /// The next field, and what follows it. None where there is no field any more.
 pub fn next_field(rest: &[u8]) -> Option<(&[u8], &[u8])>
-    ensures { MatchOption result (fields_behind rest.now ≡ []) (λ found. fields_behind rest.now ≡ found.0.now ∷ fields_behind found.1.now) }
+    ensures { MatchOption result (fields_after rest.now ≡ []) (λ found. fields_after rest.now ≡ found.0.now ∷ fields_after found.1.now) }
 {
     match rest {
         [] => None,
@@ -44,7 +44,7 @@ pub fn next_field(rest: &[u8]) -> Option<(&[u8], &[u8])>
 
 /// The next field, where it is the last one.
 pub fn only_field(rest: &[u8]) -> Option<&[u8]>
-    ensures { MatchOption result (only (fields_behind rest.now) ≡ None) (λ field. only (fields_behind rest.now) ≡ Some field.now) }
+    ensures { MatchOption result (only (fields_after rest.now) ≡ None) (λ field. only (fields_after rest.now) ≡ Some field.now) }
 {
     let (field, rest) = next_field(rest)?;
     if rest.is_empty() { Some(field) } else { None }
@@ -52,14 +52,14 @@ pub fn only_field(rest: &[u8]) -> Option<&[u8]>
 
 /// Whether a field follows.
 pub fn has_any(rest: &[u8]) -> bool
-    ensures { result ≡ has_any (fields_behind rest.now) }
+    ensures { result ≡ has_any (fields_after rest.now) }
 {
     !rest.is_empty()
 }
 
 /// The next five fields, where they are the last ones.
 pub fn five_fields(rest: &[u8]) -> Option<(&[u8], &[u8], &[u8], &[u8], &[u8])>
-    ensures { MatchOption result (five (fields_behind rest.now) ≡ None) (λ f. five (fields_behind rest.now) ≡ Some (f.0.now, f.1.now, f.2.now, f.3.now, f.4.now)) }
+    ensures { MatchOption result (five (fields_after rest.now) ≡ None) (λ f. five (fields_after rest.now) ≡ Some (f.0.now, f.1.now, f.2.now, f.3.now, f.4.now)) }
 {
     let (first, rest) = next_field(rest)?;
     let (second, rest) = next_field(rest)?;

@@ -1,7 +1,7 @@
 //! What a line says, whatever stands before it.
 
 ghost use Rattle.std.specs.Prelude.{◌≡◌};
-ghost use Rattle.event_script.specs.Fields.{fields_behind};
+ghost use Rattle.event_script.specs.Fields.{fields_after};
 ghost use Rattle.event_script.specs.Reading.{GivesLine, one_decimal, one_hex, image_fields, fieldless, statement_of};
 
 use crate::reader::fault::{LineFault, Reason};
@@ -51,7 +51,7 @@ pub enum Statement {
 /// What a line of the kind says with the fields that follow its word.
 #[tactic(auto, unfolding(crate::specs::Reading::statement_of))]
 pub fn statement_of(alloc: Global, kind: Kind, rest: &[u8]) -> Result<Statement, LineFault>
-    ensures { GivesLine result (statement_of kind (fields_behind rest.now)) }
+    ensures { GivesLine result (statement_of kind (fields_after rest.now)) }
 {
     match kind {
         Kind::Version => Ok(Statement::Version(one_decimal(rest)?)),
@@ -88,7 +88,7 @@ pub fn statement_of(alloc: Global, kind: Kind, rest: &[u8]) -> Result<Statement,
 
 /// What a line says that has no field but its word.
 fn fieldless(rest: &[u8], statement: Statement) -> Result<Statement, LineFault>
-    ensures { GivesLine result (fieldless (fields_behind rest.now) statement) }
+    ensures { GivesLine result (fieldless (fields_after rest.now) statement) }
 {
     if has_any(rest) {
         return Err(Reason::Fields.into());
@@ -98,7 +98,7 @@ fn fieldless(rest: &[u8], statement: Statement) -> Result<Statement, LineFault>
 
 /// The one field that follows, a decimal number.
 fn one_decimal(rest: &[u8]) -> Result<u32, LineFault>
-    ensures { GivesLine result (one_decimal (fields_behind rest.now)) }
+    ensures { GivesLine result (one_decimal (fields_after rest.now)) }
 {
     let field = only_field(rest).ok_or(Reason::Fields)?;
     Ok(decimal_in(field).ok_or(Reason::Spelling)?)
@@ -106,7 +106,7 @@ fn one_decimal(rest: &[u8]) -> Result<u32, LineFault>
 
 /// The one field that follows, a hexadecimal number.
 fn one_hex(rest: &[u8]) -> Result<u64, LineFault>
-    ensures { GivesLine result (one_hex (fields_behind rest.now)) }
+    ensures { GivesLine result (one_hex (fields_after rest.now)) }
 {
     let field = only_field(rest).ok_or(Reason::Fields)?;
     Ok(hex_in(field).ok_or(Reason::Spelling)?)
@@ -114,7 +114,7 @@ fn one_hex(rest: &[u8]) -> Result<u64, LineFault>
 
 /// The fields of an image.
 fn image_fields(alloc: Global, rest: &[u8]) -> Result<ImageFields, LineFault>
-    ensures { GivesLine result (image_fields (fields_behind rest.now)) }
+    ensures { GivesLine result (image_fields (fields_after rest.now)) }
 {
     let (number, base, size, section, bytes) = five_fields(rest).ok_or(Reason::Fields)?;
     let number = decimal_in(number).ok_or(Reason::Spelling)?;

@@ -103,7 +103,7 @@ fn letters(
     }
 }
 
-/// The augmentation data behind a text, which is there where the text begins with `z`.
+/// The augmentation data after a text, which is there where the text begins with `z`.
 #[tactic(auto, unfolding(crate::specs::Records::augmentation_data))]
 pub(crate) fn augmentation_data(
     cursor: &mut Cursor,

@@ -2,7 +2,7 @@ use Rattle.std.proofs.Common.{refl, subst, sym, arith}
 use Rattle.frame_rows.specs.declared.row.Row.{Row}
 use Rattle.frame_rows.specs.declared.walk.Stop.TheVariants.{End, Restored}
 use Rattle.frame_rows.specs.Walk.{ComesTo}
-use Rattle.frame_rows.proofs.Onward.{leads_on, leads_stop, leads_plain, leads_advance, leads_back, stops_inside, stops_above, stops_behind, stops_restored}
+use Rattle.frame_rows.proofs.Onward.{leads_on, leads_stop, leads_plain, leads_advance, leads_back, stops_inside, stops_above, stops_after, stops_restored}
 use Rattle.frame_rows.proofs.walk.+walk.Goals as goal
 
 pub walk-returns-then-step-pc-clause-walks : goal.walk-returns-then-step-pc-clause-walks
@@ -60,4 +60,4 @@ pub walk-returns-clause-walks : goal.walk-returns-clause-walks
 walk-returns-clause-walks g t c = λ base gives.
     let was = c.loop-step in
     leads_stop base c.args.pc c.args.program.now was.program c.next.new.self c.args.row.now was.row was.row End (was.invariant.leads base gives)
-    (stops_behind base c.args.pc was.program c.next.new.self was.row c.in_default.ensures.steps)
+    (stops_after base c.args.pc was.program c.next.new.self was.row c.in_default.ensures.steps)

@@ -3,7 +3,7 @@ use Rattle.frame_parse.specs.Sections.{FdeData}
 use Rattle.frame_rows.specs.declared.row.Row.{Row}
 use Rattle.frame_rows.specs.Rows.{IsBaseRow}
 use Rattle.frame_rows.proofs.Agreement.{cfa_of, column_of}
-use Rattle.frame_rows.proofs.BothPrograms.{behind_both, behind_initial}
+use Rattle.frame_rows.proofs.BothPrograms.{after_both, after_initial}
 use Rattle.frame_rows.proofs.walk.row_at.Goals as goal
 
 -- the row is told where none is kept
@@ -16,7 +16,7 @@ returns-then-first-pc-clause-cfa c = λ initial steps has_initial has.
     let base = c.set_initial.new.row in
     let made = c.set_initial.ensures.row initial has_initial in
     let behind =
-    behind_both f c.program-program.result c.first.result c.args.pc base c.go_through.new.row initial steps c.steps_are_ordered.ensures
+    after_both f c.program-program.result c.first.result c.args.pc base c.go_through.new.row initial steps c.steps_are_ordered.ensures
     c.program-program.ensures.program c.first.ensures c.if-first-pc.true made (c.go_through.ensures base (told f c.new.result.fde.now c.new.result.row base c.new.ensures.fde c.new.ensures.row (initial, has_initial, made))) has_initial has in
     cfa_of f.entry.first c.args.pc initial steps c.go_through.new.row behind
 
@@ -26,7 +26,7 @@ returns-then-first-pc-clause-columns c = λ initial steps has_initial has r lt.
     let base = c.set_initial.new.row in
     let made = c.set_initial.ensures.row initial has_initial in
     let behind =
-    behind_both f c.program-program.result c.first.result c.args.pc base c.go_through.new.row initial steps c.steps_are_ordered.ensures
+    after_both f c.program-program.result c.first.result c.args.pc base c.go_through.new.row initial steps c.steps_are_ordered.ensures
     c.program-program.ensures.program c.first.ensures c.if-first-pc.true made (c.go_through.ensures base (told f c.new.result.fde.now c.new.result.row base c.new.ensures.fde c.new.ensures.row (initial, has_initial, made))) has_initial has in
     column_of r f.entry.first c.args.pc initial steps c.go_through.new.row lt behind
 
@@ -35,7 +35,7 @@ returns-else-first-pc-clause-cfa c = λ initial steps has_initial has.
     let f = c.args.fde.now in
     let base = c.set_initial.new.row in
     let behind =
-    behind_initial f c.first.result c.args.pc base initial steps c.steps_are_ordered.ensures
+    after_initial f c.first.result c.args.pc base initial steps c.steps_are_ordered.ensures
     c.first.ensures c.if-first-pc.false (c.set_initial.ensures.row initial has_initial) has_initial has in
     cfa_of f.entry.first c.args.pc initial steps base behind
 
@@ -44,6 +44,6 @@ returns-else-first-pc-clause-columns c = λ initial steps has_initial has r lt.
     let f = c.args.fde.now in
     let base = c.set_initial.new.row in
     let behind =
-    behind_initial f c.first.result c.args.pc base initial steps c.steps_are_ordered.ensures
+    after_initial f c.first.result c.args.pc base initial steps c.steps_are_ordered.ensures
     c.first.ensures c.if-first-pc.false (c.set_initial.ensures.row initial has_initial) has_initial has in
     column_of r f.entry.first c.args.pc initial steps base lt behind
