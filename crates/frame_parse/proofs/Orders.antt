@@ -14,20 +14,20 @@ use Rattle.frame_parse.specs.declared.program_state.State.{State}
 use Rattle.eh_bytes.specs.Grammar.{given}
 use Rattle.frame_parse.specs.Programs.{moves, effect_of, effect, step, instruction_of, top, below_top, ProgramData, HasSteps}
 use Rattle.eh_bytes.specs.Steps.{AreSteps}
-use Rattle.frame_parse.specs.Order.{Moves, IsAscendingFrom, AreAt, MayStandAt, states_after, IsBalanced, AreOrdered}
+use Rattle.frame_parse.specs.Order.{Moves, IsAscendingFrom, AreAt, MayStandAt, remembered_after, IsBalanced, AreOrdered}
 
 -- what a step does to the location and to the number of remembered states
 record Changes (moving : Bool) (s : State) (i : Instruction) (m : State) : Type 0 where
   up : Moves i s.location m.location
   still : moving ≡ false → m.location ≡ s.location
   may : MayStandAt (length s.remembered) i
-  depth : length m.remembered ≡ states_after (length s.remembered) i
+  depth : length m.remembered ≡ remembered_after (length s.remembered) i
 
 chosen : (b : Bool) (x m : State) (f : RecordFault) (p : ℕ) (text : List ℕ) → (given (cond b (Ok x) (Err f))).Spells p text m → (b ≡ true) × (x ≡ m)
 chosen true x m f p text a = (refl, a.1)
 chosen false x m f p text a = absurd a
 
-same : (moving : Bool) (s m : State) (i : Instruction) → Moves i s.location s.location → MayStandAt (length s.remembered) i → states_after (length s.remembered) i ≡ length s.remembered → s ≡ m → Changes moving s i m
+same : (moving : Bool) (s m : State) (i : Instruction) → Moves i s.location s.location → MayStandAt (length s.remembered) i → remembered_after (length s.remembered) i ≡ length s.remembered → s ≡ m → Changes moving s i m
 same moving s m i up may depth e =
     let made : Changes moving s i s = record { up = up; still = λ _. refl; may = may; depth = sym depth } in
     subst (λ (k : State). Changes moving s i k) e made

@@ -28,15 +28,15 @@ MayStandAt depth RestoreState = 0 < depth
 MayStandAt depth _ = Unit {0}
 
 -- how many are remembered after it
-abbrev pub states_after : ℕ → Instruction → ℕ
-states_after depth Remember = depth + 1
-states_after depth RestoreState = depth - 1
-states_after depth _ = depth
+abbrev pub remembered_after : ℕ → Instruction → ℕ
+remembered_after depth Remember = depth + 1
+remembered_after depth RestoreState = depth - 1
+remembered_after depth _ = depth
 
 -- from so many remembered states on, never more than eight are, and none is restored that wasn't remembered
 abbrev pub IsBalanced : ℕ → List Step → Type 0
 IsBalanced depth [] = Unit {0}
-IsBalanced depth (x ∷ xs) = MayStandAt depth x.instruction × IsBalanced (states_after depth x.instruction) xs
+IsBalanced depth (x ∷ xs) = MayStandAt depth x.instruction × IsBalanced (remembered_after depth x.instruction) xs
 
 -- what holds along the steps that a program goes on with
 pub record AreOrdered (p : ProgramData) (steps : List Step) : Type 0 where

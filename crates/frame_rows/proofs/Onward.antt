@@ -5,7 +5,7 @@ use Rattle.frame_parse.specs.declared.instructions.Instruction.{Instruction}
 use Rattle.frame_parse.specs.declared.instructions.Instruction.TheVariants.{Nop, Advance, Set, Restore, Remember, RestoreState, Cfa, CfaColumn, CfaOffset}
 use Rattle.frame_parse.specs.declared.instructions.Step.{Step}
 use Rattle.frame_parse.specs.Programs.{ProgramData, HasSteps}
-use Rattle.frame_parse.specs.Order.{Moves, IsAscendingFrom, IsBalanced, MayStandAt, states_after}
+use Rattle.frame_parse.specs.Order.{Moves, IsAscendingFrom, IsBalanced, MayStandAt, remembered_after}
 use Rattle.frame_rows.specs.declared.row.Row.{Row}
 use Rattle.frame_rows.specs.declared.walk.Stop.{Stop}
 use Rattle.frame_rows.specs.declared.walk.Stop.TheVariants.{End, Restored}
@@ -59,7 +59,7 @@ not_advance pc x i is never = λ e. absurd (never (sym is ∙ e))
 record Next (x : Step) (q : ProgramData) (pc depth : ℕ) (steps : List Step) : Type 0 where
   more : List Step
   are : steps ≡ x ∷ more
-  on : x.location ≤ pc → GoesOn q pc (states_after depth x.instruction) more
+  on : x.location ≤ pc → GoesOn q pc (remembered_after depth x.instruction) more
   may : MayStandAt depth x.instruction
   above : IsAscendingFrom x.location more
   stays : IsReached pc x → x.location ≤ pc
@@ -105,7 +105,7 @@ leads_stop base pc p q r row other last Restored a b = λ steps below g.
 
 -- an instruction that changes the row alone
 record IsPlain (i : Instruction) : Type 0 where
-  flat : (depth : ℕ) → states_after depth i ≡ depth
+  flat : (depth : ℕ) → remembered_after depth i ≡ depth
   stays : (base row : Row) (below : List Row) → rows_step base (beside row below) i ≡ beside (applied base row i) below
 
 plain : (i : Instruction) → (i ≡ Remember → ⊥) → (i ≡ RestoreState → ⊥) → IsPlain i
@@ -144,7 +144,7 @@ pub leads_back : (base : Row) (pc : ℕ) (p q r : ProgramData) (row other : Row)
 leads_back base pc p q r row other x gives is inner = λ steps below g.
     let n = next_of p q x pc (length below) steps gives g in
     let le = n.stays (not_advance pc x _ is (λ e. cc)) in
-    let deeper : states_after (length below) x.instruction ≡ length (row ∷ below) = ap (states_after (length below)) is ∙ omega arith in
+    let deeper : remembered_after (length below) x.instruction ≡ length (row ∷ below) = ap (remembered_after (length below)) is ∙ omega arith in
     let back = inner n.more (row ∷ below) (subst (λ (d : ℕ). GoesOn q pc d n.more) deeper (n.on le)) in
     let first : row ≡ back.last = let e = back.are in cc in
     let rest : below ≡ back.others = let e = back.are in cc in
@@ -162,7 +162,7 @@ pub stops_inside : (base : Row) (pc : ℕ) (p q r : ProgramData) (row other : Ro
 stops_inside base pc p q r row other x gives is inner = λ steps below g.
     let n = next_of p q x pc (length below) steps gives g in
     let le = n.stays (not_advance pc x _ is (λ e. cc)) in
-    let deeper : states_after (length below) x.instruction ≡ length (row ∷ below) = ap (states_after (length below)) is ∙ omega arith in
+    let deeper : remembered_after (length below) x.instruction ≡ length (row ∷ below) = ap (remembered_after (length below)) is ∙ omega arith in
     let stepped : rows_step base (beside row below) x.instruction ≡ beside row (row ∷ below) = ap (rows_step base (beside row below)) is in
     ap (λ (s : Rows). s.row) (rows_on base pc (beside row below) x n.more steps n.are le ∙ ap (λ (s : Rows). rows_after base pc s n.more) stepped)
     ∙ inner n.more (row ∷ below) (subst (λ (d : ℕ). GoesOn q pc d n.more) deeper (n.on le))
@@ -181,7 +181,7 @@ taken_back : (base : Row) (pc : ℕ) (row : Row) (below : List Row) (steps : Lis
 taken_back base pc row [] steps q x n is = absurd (let may : 0 < 0 = subst (MayStandAt 0) is n.may in omega (arith, may))
 taken_back base pc row (last ∷ others) steps q x n is =
     let le = n.stays (not_advance pc x _ is (λ e. cc)) in
-    let higher : states_after (length (last ∷ others)) x.instruction ≡ length others = ap (states_after (length (last ∷ others))) is ∙ omega arith in
+    let higher : remembered_after (length (last ∷ others)) x.instruction ≡ length others = ap (remembered_after (length (last ∷ others))) is ∙ omega arith in
     let stepped : rows_step base (beside row (last ∷ others)) x.instruction ≡ beside last others = ap (rows_step base (beside row (last ∷ others))) is in
     record {
       last = last;
