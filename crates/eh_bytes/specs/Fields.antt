@@ -1,12 +1,14 @@
--- The parts that are read at once, as DWARF 5 (section 7.6) spells them: numbers of fixed width, LEB128
--- numbers and texts.
-use Rattle.std.specs.Prelude.{◌≡◌, ℕ, ◌^◌, ◌<◌, ◌≤◌, ◌⊎◌, ℤ, List, [], ◌∷◌, ◌++◌, length, true, false, None}
+-- The parts that are read at once, as DWARF 5 (section 7.6) spells them: numbers of fixed width,
+-- LEB128 numbers and texts.
+use Rattle.std.specs.Prelude.{◌≡◌, ℕ, ◌^◌, ◌<◌, ◌≤◌, ◌⊎◌, ℤ, List, [], ◌∷◌, ◌++◌, length, true}
+use Rattle.std.specs.Prelude.{false, None}
 use Rattle.std.specs.Int.{Width, w8, w16, w32, w64, w128, cast_signed}
 use Rattle.byteorder.specs.Endian.{little_number}
 use Rattle.eh_bytes.specs.declared.fault.ByteFault.{ByteFault}
 use Rattle.eh_bytes.specs.declared.fault.ByteFault.TheVariants.{Short, TooWide}
 use Rattle.eh_bytes.specs.CursorData.{fixed_at, text_len, text_at}
-use Rattle.eh_bytes.specs.Leb.{IsLeb, leb_len, uleb_value, sleb_value, fits_signed, uleb_at, sleb_at}
+use Rattle.eh_bytes.specs.Leb.{IsLeb, leb_len, uleb_value, sleb_value, fits_signed, uleb_at}
+use Rattle.eh_bytes.specs.Leb.{sleb_at}
 use Rattle.eh_bytes.specs.Grammar.{Part, ◌>>=◌, give}
 
 -- a number of n bytes, the lowest first

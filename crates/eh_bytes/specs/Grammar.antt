@@ -1,9 +1,9 @@
 -- A grammar of parts, over any fault F. A part is given by the texts that spell it and by the bytes
 -- that are refused in its place. Both are relations on whole lists of bytes: `Spells p text x` says
--- that the bytes of the text, the first of them at place p, spell x, and `Refuses p bytes f` that what
--- stands from place p to the end of the data around it is refused with f. Beside them stands how a part
--- is read from the left. That reading and both relations agree is proved once for each way to make
--- parts (`IsExact` in proofs/Exact, `IsWhole` in proofs/Wholes).
+-- that the bytes of the text, the first of them at place p, spell x, and `Refuses p bytes f` that
+-- what stands from place p to the end of the data around it is refused with f. Beside them stands
+-- how a part is read from the left. That reading and both relations agree is proved once for each
+-- way to make parts (`IsExact` in proofs/Exact, `IsWhole` in proofs/Wholes).
 use Rattle.std.specs.Prelude.{◌≡◌, ℕ, ◌+◌, ◌<◌, ◌⊎◌, List, [], ◌++◌, length, Bool, true, false}
 use Rattle.std.specs.Prelude.{Option, Some, None, Result, Ok, Err, if◌then◌else◌}
 use Rattle.eh_bytes.specs.CursorData.{CursorData, data_at}
@@ -14,8 +14,9 @@ pub record Part (F A : Type 0) : Type 1 where
   pub Refuses : ℕ → List ℕ → F → Type 0
   pub read : CursorData → Result (A × CursorData) F
 
--- One part and then another, which may depend on what the first one spells. Their texts stand one after
--- the other; what is refused is refused by the first part, or by the second after a whole first one.
+-- One part and then another, which may depend on what the first one spells. Their texts stand one
+-- after the other; what is refused is refused by the first part, or by the second after a whole
+-- first one.
 infixl 10 ◌>>=◌
 abbrev pub ◌>>=◌ : {F A B : Type 0} → Part F A → (A → Part F B) → Part F B
 ◌>>=◌ {F} {A} {B} g h = record {

@@ -1,7 +1,8 @@
--- Parts one after another to the end of the bytes, where each is read in the state that the one before
--- it left: the instructions of a program, the operations of an expression. `one` is what one step spells
--- in a state.
-use Rattle.std.specs.Prelude.{◌≡◌, ℕ, zero, suc, ◌+◌, ◌<◌, List, [], ◌∷◌, ◌++◌, length, Result, Ok, ◌==◌, if◌then◌else◌}
+-- Parts one after another to the end of the bytes, where each is read in the state that the one
+-- before it left: the instructions of a program, the operations of an expression. `one` is what one
+-- step spells in a state.
+use Rattle.std.specs.Prelude.{◌≡◌, ℕ, zero, suc, ◌+◌, ◌<◌, List, [], ◌∷◌, ◌++◌, length, Result, Ok}
+use Rattle.std.specs.Prelude.{◌==◌, if◌then◌else◌}
 use Rattle.eh_bytes.specs.CursorData.{CursorData}
 use Rattle.eh_bytes.specs.Results.{◌and_then◌}
 use Rattle.eh_bytes.specs.Grammar.{Part}

@@ -1,7 +1,8 @@
 //! A place in the bytes of a section, which moves forward field by field.
 
 ghost use Rattle.std.specs.Prelude.{◌≡◌, ◌≤◌, ◌<◌, length, slice_range, IfSome};
-ghost use Rattle.eh_bytes.specs.CursorData.{CursorData, Reads, text_len, bytes_at, part_at, text_at, fixed_at};
+ghost use Rattle.eh_bytes.specs.CursorData.{CursorData, Reads, text_len, bytes_at, part_at};
+ghost use Rattle.eh_bytes.specs.CursorData.{text_at, fixed_at};
 ghost use Rattle.eh_bytes.specs.Fields.{signed_fixed};
 ghost use Rattle.std.specs.Int.{w8, w16, w32};
 ghost use Rattle.eh_bytes.specs.Leb.{uleb_at, sleb_at};
@@ -16,8 +17,8 @@ use crate::leb::{leb_length, signed_digit, sleb_number, uleb_number};
 use byteorder::{ByteOrder, LittleEndian};
 use std::marker::Model;
 
-/// What is left of a section's bytes, or of a part of them, and the place where it begins. Kept is the place where
-/// it ends, which no move changes.
+/// What is left of a section's bytes, or of a part of them, and the place where it begins. Kept is
+/// the place where it ends, which no move changes.
 #[derive(Debug, Drop)]
 pub struct Cursor<'a> {
     rest: &'a [u8],
@@ -199,7 +200,8 @@ impl<'a> Cursor<'a> {
         }
     }
 
-    /// The same by a call, whose answer has a place of its own: so that of `uleb` needn't be in memory.
+    /// The same by a call, whose answer has a place of its own: so that of `uleb` needn't be in
+    /// memory.
     #[inline(always)]
     fn long_uleb(&mut self) -> Result<u64, ByteFault>
         ensures { Reads (λ x. x) uleb_at self.old result self.new }
@@ -241,7 +243,8 @@ impl<'a> Cursor<'a> {
         }
     }
 
-    /// The same by a call, whose answer has a place of its own: so that of `sleb` needn't be in memory.
+    /// The same by a call, whose answer has a place of its own: so that of `sleb` needn't be in
+    /// memory.
     #[inline(always)]
     fn long_sleb(&mut self) -> Result<i64, ByteFault>
         ensures { Reads (λ x. x) sleb_at self.old result self.new }

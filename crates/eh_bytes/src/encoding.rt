@@ -1,5 +1,6 @@
-//! The encodings of pointers, by the names that the LSB gives them: the low four bits are the format of the
-//! number, bits 4 to 6 what is added to it, and the highest bit marks the address of a pointer.
+//! The encodings of pointers, by the names that the LSB gives them: the low four bits are the
+//! format of the number, bits 4 to 6 what is added to it, and the highest bit marks the address of
+//! a pointer.
 
 ghost use Rattle.std.specs.Prelude.{◌≡◌};
 ghost use Rattle.eh_bytes.specs.Pointer.{is_format, application_of, is_pointer};

@@ -1,6 +1,7 @@
 //! LEB128 numbers of any length. Those of one byte are read before.
 
-ghost use Rattle.std.specs.Prelude.{◌≡◌, ◌^◌, ◌<◌, ◌≤◌, length, Some, None, IfSome, nat_lt, if◌then◌else◌};
+ghost use Rattle.std.specs.Prelude.{◌≡◌, ◌^◌, ◌<◌, ◌≤◌, length, Some, None, IfSome, nat_lt};
+ghost use Rattle.std.specs.Prelude.{if◌then◌else◌};
 ghost use Rattle.eh_bytes.specs.Leb.{leb_len, uleb_value, signed_digit, sleb_value, fits_signed};
 
 /// How many bytes the number at the front has, or `None` where its last byte is not there.

@@ -1,8 +1,8 @@
 //! The bytes of `.eh_frame`, read one field at a time: fixed-width numbers, LEB128 numbers, encoded
 //! pointers and runs of bytes. This is the lowest layer of the frame readers. It knows nothing of
-//! records, programs or expressions, takes no memory, and stands on `byteorder` for numbers of fixed
-//! width. Each read gives what the bytes spell and moves after it, or says what is wrong and where,
-//! and then leaves the cursor where it was.
+//! records, programs or expressions, takes no memory, and stands on `byteorder` for numbers of
+//! fixed width. Each read gives what the bytes spell and moves after it, or says what is wrong and
+//! where, and then leaves the cursor where it was.
 #![tactic(auto)]
 
 mod cursor;

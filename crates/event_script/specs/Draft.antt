@@ -1,5 +1,6 @@
 -- A script as far as its lines have come: which lines may come, and what each adds.
-use Rattle.std.specs.Prelude.{◌≡◌, ℕ, ◌+◌, ◌-◌, List, [], ◌∷◌, ◌++◌, Bool, true, false, Result, Ok, Err}
+use Rattle.std.specs.Prelude.{◌≡◌, ℕ, ◌+◌, ◌-◌, List, [], ◌∷◌, ◌++◌, Bool, true, false, Result, Ok}
+use Rattle.std.specs.Prelude.{Err}
 use Rattle.reg_model.specs.SpanData.{SpanData}
 use Rattle.frame_parse.specs.Sections.{SectionData}
 use Rattle.frame_parse.specs.Reading.{section_of}
@@ -13,8 +14,8 @@ use Rattle.event_script.specs.declared.reader.kinds.Kind.TheVariants as kind
 use Rattle.event_script.specs.declared.reader.statement.Statement.{Statement}
 use Rattle.event_script.specs.declared.reader.statement.Statement.TheVariants as statement
 
--- What the lines so far make known: which lines may come, what stands of the script, the threads that
--- are over of the round that goes on, and the events of the thread that goes on.
+-- What the lines so far make known: which lines may come, what stands of the script, the threads
+-- that are over of the round that goes on, and the events of the thread that goes on.
 pub record DraftData : Type 0 where
   pub stage : Stage
   pub script : ScriptData

@@ -11,7 +11,8 @@ abbrev pub Tells : List ℕ → ScriptFault → Type 0
 Tells bytes (Bad line reason) = IsFirstBad bytes line reason
 Tells bytes NoMemory = Unit {0}
 
--- The reason is one of the script's bytes: want of memory has a fault of its own, also where a section wants it.
+-- The reason is one of the script's bytes: want of memory has a fault of its own, also where a
+-- section wants it.
 abbrev pub IsOfScript : ScriptFault → Type 0
 IsOfScript (Bad line reason) = IsOfBytes reason
 IsOfScript NoMemory = Unit {0}

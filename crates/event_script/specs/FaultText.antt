@@ -4,7 +4,10 @@ use Rattle.std.specs.Fmt.{decimal}
 use Rattle.frame_parse.specs.declared.fault.FrameFault.{FrameFault}
 use Rattle.frame_parse.specs.declared.fault.FrameFault.TheVariants as section
 use Rattle.event_script.specs.declared.reader.fault.Reason.{Reason}
-use Rattle.event_script.specs.declared.reader.fault.Reason.TheVariants.{Missing, After, Unended, Byte, Word, Unbuilt, Fields, Spelling, Order, Limit, Span, Section, Name, Fixed}
+use Rattle.event_script.specs.declared.reader.fault.Reason.TheVariants.{Missing, After, Unended}
+use Rattle.event_script.specs.declared.reader.fault.Reason.TheVariants.{Byte, Word, Unbuilt, Fields}
+use Rattle.event_script.specs.declared.reader.fault.Reason.TheVariants.{Spelling, Order, Limit}
+use Rattle.event_script.specs.declared.reader.fault.Reason.TheVariants.{Span, Section, Name, Fixed}
 
 -- a refusal of a section: its name, where its record starts, and the place that is refused
 abbrev pub section_fault_at : List ℕ → ℕ → ℕ → List ℕ

@@ -1,5 +1,6 @@
 -- Texts in pieces: the lines of a text, the fields of a line.
-use Rattle.std.specs.Prelude.{ℕ, ◌^◌, List, [], ◌∷◌, Bool, false, ◌&&◌, ◌==◌, nat_lt, nat_le, Option, Some, None, Result, Ok, Err, codes, if◌then◌else◌}
+use Rattle.std.specs.Prelude.{ℕ, ◌^◌, List, [], ◌∷◌, Bool, false, ◌&&◌, ◌==◌, nat_lt, nat_le}
+use Rattle.std.specs.Prelude.{Option, Some, None, Result, Ok, Err, codes, if◌then◌else◌}
 use Rattle.hex.specs.Hex.{decode_of, encode_lower}
 use Rattle.hex.specs.declared.error.FromHexError.{FromHexError}
 use Rattle.std.specs.List.{list_all}
@@ -11,8 +12,8 @@ abbrev pub with_first : ℕ → List (List ℕ) → List (List ℕ)
 with_first b [] = (b ∷ []) ∷ []
 with_first b (piece ∷ others) = (b ∷ piece) ∷ others
 
--- What stands between the separators: one piece more than there are separators. Of a text in lines the last piece is
--- what follows the last line.
+-- What stands between the separators: one piece more than there are separators. Of a text in lines
+-- the last piece is what follows the last line.
 abbrev pub pieces : ℕ → List ℕ → List (List ℕ)
 pieces separator [] = [] ∷ []
 pieces separator (b ∷ bytes) = if b == separator then [] ∷ pieces separator bytes else with_first b (pieces separator bytes)

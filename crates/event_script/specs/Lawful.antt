@@ -4,7 +4,8 @@ use Rattle.std.specs.List.{AllZip, flat_map}
 use Rattle.reg_model.specs.SpanData.{SpanData}
 use Rattle.reg_model.specs.State.{State, opening}
 use Rattle.reg_model.specs.History.{IsHistory}
-use Rattle.reg_model.specs.Receipt.{moment, accepted, AllHold, AreInOrder, IsPlace, receipts_of_place}
+use Rattle.reg_model.specs.Receipt.{moment, accepted, AllHold, AreInOrder, IsPlace}
+use Rattle.reg_model.specs.Receipt.{receipts_of_place}
 use Rattle.reg_model.specs.Numbers.{AreNumbered, history_of}
 use Rattle.reg_model.specs.declared.span.Member.{Member}
 use Rattle.reg_model.specs.declared.answer.Update.{Update}
@@ -15,7 +16,8 @@ use Rattle.event_script.specs.JournalData.{JournalData}
 use Rattle.event_script.specs.declared.script.Event.{Event}
 use Rattle.event_script.specs.declared.script.Event.TheVariants as event
 use Rattle.event_script.specs.declared.journal.Answer.{Answer}
-use Rattle.event_script.specs.declared.journal.Answer.TheVariants.{Register, Deregister, Load, Unload, Find}
+use Rattle.event_script.specs.declared.journal.Answer.TheVariants.{Register, Deregister, Load}
+use Rattle.event_script.specs.declared.journal.Answer.TheVariants.{Unload, Find}
 
 -- the member that is meant by the number of an image
 abbrev pub image_member : List SpanData → ℕ → Member
@@ -46,8 +48,8 @@ thread_receipts images journal = map (λ round. map (λ answers. flat_map (recei
 abbrev pub in_one : List (List (List Receipt)) → List Receipt
 in_one rounds = flat_map (λ round. flat_map (λ receipts. receipts) round) rounds
 
--- Each receipt holds, and stamps and numbers rise along each thread. A round's callers are the first one, and one for each
--- thread so far.
+-- Each receipt holds, and stamps and numbers rise along each thread. A round's callers are the
+-- first one, and one for each thread so far.
 abbrev pub RoundsHold : State → List Update → ℕ → ℕ → List (List (List Receipt)) → Type 0
 RoundsHold start history nodes callers [] = Unit {0}
 RoundsHold start history nodes callers (round ∷ rounds) =

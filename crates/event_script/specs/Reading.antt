@@ -1,6 +1,8 @@
 -- How scripts are read, line after line. That this finds the first bad line of the table, and the
 -- script that the bytes spell, is proved.
-use Rattle.std.specs.Prelude.{◌≡◌, ℕ, ◌+◌, ◌-◌, ◌^◌, List, [], ◌∷◌, length, Bool, true, false, ◌&&◌, ◌==◌, nat_lt, nat_le, Option, Some, None, Result, Ok, Err, slice_get, if◌then◌else◌}
+use Rattle.std.specs.Prelude.{◌≡◌, ℕ, ◌+◌, ◌-◌, ◌^◌, List, [], ◌∷◌, length, Bool, true, false, ◌&&◌}
+use Rattle.std.specs.Prelude.{◌==◌, nat_lt, nat_le, Option, Some, None, Result, Ok, Err, slice_get}
+use Rattle.std.specs.Prelude.{if◌then◌else◌}
 use Rattle.std.specs.List.{find}
 use Rattle.std.specs.Option.{ok_or, option_and_then}
 use Rattle.std.specs.Str.{bytes_eq}
@@ -9,11 +11,15 @@ use Rattle.frame_parse.specs.Sections.{SectionData}
 use Rattle.frame_parse.specs.declared.fault.FrameFault.{FrameFault}
 use Rattle.frame_parse.specs.declared.fault.FrameFault.TheVariants as frame_fault
 use Rattle.frame_parse.specs.Reading.{section_of}
-use Rattle.event_script.specs.declared.limits.TheConstants.{VERSION, LEAST_NODES, MOST_NODES, LEAST_LOADS, MOST_LOADS, MOST_IMAGES, MOST_SECTION_BYTES, MOST_ROUNDS, MOST_THREADS, MOST_EVENTS}
+use Rattle.event_script.specs.declared.limits.TheConstants.{VERSION, LEAST_NODES, MOST_NODES}
+use Rattle.event_script.specs.declared.limits.TheConstants.{LEAST_LOADS, MOST_LOADS, MOST_IMAGES}
+use Rattle.event_script.specs.declared.limits.TheConstants.{MOST_SECTION_BYTES, MOST_ROUNDS}
+use Rattle.event_script.specs.declared.limits.TheConstants.{MOST_THREADS, MOST_EVENTS}
 use Rattle.event_script.specs.ScriptData.{ImageData}
 use Rattle.event_script.specs.Fields.{pieces, is_printable, decimal_in, hex_in, section_bytes}
 use Rattle.event_script.specs.Statements.{word_of}
-use Rattle.event_script.specs.Draft.{DraftData, nothing_known, may_come, is_ended, is_unbuilt, threads_so_far, rounds_so_far, with_image, with_statement}
+use Rattle.event_script.specs.Draft.{DraftData, nothing_known, may_come, is_ended, is_unbuilt}
+use Rattle.event_script.specs.Draft.{threads_so_far, rounds_so_far, with_image, with_statement}
 use Rattle.event_script.specs.declared.script.Event.{Event}
 use Rattle.event_script.specs.declared.script.Event.TheVariants as event
 use Rattle.event_script.specs.declared.reader.fault.Reason.{Reason}

@@ -1,13 +1,18 @@
 -- Why a line is bad: the table of reasons, in its order.
-use Rattle.std.specs.Prelude.{◌≡◌, ◌≢◌, ◌⊎◌, ℕ, ◌+◌, ◌-◌, ◌^◌, ◌<◌, ◌≤◌, List, [], ◌∷◌, length, Bool, true, false, Some, slice_get}
+use Rattle.std.specs.Prelude.{◌≡◌, ◌≢◌, ◌⊎◌, ℕ, ◌+◌, ◌-◌, ◌^◌, ◌<◌, ◌≤◌, List, [], ◌∷◌, length}
+use Rattle.std.specs.Prelude.{Bool, true, false, Some, slice_get}
 use Rattle.frame_parse.specs.Sections.{IsRefused}
 use Rattle.frame_parse.specs.declared.fault.FrameFault.{FrameFault}
-use Rattle.event_script.specs.declared.limits.TheConstants.{VERSION, LEAST_NODES, MOST_NODES, LEAST_LOADS, MOST_LOADS, MOST_IMAGES, MOST_SECTION_BYTES, MOST_ROUNDS, MOST_THREADS, MOST_EVENTS}
+use Rattle.event_script.specs.declared.limits.TheConstants.{VERSION, LEAST_NODES, MOST_NODES}
+use Rattle.event_script.specs.declared.limits.TheConstants.{LEAST_LOADS, MOST_LOADS, MOST_IMAGES}
+use Rattle.event_script.specs.declared.limits.TheConstants.{MOST_SECTION_BYTES, MOST_ROUNDS}
+use Rattle.event_script.specs.declared.limits.TheConstants.{MOST_THREADS, MOST_EVENTS}
 use Rattle.reg_model.specs.SpanData.{SpanData}
 use Rattle.event_script.specs.Fields.{pieces, is_printable}
 use Rattle.event_script.specs.Statements.{word_of, forms, AreFields, statement_line, HasForm}
 use Rattle.event_script.specs.Spelling.{Line}
-use Rattle.event_script.specs.Draft.{DraftData, may_come, is_ended, is_unbuilt, threads_so_far, rounds_so_far}
+use Rattle.event_script.specs.Draft.{DraftData, may_come, is_ended, is_unbuilt, threads_so_far}
+use Rattle.event_script.specs.Draft.{rounds_so_far}
 use Rattle.event_script.specs.declared.script.Event.TheVariants as event
 use Rattle.event_script.specs.declared.reader.fault.Reason.{Reason}
 use Rattle.event_script.specs.declared.reader.fault.Reason.TheVariants as reason

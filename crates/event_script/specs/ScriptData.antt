@@ -1,11 +1,16 @@
 -- Scripts as plain data, and their limits.
-use Rattle.std.specs.Prelude.{◌≡◌, ℕ, ◌^◌, ◌<◌, ◌≤◌, List, [], ◌∷◌, length, map, All, unwrap_or, slice_get}
+use Rattle.std.specs.Prelude.{◌≡◌, ℕ, ◌^◌, ◌<◌, ◌≤◌, List, [], ◌∷◌, length, map, All, unwrap_or}
+use Rattle.std.specs.Prelude.{slice_get}
 use Rattle.reg_model.specs.SpanData.{SpanData, IsSpan}
 use Rattle.hex.specs.Hex.{IsBytes}
 use Rattle.frame_parse.specs.Sections.{SectionData, HasFdes}
-use Rattle.event_script.specs.declared.limits.TheConstants.{LEAST_NODES, MOST_NODES, LEAST_LOADS, MOST_LOADS, MOST_IMAGES, MOST_SECTION_BYTES, MOST_ROUNDS, MOST_THREADS, MOST_EVENTS}
+use Rattle.event_script.specs.declared.limits.TheConstants.{LEAST_NODES, MOST_NODES, LEAST_LOADS}
+use Rattle.event_script.specs.declared.limits.TheConstants.{MOST_LOADS, MOST_IMAGES}
+use Rattle.event_script.specs.declared.limits.TheConstants.{MOST_SECTION_BYTES, MOST_ROUNDS}
+use Rattle.event_script.specs.declared.limits.TheConstants.{MOST_THREADS, MOST_EVENTS}
 use Rattle.event_script.specs.declared.script.Event.{Event}
-use Rattle.event_script.specs.declared.script.Event.TheVariants.{Register, Deregister, Load, Unload, Find}
+use Rattle.event_script.specs.declared.script.Event.TheVariants.{Register, Deregister, Load, Unload}
+use Rattle.event_script.specs.declared.script.Event.TheVariants.{Find}
 
 -- what a contract sees of a script: by round and thread, the events
 pub record ScriptData : Type 0 where
@@ -52,7 +57,8 @@ pub record AreFixed (images : List SpanData) (fixed : List ℕ) : Type 0 where
   pub named : All (λ image. image < length images) fixed
   pub rising : Rise (map (span_of images) fixed)
 
--- each number and each count is within its limit, each image is a span and has a section, and each event is one of these images'
+-- each number and each count is within its limit, each image is a span and has a section, and each
+-- event is one of these images'
 pub record IsRunnable (s : ScriptData) : Type 0 where
   pub nodes : (LEAST_NODES ≤ s.nodes) × (s.nodes ≤ MOST_NODES)
   pub loads : (LEAST_LOADS ≤ s.loads) × (s.loads ≤ MOST_LOADS)
@@ -66,7 +72,8 @@ pub record IsBuilt (s : ScriptData) : Type 0 where
   pub rounds : length s.rounds ≤ 1
   pub threads : All (λ threads. length threads ≤ 1) s.rounds
 
--- what the line of an image says: its number, its span by base and size, and its section by address and bytes
+-- what the line of an image says: its number, its span by base and size, and its section by address
+-- and bytes
 pub record ImageData : Type 0 where
   pub number : ℕ
   pub base : ℕ

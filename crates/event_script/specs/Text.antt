@@ -16,7 +16,8 @@ use Rattle.reg_model.specs.declared.answer.Removed.TheVariants as removed
 use Rattle.event_script.specs.Digits.{hex}
 use Rattle.event_script.specs.JournalData.{JournalData}
 use Rattle.event_script.specs.declared.journal.Answer.{Answer}
-use Rattle.event_script.specs.declared.journal.Answer.TheVariants.{Register, Deregister, Load, Unload, Find}
+use Rattle.event_script.specs.declared.journal.Answer.TheVariants.{Register, Deregister, Load}
+use Rattle.event_script.specs.declared.journal.Answer.TheVariants.{Unload, Find}
 
 -- which member overlaps: its first address and its image
 abbrev pub overlap_text : Member → ℕ → List ℕ

@@ -26,15 +26,16 @@ pub fn good_lines_begin_a_script()
         → BeginsScript (take (number - 1) (pieces 10 bytes)) }
 {}
 
-/// No script's text begins with the lines up to a first bad one. Where the text ends too early, what is there may begin one.
+/// No script's text begins with the lines up to a first bad one. Where the text ends too early,
+/// what is there may begin one.
 pub fn no_script_begins_with_a_bad_line()
     ensures { (bytes : List ℕ) (number : ℕ) (why : Reason) → IsFirstBad bytes number why
         → why ≢ reason.Missing → why ≢ reason.Unended
         → BeginsScript (take number (pieces 10 bytes)) → ⊥ }
 {}
 
-/// Where bytes spell a script, its text is these bytes, and it is spelled by its text: so what was read prints
-/// back, and what was printed is read again.
+/// Where bytes spell a script, its text is these bytes, and it is spelled by its text: so what was
+/// read prints back, and what was printed is read again.
 pub fn scripts_print_back()
     ensures printed { (bytes : List ℕ) (s : ScriptData) → IsScript bytes s → script_text s ≡ bytes }
     ensures read_again { (bytes : List ℕ) (s : ScriptData) → IsScript bytes s → IsScript (script_text s) s }

@@ -1,10 +1,10 @@
 //! The text of scripts and of journals.
 //!
-//! Above the model (`reg_model`), below the engine. A script says which images there are and what each
-//! thread does with them; `read` takes its bytes apart, and accepts exactly the bytes that spell one. A
-//! journal is what came of a script: an answer for each event, and the number of updates; `print_journal`
-//! gives its one text. What a journal has to be, `specs/Lawful` says; that the engine's are so is
-//! proved above.
+//! Above the model (`reg_model`), below the engine. A script says which images there are and what
+//! each thread does with them; `read` takes its bytes apart, and accepts exactly the bytes that
+//! spell one. A journal is what came of a script: an answer for each event, and the number of
+//! updates; `print_journal` gives its one text. What a journal has to be, `specs/Lawful` says; that
+//! the engine's are so is proved above.
 #![tactic(auto)]
 
 mod journal;

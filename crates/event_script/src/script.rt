@@ -51,7 +51,8 @@ impl Model for Round {
     ghost view = { λ round. round.threads.items };
 }
 
-/// A script, all of whose numbers are within their limits and all of whose events name an image that there is.
+/// A script, all of whose numbers are within their limits and all of whose events name an image
+/// that there is.
 #[derive(Drop)]
 pub struct Script {
     /// The number of nodes of the tree of registered ranges.

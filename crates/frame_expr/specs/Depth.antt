@@ -1,7 +1,10 @@
 -- How many entries an operation finds on the stack and leaves there.
 use Rattle.std.specs.Prelude.{ℕ, ◌+◌, ◌-◌, Bool, true, false, nat_le, ◌&&◌, ◌||◌}
 use Rattle.frame_expr.specs.declared.operation.Operation.{Operation}
-use Rattle.frame_expr.specs.declared.operation.Operation.TheVariants.{Nop, Constant, Breg, Deref, Dup, Drop, Over, Pick, Swap, Rot, Unary, PlusUconst, Binary, Compare}
+use Rattle.frame_expr.specs.declared.operation.Operation.TheVariants.{Nop, Constant, Breg, Deref}
+use Rattle.frame_expr.specs.declared.operation.Operation.TheVariants.{Dup, Drop, Over, Pick, Swap}
+use Rattle.frame_expr.specs.declared.operation.Operation.TheVariants.{Rot, Unary, PlusUconst}
+use Rattle.frame_expr.specs.declared.operation.Operation.TheVariants.{Binary, Compare}
 
 -- the entries that it takes
 abbrev pub needs : Operation → ℕ

@@ -1,5 +1,6 @@
 -- Expressions: operations one after another, each of which finds its entries on the stack.
-use Rattle.std.specs.Prelude.{◌≡◌, ℕ, ◌<◌, ◌⊎◌, List, Bool, Option, Result, Ok, Err, is_ok, nat_lt, if◌then◌else◌}
+use Rattle.std.specs.Prelude.{◌≡◌, ℕ, ◌<◌, ◌⊎◌, List, Bool, Option, Result, Ok, Err, is_ok, nat_lt}
+use Rattle.std.specs.Prelude.{if◌then◌else◌}
 use Rattle.eh_bytes.specs.declared.fault.ByteFault.{ByteFault}
 use Rattle.eh_bytes.specs.declared.fault.ByteFault.TheVariants as bytes
 use Rattle.eh_bytes.specs.CursorData.{CursorData}
@@ -19,8 +20,9 @@ expr_fault (bytes.Short at) = faults.Short at
 expr_fault (bytes.TooWide at) = faults.TooWide at
 expr_fault (bytes.Encoding at b) = faults.Operation at b
 
--- What stands after the byte of an operation, where the stack has d entries: the operand. Its byte tells whether the
--- stack fits, or with pick its operand. Beside the operation stands the depth after it.
+-- What stands after the byte of an operation, where the stack has d entries: the operand. Its byte
+-- tells whether the stack fits, or with pick its operand. Beside the operation stands the depth
+-- after it.
 unfoldable pub coded : ℕ → ℕ → Code → Part ExprFault (Operation × ℕ)
 coded d at c = do
   _ ← check (byte_fits d c.operation) (faults.Depth at)
@@ -52,7 +54,8 @@ expression d = bytes_of (operations d)
 abbrev pub whole : List ℕ → CursorData
 whole bytes = record { bytes = bytes; at = 0 }
 
--- the bytes are read as an expression, whose stack has so many entries at the start, without a fault
+-- the bytes are read as an expression, whose stack has so many entries at the start, without a
+-- fault
 abbrev pub is_expression : ℕ → List ℕ → Bool
 is_expression d bytes = is_ok ((expression d).read (whole bytes))
 

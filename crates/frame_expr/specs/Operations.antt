@@ -1,19 +1,37 @@
 -- The operations of expressions and how they are written, after DWARF 5, sections 2.5.1 and 7.7.1.
-use Rattle.std.specs.Prelude.{ℕ, ◌-◌, ℤ, Bool, true, false, Option, Some, None, nat_lt, nat_le, ◌==◌, if◌then◌else◌}
+use Rattle.std.specs.Prelude.{ℕ, ◌-◌, ℤ, Bool, true, false, Option, Some, None, nat_lt, nat_le}
+use Rattle.std.specs.Prelude.{◌==◌, if◌then◌else◌}
 use Rattle.std.specs.Int.{w8, w16, w32, w64, cast_unsigned}
 use Rattle.eh_bytes.specs.declared.fault.ByteFault.{ByteFault}
 use Rattle.eh_bytes.specs.Grammar.{Part, ◌>>=◌, give}
 use Rattle.eh_bytes.specs.Fields.{fixed, signed_fixed, uleb, sleb}
-use Rattle.frame_expr.specs.declared.opcode.TheConstants.{DW_OP_addr, DW_OP_deref, DW_OP_const1u, DW_OP_const1s, DW_OP_const2u, DW_OP_const2s, DW_OP_const4u, DW_OP_const4s, DW_OP_const8u, DW_OP_const8s, DW_OP_constu, DW_OP_consts}
-use Rattle.frame_expr.specs.declared.opcode.TheConstants.{DW_OP_dup, DW_OP_drop, DW_OP_over, DW_OP_pick, DW_OP_swap, DW_OP_rot, DW_OP_abs, DW_OP_and, DW_OP_minus, DW_OP_mul, DW_OP_neg}
-use Rattle.frame_expr.specs.declared.opcode.TheConstants.{DW_OP_not, DW_OP_or, DW_OP_plus, DW_OP_plus_uconst, DW_OP_shl, DW_OP_shr, DW_OP_shra, DW_OP_xor, DW_OP_bra, DW_OP_eq, DW_OP_ge, DW_OP_gt, DW_OP_le}
-use Rattle.frame_expr.specs.declared.opcode.TheConstants.{DW_OP_lt, DW_OP_ne, DW_OP_lit0, DW_OP_reg0, DW_OP_breg0, DW_OP_breg16, DW_OP_nop}
+use Rattle.frame_expr.specs.declared.opcode.TheConstants.{DW_OP_addr, DW_OP_deref, DW_OP_const1u}
+use Rattle.frame_expr.specs.declared.opcode.TheConstants.{DW_OP_const1s, DW_OP_const2u}
+use Rattle.frame_expr.specs.declared.opcode.TheConstants.{DW_OP_const2s, DW_OP_const4u}
+use Rattle.frame_expr.specs.declared.opcode.TheConstants.{DW_OP_const4s, DW_OP_const8u}
+use Rattle.frame_expr.specs.declared.opcode.TheConstants.{DW_OP_const8s, DW_OP_constu, DW_OP_consts}
+use Rattle.frame_expr.specs.declared.opcode.TheConstants.{DW_OP_dup, DW_OP_drop, DW_OP_over}
+use Rattle.frame_expr.specs.declared.opcode.TheConstants.{DW_OP_pick, DW_OP_swap, DW_OP_rot}
+use Rattle.frame_expr.specs.declared.opcode.TheConstants.{DW_OP_abs, DW_OP_and, DW_OP_minus}
+use Rattle.frame_expr.specs.declared.opcode.TheConstants.{DW_OP_mul, DW_OP_neg}
+use Rattle.frame_expr.specs.declared.opcode.TheConstants.{DW_OP_not, DW_OP_or, DW_OP_plus}
+use Rattle.frame_expr.specs.declared.opcode.TheConstants.{DW_OP_plus_uconst, DW_OP_shl, DW_OP_shr}
+use Rattle.frame_expr.specs.declared.opcode.TheConstants.{DW_OP_shra, DW_OP_xor, DW_OP_bra}
+use Rattle.frame_expr.specs.declared.opcode.TheConstants.{DW_OP_eq, DW_OP_ge, DW_OP_gt, DW_OP_le}
+use Rattle.frame_expr.specs.declared.opcode.TheConstants.{DW_OP_lt, DW_OP_ne, DW_OP_lit0}
+use Rattle.frame_expr.specs.declared.opcode.TheConstants.{DW_OP_reg0, DW_OP_breg0, DW_OP_breg16}
+use Rattle.frame_expr.specs.declared.opcode.TheConstants.{DW_OP_nop}
 use Rattle.frame_expr.specs.declared.operation.Operand.{Operand}
-use Rattle.frame_expr.specs.declared.operation.Operand.TheVariants.{Absent, U8, U16, U32, U64, I8, I16, I32, I64, Uleb, Sleb}
+use Rattle.frame_expr.specs.declared.operation.Operand.TheVariants.{Absent, U8, U16, U32, U64, I8}
+use Rattle.frame_expr.specs.declared.operation.Operand.TheVariants.{I16, I32, I64, Uleb, Sleb}
 use Rattle.frame_expr.specs.declared.operation.Operation.{Operation}
-use Rattle.frame_expr.specs.declared.operation.Operation.TheVariants.{Nop, Constant, Breg, Deref, Dup, Drop, Over, Pick, Swap, Rot, Unary, PlusUconst, Binary, Compare}
+use Rattle.frame_expr.specs.declared.operation.Operation.TheVariants.{Nop, Constant, Breg, Deref}
+use Rattle.frame_expr.specs.declared.operation.Operation.TheVariants.{Dup, Drop, Over, Pick, Swap}
+use Rattle.frame_expr.specs.declared.operation.Operation.TheVariants.{Rot, Unary, PlusUconst}
+use Rattle.frame_expr.specs.declared.operation.Operation.TheVariants.{Binary, Compare}
 use Rattle.frame_expr.specs.declared.operation.Unary.TheVariants.{Abs, Neg, Not}
-use Rattle.frame_expr.specs.declared.operation.Binary.TheVariants.{And, Or, Xor, Minus, Mul, Plus, Shl, Shr, Shra}
+use Rattle.frame_expr.specs.declared.operation.Binary.TheVariants.{And, Or, Xor, Minus, Mul, Plus}
+use Rattle.frame_expr.specs.declared.operation.Binary.TheVariants.{Shl, Shr, Shra}
 use Rattle.frame_expr.specs.declared.operation.Comparison.TheVariants.{Eq, Ge, Gt, Le, Lt, Ne}
 use Rattle.frame_expr.specs.declared.operation.Code.{Code}
 

@@ -1,5 +1,6 @@
 -- Recorded memory: regions, each an address and the bytes from there on, and the numbers in them.
-use Rattle.std.specs.Prelude.{◌≡◌, ℕ, ◌+◌, ◌-◌, ◌^◌, ◌<◌, ◌≤◌, List, [], ◌∷◌, length, drop, Bool, Option, Some, None, nat_le, ◌&&◌, if◌then◌else◌}
+use Rattle.std.specs.Prelude.{◌≡◌, ℕ, ◌+◌, ◌-◌, ◌^◌, ◌<◌, ◌≤◌, List, [], ◌∷◌, length, drop, Bool}
+use Rattle.std.specs.Prelude.{Option, Some, None, nat_le, ◌&&◌, if◌then◌else◌}
 use Rattle.byteorder.specs.Endian.{little_number}
 use Rattle.frame_expr.specs.declared.memory.RegionFault.{RegionFault}
 use Rattle.frame_expr.specs.declared.memory.RegionFault.TheVariants.{Empty, End, Order, NoMemory}
@@ -18,8 +19,8 @@ regions_end [] = 0
 regions_end (r ∷ []) = end r
 regions_end (r ∷ q ∷ rs) = regions_end (q ∷ rs)
 
--- The regions stand at this address or above, each with a byte at least, each after the one before, and
--- none reaches past the last address, 2 ^ 64 - 2.
+-- The regions stand at this address or above, each with a byte at least, each after the one before,
+-- and none reaches past the last address, 2 ^ 64 - 2.
 abbrev pub AreFrom : ℕ → List RegionData → Type 0
 AreFrom low [] = Unit {0}
 AreFrom low (r ∷ rs) = (low ≤ r.address) × (0 < length r.bytes) × (end r < 2 ^ 64) × AreFrom (end r) rs

@@ -1,16 +1,22 @@
--- What operations do on a stack of numbers, after DWARF 5, section 2.5.1. A stack is the list of its numbers, the top
--- first, and arithmetic is modulo 2 ^ 64.
-use Rattle.std.specs.Prelude.{◌≡◌, ℕ, ◌+◌, ◌-◌, ◌*◌, ◌/◌, ◌%◌, ◌^◌, ℤ, List, [], ◌∷◌, drop, get_or, Bool, Option, Some, None, Result, Ok, Err, nat_lt, ◌==◌, not, if◌then◌else◌}
+-- What operations do on a stack of numbers, after DWARF 5, section 2.5.1. A stack is the list of
+-- its numbers, the top first, and arithmetic is modulo 2 ^ 64.
+use Rattle.std.specs.Prelude.{◌≡◌, ℕ, ◌+◌, ◌-◌, ◌*◌, ◌/◌, ◌%◌, ◌^◌, ℤ, List, [], ◌∷◌, drop, get_or}
+use Rattle.std.specs.Prelude.{Bool, Option, Some, None, Result, Ok, Err, nat_lt, ◌==◌, not}
+use Rattle.std.specs.Prelude.{if◌then◌else◌}
 use Rattle.std.specs.Int.{w64, cast_signed, cast_unsigned, int_shr}
 use Rattle.std.specs.Int.RustNames.{unsigned_abs}
 use Rattle.std.specs.Int.Signed.{lt_z}
 use Rattle.std.specs.Int.Bits.{bit_and, bit_or, bit_xor}
 use Rattle.frame_expr.specs.declared.operation.Operation.{Operation}
-use Rattle.frame_expr.specs.declared.operation.Operation.TheVariants.{Nop, Constant, Breg, Deref, Dup, Drop, Over, Pick, Swap, Rot, Unary, PlusUconst, Binary, Compare}
+use Rattle.frame_expr.specs.declared.operation.Operation.TheVariants.{Nop, Constant, Breg, Deref}
+use Rattle.frame_expr.specs.declared.operation.Operation.TheVariants.{Dup, Drop, Over, Pick, Swap}
+use Rattle.frame_expr.specs.declared.operation.Operation.TheVariants.{Rot, Unary, PlusUconst}
+use Rattle.frame_expr.specs.declared.operation.Operation.TheVariants.{Binary, Compare}
 use Rattle.frame_expr.specs.declared.operation.Unary as unaries
 use Rattle.frame_expr.specs.declared.operation.Unary.TheVariants.{Abs, Neg, Not}
 use Rattle.frame_expr.specs.declared.operation.Binary as binaries
-use Rattle.frame_expr.specs.declared.operation.Binary.TheVariants.{And, Or, Xor, Minus, Mul, Plus, Shl, Shr, Shra}
+use Rattle.frame_expr.specs.declared.operation.Binary.TheVariants.{And, Or, Xor, Minus, Mul, Plus}
+use Rattle.frame_expr.specs.declared.operation.Binary.TheVariants.{Shl, Shr, Shra}
 use Rattle.frame_expr.specs.declared.operation.Comparison.{Comparison}
 use Rattle.frame_expr.specs.declared.operation.Comparison.TheVariants.{Eq, Ge, Gt, Le, Lt, Ne}
 use Rattle.frame_expr.specs.declared.fault.NoBytes.{NoBytes}
@@ -74,7 +80,8 @@ stack_after columns regions (PlusUconst n) s = Ok ((entry 0 s + n) % 2 ^ 64 ∷ 
 stack_after columns regions (Binary k) s = Ok (binary k (entry 1 s) (entry 0 s) ∷ drop 2 s)
 stack_after columns regions (Compare k) s = Ok ((if compare k (entry 1 s) (entry 0 s) then 1 else 0) ∷ drop 2 s)
 
--- the value of operations: the top after all of them, or the address of the first deref that no region holds
+-- the value of operations: the top after all of them, or the address of the first deref that no
+-- region holds
 unfoldable pub value_of : List ℕ → List RegionData → List Operation → List ℕ → Result ℕ NoBytes
 value_of columns regions [] s = Ok (entry 0 s)
 value_of columns regions (o ∷ os) s = (stack_after columns regions o s and_then λ t. value_of columns regions os t)

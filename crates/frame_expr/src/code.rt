@@ -3,7 +3,9 @@
 ghost use Rattle.std.specs.Prelude.{◌≡◌};
 ghost use Rattle.eh_bytes.specs.CursorData.{Reads};
 ghost use Rattle.frame_expr.specs.declared.operation.Operation.TheVariants as operations;
-ghost use Rattle.frame_expr.specs.Operations.{code, alone, constant_code, stack_code, comparison_code, operation_code, operand_of, with_operand};
+ghost use Rattle.frame_expr.specs.Operations.{code, alone, constant_code, stack_code};
+ghost use Rattle.frame_expr.specs.Operations.{comparison_code, operation_code, operand_of};
+ghost use Rattle.frame_expr.specs.Operations.{with_operand};
 
 use crate::opcode::*;
 use crate::operation::{Binary, Code, Comparison, Operand, Operation, Unary};

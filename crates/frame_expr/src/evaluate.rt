@@ -3,7 +3,8 @@
 ghost use Rattle.std.specs.Prelude.{◌≡◌, ◌<◌, ◌≤◌, length, drop, get_or, true, if◌then◌else◌};
 ghost use Rattle.frame_expr.specs.Depth.{fits};
 ghost use Rattle.frame_expr.specs.Regions.{word_at};
-ghost use Rattle.frame_expr.specs.Values.{unary, binary, compare, entry, with_loaded, stack_after, stack_of, IsValue};
+ghost use Rattle.frame_expr.specs.Values.{unary, binary, compare, entry, with_loaded, stack_after};
+ghost use Rattle.frame_expr.specs.Values.{stack_of, IsValue};
 ghost use Rattle.eh_bytes.specs.Results.{Leaves};
 
 use crate::expr::Expr;
@@ -124,9 +125,9 @@ fn apply(
     Ok(())
 }
 
-/// The value of an expression, from the registers and the recorded memory. The stack starts with the number `start`,
-/// where the expression was read for one. The only fault is that the first `deref` that fails finds no region for
-/// the eight bytes at an address. It takes no memory.
+/// The value of an expression, from the registers and the recorded memory. The stack starts with
+/// the number `start`, where the expression was read for one. The only fault is that the first
+/// `deref` that fails finds no region for the eight bytes at an address. It takes no memory.
 pub fn value<const DEPTH: u32>(
     expr: &Expr<'_, DEPTH>,
     regs: &Regs,

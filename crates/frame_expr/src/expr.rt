@@ -3,7 +3,8 @@
 ghost use Rattle.std.specs.Prelude.{◌≡◌, ◌≤◌, List, ℕ, IfOk, IfErr, true};
 ghost use Rattle.eh_bytes.specs.CursorData.{Gives};
 ghost use Rattle.frame_expr.specs.declared.operation.Operation.{Operation};
-ghost use Rattle.frame_expr.specs.Expressions.{expression, is_expression, IsExpr, IsRefusedExpr, IsExprOrRefused};
+ghost use Rattle.frame_expr.specs.Expressions.{expression, is_expression, IsExpr, IsRefusedExpr};
+ghost use Rattle.frame_expr.specs.Expressions.{IsExprOrRefused};
 
 use crate::fault::ExprFault;
 use crate::reading::next;
@@ -33,7 +34,8 @@ impl<'a, const DEPTH: u32> Expr<'a, DEPTH> {
         Expr::read_rest(&mut Cursor::new(bytes, 0, bytes.len()))
     }
 
-    /// The expression that all bytes left to a cursor spell. A fault has its place among the cursor's.
+    /// The expression that all bytes left to a cursor spell. A fault has its place among the
+    /// cursor's.
     pub fn read_rest(cursor: &mut Cursor<'a>) -> Result<Expr<'a, DEPTH>, ExprFault>
         requires { DEPTH ≤ 1 }
         ensures { Gives (λ e. e.bytes.now) (expression DEPTH).read cursor.old result cursor.new }
@@ -50,7 +52,8 @@ impl<'a, const DEPTH: u32> Expr<'a, DEPTH> {
         Ok(Expr { bytes })
     }
 
-    /// The expression of bytes that were read as one before, wherever they stood. They aren't read again.
+    /// The expression of bytes that were read as one before, wherever they stood. They aren't read
+    /// again.
     pub fn of_read(bytes: &'a [u8]) -> Expr<'a, DEPTH>
         requires { (at : ℕ) × (expression DEPTH).Spells at bytes.now bytes.now }
         ensures { result.bytes.now ≡ bytes.now }
@@ -73,7 +76,8 @@ impl<'a, const DEPTH: u32> Expr<'a, DEPTH> {
     }
 }
 
-/// Each list of bytes is an expression of one list of operations, or has one first fault, and never both.
+/// Each list of bytes is an expression of one list of operations, or has one first fault, and never
+/// both.
 pub fn one_answer()
     ensures { (depth : ℕ) (bytes : List ℕ) → IsExprOrRefused depth bytes }
 {}

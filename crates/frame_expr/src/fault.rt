@@ -9,8 +9,8 @@ pub enum ExprFault {
     TooWide { at: usize },
     /// No operation that is known here begins with the byte.
     Operation { at: usize, byte: u8 },
-    /// An operation finds too few numbers on the stack, or leaves more than 32. The place is its byte.
-    /// Or no number is left at the end, and the place is the first after the bytes.
+    /// An operation finds too few numbers on the stack, or leaves more than 32. The place is its
+    /// byte. Or no number is left at the end, and the place is the first after the bytes.
     Depth { at: usize },
 }
 

@@ -1,8 +1,11 @@
 //! Recorded memory: a list of regions, of which each is an address and the bytes from there on.
 
-ghost use Rattle.std.specs.Prelude.{◌≡◌, ◌<◌, ◌≤◌, ◌+◌, ◌^◌, None, if◌then◌else◌, IfErr, ℕ, length, ◌++◌, ◌∷◌, [], slice_get, Some, OnOk, OnErr};
+ghost use Rattle.std.specs.Prelude.{◌≡◌, ◌<◌, ◌≤◌, ◌+◌, ◌^◌, None, if◌then◌else◌, IfErr, ℕ, length};
+ghost use Rattle.std.specs.Prelude.{◌++◌, ◌∷◌, [], slice_get, Some, OnOk, OnErr};
 ghost use Rattle.std.specs.Option.{option_map};
-ghost use Rattle.frame_expr.specs.Regions.{RegionData, end, holds_word, word_in, word_at, regions_end, Accepts, IsRefusedRegion, AreRegions, AreFrom};
+ghost use Rattle.frame_expr.specs.Regions.{RegionData, end, holds_word, word_in, word_at};
+ghost use Rattle.frame_expr.specs.Regions.{regions_end, Accepts, IsRefusedRegion, AreRegions};
+ghost use Rattle.frame_expr.specs.Regions.{AreFrom};
 
 use byteorder::{ByteOrder, LittleEndian};
 use std::alloc::{AllocError, AllocFailed, Global};
@@ -161,8 +164,8 @@ impl Memory {
         &self.regions[index].bytes
     }
 
-    /// The eight bytes at an address as a number, the lowest first. `None` exactly where no single region
-    /// holds all eight.
+    /// The eight bytes at an address as a number, the lowest first. `None` exactly where no single
+    /// region holds all eight.
     pub fn word(&self, address: u64) -> Option<u64>
         ensures { result ≡ word_at address self.now }
     {
@@ -181,7 +184,8 @@ fn regions_end(regions: &[Region]) -> u64
     }
 }
 
-/// The word at an address. The regions ascend, so half of those that are left are passed by at a time.
+/// The word at an address. The regions ascend, so half of those that are left are passed by at a
+/// time.
 fn word_among(regions: &[Region], address: u64) -> Option<u64>
     requires { AreRegions regions.now }
     ensures { result ≡ word_at address regions.now }

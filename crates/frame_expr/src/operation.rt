@@ -83,7 +83,8 @@ pub enum Operand {
     Sleb,
 }
 
-/// What an operation's byte says: how its operand is written, and the operation with 0 in its place.
+/// What an operation's byte says: how its operand is written, and the operation with 0 in its
+/// place.
 #[derive(Clone, Copy, Debug, PartialEq, Eq)]
 pub struct Code {
     pub operand: Operand,

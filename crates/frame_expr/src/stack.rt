@@ -5,8 +5,8 @@ ghost use Rattle.frame_expr.specs.Values.{entry};
 
 use std::marker::Model;
 
-/// At most 32 numbers. They stand at the end of the array, the top at `top`, so that the list of them is what is
-/// left there.
+/// At most 32 numbers. They stand at the end of the array, the top at `top`, so that the list of
+/// them is what is left there.
 #[derive(Drop)]
 pub(crate) struct Stack {
     numbers: [u64; 32],

@@ -1,4 +1,5 @@
--- What a section keeps of its records, and what they say. A CIE is kept once, and its FDEs by its number.
+-- What a section keeps of its records, and what they say. A CIE is kept once, and its FDEs by its
+-- number.
 use Rattle.std.specs.Prelude.{ℕ, ◌<◌, List, get_or, Option, None, pos, false}
 use Rattle.frame_parse.specs.declared.records.CieRecord.{CieRecord}
 use Rattle.frame_parse.specs.declared.records.Extent.{Extent}

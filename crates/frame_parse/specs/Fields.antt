@@ -1,5 +1,7 @@
--- The fields of records: numbers, texts and pointers, as DWARF 5 (section 7.6) and the LSB spell them.
-use Rattle.std.specs.Prelude.{ℕ, ◌+◌, ◌-◌, ◌%◌, ◌^◌, Bool, Option, Some, None, nat_lt, ◌==◌, ◌||◌, ◌&&◌, if◌then◌else◌}
+-- The fields of records: numbers, texts and pointers, as DWARF 5 (section 7.6) and the LSB spell
+-- them.
+use Rattle.std.specs.Prelude.{ℕ, ◌+◌, ◌-◌, ◌%◌, ◌^◌, Bool, Option, Some, None, nat_lt, ◌==◌, ◌||◌}
+use Rattle.std.specs.Prelude.{◌&&◌, if◌then◌else◌}
 use Rattle.eh_bytes.specs.declared.fault.ByteFault.{ByteFault}
 use Rattle.eh_bytes.specs.declared.fault.ByteFault.TheVariants as bytes
 use Rattle.eh_bytes.specs.Fields.{fixed}

@@ -1,6 +1,7 @@
--- The FDEs of a section in order of addresses, where no address is covered twice: then the first FDE
--- that covers an address is the only one, and is found by halving.
-use Rattle.std.specs.Prelude.{◌≡◌, ℕ, ◌+◌, ◌<◌, List, [], ◌∷◌, length, get_or, Bool, true, nat_le, nat_lt, ◌&&◌, ⊤}
+-- The FDEs of a section in order of addresses, where no address is covered twice: then the first
+-- FDE that covers an address is the only one, and is found by halving.
+use Rattle.std.specs.Prelude.{◌≡◌, ℕ, ◌+◌, ◌<◌, List, [], ◌∷◌, length, get_or, Bool, true, nat_le}
+use Rattle.std.specs.Prelude.{nat_lt, ◌&&◌, ⊤}
 use Rattle.std.specs.List.{All, Contains}
 use Rattle.frame_parse.specs.declared.records.FdeEntry.{FdeEntry}
 use Rattle.frame_parse.specs.declared.fde_lookup.CoveredRange.{CoveredRange}

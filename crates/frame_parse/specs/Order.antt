@@ -1,7 +1,9 @@
--- What holds along the steps of a program that was read without fault, after DWARF 5, section 6.4.2.
+-- What holds along the steps of a program that was read without fault, after DWARF 5, section
+-- 6.4.2.
 use Rattle.std.specs.Prelude.{◌≡◌, ℕ, ◌+◌, ◌-◌, ◌<◌, ◌≤◌, List, [], ◌∷◌, length}
 use Rattle.frame_parse.specs.declared.instructions.Instruction.{Instruction}
-use Rattle.frame_parse.specs.declared.instructions.Instruction.TheVariants.{Advance, Remember, RestoreState}
+use Rattle.frame_parse.specs.declared.instructions.Instruction.TheVariants.{Advance, Remember}
+use Rattle.frame_parse.specs.declared.instructions.Instruction.TheVariants.{RestoreState}
 use Rattle.frame_parse.specs.declared.instructions.Step.{Step}
 use Rattle.frame_parse.specs.declared.instructions.context.ProgramKind.TheVariants.{Initial}
 use Rattle.frame_parse.specs.Programs.{ProgramData}
@@ -33,7 +35,8 @@ remembered_after depth Remember = depth + 1
 remembered_after depth RestoreState = depth - 1
 remembered_after depth _ = depth
 
--- from so many remembered states on, never more than eight are, and none is restored that wasn't remembered
+-- from so many remembered states on, never more than eight are, and none is restored that wasn't
+-- remembered
 abbrev pub IsBalanced : ℕ → List Step → Type 0
 IsBalanced depth [] = Unit {0}
 IsBalanced depth (x ∷ xs) = MayStandAt depth x.instruction × IsBalanced (remembered_after depth x.instruction) xs

@@ -1,5 +1,7 @@
 -- Call frame instructions, after DWARF 5, section 6.4.2, and the programs that they make.
-use Rattle.std.specs.Prelude.{slice_range, ◌≡◌, ℕ, ◌+◌, ◌-◌, ◌*◌, ◌/◌, ◌%◌, ◌^◌, List, [], ◌∷◌, ◌++◌, length, take, get_or, Bool, true, false, Result, Ok, Err, nat_lt, nat_le, ◌==◌, ◌&&◌, ◌||◌, if◌then◌else◌}
+use Rattle.std.specs.Prelude.{slice_range, ◌≡◌, ℕ, ◌+◌, ◌-◌, ◌*◌, ◌/◌, ◌%◌, ◌^◌, List, [], ◌∷◌}
+use Rattle.std.specs.Prelude.{◌++◌, length, take, get_or, Bool, true, false, Result, Ok, Err}
+use Rattle.std.specs.Prelude.{nat_lt, nat_le, ◌==◌, ◌&&◌, ◌||◌, if◌then◌else◌}
 use Rattle.std.specs.Int.{w64, cast_unsigned}
 use Rattle.eh_bytes.specs.CursorData.{CursorData}
 use Rattle.eh_bytes.specs.Steps.{AreSteps}
@@ -13,17 +15,37 @@ use Rattle.frame_parse.specs.declared.records.Extent.{Extent}
 use Rattle.frame_parse.specs.declared.instructions.ReadRule.{ReadRule}
 use Rattle.frame_parse.specs.declared.instructions.ReadRule.TheVariants as rules
 use Rattle.frame_parse.specs.declared.instructions.Instruction.{Instruction}
-use Rattle.frame_parse.specs.declared.instructions.Instruction.TheVariants.{Nop, Advance, Set, Restore, Remember, RestoreState, Cfa, CfaColumn, CfaOffset}
+use Rattle.frame_parse.specs.declared.instructions.Instruction.TheVariants.{Nop, Advance, Set}
+use Rattle.frame_parse.specs.declared.instructions.Instruction.TheVariants.{Restore, Remember}
+use Rattle.frame_parse.specs.declared.instructions.Instruction.TheVariants.{RestoreState, Cfa}
+use Rattle.frame_parse.specs.declared.instructions.Instruction.TheVariants.{CfaColumn, CfaOffset}
 use Rattle.frame_parse.specs.declared.instructions.Step.{Step}
 use Rattle.frame_parse.specs.declared.instructions.Operation.{Operation}
 use Rattle.frame_parse.specs.declared.instructions.Operation.TheVariants as operations
 use Rattle.frame_parse.specs.declared.program_state.State.{State}
-use Rattle.frame_parse.specs.declared.instructions.opcodes.TheConstants.{DW_CFA_advance_loc, DW_CFA_offset, DW_CFA_restore, DW_CFA_nop}
-use Rattle.frame_parse.specs.declared.instructions.opcodes.TheConstants.{DW_CFA_set_loc, DW_CFA_advance_loc1, DW_CFA_advance_loc2, DW_CFA_advance_loc4}
-use Rattle.frame_parse.specs.declared.instructions.opcodes.TheConstants.{DW_CFA_offset_extended, DW_CFA_restore_extended, DW_CFA_undefined, DW_CFA_same_value}
-use Rattle.frame_parse.specs.declared.instructions.opcodes.TheConstants.{DW_CFA_register, DW_CFA_remember_state, DW_CFA_restore_state, DW_CFA_def_cfa}
-use Rattle.frame_parse.specs.declared.instructions.opcodes.TheConstants.{DW_CFA_def_cfa_register, DW_CFA_def_cfa_offset, DW_CFA_offset_extended_sf, DW_CFA_def_cfa_sf}
-use Rattle.frame_parse.specs.declared.instructions.opcodes.TheConstants.{DW_CFA_def_cfa_offset_sf, DW_CFA_val_offset, DW_CFA_val_offset_sf, DW_CFA_GNU_args_size}
+use Rattle.frame_parse.specs.declared.instructions.opcodes.TheConstants.{DW_CFA_advance_loc}
+use Rattle.frame_parse.specs.declared.instructions.opcodes.TheConstants.{DW_CFA_offset}
+use Rattle.frame_parse.specs.declared.instructions.opcodes.TheConstants.{DW_CFA_restore, DW_CFA_nop}
+use Rattle.frame_parse.specs.declared.instructions.opcodes.TheConstants.{DW_CFA_set_loc}
+use Rattle.frame_parse.specs.declared.instructions.opcodes.TheConstants.{DW_CFA_advance_loc1}
+use Rattle.frame_parse.specs.declared.instructions.opcodes.TheConstants.{DW_CFA_advance_loc2}
+use Rattle.frame_parse.specs.declared.instructions.opcodes.TheConstants.{DW_CFA_advance_loc4}
+use Rattle.frame_parse.specs.declared.instructions.opcodes.TheConstants.{DW_CFA_offset_extended}
+use Rattle.frame_parse.specs.declared.instructions.opcodes.TheConstants.{DW_CFA_restore_extended}
+use Rattle.frame_parse.specs.declared.instructions.opcodes.TheConstants.{DW_CFA_undefined}
+use Rattle.frame_parse.specs.declared.instructions.opcodes.TheConstants.{DW_CFA_same_value}
+use Rattle.frame_parse.specs.declared.instructions.opcodes.TheConstants.{DW_CFA_register}
+use Rattle.frame_parse.specs.declared.instructions.opcodes.TheConstants.{DW_CFA_remember_state}
+use Rattle.frame_parse.specs.declared.instructions.opcodes.TheConstants.{DW_CFA_restore_state}
+use Rattle.frame_parse.specs.declared.instructions.opcodes.TheConstants.{DW_CFA_def_cfa}
+use Rattle.frame_parse.specs.declared.instructions.opcodes.TheConstants.{DW_CFA_def_cfa_register}
+use Rattle.frame_parse.specs.declared.instructions.opcodes.TheConstants.{DW_CFA_def_cfa_offset}
+use Rattle.frame_parse.specs.declared.instructions.opcodes.TheConstants.{DW_CFA_offset_extended_sf}
+use Rattle.frame_parse.specs.declared.instructions.opcodes.TheConstants.{DW_CFA_def_cfa_sf}
+use Rattle.frame_parse.specs.declared.instructions.opcodes.TheConstants.{DW_CFA_def_cfa_offset_sf}
+use Rattle.frame_parse.specs.declared.instructions.opcodes.TheConstants.{DW_CFA_val_offset}
+use Rattle.frame_parse.specs.declared.instructions.opcodes.TheConstants.{DW_CFA_val_offset_sf}
+use Rattle.frame_parse.specs.declared.instructions.opcodes.TheConstants.{DW_CFA_GNU_args_size}
 use Rattle.eh_bytes.specs.Grammar.{Part, ◌>>=◌, give, here, refuse, when, check, given}
 use Rattle.frame_parse.specs.Fields.{field, pointer}
 use Rattle.eh_bytes.specs.Fields.{fixed, uleb, sleb}

@@ -1,9 +1,11 @@
 -- CIEs and FDEs, after the LSB on `.eh_frame`, field by field.
-use Rattle.std.specs.Prelude.{ℕ, ◌+◌, ◌-◌, ◌^◌, List, [], ◌∷◌, Bool, true, false, Option, Some, None, nat_lt, ◌==◌, ◌||◌, ◌&&◌, not, if◌then◌else◌}
+use Rattle.std.specs.Prelude.{ℕ, ◌+◌, ◌-◌, ◌^◌, List, [], ◌∷◌, Bool, true, false, Option, Some}
+use Rattle.std.specs.Prelude.{None, nat_lt, ◌==◌, ◌||◌, ◌&&◌, not, if◌then◌else◌}
 use Rattle.std.specs.List.{list_any}
 use Rattle.frame_parse.specs.declared.fault.FrameFault.{FrameFault}
 use Rattle.frame_parse.specs.declared.fault.RecordFault.{RecordFault}
-use Rattle.frame_parse.specs.declared.fault.RecordFault.TheVariants.{Short, NoCie, Version, Column, Range}
+use Rattle.frame_parse.specs.declared.fault.RecordFault.TheVariants.{Short, NoCie, Version, Column}
+use Rattle.frame_parse.specs.declared.fault.RecordFault.TheVariants.{Range}
 use Rattle.frame_parse.specs.declared.fault.RecordFault.TheVariants as faults
 use Rattle.frame_parse.specs.declared.fault.FrameFault.TheVariants as frames
 use Rattle.frame_parse.specs.declared.records.augmentation.Augmentation.{Augmentation}
@@ -13,7 +15,8 @@ use Rattle.frame_parse.specs.Entries.{FdeRecord, Record, Cie, Fde}
 use Rattle.eh_bytes.specs.Grammar.{Part, ◌>>=◌, give, here, when, check, found, block, filled, lift}
 use Rattle.frame_parse.specs.Programs.{step, context_of, initial_state, first_state}
 use Rattle.eh_bytes.specs.Steps.{steps_from}
-use Rattle.frame_parse.specs.Fields.{field, is_negative, pointer, optional_pointer, is_code_encoding, is_data_encoding, encoding}
+use Rattle.frame_parse.specs.Fields.{field, is_negative, pointer, optional_pointer}
+use Rattle.frame_parse.specs.Fields.{is_code_encoding, is_data_encoding, encoding}
 use Rattle.eh_bytes.specs.Pointer.{encoded_number}
 use Rattle.eh_bytes.specs.Fields.{fixed, uleb, sleb, text}
 
@@ -134,8 +137,8 @@ range e first = do
   _ ← check (not (is_negative e x) && nat_lt (first + x) (2 ^ 64)) (Range at)
   give x
 
--- the augmentation data of an FDE begins with the LSDA pointer, where its CIE has an encoding for it
--- and there is data
+-- the augmentation data of an FDE begins with the LSDA pointer, where its CIE has an encoding for
+-- it and there is data
 unfoldable pub lsda : ℕ → CieRecord → Part RecordFault (Option ℕ)
 lsda section c = when c.has_data
     (field uleb >>= λ n. here >>= λ at. block (Short at) n
@@ -153,8 +156,8 @@ fde section end c = do
 
 -- ---- records
 
--- An id of 0 is a CIE's; any other is the distance back to an FDE's. What is left after the fields are
--- instructions: those of a CIE don't move, those of an FDE start at its first address.
+-- An id of 0 is a CIE's; any other is the distance back to an FDE's. What is left after the fields
+-- are instructions: those of a CIE don't move, those of an FDE start at its first address.
 unfoldable pub content : ℕ → List CieRecord → ℕ → ℕ → Part RecordFault Record
 content section earlier start end = do
   at ← here
@@ -163,7 +166,8 @@ content section earlier start end = do
       (cie section start end >>= λ c. steps_from (step (context_of section c Initial)) initial_state >>= λ s. give (Cie (record c { offset = s.offset })))
       (found (cie_after earlier at id) (NoCie at) >>= λ c. fde section end c >>= λ f. steps_from (step (context_of section c Own)) (first_state c f.first) >>= λ s. give (Fde f))
 
--- the length of a record: four bytes, or eight after 0xffffffff; where it isn't whole, the record isn't
+-- the length of a record: four bytes, or eight after 0xffffffff; where it isn't whole, the record
+-- isn't
 unfoldable pub record_length : ℕ → Part RecordFault ℕ
 record_length start = do
   n ← lift (λ f. Short start) (fixed 4)

@@ -8,7 +8,8 @@ ghost use Rattle.frame_parse.specs.Sections.{starts, IsAscending};
 
 use crate::records::CieRecord;
 
-/// The number of the CIE that begins at a place. The CIEs are in order of bytes, so the search halves them.
+/// The number of the CIE that begins at a place. The CIEs are in order of bytes, so the search
+/// halves them.
 fn cie_from(cies: &[CieRecord], place: usize) -> Option<usize>
     requires { IsAscending (starts cies.now) }
     ensures value { option_map (λ i. slice_index_or cies.now i no_cie) result ≡ cie_from cies.now place }

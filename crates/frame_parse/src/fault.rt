@@ -6,8 +6,8 @@ ghost use Rattle.frame_parse.specs.declared.fault.FrameFault.TheVariants.{NoMemo
 
 use std::alloc::{AllocError, AllocFailed};
 
-/// The first refusal of a section. `start` is the place of the record's first byte, and `at` the place
-/// that is refused.
+/// The first refusal of a section. `start` is the place of the record's first byte, and `at` the
+/// place that is refused.
 #[derive(Clone, Copy, Debug, PartialEq, Eq)]
 pub enum FrameFault {
     /// A record, a field, a text, data or a block isn't whole.
@@ -89,7 +89,8 @@ pub enum FrameFault {
     NoMemory,
 }
 
-/// A refusal inside a record: `at` is the place that is refused. The causes are those of `FrameFault`.
+/// A refusal inside a record: `at` is the place that is refused. The causes are those of
+/// `FrameFault`.
 #[derive(Clone, Copy, Debug, PartialEq, Eq)]
 pub enum RecordFault {
     Short { at: usize },

@@ -3,7 +3,8 @@
 ghost use Rattle.std.specs.Prelude.{◌≡◌, List};
 ghost use Rattle.frame_parse.specs.declared.instructions.Step.{Step};
 ghost use Rattle.frame_parse.specs.Entries.{with_cie};
-ghost use Rattle.frame_parse.specs.Programs.{HasPrograms, HasSteps, initial_of, program_of, text_in};
+ghost use Rattle.frame_parse.specs.Programs.{HasPrograms, HasSteps, initial_of, program_of};
+ghost use Rattle.frame_parse.specs.Programs.{text_in};
 
 use crate::instructions::{Context, ProgramKind, first_state};
 use crate::program::Program;

@@ -1,8 +1,9 @@
-//! Which FDE covers an address. The FDEs of most sections share no address, so their ranges are put in
-//! order when the section is read, and then a lookup passes by most of those that are left at each step. Where
-//! two share one, the FDEs are gone through in order of bytes.
+//! Which FDE covers an address. The FDEs of most sections share no address, so their ranges are put
+//! in order when the section is read, and then a lookup passes by most of those that are left at
+//! each step. Where two share one, the FDEs are gone through in order of bytes.
 
-ghost use Rattle.std.specs.Prelude.{◌≡◌, ◌<◌, ◌^◌, length, map, true, false, nat_le, if◌then◌else◌, IfOk, IfNone, IfSome, Some, slice_get, option_and_then};
+ghost use Rattle.std.specs.Prelude.{◌≡◌, ◌<◌, ◌^◌, length, map, true, false, nat_le, if◌then◌else◌};
+ghost use Rattle.std.specs.Prelude.{IfOk, IfNone, IfSome, Some, slice_get, option_and_then};
 ghost use Rattle.std.specs.List.{All, Contains, find};
 ghost use Rattle.frame_parse.specs.Entries.{fde_among, with_cie, HasCie};
 ghost use Rattle.frame_parse.specs.Sections.{first_cover};
@@ -148,7 +149,8 @@ fn holds(range: &CoveredRange, pc: u64) -> bool
     range.first <= pc && pc - range.first < range.range
 }
 
-/// All of a number where something holds, else 0, without a branch: the processor would guess wrong half of the time.
+/// All of a number where something holds, else 0, without a branch: the processor would guess wrong
+/// half of the time.
 #[inline(always)]
 fn where_holds(number: usize, holds: bool) -> usize
     requires { number < 2 ^ 63 }
@@ -165,8 +167,9 @@ fn begins(range: &CoveredRange, pc: u64) -> usize
     usize::from(range.first <= pc)
 }
 
-/// The number of the FDE whose range has the address, where the ranges are apart. Three quarters of those that may have
-/// it are passed by at a time, and at the end one half; those that are left begin at `base`.
+/// The number of the FDE whose range has the address, where the ranges are apart. Three quarters of
+/// those that may have it are passed by at a time, and at the end one half; those that are left
+/// begin at `base`.
 fn ordered_cover(ranges: &[CoveredRange], pc: u64) -> Option<usize>
     requires { are_apart ranges.now ≡ true }
     ensures none { IfNone result (All (λ range. holds pc range ≡ false) ranges.now) }

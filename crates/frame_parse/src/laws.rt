@@ -5,8 +5,9 @@ ghost use Rattle.frame_parse.specs.declared.instructions.Step.{Step};
 ghost use Rattle.frame_parse.specs.Programs.{ProgramData, HasSteps};
 ghost use Rattle.frame_parse.specs.Order.{AreOrdered};
 
-/// Along the steps of a program the locations never fall, and only an `Advance` moves them; in a CIE they stay. At
-/// most eight states are remembered at once, and none is restored that wasn't remembered.
+/// Along the steps of a program the locations never fall, and only an `Advance` moves them; in a
+/// CIE they stay. At most eight states are remembered at once, and none is restored that wasn't
+/// remembered.
 pub fn steps_are_ordered()
     ensures { (p : ProgramData) (steps : List Step) → HasSteps p steps → AreOrdered p steps }
 {}

@@ -1,8 +1,9 @@
-//! The records of `.eh_frame` and their instructions, after the LSB and DWARF 5, and the first refusal
-//! of bytes that are none. Above the cursor of `eh_bytes` this crate knows which field stands where. What
-//! a section is stands in `specs/`: the grammar of parts (`Part`), the fields (`Fields`), instructions
-//! (`Programs`), records (`Records`) and whole sections (`Sections`), each as relations between bytes and
-//! what they spell. A section is read once, and then lends its FDEs without copying and without memory.
+//! The records of `.eh_frame` and their instructions, after the LSB and DWARF 5, and the first
+//! refusal of bytes that are none. Above the cursor of `eh_bytes` this crate knows which field
+//! stands where. What a section is stands in `specs/`: the grammar of parts (`Part`), the fields
+//! (`Fields`), instructions (`Programs`), records (`Records`) and whole sections (`Sections`), each
+//! as relations between bytes and what they spell. A section is read once, and then lends its FDEs
+//! without copying and without memory.
 #![tactic(auto)]
 
 mod cie_lookup;

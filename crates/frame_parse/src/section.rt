@@ -1,6 +1,7 @@
 //! A section: its records, one after another.
 
-ghost use Rattle.std.specs.Prelude.{◌≡◌, ◌≤◌, ◌<◌, ◌⊎◌, length, map, IfOk, IfErr, IfSome, slice_get, Some, ℕ, List};
+ghost use Rattle.std.specs.Prelude.{◌≡◌, ◌≤◌, ◌<◌, ◌⊎◌, length, map, IfOk, IfErr, IfSome};
+ghost use Rattle.std.specs.Prelude.{slice_get, Some, ℕ, List};
 ghost use Rattle.std.specs.List.{All};
 ghost use Rattle.std.specs.Option.{option_map};
 ghost use Rattle.frame_parse.specs.Entries.{fde_among, HasCie};

@@ -1,5 +1,5 @@
-//! What the records of sections say, and where others are refused. The values stand in the sections'
-//! descriptions, or are what `readelf --debug-dump=frames` shows.
+//! What the records of sections say, and where others are refused. The values stand in the
+//! sections' descriptions, or are what `readelf --debug-dump=frames` shows.
 
 ghost use Rattle.std.specs.Prelude.{◌≤◌, ◌<◌, length};
 
@@ -106,8 +106,8 @@ fn covers(rt: HostRuntime) -> Result<(), Fail> {
     Ok(())
 }
 
-/// S1 with its second FDE moved, or emptied: addresses and the FDE that covers each. The FDE's place is
-/// told by byte 64, the lowest of its distance, and its size by byte 68.
+/// S1 with its second FDE moved, or emptied: addresses and the FDE that covers each. The FDE's
+/// place is told by byte 64, the lowest of its distance, and its size by byte 68.
 const MOVED: [(usize, u8, &[(u64, Option<u64>)]); 3] = [
     // It stands before the first FDE: their order isn't that of the bytes.
     (

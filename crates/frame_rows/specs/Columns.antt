@@ -1,10 +1,14 @@
--- The rule of one column, after DWARF 5, sections 6.4.1 to 6.4.3, seen apart from all other columns.
+-- The rule of one column, after DWARF 5, sections 6.4.1 to 6.4.3, seen apart from all other
+-- columns.
 use Rattle.std.specs.Prelude.{ℕ, List, [], ◌∷◌, map, ◌==◌, if◌then◌else◌, nat_le}
 use Rattle.std.specs.List.{filter, fold}
 use Rattle.frame_parse.specs.declared.instructions.ReadRule.{ReadRule}
 use Rattle.frame_parse.specs.declared.instructions.ReadRule.TheVariants as read
 use Rattle.frame_parse.specs.declared.instructions.Instruction.{Instruction}
-use Rattle.frame_parse.specs.declared.instructions.Instruction.TheVariants.{Nop, Advance, Set, Restore, Remember, RestoreState, Cfa, CfaColumn, CfaOffset}
+use Rattle.frame_parse.specs.declared.instructions.Instruction.TheVariants.{Nop, Advance, Set}
+use Rattle.frame_parse.specs.declared.instructions.Instruction.TheVariants.{Restore, Remember}
+use Rattle.frame_parse.specs.declared.instructions.Instruction.TheVariants.{RestoreState, Cfa}
+use Rattle.frame_parse.specs.declared.instructions.Instruction.TheVariants.{CfaColumn, CfaOffset}
 use Rattle.frame_parse.specs.declared.instructions.Step.{Step}
 use Rattle.frame_parse.specs.Programs.{HasSteps, initial_of, program_of, text_in}
 use Rattle.frame_parse.specs.Sections.{FdeData}

@@ -8,7 +8,8 @@ use Rattle.frame_rows.specs.declared.walk.Stop.{Stop}
 use Rattle.frame_rows.specs.declared.walk.Stop.TheVariants.{End, Restored}
 use Rattle.frame_rows.specs.Rows.{Rows, beside, rows_after}
 
--- a program that goes on with these steps from a location up to an address, where so many rows are remembered
+-- a program that goes on with these steps from a location up to an address, where so many rows are
+-- remembered
 pub record GoesOn (p : ProgramData) (pc depth : ℕ) (steps : List Step) : Type 0 where
   pub has : HasSteps p steps
   pub location : ℕ
@@ -16,7 +17,8 @@ pub record GoesOn (p : ProgramData) (pc depth : ℕ) (steps : List Step) : Type 
   pub ascending : IsAscendingFrom location steps
   pub balanced : IsBalanced depth steps
 
--- some of the steps are done: at q more of them are left, and the rows after all are those from here on
+-- some of the steps are done: at q more of them are left, and the rows after all are those from
+-- here on
 pub record IsOnward (base : Row) (pc : ℕ) (from : Rows) (steps : List Step) (q : ProgramData) (to : Rows) : Type 0 where
   pub more : List Step
   pub on : GoesOn q pc (length to.remembered) more
@@ -33,7 +35,8 @@ pub record TakesBack (base : Row) (pc : ℕ) (row : Row) (below : List Row) (ste
   pub are : below ≡ last ∷ others
   pub onward : IsOnward base pc (beside row below) steps q (beside last others)
 
--- A walk stops after all steps up to the address, with their row, or after a step that takes a row back.
+-- A walk stops after all steps up to the address, with their row, or after a step that takes a row
+-- back.
 abbrev pub Walks : Row → ℕ → ProgramData → Row → Stop → ProgramData → Row → Type 0
 Walks base pc p row End q other = (steps : List Step) (below : List Row) → GoesOn p pc (length below) steps → (rows_after base pc (beside row below) steps).row ≡ other
 Walks base pc p row Restored q other = (steps : List Step) (below : List Row) → GoesOn p pc (length below) steps → TakesBack base pc row below steps q

@@ -1,4 +1,5 @@
-//! The rules that a restore gives back, worked out where the first one is met: few programs restore a column.
+//! The rules that a restore gives back, worked out where the first one is met: few programs restore
+//! a column.
 
 ghost use Rattle.std.specs.Prelude.{◌≡◌, slice_index_or, None, IfSome};
 ghost use Rattle.frame_rows.specs.declared.row.Row.{Row};
@@ -33,7 +34,8 @@ impl Base for NothingSet {
     }
 }
 
-/// Among an FDE's own instructions: the row that the initial ones leave, which is kept from the first restore on.
+/// Among an FDE's own instructions: the row that the initial ones leave, which is kept from the
+/// first restore on.
 #[derive(Drop)]
 pub(crate) struct InitialRow<'f, 'a> {
     fde: &'f Fde<'a>,

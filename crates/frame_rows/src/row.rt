@@ -32,8 +32,8 @@ pub enum Rule {
     Register { column: u8 },
 }
 
-/// The rules that hold at an address. Columns 0 to 15 are the registers of x86-64 by their DWARF numbers, 16 is
-/// the return address.
+/// The rules that hold at an address. Columns 0 to 15 are the registers of x86-64 by their DWARF
+/// numbers, 16 is the return address.
 #[derive(Clone, Copy, Debug, PartialEq, Eq)]
 pub struct Row {
     pub cfa: CfaRule,

@@ -24,7 +24,8 @@ pub(crate) enum Shown {
     Undefined,
 }
 
-/// The first and the last address of a row, its CFA as a column and an offset, and the columns with a rule.
+/// The first and the last address of a row, its CFA as a column and an offset, and the columns with
+/// a rule.
 pub(crate) type Seen = (u64, u64, u8, i64, &'static [(u8, Shown)]);
 
 fn read(alloc: Global, address: u64, bytes: &[u8]) -> Result<Section, Fail>
@@ -125,9 +126,10 @@ fn remembered_state(rt: HostRuntime) -> Result<(), Fail> {
     Ok(())
 }
 
-/// The initial instructions say where the CFA, column 16 and column 6 are, restore column 6, remember a state and
-/// say again where the CFA is. So column 6 has no rule, also where the FDE restores it, and the CFA is the second
-/// one. The rows are worked out from the rules of restore, remember_state and restore_state.
+/// The initial instructions say where the CFA, column 16 and column 6 are, restore column 6,
+/// remember a state and say again where the CFA is. So column 6 has no rule, also where the FDE
+/// restores it, and the CFA is the second one. The rows are worked out from the rules of restore,
+/// remember_state and restore_state.
 #[test]
 fn initial_instructions(rt: HostRuntime) -> Result<(), Fail> {
     let section = read(rt.alloc(), 0x2000, &INITIAL)?;

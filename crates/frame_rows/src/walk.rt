@@ -20,8 +20,8 @@ enum Stop {
     Restored,
 }
 
-/// Goes on from a row. What is remembered on the way is kept by a walk of its own, so that a program that
-/// remembers nothing pays for no other row.
+/// Goes on from a row. What is remembered on the way is kept by a walk of its own, so that a
+/// program that remembers nothing pays for no other row.
 #[cycle(walk)]
 fn walk<B: Base>(program: &mut Program<'_>, pc: u64, base: &mut B, row: &mut Row) -> Stop
     ensures shorter { result ≡ Stop.Restored → length program.new.rest.bytes ≤ length program.old.rest.bytes }
@@ -96,8 +96,9 @@ pub(crate) fn initial_row(fde: &Fde<'_>) -> Row
     row
 }
 
-/// The row that holds at an address of an FDE: what the initial instructions of its CIE make of a row in which
-/// nothing is set, and then its own instructions whose location is at most the address. It takes no memory.
+/// The row that holds at an address of an FDE: what the initial instructions of its CIE make of a
+/// row in which nothing is set, and then its own instructions whose location is at most the
+/// address. It takes no memory.
 pub fn row_at(fde: &Fde<'_>, pc: u64) -> Row
     // Both of its programs spell a list of steps.
     ensures known { (initial : List Step) × (steps : List Step) × HasInitial fde.now initial × HasProgram fde.now steps }

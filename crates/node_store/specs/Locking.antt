@@ -27,7 +27,8 @@ Locks k k' = (more : List LoadEvent) × (marks : ℕ) × (h : LoaderHolding) ×
     (AllByRecursion IsOfLoader more
     × (k' ≡ record k { log = after_loader_lock h (tried more marks k.log) }))
 
--- A caller took turns at a lock: it holds what it held before, and its names and its calls are as they were.
+-- A caller took turns at a lock: it holds what it held before, and its names and its calls are as
+-- they were.
 pub record Turns (k k' : CallerData) : Type 0 where
   pub table : k'.table ≡ k.table
   pub left : k'.left ≡ k.left

@@ -1,7 +1,9 @@
-//! Locks over the shared words: a version lock is taken and let go by the single steps of word_rule.
+//! Locks over the shared words: a version lock is taken and let go by the single steps of
+//! word_rule.
 //!
-//! The layer between single steps and whole operations. From word_rule it takes the steps and what each makes of a
-//! caller's log; from crossbeam_utils the pause between two tries. A lock is tried a little, and then slept on.
+//! The layer between single steps and whole operations. From word_rule it takes the steps and what
+//! each makes of a caller's log; from crossbeam_utils the pause between two tries. A lock is tried
+//! a little, and then slept on.
 #![tactic(auto)]
 
 mod locks;

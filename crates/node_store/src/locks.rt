@@ -1,8 +1,9 @@
 //! Taking and letting go of a version lock.
 //!
-//! Bit 0 of the word says that it is locked, bit 1 that threads sleep on it. Who finds it locked tries again for a while,
-//! then sets bit 1 and sleeps while the word stays as it was. Who lets go clears both bits and wakes one sleeper where bit 1
-//! was set; others may sleep on, so one that has slept sets bit 1 again once it has the lock.
+//! Bit 0 of the word says that it is locked, bit 1 that threads sleep on it. Who finds it locked
+//! tries again for a while, then sets bit 1 and sleeps while the word stays as it was. Who lets go
+//! clears both bits and wakes one sleeper where bit 1 was set; others may sleep on, so one that has
+//! slept sets bit 1 again once it has the lock.
 ghost use Rattle.std.specs.Prelude.{◌≡◌, ◌*◌, ◌<◌, ◌%◌, None, IsSome};
 ghost use Rattle.word_rule.specs.Logs.{after_loader_release};
 ghost use Rattle.word_rule.specs.CallerData.{surplus};
@@ -19,7 +20,8 @@ const LOCKED: u64 = 1;
 
 const LOCKED_WITH_SLEEPERS: u64 = 3;
 
-// Sleeps while the word is the one seen, which is locked, and loads it again. Where it has changed, that word.
+// Sleeps while the word is the one seen, which is locked, and loads it again. Where it has changed,
+// that word.
 fn wait<R: Wait>(rt: &R, words: &Words, me: &mut Caller, lock: LockId, seen: u64) -> u64
     requires table { me.old.table ≡ words.now.table }
     requires lock { lock ≡ LockId.Loader }

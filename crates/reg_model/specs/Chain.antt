@@ -1,5 +1,6 @@
 -- Calls one after another.
-use Rattle.std.specs.Prelude.{◌≡◌, ℕ, ◌+◌, ◌≤◌, List, [], ◌∷◌, ◌&&◌, nat_le, count_by, is_some, if◌then◌else◌}
+use Rattle.std.specs.Prelude.{◌≡◌, ℕ, ◌+◌, ◌≤◌, List, [], ◌∷◌, ◌&&◌, nat_le, count_by, is_some}
+use Rattle.std.specs.Prelude.{if◌then◌else◌}
 use Rattle.std.specs.List.{flat_map, AllByRecursion}
 use Rattle.reg_model.specs.State.{State}
 use Rattle.reg_model.specs.Receipt.{moment, accepted, made, Holds, AreInOrder}
@@ -10,7 +11,8 @@ use Rattle.reg_model.specs.declared.answer.Update.{Update}
 use Rattle.reg_model.specs.declared.answer.Receipt.{Receipt}
 use Rattle.reg_model.specs.declared.answer.Receipt.TheVariants.{Register}
 
--- from one state to another by calls with these receipts, one after another; `step` says what one call does
+-- from one state to another by calls with these receipts, one after another; `step` says what one
+-- call does
 abbrev pub Chain : {S : Type 0} → (S → Receipt → S → Type 0) → S → List Receipt → S → Type 0
 Chain step old [] new = new ≡ old
 Chain {S} step old (r ∷ receipts) new = (mid : S) × step old r mid × Chain step mid receipts new
@@ -32,7 +34,8 @@ all_made receipts = flat_map made receipts
 abbrev pub made_count : List Receipt → ℕ
 made_count receipts = count_by (λ r. is_some (accepted r)) receipts
 
--- the receipt holds however many nodes and callers there are, and whatever came before it on its list
+-- the receipt holds however many nodes and callers there are, and whatever came before it on its
+-- list
 pub record HoldsAlways (start : State) (history : List Update) (r : Receipt) : Type 0 where
   pub always : (nodes callers since : ℕ) → Holds start history nodes callers since r
 

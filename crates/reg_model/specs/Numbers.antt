@@ -1,5 +1,6 @@
 -- The numbers of accepted updates, and the history that is read off them.
-use Rattle.std.specs.Prelude.{◌≡◌, ℕ, zero, suc, List, [], ◌++◌, Bool, ◌&&◌, ◌==◌, nat_le, is_some, count_by, if◌then◌else◌}
+use Rattle.std.specs.Prelude.{◌≡◌, ℕ, zero, suc, List, [], ◌++◌, Bool, ◌&&◌, ◌==◌, nat_le, is_some}
+use Rattle.std.specs.Prelude.{count_by, if◌then◌else◌}
 use Rattle.std.specs.List.{find}
 use Rattle.std.specs.Option.{option_and_then, option_to_list}
 use Rattle.reg_model.specs.Receipt.{moment, accepted}

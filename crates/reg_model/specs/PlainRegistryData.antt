@@ -19,8 +19,8 @@ pub record LeadsTo (start : State) (history : List Update) (now : PlainRegistryD
   pub state : state_after start history ≡ now.state
   pub updates : length history ≡ now.updates
 
--- A call answered with this receipt. An accepted update fits, has the next number and changes the state; any other answer
--- has the number of updates as its stamp and changes nothing.
+-- A call answered with this receipt. An accepted update fits, has the next number and changes the
+-- state; any other answer has the number of updates as its stamp and changes nothing.
 pub record Step (old : PlainRegistryData) (r : Receipt) (new : PlainRegistryData) : Type 0 where
   pub right : IsRight old.state r
   pub changes : MatchOption (accepted r)

@@ -1,5 +1,6 @@
 -- Receipts: what an answer says of a history.
-use Rattle.std.specs.Prelude.{◌≡◌, ℕ, ◌-◌, ◌<◌, ◌≤◌, List, [], ◌∷◌, length, max, Option, Some, None, IsNone, slice_get, IfSome, MatchOption}
+use Rattle.std.specs.Prelude.{◌≡◌, ℕ, ◌-◌, ◌<◌, ◌≤◌, List, [], ◌∷◌, length, max, Option, Some, None}
+use Rattle.std.specs.Prelude.{IsNone, slice_get, IfSome, MatchOption}
 use Rattle.std.specs.Option.{option_to_list}
 use Rattle.reg_model.specs.State.{State, objects, at_base, IsFree, IsLowestOverlap}
 use Rattle.reg_model.specs.History.{state_at}
@@ -16,7 +17,8 @@ use Rattle.reg_model.specs.declared.answer.Removed.TheVariants as removed
 use Rattle.reg_model.specs.declared.answer.Half.TheVariants.{Registered, Loaded}
 use Rattle.reg_model.specs.declared.answer.Place.{Place}
 use Rattle.reg_model.specs.declared.answer.Receipt.{Receipt}
-use Rattle.reg_model.specs.declared.answer.Receipt.TheVariants.{Register, Deregister, Load, Unload, Query}
+use Rattle.reg_model.specs.declared.answer.Receipt.TheVariants.{Register, Deregister, Load, Unload}
+use Rattle.reg_model.specs.declared.answer.Receipt.TheVariants.{Query}
 
 -- the member that was found
 abbrev pub member_of : Found → Option Member
@@ -68,8 +70,8 @@ IsRightRemoval base members (removed.Done number m) = at_base base members ≡ S
 IsRightRemoval base members (removed.NotFound stamp) = IsNone (at_base base members)
 IsRightRemoval base members removed.Spent = ⊥
 
--- The answer is right of the state before it. That an accepted update fits is said of the history. Spent is no answer
--- of a registry that has a state.
+-- The answer is right of the state before it. That an accepted update fits is said of the history.
+-- Spent is no answer of a registry that has a state.
 abbrev pub IsRight : State → Receipt → Type 0
 IsRight s (Register m (inserted.Done number)) = Unit {0}
 IsRight s (Register m (inserted.Overlap other stamp)) = IsLowestOverlap m.span s.registered other
@@ -83,8 +85,8 @@ IsRight s (Load m loading.Spent) = ⊥
 IsRight s (Unload base answer) = IsRightRemoval base s.loaded answer
 IsRight s (Query half pc found) = query half pc s ≡ member_of found
 
--- A tree that is full has two leaves or a full one: at some moment since, and not after the stamp, ten members were
--- registered. (That the number of members grows with the nodes is not said yet.)
+-- A tree that is full has two leaves or a full one: at some moment since, and not after the stamp,
+-- ten members were registered. (That the number of members grows with the nodes is not said yet.)
 abbrev pub HadTenMembers : State → List Update → ℕ → Receipt → Type 0
 HadTenMembers start history since (Register m (inserted.Full stamp)) =
     (j : ℕ) × (since ≤ j) × (j ≤ stamp) × (10 ≤ length (state_at start history j).registered)
@@ -94,8 +96,8 @@ HadTenMembers start history since _ = Unit {0}
 abbrev pub IsAtNumber : List Update → Receipt → Type 0
 IsAtNumber history r = IfSome (accepted r) (λ u. (0 < moment r) × (slice_get history (moment r - 1) ≡ Some u))
 
--- The receipt holds in the history, of a registry with so many nodes and callers. `since` is the greatest stamp or number
--- before it on its list.
+-- The receipt holds in the history, of a registry with so many nodes and callers. `since` is the
+-- greatest stamp or number before it on its list.
 pub record Holds (start : State) (history : List Update) (nodes callers since : ℕ) (r : Receipt) : Type 0 where
   pub within : moment r ≤ length history
   pub numbered : IsAtNumber history r
@@ -108,7 +110,8 @@ AllHold start history nodes callers since [] = Unit {0}
 AllHold start history nodes callers since (r ∷ receipts) =
     Holds start history nodes callers since r × AllHold start history nodes callers (max since (moment r)) receipts
 
--- Along a list stamps and numbers never fall, and a number is above every stamp and number before it.
+-- Along a list stamps and numbers never fall, and a number is above every stamp and number before
+-- it.
 abbrev pub AreInOrder : ℕ → List Receipt → Type 0
 AreInOrder since [] = Unit {0}
 AreInOrder since (r ∷ receipts) =

@@ -4,7 +4,8 @@ use Rattle.std.specs.List.{find}
 use Rattle.reg_model.specs.SpanData.{SpanData, Overlaps}
 use Rattle.reg_model.specs.declared.span.Member.{Member}
 
--- what is registered, what the loader has loaded, what it was given for good, and how many may be loaded
+-- what is registered, what the loader has loaded, what it was given for good, and how many may be
+-- loaded
 pub record State : Type 0 where
   pub registered : List Member
   pub loaded : List Member
@@ -28,8 +29,8 @@ abbrev pub AreDisjoint : List Member → Type 0
 AreDisjoint [] = Unit {0}
 AreDisjoint (m ∷ members) = IsFree m.span members × AreDisjoint members
 
--- Registered members are disjoint, and so are the loader's; a registered one may overlap a loaded one. No more are
--- loaded than may be.
+-- Registered members are disjoint, and so are the loader's; a registered one may overlap a loaded
+-- one. No more are loaded than may be.
 pub record IsLawful (s : State) : Type 0 where
   pub registered : AreDisjoint s.registered
   pub objects : AreDisjoint (objects s)

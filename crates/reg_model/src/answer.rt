@@ -21,7 +21,8 @@ pub enum Found {
     Miss { stamp: u32 },
 }
 
-/// Where an address was found. The loader's half is asked only where the registered half has a miss.
+/// Where an address was found. The loader's half is asked only where the registered half has a
+/// miss.
 #[derive(Clone, Copy, Debug, PartialEq, Eq)]
 pub struct Place {
     pub registered: Found,

@@ -14,7 +14,8 @@ ghost use Rattle.reg_model.specs.declared.answer.Receipt.{Receipt};
 ghost use Rattle.reg_model.specs.declared.answer.Update.{Update};
 ghost use Rattle.reg_model.specs.declared.span.Member.{Member};
 
-/// What the registry for one thread answers holds in its history, which grows by the update that was accepted.
+/// What the registry for one thread answers holds in its history, which grows by the update that
+/// was accepted.
 pub fn answers_hold()
     ensures { (start : State) (history : List Update) (old new : PlainRegistryData) (nodes callers since : ℕ) (r : Receipt)
         → LeadsTo start history old → Step old r new → HadTenMembers start (history ++ made r) since r
@@ -33,22 +34,24 @@ pub fn histories_are_lawful()
         → IsLawful start → IsHistory start history → IsLawful (state_after start history) }
 {}
 
-/// Of disjoint members, the one that contains an address is what a query finds, whatever their order.
+/// Of disjoint members, the one that contains an address is what a query finds, whatever their
+/// order.
 pub fn one_member_contains()
     ensures { (members : List Member) (m : Member) (pc : ℕ)
         → AreDisjoint members → Contains members m → IsTrue (contains m.span pc) → member_at pc members ≡ Some m }
 {}
 
-/// A history can be read off receipts in any order: each accepted update stands in it under its number, and each number on
-/// one receipt.
+/// A history can be read off receipts in any order: each accepted update stands in it under its
+/// number, and each number on one receipt.
 pub fn numbers_tell_histories()
     ensures { (history : List Update) (receipts : List Receipt)
         → AllByRecursion (IsAtNumber history) receipts → AreNumbered (length history) receipts
         → history_of receipts (length history) ≡ history }
 {}
 
-/// Calls of the registry over plain lists, one after another: their receipts hold in the history that they make, however many
-/// nodes and callers there are; stamps and numbers rise, and each number is given once.
+/// Calls of the registry over plain lists, one after another: their receipts hold in the history
+/// that they make, however many nodes and callers there are; stamps and numbers rise, and each
+/// number is given once.
 pub fn chains_hold()
     ensures hold { (start : State) (history : List Update) (old new : PlainRegistryData) (receipts : List Receipt)
         → LeadsTo start history old → Chain PlainStep old receipts new

@@ -1,6 +1,7 @@
 //! A registry for one thread, over plain lists.
 
-ghost use Rattle.std.specs.Prelude.{◌≡◌, ℕ, ◌+◌, ◌^◌, ◌<◌, ◌≤◌, ◌↔◌, ◌==◌, ◌++◌, vec_len, not, [], IsTrue, IfOk, IfSome, OnErr, MatchOption};
+ghost use Rattle.std.specs.Prelude.{◌≡◌, ℕ, ◌+◌, ◌^◌, ◌<◌, ◌≤◌, ◌↔◌, ◌==◌, ◌++◌, vec_len, not, []};
+ghost use Rattle.std.specs.Prelude.{IsTrue, IfOk, IfSome, OnErr, MatchOption};
 ghost use Rattle.reg_model.specs.State.{opening, at_base, IsFree, AreDisjoint, IsLowestOverlap};
 ghost use Rattle.reg_model.specs.History.{without};
 ghost use Rattle.reg_model.specs.Query.{member_at};
@@ -14,9 +15,11 @@ use crate::span::{Member, Span};
 use std::alloc::Global;
 use std::marker::Model;
 
-/// The registered, the loaded and the fixed members, each in a list without order, and a count of the updates.
+/// The registered, the loaded and the fixed members, each in a list without order, and a count of
+/// the updates.
 ///
-/// A call costs a walk over a list: this is what the shared registry is measured against, not what serves threads.
+/// A call costs a walk over a list: this is what the shared registry is measured against, not what
+/// serves threads.
 #[derive(Drop)]
 pub struct PlainRegistry {
     registered: Vec<Member>,
@@ -38,7 +41,8 @@ impl Model for PlainRegistry {
 }
 
 impl PlainRegistry {
-    /// A registry with these fixed members, of which at most `loads` others may be loaded at a time. It takes no memory.
+    /// A registry with these fixed members, of which at most `loads` others may be loaded at a
+    /// time. It takes no memory.
     pub fn new(alloc: Global, fixed: Vec<Member>, loads: u32) -> Self
         requires { AreDisjoint fixed.items }
         ensures { result ≡ record { state = opening fixed.items loads; updates = 0 } }
@@ -59,7 +63,8 @@ impl PlainRegistry {
         self.updates
     }
 
-    /// Registers a member where no registered one overlaps it. The overlapping member with the least first address is named.
+    /// Registers a member where no registered one overlaps it. The overlapping member with the
+    /// least first address is named.
     pub fn register(&mut self, member: Member) -> Result<Inserted, NoMemory>
         requires { self.old.updates < 2 ^ 26 }
         ensures step { IfOk result (λ answer. Step self.old (receipt.Register member answer) self.new) }
@@ -94,8 +99,9 @@ impl PlainRegistry {
         }
     }
 
-    /// Loads a member where no fixed or loaded one overlaps it, and fewer are loaded than may be. The overlapping member with
-    /// the least first address is named, also where no more may be loaded.
+    /// Loads a member where no fixed or loaded one overlaps it, and fewer are loaded than may be.
+    /// The overlapping member with the least first address is named, also where no more may be
+    /// loaded.
     pub fn load(&mut self, member: Member) -> Result<Loading, NoMemory>
         requires { self.old.updates < 2 ^ 26 }
         ensures step { IfOk result (λ answer. Step self.old (receipt.Load member answer) self.new) }

@@ -5,7 +5,8 @@ ghost use Rattle.reg_model.specs.SpanData.{SpanData, IsSpan, contains, Overlaps}
 
 use std::marker::Model;
 
-/// A range of addresses, from its first to its last, both in it. The greatest last address is 2^64 - 2.
+/// A range of addresses, from its first to its last, both in it. The greatest last address is 2^64
+/// - 2.
 #[derive(Clone, Copy, Debug, PartialEq, Eq)]
 pub struct Span {
     first: u64,

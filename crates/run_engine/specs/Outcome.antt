@@ -1,5 +1,6 @@
 -- What a run writes, and when it ends how.
-use Rattle.std.specs.Prelude.{◌≡◌, ◌⊎◌, ℕ, ◌<◌, ◌≤◌, List, [], ◌∷◌, length, All, Option, IfSome, codes}
+use Rattle.std.specs.Prelude.{◌≡◌, ◌⊎◌, ℕ, ◌<◌, ◌≤◌, List, [], ◌∷◌, length, All, Option, IfSome}
+use Rattle.std.specs.Prelude.{codes}
 use Rattle.event_script.specs.ScriptData.{ScriptData}
 use Rattle.event_script.specs.Spelling.{IsScript}
 use Rattle.event_script.specs.Refusal.{IsFirstBad}
@@ -13,7 +14,8 @@ use Rattle.event_script.specs.Lawful.{IsLawfulJournal}
 use Rattle.event_script.specs.Text.{journal_text}
 use Rattle.run_engine.specs.Ports.{Rose, Gains, GainsPart}
 use Rattle.run_engine.specs.declared.status.Status.{Status}
-use Rattle.run_engine.specs.declared.status.Status.TheVariants.{Done, Usage, Script, ReadFault, WriteFault, NoMemory, TooLong}
+use Rattle.run_engine.specs.declared.status.Status.TheVariants.{Done, Usage, Script, ReadFault}
+use Rattle.run_engine.specs.declared.status.Status.TheVariants.{WriteFault, NoMemory, TooLong}
 
 -- the words, each as its bytes, are the one word that is taken
 abbrev pub AreTaken : List (List ℕ) → Type 0
@@ -34,8 +36,8 @@ abbrev pub IsUnfilled : Answer → Type 0
 IsUnfilled (answer.Register image (inserted.Full stamp)) = ⊥
 IsUnfilled _ = Unit {0}
 
--- The text is that of a lawful journal of a script, the one that the source's bytes spell, where it tells them. Lists have
--- room, so no answer is Full.
+-- The text is that of a lawful journal of a script, the one that the source's bytes spell, where it
+-- tells them. Lists have room, so no answer is Full.
 pub record IsAnswer (input : Option (List ℕ)) (text : List ℕ) : Type 0 where
   pub script : ScriptData
   pub journal : JournalData
@@ -44,7 +46,8 @@ pub record IsAnswer (input : Option (List ℕ)) (text : List ℕ) : Type 0 where
   pub unfilled : All (All (All IsUnfilled)) journal.rounds
   pub text_is : text ≡ journal_text journal
 
--- The text tells of a bad line, the first one of the source's bytes, where it tells them, and of the first reason that holds.
+-- The text tells of a bad line, the first one of the source's bytes, where it tells them, and of
+-- the first reason that holds.
 pub record IsRefusal (input : Option (List ℕ)) (text : List ℕ) : Type 0 where
   pub line : ℕ
   pub reason : Reason

@@ -1,7 +1,8 @@
 -- The statuses of a run, as a process reports them.
 use Rattle.std.specs.Prelude.{ℕ}
 use Rattle.run_engine.specs.declared.status.Status.{Status}
-use Rattle.run_engine.specs.declared.status.Status.TheVariants.{Done, Usage, Script, ReadFault, WriteFault, NoMemory, TooLong}
+use Rattle.run_engine.specs.declared.status.Status.TheVariants.{Done, Usage, Script, ReadFault}
+use Rattle.run_engine.specs.declared.status.Status.TheVariants.{WriteFault, NoMemory, TooLong}
 
 abbrev pub code_of : Status → ℕ
 code_of Done = 0

@@ -3,9 +3,11 @@
 use event_script::Answer;
 use std::sync::Wait;
 
-/// What is called around each event, by the thread that runs it. Tests see the answers there, and hold threads back.
+/// What is called around each event, by the thread that runs it. Tests see the answers there, and
+/// hold threads back.
 pub trait Gate {
-    /// Called before an event with None, and after it with its answer. Rounds, threads and events count from 1.
+    /// Called before an event with None, and after it with its answer. Rounds, threads and events
+    /// count from 1.
     fn pass<R: Wait>(&self, rt: &R, round: u32, thread: u32, event: u32, answer: Option<&Answer>);
 }
 

@@ -1,9 +1,10 @@
 //! Runs a script from bytes to bytes.
 //!
-//! Above the scripts (`event_script`) and the registry (`reg_model`), below the program. `run` takes a source
-//! to its end, reads the script, plays its rounds against the registry, and writes the journal. What it
-//! promises is in its contract: where it answers Done, the text is that of a lawful journal of the script.
-//! Sources and sinks are traits, so that the promise speaks of bytes and holds for every device.
+//! Above the scripts (`event_script`) and the registry (`reg_model`), below the program. `run`
+//! takes a source to its end, reads the script, plays its rounds against the registry, and writes
+//! the journal. What it promises is in its contract: where it answers Done, the text is that of a
+//! lawful journal of the script. Sources and sinks are traits, so that the promise speaks of bytes
+//! and holds for every device.
 #![tactic(auto)]
 
 mod gate;

@@ -1,6 +1,8 @@
 //! Sources and sinks in memory, for tests and for promises about bytes.
 
-ghost use Rattle.std.specs.Prelude.{◌≡◌, ◌≢◌, ℕ, ◌+◌, ◌-◌, ◌^◌, ◌<◌, ◌≤◌, ◌↔◌, ◌++◌, [], Some, Err, IsTrue, IfOk, IsOk, IsErr, OnErr, Contains, length, min, take, drop};
+ghost use Rattle.std.specs.Prelude.{◌≡◌, ◌≢◌, ℕ, ◌+◌, ◌-◌, ◌^◌, ◌<◌, ◌≤◌, ◌↔◌, ◌++◌, [], Some, Err};
+ghost use Rattle.std.specs.Prelude.{IsTrue, IfOk, IsOk, IsErr, OnErr, Contains, length, min, take};
+ghost use Rattle.std.specs.Prelude.{drop};
 ghost use Rattle.run_engine.specs.Ports.{Rose};
 
 use crate::ports::{Failed, Sink, SinkFault, Source};
@@ -57,7 +59,8 @@ impl Source for MemorySource {
         ensures err { IsErr result → Rose self.old.faults self.new.faults }
         ensures counted { self.old.faults ≤ self.new.faults }
 
-        // The reads are counted, and those fail whose number is listed. Any other hands out all that fits.
+        // The reads are counted, and those fail whose number is listed. Any other hands out all
+        // that fits.
         ensures call { self.new.calls ≡ min (self.old.calls + 1) (2 ^ 64 - 1) }
         ensures fails { IsErr result ↔ Contains self.old.fails self.new.calls }
         ensures all { IfOk result (λ count. count ≡ min (length self.old.rest) (length buffer.old)) }
@@ -194,7 +197,8 @@ impl Sink for MemorySink {
         ensures failed { result ≡ Err SinkFault.Failed → Rose self.old.faults self.new.faults }
         ensures counted { self.old.faults ≤ self.new.faults }
 
-        // The writes are counted, and those fail whose number is listed. Any other takes the whole piece, unless memory is wanted.
+        // The writes are counted, and those fail whose number is listed. Any other takes the whole
+        // piece, unless memory is wanted.
         ensures call { self.new.calls ≡ min (self.old.calls + 1) (2 ^ 64 - 1) }
         ensures fails { (result ≡ Err SinkFault.Failed) ↔ Contains self.old.fails self.new.calls }
         ensures all { IfOk result (λ count. count ≡ length piece.now) }

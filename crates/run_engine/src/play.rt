@@ -4,7 +4,8 @@ ghost use Rattle.std.specs.Prelude.{◌≡◌, ◌+◌, ◌*◌, ◌<◌, ◌≤
 ghost use Rattle.std.specs.List.{AllZip};
 ghost use Rattle.reg_model.specs.Chain.{Chain, PlainStep};
 ghost use Rattle.event_script.specs.ScriptData.{IsRound};
-ghost use Rattle.event_script.specs.Lawful.{AnswersEvent, image_member, receipts_of, IsLawfulJournal};
+ghost use Rattle.event_script.specs.Lawful.{AnswersEvent, image_member, receipts_of};
+ghost use Rattle.event_script.specs.Lawful.{IsLawfulJournal};
 ghost use Rattle.run_engine.specs.Outcome.{IsUnfilled};
 ghost use Rattle.run_engine.specs.Played.{IsPlayedThread, IsPlayed, updates_left};
 
@@ -83,8 +84,8 @@ fn members_of(alloc: Global, images: &[Span], numbers: &[u32]) -> Result<Vec<Mem
     Ok(members)
 }
 
-/// Plays a script against a new registry. The threads of a round take turns, in the order in which they stand: one of
-/// the orders that a journal may show.
+/// Plays a script against a new registry. The threads of a round take turns, in the order in which
+/// they stand: one of the orders that a journal may show.
 pub fn play<R: Wait, G: Gate>(
     rt: &R,
     alloc: Global,

@@ -1,6 +1,7 @@
 //! Where bytes come from and where they go, with their faults counted.
 
-ghost use Rattle.std.specs.Prelude.{◌≡◌, ◌≢◌, ℕ, ◌<◌, ◌≤◌, List, [], Option, length, take, IfOk, IfSome, OnOk, OnErr, IsErr, Err};
+ghost use Rattle.std.specs.Prelude.{◌≡◌, ◌≢◌, ℕ, ◌<◌, ◌≤◌, List, [], Option, length, take, IfOk};
+ghost use Rattle.std.specs.Prelude.{IfSome, OnOk, OnErr, IsErr, Err};
 ghost use Rattle.run_engine.specs.Ports.{Rose, Hands, Gains};
 
 /// A read failed.
@@ -25,7 +26,8 @@ pub trait Source {
     /// It may be read: it has neither failed nor said its end.
     ghost can_read: { Self → Type 0 };
 
-    /// Reads some bytes to the front of the buffer. None for a buffer that has room is the end. An `Err` hands out nothing.
+    /// Reads some bytes to the front of the buffer. None for a buffer that has room is the end. An
+    /// `Err` hands out nothing.
     fn read(&mut self, buffer: &mut [u8]) -> Result<usize, Failed>
         requires { can_read self.old }
         ensures count { IfOk result (λ count. count ≤ length buffer.old) }
@@ -48,7 +50,8 @@ pub trait Sink {
     /// How many writes have failed. It stands still at its last value, 2^64 - 1.
     ghost faults: { Self → ℕ };
 
-    /// Takes a front of the piece, and of a piece that is not empty at least one byte. An `Err` takes nothing.
+    /// Takes a front of the piece, and of a piece that is not empty at least one byte. An `Err`
+    /// takes nothing.
     fn write(&mut self, piece: &[u8]) -> Result<usize, SinkFault>
         ensures count { IfOk result (λ count. count ≤ length piece.now) }
         ensures some { IfOk result (λ count. 0 < length piece.now → 0 < count) }

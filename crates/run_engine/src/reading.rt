@@ -20,8 +20,8 @@ pub enum TakeFault {
     NoMemory,
 }
 
-/// The bytes of a source up to its end, or one more of them than a script may have. A source that failed, or said its end,
-/// is not asked again.
+/// The bytes of a source up to its end, or one more of them than a script may have. A source that
+/// failed, or said its end, is not asked again.
 pub fn take_all<S: Source>(alloc: Global, source: &mut S) -> Result<Vec<u8>, TakeFault>
     requires { S.can_read source.old }
     ensures handed { IfOk result (λ bytes. Hands (S.remaining source.old) (S.remaining source.new) bytes.items) }

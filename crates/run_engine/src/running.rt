@@ -19,11 +19,12 @@ use event_script::{Reason, ScriptFault, print_fault, read};
 use std::alloc::Global;
 use std::sync::Wait;
 
-/// Takes the words of the command line, reads a script from the source, plays it, and writes its journal to the sink.
+/// Takes the words of the command line, reads a script from the source, plays it, and writes its
+/// journal to the sink.
 ///
-/// Each status but ReadFault has a text that is due with it: for Done the journal's, else one line that says why. Where
-/// the text can't be written, the status is WriteFault. Memory may be wanted at any time. A source that failed, or said its
-/// end, is not asked again.
+/// Each status but ReadFault has a text that is due with it: for Done the journal's, else one line
+/// that says why. Where the text can't be written, the status is WriteFault. Memory may be wanted
+/// at any time. A source that failed, or said its end, is not asked again.
 pub fn run<R: Wait, S: Source, K: Sink, G: Gate + Sync>(
     rt: &R,
     alloc: Global,
@@ -34,17 +35,20 @@ pub fn run<R: Wait, S: Source, K: Sink, G: Gate + Sync>(
 ) -> Status
     requires { S.can_read source.old }
 
-    // The journal theorem: the text of one lawful journal of the script that was read, of which no answer is Full.
+    // The journal theorem: the text of one lawful journal of the script that was read, of which no
+    // answer is Full.
     ensures done { result ≡ Status.Done → Writes (map string_bytes words.now) (S.remaining source.old) Status.Done (K.written sink.old) (K.written sink.new) }
     ensures usage { result ≡ Status.Usage → Writes (map string_bytes words.now) (S.remaining source.old) Status.Usage (K.written sink.old) (K.written sink.new) }
     ensures too_long { result ≡ Status.TooLong → Writes (map string_bytes words.now) (S.remaining source.old) Status.TooLong (K.written sink.old) (K.written sink.new) }
     ensures script { result ≡ Status.Script → Writes (map string_bytes words.now) (S.remaining source.old) Status.Script (K.written sink.old) (K.written sink.new) }
 
-    // What is taken of the source: nothing for other words, and else one byte more than a script may have at the most.
+    // What is taken of the source: nothing for other words, and else one byte more than a script
+    // may have at the most.
     ensures unread { ¬ AreTaken (map string_bytes words.now) → source.new ≡ source.old }
     ensures taken { HandsUpTo (limit + 1) (S.remaining source.old) (S.remaining source.new) }
 
-    // Faults come exactly where a count rose in this call, and leave nothing, or a front of what was due.
+    // Faults come exactly where a count rose in this call, and leave nothing, or a front of what
+    // was due.
     ensures reads { result ≢ Status.ReadFault → S.faults source.new ≡ S.faults source.old }
     ensures writes { result ≢ Status.WriteFault → K.faults sink.new ≡ K.faults sink.old }
     ensures read_fault { result ≡ Status.ReadFault → AreTaken (map string_bytes words.now) × Rose (S.faults source.old) (S.faults source.new) × (K.written sink.new ≡ K.written sink.old) }
@@ -56,7 +60,8 @@ pub fn run<R: Wait, S: Source, K: Sink, G: Gate + Sync>(
         → ¬ Rose (S.faults source.old) (S.faults source.new) → ¬ Rose (K.faults sink.old) (K.faults sink.new)
         → (result ≡ Status.Done) ⊎ (result ≡ Status.NoMemory)) }
 {
-    // Bytes that spell a script have no first bad line: `complete` rests on this law, which takes no step.
+    // Bytes that spell a script have no first bad line: `complete` rests on this law, which takes
+    // no step.
     bytes_have_one_answer();
     end_of(rt, alloc, words, source, sink, gate)
 }

@@ -1,7 +1,8 @@
 //! Writes a journal, a piece for each line.
 
 ghost use Rattle.std.specs.Prelude.{◌≡◌, ◌≢◌, ℕ, ◌≤◌, length, map, All, OnOk, OnErr, Err};
-ghost use Rattle.event_script.specs.Text.{IsPrintable, numbered, answer_text, thread_text, round_text, journal_text};
+ghost use Rattle.event_script.specs.Text.{IsPrintable, numbered, answer_text, thread_text};
+ghost use Rattle.event_script.specs.Text.{round_text, journal_text};
 ghost use Rattle.run_engine.specs.Ports.{Rose, Gains, GainsPart};
 ghost use Rattle.run_engine.specs.Played.{IsPlayedThread, IsPlayed};
 

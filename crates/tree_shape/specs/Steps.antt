@@ -7,7 +7,8 @@ use Rattle.reg_model.specs.SpanData.{IsSpan}
 use Rattle.reg_model.specs.State.{IsFree, at_base}
 use Rattle.reg_model.specs.History.{without}
 use Rattle.tree_shape.specs.declared.pair.Pair.{Pair}
-use Rattle.tree_shape.specs.NodeData.{NodeData, Body, Pairs, Entries, Link, pairs_of, entries_of, IsLeaf}
+use Rattle.tree_shape.specs.NodeData.{NodeData, Body, Pairs, Entries, Link, pairs_of, entries_of}
+use Rattle.tree_shape.specs.NodeData.{IsLeaf}
 use Rattle.tree_shape.specs.Changes.{first_half, last_half, joined, at_slot, divide, swallow_next}
 use Rattle.tree_shape.specs.Changes.{separate_at, with_entry, first_part, body_end, ends_at_fence}
 use Rattle.tree_shape.specs.Changes.{begins_after, pair, Fit, Overfill, share_of}

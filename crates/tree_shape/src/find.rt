@@ -4,7 +4,8 @@ ghost use Rattle.std.specs.Prelude.{◌≡◌, ◌≤◌, ◌<◌, length, IfSom
 ghost use Rattle.std.specs.List.{find};
 ghost use Rattle.reg_model.specs.SpanData.{contains};
 ghost use Rattle.reg_model.specs.State.{IsFree, IsLowestOverlap};
-ghost use Rattle.tree_shape.specs.NodeData.{IsLeaf, IsInner, entries_of, pairs_of, InOrder, slot_for};
+ghost use Rattle.tree_shape.specs.NodeData.{IsLeaf, IsInner, entries_of, pairs_of, InOrder};
+ghost use Rattle.tree_shape.specs.NodeData.{slot_for};
 
 use crate::node::Node;
 use reg_model::{Member, Span};

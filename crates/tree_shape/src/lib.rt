@@ -1,11 +1,12 @@
-//! The tree's nodes as plain values: how they are searched, cut, joined and edited, and why a tree of
-//! them finds what it holds.
+//! The tree's nodes as plain values: how they are searched, cut, joined and edited, and why a tree
+//! of them finds what it holds.
 //!
-//! Above spans and members (`reg_model`) and below the shared words: no node is locked or stored here.
-//! Each change takes nodes by reference and gives new ones; it takes no memory and never refuses.
-//! `specs/NodeData` says what a contract sees of a node, `specs/Trees` and `specs/Lawful` when contents
-//! by node number are a lawful tree, `specs/LocalChange` what a writer has to show of the nodes that
-//! it holds so that the whole tree stays lawful. The laws stand in `laws`, the numbers in `limits`.
+//! Above spans and members (`reg_model`) and below the shared words: no node is locked or stored
+//! here. Each change takes nodes by reference and gives new ones; it takes no memory and never
+//! refuses. `specs/NodeData` says what a contract sees of a node, `specs/Trees` and `specs/Lawful`
+//! when contents by node number are a lawful tree, `specs/LocalChange` what a writer has to show of
+//! the nodes that it holds so that the whole tree stays lawful. The laws stand in `laws`, the
+//! numbers in `limits`.
 #![tactic(auto)]
 
 mod edits;

@@ -1,6 +1,7 @@
 //! Rows of items at the front of an array.
 
-ghost use Rattle.std.specs.Prelude.{◌≡◌, ◌+◌, ◌-◌, ◌<◌, ◌≤◌, ◌++◌, Some, length, take, drop, slice_get};
+ghost use Rattle.std.specs.Prelude.{◌≡◌, ◌+◌, ◌-◌, ◌<◌, ◌≤◌, ◌++◌, Some, length, take, drop};
+ghost use Rattle.std.specs.Prelude.{slice_get};
 
 // Writes a list over a row, from a place on.
 fn put<T: Copy>(row: &mut [T], place: usize, items: &[T])
@@ -22,8 +23,8 @@ pub fn fill<T: Copy>(row: &mut [T], first: &[T], middle: &[T], last: &[T])
     put(row, from + middle.len(), last);
 }
 
-/// Two lists one after another, cut after `n` items: the two parts of what comes before the cut, and
-/// of what comes after.
+/// Two lists one after another, cut after `n` items: the two parts of what comes before the cut,
+/// and of what comes after.
 pub fn cut<'a, T: Copy>(
     first: &'a [T],
     last: &'a [T],

@@ -2,7 +2,8 @@
 
 ghost use Rattle.std.specs.Prelude.{◌≡◌, ◌≤◌, ◌<◌, ◌↔◌, length, IsTrue, IsSome};
 ghost use Rattle.reg_model.specs.State.{at_base};
-ghost use Rattle.tree_shape.specs.NodeData.{IsLeaf, IsInner, InOrder, EntriesWithin, Cut, entries_of, pairs_of};
+ghost use Rattle.tree_shape.specs.NodeData.{IsLeaf, IsInner, InOrder, EntriesWithin, Cut};
+ghost use Rattle.tree_shape.specs.NodeData.{entries_of, pairs_of};
 ghost use Rattle.tree_shape.specs.Changes.{Fit, Overfill};
 
 use crate::edits::{drop_pair, put_entry, put_pair, set_separator, take_entry};
@@ -310,7 +311,8 @@ fn insert(rt: &impl Abort, nodes: &mut Vec<Node>, member: &Member) -> Result<(),
     Ok(())
 }
 
-// Joins a small child with its neighbour, or shares evenly; the root sinks over its last two children.
+// Joins a small child with its neighbour, or shares evenly; the root sinks over its last two
+// children.
 fn mend(rt: &impl Abort, nodes: &mut [Node], parent: u32, slot: usize) {
     let above = node(rt, nodes, parent);
     let pairs = above.pairs().len();

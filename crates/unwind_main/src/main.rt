@@ -1,4 +1,5 @@
-//! The program: standard input, standard output and the words of the command line, handed to the engine.
+//! The program: standard input, standard output and the words of the command line, handed to the
+//! engine.
 #![tactic(auto)]
 
 mod standard;

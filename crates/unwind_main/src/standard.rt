@@ -1,4 +1,5 @@
-//! Standard input and output as a source and a sink. They tell no bytes: what the system takes and gives is trusted.
+//! Standard input and output as a source and a sink. They tell no bytes: what the system takes and
+//! gives is trusted.
 
 ghost use Rattle.std.specs.Prelude.{None};
 

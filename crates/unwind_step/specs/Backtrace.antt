@@ -1,5 +1,8 @@
--- Backtraces: which traces unfold from the registers and the memory of a snapshot and the images' sections.
-use Rattle.std.specs.Prelude.{◌≡◌, ℕ, ◌+◌, ◌-◌, ◌%◌, ◌^◌, ◌<◌, ◌≤◌, List, length, Bool, true, false, Option, Some, None, option_map, option_and_then, IfSome, slice_get, slice_index}
+-- Backtraces: which traces unfold from the registers and the memory of a snapshot and the images'
+-- sections.
+use Rattle.std.specs.Prelude.{◌≡◌, ℕ, ◌+◌, ◌-◌, ◌%◌, ◌^◌, ◌<◌, ◌≤◌, List, length, Bool, true, false}
+use Rattle.std.specs.Prelude.{Option, Some, None, option_map, option_and_then, IfSome, slice_get}
+use Rattle.std.specs.Prelude.{slice_index}
 use Rattle.std.specs.List.{AllZip}
 use Rattle.frame_expr.specs.declared.regs.Regs.{Regs}
 use Rattle.frame_expr.specs.Regions.{RegionData}
@@ -8,7 +11,8 @@ use Rattle.reg_model.specs.declared.answer.Place.{Place}
 use Rattle.reg_model.specs.declared.span.Member.{Member}
 use Rattle.reg_model.specs.Receipt.{member_of}
 use Rattle.unwind_step.specs.declared.backtrace.End.{End}
-use Rattle.unwind_step.specs.declared.backtrace.End.TheVariants.{NoObject, NoFde, NoRow, Undefined, NoBytes, Long}
+use Rattle.unwind_step.specs.declared.backtrace.End.TheVariants.{NoObject, NoFde, NoRow, Undefined}
+use Rattle.unwind_step.specs.declared.backtrace.End.TheVariants.{NoBytes, Long}
 use Rattle.unwind_step.specs.declared.backtrace.FrameLine.{FrameLine}
 use Rattle.unwind_step.specs.declared.frame.AddressKind.{AddressKind}
 use Rattle.unwind_step.specs.declared.frame.AddressKind.TheVariants.{Instruction, Return}
@@ -17,14 +21,16 @@ use Rattle.unwind_step.specs.declared.next.Stepped.{Stepped}
 use Rattle.unwind_step.specs.declared.next.Stepped.TheVariants as stepped
 use Rattle.unwind_step.specs.NextFrame.{IsNextFrame}
 
--- what a contract sees of a trace: a line for each frame, the innermost first, and why there are no more
+-- what a contract sees of a trace: a line for each frame, the innermost first, and why there are no
+-- more
 pub record TraceData : Type 0 where
   pub frames : List FrameLine
   pub end : End
 
 -- ---- where a frame is looked up
 
--- A return address lies after the call, which may be the last instruction of its function: so the address before it counts.
+-- A return address lies after the call, which may be the last instruction of its function: so the
+-- address before it counts.
 abbrev pub lookup_address : AddressKind → ℕ → ℕ
 lookup_address Instruction pc = pc
 lookup_address Return pc = (pc + (2 ^ 64 - 1)) % 2 ^ 64
@@ -67,7 +73,8 @@ pub record HasOutcome (sections : List SectionData) (memory : List RegionData) (
   pub found : fde_of sections line ≡ Some fde
   pub is_next : IsNextFrame fde line.look frame.regs.columns memory outcome
 
--- a signal may come between any two instructions: the frame that it interrupted is at its own address
+-- a signal may come between any two instructions: the frame that it interrupted is at its own
+-- address
 abbrev pub address_kind : Bool → AddressKind
 address_kind true = Instruction
 address_kind false = Return
@@ -90,8 +97,9 @@ IsEnd sections memory count frame line Undefined = HasOutcome sections memory fr
 IsEnd sections memory count frame line (NoBytes a) = HasOutcome sections memory frame line (stepped.NoBytes a)
 IsEnd sections memory count frame line Long = (count ≡ 256) × ((caller : Frame) × IsCallingFrame sections memory frame line caller)
 
--- A trace unfolds where there are frames, as many as lines: the first one has the recorded registers; each line shows its
--- frame; each further frame is the caller of the one before it; and the trace ends for the reason that the last frame has.
+-- A trace unfolds where there are frames, as many as lines: the first one has the recorded
+-- registers; each line shows its frame; each further frame is the caller of the one before it; and
+-- the trace ends for the reason that the last frame has.
 pub record Unfolds (sections : List SectionData) (memory : List RegionData) (regs : Regs) (trace : TraceData) : Type 0 where
   pub frames : List Frame
   pub first : slice_get frames 0 ≡ Some (innermost regs)

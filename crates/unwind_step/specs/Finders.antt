@@ -3,14 +3,15 @@ use Rattle.std.specs.Prelude.{◌≡◌, ◌<◌, ℕ, List, [], ◌∷◌, All,
 use Rattle.reg_model.specs.declared.answer.Half.TheVariants.{Registered, Loaded}
 use Rattle.reg_model.specs.declared.answer.Place.{Place}
 use Rattle.reg_model.specs.declared.answer.Receipt.{Receipt}
-use Rattle.reg_model.specs.declared.answer.Receipt.TheVariants.{Register, Deregister, Load, Unload, Query}
+use Rattle.reg_model.specs.declared.answer.Receipt.TheVariants.{Register, Deregister, Load, Unload}
+use Rattle.reg_model.specs.declared.answer.Receipt.TheVariants.{Query}
 use Rattle.reg_model.specs.PlainRegistryData.{PlainRegistryData, Step}
 use Rattle.reg_model.specs.Receipt.{IsPlace}
 use Rattle.reg_model.specs.State.{State}
 use Rattle.unwind_step.specs.declared.backtrace.FrameLine.{FrameLine}
 
--- The finder was asked for the lines' addresses, one after another, and answered with their places: from each state to the
--- next by one query.
+-- The finder was asked for the lines' addresses, one after another, and answered with their places:
+-- from each state to the next by one query.
 abbrev pub GoesThrough : {A : Type 0} → (A → ℕ → Place → A → Type 0) → A → List FrameLine → A → Type 0
 GoesThrough answers before [] end = before ≡ end
 GoesThrough {A} answers before (line ∷ lines) end = (next : A) × answers before line.look line.place next × GoesThrough answers next lines end

@@ -1,5 +1,7 @@
--- The next frame of a backtrace: what an FDE makes of a frame's registers, at the address where the frame was looked up.
-use Rattle.std.specs.Prelude.{◌≡◌, ◌≢◌, ◌⊎◌, ℕ, ◌<◌, List, length, Some, Ok, Err, slice_get, slice_index, slice_index_or}
+-- The next frame of a backtrace: what an FDE makes of a frame's registers, at the address where the
+-- frame was looked up.
+use Rattle.std.specs.Prelude.{◌≡◌, ◌≢◌, ◌⊎◌, ℕ, ◌<◌, List, length, Some, Ok, Err, slice_get}
+use Rattle.std.specs.Prelude.{slice_index, slice_index_or}
 use Rattle.frame_expr.specs.declared.fault.NoBytes.{NoBytes}
 use Rattle.frame_expr.specs.Regions.{RegionData}
 use Rattle.frame_parse.specs.declared.instructions.Step.{Step}
@@ -43,20 +45,22 @@ pub record IsFrame (row : Row) (old : List ℕ) (memory : List RegionData) (new 
   pub restored : AreRestored 17 row cfa old memory new
   pub all : length new ≡ 17
 
--- the frame before can't be had: the CFA, or the first column that fails, needs bytes that weren't recorded
+-- the frame before can't be had: the CFA, or the first column that fails, needs bytes that weren't
+-- recorded
 pub record LacksBytes (row : Row) (old : List ℕ) (memory : List RegionData) (fault : NoBytes) : Type 0 where
   pub leads : Leads row
   pub fails : IsCfa row.cfa old memory (Err fault) ⊎ ((cfa : ℕ) × IsCfa row.cfa old memory (Ok cfa) × FailsFirst row cfa old memory fault)
 
--- What a row makes of the old registers. Of two causes the first counts: no rule for the CFA; column 16 undefined, or without
--- a rule; the CFA; the columns 0 to 16.
+-- What a row makes of the old registers. Of two causes the first counts: no rule for the CFA;
+-- column 16 undefined, or without a rule; the CFA; the columns 0 to 16.
 abbrev pub IsStep : Row → List ℕ → List RegionData → Stepped → Type 0
 IsStep row old memory stepped.NoRow = (row.cfa ≡ cfas.Missing) ⊎ (rule_in row 16 ≡ rules.Unset)
 IsStep row old memory stepped.Undefined = (row.cfa ≢ cfas.Missing) × (rule_in row 16 ≡ rules.Undefined)
 IsStep row old memory (stepped.Frame regs) = IsFrame row old memory regs.columns
 IsStep row old memory (stepped.NoBytes a) = LacksBytes row old memory (record { address = a })
 
--- the row of an FDE at an address: the CFA and each column have the rules that its instructions give them there
+-- the row of an FDE at an address: the CFA and each column have the rules that its instructions
+-- give them there
 pub record IsRow (f : FdeData) (pc : ℕ) (row : Row) : Type 0 where
   pub initial : List Step
   pub steps : List Step

@@ -1,6 +1,7 @@
--- What the rules of a row give, after DWARF 5, section 6.4: the CFA, and the number of a column in the frame before.
--- All of them read the old registers. Where a read fails, they give its address.
-use Rattle.std.specs.Prelude.{◌≡◌, ℕ, ◌+◌, ◌%◌, ◌^◌, List, Option, Some, None, Result, Ok, Err, slice_index, ◌==◌, if◌then◌else◌}
+-- What the rules of a row give, after DWARF 5, section 6.4: the CFA, and the number of a column in
+-- the frame before. All of them read the old registers. Where a read fails, they give its address.
+use Rattle.std.specs.Prelude.{◌≡◌, ℕ, ◌+◌, ◌%◌, ◌^◌, List, Option, Some, None, Result, Ok, Err}
+use Rattle.std.specs.Prelude.{slice_index, ◌==◌, if◌then◌else◌}
 use Rattle.frame_expr.specs.declared.fault.NoBytes.{NoBytes}
 use Rattle.frame_expr.specs.Regions.{RegionData, word_at}
 use Rattle.frame_rows.specs.declared.row.CfaRule.{CfaRule}
@@ -22,8 +23,8 @@ abbrev pub IsCfa : CfaRule → List ℕ → List RegionData → Result ℕ NoByt
 IsCfa cfas.Missing old memory cfa = ⊥
 IsCfa (cfas.Offset q n) old memory cfa = cfa ≡ Ok ((slice_index old q + n) % 2 ^ 64)
 
--- The number that a column is restored to by its rule. Where no rule is set, it keeps its own; but column 7, the stack
--- pointer, becomes the CFA.
+-- The number that a column is restored to by its rule. Where no rule is set, it keeps its own; but
+-- column 7, the stack pointer, becomes the CFA.
 abbrev pub IsRestored : ℕ → Rule → ℕ → List ℕ → List RegionData → Result ℕ NoBytes → Type 0
 IsRestored r rules.Unset cfa old memory number = number ≡ Ok (if r == 7 then cfa else slice_index old r)
 IsRestored r rules.Undefined cfa old memory number = number ≡ Ok (slice_index old r)

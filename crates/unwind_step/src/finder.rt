@@ -16,7 +16,8 @@ pub trait Finder {
     /// Every payload is below it.
     ghost bound: { Self → ℕ };
 
-    /// The member that contains the address. The loader's half is asked where the registered half misses.
+    /// The member that contains the address. The loader's half is asked where the registered half
+    /// misses.
     fn find<R: Wait>(&mut self, rt: &R, pc: u64) -> Place
         ensures answered { answers self.old pc result self.new }
         ensures halves { IsPlace result }

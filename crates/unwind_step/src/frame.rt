@@ -45,8 +45,8 @@ impl Frame {
         }
     }
 
-    /// The address at which the frame is looked up. A call may be the last instruction of its function, so that its return
-    /// address lies after the function.
+    /// The address at which the frame is looked up. A call may be the last instruction of its
+    /// function, so that its return address lies after the function.
     pub(crate) fn look(&self) -> u64
         ensures { result ≡ lookup_address self.now.address (slice_index self.now.regs.columns 16) }
     {

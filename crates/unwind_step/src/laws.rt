@@ -8,7 +8,8 @@ ghost use Rattle.reg_model.specs.declared.answer.Receipt.{Receipt};
 ghost use Rattle.unwind_step.specs.NextFrame.{IsStep};
 ghost use Rattle.unwind_step.specs.declared.backtrace.FrameLine.{FrameLine};
 ghost use Rattle.unwind_step.specs.declared.next.Stepped.{Stepped};
-ghost use Rattle.unwind_step.specs.Finders.{AddsBelow, AnswersPlainly, GoesThrough, HasPayloadsBelow, IsPlainPlace, PlainFinderData};
+ghost use Rattle.unwind_step.specs.Finders.{AddsBelow, AnswersPlainly, GoesThrough};
+ghost use Rattle.unwind_step.specs.Finders.{HasPayloadsBelow, IsPlainPlace, PlainFinderData};
 
 /// Payloads below a bound stay below it along the calls of a registry over plain lists.
 pub fn payloads_stay_below()
@@ -22,7 +23,8 @@ pub fn one_outcome()
         → IsStep row old memory a → IsStep row old memory b → a ≡ b }
 {}
 
-/// A finder in a registry over plain lists stands still, and each of its answers is right of that registry.
+/// A finder in a registry over plain lists stands still, and each of its answers is right of that
+/// registry.
 pub fn plain_answers_are_right()
     ensures still { (before end : PlainFinderData) (lines : List FrameLine)
         → GoesThrough AnswersPlainly before lines end → end ≡ before }

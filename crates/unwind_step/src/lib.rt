@@ -1,9 +1,10 @@
 //! One frame of a stack from another, and whole backtraces.
 //!
-//! Above the rows of `frame_rows` and the recorded memory of `frame_expr`: a row says where the registers of the frame
-//! before were saved, and `step` fetches them. `trace` goes on so from the registers of a snapshot, and asks a `Finder` at
-//! each frame which image its address belongs to; a registry over plain lists is one (`PlainFinder`), the shared one of the
-//! layers above another. What the next frame is stands in `specs/NextFrame`, which traces unfold in `specs/Backtrace`.
+//! Above the rows of `frame_rows` and the recorded memory of `frame_expr`: a row says where the
+//! registers of the frame before were saved, and `step` fetches them. `trace` goes on so from the
+//! registers of a snapshot, and asks a `Finder` at each frame which image its address belongs to; a
+//! registry over plain lists is one (`PlainFinder`), the shared one of the layers above another.
+//! What the next frame is stands in `specs/NextFrame`, which traces unfold in `specs/Backtrace`.
 #![tactic(auto)]
 
 mod backtrace;

@@ -3,7 +3,8 @@
 ghost use Rattle.std.specs.Prelude.{◌≡◌, ◌≢◌, ◌⊎◌, Ok, Err, IfOk, IfErr, slice_index};
 ghost use Rattle.unwind_step.specs.Rules.{saved_at, IsCfa, IsRestored};
 ghost use Rattle.unwind_step.specs.declared.next.Stepped.{Stepped};
-ghost use Rattle.unwind_step.specs.NextFrame.{Leads, AreRestored, FailsFirst, IsFrame, LacksBytes, IsStep, IsNextFrame};
+ghost use Rattle.unwind_step.specs.NextFrame.{Leads, AreRestored, FailsFirst, IsFrame, LacksBytes};
+ghost use Rattle.unwind_step.specs.NextFrame.{IsStep, IsNextFrame};
 
 use frame_expr::{Memory, NoBytes, Regs};
 use frame_parse::Fde;
@@ -115,7 +116,8 @@ fn follow(row: &Row, regs: &Regs, memory: &Memory) -> Stepped
     }
 }
 
-/// What an FDE makes of a frame's registers, at the address where the frame was looked up. It takes no memory.
+/// What an FDE makes of a frame's registers, at the address where the frame was looked up. It takes
+/// no memory.
 pub fn step(fde: &Fde<'_>, look: u64, regs: &Regs, memory: &Memory) -> Stepped
     ensures outcome { IsNextFrame fde.now look regs.now.columns memory.now result }
     // Nothing else can come of them.

@@ -154,7 +154,8 @@ fn endless_stack(rt: HostRuntime) -> Result<(), Fail> {
     Ok(())
 }
 
-/// A frame that a signal interrupted, at the first instruction of a function: it is looked up at its own address.
+/// A frame that a signal interrupted, at the first instruction of a function: it is looked up at
+/// its own address.
 #[test]
 fn interrupted_at_the_first_instruction(rt: HostRuntime) -> Result<(), Fail> {
     let (code, handler) = (image(0, 0x1000, 0x30)?, image(1, 0x5000, 0x10)?);
@@ -192,7 +193,8 @@ fn no_fde(rt: HostRuntime) -> Result<(), Fail> {
     Ok(())
 }
 
-/// What the FDE at an address makes of registers that hold 0x100 and the column's number, but for column 7, 0x7000.
+/// What the FDE at an address makes of registers that hold 0x100 and the column's number, but for
+/// column 7, 0x7000.
 fn stepped(section: &Section, look: u64, memory: &Memory) -> Option<Stepped> {
     let mut columns = [0; 17];
     for (column, number) in columns.iter_mut().enumerate() {

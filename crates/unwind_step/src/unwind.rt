@@ -1,8 +1,10 @@
 //! Whole backtraces.
 
-ghost use Rattle.std.specs.Prelude.{◌≡◌, ℕ, ◌+◌, ◌<◌, ◌≤◌, [], ◌∷◌, ◌++◌, All, IfOk, IfErr, OnErr, length, vec_len, vec_capacity, slice_index};
+ghost use Rattle.std.specs.Prelude.{◌≡◌, ℕ, ◌+◌, ◌<◌, ◌≤◌, [], ◌∷◌, ◌++◌, All, IfOk, IfErr, OnErr};
+ghost use Rattle.std.specs.Prelude.{length, vec_len, vec_capacity, slice_index};
 ghost use Rattle.reg_model.specs.Receipt.{IsPlace};
-ghost use Rattle.unwind_step.specs.Backtrace.{hit_of, IsBelow, Shows, IsCallingFrame, IsEnd, Unfolds};
+ghost use Rattle.unwind_step.specs.Backtrace.{hit_of, IsBelow, Shows, IsCallingFrame, IsEnd};
+ghost use Rattle.unwind_step.specs.Backtrace.{Unfolds};
 ghost use Rattle.unwind_step.specs.Finders.{GoesThrough};
 
 use crate::backtrace::{End, FrameLine, Trace};
@@ -87,8 +89,9 @@ fn add<T: Drop>(items: &mut Vec<T>, item: T)
     let _ = items.push(item);
 }
 
-/// The backtrace from recorded registers and recorded memory. Payloads are the numbers of the images, by which their
-/// sections are listed. The finder is asked once for each frame, and for no other address. All memory is taken before.
+/// The backtrace from recorded registers and recorded memory. Payloads are the numbers of the
+/// images, by which their sections are listed. The finder is asked once for each frame, and for no
+/// other address. All memory is taken before.
 pub fn trace<R: Wait, F: Finder>(
     rt: &R,
     alloc: Global,

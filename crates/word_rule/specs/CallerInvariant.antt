@@ -1,5 +1,6 @@
 -- How what a caller or a note keeps plainly is tied to its log.
-use Rattle.std.specs.Prelude.{◌≡◌, ℕ, ◌+◌, ◌*◌, ◌≤◌, ◌<◌, ◌^◌, List, [], length, slice_index, IfSome, None}
+use Rattle.std.specs.Prelude.{◌≡◌, ℕ, ◌+◌, ◌*◌, ◌≤◌, ◌<◌, ◌^◌, List, [], length, slice_index}
+use Rattle.std.specs.Prelude.{IfSome, None}
 use Rattle.word_rule.specs.declared.log.Role.TheVariants as role
 use Rattle.word_rule.specs.declared.log.Log.{Log}
 use Rattle.word_rule.specs.declared.log.Lineage.{Lineage}

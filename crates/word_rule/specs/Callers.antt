@@ -1,5 +1,7 @@
--- What holds of the shared words and of all callers' logs between any two steps: the callers and the loader's lock.
-use Rattle.std.specs.Prelude.{◌≡◌, ℕ, ◌+◌, ◌<◌, ◌≤◌, ◌%◌, ◌⊎◌, Bool, List, [], ◌∷◌, ◌++◌, length, ◌==◌, ◌&&◌, nat_le, ◌^◌, Option, Some, None, true, false}
+-- What holds of the shared words and of all callers' logs between any two steps: the callers and
+-- the loader's lock.
+use Rattle.std.specs.Prelude.{◌≡◌, ℕ, ◌+◌, ◌<◌, ◌≤◌, ◌%◌, ◌⊎◌, Bool, List, [], ◌∷◌, ◌++◌, length}
+use Rattle.std.specs.Prelude.{◌==◌, ◌&&◌, nat_le, ◌^◌, Option, Some, None, true, false}
 use Rattle.std.specs.List.{AllByRecursion, sum_by, count_by}
 use mathlib.Core.Option.{some}
 use mathlib.Core.List.{IsPrefix}
@@ -93,8 +95,8 @@ pub record ReceiptsHold (t : Terms) (history : List Update) (callers : ℕ) (r :
   pub own : IsRecord t history callers r.own
   pub joined : AllByRecursion (IsRecord t history callers) r.joined
 
--- Of any name, what was gathered and what was given stand against each other, but for what is unmatched and what is
--- missing. Each name given is that of a child of one that was gathered.
+-- Of any name, what was gathered and what was given stand against each other, but for what is
+-- unmatched and what is missing. Each name given is that of a child of one that was gathered.
 pub record LineageHolds (l : Lineage) : Type 0 where
   pub balanced : (x : List ℕ) → name_count x l.unmatched + name_count x l.given ≡ name_count x l.missing + name_count x l.gathered
   pub given_by : (x : List ℕ) → 0 < name_count x l.given → (p : List ℕ) × (n : ℕ) × ((x ≡ p ++ n ∷ []) × (0 < name_count p l.gathered))
@@ -122,8 +124,8 @@ pub record LogHolds (t : Terms) (history : List Update) (callers : ℕ) (v : Log
   -- one that is no caller's holds no lock and has no node out
   pub idle : weight v.role ≡ 0 → IsIdle v
 
--- The log has each number of what it has seen, once, and each of its receipts holds in it, the callers being those that it
--- made, directly or through others, and the first.
+-- The log has each number of what it has seen, once, and each of its receipts holds in it, the
+-- callers being those that it made, directly or through others, and the first.
 pub record IsWhole (v : Log) : Type 0 where
   pub numbers : (n : ℕ) → dones_in n v ≡ number_of (length v.past) n
   pub receipts : ReceiptsHold v.terms v.past (v.made + 1) v.receipts
@@ -132,8 +134,8 @@ pub record IsWhole (v : Log) : Type 0 where
 abbrev pub IsLockedAt : ℕ → ℕ → Type 0
 IsLockedAt version word = (version % 4 ≡ 0) × ((word ≡ version + 1) ⊎ (word ≡ version + 3))
 
--- The loader's lock, where this log has it. Only its holder stores in copies and publishes, so it knows both copies and how
--- many updates of the loader there were.
+-- The loader's lock, where this log has it. Only its holder stores in copies and publishes, so it
+-- knows both copies and how many updates of the loader there were.
 pub record HoldsLoader (m : Memory) (h : LoaderHolding) : Type 0 where
   pub locked : IsLockedAt h.version m.loader
   pub published : h.published ≡ upper m.clock

@@ -1,5 +1,6 @@
 -- The loader's copies: what a copy lists, and what a caller has seen of the active one.
-use Rattle.std.specs.Prelude.{◌≡◌, ℕ, ◌+◌, ◌-◌, ◌≤◌, ◌%◌, ◌↔◌, ◌==◌, IsTrue, List, [], ◌∷◌, length, slice_index, Contains, if◌then◌else◌}
+use Rattle.std.specs.Prelude.{◌≡◌, ℕ, ◌+◌, ◌-◌, ◌≤◌, ◌%◌, ◌↔◌, ◌==◌, IsTrue, List, [], ◌∷◌, length}
+use Rattle.std.specs.Prelude.{slice_index, Contains, if◌then◌else◌}
 use Rattle.std.specs.List.{AllByRecursion}
 use Rattle.reg_model.specs.History.{state_after}
 use Rattle.reg_model.specs.declared.answer.Update.{Update}
@@ -10,8 +11,8 @@ use Rattle.word_rule.specs.declared.log.CopySight.{CopySight}
 use Rattle.word_rule.specs.Places.{copy_place, is_of_copy, upper}
 use Rattle.word_rule.specs.Callers.{start}
 
--- A copy that lists members one after another: whether there is any, how many, and of each its first
--- and last address and its payload, in ascending order.
+-- A copy that lists members one after another: whether there is any, how many, and of each its
+-- first and last address and its payload, in ascending order.
 abbrev pub ListsFrom : List ℕ → ℕ → ℕ → List Member → Type 0
 ListsFrom words at low [] = Unit {0}
 ListsFrom words at low (m ∷ members) =
@@ -36,8 +37,8 @@ ActiveCopy t clock copies history = ListsAll (copies (upper clock % 2)) (state_a
 abbrev pub AreOfCopy : Terms → (ℕ → List ℕ) → ℕ → List LoadedWord → Type 0
 AreOfCopy t copies c words = AllByRecursion (λ w. slice_index (copies c) (w.at - copy_place t c) ≡ w.value) words
 
--- A sight of copies has words of its own copy alone. While the upper half of the clock is its guard,
--- they are as they were loaded.
+-- A sight of copies has words of its own copy alone. While the upper half of the clock is its
+-- guard, they are as they were loaded.
 pub record CopySightHolds (t : Terms) (clock : ℕ) (copies : ℕ → List ℕ) (s : CopySight) : Type 0 where
   pub earlier : s.guard ≤ upper clock
   pub own : AllByRecursion (λ w. IsTrue (is_of_copy t (s.guard % 2) w.at)) s.words

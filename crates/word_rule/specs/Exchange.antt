@@ -1,6 +1,8 @@
--- When and how the settled contents of the nodes that a caller holds become what their words spell. Nothing is asked of the
--- rest of the tree.
-use Rattle.std.specs.Prelude.{◌≡◌, ◌≢◌, ℕ, ◌≤◌, Bool, true, false, ◌&&◌, ◌||◌, not, IsTrue, IsSome, is_some, List, ◌++◌, length, Option, Some, None, map, nat_le, nat_lt, [], ◌∷◌, if◌then◌else◌}
+-- When and how the settled contents of the nodes that a caller holds become what their words spell.
+-- Nothing is asked of the rest of the tree.
+use Rattle.std.specs.Prelude.{◌≡◌, ◌≢◌, ℕ, ◌≤◌, Bool, true, false, ◌&&◌, ◌||◌, not, IsTrue, IsSome}
+use Rattle.std.specs.Prelude.{is_some, List, ◌++◌, length, Option, Some, None, map, nat_le, nat_lt}
+use Rattle.std.specs.Prelude.{[], ◌∷◌, if◌then◌else◌}
 use Rattle.std.specs.List.{AllByRecursion, filter, list_all}
 use Rattle.reg_model.specs.declared.answer.Update.{Update}
 use Rattle.reg_model.specs.declared.answer.Update.TheVariants.{Register, Deregister, Load, Unload}
@@ -37,28 +39,32 @@ is_reached v top group n = is_among (reached_in v top group) n
 abbrev pub node_of : Holding → ℕ
 node_of h = h.node
 
--- the nodes out afterwards: those before that the top doesn't reach, and those of the group that it doesn't
+-- the nodes out afterwards: those before that the top doesn't reach, and those of the group that it
+-- doesn't
 abbrev pub out_after : Log → ℕ → (ℕ → Bool) → List ℕ
 out_after v top group =
     filter (λ n. not (is_fresh v.holdings.held v.holdings.out n && is_reached v top group n)) v.holdings.out
     ++ filter (λ n. group n && not (is_reached v top group n)) (map node_of v.holdings.held)
 
--- The exchange of a group of held live nodes under one of them, the top, and of the held nodes that are out is lawful.
+-- The exchange of a group of held live nodes under one of them, the top, and of the held nodes that
+-- are out is lawful.
 pub record IsLawfulExchange (v : Log) (update : Option Update) (top : ℕ) (group : ℕ → Bool) : Type 0 where
   -- the words of each node of the group, and of each that the top reaches, spell a node
   pub spell : AllByRecursion (λ h. IsTrue (group h.node || is_reached v top group h.node) → IsSome (spelled h.words)) v.holdings.held
   -- the group is of held live nodes; every other one spells its settled content
   pub grouped : (n : ℕ) → IsTrue (group n) → IsTrue (marked_in v.holdings.held n)
   pub covers : AllByRecursion (λ h. IsSome h.mark → group h.node ≡ false → SpellsNode h.words h.settled) v.holdings.held
-  -- These nodes alone change the tree lawfully: its entries stay as they were, or change by the update.
+  -- These nodes alone change the tree lawfully: its entries stay as they were, or change by the
+  -- update.
   pub change : IsLawfulChange (settled_in v.holdings.held) (marked_in v.holdings.held) top group (is_fresh v.holdings.held v.holdings.out) (exchanged_in v group) update
-  -- Each node that leaves the tree, and each that enters it, had a word stored under its lock. So no sight of it stands.
+  -- Each node that leaves the tree, and each that enters it, had a word stored under its lock. So
+  -- no sight of it stands.
   pub leaves : AllByRecursion (λ h. IsTrue (group h.node) → is_reached v top group h.node ≡ false → h.stored ≡ true) v.holdings.held
   pub enters : AllByRecursion (λ h. IsTrue (is_fresh v.holdings.held v.holdings.out h.node) → IsTrue (is_reached v top group h.node) → h.stored ≡ true) v.holdings.held
   pub room : length (out_after v top group) ≤ 4
 
--- A held node's settled content becomes what its words spell, where it is in the group or isn't live. It is marked where
--- it is reached, and no more where it is of the group and isn't.
+-- A held node's settled content becomes what its words spell, where it is in the group or isn't
+-- live. It is marked where it is reached, and no more where it is of the group and isn't.
 abbrev pub mark_after : NodeData → (ℕ → Bool) → (ℕ → Bool) → Holding → Option Frame
 mark_after now group reached h = if reached h.node then Some (frame_of now) else (if group h.node then None else h.mark)
 

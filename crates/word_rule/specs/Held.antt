@@ -1,5 +1,6 @@
 -- The locks of nodes that a log has, by the node's number.
-use Rattle.std.specs.Prelude.{ℕ, Bool, false, ◌==◌, not, List, Option, Some, None, map, is_some, if◌then◌else◌}
+use Rattle.std.specs.Prelude.{ℕ, Bool, false, ◌==◌, not, List, Option, Some, None, map, is_some}
+use Rattle.std.specs.Prelude.{if◌then◌else◌}
 use Rattle.std.specs.List.{find, filter}
 use Rattle.tree_shape.specs.NodeData.{NodeData, Link}
 use Rattle.tree_shape.specs.Trees.{Contents}

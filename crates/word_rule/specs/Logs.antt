@@ -1,5 +1,7 @@
--- What each step makes of its caller's log: loads, the loader's lock, and callers and notes that come and go.
-use Rattle.std.specs.Prelude.{◌≡◌, ℕ, ◌+◌, ◌-◌, ◌*◌, ◌/◌, Bool, List, [], ◌∷◌, ◌++◌, length, Some, None, nat_lt, false, true, if◌then◌else◌}
+-- What each step makes of its caller's log: loads, the loader's lock, and callers and notes that
+-- come and go.
+use Rattle.std.specs.Prelude.{◌≡◌, ℕ, ◌+◌, ◌-◌, ◌*◌, ◌/◌, Bool, List, [], ◌∷◌, ◌++◌, length, Some}
+use Rattle.std.specs.Prelude.{None, nat_lt, false, true, if◌then◌else◌}
 use Rattle.reg_model.specs.declared.answer.Update.{Update}
 use Rattle.word_rule.specs.declared.log.Terms.{Terms}
 use Rattle.word_rule.specs.declared.log.Role.{Role}
@@ -49,7 +51,8 @@ after_load word found v = record v { trace = record v.trace { loads = v.trace.lo
 abbrev pub after_write : Log → Log
 after_write v = record v { trace = record v.trace { writes = v.trace.writes + 1 } }
 
--- the loader's lock, just taken at a version, after so many publications, with the words of both copies
+-- the loader's lock, just taken at a version, after so many publications, with the words of both
+-- copies
 pub record IsTaken (t : Terms) (version : ℕ) (h : LoaderHolding) : Type 0 where
   pub taken : h.version ≡ version
   pub active : length h.active ≡ copy_words t
@@ -95,7 +98,8 @@ new_log terms role past budget lineage = record {
 abbrev pub first_log : Terms → Log
 first_log t = new_log t role.Caller [] record { allowance = ALLOWANCE; credit = CREDIT } (new_lineage [])
 
--- What a caller that is split off or a note begins with: what its maker has seen, so much to do, and a name.
+-- What a caller that is split off or a note begins with: what its maker has seen, so much to do,
+-- and a name.
 abbrev pub child_log : Role → Budget → Log → Log
 child_log role budget v = new_log v.terms role v.past budget (new_lineage (child_name v.lineage))
 
@@ -104,8 +108,8 @@ abbrev pub spent_log : Log
 spent_log =
     new_log record { nodes = 0; loads = 0; payloads = 0; fixed = [] } role.Spent [] record { allowance = 0; credit = 0 } record { name = []; forks = 0; missing = []; unmatched = []; gathered = []; given = [] }
 
--- The releases that a split gives away with so many of the `left` update calls: those of the calls, and half of the
--- surplus, rounded down.
+-- The releases that a split gives away with so many of the `left` update calls: those of the calls,
+-- and half of the surplus, rounded down.
 abbrev pub credit_given : ℕ → ℕ → ℕ → ℕ
 credit_given credit left give = CALL_CREDIT * give + (credit - CALL_CREDIT * left) / 2
 

@@ -1,7 +1,9 @@
 -- The shared words as the invariant reads them, each kind apart.
-use Rattle.std.specs.Prelude.{ℕ, zero, suc, ◌+◌, ◌/◌, ◌==◌, nat_lt, List, [], slice_index, take, drop, if◌then◌else◌}
+use Rattle.std.specs.Prelude.{ℕ, zero, suc, ◌+◌, ◌/◌, ◌==◌, nat_lt, List, [], slice_index, take}
+use Rattle.std.specs.Prelude.{drop, if◌then◌else◌}
 use Rattle.word_rule.specs.declared.log.Terms.{Terms}
-use Rattle.word_rule.specs.Places.{CLOCK, HEAD, LOADER, CONTENT_WORDS, node_place, copy_place, copy_words}
+use Rattle.word_rule.specs.Places.{CLOCK, HEAD, LOADER, CONTENT_WORDS, node_place, copy_place}
+use Rattle.word_rule.specs.Places.{copy_words}
 
 -- The free head, and of each node its version word and the words after it.
 pub record NodeWords : Type 0 where

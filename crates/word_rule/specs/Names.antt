@@ -21,8 +21,8 @@ abbrev pub without_name : List ℕ → List (List ℕ) → List (List ℕ)
 without_name x [] = []
 without_name x (y ∷ names) = if is_same y x then names else (y ∷ without_name x names)
 
--- A name is gathered: it is missing no more, or else it is unmatched. The first list has the missing names, the second the
--- unmatched ones; no name stands in both.
+-- A name is gathered: it is missing no more, or else it is unmatched. The first list has the
+-- missing names, the second the unmatched ones; no name stands in both.
 abbrev pub gather_name : List ℕ → List (List ℕ) × List (List ℕ) → List (List ℕ) × List (List ℕ)
 gather_name x lists = if has_name x lists.0 then (without_name x lists.0, lists.1) else (lists.0, lists.1 ++ x ∷ [])
 
@@ -40,7 +40,8 @@ abbrev pub give_names : List (List ℕ) → List (List ℕ) × List (List ℕ) �
 give_names [] lists = lists
 give_names (x ∷ names) lists = give_name x (give_names names lists)
 
--- the name of the next one that is forked off: its maker's, followed by how many the maker forked off before
+-- the name of the next one that is forked off: its maker's, followed by how many the maker forked
+-- off before
 abbrev pub child_name : Lineage → List ℕ
 child_name l = l.name ++ l.forks ∷ []
 

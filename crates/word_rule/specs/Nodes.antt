@@ -1,5 +1,8 @@
--- What holds of the nodes between any two steps: locks, settled contents, the tree and the free list.
-use Rattle.std.specs.Prelude.{◌≡◌, ◌≢◌, ℕ, ◌+◌, ◌<◌, ◌≤◌, ◌%◌, ◌↔◌, Bool, false, ◌==◌, IsTrue, nat_lt, List, [], ◌∷◌, length, Option, Some, None, IfSome, IsSome, Contains}
+-- What holds of the nodes between any two steps: locks, settled contents, the tree and the free
+-- list.
+use Rattle.std.specs.Prelude.{◌≡◌, ◌≢◌, ℕ, ◌+◌, ◌<◌, ◌≤◌, ◌%◌, ◌↔◌, Bool, false, ◌==◌, IsTrue}
+use Rattle.std.specs.Prelude.{nat_lt, List, [], ◌∷◌, length, Option, Some, None, IfSome, IsSome}
+use Rattle.std.specs.Prelude.{Contains}
 use Rattle.std.specs.List.{AllByRecursion, count_by}
 use mathlib.Core.Option.{some}
 use lib.ListN.{get_elem?}

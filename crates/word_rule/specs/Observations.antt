@@ -1,5 +1,6 @@
 -- What holds of what a log has loaded: its sights of nodes, and the counts that it found full.
-use Rattle.std.specs.Prelude.{◌≡◌, ℕ, ◌+◌, ◌-◌, ◌*◌, ◌<◌, ◌≤◌, ◌%◌, ◌⊎◌, ◌↔◌, false, IsTrue, List, [], ◌∷◌, length, max, IfSome, IsSome, Contains}
+use Rattle.std.specs.Prelude.{◌≡◌, ℕ, ◌+◌, ◌-◌, ◌*◌, ◌<◌, ◌≤◌, ◌%◌, ◌⊎◌, ◌↔◌, false, IsTrue, List}
+use Rattle.std.specs.Prelude.{[], ◌∷◌, length, max, IfSome, IsSome, Contains}
 use Rattle.std.specs.List.{AllByRecursion}
 use Rattle.reg_model.specs.History.{state_at}
 use Rattle.reg_model.specs.Receipt.{moment}
@@ -22,8 +23,8 @@ use Rattle.word_rule.specs.Callers.{IsLockedAt, start}
 use Rattle.word_rule.specs.Nodes.{Shadow, IsPlaced}
 use Rattle.word_rule.specs.Copies.{CopySightHolds}
 
--- A sight stands: the version is the one that was loaded, or is it with low bits set by one that has
--- stored nothing since.
+-- A sight stands: the version is the one that was loaded, or is it with low bits set by one that
+-- has stored nothing since.
 abbrev pub Stands : (ℕ → ℕ) → Shadow → NodeSight → Type 0
 Stands versions shadow s = (versions s.node ≡ s.version) ⊎ (IsLockedAt s.version (versions s.node) × (shadow.stored s.node ≡ false))
 
@@ -37,8 +38,8 @@ AreInside members s =
     (x : Member) → Contains (entries_of s) x ↔ (Contains members x × (s.low ≤ x.span.first) × (x.span.last ≤ s.high))
 
 -- A version that is gone never comes back. While a sight stands its words are as they were loaded;
--- where it is marked, its node is live, at that place; and where the clock was loaded and the node is
--- a live leaf, its entries are the registered members of then inside its fences.
+-- where it is marked, its node is live, at that place; and where the clock was loaded and the node
+-- is a live leaf, its entries are the registered members of then inside its fences.
 pub record SightHolds (t : Terms) (words : NodeWords) (history : List Update) (shadow : Shadow) (s : NodeSight) : Type 0 where
   pub within : s.node < t.nodes
   pub even : s.version % 4 ≡ 0
@@ -54,7 +55,8 @@ abbrev pub last_moment : ℕ → List Receipt → ℕ
 last_moment since [] = since
 last_moment since (r ∷ receipts) = last_moment (max since (moment r)) receipts
 
--- at some moment of the history, not before the last of these receipts, so many members were registered
+-- at some moment of the history, not before the last of these receipts, so many members were
+-- registered
 abbrev pub HadMembers : Terms → List Update → List Receipt → ℕ → Type 0
 HadMembers t history receipts least =
     (j : ℕ) × ((last_moment 0 receipts ≤ j) × (j ≤ length history) × (least ≤ length (state_at (start t) history j).registered))

@@ -1,5 +1,8 @@
--- Where each word of the shared table stands. N is the number of nodes, G that of the segments of one copy.
-use Rattle.std.specs.Prelude.{ℕ, zero, suc, ◌+◌, ◌*◌, ◌-◌, ◌/◌, ◌%◌, ◌^◌, ◌==◌, ◌||◌, ◌&&◌, Bool, nat_le, nat_lt, List, [], ◌∷◌, ◌++◌, slice_set, replicate, if◌then◌else◌}
+-- Where each word of the shared table stands. N is the number of nodes, G that of the segments of
+-- one copy.
+use Rattle.std.specs.Prelude.{ℕ, zero, suc, ◌+◌, ◌*◌, ◌-◌, ◌/◌, ◌%◌, ◌^◌, ◌==◌, ◌||◌, ◌&&◌, Bool}
+use Rattle.std.specs.Prelude.{nat_le, nat_lt, List, [], ◌∷◌, ◌++◌, slice_set, replicate}
+use Rattle.std.specs.Prelude.{if◌then◌else◌}
 use Rattle.word_rule.specs.declared.log.Terms.{Terms}
 
 -- the words of a node
@@ -71,7 +74,8 @@ is_of_copy t c at = nat_le (copy_place t c) at && nat_lt at (copy_place t c + co
 abbrev pub spare : ℕ → ℕ
 spare clock = (upper clock + 1) % 2
 
--- A node's words at the start: the root is a leaf and the others are free, each linked to the next; all fences are open.
+-- A node's words at the start: the root is a leaf and the others are free, each linked to the next;
+-- all fences are open.
 abbrev pub initial_kind : ℕ → ℕ
 initial_kind n = if n == 0 then 1 else 2
 
@@ -86,6 +90,7 @@ abbrev pub initial_nodes : ℕ → ℕ → List ℕ
 initial_nodes nodes zero = []
 initial_nodes nodes (suc n) = initial_nodes nodes n ++ initial_node nodes n
 
--- all words at the start: nothing was accepted, node 1 is the first free one, no lock is held, both copies are empty
+-- all words at the start: nothing was accepted, node 1 is the first free one, no lock is held, both
+-- copies are empty
 abbrev pub initial_words : Terms → List ℕ
 initial_words t = (0 ∷ 1 ∷ 0 ∷ 0 ∷ initial_nodes t.nodes t.nodes) ++ replicate (2 * copy_words t) 0

@@ -1,5 +1,6 @@
 -- What each step tells its caller.
-use Rattle.std.specs.Prelude.{◌≡◌, ℕ, ◌%◌, ◌<◌, ◌^◌, ◌==◌, ◌≤◌, List, length, MatchBool, IfSome, false}
+use Rattle.std.specs.Prelude.{◌≡◌, ℕ, ◌%◌, ◌<◌, ◌^◌, ◌==◌, ◌≤◌, List, length, MatchBool, IfSome}
+use Rattle.std.specs.Prelude.{false}
 use Rattle.atomic_table.specs.Table.{Me, Step}
 use Rattle.reg_model.specs.declared.answer.Update.{Update}
 use Rattle.tree_shape.specs.NodeData.{NodeData}
@@ -9,8 +10,10 @@ use Rattle.word_rule.specs.declared.log.Ask.{Ask}
 use Rattle.word_rule.specs.Places.{ALLOWANCE, CONTENT_WORDS}
 use Rattle.word_rule.specs.Spelling.{SpellsNode}
 use Rattle.word_rule.specs.Sights.{after_node_version, after_node_load, after_copy_load}
-use Rattle.word_rule.specs.Steps.{after_node_lock, after_give, after_copy_store, AfterPublish, AfterNodeRelease}
-use Rattle.word_rule.specs.Logs.{is_spent, IsTaken, after_load, after_loader_lock, after_write, after_loader_release, after_loader_release_same}
+use Rattle.word_rule.specs.Steps.{after_node_lock, after_give, after_copy_store, AfterPublish}
+use Rattle.word_rule.specs.Steps.{AfterNodeRelease}
+use Rattle.word_rule.specs.Logs.{is_spent, IsTaken, after_load, after_loader_lock, after_write}
+use Rattle.word_rule.specs.Logs.{after_loader_release, after_loader_release_same}
 use Rattle.word_rule.specs.Callers.{IsLockedAt, IsAlone, IsWhole}
 
 abbrev pub Seated : Type 0
@@ -43,8 +46,8 @@ releases st me found me' = (me' ≡ (after_loader_release me.0, me.1)) × WasLoc
 abbrev pub releases_same : Stepped → Seated → ℕ → Seated → Type 0
 releases_same st me found me' = (me' ≡ (after_loader_release_same me.0, me.1)) × WasLocked me found
 
--- What a caller that was joined into another is told by a load of the clock: how many calls are allowed, and, where it is
--- alone, that its log has all that was ever done.
+-- What a caller that was joined into another is told by a load of the clock: how many calls are
+-- allowed, and, where it is alone, that its log has all that was ever done.
 abbrev pub confirms : Stepped → Seated → ℕ → Seated → Type 0
 confirms st me found me' = (me' ≡ me) × (me.0.budget.allowance ≤ ALLOWANCE) × (is_spent me.0.role ≡ false → IsAlone me.0.lineage → IsWhole me.0)
 
@@ -60,7 +63,8 @@ loads_node n at st me found me' = me' ≡ (after_node_load n at found me.0, me.1
 abbrev pub loads_version : Ask → ℕ → Stepped → Seated → ℕ → Seated → Type 0
 loads_version ask n st me found me' = me' ≡ (after_node_version ask n found me.0, me.1)
 
--- an exchange at a node's version word for one with bit 0: the node is held, or another word was found
+-- an exchange at a node's version word for one with bit 0: the node is held, or another word was
+-- found
 abbrev pub locks_node : ℕ → Stepped → Seated → ℕ → Seated → Type 0
 locks_node n st me found me' = MatchBool (found == st.first)
     ((st.first % 4 ≡ 0) × (st.first < 2 ^ 63) × ((settled : NodeData) × (words : List ℕ) × (SpellsNode words settled × (length words ≡ CONTENT_WORDS) × (me' ≡ (after_node_lock n st.first settled words me.0, me.1)))))

@@ -1,5 +1,7 @@
 -- Sights: words of a node that were loaded under a version, and what each load makes of them.
-use Rattle.std.specs.Prelude.{ℕ, zero, suc, ◌+◌, ◌-◌, ◌*◌, ◌%◌, Bool, false, not, ◌&&◌, ◌==◌, nat_lt, nat_le, List, [], ◌∷◌, ◌++◌, length, map, Option, Some, None, option_map, is_some, if◌then◌else◌}
+use Rattle.std.specs.Prelude.{ℕ, zero, suc, ◌+◌, ◌-◌, ◌*◌, ◌%◌, Bool, false, not, ◌&&◌, ◌==◌}
+use Rattle.std.specs.Prelude.{nat_lt, nat_le, List, [], ◌∷◌, ◌++◌, length, map, Option, Some, None}
+use Rattle.std.specs.Prelude.{option_map, is_some, if◌then◌else◌}
 use Rattle.std.specs.List.{find, filter}
 use Rattle.reg_model.specs.History.{state_at}
 use Rattle.reg_model.specs.Query.{query}
@@ -36,12 +38,13 @@ abbrev pub loaded_word : ℕ → List LoadedWord → Option ℕ
 loaded_word at [] = None
 loaded_word at (w ∷ words) = if w.at == at then Some w.value else loaded_word at words
 
--- The place in the tree of a sight that is marked live. The root is always live: its level is the one that was loaded.
+-- The place in the tree of a sight that is marked live. The root is always live: its level is the
+-- one that was loaded.
 abbrev pub place_of : NodeSight → Option Frame
 place_of s = if s.node == 0 then option_map (λ level. record { level = level; low = 0; high = TOP }) (loaded_word 2 s.words) else s.mark
 
--- The place that a parent's sight gives to its i-th child: it needs the child's separator, and the one before or else the
--- parent's low fence.
+-- The place that a parent's sight gives to its i-th child: it needs the child's separator, and the
+-- one before or else the parent's low fence.
 abbrev pub low_of : Frame → ℕ → List LoadedWord → Option ℕ
 low_of place zero words = Some place.low
 low_of place (suc i) words = option_map (λ separator. separator + 1) (loaded_word (7 + 2 * i) words)
@@ -76,7 +79,8 @@ abbrev pub or_mark : Option Frame → Option Frame → Option Frame
 or_mark None other = other
 or_mark (Some m) other = Some m
 
--- The sight of a node was found to stand: each sight that began before and that it names is now marked live.
+-- The sight of a node was found to stand: each sight that began before and that it names is now
+-- marked live.
 abbrev pub mark_child : NodeSight → NodeSight → NodeSight
 mark_child parent child = if child.node == parent.node then child else record child { mark = or_mark (place_under child.node parent (place_of parent)) child.mark }
 
@@ -93,7 +97,8 @@ abbrev pub is_leaf_for : ℕ → Option Frame → Bool
 is_leaf_for pc None = false
 is_leaf_for pc (Some place) = (place.level == 0) && nat_le place.low pc && nat_le pc place.high
 
--- the receipt of a try, where its leaf's sight stands, and the clock was loaded since its version with all that was seen
+-- the receipt of a try, where its leaf's sight stands, and the clock was loaded since its version
+-- with all that was seen
 abbrev pub try_receipts : Log → Ask → NodeSight → Option ℕ → List Receipt
 try_receipts v (ask.Registered pc) s (Some stamp) = if is_leaf_for pc (place_of s) && (stamp == length v.past) then (query_receipt half.Registered v pc stamp ∷ []) else []
 try_receipts v a s clock = []
@@ -116,7 +121,8 @@ receipts_after_version v a found (Some s) = if s.version == found then try_recei
 abbrev pub with_receipts : List Receipt → Log → Log
 with_receipts receipts v = record v { receipts = record v.receipts { own = v.receipts.own ++ receipts } }
 
--- The version of a node was loaded: a sight of it begins, or the one that there is was found to stand.
+-- The version of a node was loaded: a sight of it begins, or the one that there is was found to
+-- stand.
 abbrev pub after_node_version : Ask → ℕ → ℕ → Log → Log
 after_node_version a n found v = record (with_receipts (receipts_after_version v a found (sight_of n v.sights.nodes)) (after_load (node_place n) found v)) {
   sights = record v.sights { nodes = sights_after_version n found (sight_of n v.sights.nodes) v.sights.nodes };
@@ -136,7 +142,8 @@ after_node_load n at value v = record (after_load (node_place n + at) value v) {
 abbrev pub with_clock : ℕ → NodeSight → NodeSight
 with_clock stamp s = record s { clock = Some stamp }
 
--- the sight of the loader's copies goes on where the upper half is still its guard, else it begins anew
+-- the sight of the loader's copies goes on where the upper half is still its guard, else it begins
+-- anew
 abbrev pub copies_after_clock : ℕ → Option CopySight → Option CopySight
 copies_after_clock found None = Some record { guard = upper found; words = [] }
 copies_after_clock found (Some s) = if s.guard == upper found then Some s else Some record { guard = upper found; words = [] }
@@ -148,7 +155,8 @@ after_clock found past receipts v = record (with_receipts receipts (after_load C
   sights = record { nodes = map (with_clock (lower found)) v.sights.nodes; copies = copies_after_clock found v.sights.copies };
 }
 
--- the receipt of a walk over the loader's copy, where the upper half of the clock is still the walk's
+-- the receipt of a walk over the loader's copy, where the upper half of the clock is still the
+-- walk's
 abbrev pub walk_receipts : Log → ℕ → ℕ → Option CopySight → List Receipt
 walk_receipts seen found pc None = []
 walk_receipts seen found pc (Some s) = if s.guard == upper found then (query_receipt half.Loaded seen pc (lower found) ∷ []) else []

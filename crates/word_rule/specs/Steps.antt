@@ -1,5 +1,8 @@
--- What the steps on nodes, on the loader's copies, on the clock and on the free head make of a log, and what they ask for.
-use Rattle.std.specs.Prelude.{◌≡◌, ◌≢◌, ◌↔◌, Contains, is_some, option_map, ℕ, ◌+◌, ◌-◌, ◌<◌, ◌⊎◌, true, false, ◌==◌, IsTrue, List, [], ◌∷◌, ◌++◌, length, Option, Some, None, IsSome, IsSomeAnd, slice_set, if◌then◌else◌}
+-- What the steps on nodes, on the loader's copies, on the clock and on the free head make of a log,
+-- and what they ask for.
+use Rattle.std.specs.Prelude.{◌≡◌, ◌≢◌, ◌↔◌, Contains, is_some, option_map, ℕ, ◌+◌, ◌-◌, ◌<◌, ◌⊎◌}
+use Rattle.std.specs.Prelude.{true, false, ◌==◌, IsTrue, List, [], ◌∷◌, ◌++◌, length, Option, Some}
+use Rattle.std.specs.Prelude.{None, IsSome, IsSomeAnd, slice_set, if◌then◌else◌}
 use Rattle.std.specs.List.{find}
 use Rattle.reg_model.specs.History.{state_after}
 use Rattle.reg_model.specs.State.{State, IsFree, at_base}
@@ -29,8 +32,8 @@ use Rattle.word_rule.specs.declared.log.Terms.{Terms}
 use Rattle.word_rule.specs.Callers.{IsOfTerms, start}
 use Rattle.word_rule.specs.Copies.{ListsMembers}
 
--- The mark of a node at its lock: the root is live, and so is one that the settled content of a held live node names, at
--- the place that it is given there.
+-- The mark of a node at its lock: the root is live, and so is one that the settled content of a
+-- held live node names, at the place that it is given there.
 abbrev pub place_in : ℕ → List Branch → Option Frame
 place_in n bs = option_map (λ b. b.frame) (find (λ b. b.child == n) bs)
 
@@ -72,8 +75,8 @@ AfterNodeRelease n v w =
     let u = settle None v in
     w ≡ record (after_node_release_same n u) { budget = after_spending u.budget }
 
--- A release asks that the node's words spell a node, and, where it is live and they spell another content, for a lawful
--- exchange.
+-- A release asks that the node's words spell a node, and, where it is live and they spell another
+-- content, for a lawful exchange.
 abbrev pub MayRelease : ℕ → Log → Type 0
 MayRelease n v = IsSomeAnd (held_of n v.holdings.held) (λ h. IsSome (spelled (h.words)) × (IsSome h.mark → Differs h → IsTrue (is_lawful v None)))
 
@@ -84,7 +87,8 @@ store_in at value h = record h { words = slice_set h.words (at - 1) value; store
 abbrev pub stored_log : ℕ → ℕ → ℕ → Log → Log
 stored_log n at value v = record v { trace = record v.trace { writes = v.trace.writes + 1; stores = v.trace.stores ++ n ∷ [] }; holdings = record v.holdings { held = edited n (store_in at value) v.holdings.held } }
 
--- A word of a held node was stored. Where it made a live node free, the contents settle where that is lawful.
+-- A word of a held node was stored. Where it made a live node free, the contents settle where that
+-- is lawful.
 abbrev pub AfterStore : ℕ → ℕ → ℕ → Log → Log → Type 0
 AfterStore n at value v w =
     (((at ≡ 1) × (value ≡ 2) × IsTrue (marked_in v.holdings.held n)) × (w ≡ settle None (stored_log n at value v)))
@@ -101,8 +105,8 @@ IsDone (update.Load m) n s r = r ≡ receipt.Load m (loading.Done n)
 IsDone (update.Deregister base) n s r = IsSomeAnd (at_base base s.registered) (λ m. r ≡ receipt.Deregister base (removed.Done n m))
 IsDone (update.Unload base) n s r = IsSomeAnd (at_base base s.loaded) (λ m. r ≡ receipt.Unload base (removed.Done n m))
 
--- An update was accepted: it is the last of the history, which is now seen; one call less is due. The receipt is the one of
--- its number.
+-- An update was accepted: it is the last of the history, which is now seen; one call less is due.
+-- The receipt is the one of its number.
 abbrev pub after_update : Update → List Update → Receipt → Log → Log
 after_update u before r v = record (with_receipts (r ∷ []) (after_write v)) { past = before ++ u ∷ []; budget = record v.budget { allowance = v.budget.allowance - 1 } }
 
@@ -123,7 +127,8 @@ store_in_copy at value h = record h { spare = slice_set h.spare at value; stored
 abbrev pub after_copy_store : ℕ → ℕ → Log → Log
 after_copy_store at value v = record (after_write v) { loader = option_map (store_in_copy at value) v.loader }
 
--- A publication: the update of the loader was accepted, and the copy that was stored is the active one now.
+-- A publication: the update of the loader was accepted, and the copy that was stored is the active
+-- one now.
 abbrev pub exchange_copies : LoaderHolding → LoaderHolding
 exchange_copies h = record h { published = h.published + 1; active = h.spare; spare = h.active }
 
@@ -139,8 +144,8 @@ Publishes t (update.Unload base) before after =
 Publishes t (update.Register m) before after = ⊥
 Publishes t (update.Deregister base) before after = ⊥
 
--- A publication asks for one of the update calls that were begun, for a member that may be made known, and that the copy
--- that was stored lists what the active one lists, with the update made.
+-- A publication asks for one of the update calls that were begun, for a member that may be made
+-- known, and that the copy that was stored lists what the active one lists, with the update made.
 pub record MayPublish (t : Terms) (allowance : ℕ) (u : Update) (h : LoaderHolding) : Type 0 where
   pub before : List Member
   pub after : List Member
@@ -170,7 +175,8 @@ IsRefusalOf u s stamp r = Answers u r × (accepted r ≡ None) × (moment r ≡ 
 abbrev pub after_head_load : ℕ → Log → Log
 after_head_load found v = record (after_load HEAD found v) { holdings = record v.holdings { head = if is_some (held_of 0 v.holdings.held) then Some found else None } }
 
--- The head was stored under the root's lock: it was taken off the free list and is out, or a node that was out was put there.
+-- The head was stored under the root's lock: it was taken off the free list and is out, or a node
+-- that was out was put there.
 abbrev pub after_take : ℕ → ℕ → Log → Log
 after_take taken next v = record (after_write v) { holdings = record v.holdings { head = Some next; out = taken ∷ v.holdings.out } }
 
@@ -181,7 +187,8 @@ after_give n v = record (after_write v) { holdings = record v.holdings { head = 
 abbrev pub IsFreeTo : ℕ → ℕ → Log → Type 0
 IsFreeTo n next v = IsSomeAnd (held_of n v.holdings.held) (λ h. IsSomeAnd (spelled (h.words)) (λ s. s.body ≡ Link next))
 
--- a store of the head takes the first node off the list, which the caller holds, or puts one there that was out
+-- a store of the head takes the first node off the list, which the caller holds, or puts one there
+-- that was out
 abbrev pub MayStoreHead : ℕ → Log → Type 0
 MayStoreHead node v =
     IsSome (held_of 0 v.holdings.held) × IsSomeAnd v.holdings.head (λ h. ((h ≢ 0) × IsFreeTo h node v × (length v.holdings.out < 4)) ⊎ (IsFreeTo node h v × IsTrue (is_among v.holdings.out node)))

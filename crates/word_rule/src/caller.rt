@@ -76,7 +76,8 @@ impl Caller {
         self.left
     }
 
-    /// Whether every other caller and every note that was ever made of these words was joined or learnt into it.
+    /// Whether every other caller and every note that was ever made of these words was joined or
+    /// learnt into it.
     pub fn alone(&self) -> bool
         ensures { IsTrue result ↔ IsAlone self.now.log.lineage }
     {

@@ -7,8 +7,8 @@ ghost use Rattle.tree_shape.specs.Numbers.{is_among};
 ghost use Rattle.word_rule.specs.declared.log.Log.{Log};
 ghost use Rattle.word_rule.specs.Exchange.{IsLawfulExchange, group_of, is_lawful, top_of};
 
-/// Whether what a caller changed may settle is a test over the nodes that it holds: it is true exactly
-/// where the exchange of these nodes, under the highest of them, is lawful.
+/// Whether what a caller changed may settle is a test over the nodes that it holds: it is true
+/// exactly where the exchange of these nodes, under the highest of them, is lawful.
 pub fn exchange_decided()
     ensures { (v : Log) (update : Option Update) → Decides (is_lawful v update)
         (IsLawfulExchange v update (top_of v update) (is_among (group_of v update))) }

@@ -1,19 +1,24 @@
-//! The shared words of the registry under one invariant, and one call for each kind of single step on them.
+//! The shared words of the registry under one invariant, and one call for each kind of single step
+//! on them.
 //!
-//! All that threads share is one table of words: the clock, the free head, the loader's version lock, the nodes of the tree
-//! and two copies of the loader's list. A thread steps on it with a `Caller`, which is passed by `&mut` beside the shared
-//! `&Words`. Each step is one sequentially consistent access to one word. What a caller has seen and done stands in its log,
-//! plain data that exists in the proofs alone (`log`); `specs/Logs`, `specs/Sights` and `specs/Steps` say what each step
-//! makes of it. What holds of all words and all logs between any two steps is the table's invariant
-//! (`specs/TableInvariant`, and `specs/Callers` for callers); `specs/Places` has where each word stands.
+//! All that threads share is one table of words: the clock, the free head, the loader's version
+//! lock, the nodes of the tree and two copies of the loader's list. A thread steps on it with a
+//! `Caller`, which is passed by `&mut` beside the shared `&Words`. Each step is one sequentially
+//! consistent access to one word. What a caller has seen and done stands in its log, plain data
+//! that exists in the proofs alone (`log`); `specs/Logs`, `specs/Sights` and `specs/Steps` say what
+//! each step makes of it. What holds of all words and all logs between any two steps is the table's
+//! invariant (`specs/TableInvariant`, and `specs/Callers` for callers); `specs/Places` has where
+//! each word stands.
 //!
-//! A caller splits off others and makes notes for them; a caller may join another, or learn a note. Each has a name, its
-//! maker's with a number, by which a caller knows whether it is alone (`lineage`).
+//! A caller splits off others and makes notes for them; a caller may join another, or learn a note.
+//! Each has a name, its maker's with a number, by which a caller knows whether it is alone
+//! (`lineage`).
 //!
-//! The layer above the model (reg_model: updates, histories, receipts) and the tree as pure values (tree_shape: what a node
-//! is, when contents are a lawful tree). From atomic_table it takes the steps, each proved to keep a rule that it is given.
-//! The rule here is the whole invariant. Built so far are the steps on the loader's version lock, and callers and notes that
-//! come and go; the steps on nodes, copies, the clock and the free head have their definitions.
+//! The layer above the model (reg_model: updates, histories, receipts) and the tree as pure values
+//! (tree_shape: what a node is, when contents are a lawful tree). From atomic_table it takes the
+//! steps, each proved to keep a rule that it is given. The rule here is the whole invariant. Built
+//! so far are the steps on the loader's version lock, and callers and notes that come and go; the
+//! steps on nodes, copies, the clock and the free head have their definitions.
 #![tactic(auto)]
 
 mod caller;

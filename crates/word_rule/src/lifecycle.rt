@@ -60,7 +60,8 @@ impl Words {
         Ok((Words { table, made }, me))
     }
 
-    /// Takes the words apart, by the first caller alone, and answers how many updates were accepted.
+    /// Takes the words apart, by the first caller alone, and answers how many updates were
+    /// accepted.
     pub fn close(self, me: Caller) -> u32
         requires table { me.table ≡ self.table }
         requires first { me.log.lineage.name ≡ [] }

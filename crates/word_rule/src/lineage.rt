@@ -1,6 +1,10 @@
-//! Names of callers and notes: which were given and not gathered, and which were gathered and not given.
-ghost use Rattle.std.specs.Prelude.{◌≡◌, ◌+◌, ◌<◌, ◌≤◌, ◌↔◌, ℕ, [], ◌∷◌, ◌++◌, vec_len, vec_capacity, IsTrue, IfOk, IfErr, OnOk, OnErr};
-ghost use Rattle.word_rule.specs.Names.{is_same, has_name, without_name, name_count, gather_names, give_names, new_lineage, child_name, after_fork, joined_lineage};
+//! Names of callers and notes: which were given and not gathered, and which were gathered and not
+//! given.
+ghost use Rattle.std.specs.Prelude.{◌≡◌, ◌+◌, ◌<◌, ◌≤◌, ◌↔◌, ℕ, [], ◌∷◌, ◌++◌, vec_len};
+ghost use Rattle.std.specs.Prelude.{vec_capacity, IsTrue, IfOk, IfErr, OnOk, OnErr};
+ghost use Rattle.word_rule.specs.Names.{is_same, has_name, without_name, name_count, gather_names};
+ghost use Rattle.word_rule.specs.Names.{give_names, new_lineage, child_name, after_fork};
+ghost use Rattle.word_rule.specs.Names.{joined_lineage};
 ghost use Rattle.word_rule.specs.CallerInvariant.{AreNamesOf};
 ghost use Rattle.word_rule.specs.declared.log.Lineage.{Lineage};
 

@@ -43,7 +43,8 @@ pub struct Budget {
     pub credit: u64,
 }
 
-/// The receipts of a caller, and of each caller that was joined into it, directly or through others.
+/// The receipts of a caller, and of each caller that was joined into it, directly or through
+/// others.
 pub struct Receipts {
     pub own: LinkedList<Receipt>,
     pub joined: LinkedList<LinkedList<Receipt>>,
@@ -64,7 +65,8 @@ pub struct Holding {
     pub mark: Option<Frame>,
 }
 
-/// The nodes that a caller has locked, and those that it has taken out of the tree or the free list.
+/// The nodes that a caller has locked, and those that it has taken out of the tree or the free
+/// list.
 pub struct Holdings {
     pub held: LinkedList<Holding>,
     pub out: LinkedList<u64>,
@@ -151,7 +153,8 @@ pub struct Lineage {
     pub missing: LinkedList<LinkedList<u64>>,
     /// Names gathered that it didn't give: its own first of all.
     pub unmatched: LinkedList<LinkedList<u64>>,
-    /// All names gathered: its own, and those of what was joined or learnt into it, directly or through others.
+    /// All names gathered: its own, and those of what was joined or learnt into it, directly or
+    /// through others.
     pub gathered: LinkedList<LinkedList<u64>>,
     /// All names that these gave.
     pub given: LinkedList<LinkedList<u64>>,

@@ -1,7 +1,9 @@
 //! Callers and notes that come and go.
-ghost use Rattle.std.specs.Prelude.{◌≡◌, ◌≢◌, ◌+◌, ◌-◌, ◌*◌, ◌^◌, ◌<◌, ◌≤◌, [], length, None, OnErr, IfOk, IfErr, OnOk, false};
+ghost use Rattle.std.specs.Prelude.{◌≡◌, ◌≢◌, ◌+◌, ◌-◌, ◌*◌, ◌^◌, ◌<◌, ◌≤◌, [], length, None};
+ghost use Rattle.std.specs.Prelude.{OnErr, IfOk, IfErr, OnOk, false};
 ghost use Rattle.word_rule.specs.Places.{ALLOWANCE, CALL_CREDIT};
-ghost use Rattle.word_rule.specs.Logs.{is_spent, after_split, split_off, after_note, note_of, after_join, after_learn};
+ghost use Rattle.word_rule.specs.Logs.{is_spent, after_split, split_off, after_note, note_of};
+ghost use Rattle.word_rule.specs.Logs.{after_join, after_learn};
 ghost use Rattle.word_rule.specs.Callers.{IsAlone, IsWhole};
 
 use crate::caller::{Caller, Note};
@@ -74,8 +76,8 @@ impl Words {
         self.table.shared.load::<Confirms>(seat, CLOCK_WORD);
     }
 
-    /// Joins another caller into this one: its update calls, what it has seen, and its receipts. It comes back where there
-    /// is no memory.
+    /// Joins another caller into this one: its update calls, what it has seen, and its receipts. It
+    /// comes back where there is no memory.
     pub fn join(&self, alloc: Global, me: &mut Caller, other: Caller) -> Result<(), Caller>
         requires table { me.old.table ≡ self.now.table }
         requires other { other.table ≡ self.now.table }

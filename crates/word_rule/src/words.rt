@@ -1,6 +1,8 @@
 //! The words, and the steps on version locks.
-ghost use Rattle.std.specs.Prelude.{◌≡◌, ◌≢◌, ◌+◌, ◌*◌, ◌%◌, ◌<◌, ℕ, List, IfOk, IfErr, IfSome, IsSome, IsSomeAnd, false};
-ghost use Rattle.word_rule.specs.Logs.{IsTaken, after_load, after_loader_lock, after_write, after_loader_release, after_loader_release_same};
+ghost use Rattle.std.specs.Prelude.{◌≡◌, ◌≢◌, ◌+◌, ◌*◌, ◌%◌, ◌<◌, ℕ, List, IfOk, IfErr, IfSome};
+ghost use Rattle.std.specs.Prelude.{IsSome, IsSomeAnd, false};
+ghost use Rattle.word_rule.specs.Logs.{IsTaken, after_load, after_loader_lock, after_write};
+ghost use Rattle.word_rule.specs.Logs.{after_loader_release, after_loader_release_same};
 ghost use Rattle.word_rule.specs.declared.log.LoaderHolding.{LoaderHolding};
 ghost use Rattle.word_rule.specs.CallerData.{surplus};
 ghost use Rattle.word_rule.specs.Places.{LOADER};
@@ -16,7 +18,8 @@ use std::marker::Model;
 use std::snapshot::Snapshot;
 use std::sync::Wait;
 
-/// The bit of a version word that is set while it is locked, and that which is set while threads sleep on it.
+/// The bit of a version word that is set while it is locked, and that which is set while threads
+/// sleep on it.
 const LOCKED: u64 = 1;
 
 const SLEEPERS: u64 = 2;
@@ -27,7 +30,8 @@ const VERSION: u64 = 4;
 /// Where the loader's version lock stands.
 const LOADER_WORD: usize = 2;
 
-/// The shared words, under one rule. Threads share them by `&`, and step on them each with a `Caller` of its own.
+/// The shared words, under one rule. Threads share them by `&`, and step on them each with a
+/// `Caller` of its own.
 #[derive(Drop)]
 pub struct Words {
     pub(crate) table: Table<(), Log, Snapshot<Made>, Law, Global>,
@@ -82,7 +86,8 @@ impl Words {
         self.table.shared.load::<Looks>(&mut me.seat, LOADER_WORD)
     }
 
-    /// Takes a lock whose word is still the one seen, which was not locked. Else answers the word found.
+    /// Takes a lock whose word is still the one seen, which was not locked. Else answers the word
+    /// found.
     pub fn try_lock(&self, me: &mut Caller, lock: LockId, seen: u64) -> Result<(), u64>
         requires table { me.old.table ≡ self.now.table }
         requires lock { lock ≡ LockId.Loader }
@@ -136,7 +141,8 @@ impl Words {
             .swap::<Releases>(&mut me.seat, LOADER_WORD, next)
     }
 
-    /// Lets go of a lock under which nothing was stored, with the version at which it was taken, and answers the word before.
+    /// Lets go of a lock under which nothing was stored, with the version at which it was taken,
+    /// and answers the word before.
     pub fn release_same(&self, me: &mut Caller, lock: LockId) -> u64
         requires table { me.old.table ≡ self.now.table }
         requires lock { lock ≡ LockId.Loader }

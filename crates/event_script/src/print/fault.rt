@@ -2,7 +2,8 @@
 
 ghost use Rattle.std.specs.Prelude.{◌≡◌, ℕ, ◌++◌, IfOk, OnOk};
 ghost use Rattle.std.specs.String.{string_bytes};
-ghost use Rattle.event_script.specs.FaultText.{fault_text, section_fault_at, reason_text, section_fault_text};
+ghost use Rattle.event_script.specs.FaultText.{fault_text, section_fault_at, reason_text};
+ghost use Rattle.event_script.specs.FaultText.{section_fault_text};
 
 use crate::reader::fault::Reason;
 use frame_parse::FrameFault;

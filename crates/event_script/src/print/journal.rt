@@ -3,7 +3,10 @@
 ghost use Rattle.std.specs.Prelude.{◌≡◌, ℕ, ◌++◌, IfOk, OnOk, All, codes};
 ghost use Rattle.std.specs.String.{string_bytes};
 ghost use Rattle.event_script.specs.Digits.{hex};
-ghost use Rattle.event_script.specs.Text.{IsPrintable, overlap_text, inserted_text, loading_text, removed_text, found_text, place_text, answer_line, answer_text, numbered, thread_text, updates_text, journal_text};
+ghost use Rattle.event_script.specs.Text.{IsPrintable, overlap_text, inserted_text, loading_text};
+ghost use Rattle.event_script.specs.Text.{removed_text, found_text, place_text, answer_line};
+ghost use Rattle.event_script.specs.Text.{answer_text, numbered, thread_text, updates_text};
+ghost use Rattle.event_script.specs.Text.{journal_text};
 
 #[cfg(test)]
 mod tests;

@@ -3,7 +3,9 @@
 ghost use Rattle.std.specs.Prelude.{◌≡◌, ◌++◌, [], ◌∷◌, length, map, decimal, IfOk, OnOk};
 ghost use Rattle.std.specs.String.{string_bytes};
 ghost use Rattle.event_script.specs.Statements.{section_digits};
-ghost use Rattle.event_script.specs.Spelling.{spelling_of, statement_text, statements_text, image_data, image_statements, thread_statements, round_statements, script_text};
+ghost use Rattle.event_script.specs.Spelling.{spelling_of, statement_text, statements_text};
+ghost use Rattle.event_script.specs.Spelling.{image_data, image_statements, thread_statements};
+ghost use Rattle.event_script.specs.Spelling.{round_statements, script_text};
 ghost use Rattle.event_script.specs.declared.reader.statement.Statement.TheVariants as statement;
 
 use crate::script::{Event, Round, Script, Thread};

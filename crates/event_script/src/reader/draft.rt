@@ -6,8 +6,11 @@ ghost use Rattle.event_script.specs.Fields.{fields_after};
 ghost use Rattle.event_script.specs.declared.limits.TheConstants.{MOST_SECTION_BYTES};
 ghost use Rattle.event_script.specs.declared.reader.kinds.Stage.TheVariants as stage;
 ghost use Rattle.event_script.specs.declared.reader.statement.Statement.TheVariants as statement;
-ghost use Rattle.event_script.specs.Draft.{nothing_known, is_unbuilt, threads_so_far, after_round, with_statement};
-ghost use Rattle.event_script.specs.Reading.{GivesLine, LeavesDraft, spoken_added, section_or, image_added, last_fixed, is_above, fixed_added, is_named, added, after_line, at_end};
+ghost use Rattle.event_script.specs.Draft.{nothing_known, is_unbuilt, threads_so_far, after_round};
+ghost use Rattle.event_script.specs.Draft.{with_statement};
+ghost use Rattle.event_script.specs.Reading.{GivesLine, LeavesDraft, spoken_added, section_or};
+ghost use Rattle.event_script.specs.Reading.{image_added, last_fixed, is_above, fixed_added};
+ghost use Rattle.event_script.specs.Reading.{is_named, added, after_line, at_end};
 
 use crate::limits::{
     LEAST_LOADS, LEAST_NODES, MOST_EVENTS, MOST_IMAGES, MOST_LOADS, MOST_NODES, MOST_ROUNDS,

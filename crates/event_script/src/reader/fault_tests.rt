@@ -1,4 +1,5 @@
-//! Texts that are no scripts: each reason once. All other rows run through the program, by `.ci/tables`.
+//! Texts that are no scripts: each reason once. All other rows run through the program, by
+//! `.ci/tables`.
 
 use super::*;
 use frame_parse::FrameFault;

@@ -1,6 +1,7 @@
 //! Lines and fields, as parts of the bytes.
 
-ghost use Rattle.std.specs.Prelude.{◌≡◌, ℕ, ◌<◌, ◌≤◌, ◌≢◌, [], ◌∷◌, Some, None, length, slice_index, MatchOption};
+ghost use Rattle.std.specs.Prelude.{◌≡◌, ℕ, ◌<◌, ◌≤◌, ◌≢◌, [], ◌∷◌, Some, None, length};
+ghost use Rattle.std.specs.Prelude.{slice_index, MatchOption};
 ghost use Rattle.event_script.specs.Fields.{pieces, fields_after, is_printable};
 ghost use Rattle.event_script.specs.Reading.{has_any, only, five};
 

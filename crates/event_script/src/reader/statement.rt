@@ -2,7 +2,8 @@
 
 ghost use Rattle.std.specs.Prelude.{◌≡◌};
 ghost use Rattle.event_script.specs.Fields.{fields_after};
-ghost use Rattle.event_script.specs.Reading.{GivesLine, one_decimal, one_hex, image_fields, fieldless, statement_of};
+ghost use Rattle.event_script.specs.Reading.{GivesLine, one_decimal, one_hex, image_fields};
+ghost use Rattle.event_script.specs.Reading.{fieldless, statement_of};
 
 use crate::reader::fault::{LineFault, Reason};
 use crate::reader::fields::{five_fields, has_any, only_field};

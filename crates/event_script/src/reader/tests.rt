@@ -10,7 +10,8 @@ const ALL_LINES: &[u8] = b"frames 1\nnodes 16\nloads 2\nimage 0 1000 20 0 -\n\
 image 1 1010 20 0 -\nimage 2 3000 10 0 -\nfixed 0\nfixed 2\nround\nthread\nregister 1\n\
 find 1010\nload 2\nunload 3000\nderegister 1010\nend\n";
 
-/// A script with a section that ends after a record (section_without_end_mark), and how many bytes that has.
+/// A script with a section that ends after a record (section_without_end_mark), and how many bytes
+/// that has.
 const SECTION: (&[u8], usize) = (
     b"frames 1\nnodes 16\nloads 8\nimage 0 1000 30 2000 1400000000000000017a5200017810011b0c0708900100001c0000001c000000e0efffff2000000000410e108602430d0600000000000000140000003c000000e0efffff100000000000000000000000\nround\nthread\nend\n",
     80,

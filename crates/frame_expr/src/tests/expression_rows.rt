@@ -1,4 +1,5 @@
-//! Expressions and refusals as tables. Each row was worked out by hand beside DWARF 5, section 2.5.1.
+//! Expressions and refusals as tables. Each row was worked out by hand beside DWARF 5, section
+//! 2.5.1.
 
 use crate::*;
 use std::test::*;
@@ -87,7 +88,8 @@ const VALUES: [(&[u8], Result<u64, NoBytes>); 68] = [
     (&[0x77, 0x08, 0x06], Err(NoBytes { address: 0x7008 })),
 ];
 
-/// Column 7 is 7000, column 16 is 1234, all others are 0, and the number 1122334455667788 stands at 7000.
+/// Column 7 is 7000, column 16 is 1234, all others are 0, and the number 1122334455667788 stands at
+/// 7000.
 #[test]
 fn values(rt: HostRuntime) {
     let mut columns = [0u64; 17];

@@ -14,8 +14,8 @@ pub enum ProgramKind {
     Own,
 }
 
-/// What stays the same along a program: the section's address, what its instructions need of the CIE, and which of
-/// the two programs it is.
+/// What stays the same along a program: the section's address, what its instructions need of the
+/// CIE, and which of the two programs it is.
 #[derive(Clone, Copy, Debug, PartialEq, Eq)]
 pub struct Context {
     pub section: u64,

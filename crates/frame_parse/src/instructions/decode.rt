@@ -3,7 +3,8 @@
 ghost use Rattle.std.specs.Prelude.{◌≡◌, ◌<◌, ◌≤◌, ◌*◌, ◌%◌, ◌^◌, ◌⊎◌, nat_lt, if◌then◌else◌, IfOk};
 ghost use Rattle.eh_bytes.specs.CursorData.{Gives};
 ghost use Rattle.frame_parse.specs.declared.instructions.ReadRule.TheVariants as rules;
-ghost use Rattle.frame_parse.specs.Programs.{other, factored, set, restore, cfa_column, second_column, extended_operation};
+ghost use Rattle.frame_parse.specs.Programs.{other, factored, set, restore, cfa_column};
+ghost use Rattle.frame_parse.specs.Programs.{second_column, extended_operation};
 
 use super::context::Context;
 use super::opcodes::*;

@@ -1,6 +1,6 @@
-//! The call frame instructions by the standard's names and numbers (DWARF 5, section 7.24). The first three are
-//! primary opcodes, by the two high bits of an instruction's byte; the low six hold an operand. The others are
-//! extended opcodes, whole bytes whose two high bits are 0.
+//! The call frame instructions by the standard's names and numbers (DWARF 5, section 7.24). The
+//! first three are primary opcodes, by the two high bits of an instruction's byte; the low six hold
+//! an operand. The others are extended opcodes, whole bytes whose two high bits are 0.
 
 pub const DW_CFA_advance_loc: u8 = 0x1;
 

@@ -3,7 +3,8 @@
 ghost use Rattle.std.specs.Prelude.{◌≡◌, ◌/◌, ◌%◌};
 ghost use Rattle.eh_bytes.specs.CursorData.{Gives};
 ghost use Rattle.eh_bytes.specs.Steps.{steps_from};
-ghost use Rattle.frame_parse.specs.Programs.{instruction_of, extended_step, step, initial_state, first_state};
+ghost use Rattle.frame_parse.specs.Programs.{instruction_of, extended_step, step, initial_state};
+ghost use Rattle.frame_parse.specs.Programs.{first_state};
 
 use super::context::Context;
 use super::decode::{cfa_column, extended_operation, factored, restore, set};
@@ -54,7 +55,8 @@ fn decoded_step(
     Ok(here(state, instruction_of(&operation)))
 }
 
-/// The same, with a place of its own for the answer: so that those of a caller's other arms stay in registers.
+/// The same, with a place of its own for the answer: so that those of a caller's other arms stay in
+/// registers.
 #[inline(always)]
 fn step_by_operation(
     context: &Context,
@@ -108,9 +110,10 @@ fn extended_step(
     }
 }
 
-/// The next instruction, with the location at which it holds. The state is then the one after it. Each instruction is
-/// tested where it is read, so that nothing goes by its kind a second time; the two that are most frequent, advance_loc
-/// and def_cfa_offset, come first, since a branch is guessed better than a jump through a table.
+/// The next instruction, with the location at which it holds. The state is then the one after it.
+/// Each instruction is tested where it is read, so that nothing goes by its kind a second time; the
+/// two that are most frequent, advance_loc and def_cfa_offset, come first, since a branch is
+/// guessed better than a jump through a table.
 #[inline(always)]
 #[tactic(auto, unfolding(crate::specs::Programs::step, crate::specs::Programs::operation, crate::specs::Programs::extended_operation))]
 pub(crate) fn step(

@@ -54,7 +54,8 @@ fn return_column(cursor: &mut Cursor, version: u8) -> Result<(), RecordFault>
     }
 }
 
-/// The fields after the id of a record from `start` to `end`. What is left of it are the initial instructions.
+/// The fields after the id of a record from `start` to `end`. What is left of it are the initial
+/// instructions.
 #[tactic(auto, unfolding(crate::specs::Records::cie))]
 pub(crate) fn cie(
     cursor: &mut Cursor,

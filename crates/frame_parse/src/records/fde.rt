@@ -39,7 +39,8 @@ fn lsda(cursor: &mut Cursor, section: u64, cie: &CieRecord) -> Result<Option<u64
     optional_pointer(&mut inside, section, cie.augmentation.lsda)
 }
 
-/// The fields after the id, where the CIE has this number. What is left up to `end` are the instructions.
+/// The fields after the id, where the CIE has this number. What is left up to `end` are the
+/// instructions.
 #[tactic(auto, unfolding(crate::specs::Records::fde))]
 pub(crate) fn fde(
     cursor: &mut Cursor,

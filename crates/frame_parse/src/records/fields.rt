@@ -4,7 +4,9 @@ ghost use Rattle.std.specs.Prelude.{◌≡◌, ◌%◌, ◌^◌};
 ghost use Rattle.eh_bytes.specs.CursorData.{Gives, data_at};
 ghost use Rattle.eh_bytes.specs.Results.{with_fault};
 ghost use Rattle.eh_bytes.specs.Pointer.{encoded_number, base_of};
-ghost use Rattle.frame_parse.specs.Fields.{field_fault, field, pointer, optional_pointer, is_negative, is_code_encoding, is_data_encoding, encoding};
+ghost use Rattle.frame_parse.specs.Fields.{field_fault, field, pointer, optional_pointer};
+ghost use Rattle.frame_parse.specs.Fields.{is_negative, is_code_encoding, is_data_encoding};
+ghost use Rattle.frame_parse.specs.Fields.{encoding};
 ghost use Rattle.eh_bytes.specs.Fields.{fixed, uleb, sleb, text};
 
 use crate::fault::RecordFault;

@@ -1,8 +1,8 @@
 //! Sections as test data.
 //!
-//! S1 to S6 are small sections written by hand. The last three are taken from programs of Debian 12 by
-//! `objcopy -O binary --only-section=.eh_frame PROGRAM`, and their addresses from `readelf -SW`. The
-//! expression of their linkage tables is written over with thirteen nops.
+//! S1 to S6 are small sections written by hand. The last three are taken from programs of Debian 12
+//! by `objcopy -O binary --only-section=.eh_frame PROGRAM`, and their addresses from `readelf -SW`.
+//! The expression of their linkage tables is written over with thirteen nops.
 
 /// A function with a frame pointer, and one without rules of its own. At 0x2000.
 pub(crate) const S1: [u8; 84] = [

@@ -1,10 +1,11 @@
 //! Sections, and the rows that `readelf --debug-dump=frames-interp` (binutils 2.40) shows of them.
 //!
-//! S1, S4, S5 and S6 are small sections written by hand, put into an ELF file at their addresses. RULES was made by
-//! `as` from directives for each kind of rule, two remembered states inside one another, and columns 17 and 20. CALLS
-//! was made by `gcc -O2` from six functions, some with early returns. Both were linked without a linkage table.
-//! `readelf` shows an undefined column as it shows one without a rule; there the directive decides.
-//! (`llvm-dwarfdump` 14 can't serve: it lets a restored state keep the CFA rule.)
+//! S1, S4, S5 and S6 are small sections written by hand, put into an ELF file at their addresses.
+//! RULES was made by `as` from directives for each kind of rule, two remembered states inside one
+//! another, and columns 17 and 20. CALLS was made by `gcc -O2` from six functions, some with early
+//! returns. Both were linked without a linkage table. `readelf` shows an undefined column as it
+//! shows one without a rule; there the directive decides. (`llvm-dwarfdump` 14 can't serve: it lets
+//! a restored state keep the CFA rule.)
 
 use super::{Seen, Shown};
 
@@ -477,8 +478,8 @@ pub(crate) const EMPTY: [u8; 37] = [
     0x00, 0x00, 0x00, 0x00, 0x00,
 ];
 
-/// The initial instructions say where columns 3, 6 and 16 are. The FDE says otherwise of 3 and 6, and then restores each
-/// of them twice, once where a state is remembered.
+/// The initial instructions say where columns 3, 6 and 16 are. The FDE says otherwise of 3 and 6,
+/// and then restores each of them twice, once where a state is remembered.
 pub(crate) const RESTORES: [u8; 64] = [
     0x12, 0x00, 0x00, 0x00, 0x00, 0x00, 0x00, 0x00, 0x01, 0x00, 0x01, 0x78, 0x10, 0x0c, 0x07, 0x08,
     0x90, 0x01, 0x86, 0x02, 0x83, 0x03, 0x26, 0x00, 0x00, 0x00, 0x1a, 0x00, 0x00, 0x00, 0x00, 0x10,

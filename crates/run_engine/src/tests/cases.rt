@@ -1,4 +1,5 @@
-//! Two worked cases, with an event of each kind. The others are run through the program, by `.ci/cases`.
+//! Two worked cases, with an event of each kind. The others are run through the program, by
+//! `.ci/cases`.
 
 use super::{run_on, text_of};
 use crate::Status;

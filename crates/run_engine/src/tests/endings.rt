@@ -12,7 +12,8 @@ use std::test::Fail;
 
 const USAGE: &str = "usage: unwind_main run | unwind_main gen N\n";
 
-/// Runs `one_range`, of which the reads and the writes with these numbers fail, and looks how it ends.
+/// Runs `one_range`, of which the reads and the writes with these numbers fail, and looks how it
+/// ends.
 fn ends(
     rt: &(impl Abort + Wait),
     alloc: Global,
