@@ -17,22 +17,26 @@ skipped n r = record { bytes = drop n r.bytes; at = r.at + n }
 
 -- The call gave what reading gives: the value and what is left after it, or the fault, and then
 -- nothing moved. The view is how contracts see the value.
-abbrev pub Reads : {X Y F : Type 0} → (X → Y) → (CursorData → Result (Y × CursorData) F) → CursorData → Result X F → CursorData → Type 0
+abbrev pub Reads : {X Y F : Type 0} → (X → Y) → (CursorData → Result (Y × CursorData) F)
+    → CursorData → Result X F → CursorData → Type 0
 Reads view read old (Ok x) new = read old ≡ Ok (view x, new)
 Reads view read old (Err e) new = (read old ≡ Err e) × (new ≡ old)
 
 -- The same, where a fault may leave the cursor further on.
-abbrev pub Gives : {X Y F : Type 0} → (X → Y) → (CursorData → Result (Y × CursorData) F) → CursorData → Result X F → CursorData → Type 0
+abbrev pub Gives : {X Y F : Type 0} → (X → Y) → (CursorData → Result (Y × CursorData) F)
+    → CursorData → Result X F → CursorData → Type 0
 Gives view read old (Ok x) new = read old ≡ Ok (view x, new)
 Gives view read old (Err e) new = read old ≡ Err e
 
 -- the next n bytes
 abbrev pub bytes_at : ℕ → CursorData → Result (List ℕ × CursorData) ByteFault
-bytes_at n r = if nat_lt (length r.bytes) n then Err (Short r.at) else Ok (take n r.bytes, skipped n r)
+bytes_at n r = if nat_lt (length r.bytes) n
+    then Err (Short r.at) else Ok (take n r.bytes, skipped n r)
 
 -- the same as a rest of its own, which keeps the places, or this fault
 abbrev pub data_at : {F : Type 0} → F → ℕ → CursorData → Result (CursorData × CursorData) F
-data_at short n r = if nat_lt (length r.bytes) n then Err short else Ok (record { bytes = take n r.bytes; at = r.at }, skipped n r)
+data_at short n r = if nat_lt (length r.bytes) n
+    then Err short else Ok (record { bytes = take n r.bytes; at = r.at }, skipped n r)
 
 abbrev pub part_at : ℕ → CursorData → Result (CursorData × CursorData) ByteFault
 part_at n r = data_at (Short r.at) n r
@@ -52,4 +56,5 @@ text_at r = text_of r (text_len r.bytes)
 
 -- a number of n bytes, the lowest first
 abbrev pub fixed_at : ℕ → CursorData → Result (ℕ × CursorData) ByteFault
-fixed_at n r = if nat_lt (length r.bytes) n then Err (Short r.at) else Ok (little_number n r.bytes, skipped n r)
+fixed_at n r = if nat_lt (length r.bytes) n
+    then Err (Short r.at) else Ok (little_number n r.bytes, skipped n r)

@@ -41,7 +41,8 @@ fits_signed (negsuc n) = nat_lt n (2 ^ 63)
 unfoldable pub uleb_of : CursorData → Option ℕ → Result (ℕ × CursorData) ByteFault
 uleb_of r None = Err (Short r.at)
 uleb_of r (Some n) =
-    if nat_lt (uleb_value (take n r.bytes)) (2 ^ 64) then Ok (uleb_value (take n r.bytes), skipped n r) else Err (TooWide r.at)
+    if nat_lt (uleb_value (take n r.bytes)) (2 ^ 64)
+    then Ok (uleb_value (take n r.bytes), skipped n r) else Err (TooWide r.at)
 
 abbrev pub uleb_at : CursorData → Result (ℕ × CursorData) ByteFault
 uleb_at r = uleb_of r (leb_len r.bytes)
@@ -50,7 +51,8 @@ uleb_at r = uleb_of r (leb_len r.bytes)
 unfoldable pub sleb_of : CursorData → Option ℕ → Result (ℤ × CursorData) ByteFault
 sleb_of r None = Err (Short r.at)
 sleb_of r (Some n) =
-    if fits_signed (sleb_value (take n r.bytes)) then Ok (sleb_value (take n r.bytes), skipped n r) else Err (TooWide r.at)
+    if fits_signed (sleb_value (take n r.bytes))
+    then Ok (sleb_value (take n r.bytes), skipped n r) else Err (TooWide r.at)
 
 abbrev pub sleb_at : CursorData → Result (ℤ × CursorData) ByteFault
 sleb_at r = sleb_of r (leb_len r.bytes)

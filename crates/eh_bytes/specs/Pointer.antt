@@ -42,7 +42,8 @@ application_of e = e / 16 % 8 * 16
 
 -- the encodings that are read: a format, with nothing or with the field's address added
 abbrev pub is_pointer : ℕ → Bool
-is_pointer e = is_format (e % 16) && (application_of e == DW_EH_PE_absptr || application_of e == DW_EH_PE_pcrel)
+is_pointer e = is_format (e % 16)
+    && (application_of e == DW_EH_PE_absptr || application_of e == DW_EH_PE_pcrel)
 
 -- nothing, or the address of the field's first byte
 abbrev pub base_of : ℕ → ℕ → ℕ → ℕ

@@ -15,7 +15,8 @@ AreSteps {F} {S} one p s text (x ∷ xs) t =
     × (one s).Spells p front (x, m) × AreSteps one (p + length front) m back xs t
 
 -- reading steps to the end of the bytes, at most n of them
-unfoldable pub run : {F S X : Type 0} → ℕ → (S → Part F (X × S)) → S → CursorData → Result (S × CursorData) F
+unfoldable pub run : {F S X : Type 0} → ℕ → (S → Part F (X × S)) → S → CursorData
+    → Result (S × CursorData) F
 run zero one s r = Ok (s, r)
 run (suc n) one s r =
     if length r.bytes == 0 then Ok (s, r) else ((one s).read r and_then λ x. run n one x.0.1 x.1)

@@ -19,7 +19,8 @@ IsOfScript NoMemory = Unit {0}
 
 -- what was returned is what the lines give, unless memory ran out
 abbrev pub FailsAt : ScriptFault → Result DraftData BadLine → Type 0
-FailsAt (Bad line reason) given = (given ≡ Err (record { line = line; reason = reason })) × IsOfBytes reason
+FailsAt (Bad line reason) given =
+    (given ≡ Err (record { line = line; reason = reason })) × IsOfBytes reason
 FailsAt NoMemory given = Unit {0}
 
 abbrev pub GivesDraft : Result DraftData ScriptFault → Result DraftData BadLine → Type 0
@@ -27,6 +28,7 @@ GivesDraft (Ok known) given = given ≡ Ok known
 GivesDraft (Err fault) given = FailsAt fault given
 
 -- the same of a reader that changes the draft in its place
-abbrev pub LeavesLine : {A : Type 0} → DraftData → Result A ScriptFault → Result DraftData BadLine → Type 0
+abbrev pub LeavesLine : {A : Type 0} → DraftData → Result A ScriptFault → Result DraftData BadLine
+    → Type 0
 LeavesLine now (Ok x) given = given ≡ Ok now
 LeavesLine now (Err fault) given = FailsAt fault given

@@ -11,7 +11,8 @@ use Rattle.event_script.specs.declared.reader.fault.Reason.TheVariants.{Span, Se
 
 -- a refusal of a section: its name, where its record starts, and the place that is refused
 abbrev pub section_fault_at : List ℕ → ℕ → ℕ → List ℕ
-section_fault_at name start at = codes "section " ++ name ++ codes " " ++ decimal start ++ codes " " ++ decimal at
+section_fault_at name start at =
+    codes "section " ++ name ++ codes " " ++ decimal start ++ codes " " ++ decimal at
 
 abbrev pub section_fault_text : FrameFault → List ℕ
 section_fault_text (section.Short start at) = section_fault_at (codes "short") start at
@@ -19,7 +20,8 @@ section_fault_text (section.TooWide start at) = section_fault_at (codes "wide") 
 section_fault_text (section.Encoding start at byte) = section_fault_at (codes "encoding") start at
 section_fault_text (section.NoCie start at) = section_fault_at (codes "nocie") start at
 section_fault_text (section.Version start at byte) = section_fault_at (codes "version") start at
-section_fault_text (section.Augmentation start at) = section_fault_at (codes "augmentation") start at
+section_fault_text (section.Augmentation start at) =
+    section_fault_at (codes "augmentation") start at
 section_fault_text (section.Column start at column) = section_fault_at (codes "column") start at
 section_fault_text (section.Range start at) = section_fault_at (codes "range") start at
 section_fault_text (section.Opcode start at byte) = section_fault_at (codes "opcode") start at
@@ -49,4 +51,5 @@ reason_text Fixed = codes "fixed"
 
 -- the first bad line, and the first reason that holds of it
 abbrev pub fault_text : ℕ → Reason → List ℕ
-fault_text line reason = codes "script line " ++ decimal line ++ codes ": " ++ reason_text reason ++ codes "\n"
+fault_text line reason =
+    codes "script line " ++ decimal line ++ codes ": " ++ reason_text reason ++ codes "\n"

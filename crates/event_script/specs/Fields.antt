@@ -16,7 +16,8 @@ with_first b (piece ∷ others) = (b ∷ piece) ∷ others
 -- the last piece is what follows the last line.
 abbrev pub pieces : ℕ → List ℕ → List (List ℕ)
 pieces separator [] = [] ∷ []
-pieces separator (b ∷ bytes) = if b == separator then [] ∷ pieces separator bytes else with_first b (pieces separator bytes)
+pieces separator (b ∷ bytes) =
+    if b == separator then [] ∷ pieces separator bytes else with_first b (pieces separator bytes)
 
 -- the pieces that follow another, if any; what is left begins with the separator before them
 abbrev pub pieces_after : ℕ → List ℕ → List (List ℕ)
@@ -33,7 +34,9 @@ is_printable line = list_all (λ b. nat_le 32 b && nat_le b 126) line
 
 -- the number below the limit whose digits, lower case and without leading zeros, the field is
 unfoldable pub number_in : ℕ → ℕ → List ℕ → Option ℕ
-number_in base limit field = let n = digits_value base field in if nat_lt n limit && bytes_eq field (digits base false n) then Some n else None
+number_in base limit field =
+    let n = digits_value base field in
+    if nat_lt n limit && bytes_eq field (digits base false n) then Some n else None
 
 -- a decimal number below 2^32
 abbrev pub decimal_in : List ℕ → Option ℕ
@@ -47,8 +50,10 @@ hex_in field = number_in 16 (2 ^ 64) field
 abbrev pub bytes_if : List ℕ → Result (List ℕ) FromHexError → Option (List ℕ)
 bytes_if field (Err e) = None
 bytes_if field (Ok []) = None
-bytes_if field (Ok (b ∷ bytes)) = if bytes_eq field (encode_lower (b ∷ bytes)) then Some (b ∷ bytes) else None
+bytes_if field (Ok (b ∷ bytes)) =
+    if bytes_eq field (encode_lower (b ∷ bytes)) then Some (b ∷ bytes) else None
 
 -- the bytes of a section: none of a dash, else those whose lower-case digits the field is
 unfoldable pub section_bytes : List ℕ → Option (List ℕ)
-section_bytes field = if bytes_eq field (codes "-") then Some [] else bytes_if field (decode_of field)
+section_bytes field =
+    if bytes_eq field (codes "-") then Some [] else bytes_if field (decode_of field)

@@ -34,7 +34,8 @@ AnswersEvent _ _ = ⊥
 
 -- the receipts of an event: that of its update, or those of its place
 abbrev pub receipts_of : List SpanData → Answer → List Receipt
-receipts_of images (Register image answer) = receipt.Register (image_member images image) answer ∷ []
+receipts_of images (Register image answer) =
+    receipt.Register (image_member images image) answer ∷ []
 receipts_of images (Deregister base answer) = receipt.Deregister base answer ∷ []
 receipts_of images (Load image answer) = receipt.Load (image_member images image) answer ∷ []
 receipts_of images (Unload base answer) = receipt.Unload base answer ∷ []
@@ -42,7 +43,8 @@ receipts_of images (Find pc place) = receipts_of_place pc place
 
 -- the receipts of each thread, by round
 abbrev pub thread_receipts : List SpanData → JournalData → List (List (List Receipt))
-thread_receipts images journal = map (λ round. map (λ answers. flat_map (receipts_of images) answers) round) journal.rounds
+thread_receipts images journal =
+    map (λ round. map (λ answers. flat_map (receipts_of images) answers) round) journal.rounds
 
 -- all of them, in order of round and thread
 abbrev pub in_one : List (List (List Receipt)) → List Receipt
@@ -53,7 +55,8 @@ in_one rounds = flat_map (λ round. flat_map (λ receipts. receipts) round) roun
 abbrev pub RoundsHold : State → List Update → ℕ → ℕ → List (List (List Receipt)) → Type 0
 RoundsHold start history nodes callers [] = Unit {0}
 RoundsHold start history nodes callers (round ∷ rounds) =
-    All (λ receipts. AllHold start history nodes (callers + length round) 0 receipts × AreInOrder 0 receipts) round
+    All (λ receipts. AllHold start history nodes (callers + length round) 0 receipts
+    × AreInOrder 0 receipts) round
     × RoundsHold start history nodes (callers + length round) rounds
 
 -- each stamp and number is between the updates of the rounds before, and those with this round's
@@ -76,6 +79,9 @@ start_of script = opening (fixed_members script) script.loads
 pub record IsLawfulJournal (script : ScriptData) (journal : JournalData) : Type 0 where
   pub answered : AllZip (AllZip (AllZip AnswersEvent)) script.rounds journal.rounds
   pub numbered : AreNumbered journal.updates (in_one (thread_receipts script.images journal))
-  pub history : IsHistory (start_of script) (history_of (in_one (thread_receipts script.images journal)) journal.updates)
-  pub receipts : RoundsHold (start_of script) (history_of (in_one (thread_receipts script.images journal)) journal.updates) script.nodes 1 (thread_receipts script.images journal)
+  pub history : IsHistory (start_of script)
+      (history_of (in_one (thread_receipts script.images journal)) journal.updates)
+  pub receipts : RoundsHold (start_of script)
+      (history_of (in_one (thread_receipts script.images journal)) journal.updates) script.nodes 1
+      (thread_receipts script.images journal)
   pub rounds : AreInRounds 0 (thread_receipts script.images journal)

@@ -51,14 +51,17 @@ GivesLine (Ok x) given = given ≡ Ok x
 GivesLine (Err e) given = Fails e given
 
 -- The same of a reader that changes the draft in its place.
-abbrev pub LeavesDraft : {A : Type 0} → DraftData → Result A LineFault → Result DraftData Reason → Type 0
+abbrev pub LeavesDraft : {A : Type 0} → DraftData → Result A LineFault → Result DraftData Reason
+    → Type 0
 LeavesDraft now (Ok x) given = given ≡ Ok now
 LeavesDraft now (Err e) given = Fails e given
 
 -- ---- what a line says
 
 abbrev pub kinds : List Kind
-kinds = kind.Find ∷ kind.Register ∷ kind.Deregister ∷ kind.Load ∷ kind.Unload ∷ kind.Unwind ∷ kind.Thread ∷ kind.Round ∷ kind.Image ∷ kind.Fixed ∷ kind.Snapshot ∷ kind.Version ∷ kind.Nodes ∷ kind.Loads ∷ kind.End ∷ []
+kinds = kind.Find ∷ kind.Register ∷ kind.Deregister ∷ kind.Load ∷ kind.Unload ∷ kind.Unwind ∷
+    kind.Thread ∷ kind.Round ∷ kind.Image ∷ kind.Fixed ∷ kind.Snapshot ∷ kind.Version ∷ kind.Nodes ∷
+    kind.Loads ∷ kind.End ∷ []
 
 unfoldable pub kind_of : List ℕ → Option Kind
 kind_of word = find (λ kind. bytes_eq word (word_of kind)) kinds
@@ -72,7 +75,8 @@ only (field ∷ []) = Some field
 only _ = None
 
 abbrev pub one_decimal : List (List ℕ) → Result ℕ Reason
-one_decimal fields = ok_or (only fields) reason.Fields >=> λ field. ok_or (decimal_in field) reason.Spelling
+one_decimal fields = ok_or (only fields) reason.Fields >=>
+    λ field. ok_or (decimal_in field) reason.Spelling
 
 abbrev pub one_hex : List (List ℕ) → Result ℕ Reason
 one_hex fields = ok_or (only fields) reason.Fields >=> λ field. ok_or (hex_in field) reason.Spelling
@@ -103,10 +107,14 @@ statement_of kind.Image fields = image_fields fields >=> λ image. Ok (statement
 statement_of kind.Fixed fields = one_decimal fields >=> λ image. Ok (statement.Fixed image)
 statement_of kind.Round fields = fieldless fields statement.Round
 statement_of kind.Thread fields = fieldless fields statement.Thread
-statement_of kind.Register fields = one_decimal fields >=> λ image. Ok (statement.Event (event.Register image))
-statement_of kind.Deregister fields = one_hex fields >=> λ base. Ok (statement.Event (event.Deregister base))
-statement_of kind.Load fields = one_decimal fields >=> λ image. Ok (statement.Event (event.Load image))
-statement_of kind.Unload fields = one_hex fields >=> λ base. Ok (statement.Event (event.Unload base))
+statement_of kind.Register fields =
+    one_decimal fields >=> λ image. Ok (statement.Event (event.Register image))
+statement_of kind.Deregister fields =
+    one_hex fields >=> λ base. Ok (statement.Event (event.Deregister base))
+statement_of kind.Load fields =
+    one_decimal fields >=> λ image. Ok (statement.Event (event.Load image))
+statement_of kind.Unload fields =
+    one_hex fields >=> λ base. Ok (statement.Event (event.Unload base))
 statement_of kind.Find fields = one_hex fields >=> λ pc. Ok (statement.Event (event.Find pc))
 statement_of kind.End fields = fieldless fields statement.End
 statement_of _ fields = Err reason.Unbuilt
@@ -121,9 +129,11 @@ section_or (Err fault) = Err (reason.Section fault)
 abbrev pub image_added : DraftData → ImageData → Result DraftData Reason
 image_added known image =
     if image.number == length known.script.images then
-    (if nat_lt (length known.script.images) MOST_IMAGES && nat_le (length image.bytes) MOST_SECTION_BYTES then
+    (if nat_lt (length known.script.images) MOST_IMAGES
+    && nat_le (length image.bytes) MOST_SECTION_BYTES then
     (if nat_lt 0 image.size && nat_le (image.base + image.size) (2 ^ 64 - 1) then
-    (section_or (section_of image.section image.bytes) >=> λ section. Ok (with_image known image section))
+    (section_or (section_of image.section image.bytes) >=>
+    λ section. Ok (with_image known image section))
     else Err reason.Span)
     else Err reason.Limit)
     else Err reason.Order
@@ -140,7 +150,8 @@ is_above (Some before) span = nat_lt before.last span.first
 abbrev pub fixed_added : DraftData → ℕ → Result DraftData Reason
 fixed_added known image =
     ok_or (slice_get known.script.images image) reason.Name >=> λ span.
-    if is_above (last_fixed known.script.images known.script.fixed) span then Ok (with_statement known (statement.Fixed image)) else Err reason.Fixed
+    if is_above (last_fixed known.script.images known.script.fixed) span
+    then Ok (with_statement known (statement.Fixed image)) else Err reason.Fixed
 
 -- whether an event names no image that there isn't
 abbrev pub is_named : ℕ → Event → Bool
@@ -149,15 +160,28 @@ is_named images (event.Load image) = nat_lt image images
 is_named images _ = true
 
 unfoldable pub added : DraftData → Statement → Result DraftData Reason
-added known (statement.Version version) = if version == VERSION then Ok (with_statement known (statement.Version version)) else Err reason.Limit
-added known (statement.Nodes nodes) = if nat_le LEAST_NODES nodes && nat_le nodes MOST_NODES then Ok (with_statement known (statement.Nodes nodes)) else Err reason.Limit
-added known (statement.Loads loads) = if nat_le LEAST_LOADS loads && nat_le loads MOST_LOADS then Ok (with_statement known (statement.Loads loads)) else Err reason.Limit
+added known (statement.Version version) =
+    if version == VERSION
+    then Ok (with_statement known (statement.Version version)) else Err reason.Limit
+added known (statement.Nodes nodes) =
+    if nat_le LEAST_NODES nodes && nat_le nodes MOST_NODES
+    then Ok (with_statement known (statement.Nodes nodes)) else Err reason.Limit
+added known (statement.Loads loads) =
+    if nat_le LEAST_LOADS loads && nat_le loads MOST_LOADS
+    then Ok (with_statement known (statement.Loads loads)) else Err reason.Limit
 added known (statement.Image image) = image_added known image
 added known (statement.Fixed image) = fixed_added known image
-added known statement.Round = if nat_lt (length (rounds_so_far known)) MOST_ROUNDS then Ok (with_statement known statement.Round) else Err reason.Limit
-added known statement.Thread = if nat_lt (length (threads_so_far known)) MOST_THREADS then Ok (with_statement known statement.Thread) else Err reason.Limit
+added known statement.Round =
+    if nat_lt (length (rounds_so_far known)) MOST_ROUNDS
+    then Ok (with_statement known statement.Round) else Err reason.Limit
+added known statement.Thread =
+    if nat_lt (length (threads_so_far known)) MOST_THREADS
+    then Ok (with_statement known statement.Thread) else Err reason.Limit
 added known (statement.Event event) =
-    if nat_lt (length known.events) MOST_EVENTS then (if is_named (length known.script.images) event then Ok (with_statement known (statement.Event event)) else Err reason.Name) else Err reason.Limit
+    if nat_lt (length known.events) MOST_EVENTS
+    then (if is_named (length known.script.images) event
+    then Ok (with_statement known (statement.Event event)) else Err reason.Name)
+    else Err reason.Limit
 added known statement.End = Ok (with_statement known statement.End)
 
 -- ---- lines
@@ -170,7 +194,9 @@ unfoldable pub by_word : DraftData → List (List ℕ) → Result DraftData Reas
 by_word known [] = Err reason.Word
 by_word known (word ∷ fields) =
     ok_or (kind_of word) reason.Word >=> λ kind.
-    if may_come known.stage kind then (if is_unbuilt known kind then Err reason.Unbuilt else spoken_added known kind fields) else Err reason.Word
+    if may_come known.stage kind
+    then (if is_unbuilt known kind then Err reason.Unbuilt else spoken_added known kind fields)
+    else Err reason.Word
 
 -- what is known after a line, which stands here without its line feed
 unfoldable pub after_line : DraftData → List ℕ → Result DraftData Reason
@@ -196,7 +222,9 @@ at_line number (Err reason) = Err (record { line = number; reason = reason })
 unfoldable pub after_lines : DraftData → ℕ → List (List ℕ) → Result DraftData BadLine
 after_lines known number [] = at_line number (at_end known [])
 after_lines known number (rest ∷ []) = at_line number (at_end known rest)
-after_lines known number (line ∷ next ∷ others) = at_line number (after_line known line) >=> λ after. after_lines after (number + 1) (next ∷ others)
+after_lines known number (line ∷ next ∷ others) =
+    at_line number (after_line known line) >=>
+    λ after. after_lines after (number + 1) (next ∷ others)
 
 -- what the bytes make known, or their first bad line
 abbrev pub outcome : List ℕ → Result DraftData BadLine

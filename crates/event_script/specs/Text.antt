@@ -21,7 +21,9 @@ use Rattle.event_script.specs.declared.journal.Answer.TheVariants.{Unload, Find}
 
 -- which member overlaps: its first address and its image
 abbrev pub overlap_text : Member → ℕ → List ℕ
-overlap_text member stamp = codes "overlap " ++ hex member.span.first ++ codes " " ++ decimal member.payload ++ codes " at " ++ decimal stamp
+overlap_text member stamp =
+    codes "overlap " ++ hex member.span.first ++ codes " " ++ decimal member.payload ++ codes " at "
+    ++ decimal stamp
 
 abbrev pub inserted_text : Inserted → List ℕ
 inserted_text (inserted.Done number) = codes "done " ++ decimal number
@@ -36,7 +38,8 @@ loading_text (loading.LoadFull stamp) = codes "full at " ++ decimal stamp
 loading_text loading.Spent = []
 
 abbrev pub removed_text : Removed → List ℕ
-removed_text (removed.Done number member) = codes "done " ++ decimal number ++ codes " image " ++ decimal member.payload
+removed_text (removed.Done number member) =
+    codes "done " ++ decimal number ++ codes " image " ++ decimal member.payload
 removed_text (removed.NotFound stamp) = codes "absent at " ++ decimal stamp
 removed_text removed.Spent = []
 
@@ -55,8 +58,10 @@ place_text place = codes "registered " ++ found_text place.registered ++ loaded_
 
 -- what the line of an event says after its number
 abbrev pub answer_line : Answer → List ℕ
-answer_line (Register image answer) = codes "register " ++ decimal image ++ codes " " ++ inserted_text answer
-answer_line (Deregister base answer) = codes "deregister " ++ hex base ++ codes " " ++ removed_text answer
+answer_line (Register image answer) =
+    codes "register " ++ decimal image ++ codes " " ++ inserted_text answer
+answer_line (Deregister base answer) =
+    codes "deregister " ++ hex base ++ codes " " ++ removed_text answer
 answer_line (Load image answer) = codes "load " ++ decimal image ++ codes " " ++ loading_text answer
 answer_line (Unload base answer) = codes "unload " ++ hex base ++ codes " " ++ removed_text answer
 answer_line (Find pc place) = codes "find " ++ hex pc ++ codes " " ++ place_text place
@@ -67,11 +72,14 @@ answer_lines answer = answer_line answer ∷ []
 
 -- an event's number: round, thread and event, each from 1
 abbrev pub event_number : ℕ → ℕ → ℕ → List ℕ
-event_number round thread event = decimal round ++ codes "." ++ decimal thread ++ codes "." ++ decimal event
+event_number round thread event =
+    decimal round ++ codes "." ++ decimal thread ++ codes "." ++ decimal event
 
 -- the lines of an event, each after its number
 abbrev pub answer_text : ℕ → ℕ → ℕ → Answer → List ℕ
-answer_text round thread event answer = flat_map (λ line. event_number round thread event ++ codes " " ++ line ++ codes "\n") (answer_lines answer)
+answer_text round thread event answer =
+    flat_map (λ line. event_number round thread event ++ codes " " ++ line ++ codes "\n")
+    (answer_lines answer)
 
 -- a text for each item, which are numbered upwards, one after another
 abbrev pub numbered : {X : Type 0} → (ℕ → X → List ℕ) → ℕ → List X → List ℕ

@@ -28,5 +28,8 @@ impl Model for Journal {
 
     ghost Value = { JournalData };
 
-    ghost view = { λ j. record { rounds = map (λ round. map (λ thread. thread.items) round.items) j.rounds.items; updates = j.updates } };
+    ghost view = { λ j. record {
+      rounds = map (λ round. map (λ thread. thread.items) round.items) j.rounds.items;
+      updates = j.updates;
+    } };
 }

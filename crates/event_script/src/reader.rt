@@ -34,7 +34,8 @@ pub enum ScriptFault {
 
 /// What a line gave, under its number.
 fn numbered(given: Result<(), LineFault>, line: u32) -> Result<(), ScriptFault>
-    ensures { (now : DraftData) (told : Result DraftData Reason) → LeavesDraft now given told → LeavesLine now result (at_line line told) }
+    ensures { (now : DraftData) (told : Result DraftData Reason) → LeavesDraft now given told
+        → LeavesLine now result (at_line line told) }
 {
     match given {
         Ok(()) => Ok(()),

@@ -73,7 +73,22 @@ impl Model for Script {
 
     ghost Value = { ScriptData };
 
-    ghost view = { λ s. record { nodes = s.nodes; loads = s.loads; images = s.images.items; sections = s.sections.items; fixed = s.fixed.items; rounds = s.rounds.items } };
+    ghost view = { λ s. record {
+      nodes = s.nodes;
+      loads = s.loads;
+      images = s.images.items;
+      sections = s.sections.items;
+      fixed = s.fixed.items;
+      rounds = s.rounds.items;
+    } };
 
-    ghost invariant = { λ s. IsRunnable (record { nodes = s.nodes; loads = s.loads; images = s.images.items; sections = s.sections.items; fixed = s.fixed.items; rounds = s.rounds.items }) };
+    ghost invariant = { λ s. IsRunnable
+        (record {
+          nodes = s.nodes;
+          loads = s.loads;
+          images = s.images.items;
+          sections = s.sections.items;
+          fixed = s.fixed.items;
+          rounds = s.rounds.items;
+        }) };
 }

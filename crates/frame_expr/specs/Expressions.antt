@@ -70,7 +70,9 @@ IsRefusedExpr depth bytes f = (expression depth).Refuses 0 bytes f
 -- The bytes are an expression of one list of operations, or have one first fault, and never both.
 abbrev pub IsExprOrRefused : ℕ → List ℕ → Type 0
 IsExprOrRefused depth bytes =
-    ((os : List Operation) × IsExpr depth bytes os × ((ps : List Operation) → IsExpr depth bytes ps → ps ≡ os)
+    ((os : List Operation) × IsExpr depth bytes os
+    × ((ps : List Operation) → IsExpr depth bytes ps → ps ≡ os)
     × ((f : ExprFault) → IsRefusedExpr depth bytes f → ⊥))
-    ⊎ ((f : ExprFault) × IsRefusedExpr depth bytes f × ((g : ExprFault) → IsRefusedExpr depth bytes g → g ≡ f)
+    ⊎ ((f : ExprFault) × IsRefusedExpr depth bytes f
+    × ((g : ExprFault) → IsRefusedExpr depth bytes g → g ≡ f)
     × ((ps : List Operation) → IsExpr depth bytes ps → ⊥))

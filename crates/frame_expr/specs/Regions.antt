@@ -23,7 +23,8 @@ regions_end (r ∷ q ∷ rs) = regions_end (q ∷ rs)
 -- and none reaches past the last address, 2 ^ 64 - 2.
 abbrev pub AreFrom : ℕ → List RegionData → Type 0
 AreFrom low [] = Unit {0}
-AreFrom low (r ∷ rs) = (low ≤ r.address) × (0 < length r.bytes) × (end r < 2 ^ 64) × AreFrom (end r) rs
+AreFrom low (r ∷ rs) =
+    (low ≤ r.address) × (0 < length r.bytes) × (end r < 2 ^ 64) × AreFrom (end r) rs
 
 abbrev pub AreRegions : List RegionData → Type 0
 AreRegions rs = AreFrom 0 rs
@@ -49,5 +50,6 @@ Accepts rs a bytes = (0 < length bytes) × (a + length bytes < 2 ^ 64) × (regio
 abbrev pub IsRefusedRegion : List RegionData → ℕ → List ℕ → RegionFault → Type 0
 IsRefusedRegion rs a bytes Empty = length bytes ≡ 0
 IsRefusedRegion rs a bytes End = (0 < length bytes) × (2 ^ 64 ≤ a + length bytes)
-IsRefusedRegion rs a bytes Order = (0 < length bytes) × (a + length bytes < 2 ^ 64) × (a < regions_end rs)
+IsRefusedRegion rs a bytes Order =
+    (0 < length bytes) × (a + length bytes < 2 ^ 64) × (a < regions_end rs)
 IsRefusedRegion rs a bytes NoMemory = Accepts rs a bytes

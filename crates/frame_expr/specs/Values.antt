@@ -68,7 +68,8 @@ abbrev pub stack_after : List ℕ → List RegionData → Operation → List ℕ
 stack_after columns regions Nop s = Ok s
 stack_after columns regions (Constant n) s = Ok (n ∷ s)
 stack_after columns regions (Breg r n) s = Ok ((get_or columns r 0 + n) % 2 ^ 64 ∷ s)
-stack_after columns regions Deref s = with_loaded (entry 0 s) (drop 1 s) (word_at (entry 0 s) regions)
+stack_after columns regions Deref s =
+    with_loaded (entry 0 s) (drop 1 s) (word_at (entry 0 s) regions)
 stack_after columns regions Dup s = Ok (entry 0 s ∷ s)
 stack_after columns regions Drop s = Ok (drop 1 s)
 stack_after columns regions Over s = Ok (entry 1 s ∷ s)
@@ -78,13 +79,15 @@ stack_after columns regions Rot s = Ok (entry 1 s ∷ entry 2 s ∷ entry 0 s �
 stack_after columns regions (Unary u) s = Ok (unary u (entry 0 s) ∷ drop 1 s)
 stack_after columns regions (PlusUconst n) s = Ok ((entry 0 s + n) % 2 ^ 64 ∷ drop 1 s)
 stack_after columns regions (Binary k) s = Ok (binary k (entry 1 s) (entry 0 s) ∷ drop 2 s)
-stack_after columns regions (Compare k) s = Ok ((if compare k (entry 1 s) (entry 0 s) then 1 else 0) ∷ drop 2 s)
+stack_after columns regions (Compare k) s =
+    Ok ((if compare k (entry 1 s) (entry 0 s) then 1 else 0) ∷ drop 2 s)
 
 -- the value of operations: the top after all of them, or the address of the first deref that no
 -- region holds
 unfoldable pub value_of : List ℕ → List RegionData → List Operation → List ℕ → Result ℕ NoBytes
 value_of columns regions [] s = Ok (entry 0 s)
-value_of columns regions (o ∷ os) s = (stack_after columns regions o s and_then λ t. value_of columns regions os t)
+value_of columns regions (o ∷ os) s =
+    (stack_after columns regions o s and_then λ t. value_of columns regions os t)
 
 -- the stack at the start: empty, or one number
 abbrev pub stack_of : Option ℕ → List ℕ
@@ -93,4 +96,6 @@ stack_of (Some n) = n ∷ []
 
 -- the value of the operations that the bytes spell
 abbrev pub IsValue : ℕ → List ℕ → List ℕ → List RegionData → Option ℕ → Result ℕ NoBytes → Type 0
-IsValue depth bytes columns regions start result = (os : List Operation) × IsExpr depth bytes os × (result ≡ value_of columns regions os (stack_of start))
+IsValue depth bytes columns regions start result =
+    (os : List Operation) × IsExpr depth bytes os
+    × (result ≡ value_of columns regions os (stack_of start))

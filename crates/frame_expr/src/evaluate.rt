@@ -73,7 +73,8 @@ fn column_of(regs: &Regs, column: u8) -> u64
 fn load(stack: &mut Stack, memory: &Memory) -> Result<(), NoBytes>
     requires { 0 < length stack.old }
     ensures { Leaves
-        (with_loaded (entry 0 stack.old) (drop 1 stack.old) (word_at (entry 0 stack.old) memory.now))
+        (with_loaded (entry 0 stack.old) (drop 1 stack.old)
+        (word_at (entry 0 stack.old) memory.now))
         result stack.new }
 {
     let address = stack.entry(0);
@@ -94,7 +95,8 @@ fn apply(
     memory: &Memory,
 ) -> Result<(), NoBytes>
     requires { fits (length stack.old) operation.now ≡ true }
-    ensures { Leaves (stack_after regs.now.columns memory.now operation.now stack.old) result stack.new }
+    ensures { Leaves (stack_after regs.now.columns memory.now operation.now stack.old) result
+        stack.new }
 {
     match operation {
         Operation::Nop => {}

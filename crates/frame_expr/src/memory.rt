@@ -71,7 +71,8 @@ impl Region {
     /// The eight bytes at an address as a number, where it holds all eight.
     fn word(&self, address: u64) -> Option<u64>
         requires { end self.now < 2 ^ 64 }
-        ensures { result ≡ (if holds_word address self.now then Some (word_in address self.now) else None) }
+        ensures { result
+            ≡ (if holds_word address self.now then Some (word_in address self.now) else None) }
     {
         if address < self.address || self.bytes.len() < 8 {
             return None;
@@ -122,7 +123,8 @@ impl Memory {
 
     /// Records a region above all that are recorded. The bytes are copied.
     pub fn push_region(&mut self, address: u64, bytes: &[u8]) -> Result<(), RegionFault>
-        ensures ok { OnOk result (self.new ≡ self.old ++ record { address = address; bytes = bytes.now } ∷ []) }
+        ensures ok { OnOk result (self.new
+            ≡ self.old ++ record { address = address; bytes = bytes.now } ∷ []) }
         ensures accepted { OnOk result (Accepts self.old address bytes.now) }
         ensures refused { OnErr result (self.new ≡ self.old) }
         ensures fault { IfErr result (IsRefusedRegion self.old address bytes.now) }

@@ -22,7 +22,13 @@ pub data Record : Type 0 where
 
 -- an FDE that is kept, with this CIE
 abbrev pub with_cie : CieRecord → FdeEntry → FdeRecord
-with_cie c f = record { cie = c; first = f.first; range = f.range; lsda = f.lsda; program = f.program }
+with_cie c f = record {
+  cie = c;
+  first = f.first;
+  range = f.range;
+  lsda = f.lsda;
+  program = f.program;
+}
 
 -- what stands past the end of a list of CIEs
 abbrev pub no_cie : CieRecord

@@ -14,12 +14,14 @@ range_of i f = record { first = f.first; range = f.range; fde = i }
 
 -- the range is the one of the FDE with its number
 abbrev pub IsRangeOf : List FdeEntry → CoveredRange → Type 0
-IsRangeOf fdes r = (r.fde < length fdes) × ((d : FdeEntry) → r ≡ range_of r.fde (get_or fdes r.fde d))
+IsRangeOf fdes r = (r.fde < length fdes)
+    × ((d : FdeEntry) → r ≡ range_of r.fde (get_or fdes r.fde d))
 
 -- these are ranges of FDEs, and those of the first n that aren't empty are among them
 pub record HasRanges (fdes : List FdeEntry) (n : ℕ) (ranges : List CoveredRange) : Type 0 where
   pub sound : All (IsRangeOf fdes) ranges
-  pub whole : (i : ℕ) (d : FdeEntry) → i < n → i < length fdes → 0 < (get_or fdes i d).range → Contains ranges (range_of i (get_or fdes i d))
+  pub whole : (i : ℕ) (d : FdeEntry) → i < n → i < length fdes → 0 < (get_or fdes i d).range
+      → Contains ranges (range_of i (get_or fdes i d))
 
 -- each range ends before the next begins
 abbrev pub are_apart : List CoveredRange → Bool
@@ -37,5 +39,6 @@ entry_covers pc f = nat_le f.first pc && nat_lt pc (f.first + f.range)
 
 -- the way of finding finds among these FDEs
 abbrev pub Finds : List FdeEntry → Lookup → Type 0
-Finds fdes (Ordered ranges) = HasRanges fdes (length fdes) ranges.items × (are_apart ranges.items ≡ true)
+Finds fdes (Ordered ranges) =
+    HasRanges fdes (length fdes) ranges.items × (are_apart ranges.items ≡ true)
 Finds fdes Walk = ⊤

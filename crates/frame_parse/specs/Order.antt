@@ -16,7 +16,8 @@ Moves _ location next = next ≡ location
 -- from a first one on, the locations of the steps never fall, and only an Advance moves them
 abbrev pub IsAscendingFrom : ℕ → List Step → Type 0
 IsAscendingFrom location [] = Unit {0}
-IsAscendingFrom location (x ∷ xs) = Moves x.instruction location x.location × IsAscendingFrom x.location xs
+IsAscendingFrom location (x ∷ xs) =
+    Moves x.instruction location x.location × IsAscendingFrom x.location xs
 
 -- all steps hold at one location
 abbrev pub AreAt : ℕ → List Step → Type 0
@@ -39,7 +40,8 @@ remembered_after depth _ = depth
 -- remembered
 abbrev pub IsBalanced : ℕ → List Step → Type 0
 IsBalanced depth [] = Unit {0}
-IsBalanced depth (x ∷ xs) = MayStandAt depth x.instruction × IsBalanced (remembered_after depth x.instruction) xs
+IsBalanced depth (x ∷ xs) =
+    MayStandAt depth x.instruction × IsBalanced (remembered_after depth x.instruction) xs
 
 -- what holds along the steps that a program goes on with
 pub record AreOrdered (p : ProgramData) (steps : List Step) : Type 0 where

@@ -54,7 +54,14 @@ use Rattle.frame_parse.specs.Entries.{FdeRecord}
 -- ---- what the instructions of a program refer to
 
 abbrev pub context_of : ℕ → CieRecord → ProgramKind → Context
-context_of section c kind = record { section = section; code_alignment = c.code_alignment; data_alignment = c.data_alignment; pointers = c.augmentation.pointers; kind = kind }
+context_of section c kind =
+    record {
+      section = section;
+      code_alignment = c.code_alignment;
+      data_alignment = c.data_alignment;
+      pointers = c.augmentation.pointers;
+      kind = kind;
+    }
 
 -- only the instructions of an FDE itself move the location
 abbrev pub moves : ProgramKind → Bool
@@ -97,25 +104,33 @@ second_column first = do
 unfoldable pub extended_operation : Context → ℕ → ℕ → Part RecordFault Operation
 extended_operation c at b =
     when (b == DW_CFA_nop) (give (other Nop))
-    (when (b == DW_CFA_set_loc) (pointer c.section c.pointers >>= λ a. give (operations.SetLocation a))
+    (when (b == DW_CFA_set_loc) (pointer c.section c.pointers >>=
+    λ a. give (operations.SetLocation a))
     (when (b == DW_CFA_advance_loc1) (field (fixed 1) >>= λ d. give (operations.Advance d))
     (when (b == DW_CFA_advance_loc2) (field (fixed 2) >>= λ d. give (operations.Advance d))
     (when (b == DW_CFA_advance_loc4) (field (fixed 4) >>= λ d. give (operations.Advance d))
-    (when (b == DW_CFA_offset_extended) (field uleb >>= λ r. field uleb >>= λ n. give (other (set r (rules.Offset (factored c n)))))
+    (when (b == DW_CFA_offset_extended) (field uleb >>= λ r. field uleb >>=
+    λ n. give (other (set r (rules.Offset (factored c n)))))
     (when (b == DW_CFA_restore_extended) (field uleb >>= λ r. give (other (restore r)))
     (when (b == DW_CFA_undefined) (field uleb >>= λ r. give (other (set r rules.Undefined)))
     (when (b == DW_CFA_same_value) (field uleb >>= λ r. give (other (set r rules.Same)))
-    (when (b == DW_CFA_register) (field uleb >>= λ r. second_column r >>= λ q. give (other (set r (rules.Register q))))
+    (when (b == DW_CFA_register) (field uleb >>= λ r. second_column r >>=
+    λ q. give (other (set r (rules.Register q))))
     (when (b == DW_CFA_remember_state) (give (other Remember))
     (when (b == DW_CFA_restore_state) (give (other RestoreState))
     (when (b == DW_CFA_def_cfa) (cfa_column >>= λ r. field uleb >>= λ n. give (other (Cfa r n)))
     (when (b == DW_CFA_def_cfa_register) (cfa_column >>= λ r. give (other (CfaColumn r)))
     (when (b == DW_CFA_def_cfa_offset) (field uleb >>= λ n. give (other (CfaOffset n)))
-    (when (b == DW_CFA_offset_extended_sf) (field uleb >>= λ r. field sleb >>= λ n. give (other (set r (rules.Offset (factored c (cast_unsigned w64 n))))))
-    (when (b == DW_CFA_def_cfa_sf) (cfa_column >>= λ r. field sleb >>= λ n. give (other (Cfa r (factored c (cast_unsigned w64 n)))))
-    (when (b == DW_CFA_def_cfa_offset_sf) (field sleb >>= λ n. give (other (CfaOffset (factored c (cast_unsigned w64 n)))))
-    (when (b == DW_CFA_val_offset) (field uleb >>= λ r. field uleb >>= λ n. give (other (set r (rules.ValOffset (factored c n)))))
-    (when (b == DW_CFA_val_offset_sf) (field uleb >>= λ r. field sleb >>= λ n. give (other (set r (rules.ValOffset (factored c (cast_unsigned w64 n))))))
+    (when (b == DW_CFA_offset_extended_sf) (field uleb >>= λ r. field sleb >>=
+    λ n. give (other (set r (rules.Offset (factored c (cast_unsigned w64 n))))))
+    (when (b == DW_CFA_def_cfa_sf) (cfa_column >>= λ r. field sleb >>=
+    λ n. give (other (Cfa r (factored c (cast_unsigned w64 n)))))
+    (when (b == DW_CFA_def_cfa_offset_sf) (field sleb >>=
+    λ n. give (other (CfaOffset (factored c (cast_unsigned w64 n)))))
+    (when (b == DW_CFA_val_offset) (field uleb >>= λ r. field uleb >>=
+    λ n. give (other (set r (rules.ValOffset (factored c n)))))
+    (when (b == DW_CFA_val_offset_sf) (field uleb >>= λ r. field sleb >>=
+    λ n. give (other (set r (rules.ValOffset (factored c (cast_unsigned w64 n))))))
     (when (b == DW_CFA_GNU_args_size) (field uleb >>= λ n. give (other Nop))
     (refuse (faults.Opcode at b))))))))))))))))))))))
 
@@ -125,7 +140,8 @@ operation c = do
   at ← here
   b ← field (fixed 1)
   when (b / 64 == DW_CFA_advance_loc) (give (operations.Advance (b % 64)))
-      (when (b / 64 == DW_CFA_offset) (field uleb >>= λ n. give (other (set (b % 64) (rules.Offset (factored c n)))))
+      (when (b / 64 == DW_CFA_offset) (field uleb >>=
+      λ n. give (other (set (b % 64) (rules.Offset (factored c n)))))
       (when (b / 64 == DW_CFA_restore) (give (other (restore (b % 64))))
       (extended_operation c at b)))
 
@@ -144,9 +160,13 @@ change_cfa at s = if s.offset then Ok s else Err (faults.CfaRule at)
 
 -- remembering and restoring states, and changing a part of the CFA rule
 abbrev pub effect_of : ℕ → State → Instruction → Result State RecordFault
-effect_of at s Remember = if nat_lt (length s.remembered) 8 then Ok (record s { remembered = s.remembered ++ s.offset ∷ [] }) else Err (faults.Remember at)
+effect_of at s Remember =
+    if nat_lt (length s.remembered) 8
+    then Ok (record s { remembered = s.remembered ++ s.offset ∷ [] }) else Err (faults.Remember at)
 effect_of at s RestoreState =
-    if nat_lt 0 (length s.remembered) then Ok (record s { offset = top s.remembered; remembered = below_top s.remembered }) else Err (faults.Remember at)
+    if nat_lt 0 (length s.remembered)
+    then Ok (record s { offset = top s.remembered; remembered = below_top s.remembered })
+    else Err (faults.Remember at)
 effect_of at s (Cfa r n) = Ok (record s { offset = true })
 effect_of at s (CfaColumn r) = change_cfa at s
 effect_of at s (CfaOffset n) = change_cfa at s
@@ -158,8 +178,12 @@ effect_of at s (Restore r) = Ok s
 -- the location moves up alone, only in an FDE, and not past the last address
 abbrev pub effect : ℕ → Context → State → Operation → Result State RecordFault
 effect at c s (operations.Advance d) =
-    if moves c.kind && nat_lt (s.location + d * c.code_alignment) (2 ^ 64) then Ok (record s { location = s.location + d * c.code_alignment }) else Err (faults.Location at)
-effect at c s (operations.SetLocation a) = if moves c.kind && nat_le s.location a then Ok (record s { location = a }) else Err (faults.Location at)
+    if moves c.kind && nat_lt (s.location + d * c.code_alignment) (2 ^ 64)
+    then Ok (record s { location = s.location + d * c.code_alignment })
+    else Err (faults.Location at)
+effect at c s (operations.SetLocation a) =
+    if moves c.kind && nat_le s.location a
+    then Ok (record s { location = a }) else Err (faults.Location at)
 effect at c s (operations.Other i) = effect_of at s i
 
 abbrev pub instruction_of : Operation → Instruction
@@ -169,7 +193,8 @@ instruction_of (operations.Other i) = i
 
 -- the step of an operation, with the location that holds after it, and the state after it
 abbrev pub finished : ℕ → Context → State → Operation → Part RecordFault (Step × State)
-finished at c s o = given (effect at c s o) >>= λ t. give (record { location = t.location; instruction = instruction_of o }, t)
+finished at c s o = given (effect at c s o) >>=
+    λ t. give (record { location = t.location; instruction = instruction_of o }, t)
 
 -- the step of an instruction whose byte is an extended opcode
 abbrev pub extended_step : Context → State → ℕ → ℕ → Part RecordFault (Step × State)
@@ -204,7 +229,9 @@ HasSteps p steps = (t : State) × AreSteps (step p.context) p.rest.at p.state p.
 
 -- the text that stands at an extent of the bytes
 abbrev pub IsExtent : List ℕ → Extent → List ℕ → Type 0
-IsExtent bytes e text = (before : List ℕ) × (after : List ℕ) × (bytes ≡ before ++ (text ++ after)) × (e.at ≡ length before) × (e.end ≡ e.at + length text)
+IsExtent bytes e text =
+    (before : List ℕ) × (after : List ℕ) × (bytes ≡ before ++ (text ++ after))
+    × (e.at ≡ length before) × (e.end ≡ e.at + length text)
 
 -- the bytes between the two places of an extent
 abbrev pub text_in : List ℕ → Extent → List ℕ
@@ -212,11 +239,21 @@ text_in bytes e = slice_range bytes e.at e.end
 
 -- the instructions of an FDE, which start at its first address
 abbrev pub program_of : ℕ → FdeRecord → List ℕ → ProgramData
-program_of section f text = record { context = context_of section f.cie Own; state = first_state f.cie f.first; rest = record { bytes = text; at = f.program.at } }
+program_of section f text =
+    record {
+      context = context_of section f.cie Own;
+      state = first_state f.cie f.first;
+      rest = record { bytes = text; at = f.program.at };
+    }
 
 -- the initial instructions of its CIE, at that address
 abbrev pub initial_of : ℕ → FdeRecord → List ℕ → ProgramData
-initial_of section f text = record { context = context_of section f.cie Initial; state = record initial_state { location = f.first }; rest = record { bytes = text; at = f.cie.initial.at } }
+initial_of section f text =
+    record {
+      context = context_of section f.cie Initial;
+      state = record initial_state { location = f.first };
+      rest = record { bytes = text; at = f.cie.initial.at };
+    }
 
 -- both programs of an FDE stand in the bytes, and were read without fault
 pub record HasPrograms (section : ℕ) (bytes : List ℕ) (f : FdeRecord) : Type 0 where

@@ -14,14 +14,18 @@ use Rattle.frame_parse.specs.Sections.{SectionData}
 unfoldable pub read_all : ℕ → ℕ → List CieRecord → CursorData → Result (List Record) FrameFault
 read_all zero section earlier r = Ok []
 read_all (suc n) section earlier r =
-    if is_end r.bytes then Ok [] else ◌and_then◌ ((whole_record section earlier).read r) (λ x. ◌and_then◌ (read_all n section (with_record earlier x.0) x.1) (λ rs. Ok (x.0 ∷ rs)))
+    if is_end r.bytes then Ok [] else ◌and_then◌ ((whole_record section earlier).read r)
+    (λ x. ◌and_then◌ (read_all n section (with_record earlier x.0) x.1) (λ rs. Ok (x.0 ∷ rs)))
 
 -- the contents of a section with these bytes at this address, or the first refusal; each record has
 -- a byte at least
 unfoldable pub section_of : ℕ → List ℕ → Result SectionData FrameFault
-section_of address bytes = ◌and_then◌ (read_all (suc (length bytes)) address [] (record { bytes = bytes; at = 0 })) (λ rs. Ok (record { address = address; bytes = bytes; fdes = fdes_of rs }))
+section_of address bytes =
+    ◌and_then◌ (read_all (suc (length bytes)) address [] (record { bytes = bytes; at = 0 }))
+    (λ rs. Ok (record { address = address; bytes = bytes; fdes = fdes_of rs }))
 
 -- that is the answer: of a section its contents, of any other bytes their first refusal
 pub record IsAnswered (address : ℕ) (bytes : List ℕ) : Type 0 where
-  pub contents : (fdes : List FdeRecord) → HasFdes address bytes fdes → section_of address bytes ≡ Ok (record { address = address; bytes = bytes; fdes = fdes })
+  pub contents : (fdes : List FdeRecord) → HasFdes address bytes fdes
+      → section_of address bytes ≡ Ok (record { address = address; bytes = bytes; fdes = fdes })
   pub refusal : (f : FrameFault) → IsRefused address bytes f → section_of address bytes ≡ Err f

@@ -64,7 +64,9 @@ plain = record { pointers = 0; lsda = 255; personality = None; signal = false }
 unfoldable pub letter : ℕ → ℕ → Augmentation → Part RecordFault Augmentation
 letter section l a =
     when (l == 76) (encoding is_data_encoding >>= λ e. give (record a { lsda = e }))
-    (when (l == 80) (encoding is_data_encoding >>= λ e. when (e == 255) (give None) (optional_pointer section e) >>= λ q. give (record a { personality = q }))
+    (when (l == 80) (encoding is_data_encoding >>=
+    λ e. when (e == 255) (give None) (optional_pointer section e) >>=
+    λ q. give (record a { personality = q }))
     (when (l == 82) (encoding is_code_encoding >>= λ e. give (record a { pointers = e }))
     (give (record a { signal = true }))))
 
@@ -116,7 +118,15 @@ cie section start end = do
   _ ← return_column v
   a ← augmentation_data section t
   at ← here
-  give (record { start = start; code_alignment = code; data_alignment = data_; has_data = has_data t; augmentation = a; offset = false; initial = record { at = at; end = end } })
+  give (record {
+    start = start;
+    code_alignment = code;
+    data_alignment = data_;
+    has_data = has_data t;
+    augmentation = a;
+    offset = false;
+    initial = record { at = at; end = end };
+  })
 
 -- ---- FDEs
 
@@ -127,7 +137,8 @@ cie_from (c ∷ cs) place = if c.start == place then Some c else cie_from cs pla
 
 -- the earlier CIE to which a distance leads back from a place
 abbrev pub cie_after : List CieRecord → ℕ → ℕ → Option CieRecord
-cie_after earlier at distance = if nat_lt at distance then None else cie_from earlier (at - distance)
+cie_after earlier at distance =
+    if nat_lt at distance then None else cie_from earlier (at - distance)
 
 -- the range has its encoding's format; with it the last address is below 2 ^ 64
 unfoldable pub range : ℕ → ℕ → Part RecordFault ℕ
@@ -142,7 +153,8 @@ range e first = do
 unfoldable pub lsda : ℕ → CieRecord → Part RecordFault (Option ℕ)
 lsda section c = when c.has_data
     (field uleb >>= λ n. here >>= λ at. block (Short at) n
-    (when (c.augmentation.lsda == 255 || n == 0) (give None) (optional_pointer section c.augmentation.lsda)))
+    (when (c.augmentation.lsda == 255 || n == 0) (give None)
+    (optional_pointer section c.augmentation.lsda)))
     (give None)
 
 -- the fields of an FDE after its id
@@ -152,7 +164,13 @@ fde section end c = do
   size ← range c.augmentation.pointers first
   l ← lsda section c
   at ← here
-  give (record { cie = c; first = first; range = size; lsda = l; program = record { at = at; end = end } })
+  give (record {
+    cie = c;
+    first = first;
+    range = size;
+    lsda = l;
+    program = record { at = at; end = end };
+  })
 
 -- ---- records
 
@@ -163,8 +181,12 @@ content section earlier start end = do
   at ← here
   id ← field (fixed 4)
   when (id == 0)
-      (cie section start end >>= λ c. steps_from (step (context_of section c Initial)) initial_state >>= λ s. give (Cie (record c { offset = s.offset })))
-      (found (cie_after earlier at id) (NoCie at) >>= λ c. fde section end c >>= λ f. steps_from (step (context_of section c Own)) (first_state c f.first) >>= λ s. give (Fde f))
+      (cie section start end >>=
+      λ c. steps_from (step (context_of section c Initial)) initial_state >>=
+      λ s. give (Cie (record c { offset = s.offset })))
+      (found (cie_after earlier at id) (NoCie at) >>= λ c. fde section end c >>=
+      λ f. steps_from (step (context_of section c Own)) (first_state c f.first) >>=
+      λ s. give (Fde f))
 
 -- the length of a record: four bytes, or eight after 0xffffffff; where it isn't whole, the record
 -- isn't
@@ -182,4 +204,5 @@ record_at section earlier start = do
 
 -- a record, whose faults tell where it begins
 unfoldable pub whole_record : ℕ → List CieRecord → Part FrameFault Record
-whole_record section earlier = here >>= λ start. lift (fault_in start) (record_at section earlier start)
+whole_record section earlier =
+    here >>= λ start. lift (fault_in start) (record_at section earlier start)

@@ -23,7 +23,8 @@ with_record earlier (Fde f) = earlier
 abbrev pub AreRecords : ℕ → ℕ → List CieRecord → List ℕ → List Record → Type 0
 AreRecords section p earlier text [] = text ≡ []
 AreRecords section p earlier text (r ∷ rs) =
-    (front : List ℕ) × (back : List ℕ) × (text ≡ front ++ back) × (whole_record section earlier).Spells p front r
+    (front : List ℕ) × (back : List ℕ) × (text ≡ front ++ back)
+    × (whole_record section earlier).Spells p front r
     × AreRecords section (p + length front) (with_record earlier r) back rs
 
 -- the CIEs and the FDEs among records, in order
@@ -40,12 +41,14 @@ fdes_of (Fde f ∷ rs) = f ∷ fdes_of rs
 -- the bytes of a section at an address are records, and then its end
 unfoldable pub IsSection : ℕ → List ℕ → List Record → Type 0
 IsSection section bytes rs =
-    (front : List ℕ) × (back : List ℕ) × (bytes ≡ front ++ back) × AreRecords section 0 [] front rs × (is_end back ≡ true)
+    (front : List ℕ) × (back : List ℕ) × (bytes ≡ front ++ back) × AreRecords section 0 [] front rs
+    × (is_end back ≡ true)
 
 -- the first refusal: what stands before it are whole records, and there the next one is refused
 unfoldable pub IsRefused : ℕ → List ℕ → FrameFault → Type 0
 IsRefused section bytes f =
-    (rs : List Record) × (front : List ℕ) × (back : List ℕ) × (bytes ≡ front ++ back) × AreRecords section 0 [] front rs
+    (rs : List Record) × (front : List ℕ) × (back : List ℕ) × (bytes ≡ front ++ back)
+    × AreRecords section 0 [] front rs
     × (is_end back ≡ false) × (whole_record section (cies_of rs)).Refuses (length front) back f
 
 -- these are some FDEs' sections
@@ -54,10 +57,14 @@ HasFdes section bytes fdes = (rs : List Record) × IsSection section bytes rs ×
 
 -- every list of bytes has one list of records or one first refusal, never both
 pub record HasOneAnswer (section : ℕ) (bytes : List ℕ) : Type 0 where
-  pub some : ((rs : List Record) × IsSection section bytes rs) ⊎ ((f : FrameFault) × IsRefused section bytes f)
-  pub one_list : (rs others : List Record) → IsSection section bytes rs → IsSection section bytes others → rs ≡ others
-  pub one_fault : (f other : FrameFault) → IsRefused section bytes f → IsRefused section bytes other → f ≡ other
-  pub not_both : (rs : List Record) (f : FrameFault) → IsSection section bytes rs → IsRefused section bytes f → ⊥
+  pub some : ((rs : List Record) × IsSection section bytes rs)
+      ⊎ ((f : FrameFault) × IsRefused section bytes f)
+  pub one_list : (rs others : List Record) → IsSection section bytes rs
+      → IsSection section bytes others → rs ≡ others
+  pub one_fault : (f other : FrameFault) → IsRefused section bytes f → IsRefused section bytes other
+      → f ≡ other
+  pub not_both : (rs : List Record) (f : FrameFault) → IsSection section bytes rs
+      → IsRefused section bytes f → ⊥
 
 -- an FDE covers the addresses from its first on, as many as its range says
 abbrev pub covers : ℕ → FdeRecord → Bool

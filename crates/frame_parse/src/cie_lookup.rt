@@ -12,7 +12,8 @@ use crate::records::CieRecord;
 /// halves them.
 fn cie_from(cies: &[CieRecord], place: usize) -> Option<usize>
     requires { IsAscending (starts cies.now) }
-    ensures value { option_map (λ i. slice_index_or cies.now i no_cie) result ≡ cie_from cies.now place }
+    ensures value { option_map
+        (λ i. slice_index_or cies.now i no_cie) result ≡ cie_from cies.now place }
     ensures within { IfSome result (λ i. i < length cies.now) }
 {
     let mut low = 0;

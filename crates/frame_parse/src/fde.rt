@@ -29,7 +29,11 @@ impl<'a> Model for Fde<'a> {
 
     ghost Value = { FdeData };
 
-    ghost view = { λ f. record { section = f.section; bytes = f.bytes.now; entry = with_cie f.cie.now f.entry.now } };
+    ghost view = { λ f. record {
+      section = f.section;
+      bytes = f.bytes.now;
+      entry = with_cie f.cie.now f.entry.now;
+    } };
 
     ghost invariant = { λ f. HasPrograms f.section f.bytes.now (with_cie f.cie.now f.entry.now) };
 }

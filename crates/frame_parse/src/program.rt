@@ -26,7 +26,8 @@ impl<'a> Model for Program<'a> {
 
     ghost view = { λ p. record { context = p.context; state = p.state; rest = p.cursor } };
 
-    ghost invariant = { λ p. (steps : List Step) × HasSteps (record { context = p.context; state = p.state; rest = p.cursor }) steps };
+    ghost invariant = { λ p. (steps : List Step)
+        × HasSteps (record { context = p.context; state = p.state; rest = p.cursor }) steps };
 }
 
 impl<'a> Program<'a> {
@@ -47,7 +48,8 @@ impl<'a> Program<'a> {
     #[inline(always)]
     pub fn next(&mut self) -> Option<Step>
         ensures steps { (steps : List Step) → HasSteps self.old steps
-            → MatchOption result (steps ≡ []) (λ x. (more : List Step) × (steps ≡ x ∷ more) × HasSteps self.new more) }
+            → MatchOption result (steps ≡ [])
+            (λ x. (more : List Step) × (steps ≡ x ∷ more) × HasSteps self.new more) }
         ensures shrinks { OnSome result (length self.new.rest.bytes < length self.old.rest.bytes) }
         // So there is none after the end either.
         ensures end { IfNone result (self.new ≡ self.old) }

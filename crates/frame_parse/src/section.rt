@@ -30,7 +30,8 @@ fn entries_of(
     section: u64,
     bytes: &[u8],
 ) -> Result<(Vec<CieRecord>, Vec<FdeEntry>), FrameFault>
-    ensures found { IfOk result (λ r. HasFdes section bytes.now (map (fde_among r.0.items) r.1.items)) }
+    ensures found { IfOk result
+        (λ r. HasFdes section bytes.now (map (fde_among r.0.items) r.1.items)) }
     ensures cies { IfOk result (λ r. All (HasCie (length r.0.items)) r.1.items) }
     ensures refused { IfErr result (λ f. (f ≡ FrameFault.NoMemory)
         ⊎ IsRefused section bytes.now f) }

@@ -93,22 +93,27 @@ up_to pc steps = filter (λ (x : Step). nat_le x.location pc) steps
 
 -- The rule that the initial instructions leave. Inside them a restore leaves nothing set.
 unfoldable pub initial_rule : ℕ → List Step → Rule
-initial_rule r initial = (fold (register_step r rules.Unset) (new_column rules.Unset) (instructions initial)).rule
+initial_rule r initial =
+    (fold (register_step r rules.Unset) (new_column rules.Unset) (instructions initial)).rule
 
 -- The rule of column r at an address, where the FDE's programs are these steps.
 unfoldable pub rule_at : ℕ → List Step → List Step → ℕ → Rule
-rule_at r initial steps pc = (fold (register_step r (initial_rule r initial)) (new_column (initial_rule r initial)) (instructions (up_to pc steps))).rule
+rule_at r initial steps pc =
+    (fold (register_step r (initial_rule r initial)) (new_column (initial_rule r initial))
+    (instructions (up_to pc steps))).rule
 
 unfoldable pub initial_cfa : List Step → CfaRule
 initial_cfa initial = (fold cfa_step (new_column cfas.Missing) (instructions initial)).rule
 
 -- the rule of the CFA at an address
 unfoldable pub cfa_at : List Step → List Step → ℕ → CfaRule
-cfa_at initial steps pc = (fold cfa_step (new_column (initial_cfa initial)) (instructions (up_to pc steps))).rule
+cfa_at initial steps pc =
+    (fold cfa_step (new_column (initial_cfa initial)) (instructions (up_to pc steps))).rule
 
 -- the steps that an FDE's initial instructions spell, and those of its own
 abbrev pub HasInitial : FdeData → List Step → Type 0
-HasInitial f steps = HasSteps (initial_of f.section f.entry (text_in f.bytes f.entry.cie.initial)) steps
+HasInitial f steps = HasSteps (initial_of f.section f.entry (text_in f.bytes f.entry.cie.initial))
+    steps
 
 abbrev pub HasProgram : FdeData → List Step → Type 0
 HasProgram f steps = HasSteps (program_of f.section f.entry (text_in f.bytes f.entry.program)) steps

@@ -21,7 +21,8 @@ unset = record { cfa = cfas.Missing; columns = replicate 17 rules.Unset }
 -- the row after an instruction that doesn't remember or restore a state
 abbrev pub applied : Row → Row → Instruction → Row
 applied base row (Set q rule) = record row { columns = slice_set row.columns q (rule_of rule) }
-applied base row (Restore q) = record row { columns = slice_set row.columns q (slice_index_or base.columns q rules.Unset) }
+applied base row (Restore q) =
+    record row { columns = slice_set row.columns q (slice_index_or base.columns q rules.Unset) }
 applied base row (Cfa q n) = record row { cfa = cfas.Offset q n }
 applied base row (CfaColumn q) = record row { cfa = with_column q row.cfa }
 applied base row (CfaOffset n) = record row { cfa = with_offset n row.cfa }
@@ -63,4 +64,5 @@ base_row first initial = (rows_after unset first (beside unset []) initial).row
 
 -- the row whose rules a restore gives back among the instructions of an FDE itself
 abbrev pub IsBaseRow : FdeData → Row → Type 0
-IsBaseRow f row = (initial : List Step) × HasInitial f initial × (row ≡ base_row f.entry.first initial)
+IsBaseRow f row = (initial : List Step) × HasInitial f initial
+    × (row ≡ base_row f.entry.first initial)

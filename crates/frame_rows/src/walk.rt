@@ -67,7 +67,8 @@ fn walk_back<B: Base>(program: &mut Program<'_>, pc: u64, base: &mut B, row: &mu
 
 /// Goes from a row on to the one after all steps of a program up to an address.
 fn go_through<B: Base>(mut program: Program<'_>, pc: u64, base: &mut B, row: &mut Row)
-    ensures { (given : Row) → B.gives base.old given → (steps : List Step) → GoesOn program.entry pc 0 steps
+    ensures { (given : Row) → B.gives base.old given → (steps : List Step)
+        → GoesOn program.entry pc 0 steps
         → row.new ≡ (rows_after given pc (beside row.old []) steps).row }
 {
     walk(&mut program, pc, base, row);
@@ -101,9 +102,11 @@ pub(crate) fn initial_row(fde: &Fde<'_>) -> Row
 /// address. It takes no memory.
 pub fn row_at(fde: &Fde<'_>, pc: u64) -> Row
     // Both of its programs spell a list of steps.
-    ensures known { (initial : List Step) × (steps : List Step) × HasInitial fde.now initial × HasProgram fde.now steps }
+    ensures known { (initial : List Step) × (steps : List Step) × HasInitial fde.now initial
+        × HasProgram fde.now steps }
     // For these the CFA and each column have their own rules.
-    ensures cfa { (initial steps : List Step) → HasInitial fde.now initial → HasProgram fde.now steps
+    ensures cfa { (initial steps : List Step) → HasInitial fde.now initial
+        → HasProgram fde.now steps
         → result.cfa ≡ cfa_at initial steps pc }
     ensures columns { (initial steps : List Step) → HasInitial fde.now initial → HasProgram fde.now steps
         → (r : ℕ) → r < 17 → slice_get result.columns r ≡ Some (rule_at r initial steps pc) }

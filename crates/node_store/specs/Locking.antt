@@ -14,7 +14,9 @@ IsOfLoader l = l.word ≡ LOADER
 
 -- a log after so many loads and marks
 abbrev pub tried : List LoadEvent → ℕ → Log → Log
-tried more marks v = record v { trace = record v.trace { loads = v.trace.loads ++ more; writes = v.trace.writes + marks } }
+tried more marks v = record v {
+  trace = record v.trace { loads = v.trace.loads ++ more; writes = v.trace.writes + marks };
+}
 
 -- Only the loader's version word was loaded and marked.
 abbrev pub Tries : CallerData → CallerData → Type 0

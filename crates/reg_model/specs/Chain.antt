@@ -23,7 +23,8 @@ HasRoom (Register member (inserted.Full stamp)) = ⊥
 HasRoom _ = Unit {0}
 
 -- a call of the registry over plain lists, which have room
-pub record PlainStep (old : PlainRegistryData) (r : Receipt) (new : PlainRegistryData) : Type 0 where
+pub record PlainStep (old : PlainRegistryData) (r : Receipt)
+    (new : PlainRegistryData) : Type 0 where
   pub step : Step old r new
   pub room : HasRoom r
 
@@ -44,8 +45,11 @@ abbrev pub IsBetween : ℕ → ℕ → Receipt → Type 0
 IsBetween low high r = (low ≤ moment r) × (moment r ≤ high)
 
 -- Along a chain stamps and numbers rise, and the numbers are those of its updates, each once.
-pub record Rises (old : PlainRegistryData) (receipts : List Receipt) (new : PlainRegistryData) : Type 0 where
+pub record Rises (old : PlainRegistryData) (receipts : List Receipt)
+    (new : PlainRegistryData) : Type 0 where
   pub count : new.updates ≡ old.updates + made_count receipts
   pub between : AllByRecursion (IsBetween old.updates new.updates) receipts
   pub order : (since : ℕ) → since ≤ old.updates → AreInOrder since receipts
-  pub numbers : (number : ℕ) → count_by (has_number number) receipts ≡ (if (nat_le (old.updates + 1) number && nat_le number new.updates) then 1 else 0)
+  pub numbers : (number : ℕ)
+      → count_by (has_number number) receipts
+      ≡ (if (nat_le (old.updates + 1) number && nat_le number new.updates) then 1 else 0)

@@ -13,9 +13,13 @@ has_number number r = is_some (accepted r) && (moment r == number)
 
 -- the numbers from 1 to n stand on one receipt each, and no other number stands on one
 abbrev pub AreNumbered : ℕ → List Receipt → Type 0
-AreNumbered n receipts = (number : ℕ) → count_by (has_number number) receipts ≡ (if (nat_le 1 number && nat_le number n) then 1 else 0)
+AreNumbered n receipts =
+    (number : ℕ) → count_by (has_number number) receipts
+    ≡ (if (nat_le 1 number && nat_le number n) then 1 else 0)
 
 -- the first n updates by their numbers
 abbrev pub history_of : List Receipt → ℕ → List Update
 history_of receipts zero = []
-history_of receipts (suc n) = history_of receipts n ++ option_to_list (option_and_then accepted (find (has_number (suc n)) receipts))
+history_of receipts (suc n) =
+    history_of receipts n
+    ++ option_to_list (option_and_then accepted (find (has_number (suc n)) receipts))

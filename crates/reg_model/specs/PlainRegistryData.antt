@@ -25,7 +25,8 @@ pub record Step (old : PlainRegistryData) (r : Receipt) (new : PlainRegistryData
   pub right : IsRight old.state r
   pub changes : MatchOption (accepted r)
       ((moment r ≡ old.updates) × (new ≡ old))
-      (λ u. Fits u old.state × (moment r ≡ old.updates + 1) × (new ≡ record { state = after u old.state; updates = old.updates + 1 }))
+      (λ u. Fits u old.state × (moment r ≡ old.updates + 1)
+      × (new ≡ record { state = after u old.state; updates = old.updates + 1 }))
 
 -- lists have room: a registration is done or overlaps
 abbrev pub IsDoneOrOverlap : Inserted → Type 0

@@ -80,7 +80,8 @@ IsRight s (Register m inserted.Spent) = ⊥
 IsRight s (Deregister base answer) = IsRightRemoval base s.registered answer
 IsRight s (Load m (loading.Done number)) = Unit {0}
 IsRight s (Load m (loading.Overlap other stamp)) = IsLowestOverlap m.span (objects s) other
-IsRight s (Load m (loading.LoadFull stamp)) = IsFree m.span (objects s) × (length s.loaded ≡ s.loads)
+IsRight s (Load m (loading.LoadFull stamp)) =
+    IsFree m.span (objects s) × (length s.loaded ≡ s.loads)
 IsRight s (Load m loading.Spent) = ⊥
 IsRight s (Unload base answer) = IsRightRemoval base s.loaded answer
 IsRight s (Query half pc found) = query half pc s ≡ member_of found
@@ -94,11 +95,13 @@ HadTenMembers start history since _ = Unit {0}
 
 -- an accepted update stands in the history under its number
 abbrev pub IsAtNumber : List Update → Receipt → Type 0
-IsAtNumber history r = IfSome (accepted r) (λ u. (0 < moment r) × (slice_get history (moment r - 1) ≡ Some u))
+IsAtNumber history r =
+    IfSome (accepted r) (λ u. (0 < moment r) × (slice_get history (moment r - 1) ≡ Some u))
 
 -- The receipt holds in the history, of a registry with so many nodes and callers. `since` is the
 -- greatest stamp or number before it on its list.
-pub record Holds (start : State) (history : List Update) (nodes callers since : ℕ) (r : Receipt) : Type 0 where
+pub record Holds (start : State) (history : List Update) (nodes callers since : ℕ)
+    (r : Receipt) : Type 0 where
   pub within : moment r ≤ length history
   pub numbered : IsAtNumber history r
   pub right : IsRight (state_at start history (made_before r)) r
@@ -108,20 +111,28 @@ pub record Holds (start : State) (history : List Update) (nodes callers since : 
 abbrev pub AllHold : State → List Update → ℕ → ℕ → ℕ → List Receipt → Type 0
 AllHold start history nodes callers since [] = Unit {0}
 AllHold start history nodes callers since (r ∷ receipts) =
-    Holds start history nodes callers since r × AllHold start history nodes callers (max since (moment r)) receipts
+    Holds start history nodes callers since r
+    × AllHold start history nodes callers (max since (moment r)) receipts
 
 -- Along a list stamps and numbers never fall, and a number is above every stamp and number before
 -- it.
 abbrev pub AreInOrder : ℕ → List Receipt → Type 0
 AreInOrder since [] = Unit {0}
 AreInOrder since (r ∷ receipts) =
-    MatchOption (accepted r) (since ≤ moment r) (λ u. since < moment r) × AreInOrder (moment r) receipts
+    MatchOption (accepted r) (since ≤ moment r) (λ u. since < moment r)
+    × AreInOrder (moment r) receipts
 
 -- the loader's half was asked exactly where the registered half had a miss
 abbrev pub IsPlace : Place → Type 0
-IsPlace place = elim place.registered [ Hit m stamp ↦ place.loaded ≡ None | Miss stamp ↦ elim place.loaded [ None ↦ ⊥ | Some found ↦ Unit {0} ] ]
+IsPlace place = elim place.registered [
+  | Hit m stamp ↦ place.loaded ≡ None
+  | Miss stamp ↦ elim place.loaded [ None ↦ ⊥ | Some found ↦ Unit {0} ]
+]
 
 -- the receipts of a place: one for each half that was asked
 abbrev pub receipts_of_place : ℕ → Place → List Receipt
 receipts_of_place pc place =
-    Query Registered pc place.registered ∷ elim place.loaded [ None ↦ [] | Some found ↦ Query Loaded pc found ∷ [] ]
+    Query Registered pc place.registered ∷ elim place.loaded [
+      | None ↦ []
+      | Some found ↦ Query Loaded pc found ∷ []
+    ]

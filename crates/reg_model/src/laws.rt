@@ -17,15 +17,20 @@ ghost use Rattle.reg_model.specs.declared.span.Member.{Member};
 /// What the registry for one thread answers holds in its history, which grows by the update that
 /// was accepted.
 pub fn answers_hold()
-    ensures { (start : State) (history : List Update) (old new : PlainRegistryData) (nodes callers since : ℕ) (r : Receipt)
-        → LeadsTo start history old → Step old r new → HadTenMembers start (history ++ made r) since r
-        → LeadsTo start (history ++ made r) new × Holds start (history ++ made r) nodes callers since r }
+    ensures { (start : State) (history : List Update) (old new : PlainRegistryData)
+        (nodes callers since : ℕ) (r : Receipt)
+        → LeadsTo start history old → Step old r new
+        → HadTenMembers start (history ++ made r) since r
+        → LeadsTo start (history ++ made r) new
+        × Holds start (history ++ made r) nodes callers since r }
 {}
 
 /// An answer that holds goes on to hold while the history grows and callers come.
 pub fn receipts_stay()
-    ensures { (start : State) (history more : List Update) (nodes callers later since : ℕ) (r : Receipt)
-        → callers ≤ later → Holds start history nodes callers since r → Holds start (history ++ more) nodes later since r }
+    ensures { (start : State) (history more : List Update) (nodes callers later since : ℕ)
+        (r : Receipt)
+        → callers ≤ later → Holds start history nodes callers since r
+        → Holds start (history ++ more) nodes later since r }
 {}
 
 /// Each state of a history is lawful if the first one is: no two members of one list overlap.
@@ -38,7 +43,8 @@ pub fn histories_are_lawful()
 /// order.
 pub fn one_member_contains()
     ensures { (members : List Member) (m : Member) (pc : ℕ)
-        → AreDisjoint members → Contains members m → IsTrue (contains m.span pc) → member_at pc members ≡ Some m }
+        → AreDisjoint members → Contains members m → IsTrue (contains m.span pc)
+        → member_at pc members ≡ Some m }
 {}
 
 /// A history can be read off receipts in any order: each accepted update stands in it under its
@@ -53,8 +59,11 @@ pub fn numbers_tell_histories()
 /// that they make, however many nodes and callers there are; stamps and numbers rise, and each
 /// number is given once.
 pub fn chains_hold()
-    ensures hold { (start : State) (history : List Update) (old new : PlainRegistryData) (receipts : List Receipt)
+    ensures hold { (start : State) (history : List Update) (old new : PlainRegistryData)
+        (receipts : List Receipt)
         → LeadsTo start history old → Chain PlainStep old receipts new
-        → LeadsTo start (history ++ all_made receipts) new × AllByRecursion (HoldsAlways start (history ++ all_made receipts)) receipts }
-    ensures rise { (old new : PlainRegistryData) (receipts : List Receipt) → Chain PlainStep old receipts new → Rises old receipts new }
+        → LeadsTo start (history ++ all_made receipts) new
+        × AllByRecursion (HoldsAlways start (history ++ all_made receipts)) receipts }
+    ensures rise { (old new : PlainRegistryData) (receipts : List Receipt)
+        → Chain PlainStep old receipts new → Rises old receipts new }
 {}

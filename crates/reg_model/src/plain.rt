@@ -35,7 +35,15 @@ impl Model for PlainRegistry {
 
     ghost Value = { PlainRegistryData };
 
-    ghost view = { λ r. record { state = record { registered = r.registered.items; loaded = r.loaded.items; fixed = r.fixed.items; loads = r.loads }; updates = r.updates } };
+    ghost view = { λ r. record {
+      state = record {
+        registered = r.registered.items;
+        loaded = r.loaded.items;
+        fixed = r.fixed.items;
+        loads = r.loads;
+      };
+      updates = r.updates;
+    } };
 
     ghost invariant = { λ r. vec_len r.loaded ≤ r.loads };
 }
@@ -141,7 +149,8 @@ impl PlainRegistry {
     /// The registered member that contains the address, or else the fixed or loaded one.
     pub fn find(&self, pc: u64) -> Place
         ensures registered { Step self.now (receipt.Query half.Registered pc result.registered) self.now }
-        ensures loaded { IfSome result.loaded (λ found. Step self.now (receipt.Query half.Loaded pc found) self.now) }
+        ensures loaded { IfSome result.loaded
+            (λ found. Step self.now (receipt.Query half.Loaded pc found) self.now) }
         ensures halves { IsPlace result }
     {
         let stamp = self.updates;
@@ -206,7 +215,8 @@ fn remove_base(members: &mut Vec<Member>, base: u64)
 
 /// Of the members that overlap the span, the one with the least first address.
 fn lowest_overlap(members: &[Member], span: &Span) -> Option<Member>
-    ensures { MatchOption result (IsFree span.now members.now) (IsLowestOverlap span.now members.now) }
+    ensures { MatchOption result (IsFree span.now members.now)
+        (IsLowestOverlap span.now members.now) }
 {
     let mut lowest = None;
     for member in members {
@@ -219,7 +229,8 @@ fn lowest_overlap(members: &[Member], span: &Span) -> Option<Member>
 
 /// The same of the loader's members, which stand in two lists.
 fn lowest_object(fixed: &[Member], loaded: &[Member], span: &Span) -> Option<Member>
-    ensures { MatchOption result (IsFree span.now (fixed.now ++ loaded.now)) (IsLowestOverlap span.now (fixed.now ++ loaded.now)) }
+    ensures { MatchOption result (IsFree span.now (fixed.now ++ loaded.now))
+        (IsLowestOverlap span.now (fixed.now ++ loaded.now)) }
 {
     let in_fixed = lowest_overlap(fixed, span);
     match lowest_overlap(loaded, span) {

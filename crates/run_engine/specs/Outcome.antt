@@ -58,17 +58,22 @@ pub record IsRefusal (input : Option (List ℕ)) (text : List ℕ) : Type 0 wher
 abbrev pub IsDue : List (List ℕ) → Option (List ℕ) → Status → List ℕ → Type 0
 IsDue words input Done text = AreTaken words × IsAnswer input text
 IsDue words input Usage text = (¬ AreTaken words) × (text ≡ usage_line)
-IsDue words input TooLong text = AreTaken words × IfSome input (λ bytes. limit < length bytes) × (text ≡ too_long_line)
+IsDue words input TooLong text =
+    AreTaken words × IfSome input (λ bytes. limit < length bytes) × (text ≡ too_long_line)
 IsDue words input Script text = AreTaken words × IsRefusal input text
 IsDue words input _ text = ⊥
 
 -- the text that is due with this status was written
-abbrev pub Writes : List (List ℕ) → Option (List ℕ) → Status → Option (List ℕ) → Option (List ℕ) → Type 0
-Writes words input status old new = (text : List ℕ) × IsDue words input status text × Gains old new text
+abbrev pub Writes : List (List ℕ) → Option (List ℕ) → Status → Option (List ℕ) → Option (List ℕ)
+    → Type 0
+Writes words input status old new =
+    (text : List ℕ) × IsDue words input status text × Gains old new text
 
 -- a front of a text that was due with some status was written, or nothing
 abbrev pub WritesPart : List (List ℕ) → Option (List ℕ) → Option (List ℕ) → Option (List ℕ) → Type 0
-WritesPart words input old new = (new ≡ old) ⊎ ((status : Status) × (text : List ℕ) × IsDue words input status text × GainsPart old new text)
+WritesPart words input old new =
+    (new ≡ old) ⊎ ((status : Status) × (text : List ℕ) × IsDue words input status text
+    × GainsPart old new text)
 
 -- the counts of faults and what the sink holds, before a run and after it
 pub record Change : Type 0 where
@@ -85,13 +90,16 @@ Ends words input change Done = Writes words input Done change.held change.held_a
 Ends words input change Usage = Writes words input Usage change.held change.held_after
 Ends words input change Script = Writes words input Script change.held change.held_after
 Ends words input change TooLong = Writes words input TooLong change.held change.held_after
-Ends words input change ReadFault = AreTaken words × Rose change.reads change.reads_after × (change.held_after ≡ change.held)
-Ends words input change WriteFault = Rose change.writes change.writes_after × WritesPart words input change.held change.held_after
+Ends words input change ReadFault =
+    AreTaken words × Rose change.reads change.reads_after × (change.held_after ≡ change.held)
+Ends words input change WriteFault =
+    Rose change.writes change.writes_after × WritesPart words input change.held change.held_after
 Ends words input change NoMemory = WritesPart words input change.held change.held_after
 
 -- how writing the line that is due with a status may end
 abbrev pub Concludes : List ℕ → Status → Change → Status → Type 0
 Concludes line status change end =
     ((end ≡ status) × Gains change.held change.held_after line)
-    ⊎ (((end ≡ WriteFault) × Rose change.writes change.writes_after × GainsPart change.held change.held_after line)
+    ⊎ (((end ≡ WriteFault) × Rose change.writes change.writes_after
+    × GainsPart change.held change.held_after line)
     ⊎ ((end ≡ NoMemory) × GainsPart change.held change.held_after line))

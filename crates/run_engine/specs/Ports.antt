@@ -8,7 +8,8 @@ Rose old new = (old < new) ⊎ (new ≡ 2 ^ 64 - 1)
 
 -- a source that tells its bytes handed out these
 abbrev pub Hands : Option (List ℕ) → Option (List ℕ) → List ℕ → Type 0
-Hands old new bytes = MatchOption old (Unit {0}) (λ had. MatchOption new ⊥ (λ left. had ≡ bytes ++ left))
+Hands old new bytes =
+    MatchOption old (Unit {0}) (λ had. MatchOption new ⊥ (λ left. had ≡ bytes ++ left))
 
 -- a source that tells its bytes handed out at most so many
 abbrev pub HandsUpTo : ℕ → Option (List ℕ) → Option (List ℕ) → Type 0
@@ -20,4 +21,5 @@ Gains old new bytes = MatchOption old (Unit {0}) (λ held. new ≡ Some (held ++
 
 -- a sink gained a front of these bytes, or all of them
 abbrev pub GainsPart : Option (List ℕ) → Option (List ℕ) → List ℕ → Type 0
-GainsPart old new bytes = (front : List ℕ) × (rest : List ℕ) × (bytes ≡ front ++ rest) × Gains old new front
+GainsPart old new bytes =
+    (front : List ℕ) × (rest : List ℕ) × (bytes ≡ front ++ rest) × Gains old new front

@@ -25,7 +25,12 @@ impl Model for MemorySource {
 
     ghost Value = { MemorySourceData };
 
-    ghost view = { λ s. record { rest = drop s.at s.bytes.items; fails = s.fails.items; calls = s.calls; faults = s.faults } };
+    ghost view = { λ s. record {
+      rest = drop s.at s.bytes.items;
+      fails = s.fails.items;
+      calls = s.calls;
+      faults = s.faults;
+    } };
 
     ghost invariant = { λ s. s.at ≤ vec_len s.bytes };
 }
@@ -33,7 +38,8 @@ impl Model for MemorySource {
 impl MemorySource {
     /// These bytes, of which the reads with these numbers fail, counted from 1. It takes no memory.
     pub fn new(bytes: Vec<u8>, fails: Vec<u32>) -> Self
-        ensures { result ≡ record { rest = bytes.items; fails = fails.items; calls = 0; faults = 0 } }
+        ensures { result
+            ≡ record { rest = bytes.items; fails = fails.items; calls = 0; faults = 0 } }
     {
         MemorySource {
             bytes,
@@ -160,7 +166,12 @@ impl Model for MemorySink {
 
     ghost Value = { MemorySinkData };
 
-    ghost view = { λ s. record { bytes = s.bytes.items; fails = s.fails.items; calls = s.calls; faults = s.faults } };
+    ghost view = { λ s. record {
+      bytes = s.bytes.items;
+      fails = s.fails.items;
+      calls = s.calls;
+      faults = s.faults;
+    } };
 }
 
 impl MemorySink {
@@ -202,7 +213,8 @@ impl Sink for MemorySink {
         ensures call { self.new.calls ≡ min (self.old.calls + 1) (2 ^ 64 - 1) }
         ensures fails { (result ≡ Err SinkFault.Failed) ↔ Contains self.old.fails self.new.calls }
         ensures all { IfOk result (λ count. count ≡ length piece.now) }
-        ensures fault { result ≡ Err SinkFault.Failed → self.new.faults ≡ min (self.old.faults + 1) (2 ^ 64 - 1) }
+        ensures fault { result ≡ Err SinkFault.Failed
+            → self.new.faults ≡ min (self.old.faults + 1) (2 ^ 64 - 1) }
         ensures sound { result ≢ Err SinkFault.Failed → self.new.faults ≡ self.old.faults }
         ensures listed { self.new.fails ≡ self.old.fails }
     {

@@ -31,10 +31,17 @@ fn play_round<R: Wait, G: Gate>(
 ) -> Result<Vec<Vec<Answer>>, NoMemory>
     requires round { IsRound (length images.now) threads.now }
     requires left { 4096 * length threads.now ≤ updates_left registry.old }
-    ensures answered { IfOk result (λ answers. AllZip (λ events thread. AllZip AnswersEvent events thread.items) threads.now answers.items) }
-    ensures calls { IfOk result (λ answers. Chain PlainStep registry.old (flat_map (λ thread. flat_map (receipts_of images.now) thread.items) answers.items) registry.new) }
-    ensures played { IfOk result (λ answers. (length answers.items ≤ 16) × All (λ thread. IsPlayedThread thread.items) answers.items) }
-    ensures left { IfOk result (λ _. updates_left registry.old ≤ updates_left registry.new + 4096 * length threads.now) }
+    ensures answered { IfOk result (λ answers. AllZip
+        (λ events thread. AllZip AnswersEvent events thread.items) threads.now answers.items) }
+    ensures calls { IfOk result
+        (λ answers. Chain PlainStep registry.old (flat_map
+        (λ thread. flat_map (receipts_of images.now) thread.items) answers.items)
+        registry.new) }
+    ensures played { IfOk result
+        (λ answers. (length answers.items ≤ 16)
+        × All (λ thread. IsPlayedThread thread.items) answers.items) }
+    ensures left { IfOk result
+        (λ _. updates_left registry.old ≤ updates_left registry.new + 4096 * length threads.now) }
 {
     let mut answers = Vec::new(alloc);
     for (index, thread) in threads.iter().enumerate() {
@@ -59,9 +66,19 @@ fn play_rounds<R: Wait, G: Gate>(
 ) -> Result<Vec<Vec<Vec<Answer>>>, NoMemory>
     requires rounds { (length rounds.now ≤ 64) × All (IsRound (length images.now)) rounds.now }
     requires left { registry.old.updates ≡ 0 }
-    ensures answered { IfOk result (λ answers. AllZip (λ threads round. AllZip (λ events thread. AllZip AnswersEvent events thread.items) threads round.items) rounds.now answers.items) }
-    ensures calls { IfOk result (λ answers. Chain PlainStep registry.old (flat_map (λ round. flat_map (λ thread. flat_map (receipts_of images.now) thread.items) round.items) answers.items) registry.new) }
-    ensures played { IfOk result (λ answers. (length answers.items ≤ 64) × All (λ round. (length round.items ≤ 16) × All (λ thread. IsPlayedThread thread.items) round.items) answers.items) }
+    ensures answered { IfOk result (λ answers. AllZip
+        (λ threads round. AllZip
+        (λ events thread. AllZip AnswersEvent events thread.items) threads round.items)
+        rounds.now answers.items) }
+    ensures calls { IfOk result
+        (λ answers. Chain PlainStep registry.old (flat_map
+        (λ round. flat_map
+        (λ thread. flat_map (receipts_of images.now) thread.items) round.items) answers.items)
+        registry.new) }
+    ensures played { IfOk result
+        (λ answers. (length answers.items ≤ 64)
+        × All (λ round. (length round.items ≤ 16)
+        × All (λ thread. IsPlayedThread thread.items) round.items) answers.items) }
 {
     let mut answers = Vec::new(alloc);
     for (index, round) in rounds.iter().enumerate() {

@@ -53,7 +53,9 @@ pub fn play_thread<R: Wait, G: Gate, P: Player>(
     requires thread { IsThread (length images.now) events.now }
     requires left { length events.now ≤ P.left player.old }
     ensures answered { IfOk result (λ answers. AllZip AnswersEvent events.now answers.items) }
-    ensures calls { IfOk result (λ answers. Chain P.step player.old (flat_map (receipts_of images.now) answers.items) player.new) }
+    ensures calls { IfOk result
+        (λ answers. Chain P.step player.old (flat_map (receipts_of images.now) answers.items)
+        player.new) }
     ensures played { IfOk result (λ answers. IsPlayedThread answers.items) }
     ensures left { IfOk result (λ _. P.left player.old ≤ P.left player.new + length events.now) }
 {

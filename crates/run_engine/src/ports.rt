@@ -31,8 +31,11 @@ pub trait Source {
     fn read(&mut self, buffer: &mut [u8]) -> Result<usize, Failed>
         requires { can_read self.old }
         ensures count { IfOk result (λ count. count ≤ length buffer.old) }
-        ensures bytes { IfOk result (λ count. Hands (remaining self.old) (remaining self.new) (take count buffer.new)) }
-        ensures end { IfOk result (λ count. count ≡ 0 → 0 < length buffer.old → IfSome (remaining self.old) (λ bytes. bytes ≡ [])) }
+        ensures bytes { IfOk result
+            (λ count. Hands (remaining self.old) (remaining self.new) (take count buffer.new)) }
+        ensures end { IfOk result
+            (λ count. count ≡ 0 → 0 < length buffer.old
+            → IfSome (remaining self.old) (λ bytes. bytes ≡ [])) }
         ensures goes_on { IfOk result (λ count. 0 < count → can_read self.new) }
         ensures kept { OnErr result (remaining self.new ≡ remaining self.old) }
 
@@ -55,7 +58,8 @@ pub trait Sink {
     fn write(&mut self, piece: &[u8]) -> Result<usize, SinkFault>
         ensures count { IfOk result (λ count. count ≤ length piece.now) }
         ensures some { IfOk result (λ count. 0 < length piece.now → 0 < count) }
-        ensures bytes { IfOk result (λ count. Gains (written self.old) (written self.new) (take count piece.now)) }
+        ensures bytes { IfOk result
+            (λ count. Gains (written self.old) (written self.new) (take count piece.now)) }
         ensures err { OnErr result (written self.new ≡ written self.old) }
 
         // The count of faults rises where a write fails, and only there.

@@ -24,11 +24,15 @@ pub enum TakeFault {
 /// failed, or said its end, is not asked again.
 pub fn take_all<S: Source>(alloc: Global, source: &mut S) -> Result<Vec<u8>, TakeFault>
     requires { S.can_read source.old }
-    ensures handed { IfOk result (λ bytes. Hands (S.remaining source.old) (S.remaining source.new) bytes.items) }
+    ensures handed { IfOk result
+        (λ bytes. Hands (S.remaining source.old) (S.remaining source.new) bytes.items) }
     ensures limit { IfOk result (λ bytes. vec_len bytes ≤ LIMIT + 1) }
-    ensures all { IfOk result (λ bytes. vec_len bytes ≤ LIMIT → IfSome (S.remaining source.old) (λ had. had ≡ bytes.items)) }
+    ensures all { IfOk result
+        (λ bytes. vec_len bytes ≤ LIMIT
+        → IfSome (S.remaining source.old) (λ had. had ≡ bytes.items)) }
     ensures taken { HandsUpTo (LIMIT + 1) (S.remaining source.old) (S.remaining source.new) }
-    ensures failed { result ≡ Err TakeFault.Failed → Rose (S.faults source.old) (S.faults source.new) }
+    ensures failed { result ≡ Err TakeFault.Failed
+        → Rose (S.faults source.old) (S.faults source.new) }
     ensures sound { result ≢ Err TakeFault.Failed → S.faults source.new ≡ S.faults source.old }
 {
     let mut bytes = Vec::new(alloc);

@@ -37,10 +37,18 @@ pub fn run<R: Wait, S: Source, K: Sink, G: Gate + Sync>(
 
     // The journal theorem: the text of one lawful journal of the script that was read, of which no
     // answer is Full.
-    ensures done { result ≡ Status.Done → Writes (map string_bytes words.now) (S.remaining source.old) Status.Done (K.written sink.old) (K.written sink.new) }
-    ensures usage { result ≡ Status.Usage → Writes (map string_bytes words.now) (S.remaining source.old) Status.Usage (K.written sink.old) (K.written sink.new) }
-    ensures too_long { result ≡ Status.TooLong → Writes (map string_bytes words.now) (S.remaining source.old) Status.TooLong (K.written sink.old) (K.written sink.new) }
-    ensures script { result ≡ Status.Script → Writes (map string_bytes words.now) (S.remaining source.old) Status.Script (K.written sink.old) (K.written sink.new) }
+    ensures done { result ≡ Status.Done
+        → Writes (map string_bytes words.now) (S.remaining source.old) Status.Done
+        (K.written sink.old) (K.written sink.new) }
+    ensures usage { result ≡ Status.Usage
+        → Writes (map string_bytes words.now) (S.remaining source.old) Status.Usage
+        (K.written sink.old) (K.written sink.new) }
+    ensures too_long { result ≡ Status.TooLong
+        → Writes (map string_bytes words.now) (S.remaining source.old) Status.TooLong
+        (K.written sink.old) (K.written sink.new) }
+    ensures script { result ≡ Status.Script
+        → Writes (map string_bytes words.now) (S.remaining source.old) Status.Script
+        (K.written sink.old) (K.written sink.new) }
 
     // What is taken of the source: nothing for other words, and else one byte more than a script
     // may have at the most.
@@ -51,13 +59,22 @@ pub fn run<R: Wait, S: Source, K: Sink, G: Gate + Sync>(
     // was due.
     ensures reads { result ≢ Status.ReadFault → S.faults source.new ≡ S.faults source.old }
     ensures writes { result ≢ Status.WriteFault → K.faults sink.new ≡ K.faults sink.old }
-    ensures read_fault { result ≡ Status.ReadFault → AreTaken (map string_bytes words.now) × Rose (S.faults source.old) (S.faults source.new) × (K.written sink.new ≡ K.written sink.old) }
-    ensures write_fault { result ≡ Status.WriteFault → Rose (K.faults sink.old) (K.faults sink.new) × WritesPart (map string_bytes words.now) (S.remaining source.old) (K.written sink.old) (K.written sink.new) }
-    ensures no_memory { result ≡ Status.NoMemory → WritesPart (map string_bytes words.now) (S.remaining source.old) (K.written sink.old) (K.written sink.new) }
+    ensures read_fault { result ≡ Status.ReadFault → AreTaken (map string_bytes words.now)
+        × Rose (S.faults source.old) (S.faults source.new)
+        × (K.written sink.new ≡ K.written sink.old) }
+    ensures write_fault { result ≡ Status.WriteFault → Rose (K.faults sink.old) (K.faults sink.new)
+        × WritesPart (map string_bytes words.now) (S.remaining source.old) (K.written sink.old)
+        (K.written sink.new) }
+    ensures no_memory { result ≡ Status.NoMemory
+        → WritesPart (map string_bytes words.now) (S.remaining source.old) (K.written sink.old)
+        (K.written sink.new) }
 
     // A script that can be read and written is run, unless memory is wanted.
-    ensures complete { AreTaken (map string_bytes words.now) → IfSome (S.remaining source.old) (λ bytes. length bytes ≤ limit → (script : ScriptData) → IsScript bytes script
-        → ¬ Rose (S.faults source.old) (S.faults source.new) → ¬ Rose (K.faults sink.old) (K.faults sink.new)
+    ensures complete { AreTaken (map string_bytes words.now)
+        → IfSome (S.remaining source.old)
+        (λ bytes. length bytes ≤ limit → (script : ScriptData) → IsScript bytes script
+        → ¬ Rose (S.faults source.old) (S.faults source.new)
+        → ¬ Rose (K.faults sink.old) (K.faults sink.new)
         → (result ≡ Status.Done) ⊎ (result ≡ Status.NoMemory)) }
 {
     // Bytes that spell a script have no first bad line: `complete` rests on this law, which takes

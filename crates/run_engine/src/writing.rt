@@ -37,8 +37,12 @@ fn write_answer<K: Sink>(
     answer: &Answer,
 ) -> Result<(), SinkFault>
     requires { IsPrintable answer.now }
-    ensures ok { OnOk result (Gains (K.written sink.old) (K.written sink.new) (answer_text number.round number.thread event answer.now)) }
-    ensures err { OnErr result (GainsPart (K.written sink.old) (K.written sink.new) (answer_text number.round number.thread event answer.now)) }
+    ensures ok { OnOk result
+        (Gains (K.written sink.old) (K.written sink.new)
+        (answer_text number.round number.thread event answer.now)) }
+    ensures err { OnErr result
+        (GainsPart (K.written sink.old) (K.written sink.new)
+        (answer_text number.round number.thread event answer.now)) }
     ensures failed { result ≡ Err SinkFault.Failed → Rose (K.faults sink.old) (K.faults sink.new) }
     ensures sound { result ≢ Err SinkFault.Failed → K.faults sink.new ≡ K.faults sink.old }
 {
@@ -56,8 +60,12 @@ fn write_thread<K: Sink>(
     answers: &[Answer],
 ) -> Result<(), SinkFault>
     requires { IsPlayedThread answers.now }
-    ensures ok { OnOk result (Gains (K.written sink.old) (K.written sink.new) (thread_text number.round number.thread answers.now)) }
-    ensures err { OnErr result (GainsPart (K.written sink.old) (K.written sink.new) (thread_text number.round number.thread answers.now)) }
+    ensures ok { OnOk result
+        (Gains (K.written sink.old) (K.written sink.new)
+        (thread_text number.round number.thread answers.now)) }
+    ensures err { OnErr result
+        (GainsPart (K.written sink.old) (K.written sink.new)
+        (thread_text number.round number.thread answers.now)) }
     ensures failed { result ≡ Err SinkFault.Failed → Rose (K.faults sink.old) (K.faults sink.new) }
     ensures sound { result ≢ Err SinkFault.Failed → K.faults sink.new ≡ K.faults sink.old }
 {
@@ -77,9 +85,14 @@ fn write_round<K: Sink>(
     round: u32,
     threads: &[Vec<Answer>],
 ) -> Result<(), SinkFault>
-    requires { (length threads.now ≤ 16) × All (λ answers. IsPlayedThread answers.items) threads.now }
-    ensures ok { OnOk result (Gains (K.written sink.old) (K.written sink.new) (numbered (λ thread answers. thread_text round thread answers.items) 1 threads.now)) }
-    ensures err { OnErr result (GainsPart (K.written sink.old) (K.written sink.new) (numbered (λ thread answers. thread_text round thread answers.items) 1 threads.now)) }
+    requires { (length threads.now ≤ 16)
+        × All (λ answers. IsPlayedThread answers.items) threads.now }
+    ensures ok { OnOk result
+        (Gains (K.written sink.old) (K.written sink.new) (numbered
+        (λ thread answers. thread_text round thread answers.items) 1 threads.now)) }
+    ensures err { OnErr result
+        (GainsPart (K.written sink.old) (K.written sink.new) (numbered
+        (λ thread answers. thread_text round thread answers.items) 1 threads.now)) }
     ensures failed { result ≡ Err SinkFault.Failed → Rose (K.faults sink.old) (K.faults sink.new) }
     ensures sound { result ≢ Err SinkFault.Failed → K.faults sink.new ≡ K.faults sink.old }
 {
@@ -102,9 +115,19 @@ fn write_rounds<K: Sink>(
     sink: &mut K,
     rounds: &[Vec<Vec<Answer>>],
 ) -> Result<(), SinkFault>
-    requires { (length rounds.now ≤ 64) × All (λ threads. (length threads.items ≤ 16) × All (λ answers. IsPlayedThread answers.items) threads.items) rounds.now }
-    ensures ok { OnOk result (Gains (K.written sink.old) (K.written sink.new) (numbered (λ round threads. numbered (λ thread answers. thread_text round thread answers.items) 1 threads.items) 1 rounds.now)) }
-    ensures err { OnErr result (GainsPart (K.written sink.old) (K.written sink.new) (numbered (λ round threads. numbered (λ thread answers. thread_text round thread answers.items) 1 threads.items) 1 rounds.now)) }
+    requires { (length rounds.now ≤ 64)
+        × All (λ threads. (length threads.items ≤ 16)
+        × All (λ answers. IsPlayedThread answers.items) threads.items) rounds.now }
+    ensures ok { OnOk result
+        (Gains (K.written sink.old) (K.written sink.new) (numbered
+        (λ round threads. numbered
+        (λ thread answers. thread_text round thread answers.items) 1 threads.items) 1
+        rounds.now)) }
+    ensures err { OnErr result
+        (GainsPart (K.written sink.old) (K.written sink.new) (numbered
+        (λ round threads. numbered
+        (λ thread answers. thread_text round thread answers.items) 1 threads.items) 1
+        rounds.now)) }
     ensures failed { result ≡ Err SinkFault.Failed → Rose (K.faults sink.old) (K.faults sink.new) }
     ensures sound { result ≢ Err SinkFault.Failed → K.faults sink.new ≡ K.faults sink.old }
 {
@@ -124,8 +147,10 @@ pub fn write_journal<K: Sink>(
     journal: &Journal,
 ) -> Result<(), SinkFault>
     requires { IsPlayed journal.now.rounds }
-    ensures ok { OnOk result (Gains (K.written sink.old) (K.written sink.new) (journal_text journal.now)) }
-    ensures err { OnErr result (GainsPart (K.written sink.old) (K.written sink.new) (journal_text journal.now)) }
+    ensures ok { OnOk result
+        (Gains (K.written sink.old) (K.written sink.new) (journal_text journal.now)) }
+    ensures err { OnErr result
+        (GainsPart (K.written sink.old) (K.written sink.new) (journal_text journal.now)) }
     ensures failed { result ≡ Err SinkFault.Failed → Rose (K.faults sink.old) (K.faults sink.new) }
     ensures sound { result ≢ Err SinkFault.Failed → K.faults sink.new ≡ K.faults sink.old }
 {

@@ -212,7 +212,8 @@ pub record IsFenceMove (f : Contents) (live : ℕ → Bool) (parent slot : ℕ) 
       (first_spine f (f q.child).level q.child)
   pub above : let s = f parent in
       g parent ≡ record s { body = Pairs (at_slot (separate_at fence) slot (pairs_of s)) }
-  pub left : AllByRecursion (λ n. g n ≡ ends_at_fence fence (f n)) (last_spine f (f p.child).level p.child)
+  pub left : AllByRecursion
+      (λ n. g n ≡ ends_at_fence fence (f n)) (last_spine f (f p.child).level p.child)
   pub right : AllByRecursion (λ n. g n ≡ begins_after fence (f n))
       (first_spine f (f q.child).level q.child)
   pub others : (n : ℕ) → n ≢ parent → times n (last_spine f (f p.child).level p.child) ≡ 0

@@ -37,7 +37,10 @@ lookup_address Return pc = (pc + (2 ^ 64 - 1)) % 2 ^ 64
 
 -- the member that a place found, registered or loaded
 abbrev pub hit_of : Place → Option Member
-hit_of place = elim (member_of place.registered) [ Some m ↦ Some m | None ↦ option_and_then member_of place.loaded ]
+hit_of place = elim (member_of place.registered) [
+  | Some m ↦ Some m
+  | None ↦ option_and_then member_of place.loaded
+]
 
 -- each member that was found has a payload below a number
 abbrev pub IsBelow : ℕ → Place → Type 0
@@ -49,7 +52,8 @@ hit_section sections place = option_and_then (λ m. slice_get sections m.payload
 
 -- the FDE at an address of a section: the first that covers it, in order of bytes
 abbrev pub fde_in : ℕ → SectionData → Option FdeData
-fde_in pc s = option_map (λ e. record { section = s.address; bytes = s.bytes; entry = e }) (first_cover pc s.fdes)
+fde_in pc s = option_map
+    (λ e. record { section = s.address; bytes = s.bytes; entry = e }) (first_cover pc s.fdes)
 
 -- the FDE of the frame that a line shows
 abbrev pub fde_of : List SectionData → FrameLine → Option FdeData
@@ -68,7 +72,8 @@ pub record Shows (frame : Frame) (line : FrameLine) : Type 0 where
   pub look : line.look ≡ lookup_address frame.address line.pc
 
 -- what comes of a frame by its FDE
-pub record HasOutcome (sections : List SectionData) (memory : List RegionData) (frame : Frame) (line : FrameLine) (outcome : Stepped) : Type 0 where
+pub record HasOutcome (sections : List SectionData) (memory : List RegionData) (frame : Frame)
+    (line : FrameLine) (outcome : Stepped) : Type 0 where
   pub fde : FdeData
   pub found : fde_of sections line ≡ Some fde
   pub is_next : IsNextFrame fde line.look frame.regs.columns memory outcome
@@ -80,7 +85,8 @@ address_kind true = Instruction
 address_kind false = Return
 
 -- the next frame of a backtrace, the one that called
-pub record IsCallingFrame (sections : List SectionData) (memory : List RegionData) (frame : Frame) (line : FrameLine) (caller : Frame) : Type 0 where
+pub record IsCallingFrame (sections : List SectionData) (memory : List RegionData) (frame : Frame)
+    (line : FrameLine) (caller : Frame) : Type 0 where
   pub fde : FdeData
   pub found : fde_of sections line ≡ Some fde
   pub is_next : IsNextFrame fde line.look frame.regs.columns memory (stepped.Frame caller.regs)
@@ -91,19 +97,29 @@ pub record IsCallingFrame (sections : List SectionData) (memory : List RegionDat
 -- why a trace of so many lines ends with this frame
 abbrev pub IsEnd : List SectionData → List RegionData → ℕ → Frame → FrameLine → End → Type 0
 IsEnd sections memory count frame line NoObject = hit_of line.place ≡ None
-IsEnd sections memory count frame line NoFde = (s : SectionData) × (hit_section sections line.place ≡ Some s) × (first_cover line.look s.fdes ≡ None)
+IsEnd sections memory count frame line NoFde =
+    (s : SectionData) × (hit_section sections line.place ≡ Some s)
+    × (first_cover line.look s.fdes ≡ None)
 IsEnd sections memory count frame line NoRow = HasOutcome sections memory frame line stepped.NoRow
-IsEnd sections memory count frame line Undefined = HasOutcome sections memory frame line stepped.Undefined
-IsEnd sections memory count frame line (NoBytes a) = HasOutcome sections memory frame line (stepped.NoBytes a)
-IsEnd sections memory count frame line Long = (count ≡ 256) × ((caller : Frame) × IsCallingFrame sections memory frame line caller)
+IsEnd sections memory count frame line Undefined =
+    HasOutcome sections memory frame line stepped.Undefined
+IsEnd sections memory count frame line (NoBytes a) =
+    HasOutcome sections memory frame line (stepped.NoBytes a)
+IsEnd sections memory count frame line Long =
+    (count ≡ 256) × ((caller : Frame) × IsCallingFrame sections memory frame line caller)
 
 -- A trace unfolds where there are frames, as many as lines: the first one has the recorded
 -- registers; each line shows its frame; each further frame is the caller of the one before it; and
 -- the trace ends for the reason that the last frame has.
-pub record Unfolds (sections : List SectionData) (memory : List RegionData) (regs : Regs) (trace : TraceData) : Type 0 where
+pub record Unfolds (sections : List SectionData) (memory : List RegionData) (regs : Regs)
+    (trace : TraceData) : Type 0 where
   pub frames : List Frame
   pub first : slice_get frames 0 ≡ Some (innermost regs)
   pub shown : AllZip Shows frames trace.frames
-  pub callers : (i : ℕ) (frame caller : Frame) (line : FrameLine) → slice_get frames i ≡ Some frame → slice_get frames (i + 1) ≡ Some caller → slice_get trace.frames i ≡ Some line → IsCallingFrame sections memory frame line caller
-  pub ends : (i : ℕ) (frame : Frame) (line : FrameLine) → i + 1 ≡ length trace.frames → slice_get frames i ≡ Some frame → slice_get trace.frames i ≡ Some line → IsEnd sections memory (length trace.frames) frame line trace.end
+  pub callers : (i : ℕ) (frame caller : Frame) (line : FrameLine) → slice_get frames i ≡ Some frame
+      → slice_get frames (i + 1) ≡ Some caller → slice_get trace.frames i ≡ Some line
+      → IsCallingFrame sections memory frame line caller
+  pub ends : (i : ℕ) (frame : Frame) (line : FrameLine) → i + 1 ≡ length trace.frames
+      → slice_get frames i ≡ Some frame → slice_get trace.frames i ≡ Some line
+      → IsEnd sections memory (length trace.frames) frame line trace.end
   pub count : length trace.frames ≤ 256

@@ -12,9 +12,11 @@ use Rattle.unwind_step.specs.declared.backtrace.FrameLine.{FrameLine}
 
 -- The finder was asked for the lines' addresses, one after another, and answered with their places:
 -- from each state to the next by one query.
-abbrev pub GoesThrough : {A : Type 0} → (A → ℕ → Place → A → Type 0) → A → List FrameLine → A → Type 0
+abbrev pub GoesThrough : {A : Type 0} → (A → ℕ → Place → A → Type 0) → A → List FrameLine → A
+    → Type 0
 GoesThrough answers before [] end = before ≡ end
-GoesThrough {A} answers before (line ∷ lines) end = (next : A) × answers before line.look line.place next × GoesThrough answers next lines end
+GoesThrough {A} answers before (line ∷ lines) end =
+    (next : A) × answers before line.look line.place next × GoesThrough answers next lines end
 
 -- ---- a registry over plain lists
 

@@ -27,10 +27,12 @@ pub record Leads (row : Row) : Type 0 where
 
 -- the columns below a number are restored by their rules
 abbrev pub AreRestored : ℕ → Row → ℕ → List ℕ → List RegionData → List ℕ → Type 0
-AreRestored count row cfa old memory new = (r : ℕ) → r < count → IsRestored r (rule_in row r) cfa old memory (Ok (slice_index new r))
+AreRestored count row cfa old memory new =
+    (r : ℕ) → r < count → IsRestored r (rule_in row r) cfa old memory (Ok (slice_index new r))
 
 -- a column can't be restored, and all columns before it can
-pub record FailsFirst (row : Row) (cfa : ℕ) (old : List ℕ) (memory : List RegionData) (fault : NoBytes) : Type 0 where
+pub record FailsFirst (row : Row) (cfa : ℕ) (old : List ℕ) (memory : List RegionData)
+    (fault : NoBytes) : Type 0 where
   pub r : ℕ
   pub below : r < 17
   pub fails : IsRestored r (rule_in row r) cfa old memory (Err fault)
@@ -38,7 +40,8 @@ pub record FailsFirst (row : Row) (cfa : ℕ) (old : List ℕ) (memory : List Re
   pub earlier : AreRestored r row cfa old memory new
 
 -- the frame before, with each column restored
-pub record IsFrame (row : Row) (old : List ℕ) (memory : List RegionData) (new : List ℕ) : Type 0 where
+pub record IsFrame (row : Row) (old : List ℕ) (memory : List RegionData)
+    (new : List ℕ) : Type 0 where
   pub leads : Leads row
   pub cfa : ℕ
   pub is_cfa : IsCfa row.cfa old memory (Ok cfa)
@@ -47,15 +50,18 @@ pub record IsFrame (row : Row) (old : List ℕ) (memory : List RegionData) (new 
 
 -- the frame before can't be had: the CFA, or the first column that fails, needs bytes that weren't
 -- recorded
-pub record LacksBytes (row : Row) (old : List ℕ) (memory : List RegionData) (fault : NoBytes) : Type 0 where
+pub record LacksBytes (row : Row) (old : List ℕ) (memory : List RegionData)
+    (fault : NoBytes) : Type 0 where
   pub leads : Leads row
-  pub fails : IsCfa row.cfa old memory (Err fault) ⊎ ((cfa : ℕ) × IsCfa row.cfa old memory (Ok cfa) × FailsFirst row cfa old memory fault)
+  pub fails : IsCfa row.cfa old memory (Err fault)
+      ⊎ ((cfa : ℕ) × IsCfa row.cfa old memory (Ok cfa) × FailsFirst row cfa old memory fault)
 
 -- What a row makes of the old registers. Of two causes the first counts: no rule for the CFA;
 -- column 16 undefined, or without a rule; the CFA; the columns 0 to 16.
 abbrev pub IsStep : Row → List ℕ → List RegionData → Stepped → Type 0
 IsStep row old memory stepped.NoRow = (row.cfa ≡ cfas.Missing) ⊎ (rule_in row 16 ≡ rules.Unset)
-IsStep row old memory stepped.Undefined = (row.cfa ≢ cfas.Missing) × (rule_in row 16 ≡ rules.Undefined)
+IsStep row old memory stepped.Undefined =
+    (row.cfa ≢ cfas.Missing) × (rule_in row 16 ≡ rules.Undefined)
 IsStep row old memory (stepped.Frame regs) = IsFrame row old memory regs.columns
 IsStep row old memory (stepped.NoBytes a) = LacksBytes row old memory (record { address = a })
 
@@ -70,7 +76,8 @@ pub record IsRow (f : FdeData) (pc : ℕ) (row : Row) : Type 0 where
   pub columns : (r : ℕ) → r < 17 → slice_get row.columns r ≡ Some (rule_at r initial steps pc)
 
 -- what an FDE makes of the old registers, at the address that was looked up
-pub record IsNextFrame (f : FdeData) (look : ℕ) (old : List ℕ) (memory : List RegionData) (outcome : Stepped) : Type 0 where
+pub record IsNextFrame (f : FdeData) (look : ℕ) (old : List ℕ) (memory : List RegionData)
+    (outcome : Stepped) : Type 0 where
   pub row : Row
   pub is_row : IsRow f look row
   pub is_step : IsStep row old memory outcome

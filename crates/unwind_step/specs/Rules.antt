@@ -26,7 +26,8 @@ IsCfa (cfas.Offset q n) old memory cfa = cfa ≡ Ok ((slice_index old q + n) % 2
 -- The number that a column is restored to by its rule. Where no rule is set, it keeps its own; but
 -- column 7, the stack pointer, becomes the CFA.
 abbrev pub IsRestored : ℕ → Rule → ℕ → List ℕ → List RegionData → Result ℕ NoBytes → Type 0
-IsRestored r rules.Unset cfa old memory number = number ≡ Ok (if r == 7 then cfa else slice_index old r)
+IsRestored r rules.Unset cfa old memory number =
+    number ≡ Ok (if r == 7 then cfa else slice_index old r)
 IsRestored r rules.Undefined cfa old memory number = number ≡ Ok (slice_index old r)
 IsRestored r rules.Same cfa old memory number = number ≡ Ok (slice_index old r)
 IsRestored r (rules.Offset n) cfa old memory number = number ≡ saved_at ((cfa + n) % 2 ^ 64) memory

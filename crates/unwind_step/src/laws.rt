@@ -13,7 +13,8 @@ ghost use Rattle.unwind_step.specs.Finders.{HasPayloadsBelow, IsPlainPlace, Plai
 
 /// Payloads below a bound stay below it along the calls of a registry over plain lists.
 pub fn payloads_stay_below()
-    ensures { (bound : ℕ) (old new : PlainRegistryData) (r : Receipt) → AddsBelow bound r → Step old r new
+    ensures { (bound : ℕ) (old new : PlainRegistryData) (r : Receipt) → AddsBelow bound r
+        → Step old r new
         → HasPayloadsBelow bound old.state → HasPayloadsBelow bound new.state }
 {}
 

@@ -88,18 +88,23 @@ number_of len n = once (nat_le 1 n && nat_le n len)
 
 -- the receipts of a list hold in this history, and along it stamps and numbers never fall
 abbrev pub IsRecord : Terms → List Update → ℕ → List Receipt → Type 0
-IsRecord t history callers receipts = AllHold (start t) history t.nodes callers 0 receipts × AreInOrder 0 receipts
+IsRecord t history callers receipts =
+    AllHold (start t) history t.nodes callers 0 receipts × AreInOrder 0 receipts
 
 -- each list of a log is such a record
-pub record ReceiptsHold (t : Terms) (history : List Update) (callers : ℕ) (r : Receipts) : Type 0 where
+pub record ReceiptsHold (t : Terms) (history : List Update) (callers : ℕ)
+    (r : Receipts) : Type 0 where
   pub own : IsRecord t history callers r.own
   pub joined : AllByRecursion (IsRecord t history callers) r.joined
 
 -- Of any name, what was gathered and what was given stand against each other, but for what is
 -- unmatched and what is missing. Each name given is that of a child of one that was gathered.
 pub record LineageHolds (l : Lineage) : Type 0 where
-  pub balanced : (x : List ℕ) → name_count x l.unmatched + name_count x l.given ≡ name_count x l.missing + name_count x l.gathered
-  pub given_by : (x : List ℕ) → 0 < name_count x l.given → (p : List ℕ) × (n : ℕ) × ((x ≡ p ++ n ∷ []) × (0 < name_count p l.gathered))
+  pub balanced : (x : List ℕ)
+      → name_count x l.unmatched + name_count x l.given
+      ≡ name_count x l.missing + name_count x l.gathered
+  pub given_by : (x : List ℕ) → 0 < name_count x l.given → (p : List ℕ) × (n : ℕ)
+      × ((x ≡ p ++ n ∷ []) × (0 < name_count p l.gathered))
 
 -- The first caller's name was gathered, and no name is missing.
 pub record IsAlone (l : Lineage) : Type 0 where
@@ -150,22 +155,30 @@ AtLoader m holder id (Some h) = (holder ≡ Some id) × HoldsLoader m h
 -- where nobody holds it, the version word is a multiple of 4; where one does, that one's log has it
 abbrev pub LoaderLock : ℕ → List Log → Option ℕ → Type 0
 LoaderLock word views None = word % 4 ≡ 0
-LoaderLock word views (Some id) = (v : Log) × (h : LoaderHolding) × ((get_elem? views id ≡ some v) × (v.loader ≡ Some h))
+LoaderLock word views (Some id) =
+    (v : Log) × (h : LoaderHolding) × ((get_elem? views id ≡ some v) × (v.loader ≡ Some h))
 
 -- How the logs were forked from one another.
 pub record LineagesHold (views : List Log) : Type 0 where
   -- each name given was gathered by one log at most; but the first caller's was given by none
-  pub gathered : (x : List ℕ) → total (λ v. name_count x v.lineage.gathered) views ≡ total (λ v. name_count x v.lineage.given) views + once (is_same [] x)
+  pub gathered : (x : List ℕ)
+      → total (λ v. name_count x v.lineage.gathered) views ≡ total
+      (λ v. name_count x v.lineage.given) views + once (is_same [] x)
   pub given : (x : List ℕ) → total (λ v. name_count x v.lineage.given) views ≤ 1
   -- a log that stands has its own name
-  pub named : (id : ℕ) (v : Log) → get_elem? views id ≡ some v → is_spent v.role ≡ false → 0 < name_count v.lineage.name v.lineage.gathered
+  pub named : (id : ℕ) (v : Log) → get_elem? views id ≡ some v → is_spent v.role ≡ false
+      → 0 < name_count v.lineage.name v.lineage.gathered
   -- and has not given the names that it is yet to give; nor has another
-  pub unused : (id : ℕ) (v : Log) → get_elem? views id ≡ some v → is_spent v.role ≡ false → (n : ℕ) → v.lineage.forks ≤ n → total (λ w. name_count (v.lineage.name ++ n ∷ []) w.lineage.given) views ≡ 0
+  pub unused : (id : ℕ) (v : Log) → get_elem? views id ≡ some v → is_spent v.role ≡ false → (n : ℕ)
+      → v.lineage.forks ≤ n
+      → total (λ w. name_count (v.lineage.name ++ n ∷ []) w.lineage.given) views ≡ 0
   -- what was joined away keeps nothing
-  pub spent : (id : ℕ) (v : Log) → get_elem? views id ≡ some v → is_spent v.role ≡ true → (v.receipts.own ≡ []) × (v.receipts.joined ≡ []) × (v.made ≡ 0)
+  pub spent : (id : ℕ) (v : Log) → get_elem? views id ≡ some v → is_spent v.role ≡ true
+      → (v.receipts.own ≡ []) × (v.receipts.joined ≡ []) × (v.made ≡ 0)
 
 -- What holds of the callers and of the loader's lock, where this is the history.
-pub record CallersHold (t : Terms) (m : Memory) (views : List Log) (history : List Update) : Type 0 where
+pub record CallersHold (t : Terms) (m : Memory) (views : List Log)
+    (history : List Update) : Type 0 where
   pub holder : Option ℕ
   -- the clock counts the updates, and those of the loader
   pub lawful : IsHistory (start t) history
@@ -177,7 +190,8 @@ pub record CallersHold (t : Terms) (m : Memory) (views : List Log) (history : Li
   pub room : length history + total (λ v. v.budget.allowance) views ≤ ALLOWANCE
   -- each number stands in one log, once
   pub numbers : (n : ℕ) → total (dones_in n) views ≡ number_of (length history) n
-  pub each : (id : ℕ) (v : Log) → get_elem? views id ≡ some v → LogHolds t history (total (λ w. w.made) views + 1) v
+  pub each : (id : ℕ) (v : Log) → get_elem? views id ≡ some v
+      → LogHolds t history (total (λ w. w.made) views + 1) v
   -- there are no more callers than were ever made, and the first
   pub weights : total (λ v. weight v.role) views ≤ total (λ v. v.made) views + 1
   -- one caller at most holds the loader's lock

@@ -16,12 +16,14 @@ use Rattle.word_rule.specs.Callers.{start}
 abbrev pub ListsFrom : List ℕ → ℕ → ℕ → List Member → Type 0
 ListsFrom words at low [] = Unit {0}
 ListsFrom words at low (m ∷ members) =
-    (slice_index words at ≡ m.span.first) × (slice_index words (at + 1) ≡ m.span.last) × (slice_index words (at + 2) ≡ m.payload) × (low ≤ m.span.first)
+    (slice_index words at ≡ m.span.first) × (slice_index words (at + 1) ≡ m.span.last)
+    × (slice_index words (at + 2) ≡ m.payload) × (low ≤ m.span.first)
     × ListsFrom words (at + 3) (m.span.last + 1) members
 
 abbrev pub ListsMembers : List ℕ → List Member → Type 0
 ListsMembers words members =
-    (slice_index words 0 ≡ (if length members == 0 then 0 else 1)) × (slice_index words 1 ≡ length members) × ListsFrom words 2 0 members
+    (slice_index words 0 ≡ (if length members == 0 then 0 else 1))
+    × (slice_index words 1 ≡ length members) × ListsFrom words 2 0 members
 
 -- A copy lists these members. It ascends, so each stands there once.
 pub record ListsAll (words : List ℕ) (loaded : List Member) : Type 0 where
@@ -31,15 +33,18 @@ pub record ListsAll (words : List ℕ) (loaded : List Member) : Type 0 where
 
 -- the active copy lists the loaded members
 abbrev pub ActiveCopy : Terms → ℕ → (ℕ → List ℕ) → List Update → Type 0
-ActiveCopy t clock copies history = ListsAll (copies (upper clock % 2)) (state_after (start t) history).loaded
+ActiveCopy t clock copies history =
+    ListsAll (copies (upper clock % 2)) (state_after (start t) history).loaded
 
 -- the words of a sight are those of a copy
 abbrev pub AreOfCopy : Terms → (ℕ → List ℕ) → ℕ → List LoadedWord → Type 0
-AreOfCopy t copies c words = AllByRecursion (λ w. slice_index (copies c) (w.at - copy_place t c) ≡ w.value) words
+AreOfCopy t copies c words =
+    AllByRecursion (λ w. slice_index (copies c) (w.at - copy_place t c) ≡ w.value) words
 
 -- A sight of copies has words of its own copy alone. While the upper half of the clock is its
 -- guard, they are as they were loaded.
-pub record CopySightHolds (t : Terms) (clock : ℕ) (copies : ℕ → List ℕ) (s : CopySight) : Type 0 where
+pub record CopySightHolds (t : Terms) (clock : ℕ) (copies : ℕ
+    → List ℕ) (s : CopySight) : Type 0 where
   pub earlier : s.guard ≤ upper clock
   pub own : AllByRecursion (λ w. IsTrue (is_of_copy t (s.guard % 2) w.at)) s.words
   pub loaded : s.guard ≡ upper clock → AreOfCopy t copies (s.guard % 2) s.words

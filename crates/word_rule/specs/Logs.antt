@@ -45,7 +45,8 @@ load_of v word found = record {
 
 -- a word was loaded, or an exchange refused
 abbrev pub after_load : ℕ → ℕ → Log → Log
-after_load word found v = record v { trace = record v.trace { loads = v.trace.loads ++ load_of v word found ∷ [] } }
+after_load word found v =
+    record v { trace = record v.trace { loads = v.trace.loads ++ load_of v word found ∷ [] } }
 
 -- one more step that changed a word
 abbrev pub after_write : Log → Log
@@ -96,7 +97,10 @@ new_log terms role past budget lineage = record {
 
 -- what the first caller knows
 abbrev pub first_log : Terms → Log
-first_log t = new_log t role.Caller [] record { allowance = ALLOWANCE; credit = CREDIT } (new_lineage [])
+first_log t = new_log t role.Caller [] record {
+  allowance = ALLOWANCE;
+  credit = CREDIT;
+} (new_lineage [])
 
 -- What a caller that is split off or a note begins with: what its maker has seen, so much to do,
 -- and a name.
@@ -106,7 +110,17 @@ child_log role budget v = new_log v.terms role v.past budget (new_lineage (child
 -- what is left of a log that was joined or learnt into another
 abbrev pub spent_log : Log
 spent_log =
-    new_log record { nodes = 0; loads = 0; payloads = 0; fixed = [] } role.Spent [] record { allowance = 0; credit = 0 } record { name = []; forks = 0; missing = []; unmatched = []; gathered = []; given = [] }
+    new_log record { nodes = 0; loads = 0; payloads = 0; fixed = [] } role.Spent [] record {
+      allowance = 0;
+      credit = 0;
+    } record {
+      name = [];
+      forks = 0;
+      missing = [];
+      unmatched = [];
+      gathered = [];
+      given = [];
+    }
 
 -- The releases that a split gives away with so many of the `left` update calls: those of the calls,
 -- and half of the surplus, rounded down.
@@ -117,14 +131,21 @@ abbrev pub budget_given : ℕ → ℕ → Budget → Budget
 budget_given left give b = record { allowance = give; credit = credit_given b.credit left give }
 
 abbrev pub budget_kept : ℕ → ℕ → Budget → Budget
-budget_kept left give b = record { allowance = b.allowance - give; credit = b.credit - credit_given b.credit left give }
+budget_kept left give b =
+    record { allowance = b.allowance - give; credit = b.credit - credit_given b.credit left give }
 
 -- a caller or a note came or went
 abbrev pub after_meeting : Trace → Trace
 after_meeting t = record t { meetings = t.meetings + 1 }
 
 abbrev pub after_split : ℕ → ℕ → Log → Log
-after_split left give v = record v { budget = budget_kept left give v.budget; trace = after_meeting v.trace; made = v.made + 1; lineage = after_fork v.lineage }
+after_split left give v =
+    record v {
+      budget = budget_kept left give v.budget;
+      trace = after_meeting v.trace;
+      made = v.made + 1;
+      lineage = after_fork v.lineage;
+    }
 
 abbrev pub split_off : ℕ → ℕ → Log → Log
 split_off left give v = child_log role.Caller (budget_given left give v.budget) v
@@ -137,12 +158,21 @@ note_of v = child_log role.Note record { allowance = 0; credit = 0 } v
 
 -- a note was learnt
 abbrev pub after_learn : Log → Log → Log
-after_learn v note = record v { past = longer v.past note.past; trace = after_meeting v.trace; lineage = joined_lineage v.lineage note.lineage }
+after_learn v note = record v {
+  past = longer v.past note.past;
+  trace = after_meeting v.trace;
+  lineage = joined_lineage v.lineage note.lineage;
+}
 
 -- another caller was joined into this one
 abbrev pub after_join : Log → Log → Log
 after_join v other = record (after_learn v other) {
-  budget = record { allowance = v.budget.allowance + other.budget.allowance; credit = v.budget.credit + other.budget.credit };
-  receipts = record v.receipts { joined = v.receipts.joined ++ other.receipts.own ∷ other.receipts.joined };
+  budget = record {
+    allowance = v.budget.allowance + other.budget.allowance;
+    credit = v.budget.credit + other.budget.credit;
+  };
+  receipts = record v.receipts {
+    joined = v.receipts.joined ++ other.receipts.own ∷ other.receipts.joined;
+  };
   made = v.made + other.made;
 }

@@ -34,7 +34,12 @@ abbrev pub copy_of : Terms → List ℕ → ℕ → List ℕ
 copy_of t words c = if nat_lt c 2 then part (copy_words t) (copy_place t c) words else []
 
 abbrev pub memory_of : Terms → List ℕ → Memory
-memory_of t words = record { clock = slice_index words CLOCK; loader = slice_index words LOADER; nodes = node_words_of t words; copies = copy_of t words }
+memory_of t words = record {
+  clock = slice_index words CLOCK;
+  loader = slice_index words LOADER;
+  nodes = node_words_of t words;
+  copies = copy_of t words;
+}
 
 -- a function with another value at one place
 abbrev pub updated : {A : Type 0} → (ℕ → A) → ℕ → A → ℕ → A

@@ -38,7 +38,8 @@ IsPlaced s f = (s.level ≡ f.level) × (s.low ≡ f.low) × (s.high ≡ f.high)
 
 -- One log's lock of a node: it is the holder, the version word is its version, locked, and it has
 -- the node's words, its settled content, and whether a word was stored.
-pub record HoldsNode (t : Terms) (words : NodeWords) (shadow : Shadow) (id : ℕ) (h : Holding) : Type 0 where
+pub record HoldsNode (t : Terms) (words : NodeWords) (shadow : Shadow) (id : ℕ)
+    (h : Holding) : Type 0 where
   pub within : h.node < t.nodes
   pub is_holder : shadow.holder h.node ≡ Some id
   pub locked : IsLockedAt h.version (words.versions h.node)
@@ -53,7 +54,8 @@ pub record HoldsNode (t : Terms) (words : NodeWords) (shadow : Shadow) (id : ℕ
   pub unmarked : h.mark ≡ None → IsTrue (shadow.live h.node) → SpellsNode h.words h.settled
 
 -- What holds of one log's locks of nodes, and of what it has out.
-pub record HoldingsHold (t : Terms) (words : NodeWords) (shadow : Shadow) (id : ℕ) (holdings : Holdings) : Type 0 where
+pub record HoldingsHold (t : Terms) (words : NodeWords) (shadow : Shadow) (id : ℕ)
+    (holdings : Holdings) : Type 0 where
   pub each : AllByRecursion (HoldsNode t words shadow id) holdings.held
   -- each node is held at most once
   pub once : (n : ℕ) → count_by (λ h. h.node == n) holdings.held ≤ 1
@@ -64,7 +66,8 @@ pub record HoldingsHold (t : Terms) (words : NodeWords) (shadow : Shadow) (id : 
 -- who holds a node's lock has it in its log
 abbrev pub HeldBy : ℕ → List Log → Option ℕ → Type 0
 HeldBy n views None = Unit {0}
-HeldBy n views (Some id) = (v : Log) × ((get_elem? views id ≡ some v) × IsSome (held_of n v.holdings.held))
+HeldBy n views (Some id) =
+    (v : Log) × ((get_elem? views id ≡ some v) × IsSome (held_of n v.holdings.held))
 
 -- an unlocked node's version is a multiple of 4, and its words spell its settled content
 abbrev pub IsOpen : ℕ → List ℕ → NodeData → Option ℕ → Type 0
@@ -76,17 +79,25 @@ IsOpen version words settled (Some id) = Unit {0}
 abbrev pub IsChain : (ℕ → List ℕ) → ℕ → List ℕ → Type 0
 IsChain contents head [] = head ≡ 0
 IsChain contents head (n ∷ free) =
-    (head ≡ n) × (n ≢ 0) × (node_word (contents n) 1 ≡ 2) × IsChain contents (node_word (contents n) 6) free
+    (head ≡ n) × (n ≢ 0) × (node_word (contents n) 1 ≡ 2)
+    × IsChain contents (node_word (contents n) 6) free
 
 -- What holds of the nodes: the settled contents are a lawful tree whose entries are the registered
 -- members, and each node is live, or free, or out with one caller.
-pub record NodesHold (t : Terms) (words : NodeWords) (views : List Log) (history : List Update) (shadow : Shadow) : Type 0 where
+pub record NodesHold (t : Terms) (words : NodeWords) (views : List Log) (history : List Update)
+    (shadow : Shadow) : Type 0 where
   pub lawful : IsLawfulTree shadow.settled shadow.live
-  pub entries : (x : Member) → HasEntry shadow.settled shadow.live x ↔ Contains (state_after (start t) history).registered x
-  pub unlocked : (n : ℕ) → n < t.nodes → IsOpen (words.versions n) (words.contents n) (shadow.settled n) (shadow.holder n)
-  pub holdings : (id : ℕ) (v : Log) → get_elem? views id ≡ some v → HoldingsHold t words shadow id v.holdings
+  pub entries : (x : Member)
+      → HasEntry shadow.settled shadow.live x ↔ Contains (state_after (start t) history).registered
+      x
+  pub unlocked : (n : ℕ) → n < t.nodes
+      → IsOpen (words.versions n) (words.contents n) (shadow.settled n) (shadow.holder n)
+  pub holdings : (id : ℕ) (v : Log) → get_elem? views id ≡ some v
+      → HoldingsHold t words shadow id v.holdings
   pub holders : (n : ℕ) → HeldBy n views (shadow.holder n)
   -- every node is exactly one of live, in the free list once, or out of one log; no number from the
   -- count of nodes on is any of them
-  pub each_once : (n : ℕ) → once (shadow.live n) + times n shadow.free + total (λ v. times n v.holdings.out) views ≡ once (nat_lt n t.nodes)
+  pub each_once : (n : ℕ)
+      → once (shadow.live n) + times n shadow.free + total
+      (λ v. times n v.holdings.out) views ≡ once (nat_lt n t.nodes)
   pub chain : IsChain words.contents words.head shadow.free

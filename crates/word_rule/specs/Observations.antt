@@ -26,7 +26,9 @@ use Rattle.word_rule.specs.Copies.{CopySightHolds}
 -- A sight stands: the version is the one that was loaded, or is it with low bits set by one that
 -- has stored nothing since.
 abbrev pub Stands : (ℕ → ℕ) → Shadow → NodeSight → Type 0
-Stands versions shadow s = (versions s.node ≡ s.version) ⊎ (IsLockedAt s.version (versions s.node) × (shadow.stored s.node ≡ false))
+Stands versions shadow s =
+    (versions s.node ≡ s.version)
+    ⊎ (IsLockedAt s.version (versions s.node) × (shadow.stored s.node ≡ false))
 
 -- the words of a sight are among these of its node
 abbrev pub AreOfNode : List ℕ → List LoadedWord → Type 0
@@ -35,20 +37,24 @@ AreOfNode words loaded = AllByRecursion (λ w. node_word words w.at ≡ w.value)
 -- the entries are the members inside the fences of the content
 abbrev pub AreInside : List Member → NodeData → Type 0
 AreInside members s =
-    (x : Member) → Contains (entries_of s) x ↔ (Contains members x × (s.low ≤ x.span.first) × (x.span.last ≤ s.high))
+    (x : Member) → Contains (entries_of s) x ↔ (Contains members x × (s.low ≤ x.span.first)
+    × (x.span.last ≤ s.high))
 
 -- A version that is gone never comes back. While a sight stands its words are as they were loaded;
 -- where it is marked, its node is live, at that place; and where the clock was loaded and the node
 -- is a live leaf, its entries are the registered members of then inside its fences.
-pub record SightHolds (t : Terms) (words : NodeWords) (history : List Update) (shadow : Shadow) (s : NodeSight) : Type 0 where
+pub record SightHolds (t : Terms) (words : NodeWords) (history : List Update) (shadow : Shadow)
+    (s : NodeSight) : Type 0 where
   pub within : s.node < t.nodes
   pub even : s.version % 4 ≡ 0
   pub later : s.version ≤ words.versions s.node
   pub places : AllByRecursion (λ w. (1 ≤ w.at) × (w.at ≤ 35)) s.words
   pub loaded : Stands words.versions shadow s → AreOfNode (words.contents s.node) s.words
-  pub marked : Stands words.versions shadow s → IfSome (place_of s) (λ f. IsTrue (shadow.live s.node) × IsPlaced (shadow.settled s.node) f)
+  pub marked : Stands words.versions shadow s
+      → IfSome (place_of s) (λ f. IsTrue (shadow.live s.node) × IsPlaced (shadow.settled s.node) f)
   pub clock : Stands words.versions shadow s → IfSome s.clock (λ k. (k ≤ length history)
-      × (IsTrue (shadow.live s.node) → (shadow.settled s.node).level ≡ 0 → AreInside (state_at (start t) history k).registered (shadow.settled s.node)))
+      × (IsTrue (shadow.live s.node) → (shadow.settled s.node).level ≡ 0
+      → AreInside (state_at (start t) history k).registered (shadow.settled s.node)))
 
 -- the last stamp or number of a list
 abbrev pub last_moment : ℕ → List Receipt → ℕ
@@ -59,7 +65,8 @@ last_moment since (r ∷ receipts) = last_moment (max since (moment r)) receipts
 -- registered
 abbrev pub HadMembers : Terms → List Update → List Receipt → ℕ → Type 0
 HadMembers t history receipts least =
-    (j : ℕ) × ((last_moment 0 receipts ≤ j) × (j ≤ length history) × (least ≤ length (state_at (start t) history j).registered))
+    (j : ℕ) × ((last_moment 0 receipts ≤ j) × (j ≤ length history)
+    × (least ≤ length (state_at (start t) history j).registered))
 
 -- the count of a full node
 abbrev pub IsFullBody : ℕ → Body → Type 0
@@ -69,19 +76,25 @@ IsFullBody found (Link next) = ⊥
 
 -- A load of a full node's count by one that held it live, whose words spelled its settled content.
 abbrev pub IsFullCount : LoadEvent → Holding → Type 0
-IsFullCount l h = (l.word ≡ node_place h.node + 5) × IsSome h.mark × SpellsNode h.words h.settled × IsFullBody l.found h.settled.body
+IsFullCount l h = (l.word ≡ node_place h.node + 5) × IsSome h.mark × SpellsNode h.words h.settled
+    × IsFullBody l.found h.settled.body
 
 -- What a load tells of fullness while the receipts are those with which it was made. After a full
 -- node's count ten members were registered; after a free head of 0, twice as many as nodes that no
 -- caller can have out.
-pub record WasFull (t : Terms) (history : List Update) (callers : ℕ) (receipts : List Receipt) (l : LoadEvent) : Type 0 where
-  pub count : l.receipts ≡ length receipts → AllByRecursion (λ h. IsFullCount l h → HadMembers t history receipts 10) l.held
-  pub head : l.receipts ≡ length receipts → l.word ≡ HEAD → l.found ≡ 0 → 2 ≤ t.nodes - 4 * callers → HadMembers t history receipts (2 * (t.nodes - 4 * callers))
+pub record WasFull (t : Terms) (history : List Update) (callers : ℕ) (receipts : List Receipt)
+    (l : LoadEvent) : Type 0 where
+  pub count : l.receipts ≡ length receipts
+      → AllByRecursion (λ h. IsFullCount l h → HadMembers t history receipts 10) l.held
+  pub head : l.receipts ≡ length receipts → l.word ≡ HEAD → l.found ≡ 0 → 2 ≤ t.nodes - 4 * callers
+      → HadMembers t history receipts (2 * (t.nodes - 4 * callers))
 
 -- What holds of one log's sights and loads, where so many callers were ever made.
-pub record ObservationsHold (t : Terms) (m : Memory) (history : List Update) (callers : ℕ) (shadow : Shadow) (v : Log) : Type 0 where
+pub record ObservationsHold (t : Terms) (m : Memory) (history : List Update) (callers : ℕ)
+    (shadow : Shadow) (v : Log) : Type 0 where
   pub sights : AllByRecursion (SightHolds t m.nodes history shadow) v.sights.nodes
   pub copies : IfSome v.sights.copies (CopySightHolds t m.clock m.copies)
   pub full : AllByRecursion (WasFull t history callers v.receipts.own) v.trace.loads
   -- no load was made after more turns or receipts than there are
-  pub earlier : AllByRecursion (λ l. (l.turns ≤ turns v.trace) × (l.receipts ≤ length v.receipts.own)) v.trace.loads
+  pub earlier : AllByRecursion
+      (λ l. (l.turns ≤ turns v.trace) × (l.receipts ≤ length v.receipts.own)) v.trace.loads

@@ -83,7 +83,9 @@ abbrev pub initial_link : ℕ → ℕ → ℕ
 initial_link nodes n = if (n == 0) || (n + 1 == nodes) then 0 else (n + 1)
 
 abbrev pub initial_node : ℕ → ℕ → List ℕ
-initial_node nodes n = slice_set (slice_set (slice_set (replicate NODE_WORDS 0) 1 (initial_kind n)) 4 TOP) 6 (initial_link nodes n)
+initial_node nodes n =
+    slice_set (slice_set (slice_set (replicate NODE_WORDS 0) 1 (initial_kind n)) 4 TOP) 6
+    (initial_link nodes n)
 
 -- the words of the nodes below n
 abbrev pub initial_nodes : ℕ → ℕ → List ℕ

@@ -29,12 +29,16 @@ looks st me found me' = me' ≡ (after_load st.word found me.0, me.1)
 -- an exchange at the loader's lock for one with bit 0: the lock is taken, or another word was found
 abbrev pub locks : Stepped → Seated → ℕ → Seated → Type 0
 locks st me found me' = MatchBool (found == st.first)
-    ((st.first % 4 ≡ 0) × (st.first < 2 ^ 63) × ((h : LoaderHolding) × (IsTaken me.0.terms st.first h × (me' ≡ (after_loader_lock h me.0, me.1)))))
+    ((st.first % 4 ≡ 0) × (st.first < 2 ^ 63)
+    × ((h : LoaderHolding)
+    × (IsTaken me.0.terms st.first h × (me' ≡ (after_loader_lock h me.0, me.1)))))
     (me' ≡ (after_load st.word found me.0, me.1))
 
 -- an exchange at the loader's lock for one with bit 1
 abbrev pub marks : Stepped → Seated → ℕ → Seated → Type 0
-marks st me found me' = MatchBool (found == st.first) (me' ≡ (after_write me.0, me.1)) (me' ≡ (after_load st.word found me.0, me.1))
+marks st me found me' =
+    MatchBool (found == st.first) (me' ≡ (after_write me.0, me.1)) (me'
+    ≡ (after_load st.word found me.0, me.1))
 
 -- the word before a release is the lock's, locked
 abbrev pub WasLocked : Seated → ℕ → Type 0
@@ -49,7 +53,9 @@ releases_same st me found me' = (me' ≡ (after_loader_release_same me.0, me.1))
 -- What a caller that was joined into another is told by a load of the clock: how many calls are
 -- allowed, and, where it is alone, that its log has all that was ever done.
 abbrev pub confirms : Stepped → Seated → ℕ → Seated → Type 0
-confirms st me found me' = (me' ≡ me) × (me.0.budget.allowance ≤ ALLOWANCE) × (is_spent me.0.role ≡ false → IsAlone me.0.lineage → IsWhole me.0)
+confirms st me found me' =
+    (me' ≡ me) × (me.0.budget.allowance ≤ ALLOWANCE)
+    × (is_spent me.0.role ≡ false → IsAlone me.0.lineage → IsWhole me.0)
 
 -- a word of a copy was loaded
 abbrev pub loads_copy : Stepped → Seated → ℕ → Seated → Type 0
@@ -67,7 +73,10 @@ loads_version ask n st me found me' = me' ≡ (after_node_version ask n found me
 -- found
 abbrev pub locks_node : ℕ → Stepped → Seated → ℕ → Seated → Type 0
 locks_node n st me found me' = MatchBool (found == st.first)
-    ((st.first % 4 ≡ 0) × (st.first < 2 ^ 63) × ((settled : NodeData) × (words : List ℕ) × (SpellsNode words settled × (length words ≡ CONTENT_WORDS) × (me' ≡ (after_node_lock n st.first settled words me.0, me.1)))))
+    ((st.first % 4 ≡ 0) × (st.first < 2 ^ 63)
+    × ((settled : NodeData) × (words : List ℕ)
+    × (SpellsNode words settled × (length words ≡ CONTENT_WORDS)
+    × (me' ≡ (after_node_lock n st.first settled words me.0, me.1)))))
     (me' ≡ (after_load st.word found me.0, me.1))
 
 -- a node was put back on the free list

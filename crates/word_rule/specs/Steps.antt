@@ -50,7 +50,9 @@ place_by_held n [] = None
 place_by_held n (h ∷ held) = first_mark (place_by n h.mark h) (place_by_held n held)
 
 abbrev pub mark_at_lock : ℕ → NodeData → List Holding → Option Frame
-mark_at_lock n settled held = if n == 0 then Some record { level = settled.level; low = settled.low; high = settled.high } else place_by_held n held
+mark_at_lock n settled held =
+    if n == 0 then Some record { level = settled.level; low = settled.low; high = settled.high }
+    else place_by_held n held
 
 -- the head that is kept counts only under one lock of the root
 abbrev pub head_without : ℕ → Option ℕ → Option ℕ
@@ -60,14 +62,27 @@ head_without n head = if n == 0 then None else head
 abbrev pub after_node_lock : ℕ → ℕ → NodeData → List ℕ → Log → Log
 after_node_lock n version settled words v = record (after_write v) {
   holdings = record v.holdings {
-    held = record { node = n; version = version; settled = settled; words = words; stored = false; mark = mark_at_lock n settled v.holdings.held } ∷ v.holdings.held;
+    held = record {
+      node = n;
+      version = version;
+      settled = settled;
+      words = words;
+      stored = false;
+      mark = mark_at_lock n settled v.holdings.held;
+    } ∷ v.holdings.held;
     head = head_without n v.holdings.head;
   };
 }
 
 -- A node under whose lock nothing was stored was let go with the version at which it was locked.
 abbrev pub after_node_release_same : ℕ → Log → Log
-after_node_release_same n v = record (after_write v) { holdings = record v.holdings { held = without_lock n v.holdings.held; head = head_without n v.holdings.head } }
+after_node_release_same n v =
+    record (after_write v) {
+      holdings = record v.holdings {
+        held = without_lock n v.holdings.held;
+        head = head_without n v.holdings.head;
+      };
+    }
 
 -- A node was let go with the next version: its content settled where that is lawful.
 abbrev pub AfterNodeRelease : ℕ → Log → Log → Type 0
@@ -78,37 +93,54 @@ AfterNodeRelease n v w =
 -- A release asks that the node's words spell a node, and, where it is live and they spell another
 -- content, for a lawful exchange.
 abbrev pub MayRelease : ℕ → Log → Type 0
-MayRelease n v = IsSomeAnd (held_of n v.holdings.held) (λ h. IsSome (spelled (h.words)) × (IsSome h.mark → Differs h → IsTrue (is_lawful v None)))
+MayRelease n v = IsSomeAnd (held_of n v.holdings.held)
+    (λ h. IsSome (spelled (h.words)) × (IsSome h.mark → Differs h → IsTrue (is_lawful v None)))
 
 -- a word was stored in a held node, counted from its version word
 abbrev pub store_in : ℕ → ℕ → Holding → Holding
 store_in at value h = record h { words = slice_set h.words (at - 1) value; stored = true }
 
 abbrev pub stored_log : ℕ → ℕ → ℕ → Log → Log
-stored_log n at value v = record v { trace = record v.trace { writes = v.trace.writes + 1; stores = v.trace.stores ++ n ∷ [] }; holdings = record v.holdings { held = edited n (store_in at value) v.holdings.held } }
+stored_log n at value v =
+    record v {
+      trace = record v.trace {
+        writes = v.trace.writes + 1;
+        stores = v.trace.stores ++ n ∷ [];
+      };
+      holdings = record v.holdings { held = edited n (store_in at value) v.holdings.held };
+    }
 
 -- A word of a held node was stored. Where it made a live node free, the contents settle where that
 -- is lawful.
 abbrev pub AfterStore : ℕ → ℕ → ℕ → Log → Log → Type 0
 AfterStore n at value v w =
-    (((at ≡ 1) × (value ≡ 2) × IsTrue (marked_in v.holdings.held n)) × (w ≡ settle None (stored_log n at value v)))
-    ⊎ ((¬ ((at ≡ 1) × (value ≡ 2) × IsTrue (marked_in v.holdings.held n))) × (w ≡ stored_log n at value v))
+    (((at ≡ 1) × (value ≡ 2) × IsTrue (marked_in v.holdings.held n))
+    × (w ≡ settle None (stored_log n at value v)))
+    ⊎ ((¬ ((at ≡ 1) × (value ≡ 2) × IsTrue (marked_in v.holdings.held n)))
+    × (w ≡ stored_log n at value v))
 
 -- a store asks that the node is held, and live or out
 abbrev pub MayStore : ℕ → Log → Type 0
-MayStore n v = IsSomeAnd (held_of n v.holdings.held) (λ h. IsSome h.mark ⊎ IsTrue (is_among v.holdings.out n))
+MayStore n v = IsSomeAnd (held_of n v.holdings.held)
+    (λ h. IsSome h.mark ⊎ IsTrue (is_among v.holdings.out n))
 
 -- the receipt of an update that was accepted with this number, in the state before it
 abbrev pub IsDone : Update → ℕ → State → Receipt → Type 0
 IsDone (update.Register m) n s r = r ≡ receipt.Register m (inserted.Done n)
 IsDone (update.Load m) n s r = r ≡ receipt.Load m (loading.Done n)
-IsDone (update.Deregister base) n s r = IsSomeAnd (at_base base s.registered) (λ m. r ≡ receipt.Deregister base (removed.Done n m))
-IsDone (update.Unload base) n s r = IsSomeAnd (at_base base s.loaded) (λ m. r ≡ receipt.Unload base (removed.Done n m))
+IsDone (update.Deregister base) n s r =
+    IsSomeAnd (at_base base s.registered) (λ m. r ≡ receipt.Deregister base (removed.Done n m))
+IsDone (update.Unload base) n s r =
+    IsSomeAnd (at_base base s.loaded) (λ m. r ≡ receipt.Unload base (removed.Done n m))
 
 -- An update was accepted: it is the last of the history, which is now seen; one call less is due.
 -- The receipt is the one of its number.
 abbrev pub after_update : Update → List Update → Receipt → Log → Log
-after_update u before r v = record (with_receipts (r ∷ []) (after_write v)) { past = before ++ u ∷ []; budget = record v.budget { allowance = v.budget.allowance - 1 } }
+after_update u before r v =
+    record (with_receipts (r ∷ []) (after_write v)) {
+      past = before ++ u ∷ [];
+      budget = record v.budget { allowance = v.budget.allowance - 1 };
+    }
 
 -- A commit: the update of the tree was accepted, and the contents settled.
 abbrev pub AfterCommit : Update → Log → Log → Type 0
@@ -125,7 +157,8 @@ abbrev pub store_in_copy : ℕ → ℕ → LoaderHolding → LoaderHolding
 store_in_copy at value h = record h { spare = slice_set h.spare at value; stored = true }
 
 abbrev pub after_copy_store : ℕ → ℕ → Log → Log
-after_copy_store at value v = record (after_write v) { loader = option_map (store_in_copy at value) v.loader }
+after_copy_store at value v =
+    record (after_write v) { loader = option_map (store_in_copy at value) v.loader }
 
 -- A publication: the update of the loader was accepted, and the copy that was stored is the active
 -- one now.
@@ -133,14 +166,17 @@ abbrev pub exchange_copies : LoaderHolding → LoaderHolding
 exchange_copies h = record h { published = h.published + 1; active = h.spare; spare = h.active }
 
 abbrev pub after_publish : Update → List Update → Receipt → Log → Log
-after_publish u before r v = record (after_update u before r v) { loader = option_map exchange_copies v.loader }
+after_publish u before r v =
+    record (after_update u before r v) { loader = option_map exchange_copies v.loader }
 
 -- what a publication makes of the loaded members
 abbrev pub Publishes : Terms → Update → List Member → List Member → Type 0
 Publishes t (update.Load m) before after =
-    IsFree m.span (t.fixed ++ before) × (length before < t.loads) × ((x : Member) → Contains after x ↔ (Contains before x ⊎ (m ≡ x)))
+    IsFree m.span (t.fixed ++ before) × (length before < t.loads)
+    × ((x : Member) → Contains after x ↔ (Contains before x ⊎ (m ≡ x)))
 Publishes t (update.Unload base) before after =
-    IsSome (at_base base before) × ((x : Member) → Contains after x ↔ (Contains before x × (x.span.first ≢ base)))
+    IsSome (at_base base before)
+    × ((x : Member) → Contains after x ↔ (Contains before x × (x.span.first ≢ base)))
 Publishes t (update.Register m) before after = ⊥
 Publishes t (update.Deregister base) before after = ⊥
 
@@ -157,7 +193,8 @@ pub record MayPublish (t : Terms) (allowance : ℕ) (u : Update) (h : LoaderHold
 
 abbrev pub AfterPublish : Update → Log → Log → Type 0
 AfterPublish u v w = (before : List Update) × (r : Receipt) ×
-    (IsDone u (length before + 1) (state_after (start v.terms) before) r × (w ≡ after_publish u before r v))
+    (IsDone u (length before + 1) (state_after (start v.terms) before) r
+    × (w ≡ after_publish u before r v))
 
 -- what a receipt answers
 abbrev pub Answers : Update → Receipt → Type 0
@@ -173,32 +210,48 @@ IsRefusalOf u s stamp r = Answers u r × (accepted r ≡ None) × (moment r ≡ 
 
 -- The free head was loaded. It is kept under the root's lock.
 abbrev pub after_head_load : ℕ → Log → Log
-after_head_load found v = record (after_load HEAD found v) { holdings = record v.holdings { head = if is_some (held_of 0 v.holdings.held) then Some found else None } }
+after_head_load found v =
+    record (after_load HEAD found v) {
+      holdings = record v.holdings {
+        head = if is_some (held_of 0 v.holdings.held) then Some found else None;
+      };
+    }
 
 -- The head was stored under the root's lock: it was taken off the free list and is out, or a node
 -- that was out was put there.
 abbrev pub after_take : ℕ → ℕ → Log → Log
-after_take taken next v = record (after_write v) { holdings = record v.holdings { head = Some next; out = taken ∷ v.holdings.out } }
+after_take taken next v =
+    record (after_write v) {
+      holdings = record v.holdings { head = Some next; out = taken ∷ v.holdings.out };
+    }
 
 abbrev pub after_give : ℕ → Log → Log
-after_give n v = record (after_write v) { holdings = record v.holdings { head = Some n; out = all_but n v.holdings.out } }
+after_give n v = record (after_write v) {
+  holdings = record v.holdings { head = Some n; out = all_but n v.holdings.out };
+}
 
 -- what the words of a held node spell: that it is free, and linked to this one
 abbrev pub IsFreeTo : ℕ → ℕ → Log → Type 0
-IsFreeTo n next v = IsSomeAnd (held_of n v.holdings.held) (λ h. IsSomeAnd (spelled (h.words)) (λ s. s.body ≡ Link next))
+IsFreeTo n next v = IsSomeAnd (held_of n v.holdings.held)
+    (λ h. IsSomeAnd (spelled (h.words)) (λ s. s.body ≡ Link next))
 
 -- a store of the head takes the first node off the list, which the caller holds, or puts one there
 -- that was out
 abbrev pub MayStoreHead : ℕ → Log → Type 0
 MayStoreHead node v =
-    IsSome (held_of 0 v.holdings.held) × IsSomeAnd v.holdings.head (λ h. ((h ≢ 0) × IsFreeTo h node v × (length v.holdings.out < 4)) ⊎ (IsFreeTo node h v × IsTrue (is_among v.holdings.out node)))
+    IsSome (held_of 0 v.holdings.held)
+    × IsSomeAnd v.holdings.head
+    (λ h. ((h ≢ 0) × IsFreeTo h node v × (length v.holdings.out < 4))
+    ⊎ (IsFreeTo node h v × IsTrue (is_among v.holdings.out node)))
 
 -- side by side: an exchange at the head takes a node off, or puts one there
 abbrev pub after_pop : ℕ → Log → Log
 after_pop n v = record (after_write v) { holdings = record v.holdings { out = n ∷ v.holdings.out } }
 
 abbrev pub after_push : ℕ → Log → Log
-after_push n v = record (after_write v) { holdings = record v.holdings { out = all_but n v.holdings.out } }
+after_push n v = record (after_write v) {
+  holdings = record v.holdings { out = all_but n v.holdings.out };
+}
 
 abbrev pub MayPop : ℕ → ℕ → Log → Type 0
 MayPop n next v = (n ≢ 0) × IsFreeTo n next v × (length v.holdings.out < 4)

@@ -22,11 +22,13 @@ pub record MemoryHolds (t : Terms) (m : Memory) (views : List Log) : Type 0 wher
   pub shadow : Shadow
   pub nodes : NodesHold t m.nodes views history shadow
   pub active : ActiveCopy t m.clock m.copies history
-  pub observations : (id : ℕ) (v : Log) → get_elem? views id ≡ some v → ObservationsHold t m history (total (λ w. w.made) views + 1) shadow v
+  pub observations : (id : ℕ) (v : Log) → get_elem? views id ≡ some v
+      → ObservationsHold t m history (total (λ w. w.made) views + 1) shadow v
 
 -- Where nobody else can step, a word that was loaded since the last turn is still as it was found.
 abbrev pub IsStill : List ℕ → Log → Type 0
-IsStill words v = AllByRecursion (λ l. l.turns ≡ turns v.trace → slice_index words l.word ≡ l.found) v.trace.loads
+IsStill words v = AllByRecursion
+    (λ l. l.turns ≡ turns v.trace → slice_index words l.word ≡ l.found) v.trace.loads
 
 pub record TableInvariant (t : Terms) (words : List ℕ) (views : List Log) : Type 0 where
   pub wide : length words ≡ word_count t

@@ -41,7 +41,9 @@ fn initial_node(nodes: u32, n: u32) -> [u64; NODE_WORDS]
 /// All words at the start, for so many nodes and loads.
 pub(crate) fn initial_words(alloc: Global, nodes: u32, loads: u32) -> Result<Vec<u64>, NoMemory>
     requires { (nodes ≤ 16384) × (loads ≤ 1024) }
-    ensures { IfOk result (λ v. v.items ≡ (0 ∷ 1 ∷ 0 ∷ 0 ∷ initial_nodes nodes nodes) ++ replicate (2 * (2 + 50 * ((loads + 15) / 16))) 0) }
+    ensures { IfOk result
+        (λ v. v.items ≡ (0 ∷ 1 ∷ 0 ∷ 0 ∷ initial_nodes nodes nodes)
+        ++ replicate (2 * (2 + 50 * ((loads + 15) / 16))) 0) }
 {
     let mut words = vec![in alloc; 0u64, 1, 0, 0]?;
     for n in 0..nodes {

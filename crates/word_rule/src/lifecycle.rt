@@ -36,8 +36,12 @@ impl Words {
         requires loads { (1 ≤ loads) × (loads ≤ 1024) }
         requires ascending { AscendFrom 0 fixed.items }
         requires members { AllByRecursion (λ m. IsSpan m.span × (m.payload < payloads)) fixed.items }
-        ensures terms { IfOk result (λ made. made.0.terms ≡ record { nodes = nodes; loads = loads; payloads = payloads; fixed = fixed.items }) }
-        ensures caller { IfOk result (λ made. made.1 ≡ record { table = made.0.table; left = ALLOWANCE; log = first_log made.0.terms }) }
+        ensures terms { IfOk result
+            (λ made. made.0.terms
+            ≡ record { nodes = nodes; loads = loads; payloads = payloads; fixed = fixed.items }) }
+        ensures caller { IfOk result
+            (λ made. made.1
+            ≡ record { table = made.0.table; left = ALLOWANCE; log = first_log made.0.terms }) }
     {
         let words = initial_words(alloc, nodes, loads)?;
         let versions = vec![in alloc; 0u64; nodes as usize + 1]?;

@@ -69,7 +69,8 @@ impl Name {
 fn take_out(names: &mut Vec<Name>, name: &Name) -> bool
     ensures found { result ≡ has_name name.now names.old.items }
     ensures names { names.new.items ≡ without_name name.now names.old.items }
-    ensures room { (vec_len names.new ≤ vec_len names.old) × (vec_capacity names.new ≡ vec_capacity names.old) }
+    ensures room { (vec_len names.new ≤ vec_len names.old)
+        × (vec_capacity names.new ≡ vec_capacity names.old) }
 {
     for i in 0..names.len() {
         if names[i].is(name) {
@@ -96,7 +97,8 @@ fn has_first(names: &Vec<Name>) -> bool
 fn put(names: &mut Vec<Name>, name: Name)
     requires { vec_len names.old < vec_capacity names.old }
     ensures names { names.new.items ≡ names.old.items ++ name ∷ [] }
-    ensures room { (vec_len names.new ≡ vec_len names.old + 1) × (vec_capacity names.old ≤ vec_capacity names.new) }
+    ensures room { (vec_len names.new ≡ vec_len names.old + 1)
+        × (vec_capacity names.old ≤ vec_capacity names.new) }
 {
     match names.push(name) {
         Ok(()) => {}
@@ -107,8 +109,10 @@ fn put(names: &mut Vec<Name>, name: Name)
 // Names are gathered: each is missing no more, or else is unmatched.
 fn gather(mut names: Vec<Name>, missing: &mut Vec<Name>, unmatched: &mut Vec<Name>)
     requires { vec_len unmatched.old + vec_len names ≤ vec_capacity unmatched.old }
-    ensures lists { (missing.new.items, unmatched.new.items) ≡ gather_names names.items (missing.old.items, unmatched.old.items) }
-    ensures room { (vec_len missing.new ≤ vec_len missing.old) × (vec_capacity missing.new ≡ vec_capacity missing.old) }
+    ensures lists { (missing.new.items, unmatched.new.items)
+        ≡ gather_names names.items (missing.old.items, unmatched.old.items) }
+    ensures room { (vec_len missing.new ≤ vec_len missing.old)
+        × (vec_capacity missing.new ≡ vec_capacity missing.old) }
 {
     while let Some(name) = names.pop() {
         if !take_out(missing, &name) {
@@ -120,7 +124,8 @@ fn gather(mut names: Vec<Name>, missing: &mut Vec<Name>, unmatched: &mut Vec<Nam
 // Names were given: each is unmatched no more, or else is missing.
 fn give(mut names: Vec<Name>, missing: &mut Vec<Name>, unmatched: &mut Vec<Name>)
     requires { vec_len missing.old + vec_len names ≤ vec_capacity missing.old }
-    ensures { (missing.new.items, unmatched.new.items) ≡ give_names names.items (missing.old.items, unmatched.old.items) }
+    ensures { (missing.new.items, unmatched.new.items)
+        ≡ give_names names.items (missing.old.items, unmatched.old.items) }
 {
     while let Some(name) = names.pop() {
         if !take_out(unmatched, &name) {
@@ -155,7 +160,9 @@ impl Names {
 
     /// Gives the next name.
     pub(crate) fn fork(&mut self, alloc: Global) -> Result<Names, NoMemory>
-        ensures ok { IfOk result (λ child. (l : Lineage) → AreNamesOf self.old l → AreNamesOf self.new (after_fork l) × AreNamesOf child (new_lineage (child_name l))) }
+        ensures ok { IfOk result
+            (λ child. (l : Lineage) → AreNamesOf self.old l → AreNamesOf self.new (after_fork l)
+            × AreNamesOf child (new_lineage (child_name l))) }
         ensures err { OnErr result ((l : Lineage) → AreNamesOf self.old l → AreNamesOf self.new l) }
     {
         let Some(next) = self.forks.checked_add(1) else {
@@ -171,8 +178,11 @@ impl Names {
 
     /// Gathers all that another gathered, and gives all that it gave.
     pub(crate) fn join(&mut self, other: Names) -> Result<(), Names>
-        ensures ok { OnOk result ((l k : Lineage) → AreNamesOf self.old l → AreNamesOf other k → AreNamesOf self.new (joined_lineage l k)) }
-        ensures err { IfErr result (λ kept. (l k : Lineage) → AreNamesOf self.old l → AreNamesOf other k → AreNamesOf self.new l × AreNamesOf kept k) }
+        ensures ok { OnOk result ((l k : Lineage) → AreNamesOf self.old l → AreNamesOf other k
+            → AreNamesOf self.new (joined_lineage l k)) }
+        ensures err { IfErr result
+            (λ kept. (l k : Lineage) → AreNamesOf self.old l → AreNamesOf other k
+            → AreNamesOf self.new l × AreNamesOf kept k) }
     {
         if self.missing.try_reserve(other.missing.len()).is_err() {
             return Err(other);
@@ -193,7 +203,8 @@ impl Names {
 
     /// Whether the first caller's name was gathered, and none is missing.
     pub(crate) fn is_alone(&self) -> bool
-        ensures { IsTrue result ↔ ((0 < name_count [] self.now.unmatched.items) × (self.now.missing.items ≡ [])) }
+        ensures { IsTrue result ↔ ((0 < name_count [] self.now.unmatched.items)
+            × (self.now.missing.items ≡ [])) }
     {
         self.missing.is_empty() && has_first(&self.unmatched)
     }

@@ -23,9 +23,12 @@ impl Words {
         requires table { seat.old.table_id ≡ self.now.table }
         requires about { (G.left ≡ left) × (G.give ≡ give) }
         requires caller { seat.old.me.0.role ≡ Role.Caller }
-        requires room { (give ≤ left) × (left ≤ seat.old.me.0.budget.allowance) × (CALL_CREDIT * left ≤ seat.old.me.0.budget.credit) }
-        ensures old { (seat.new.table_id ≡ seat.old.table_id) × (seat.new.id ≡ seat.old.id) × (seat.new.me ≡ (after_split left give seat.old.me.0, seat.old.me.1)) }
-        ensures new { (result.table_id ≡ seat.old.table_id) × (result.me ≡ (split_off left give seat.old.me.0, [])) }
+        requires room { (give ≤ left) × (left ≤ seat.old.me.0.budget.allowance)
+            × (CALL_CREDIT * left ≤ seat.old.me.0.budget.credit) }
+        ensures old { (seat.new.table_id ≡ seat.old.table_id) × (seat.new.id ≡ seat.old.id)
+            × (seat.new.me ≡ (after_split left give seat.old.me.0, seat.old.me.1)) }
+        ensures new { (result.table_id ≡ seat.old.table_id)
+            × (result.me ≡ (split_off left give seat.old.me.0, [])) }
     {
         let _ = left;
         let _ = give;
@@ -36,8 +39,19 @@ impl Words {
     pub fn split(&self, alloc: Global, me: &mut Caller, give: u32) -> Result<Caller, NoMemory>
         requires table { me.old.table ≡ self.now.table }
         requires give { give ≤ me.old.left }
-        ensures new { IfOk result (λ other. other ≡ record { table = me.old.table; left = give; log = split_off me.old.left give me.old.log }) }
-        ensures me { OnOk result (me.new ≡ record { table = me.old.table; left = me.old.left - give; log = after_split me.old.left give me.old.log }) }
+        ensures new { IfOk result
+            (λ other. other
+            ≡ record {
+              table = me.old.table;
+              left = give;
+              log = split_off me.old.left give me.old.log;
+            }) }
+        ensures me { OnOk result (me.new
+            ≡ record {
+              table = me.old.table;
+              left = me.old.left - give;
+              log = after_split me.old.left give me.old.log;
+            }) }
         ensures err { OnErr result (me.new ≡ me.old) }
     {
         let versions = vec![in alloc; 0u64; me.versions.len()]?;
@@ -69,9 +83,11 @@ impl Words {
     // A load of the clock, by one into which another was joined: so it knows what it has now.
     fn confirm(&self, seat: &mut Seat<(), Log>)
         requires { seat.old.table_id ≡ self.now.table }
-        ensures same { (seat.new.table_id ≡ seat.old.table_id) × (seat.new.id ≡ seat.old.id) × (seat.new.me ≡ seat.old.me) }
+        ensures same { (seat.new.table_id ≡ seat.old.table_id) × (seat.new.id ≡ seat.old.id)
+            × (seat.new.me ≡ seat.old.me) }
         ensures allowance { seat.old.me.0.budget.allowance ≤ ALLOWANCE }
-        ensures whole { is_spent seat.old.me.0.role ≡ false → IsAlone seat.old.me.0.lineage → IsWhole seat.old.me.0 }
+        ensures whole { is_spent seat.old.me.0.role ≡ false → IsAlone seat.old.me.0.lineage
+            → IsWhole seat.old.me.0 }
     {
         self.table.shared.load::<Confirms>(seat, CLOCK_WORD);
     }
@@ -81,8 +97,14 @@ impl Words {
     pub fn join(&self, alloc: Global, me: &mut Caller, other: Caller) -> Result<(), Caller>
         requires table { me.old.table ≡ self.now.table }
         requires other { other.table ≡ self.now.table }
-        requires idle { (other.log.loader ≡ None) × (other.log.holdings.held ≡ []) × (other.log.holdings.out ≡ []) }
-        ensures ok { OnOk result (me.new ≡ record { table = me.old.table; left = me.old.left + other.left; log = after_join me.old.log other.log }) }
+        requires idle { (other.log.loader ≡ None) × (other.log.holdings.held ≡ [])
+            × (other.log.holdings.out ≡ []) }
+        ensures ok { OnOk result (me.new
+            ≡ record {
+              table = me.old.table;
+              left = me.old.left + other.left;
+              log = after_join me.old.log other.log;
+            }) }
         ensures whole { OnOk result (IsAlone me.new.log.lineage → IsWhole me.new.log) }
         ensures err { IfErr result (λ kept. (kept ≡ other) × (me.new ≡ me.old)) }
     {
@@ -114,7 +136,8 @@ impl Words {
     pub fn learn(&self, alloc: Global, me: &mut Caller, note: Note) -> Result<(), Note>
         requires table { me.old.table ≡ self.now.table }
         requires note { note.table ≡ self.now.table }
-        ensures ok { OnOk result (me.new ≡ record me.old { log = after_learn me.old.log note.log }) }
+        ensures ok { OnOk result (me.new
+            ≡ record me.old { log = after_learn me.old.log note.log }) }
         ensures err { IfErr result (λ kept. (kept ≡ note) × (me.new ≡ me.old)) }
     {
         let _ = alloc;

@@ -49,7 +49,9 @@ impl Model for Words {
 
     ghost view = { λ w. record { table = w.table.shared.table_id; terms = terms_of w.made } };
 
-    ghost invariant = { λ w. (w.table.shared.key.value ≡ w.made) × (w.table.shared.table_id.words ≡ word_count (terms_of w.made)) × (w.table.shared.table_id.slots ≡ 0) };
+    ghost invariant = { λ w. (w.table.shared.key.value ≡ w.made)
+        × (w.table.shared.table_id.words ≡ word_count (terms_of w.made))
+        × (w.table.shared.table_id.slots ≡ 0) };
 }
 
 impl Words {
@@ -92,8 +94,13 @@ impl Words {
         requires table { me.old.table ≡ self.now.table }
         requires lock { lock ≡ LockId.Loader }
         requires unlocked { seen % 2 ≡ 0 }
-        ensures ok { IfOk result (λ _. (h : LoaderHolding) × (IsTaken me.old.log.terms seen h × (me.new ≡ record me.old { log = after_loader_lock h me.old.log }))) }
-        ensures err { IfErr result (λ found. (found ≢ seen) × (me.new ≡ record me.old { log = after_load LOADER found me.old.log })) }
+        ensures ok { IfOk result
+            (λ _. (h : LoaderHolding)
+            × (IsTaken me.old.log.terms seen h
+            × (me.new ≡ record me.old { log = after_loader_lock h me.old.log }))) }
+        ensures err { IfErr result
+            (λ found. (found ≢ seen)
+            × (me.new ≡ record me.old { log = after_load LOADER found me.old.log })) }
     {
         let _ = lock;
         let found = self
@@ -113,7 +120,9 @@ impl Words {
         requires lock { lock ≡ LockId.Loader }
         requires locked { seen % 2 ≡ 1 }
         ensures ok { IfOk result (λ _. me.new ≡ record me.old { log = after_write me.old.log }) }
-        ensures err { IfErr result (λ found. (found ≢ seen) × (me.new ≡ record me.old { log = after_load LOADER found me.old.log })) }
+        ensures err { IfErr result
+            (λ found. (found ≢ seen)
+            × (me.new ≡ record me.old { log = after_load LOADER found me.old.log })) }
     {
         let _ = lock;
         let found = self.table.shared.compare_exchange::<Marks>(

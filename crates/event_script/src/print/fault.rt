@@ -46,7 +46,8 @@ fn put_reason(text: &mut String, reason: Reason) -> Result<(), AllocError>
 
 /// Adds the name of a section's refusal, where its record starts, and the place.
 fn put_section(text: &mut String, fault: FrameFault) -> Result<(), AllocError>
-    ensures { OnOk result (string_bytes text.new ≡ string_bytes text.old ++ section_fault_text fault) }
+    ensures { OnOk result (string_bytes text.new
+        ≡ string_bytes text.old ++ section_fault_text fault) }
 {
     match fault {
         FrameFault::Short { start, at } => put_places(text, "short", start, at),
@@ -68,7 +69,8 @@ fn put_section(text: &mut String, fault: FrameFault) -> Result<(), AllocError>
 }
 
 fn put_places(text: &mut String, name: &str, start: usize, at: usize) -> Result<(), AllocError>
-    ensures { OnOk result (string_bytes text.new ≡ string_bytes text.old ++ section_fault_at name.now start at) }
+    ensures { OnOk result (string_bytes text.new
+        ≡ string_bytes text.old ++ section_fault_at name.now start at) }
 {
     write!(text, "section {name} {start} {at}")
 }

@@ -46,7 +46,8 @@ struct EventNumber {
 /// The lines of an event, each after its number.
 fn lines_of(alloc: Global, number: EventNumber, answer: &Answer) -> Result<Vec<u8>, NoMemory>
     requires { IsPrintable answer.now }
-    ensures text { IfOk result (λ text. text.items ≡ answer_text number.round number.thread number.event answer.now) }
+    ensures text { IfOk result
+        (λ text. text.items ≡ answer_text number.round number.thread number.event answer.now) }
 {
     let EventNumber {
         round,
@@ -62,7 +63,8 @@ fn lines_of(alloc: Global, number: EventNumber, answer: &Answer) -> Result<Vec<u
 
 /// Adds what the line of an event says after its number.
 fn put_answer(text: &mut String, answer: &Answer) -> Result<(), AllocError>
-    ensures { OnOk result (string_bytes text.new ≡ string_bytes text.old ++ answer_line answer.now) }
+    ensures { OnOk result (string_bytes text.new
+        ≡ string_bytes text.old ++ answer_line answer.now) }
 {
     match answer {
         Answer::Register { image, answer } => {
@@ -90,14 +92,16 @@ fn put_answer(text: &mut String, answer: &Answer) -> Result<(), AllocError>
 
 /// Adds an event's word and its address, and a space.
 fn put_address(text: &mut String, word: &str, address: u64) -> Result<(), AllocError>
-    ensures { OnOk result (string_bytes text.new ≡ string_bytes text.old ++ (word.now ++ codes " " ++ hex address ++ codes " ")) }
+    ensures { OnOk result (string_bytes text.new
+        ≡ string_bytes text.old ++ (word.now ++ codes " " ++ hex address ++ codes " ")) }
 {
     write!(text, "{word} {address:x} ")
 }
 
 /// Adds the answer to a registration.
 fn put_inserted(text: &mut String, answer: &Inserted) -> Result<(), AllocError>
-    ensures { OnOk result (string_bytes text.new ≡ string_bytes text.old ++ inserted_text answer.now) }
+    ensures { OnOk result (string_bytes text.new
+        ≡ string_bytes text.old ++ inserted_text answer.now) }
 {
     match answer {
         Inserted::Done { number } => write!(text, "done {number}"),
@@ -109,7 +113,8 @@ fn put_inserted(text: &mut String, answer: &Inserted) -> Result<(), AllocError>
 
 /// Adds the answer to a load.
 fn put_loading(text: &mut String, answer: &Loading) -> Result<(), AllocError>
-    ensures { OnOk result (string_bytes text.new ≡ string_bytes text.old ++ loading_text answer.now) }
+    ensures { OnOk result (string_bytes text.new
+        ≡ string_bytes text.old ++ loading_text answer.now) }
 {
     match answer {
         Loading::Done { number } => write!(text, "done {number}"),
@@ -121,7 +126,8 @@ fn put_loading(text: &mut String, answer: &Loading) -> Result<(), AllocError>
 
 /// Adds which member overlaps, and the stamp.
 fn put_overlap(text: &mut String, member: &Member, stamp: u32) -> Result<(), AllocError>
-    ensures { OnOk result (string_bytes text.new ≡ string_bytes text.old ++ overlap_text member.now stamp) }
+    ensures { OnOk result (string_bytes text.new
+        ≡ string_bytes text.old ++ overlap_text member.now stamp) }
 {
     let base = member.span.first();
     let payload = member.payload;
@@ -130,7 +136,8 @@ fn put_overlap(text: &mut String, member: &Member, stamp: u32) -> Result<(), All
 
 /// Adds the answer to a removal.
 fn put_removed(text: &mut String, answer: &Removed) -> Result<(), AllocError>
-    ensures { OnOk result (string_bytes text.new ≡ string_bytes text.old ++ removed_text answer.now) }
+    ensures { OnOk result (string_bytes text.new
+        ≡ string_bytes text.old ++ removed_text answer.now) }
 {
     match answer {
         Removed::Done { number, member } => {
@@ -198,7 +205,8 @@ fn add_answer(
     answer: &Answer,
 ) -> Result<(), NoMemory>
     requires { IsPrintable answer.now }
-    ensures { OnOk result (text.new.items ≡ text.old.items ++ answer_text number.round number.thread number.event answer.now) }
+    ensures { OnOk result (text.new.items
+        ≡ text.old.items ++ answer_text number.round number.thread number.event answer.now) }
 {
     let lines = lines_of(alloc, number, answer)?;
     text.extend_from_slice(&lines)?;
@@ -214,7 +222,8 @@ fn add_thread(
     answers: &[Answer],
 ) -> Result<(), NoMemory>
     requires { All IsPrintable answers.now }
-    ensures { OnOk result (text.new.items ≡ text.old.items ++ thread_text round thread answers.now) }
+    ensures { OnOk result (text.new.items
+        ≡ text.old.items ++ thread_text round thread answers.now) }
 {
     for (index, answer) in answers.iter().enumerate() {
         let number = EventNumber {
@@ -235,7 +244,8 @@ fn add_round(
     threads: &[Vec<Answer>],
 ) -> Result<(), NoMemory>
     requires { All (λ answers. All IsPrintable answers.items) threads.now }
-    ensures { OnOk result (text.new.items ≡ text.old.items ++ numbered (λ thread answers. thread_text round thread answers.items) 1 threads.now) }
+    ensures { OnOk result (text.new.items ≡ text.old.items ++ numbered
+        (λ thread answers. thread_text round thread answers.items) 1 threads.now) }
 {
     for (index, answers) in threads.iter().enumerate() {
         add_thread(alloc, text, round, index + 1, answers)?;
@@ -249,8 +259,12 @@ fn add_rounds(
     text: &mut Vec<u8>,
     rounds: &[Vec<Vec<Answer>>],
 ) -> Result<(), NoMemory>
-    requires { All (λ threads. All (λ answers. All IsPrintable answers.items) threads.items) rounds.now }
-    ensures { OnOk result (text.new.items ≡ text.old.items ++ numbered (λ round threads. numbered (λ thread answers. thread_text round thread answers.items) 1 threads.items) 1 rounds.now) }
+    requires { All (λ threads. All
+        (λ answers. All IsPrintable answers.items) threads.items) rounds.now }
+    ensures { OnOk result (text.new.items ≡ text.old.items ++ numbered
+        (λ round threads. numbered
+        (λ thread answers. thread_text round thread answers.items) 1 threads.items) 1
+        rounds.now) }
 {
     for (index, threads) in rounds.iter().enumerate() {
         add_round(alloc, text, index + 1, threads)?;

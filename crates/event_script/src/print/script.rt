@@ -31,14 +31,16 @@ pub fn print_script(alloc: Global, script: &Script) -> Result<Vec<u8>, NoMemory>
 
 /// Adds the line of a number.
 fn put_number(text: &mut String, word: &str, number: u32) -> Result<(), AllocError>
-    ensures { OnOk result (string_bytes text.new ≡ string_bytes text.old ++ spelling_of (word.now ∷ decimal number ∷ [])) }
+    ensures { OnOk result (string_bytes text.new
+        ≡ string_bytes text.old ++ spelling_of (word.now ∷ decimal number ∷ [])) }
 {
     write!(text, "{word} {number}\n")
 }
 
 /// Adds the bytes of a section, or a dash where there are none.
 fn put_bytes(alloc: Global, text: &mut String, bytes: &[u8]) -> Result<(), AllocError>
-    ensures { OnOk result (string_bytes text.new ≡ string_bytes text.old ++ section_digits bytes.now) }
+    ensures { OnOk result (string_bytes text.new
+        ≡ string_bytes text.old ++ section_digits bytes.now) }
 {
     if bytes.is_empty() {
         return text.push_str("-");
@@ -55,7 +57,9 @@ fn put_image(
     span: &Span,
     section: &Section,
 ) -> Result<(), AllocError>
-    ensures { OnOk result (string_bytes text.new ≡ string_bytes text.old ++ statement_text (statement.Image (image_data number span.now section.now))) }
+    ensures { OnOk result (string_bytes text.new
+        ≡ string_bytes text.old
+        ++ statement_text (statement.Image (image_data number span.now section.now))) }
 {
     let base = span.first();
     let size = span.last() + 1 - base;
@@ -73,7 +77,8 @@ fn put_images(
     sections: &[Section],
 ) -> Result<(), AllocError>
     requires { length sections.now ≡ length images.now }
-    ensures { OnOk result (string_bytes text.new ≡ string_bytes text.old ++ statements_text (image_statements 0 images.now sections.now)) }
+    ensures { OnOk result (string_bytes text.new
+        ≡ string_bytes text.old ++ statements_text (image_statements 0 images.now sections.now)) }
 {
     for (number, span) in images.iter().enumerate() {
         put_image(alloc, text, number, span, &sections[number])?;
@@ -83,7 +88,8 @@ fn put_images(
 
 /// Adds the lines of the fixed images.
 fn put_fixed(text: &mut String, fixed: &[u32]) -> Result<(), AllocError>
-    ensures { OnOk result (string_bytes text.new ≡ string_bytes text.old ++ statements_text (map statement.Fixed fixed.now)) }
+    ensures { OnOk result (string_bytes text.new
+        ≡ string_bytes text.old ++ statements_text (map statement.Fixed fixed.now)) }
 {
     for image in fixed {
         put_number(text, "fixed", *image)?;
@@ -93,7 +99,8 @@ fn put_fixed(text: &mut String, fixed: &[u32]) -> Result<(), AllocError>
 
 /// Adds the line of an event.
 fn put_event(text: &mut String, event: &Event) -> Result<(), AllocError>
-    ensures { OnOk result (string_bytes text.new ≡ string_bytes text.old ++ statement_text (statement.Event event.now)) }
+    ensures { OnOk result (string_bytes text.new
+        ≡ string_bytes text.old ++ statement_text (statement.Event event.now)) }
 {
     match event {
         Event::Register { image } => write!(text, "register {image}\n"),
@@ -106,7 +113,8 @@ fn put_event(text: &mut String, event: &Event) -> Result<(), AllocError>
 
 /// Adds the lines of a thread's events.
 fn put_events(text: &mut String, events: &[Event]) -> Result<(), AllocError>
-    ensures { OnOk result (string_bytes text.new ≡ string_bytes text.old ++ statements_text (map statement.Event events.now)) }
+    ensures { OnOk result (string_bytes text.new
+        ≡ string_bytes text.old ++ statements_text (map statement.Event events.now)) }
 {
     for event in events {
         put_event(text, event)?;
@@ -116,7 +124,8 @@ fn put_events(text: &mut String, events: &[Event]) -> Result<(), AllocError>
 
 /// Adds the lines of a round's threads.
 fn put_threads(text: &mut String, threads: &[Thread]) -> Result<(), AllocError>
-    ensures { OnOk result (string_bytes text.new ≡ string_bytes text.old ++ statements_text (thread_statements threads.now)) }
+    ensures { OnOk result (string_bytes text.new
+        ≡ string_bytes text.old ++ statements_text (thread_statements threads.now)) }
 {
     for thread in threads {
         text.push_str("thread\n")?;
@@ -127,7 +136,8 @@ fn put_threads(text: &mut String, threads: &[Thread]) -> Result<(), AllocError>
 
 /// Adds the lines of the rounds.
 fn put_rounds(text: &mut String, rounds: &[Round]) -> Result<(), AllocError>
-    ensures { OnOk result (string_bytes text.new ≡ string_bytes text.old ++ statements_text (round_statements rounds.now)) }
+    ensures { OnOk result (string_bytes text.new
+        ≡ string_bytes text.old ++ statements_text (round_statements rounds.now)) }
 {
     for round in rounds {
         text.push_str("round\n")?;

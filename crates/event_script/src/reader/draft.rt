@@ -51,7 +51,14 @@ impl Model for Draft {
 
     ghost view = { λ d. record {
       stage = d.stage;
-      script = record { nodes = d.nodes; loads = d.loads; images = d.images.items; sections = d.sections.items; fixed = d.fixed.items; rounds = d.rounds.items };
+      script = record {
+        nodes = d.nodes;
+        loads = d.loads;
+        images = d.images.items;
+        sections = d.sections.items;
+        fixed = d.fixed.items;
+        rounds = d.rounds.items;
+      };
       threads = d.threads.items;
       events = d.events.items;
     } };
@@ -114,7 +121,8 @@ impl Draft {
 
     /// Ends the thread that goes on, if one does.
     fn end_thread(&mut self, alloc: Global) -> Result<(), LineFault>
-        ensures { LeavesDraft self.new result (Ok (record self.old { threads = threads_so_far self.old; events = [] })) }
+        ensures { LeavesDraft self.new result
+            (Ok (record self.old { threads = threads_so_far self.old; events = [] })) }
     {
         let events = replace(&mut self.events, Vec::new(alloc));
         match self.stage {

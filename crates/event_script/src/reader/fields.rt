@@ -35,7 +35,8 @@ pub fn first_field(line: &[u8]) -> (&[u8], &[u8])
 
 /// The next field, and what follows it. None where there is no field any more.
 pub fn next_field(rest: &[u8]) -> Option<(&[u8], &[u8])>
-    ensures { MatchOption result (fields_after rest.now ≡ []) (λ found. fields_after rest.now ≡ found.0.now ∷ fields_after found.1.now) }
+    ensures { MatchOption result (fields_after rest.now ≡ [])
+        (λ found. fields_after rest.now ≡ found.0.now ∷ fields_after found.1.now) }
 {
     match rest {
         [] => None,
@@ -45,7 +46,8 @@ pub fn next_field(rest: &[u8]) -> Option<(&[u8], &[u8])>
 
 /// The next field, where it is the last one.
 pub fn only_field(rest: &[u8]) -> Option<&[u8]>
-    ensures { MatchOption result (only (fields_after rest.now) ≡ None) (λ field. only (fields_after rest.now) ≡ Some field.now) }
+    ensures { MatchOption result (only (fields_after rest.now) ≡ None)
+        (λ field. only (fields_after rest.now) ≡ Some field.now) }
 {
     let (field, rest) = next_field(rest)?;
     if rest.is_empty() { Some(field) } else { None }
@@ -60,7 +62,8 @@ pub fn has_any(rest: &[u8]) -> bool
 
 /// The next five fields, where they are the last ones.
 pub fn five_fields(rest: &[u8]) -> Option<(&[u8], &[u8], &[u8], &[u8], &[u8])>
-    ensures { MatchOption result (five (fields_after rest.now) ≡ None) (λ f. five (fields_after rest.now) ≡ Some (f.0.now, f.1.now, f.2.now, f.3.now, f.4.now)) }
+    ensures { MatchOption result (five (fields_after rest.now) ≡ None)
+        (λ f. five (fields_after rest.now) ≡ Some (f.0.now, f.1.now, f.2.now, f.3.now, f.4.now)) }
 {
     let (first, rest) = next_field(rest)?;
     let (second, rest) = next_field(rest)?;

@@ -13,7 +13,8 @@ use std::alloc::Global;
 
 /// The value of a digit, in lower case.
 fn digit_of(byte: u8) -> Option<u64>
-    ensures { MatchOption result ((d : ℕ) → d < 16 → ¬ (byte ≡ digit_glyph false d)) (λ d. (d < 16) × (byte ≡ digit_glyph false d)) }
+    ensures { MatchOption result ((d : ℕ) → d < 16 → ¬ (byte ≡ digit_glyph false d))
+        (λ d. (d < 16) × (byte ≡ digit_glyph false d)) }
 {
     match byte {
         b'0'..=b'9' => Some((byte - b'0') as u64),
@@ -74,7 +75,8 @@ fn are_lower(field: &[u8]) -> bool
 #[tactic(auto, unfolding(crate::specs::Fields::section_bytes))]
 /// The bytes of a section: none for a dash, else those whose digits in lower case the field is.
 pub fn section_bytes(alloc: Global, field: &[u8]) -> Result<Option<Vec<u8>>, NoMemory>
-    ensures { IfOk result (λ found. option_map (λ bytes. bytes.items) found ≡ section_bytes field.now) }
+    ensures { IfOk result
+        (λ found. option_map (λ bytes. bytes.items) found ≡ section_bytes field.now) }
 {
     if field == b"-".as_slice() {
         return Ok(Some(Vec::new(alloc)));

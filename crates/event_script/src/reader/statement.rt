@@ -29,7 +29,13 @@ impl Model for ImageFields {
 
     ghost Value = { ImageData };
 
-    ghost view = { λ i. record { number = i.number; base = i.base; size = i.size; section = i.section; bytes = i.bytes.items } };
+    ghost view = { λ i. record {
+      number = i.number;
+      base = i.base;
+      size = i.size;
+      section = i.section;
+      bytes = i.bytes.items;
+    } };
 }
 
 /// What a line says.

@@ -114,7 +114,8 @@ pub(super) fn extended_operation(
     at: usize,
     byte: u8,
 ) -> Result<Operation, RecordFault>
-    ensures { Gives (λ o. o) (extended_operation context.now at byte).read cursor.old result cursor.new }
+    ensures { Gives (λ o. o) (extended_operation context.now at byte).read cursor.old result
+        cursor.new }
 {
     match byte {
         DW_CFA_nop => Ok(other(Instruction::Nop)),

@@ -49,7 +49,8 @@ pub(crate) fn fde(
     cie: &CieRecord,
     number: usize,
 ) -> Result<FdeEntry, RecordFault>
-    ensures read { Gives (with_cie cie.now) (fde section end cie.now).read cursor.old result cursor.new }
+    ensures read { Gives (with_cie cie.now) (fde section end cie.now).read cursor.old result
+        cursor.new }
     ensures cie { IfOk result (λ f. f.cie ≡ number) }
 {
     let pointers = cie.augmentation.pointers;
