@@ -1,5 +1,5 @@
 -- One that is alone has all that was ever done.
-use Rattle.std.proofs.Common.{◌≡◌, ◌≢◌, ℕ, ◌+◌, ◌%◌, ◌<◌, ◌≤◌, List, [], ◌∷◌, length, length-append, set, get_or, ne_eqb, sym, refl, ap, ◌∙◌, subst, arith, Option, Some, None, false, true, max, lt_of_not-le}
+use Rattle.std.proofs.Common.{◌≡◌, ◌≢◌, ℕ, ◌+◌, ◌%◌, ◌<◌, ◌≤◌, List, [], ◌∷◌, length, length-append, set, get_or, ne_eqb, sym, refl, ap, ◌∙◌, subst, arith, Option, Some, None, false, true, max, is_some, ◌&&◌, ◌==◌, lt_of_not-le}
 use Rattle.std.specs.List.{AllByRecursion, count_by}
 use Rattle.std.proofs.lemmas.List.Sums.{sum_by-cons}
 use mathlib.Core.Option.{none, some, some-injective, some-ne-none}
@@ -9,13 +9,14 @@ use borrow.Author.Tests.{le-leb}
 use Rattle.atomic_table.specs.Table.{State, Me, step, keeps, Allows, Final, Seen}
 use Rattle.atomic_table.proofs.Lists.{set_again}
 use Rattle.reg_model.specs.Receipt.{moment, accepted, AllHold}
+use Rattle.reg_model.specs.Numbers.{has_number}
 use Rattle.reg_model.specs.declared.answer.Update.{Update}
 use Rattle.reg_model.specs.declared.answer.Receipt.{Receipt}
 use Rattle.word_rule.specs.declared.log.Log.{Log}
 use Rattle.word_rule.specs.declared.log.Terms.{Terms}
 use Rattle.tree_shape.specs.Numbers.{once}
 use Rattle.word_rule.specs.Logs.{is_spent}
-use Rattle.word_rule.specs.Callers.{total, CallersHold, LogHolds, IsRecord, ReceiptsHold, IsAlone, IsWhole, is_done_as, is_done, dones, dones_of_all, dones_in, number_of, start}
+use Rattle.word_rule.specs.Callers.{total, CallersHold, LogHolds, IsRecord, ReceiptsHold, IsAlone, IsWhole, dones, dones_of_all, dones_in, number_of, start}
 use Rattle.word_rule.specs.TableInvariant.{TableInvariant}
 use Rattle.word_rule.specs.Plays.{confirms}
 use Rattle.word_rule.proofs.Facts.{part_of_total, all_of_total}
@@ -24,20 +25,20 @@ use Rattle.word_rule.proofs.Lineages.{others_spent}
 use Rattle.word_rule.proofs.Memories.{set_same}
 
 -- numbers are not above what was seen
-dones_within : (t : Terms) (past : List Update) (callers since n : ℕ) (rs : List Receipt) → length past < n → AllHold (start t) past t.nodes callers since rs → count_by (is_done n) rs ≡ 0
+dones_within : (t : Terms) (past : List Update) (callers since n : ℕ) (rs : List Receipt) → length past < n → AllHold (start t) past t.nodes callers since rs → count_by (has_number n) rs ≡ 0
 dones_within t past callers since n [] above h = refl
 dones_within t past callers since n (x ∷ rs) above h =
-    let c = sum_by-cons (λ r. once (is_done n r)) x rs in let rest = dones_within t past callers (max since (moment x)) n rs above h.1 in let w = h.0.within in
+    let c = sum_by-cons (λ r. once (has_number n r)) x rs in let rest = dones_within t past callers (max since (moment x)) n rs above h.1 in let w = h.0.within in
     let here = done_other (accepted x) (moment x) n (λ e. omega (arith, e, w, above)) in omega (arith, c, rest, here)
   where
-    done_other : (a : Option Update) (m n : ℕ) → m ≢ n → once (is_done_as n m a) ≡ 0
+    done_other : (a : Option Update) (m n : ℕ) → m ≢ n → once (is_some a && (m == n)) ≡ 0
     done_other None m n ne = refl
     done_other (Some u) m n ne = rw (ne_eqb m n ne) refl
 
 dones_all_within : (t : Terms) (past : List Update) (callers n : ℕ) (lists : List (List Receipt)) → length past < n → AllByRecursion (IsRecord t past callers) lists → dones_of_all n lists ≡ 0
 dones_all_within t past callers n [] above h = refl
 dones_all_within t past callers n (rs ∷ lists) above h =
-    let c = sum_by-cons (λ receipts. count_by (is_done n) receipts) rs lists in let a = dones_within t past callers 0 n rs above h.0.0 in let b = dones_all_within t past callers n lists above h.1 in omega (arith, c, a, b)
+    let c = sum_by-cons (λ receipts. count_by (has_number n) receipts) rs lists in let a = dones_within t past callers 0 n rs above h.0.0 in let b = dones_all_within t past callers n lists above h.1 in omega (arith, c, a, b)
 
 last_number : (n : ℕ) → 0 < n → number_of n n ≡ 1
 last_number n h = rw (le-leb 1 n h, le-leb n n (omega arith)) refl

@@ -24,7 +24,8 @@ use Rattle.word_rule.specs.declared.log.Terms.{Terms}
 use Rattle.tree_shape.specs.Numbers.{once}
 use Rattle.word_rule.specs.Names.{name_count, is_same, child_name, after_fork, joined_lineage}
 use Rattle.word_rule.specs.Logs.{is_spent, weight, turns, child_log, after_split, split_off, after_note, note_of, after_join, after_learn, spent_log, longer, budget_given}
-use Rattle.word_rule.specs.Callers.{total, CallersHold, IsIdle, IsAlone, LogHolds, LineageHolds, LineagesHold, AtLoader, LoaderLock, IsRecord, ReceiptsHold, dones, dones_of_all, dones_in, is_done, start}
+use Rattle.word_rule.specs.Callers.{total, CallersHold, IsIdle, IsAlone, LogHolds, LineageHolds, LineagesHold, AtLoader, LoaderLock, IsRecord, ReceiptsHold, dones, dones_of_all, dones_in, start}
+use Rattle.reg_model.specs.Numbers.{has_number}
 use Rattle.word_rule.specs.CallerInvariant.{IsNote}
 use Rattle.word_rule.proofs.Facts.{total_set, total_snoc, total_set_two, after_step, within, decided, behind}
 use Rattle.word_rule.proofs.Names.{same_or, once_same, once_other, once_small, count_append, new_lineage_holds, fork_holds, join_holds}
@@ -187,7 +188,7 @@ records_append t past callers [] ys h i = i
 records_append t past callers (x ∷ xs) ys h i = (h.0, records_append t past callers xs ys h.1 i)
 
 dones_append : (n : ℕ) (xs ys : List (List Receipt)) → dones_of_all n (xs ++ ys) ≡ dones_of_all n xs + dones_of_all n ys
-dones_append n xs ys = sum_by-append (λ receipts. count_by (is_done n) receipts) xs ys
+dones_append n xs ys = sum_by-append (λ receipts. count_by (has_number n) receipts) xs ys
 
 -- What is told of one into which another was joined or learnt. `lists` are the lists of receipts that it gained.
 pub record Gains (v u b : Log) (lists : List (List Receipt)) : Type 0 where
@@ -401,7 +402,7 @@ module _ (t : Terms) (id : ℕ) (v : Log) (caller : v.role ≡ role.Caller) wher
         credit = refl;
         made = refl;
         lineage = refl;
-        counts = λ n. sum_by-cons (λ receipts. count_by (is_done n) receipts) u.receipts.own u.receipts.joined;
+        counts = λ n. sum_by-cons (λ receipts. count_by (has_number n) receipts) u.receipts.own u.receipts.joined;
       }) (record { holdings = refl; sights = refl; own = refl; loads = refl; turn = omega arith }) (λ c h. h)
 
   pub learns : (other : ℕ) (u : Log) → IsNote u → Joins (λ (s : State (Unit {0}) Log). TableInvariant t s.words s.views) id v other u (after_learn v u) spent_log

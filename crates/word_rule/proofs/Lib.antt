@@ -28,5 +28,4 @@ pub mod InitialCallers
 pub mod InitialTable
 pub mod Exchanging
 pub mod NodeReleases
-pub mod TreeLaws
 pub mod Exchanges

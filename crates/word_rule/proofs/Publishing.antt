@@ -12,7 +12,7 @@ use Rattle.atomic_table.proofs.Lists.{set_here}
 use Rattle.reg_model.specs.State.{State, at_base}
 use Rattle.reg_model.specs.History.{Fits, after, state_after}
 use Rattle.reg_model.specs.PlainRegistryData.{Step}
-use Rattle.reg_model.specs.Receipt.{moment, accepted, made, Holds, IsFilled}
+use Rattle.reg_model.specs.Receipt.{moment, accepted, made, Holds, HadTenMembers}
 use Rattle.reg_model.specs.declared.span.Member.{Member}
 use Rattle.reg_model.specs.declared.answer.Update.{Update}
 use Rattle.reg_model.specs.declared.answer.Update.TheVariants as update
@@ -57,7 +57,7 @@ pub record Accepts (u : Update) (s : State) (n : ℕ) (r : Receipt) : Type 0 whe
   pub number : moment r ≡ n + 1
   pub makes : made r ≡ u ∷ []
   pub one_step : Step (record { state = s; updates = n }) r (record { state = after u s; updates = n + 1 })
-  pub no_full : (st : State) (history : List Update) (since : ℕ) → IsFilled st history since r
+  pub no_full : (st : State) (history : List Update) (since : ℕ) → HadTenMembers st history since r
 
 some_and : {A : Type 0} (P : A → Type 0) (o : Option A) (a : A) → o ≡ Some a → P a → IsSomeAnd o P
 some_and P None a e p = absurd (none-some a e)
@@ -335,7 +335,7 @@ module _ (t : Terms) (slots id : ℕ) (me : Seated) (caller : me.0.role ≡ role
 
   -- the clock gets one update more in its lower half, and one of the loader in its upper half
   pub publishes_copy : (u : Update) (h : LoaderHolding) → me.0.loader ≡ Some h → MayPublish t me.0.budget.allowance u h → Allows Rule slots id me 0 (λ n. (n + 4294967297) % 2 ^ 64) (publishes u (step slots 0 4294967297 0 none) me)
-  publishes_copy u h is may s r deep at small = (
+  publishes_copy u h is may s r deep at _ = (
     after_publish u r.memory.history (answer_of u h is may s r at).0 me.0,
     keeps,
     tt,

@@ -1,5 +1,5 @@
 -- One receipt more, and one update more.
-use Rattle.std.proofs.Common.{◌≡◌, ℕ, ◌+◌, ◌<◌, ◌≤◌, List, [], ◌∷◌, ◌++◌, length, refl, ap, ◌∙◌, arith, ◌==◌, nat_le, true, false, Some, max, eq-eqb, ne_eqb, lt_of_not-le}
+use Rattle.std.proofs.Common.{◌≡◌, ℕ, ◌+◌, ◌<◌, ◌≤◌, List, [], ◌∷◌, ◌++◌, length, is_some, ◌&&◌, refl, ap, ◌∙◌, arith, ◌==◌, nat_le, true, false, Some, max, eq-eqb, ne_eqb, lt_of_not-le}
 use Rattle.std.specs.List.{count_by}
 use Rattle.std.proofs.lemmas.List.Sums.{sum_by_push}
 use native.Mathlib.Decide.{ℕ_discrete, dec_le}
@@ -9,7 +9,8 @@ use Rattle.reg_model.specs.declared.answer.Update.{Update}
 use Rattle.reg_model.specs.declared.answer.Receipt.{Receipt}
 use Rattle.tree_shape.specs.Numbers.{once}
 use Rattle.word_rule.specs.declared.log.Terms.{Terms}
-use Rattle.word_rule.specs.Callers.{is_done_as, is_done, number_of, start}
+use Rattle.reg_model.specs.Numbers.{has_number}
+use Rattle.word_rule.specs.Callers.{number_of, start}
 use Rattle.word_rule.specs.Observations.{last_moment}
 
 pub all_hold_snoc : (t : Terms) (past : List Update) (callers since : ℕ) (rs : List Receipt) (r : Receipt) → AllHold (start t) past t.nodes callers since rs → Holds (start t) past t.nodes callers (last_moment since rs) r → AllHold (start t) past t.nodes callers since (rs ++ r ∷ [])
@@ -33,8 +34,8 @@ pub in_order_next : (t : Terms) (past : List Update) (callers : ℕ) (rs : List 
 in_order_next t past callers rs r u hold order is later = let l = last_of_within t past callers 0 0 rs (omega arith) hold in in_order_snoc 0 rs r u order is (omega (arith, l, later))
 
 -- how many say that the n-th update was accepted
-pub done_snoc : (n number : ℕ) (rs : List Receipt) (r : Receipt) (u : Update) → accepted r ≡ Some u → moment r ≡ number → count_by (is_done n) (rs ++ r ∷ []) ≡ count_by (is_done n) rs + once (number == n)
-done_snoc n number rs r u is at = sum_by_push (λ x. once (is_done n x)) rs r ∙ ap (λ b. count_by (is_done n) rs + once b) ((λ i. is_done_as n (at i) (is i)))
+pub done_snoc : (n number : ℕ) (rs : List Receipt) (r : Receipt) (u : Update) → accepted r ≡ Some u → moment r ≡ number → count_by (has_number n) (rs ++ r ∷ []) ≡ count_by (has_number n) rs + once (number == n)
+done_snoc n number rs r u is at = sum_by_push (λ x. once (has_number n x)) rs r ∙ ap (λ b. count_by (has_number n) rs + once b) (λ i. is_some (is i) && (at i == n))
 
 pub number_snoc : (len n : ℕ) → number_of (len + 1) n ≡ number_of len n + once (len + 1 == n)
 number_snoc len n = go (dec_le n len) (ℕ_discrete (len + 1) n) (dec_le 1 n)

@@ -1,7 +1,7 @@
 -- What holds of the shared words and of all callers' logs between any two steps: the callers and
 -- the loader's lock.
 use Rattle.std.specs.Prelude.{◌≡◌, ℕ, ◌+◌, ◌<◌, ◌≤◌, ◌%◌, ◌⊎◌, Bool, List, [], ◌∷◌, ◌++◌, length}
-use Rattle.std.specs.Prelude.{◌==◌, ◌&&◌, nat_le, ◌^◌, Option, Some, None, true, false}
+use Rattle.std.specs.Prelude.{◌&&◌, nat_le, ◌^◌, Option, Some, None, true, false}
 use Rattle.std.specs.List.{AllByRecursion, sum_by, count_by}
 use mathlib.Core.Option.{some}
 use mathlib.Core.List.{IsPrefix}
@@ -10,7 +10,8 @@ use Rattle.reg_model.specs.State.{State, opening}
 use Rattle.reg_model.specs.SpanData.{IsSpan}
 use Rattle.reg_model.specs.declared.span.Member.{Member}
 use Rattle.reg_model.specs.History.{IsHistory}
-use Rattle.reg_model.specs.Receipt.{moment, accepted, AllHold, AreInOrder}
+use Rattle.reg_model.specs.Receipt.{AllHold, AreInOrder}
+use Rattle.reg_model.specs.Numbers.{has_number}
 use Rattle.reg_model.specs.declared.answer.Update.{Update}
 use Rattle.reg_model.specs.declared.answer.Update.TheVariants.{Register, Deregister, Load, Unload}
 use Rattle.reg_model.specs.declared.answer.Receipt.{Receipt}
@@ -64,20 +65,12 @@ pub record AreTerms (t : Terms) : Type 0 where
   pub payloads : t.payloads < 2 ^ 32
   pub members : AllByRecursion (IsMemberOf t) t.fixed
 
--- whether an answer is the n-th update's
-abbrev pub is_done_as : ℕ → ℕ → Option Update → Bool
-is_done_as n m None = false
-is_done_as n m (Some u) = m == n
-
-abbrev pub is_done : ℕ → Receipt → Bool
-is_done n r = is_done_as n (moment r) (accepted r)
-
 -- how many receipts of a log say that the n-th update was accepted
 abbrev pub dones_of_all : ℕ → List (List Receipt) → ℕ
-dones_of_all n lists = sum_by (λ receipts. count_by (is_done n) receipts) lists
+dones_of_all n lists = sum_by (λ receipts. count_by (has_number n) receipts) lists
 
 abbrev pub dones : ℕ → Receipts → ℕ
-dones n r = count_by (is_done n) r.own + dones_of_all n r.joined
+dones n r = count_by (has_number n) r.own + dones_of_all n r.joined
 
 abbrev pub dones_in : ℕ → Log → ℕ
 dones_in n v = dones n v.receipts

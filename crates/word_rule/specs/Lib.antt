@@ -16,3 +16,4 @@ pub mod CallerInvariant
 pub mod Nodes
 pub mod Observations
 pub mod TableInvariant
+pub mod Kept

@@ -8,6 +8,7 @@ use Rattle.reg_model.specs.declared.answer.Update.{Update}
 use Rattle.reg_model.specs.declared.answer.Receipt.{Receipt}
 use Rattle.reg_model.specs.declared.span.Member.{Member}
 use Rattle.tree_shape.specs.NodeData.{NodeData, Body, Link, Pairs, Entries, entries_of}
+use Rattle.tree_shape.specs.declared.limits.TheConstants.{PAIRS, ENTRIES}
 use Rattle.word_rule.specs.declared.log.Terms.{Terms}
 use Rattle.word_rule.specs.declared.log.Holding.{Holding}
 use Rattle.word_rule.specs.declared.log.LoadEvent.{LoadEvent}
@@ -70,8 +71,8 @@ HadMembers t history receipts least =
 
 -- the count of a full node
 abbrev pub IsFullBody : ℕ → Body → Type 0
-IsFullBody found (Pairs pairs) = found ≡ 15
-IsFullBody found (Entries entries) = found ≡ 10
+IsFullBody found (Pairs pairs) = found ≡ PAIRS
+IsFullBody found (Entries entries) = found ≡ ENTRIES
 IsFullBody found (Link next) = ⊥
 
 -- A load of a full node's count by one that held it live, whose words spelled its settled content.

@@ -6,6 +6,7 @@ use Rattle.std.specs.Prelude.{if◌then◌else◌}
 use Rattle.reg_model.specs.declared.span.Member.{Member}
 use Rattle.tree_shape.specs.declared.pair.Pair.{Pair}
 use Rattle.tree_shape.specs.NodeData.{NodeData, Body, Pairs, Entries, Link}
+use Rattle.tree_shape.specs.declared.limits.TheConstants.{PAIRS, ENTRIES}
 use Rattle.word_rule.specs.Places.{TOP}
 
 -- the word of a node with this number, where these are the words after its version word
@@ -52,9 +53,9 @@ entries_at words at (suc count) =
 -- what a node of this kind with this count holds
 abbrev pub body_of_kind : List ℕ → ℕ → ℕ → Option Body
 body_of_kind words kind count =
-    if kind == 0 then (if nat_le count 15 then option_map Pairs (pairs_at words 6 count) else None)
+    if kind == 0 then (if nat_le count PAIRS then option_map Pairs (pairs_at words 6 count) else None)
     else (if kind == 1
-    then (if nat_le count 10 then option_map Entries (entries_at words 6 count) else None)
+    then (if nat_le count ENTRIES then option_map Entries (entries_at words 6 count) else None)
     else (if (kind == 2) && is_short (node_word words 6)
     then Some (Link (node_word words 6)) else None))
 

@@ -24,6 +24,7 @@
 mod caller;
 pub mod exchange;
 mod initial;
+pub mod laws;
 mod lifecycle;
 mod lineage;
 mod log;
