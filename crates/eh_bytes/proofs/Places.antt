@@ -1,6 +1,6 @@
 -- Parts that are alike spell the same texts wherever they stand: what differs is the places in their faults alone.
-use Rattle.std.proofs.Common.{◌≡◌, ℕ, ◌+◌, List, [], ◌∷◌, ◌++◌, length, Bool, true, false, Option, Some, None, refl}
-use Rattle.eh_bytes.specs.Grammar.{Part, ◌>>=◌, give, here, when, check, found, lift}
+use Rattle.std.proofs.Common.{ℕ, ◌+◌, List, [], ◌∷◌, length, Bool, Option, Some, None, refl}
+use Rattle.eh_bytes.specs.Grammar.{Part, ◌>>=◌, give, here, check, found, lift}
 use Rattle.eh_bytes.specs.Steps.{AreSteps}
 
 pub record AreAlike {F A : Type 0} (g h : Part F A) : Type 0 where

@@ -1,5 +1,5 @@
 -- Expressions: operations one after another, each of which finds its entries on the stack.
-use Rattle.std.specs.Prelude.{◌≡◌, ℕ, ◌<◌, ◌⊎◌, List, Bool, Option, Result, Ok, Err, is_ok, nat_lt}
+use Rattle.std.specs.Prelude.{◌≡◌, ℕ, ◌<◌, ◌⊎◌, List, Bool, Result, Ok, Err, is_ok, nat_lt}
 use Rattle.std.specs.Prelude.{if◌then◌else◌}
 use Rattle.eh_bytes.specs.declared.fault.ByteFault.{ByteFault}
 use Rattle.eh_bytes.specs.declared.fault.ByteFault.TheVariants as bytes
