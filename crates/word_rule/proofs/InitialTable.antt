@@ -206,7 +206,7 @@ table_begins t terms = record {
       each_once = λ n. initial_each t.nodes n terms.nodes.0;
       chain = initial_chain t terms.nodes.0;
     };
-    active = record { members = []; lists = (initial_copy t 0, initial_copy t 1, tt); same = λ m. ((λ h. h), (λ h. h)) };
+    active = record { members = []; lists = record { head = initial_copy t 0; count = initial_copy t 1; previous = λ s less. absurd (omega (arith, less)); counts = λ s less. absurd (omega (arith, less)); ascending = tt; stand = tt }; same = λ m. ((λ h. h), (λ h. h)) };
     observations = only (λ _ v. ObservationsHold t (memory_of t (initial_words t)) [] 1 (initial_shadow t) v) (first_log t) (record { sights = tt; copies = tt; full = tt; earlier = tt });
   };
   alone = only (λ _ v. IsAlone v.lineage → IsStill (initial_words t) v) (first_log t) (λ _. tt);

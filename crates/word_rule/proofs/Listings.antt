@@ -12,21 +12,22 @@ use Rattle.reg_model.proofs.Spans.{overlap_from, overlap_bounds}
 use Rattle.reg_model.proofs.Histories.{lawful_history}
 use Rattle.segment_array.specs.Ascending.{AscendFrom}
 use Rattle.word_rule.specs.declared.log.Terms.{Terms}
-use Rattle.word_rule.specs.Callers.{IsOfTerms, AreTerms, start}
-use Rattle.word_rule.specs.Copies.{ListsFrom, ListsMembers}
+use Rattle.word_rule.specs.Callers.{IsOfTerms, IsMemberOf, AreTerms, start}
+use Rattle.word_rule.proofs.Each.{all_append}
+use Rattle.word_rule.specs.Copies.{StandFrom, ListsMembers}
 use Rattle.word_rule.proofs.Members.{drop_one, length_drop_one, contains_drop_one}
 
 -- two lists of one length that the same words list are one
-lists_from_same : (words : List ℕ) (at low low' : ℕ) (xs ys : List Member) → length xs ≡ length ys → ListsFrom words at low xs → ListsFrom words at low' ys → xs ≡ ys
-lists_from_same words at low low' [] [] e h g = refl
-lists_from_same words at low low' [] (y ∷ ys) e h g = absurd (omega (arith, e))
-lists_from_same words at low low' (x ∷ xs) [] e h g = absurd (omega (arith, e))
-lists_from_same words at low low' (x ∷ xs) (y ∷ ys) e h g =
-    let rest = lists_from_same words (at + 3) (x.span.last + 1) (y.span.last + 1) xs ys (omega (arith, e)) h.4 g.4 in
+stand_same : (words : List ℕ) (i : ℕ) (xs ys : List Member) → length xs ≡ length ys → StandFrom words i xs → StandFrom words i ys → xs ≡ ys
+stand_same words i [] [] e h g = refl
+stand_same words i [] (y ∷ ys) e h g = absurd (omega (arith, e))
+stand_same words i (x ∷ xs) [] e h g = absurd (omega (arith, e))
+stand_same words i (x ∷ xs) (y ∷ ys) e h g =
+    let rest = stand_same words (i + 1) xs ys (omega (arith, e)) h.3 g.3 in
     (λ i. record { span = record { first = (sym h.0 ∙ g.0) i; last = (sym h.1 ∙ g.1) i }; payload = (sym h.2 ∙ g.2) i } ∷ rest i)
 
 pub lists_same : (words : List ℕ) (xs ys : List Member) → ListsMembers words xs → ListsMembers words ys → xs ≡ ys
-lists_same words xs ys h g = lists_from_same words 2 0 0 xs ys (sym h.1 ∙ g.1) h.2 g.2
+lists_same words xs ys h g = stand_same words 0 xs ys (sym h.count ∙ g.count) h.stand g.stand
 
 -- what a filter keeps
 pub contains_filter : (p : Member → Bool) (xs : List Member) (x : Member) → Contains (filter p xs) x → Contains xs x × (p x ≡ true)
@@ -85,6 +86,22 @@ loaded_spans t s (update.Deregister base ∷ history) h all x c = loaded_spans t
 loaded_spans t s (update.Load m ∷ history) h all x c = loaded_spans t (after (update.Load m) s) history h.1 (λ z d. ⊎_elim (λ (e : Contains s.loaded z). all z e) (λ (e : m ≡ z). subst (λ y. IsSpan y.span) e h.0.0) (Contains-push_cases s.loaded m z d)) x c
 loaded_spans t s (update.Unload base ∷ history) h all x c = loaded_spans t (after (update.Unload base) s) history h.1 (λ z d. all z (contains_filter (λ m. not (m.span.first == base)) s.loaded z d).0) x c
 
+-- loaded members may be made known
+pub loaded_members : (t : Terms) (s : State) (history : List Update) → AllByRecursion (IsOfTerms t) history → AllByRecursion (IsMemberOf t) s.loaded → AllByRecursion (IsMemberOf t) (state_after s history).loaded
+loaded_members t s [] h all = all
+loaded_members t s (update.Register m ∷ history) h all = loaded_members t (after (update.Register m) s) history h.1 all
+loaded_members t s (update.Deregister base ∷ history) h all = loaded_members t (after (update.Deregister base) s) history h.1 all
+loaded_members t s (update.Load m ∷ history) h all = loaded_members t (after (update.Load m) s) history h.1 (all_append (IsMemberOf t) s.loaded (m ∷ []) all (h.0, tt))
+loaded_members t s (update.Unload base ∷ history) h all = loaded_members t (after (update.Unload base) s) history h.1 (kept (λ m. not (m.span.first == base)) s.loaded all)
+  where
+    kept : (p : Member → Bool) (xs : List Member) → AllByRecursion (IsMemberOf t) xs → AllByRecursion (IsMemberOf t) (filter p xs)
+    kept p [] every = tt
+    kept p (y ∷ xs) every = go (p y) (kept p xs every.1)
+      where
+        go : (b : Bool) → AllByRecursion (IsMemberOf t) (filter p xs) → AllByRecursion (IsMemberOf t) (if b then (y ∷ filter p xs) else filter p xs)
+        go true rest = (every.0, rest)
+        go false rest = rest
+
 -- members that ascend are disjoint
 above_free : (x : Member) (low : ℕ) (xs : List Member) → x.span.last < low → AscendFrom low xs → AllByRecursion (λ m. ¬ Overlaps m.span x.span) xs
 above_free x low [] less h = tt
@@ -100,7 +117,7 @@ ascending_disjoint : (low : ℕ) (xs : List Member) → AscendFrom low xs → Ar
 ascending_disjoint low [] h = tt
 ascending_disjoint low (x ∷ xs) h = (all_by_index (λ m. ¬ Overlaps m.span x.span) xs (above_free x (x.span.last + 1) xs (omega arith) h.2), ascending_disjoint (x.span.last + 1) xs h.2)
 
-start_lawful : (t : Terms) → AreTerms t → IsLawful (start t)
+pub start_lawful : (t : Terms) → AreTerms t → IsLawful (start t)
 start_lawful t terms = record { registered = tt; objects = subst AreDisjoint (sym (append-nil t.fixed)) (ascending_disjoint 0 t.fixed terms.fixed); room = omega arith }
 
 disjoint_rest : (xs ys : List Member) → AreDisjoint (xs ++ ys) → AreDisjoint ys

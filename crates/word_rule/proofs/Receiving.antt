@@ -1,5 +1,5 @@
 -- One receipt more, and one update more.
-use Rattle.std.proofs.Common.{◌≡◌, ℕ, ◌+◌, ◌<◌, ◌≤◌, List, [], ◌∷◌, ◌++◌, length, is_some, ◌&&◌, refl, ap, ◌∙◌, arith, ◌==◌, nat_le, true, false, Some, max, eq-eqb, ne_eqb, lt_of_not-le}
+use Rattle.std.proofs.Common.{◌≡◌, ℕ, ◌+◌, ◌<◌, ◌≤◌, List, [], ◌∷◌, ◌++◌, length, is_some, ◌&&◌, refl, ap, ◌∙◌, arith, ◌==◌, nat_le, true, false, Some, None, max, eq-eqb, ne_eqb, lt_of_not-le}
 use Rattle.std.specs.List.{count_by}
 use Rattle.std.proofs.lemmas.List.Sums.{sum_by_push}
 use native.Mathlib.Decide.{ℕ_discrete, dec_le}
@@ -32,6 +32,14 @@ in_order_snoc since (x ∷ rs) r u h is later = (h.0, in_order_snoc (moment x) r
 
 pub in_order_next : (t : Terms) (past : List Update) (callers : ℕ) (rs : List Receipt) (r : Receipt) (u : Update) → AllHold (start t) past t.nodes callers 0 rs → AreInOrder 0 rs → accepted r ≡ Some u → length past < moment r → AreInOrder 0 (rs ++ r ∷ [])
 in_order_next t past callers rs r u hold order is later = let l = last_of_within t past callers 0 0 rs (omega arith) hold in in_order_snoc 0 rs r u order is (omega (arith, l, later))
+
+-- an answer that accepts nothing, at the end of all that was seen
+pub in_order_later : (t : Terms) (past : List Update) (callers : ℕ) (rs : List Receipt) (r : Receipt) → AllHold (start t) past t.nodes callers 0 rs → AreInOrder 0 rs → accepted r ≡ None → moment r ≡ length past → AreInOrder 0 (rs ++ r ∷ [])
+in_order_later t past callers rs r hold order is now = let l = last_of_within t past callers 0 0 rs (omega arith) hold in go 0 rs order (omega (arith, l, now))
+  where
+    go : (since : ℕ) (qs : List Receipt) → AreInOrder since qs → last_of since qs ≤ moment r → AreInOrder since (qs ++ r ∷ [])
+    go since [] h later = (rw is later, tt)
+    go since (x ∷ qs) h later = (h.0, go (moment x) qs h.1 later)
 
 -- how many say that the n-th update was accepted
 pub done_snoc : (n number : ℕ) (rs : List Receipt) (r : Receipt) (u : Update) → accepted r ≡ Some u → moment r ≡ number → count_by (has_number n) (rs ++ r ∷ []) ≡ count_by (has_number n) rs + once (number == n)

@@ -1,6 +1,6 @@
 -- The loader's copies: what a copy lists, and what a caller has seen of the active one.
-use Rattle.std.specs.Prelude.{◌≡◌, ℕ, ◌+◌, ◌-◌, ◌≤◌, ◌%◌, ◌↔◌, ◌==◌, IsTrue, List, [], ◌∷◌, length}
-use Rattle.std.specs.Prelude.{slice_index, Contains, if◌then◌else◌}
+use Rattle.std.specs.Prelude.{◌≡◌, ℕ, ◌+◌, ◌-◌, ◌*◌, ◌<◌, ◌≤◌, ◌%◌, ◌↔◌, IsTrue, List, [], ◌∷◌}
+use Rattle.std.specs.Prelude.{length, min, slice_index, Contains}
 use Rattle.std.specs.List.{AllByRecursion}
 use Rattle.reg_model.specs.History.{state_after}
 use Rattle.reg_model.specs.declared.answer.Update.{Update}
@@ -8,22 +8,37 @@ use Rattle.reg_model.specs.declared.span.Member.{Member}
 use Rattle.word_rule.specs.declared.log.Terms.{Terms}
 use Rattle.word_rule.specs.declared.log.LoadedWord.{LoadedWord}
 use Rattle.word_rule.specs.declared.log.CopySight.{CopySight}
-use Rattle.word_rule.specs.Places.{copy_place, is_of_copy, upper}
+use Rattle.segment_array.specs.Ascending.{AscendFrom}
+use Rattle.word_rule.specs.Places.{copy_place, is_of_copy, segments, segment_place, member_place}
+use Rattle.word_rule.specs.Places.{upper}
 use Rattle.word_rule.specs.Callers.{start}
 
--- A copy that lists members one after another: whether there is any, how many, and of each its
--- first and last address and its payload, in ascending order.
-abbrev pub ListsFrom : List ℕ → ℕ → ℕ → List Member → Type 0
-ListsFrom words at low [] = Unit {0}
-ListsFrom words at low (m ∷ members) =
-    (slice_index words at ≡ m.span.first) × (slice_index words (at + 1) ≡ m.span.last)
-    × (slice_index words (at + 2) ≡ m.payload) × (low ≤ m.span.first)
-    × ListsFrom words (at + 3) (m.span.last + 1) members
+-- The members stand in a copy one after another, from the i-th on: of each its first and last
+-- address and its payload.
+abbrev pub StandFrom : List ℕ → ℕ → List Member → Type 0
+StandFrom words i [] = Unit {0}
+StandFrom words i (m ∷ members) =
+    (slice_index words (member_place i) ≡ m.span.first)
+    × (slice_index words (member_place i + 1) ≡ m.span.last)
+    × (slice_index words (member_place i + 2) ≡ m.payload)
+    × StandFrom words (i + 1) members
 
-abbrev pub ListsMembers : List ℕ → List Member → Type 0
-ListsMembers words members =
-    (slice_index words 0 ≡ (if length members == 0 then 0 else 1))
-    × (slice_index words 1 ≡ length members) × ListsFrom words 2 0 members
+-- of so many members, those in this segment: all segments but the highest are full
+abbrev pub count_in : ℕ → ℕ → ℕ
+count_in count s = min 16 (count - 16 * s)
+
+-- A copy lists members in ascending order: it says how many there are and how many segments they
+-- fill, and each segment how many it has; segments are numbered from 1, and each says the number
+-- of the one below it.
+pub record ListsMembers (words : List ℕ) (members : List Member) : Type 0 where
+  pub head : slice_index words 0 ≡ segments (length members)
+  pub count : slice_index words 1 ≡ length members
+  pub previous : (s : ℕ) → s < segments (length members)
+      → slice_index words (segment_place s) ≡ s
+  pub counts : (s : ℕ) → s < segments (length members)
+      → slice_index words (segment_place s + 1) ≡ count_in (length members) s
+  pub ascending : AscendFrom 0 members
+  pub stand : StandFrom words 0 members
 
 -- A copy lists these members. It ascends, so each stands there once.
 pub record ListsAll (words : List ℕ) (loaded : List Member) : Type 0 where
@@ -36,15 +51,15 @@ abbrev pub ActiveCopy : Terms → ℕ → (ℕ → List ℕ) → List Update →
 ActiveCopy t clock copies history =
     ListsAll (copies (upper clock % 2)) (state_after (start t) history).loaded
 
--- the words of a sight are those of a copy
-abbrev pub AreOfCopy : Terms → (ℕ → List ℕ) → ℕ → List LoadedWord → Type 0
-AreOfCopy t copies c words =
-    AllByRecursion (λ w. slice_index (copies c) (w.at - copy_place t c) ≡ w.value) words
+-- the words that were loaded are those of copy c
+abbrev pub AreOfCopy : Terms → ℕ → List ℕ → List LoadedWord → Type 0
+AreOfCopy t c copy words =
+    AllByRecursion (λ w. slice_index copy (w.at - copy_place t c) ≡ w.value) words
 
 -- A sight of copies has words of its own copy alone. While the upper half of the clock is its
 -- guard, they are as they were loaded.
-pub record CopySightHolds (t : Terms) (clock : ℕ) (copies : ℕ
-    → List ℕ) (s : CopySight) : Type 0 where
+pub record CopySightHolds (t : Terms) (clock : ℕ) (copies : ℕ → List ℕ)
+    (s : CopySight) : Type 0 where
   pub earlier : s.guard ≤ upper clock
   pub own : AllByRecursion (λ w. IsTrue (is_of_copy t (s.guard % 2) w.at)) s.words
-  pub loaded : s.guard ≡ upper clock → AreOfCopy t copies (s.guard % 2) s.words
+  pub loaded : s.guard ≡ upper clock → AreOfCopy t (s.guard % 2) (copies (s.guard % 2)) s.words

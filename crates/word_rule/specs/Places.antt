@@ -51,6 +51,14 @@ segments loads = (loads + 15) / 16
 abbrev pub copy_words : Terms → ℕ
 copy_words t = 2 + 50 * segments t.loads
 
+-- where a segment begins, and where a member stands, counted from the first word of their copy;
+-- segments and members are counted from 0, lowest addresses first, sixteen members a segment
+abbrev pub segment_place : ℕ → ℕ
+segment_place s = 2 + 50 * s
+
+abbrev pub member_place : ℕ → ℕ
+member_place i = segment_place (i / 16) + 2 + 3 * (i % 16)
+
 -- copy 0 or 1
 abbrev pub copy_place : Terms → ℕ → ℕ
 copy_place t c = 4 + NODE_WORDS * t.nodes + c * copy_words t

@@ -12,6 +12,8 @@ use Rattle.word_rule.specs.Spelling.{SpellsNode}
 use Rattle.word_rule.specs.Sights.{after_node_version, after_node_load, after_copy_load}
 use Rattle.word_rule.specs.Steps.{after_node_lock, after_give, after_copy_store, AfterPublish}
 use Rattle.word_rule.specs.Steps.{AfterNodeRelease}
+use Rattle.word_rule.specs.declared.log.Terms.{Terms}
+use Rattle.word_rule.specs.Clock.{AfterClock}
 use Rattle.word_rule.specs.Logs.{is_spent, IsTaken, after_load, after_loader_lock, after_write}
 use Rattle.word_rule.specs.Logs.{after_loader_release, after_loader_release_same}
 use Rattle.word_rule.specs.Callers.{IsLockedAt, IsAlone, IsWhole}
@@ -60,6 +62,10 @@ confirms st me found me' =
 -- a word of a copy was loaded
 abbrev pub loads_copy : Stepped → Seated → ℕ → Seated → Type 0
 loads_copy st me found me' = me' ≡ (after_copy_load st.word found me.0, me.1)
+
+-- the clock was loaded
+abbrev pub loads_clock : Terms → Ask → Stepped → Seated → ℕ → Seated → Type 0
+loads_clock t ask st me found me' = AfterClock t ask found me.0 me'.0 × (me'.1 ≡ me.1)
 
 -- a word of a node was loaded
 abbrev pub loads_node : ℕ → ℕ → Stepped → Seated → ℕ → Seated → Type 0

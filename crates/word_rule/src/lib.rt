@@ -22,6 +22,7 @@
 #![tactic(auto)]
 
 mod caller;
+mod clock;
 pub mod exchange;
 mod initial;
 pub mod laws;

@@ -76,6 +76,43 @@ impl Play<(), Log> for Confirms {
     ghost then = { confirms };
 }
 
+pub(crate) struct LoadsCopy;
+
+impl Play<(), Log> for LoadsCopy {
+    ghost use Rattle.word_rule.specs.Plays.{loads_copy};
+
+    ghost then = { loads_copy };
+}
+
+/// What a load of the clock is asked, and with what its words were made.
+pub(crate) trait Asking {
+    ghost use Rattle.word_rule.specs.declared.log.Ask.{Ask};
+    ghost use Rattle.word_rule.specs.declared.log.Terms.{Terms};
+
+    ghost ask: { Ask };
+
+    ghost terms: { Terms };
+}
+
+impl Asking for Brand {
+    ghost use Rattle.std.specs.Prelude.{[]};
+    ghost use Rattle.word_rule.specs.declared.log.Ask.TheVariants as ask;
+
+    ghost ask = { ask.Nothing };
+
+    ghost terms = { record { nodes = 0; loads = 0; payloads = 0; fixed = [] } };
+}
+
+pub(crate) struct LoadsClock<A> {
+    asking: PhantomData<A>,
+}
+
+impl<A: Asking> Play<(), Log> for LoadsClock<A> {
+    ghost use Rattle.word_rule.specs.Plays.{loads_clock};
+
+    ghost then = { loads_clock A.terms A.ask };
+}
+
 /// How much a split gives away, which only the call knows: of so many update calls, these.
 pub(crate) trait Giving {
     ghost use Rattle.std.specs.Prelude.{ℕ};

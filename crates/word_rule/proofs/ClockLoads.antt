@@ -1,0 +1,294 @@
+-- A load of the clock keeps the rule: all of the history is seen, and what was asked is answered.
+use Rattle.std.proofs.Common.{◌≡◌, ℕ, ◌+◌, ◌≤◌, ◌%◌, ◌⊎◌, ◌↔◌, inl, inr, ⊎_elim, List, [], ◌∷◌, ◌++◌, length, length-append, get_or, set, map, take_all, Contains, sym, refl, ap, ◌∙◌, subst, arith, ◌==◌, Bool, true, false, true≢false, IsTrue, Option, Some, None, IfSome, append-nil, if◌then◌else◌}
+use Rattle.std.specs.List.{AllByRecursion, count_by}
+use Rattle.std.proofs.lemmas.List.{nil_from_length}
+use Rattle.std.proofs.lemmas.List.Sums.{sum_by_push}
+use mathlib.Core.Option.{none, some}
+use mathlib.Core.List.{IsPrefix}
+use lib.ListN.{get_elem?}
+use Rattle.atomic_table.specs.Table.{step, keeps, Allows}
+use Rattle.reg_model.specs.History.{state_after, state_at}
+use Rattle.reg_model.specs.Query.{query}
+use Rattle.reg_model.specs.Receipt.{Holds, moment}
+use Rattle.reg_model.specs.Numbers.{has_number}
+use Rattle.reg_model.specs.declared.span.Member.{Member}
+use Rattle.reg_model.specs.declared.answer.Half.{Half}
+use Rattle.reg_model.specs.declared.answer.Half.TheVariants as half
+use Rattle.reg_model.specs.declared.answer.Update.{Update}
+use Rattle.reg_model.specs.declared.answer.Receipt.{Receipt}
+use Rattle.reg_model.specs.declared.answer.Receipt.TheVariants.{Query}
+use Rattle.reg_model.proofs.Histories.{lawful_history}
+use Rattle.tree_shape.specs.Numbers.{once}
+use Rattle.tree_shape.specs.NodeData.{IsLeaf, LiesInFences, entries_of}
+use Rattle.tree_shape.specs.Trees.{Contents, HasEntry}
+use Rattle.tree_shape.specs.Lawful.{IsTree}
+use Rattle.word_rule.specs.declared.log.Role.TheVariants as role
+use Rattle.word_rule.specs.declared.log.Ask.{Ask}
+use Rattle.word_rule.specs.declared.log.Ask.TheVariants as ask
+use Rattle.word_rule.specs.declared.log.CopySight.{CopySight}
+use Rattle.word_rule.specs.declared.log.LoadEvent.{LoadEvent}
+use Rattle.word_rule.specs.declared.log.NodeSight.{NodeSight}
+use Rattle.word_rule.specs.declared.log.Terms.{Terms}
+use Rattle.word_rule.specs.declared.log.Log.{Log}
+use Rattle.word_rule.specs.Places.{lower, upper}
+use Rattle.word_rule.specs.Memory.{Memory, memory_of}
+use Rattle.word_rule.specs.Logs.{is_spent, weight, turns, load_of}
+use Rattle.word_rule.specs.Sights.{after_clock, copies_after_clock, found_at, query_receipt, walk_receipts, with_clock}
+use Rattle.word_rule.specs.Callers.{total, CallersHold, LogHolds, IsRecord, IsMemberOf, AtLoader, LoaderLock, dones_in, start}
+use Rattle.word_rule.specs.Copies.{ListsAll, CopySightHolds}
+use Rattle.word_rule.specs.Observations.{SightHolds, WasFull, ObservationsHold, HadMembers, IsFullCount, last_moment}
+use Rattle.word_rule.specs.TableInvariant.{TableInvariant, IsStill}
+use Rattle.word_rule.specs.Clock.{IsSeen, ClockTells, IsQuestion, clock_receipts}
+use Rattle.word_rule.specs.Plays.{Seated, loads_clock}
+use Rattle.word_rule.proofs.Facts.{total_same, after_step}
+use Rattle.word_rule.proofs.Each.{all_map, all_append, all_of}
+use Rattle.word_rule.proofs.Memories.{set_same}
+use Rattle.word_rule.proofs.CallersFrame.{lineages_over, lock_stays, busy}
+use Rattle.word_rule.proofs.NodesFrame.{nodes_same}
+use Rattle.word_rule.proofs.Frames.{Sit, table_step, still_after_load}
+use Rattle.word_rule.proofs.Listings.{loaded_members, start_lawful, state_fixed}
+use Rattle.word_rule.proofs.Receiving.{all_hold_snoc, in_order_later}
+use Rattle.word_rule.proofs.Joins.{record_later, records_later}
+use Rattle.word_rule.proofs.Alone.{seen_all}
+
+-- a live leaf's entries are those of the tree inside its fences: a law of tree_shape
+pub record LeafLaw : Type 0 where
+  pub kind : (f : Contents) (live : ℕ → Bool) (n : ℕ) → IsTree f live → IsTrue (live n) → IsLeaf (f n) ↔ ((f n).level ≡ 0)
+  pub entries : (f : Contents) (live : ℕ → Bool) (leaf : ℕ) (m : Member) → IsTree f live → IsTrue (live leaf) → IsLeaf (f leaf) → Contains (entries_of (f leaf)) m ↔ (HasEntry f live m × LiesInFences m.span (f leaf))
+
+-- a query's receipt in a history
+abbrev query_at : Terms → List Update → Half → ℕ → ℕ → Receipt
+query_at t history which pc k = Query which pc (found_at (query which pc (state_at (start t) history k)) k)
+
+query_holds : (t : Terms) (history : List Update) (which : Half) (pc k callers since : ℕ) → k ≤ length history → Holds (start t) history t.nodes callers since (query_at t history which pc k)
+query_holds t history which pc k callers since inside = go (query which pc (state_at (start t) history k)) refl
+  where
+    go : (o : Option Member) → query which pc (state_at (start t) history k) ≡ o → Holds (start t) history t.nodes callers since (Query which pc (found_at o k))
+    go None e = record { within = inside; numbered = tt; right = e; filled = tt }
+    go (Some m) e = record { within = inside; numbered = tt; right = e; filled = tt }
+
+query_moment : (o : Option Member) (which : Half) (pc k : ℕ) → moment (Query which pc (found_at o k)) ≡ k
+query_moment None which pc k = refl
+query_moment (Some m) which pc k = refl
+
+-- a log's own receipts, with such a receipt more
+query_record : (t : Terms) (past history : List Update) (callers : ℕ) (rs : List Receipt) (which : Half) (pc : ℕ) → IsPrefix past history → IsRecord t past callers rs → IsRecord t history callers (rs ++ query_at t history which pc (length history) ∷ [])
+query_record t past history callers rs which pc longer h =
+    let later = record_later t past history callers callers longer rs h in (
+      all_hold_snoc t history callers 0 rs (query_at t history which pc (length history)) later.0 (query_holds t history which pc (length history) callers (last_moment 0 rs) (omega arith)),
+      in_order_later t history callers rs (query_at t history which pc (length history)) later.0 later.1 refl (query_moment (query which pc (state_at (start t) history (length history))) which pc (length history)),
+    )
+
+-- what is asked is answered by one such receipt, or by none
+abbrev Told : Terms → List Update → ℕ → List Receipt → Type 0
+Told t history k rs = (rs ≡ []) ⊎ ((which : Half) × (pc : ℕ) × (rs ≡ query_at t history which pc k ∷ []))
+
+module _ (law : LeafLaw) (t : Terms) (slots id : ℕ) (me : Seated) (caller : me.0.role ≡ role.Caller) (a : Ask) (question : IsQuestion a) where
+  abbrev Rule : Sit → Type 0
+  Rule s = TableInvariant t s.words s.views
+
+  stands : is_spent me.0.role ≡ false
+  stands = ap is_spent caller
+
+  module _ (s : Sit) (r : Rule s) (at : get_elem? s.views id ≡ some me.0) where
+    abbrev m : Memory
+    m = memory_of t s.words
+
+    abbrev found : ℕ
+    found = get_or s.words 0 0
+
+    abbrev history : List Update
+    history = r.memory.history
+
+    abbrev receipts : List Receipt
+    receipts = clock_receipts a (get_or s.words 0 0) me.0.sights.copies (record me.0 { past = r.memory.history })
+
+    abbrev w : Log
+    w = after_clock (get_or s.words 0 0) r.memory.history (clock_receipts a (get_or s.words 0 0) me.0.sights.copies (record me.0 { past = r.memory.history })) me.0
+
+    abbrev event : LoadEvent
+    event = load_of me.0 0 (get_or s.words 0 0)
+
+    log : LogHolds t r.memory.history (total (λ v. v.made) s.views + 1) me.0
+    log = r.memory.callers.each id me.0 at
+
+    terms : me.0.terms ≡ t
+    terms = (r.memory.callers.each id me.0 at).terms stands
+
+    low : get_or s.words 0 0 % 4294967296 ≡ length r.memory.history
+    low = r.memory.callers.updates
+
+    -- the receipt of a walk
+    walked : (pc : ℕ) (o : Option CopySight) → Told me.0.terms r.memory.history (lower (get_or s.words 0 0)) (walk_receipts (record me.0 { past = r.memory.history }) (get_or s.words 0 0) pc o)
+    walked pc None = inl refl
+    walked pc (Some g) = go (g.guard == upper (get_or s.words 0 0))
+      where
+        go : (b : Bool) → Told me.0.terms r.memory.history (lower (get_or s.words 0 0)) (if b then (query_receipt half.Loaded (record me.0 { past = r.memory.history }) pc (lower (get_or s.words 0 0)) ∷ []) else [])
+        go true = inr (half.Loaded, pc, refl)
+        go false = inl refl
+
+    asked : (b : Ask) → IsQuestion b → Told me.0.terms r.memory.history (lower (get_or s.words 0 0)) (clock_receipts b (get_or s.words 0 0) me.0.sights.copies (record me.0 { past = r.memory.history }))
+    asked ask.Nothing q = inl refl
+    asked (ask.Registered pc) q = inr (half.Registered, pc, refl)
+    asked (ask.Loaded pc) q = walked pc me.0.sights.copies
+    asked (ask.Refused u) q = absurd q
+
+    told : Told t r.memory.history (length r.memory.history) receipts
+    told = subst (λ k. Told k r.memory.history (length r.memory.history) receipts) terms (subst (λ k. Told me.0.terms r.memory.history k receipts) low (asked a question))
+
+    own : (c : ℕ) → IsRecord t me.0.past c me.0.receipts.own → IsRecord t r.memory.history c (me.0.receipts.own ++ receipts)
+    own c h = ⊎_elim
+        (λ (none_more : receipts ≡ []). subst (IsRecord t r.memory.history c) (sym (ap (λ rs. me.0.receipts.own ++ rs) none_more ∙ append-nil me.0.receipts.own)) (record_later t me.0.past r.memory.history c c log.begins me.0.receipts.own h))
+        (λ (one : (which : Half) × (pc : ℕ) × (receipts ≡ query_at t r.memory.history which pc (length r.memory.history) ∷ [])).
+        subst (λ rs. IsRecord t r.memory.history c (me.0.receipts.own ++ rs)) (sym one.2) (query_record t me.0.past r.memory.history c me.0.receipts.own one.0 one.1 log.begins h))
+        told
+
+    -- no number is among them
+    numbers_stay : (n : ℕ) → count_by (has_number n) (me.0.receipts.own ++ receipts) ≡ count_by (has_number n) me.0.receipts.own
+    numbers_stay n = ⊎_elim
+        (λ (none_more : receipts ≡ []). ap (count_by (has_number n)) (ap (λ rs. me.0.receipts.own ++ rs) none_more ∙ append-nil me.0.receipts.own))
+        (λ (one : (which : Half) × (pc : ℕ) × (receipts ≡ query_at t r.memory.history which pc (length r.memory.history) ∷ [])).
+        ap (λ rs. count_by (has_number n) (me.0.receipts.own ++ rs)) one.2 ∙ (sum_by_push (λ x. once (has_number n x)) me.0.receipts.own (query_at t r.memory.history one.0 one.1 (length r.memory.history)) ∙ (omega arith)))
+        told
+
+    made_same : total (λ v. v.made) (set s.views id w) ≡ total (λ v. v.made) s.views
+    made_same = total_same (λ v. v.made) s.views id me.0 w at refl
+
+    each : (c : ℕ) → c ≡ total (λ v. v.made) s.views + 1 → (j : ℕ) (v : Log) → get_elem? (set s.views id w) j ≡ some v → LogHolds t r.memory.history c v
+    each c is_c = after_step (λ _ v. LogHolds t r.memory.history c v) s.views id w
+        (let mine = subst (λ k. LogHolds t r.memory.history k me.0) (sym is_c) log in record {
+          terms = λ _. terms;
+          begins = ([], append-nil r.memory.history);
+          receipts = record { own = own c mine.receipts.own; joined = records_later t me.0.past r.memory.history c c mine.begins me.0.receipts.joined mine.receipts.joined };
+          lineage = mine.lineage;
+          idle = busy me.0 w caller;
+        })
+        (λ j v _ there. subst (λ k. LogHolds t r.memory.history k v) (sym is_c) (r.memory.callers.each j v there))
+
+    callers : CallersHold t m (set s.views id w) r.memory.history
+    callers =
+        let c = r.memory.callers in record {
+          holder = c.holder;
+          lawful = c.lawful;
+          updates = c.updates;
+          published = c.published;
+          terms = c.terms;
+          members = c.members;
+          room = (let e = total_same (λ v. v.budget.allowance) s.views id me.0 w at refl in let o = c.room in omega (arith, e, o));
+          numbers = λ n. total_same (dones_in n) s.views id me.0 w at (let e = numbers_stay n in omega (arith, e)) ∙ c.numbers n;
+          each = each (total (λ v. v.made) (set s.views id w) + 1) (ap (λ k. k + 1) made_same);
+          weights = (let e = total_same (λ v. weight v.role) s.views id me.0 w at refl in let b = made_same in let o = c.weights in omega (arith, e, b, o));
+          loader = lock_stays s.views m.loader m.loader id me.0 w c.holder at refl (λ e. subst (LoaderLock (memory_of t s.words).loader s.views) e c.loader) c.loader;
+          at_loader = after_step (λ j v. AtLoader (memory_of t s.words) r.memory.callers.holder j v.loader) s.views id w (c.at_loader id me.0 at) (λ j v _ there. c.at_loader j v there);
+          counted = (let e = total_same (λ v. v.budget.credit) s.views id me.0 w at refl in let o = c.counted in omega (arith, e, o));
+          lineages = lineages_over s.views c.lineages id me.0 w at refl refl (λ gone. absurd (true≢false (sym gone ∙ stands)));
+        }
+
+    -- where the clock is loaded, a live leaf's entries are the members of then
+    clocked : (g : NodeSight) → SightHolds t m.nodes r.memory.history r.memory.shadow g → SightHolds t m.nodes r.memory.history r.memory.shadow (with_clock (lower (get_or s.words 0 0)) g)
+    clocked g h = record {
+      within = h.within;
+      even = h.even;
+      later = h.later;
+      places = h.places;
+      loaded = h.loaded;
+      marked = h.marked;
+      clock = λ stand. (
+        (let l = low in omega (arith, l)),
+        λ live level x.
+            let tree = r.memory.nodes.lawful.tree in
+            let leaf = law.entries r.memory.shadow.settled r.memory.shadow.live g.node x tree live ((law.kind r.memory.shadow.settled r.memory.shadow.live g.node tree live).1 level) in
+            let now : state_at (start t) r.memory.history (lower (get_or s.words 0 0)) ≡ state_after (start t) r.memory.history = ap (state_after (start t)) (take_all (lower (get_or s.words 0 0)) r.memory.history (let l = low in omega (arith, l))) in (
+              (λ c. let d = leaf.0 c in (subst (λ st. Contains st.registered x) (sym now) ((r.memory.nodes.entries x).0 d.0), d.1.0, d.1.1)),
+              (λ c. leaf.1 ((r.memory.nodes.entries x).1 (subst (λ st. Contains st.registered x) now c.0), (c.1, c.2))),
+            ),
+      );
+    }
+
+    all_clocked : (sights : List NodeSight) → AllByRecursion (SightHolds t m.nodes r.memory.history r.memory.shadow) sights → AllByRecursion (SightHolds t m.nodes r.memory.history r.memory.shadow) (map (with_clock (lower (get_or s.words 0 0))) sights)
+    all_clocked [] h = tt
+    all_clocked (g ∷ sights) h = (clocked g h.0, all_clocked sights h.1)
+
+    fresh : CopySightHolds t (get_or s.words 0 0) m.copies (record { guard = upper (get_or s.words 0 0); words = [] })
+    fresh = record { earlier = omega arith; own = tt; loaded = λ _. tt }
+
+    copies : (o : Option CopySight) → IfSome o (CopySightHolds t (get_or s.words 0 0) m.copies) → IfSome (copies_after_clock (get_or s.words 0 0) o) (CopySightHolds t (get_or s.words 0 0) m.copies)
+    copies None h = fresh
+    copies (Some g) h = go (g.guard == upper (get_or s.words 0 0))
+      where
+        go : (b : Bool) → IfSome (if b then Some g else Some (record { guard = upper (get_or s.words 0 0); words = [] })) (CopySightHolds t (get_or s.words 0 0) m.copies)
+        go true = h
+        go false = fresh
+
+    -- receipts end what loads told of fullness
+    full : (rs : List Receipt) (l : LoadEvent) → l.receipts ≤ length me.0.receipts.own → WasFull t r.memory.history (total (λ v. v.made) s.views + 1) me.0.receipts.own l → WasFull t r.memory.history (total (λ v. v.made) s.views + 1) (me.0.receipts.own ++ rs) l
+    full [] l few h = subst (λ k. WasFull t r.memory.history (total (λ v. v.made) s.views + 1) k l) (sym (append-nil me.0.receipts.own)) h
+    full (x ∷ rs) l few h = let len : length (me.0.receipts.own ++ x ∷ rs) ≡ length me.0.receipts.own + length (x ∷ rs) = length-append me.0.receipts.own (x ∷ rs) in
+        record { count = λ same. absurd (omega (arith, same, len, few)); head = λ same _ _ _. absurd (omega (arith, same, len, few)) }
+
+    not_full : (rs : List Receipt) → WasFull t r.memory.history (total (λ v. v.made) s.views + 1) rs event
+    not_full rs = record {
+      count = λ _. all_of (λ h. IsFullCount event h → HadMembers t r.memory.history rs 10) (λ h is_full. absurd (let e = is_full.0 in omega (arith, e))) me.0.holdings.held;
+      head = λ _ is _ _. absurd (omega (arith, is));
+    }
+
+    mine : ObservationsHold t m r.memory.history (total (λ v. v.made) s.views + 1) r.memory.shadow w
+    mine =
+        let o = r.memory.observations id me.0 at in
+        let len : length (me.0.receipts.own ++ receipts) ≡ length me.0.receipts.own + length receipts = length-append me.0.receipts.own receipts in record {
+          sights = all_clocked me.0.sights.nodes o.sights;
+          copies = copies me.0.sights.copies o.copies;
+          full = all_append (WasFull t r.memory.history (total (λ v. v.made) s.views + 1) (me.0.receipts.own ++ receipts)) me.0.trace.loads (event ∷ []) (old_full me.0.trace.loads o.earlier o.full) (not_full (me.0.receipts.own ++ receipts), tt);
+          earlier = all_append (λ l. (l.turns ≤ turns me.0.trace) × (l.receipts ≤ length (me.0.receipts.own ++ receipts))) me.0.trace.loads (event ∷ [])
+              (all_map (λ l. (l.turns ≤ turns me.0.trace) × (l.receipts ≤ length me.0.receipts.own)) (λ l. (l.turns ≤ turns me.0.trace) × (l.receipts ≤ length (me.0.receipts.own ++ receipts))) (λ l e. let b = e.1 in (e.0, omega (arith, b, len))) me.0.trace.loads o.earlier)
+              ((omega arith, omega (arith, len)), tt);
+        }
+      where
+        old_full : (ls : List LoadEvent) → AllByRecursion (λ l. (l.turns ≤ turns me.0.trace) × (l.receipts ≤ length me.0.receipts.own)) ls → AllByRecursion (WasFull t r.memory.history (total (λ v. v.made) s.views + 1) me.0.receipts.own) ls
+            → AllByRecursion (WasFull t r.memory.history (total (λ v. v.made) s.views + 1) (me.0.receipts.own ++ receipts)) ls
+        old_full [] e h = tt
+        old_full (l ∷ ls) e h = (full receipts l e.0.1 h.0, old_full ls e.1 h.1)
+
+    pub kept_table : TableInvariant t (set s.words 0 (get_or s.words 0 0)) (set s.views id w)
+    kept_table = table_step t s.words s.views r id me.0 w at stands (set s.words 0 (get_or s.words 0 0)) m (ap length (set_same s.words 0)) (ap (memory_of t) (set_same s.words 0)) (record {
+      history = r.memory.history;
+      callers = callers;
+      shadow = r.memory.shadow;
+      nodes = nodes_same s.views id me.0 w at t m.nodes r.memory.history r.memory.shadow refl r.memory.nodes;
+      active = r.memory.active;
+      observations = subst (λ c. (j : ℕ) (v : Log) → get_elem? (set s.views id w) j ≡ some v → ObservationsHold t m r.memory.history (c + 1) r.memory.shadow v) (sym made_same)
+          (after_step (λ _ v. ObservationsHold t m r.memory.history (total (λ z. z.made) s.views + 1) r.memory.shadow v) s.views id w mine (λ j v _ there. r.memory.observations j v there));
+    }) (λ alone. subst (λ ws. IsStill ws w) (sym (set_same s.words 0)) (still_after_load s.words me.0 w event refl refl refl (r.alone id me.0 at alone)))
+
+    seen_copy : (o : Option CopySight) → IfSome o (CopySightHolds t (get_or s.words 0 0) m.copies) → IfSome o (λ g. g.guard ≡ upper (get_or s.words 0 0) → IsSeen t (state_after (start t) r.memory.history).loaded g)
+    seen_copy None h = tt
+    seen_copy (Some g) h = λ guard. record {
+      copy = m.copies (g.guard % 2);
+      loaded_so = h.loaded guard;
+      listing = subst (λ u. ListsAll (m.copies (u % 2)) (state_after (start t) r.memory.history).loaded) (sym guard) r.memory.active;
+    }
+
+    pub tells : ClockTells t (get_or s.words 0 0) me.0 r.memory.history
+    tells = record {
+      terms = terms;
+      valid = r.memory.callers.terms;
+      begins = log.begins;
+      updates = r.memory.callers.updates;
+      published = r.memory.callers.published;
+      lawful = lawful_history (start t) r.memory.history (start_lawful t r.memory.callers.terms) r.memory.callers.lawful;
+      members = all_append (IsMemberOf t) (state_after (start t) r.memory.history).fixed (state_after (start t) r.memory.history).loaded
+          (subst (AllByRecursion (IsMemberOf t)) (sym (state_fixed (start t) r.memory.history).0) r.memory.callers.terms.members)
+          (loaded_members t (start t) r.memory.history r.memory.callers.members tt);
+      copies = seen_copy me.0.sights.copies (r.memory.observations id me.0 at).copies;
+      alone = λ alone.
+          let same = seen_all t m s.views r.memory.history r.memory.callers id me.0 at alone in
+          let sum : length me.0.past + length log.begins.0 ≡ length r.memory.history = sym (length-append me.0.past log.begins.0) ∙ ap length log.begins.1 in
+          sym (sym (append-nil me.0.past) ∙ (ap (λ rest. me.0.past ++ rest) (sym (nil_from_length log.begins.0 (omega (arith, same, sum)))) ∙ log.begins.1));
+    }
+
+  pub loads_the_clock : Allows Rule slots id me 0 (λ n. n) (loads_clock t a (step slots 0 0 0 none) me)
+  loads_the_clock s r deep at small = (w s r at, keeps, tt, kept_table s r at, ((r.memory.history, (tells s r at, refl)), refl))
+
+  -- the same, told of terms that are known to be these
+  pub loads_clock_of : (u : Terms) → t ≡ u → Allows Rule slots id me 0 (λ n. n) (loads_clock u a (step slots 0 0 0 none) me)
+  loads_clock_of u same = subst (λ k. Allows Rule slots id me 0 (λ n. n) (loads_clock k a (step slots 0 0 0 none) me)) same loads_the_clock

@@ -1,0 +1,62 @@
+-- What a load of the clock tells, and what it makes of its caller's log.
+use Rattle.std.specs.Prelude.{◌≡◌, ℕ, ◌%◌, List, [], ◌∷◌, length, Option, IfSome}
+use Rattle.std.specs.List.{AllByRecursion}
+use mathlib.Core.List.{IsPrefix}
+use Rattle.reg_model.specs.State.{IsLawful, objects}
+use Rattle.reg_model.specs.History.{state_after}
+use Rattle.reg_model.specs.declared.span.Member.{Member}
+use Rattle.reg_model.specs.declared.answer.Half.TheVariants as half
+use Rattle.reg_model.specs.declared.answer.Receipt.{Receipt}
+use Rattle.reg_model.specs.declared.answer.Update.{Update}
+use Rattle.word_rule.specs.declared.log.Ask.{Ask}
+use Rattle.word_rule.specs.declared.log.Ask.TheVariants as ask
+use Rattle.word_rule.specs.declared.log.CopySight.{CopySight}
+use Rattle.word_rule.specs.declared.log.Log.{Log}
+use Rattle.word_rule.specs.declared.log.Terms.{Terms}
+use Rattle.word_rule.specs.Places.{lower, upper}
+use Rattle.word_rule.specs.Callers.{AreTerms, IsAlone, IsMemberOf, publications, start}
+use Rattle.word_rule.specs.Copies.{AreOfCopy, ListsAll}
+use Rattle.word_rule.specs.Sights.{after_clock, query_receipt, walk_receipts}
+
+-- The words of a copy that lists these members, and has all words of the sight as they were loaded.
+pub record IsSeen (t : Terms) (loaded : List Member) (s : CopySight) : Type 0 where
+  pub copy : List ℕ
+  pub loaded_so : AreOfCopy t (s.guard % 2) copy s.words
+  pub listing : ListsAll copy loaded
+
+-- What a load of the clock tells of the history, which is seen afterwards.
+pub record ClockTells (t : Terms) (found : ℕ) (v : Log) (past : List Update) : Type 0 where
+  pub terms : v.terms ≡ t
+  pub valid : AreTerms t
+  pub begins : IsPrefix v.past past
+  pub updates : lower found ≡ length past
+  pub published : upper found ≡ publications past
+  pub lawful : IsLawful (state_after (start t) past)
+  pub members : AllByRecursion (IsMemberOf t) (objects (state_after (start t) past))
+  -- where the guard of its sight of copies is still the upper half, what was loaded is of a copy
+  -- that lists the loaded members
+  pub copies : IfSome v.sights.copies
+      (λ s. s.guard ≡ upper found → IsSeen t (state_after (start t) past).loaded s)
+  -- where nobody else can step, nothing was accepted since
+  pub alone : IsAlone v.lineage → past ≡ v.past
+
+-- the asks that are no refusals
+abbrev pub IsQuestion : Ask → Type 0
+IsQuestion (ask.Refused u) = ⊥
+IsQuestion _ = Unit {0}
+
+-- The receipts that a load of the clock appends, by what it is asked, where `seen` has seen all of
+-- the history: none; the registered half's answer; or the loader's, where the upper half is still
+-- the guard of this sight.
+abbrev pub clock_receipts : Ask → ℕ → Option CopySight → Log → List Receipt
+clock_receipts ask.Nothing found sight seen = []
+clock_receipts (ask.Registered pc) found sight seen =
+    query_receipt half.Registered seen pc (lower found) ∷ []
+clock_receipts (ask.Loaded pc) found sight seen = walk_receipts seen found pc sight
+clock_receipts (ask.Refused u) found sight seen = []
+
+-- The clock was loaded.
+abbrev pub AfterClock : Terms → Ask → ℕ → Log → Log → Type 0
+AfterClock t a found v w = (past : List Update) × (ClockTells t found v past
+    × (w ≡ after_clock found past
+    (clock_receipts a found v.sights.copies (record v { past = past })) v))
