@@ -46,7 +46,7 @@ use Rattle.word_rule.proofs.Memories.{set_same}
 use Rattle.word_rule.proofs.CallersFrame.{lineages_over, lock_stays, busy}
 use Rattle.word_rule.proofs.NodesFrame.{nodes_same}
 use Rattle.word_rule.proofs.Frames.{Sit, table_step, still_after_load}
-use Rattle.word_rule.proofs.Listings.{loaded_members, start_lawful, state_fixed}
+use Rattle.word_rule.proofs.Listings.{ascending_disjoint, disjoint_fit, loaded_members, loaded_spans, start_lawful, state_fixed}
 use Rattle.word_rule.proofs.Receiving.{all_hold_snoc, in_order_later}
 use Rattle.word_rule.proofs.Joins.{record_later, records_later}
 use Rattle.word_rule.proofs.Alone.{seen_all}
@@ -260,12 +260,21 @@ module _ (law : LeafLaw) (t : Terms) (slots id : ℕ) (me : Seated) (caller : me
           (after_step (λ _ v. ObservationsHold t m r.memory.history (total (λ z. z.made) s.views + 1) r.memory.shadow v) s.views id w mine (λ j v _ there. r.memory.observations j v there));
     }) (λ alone. subst (λ ws. IsStill ws w) (sym (set_same s.words 0)) (still_after_load s.words me.0 w event refl refl refl (r.alone id me.0 at alone)))
 
+    -- a listing has no more members than are loaded
+    few : {copy : List ℕ} → (l : ListsAll copy (state_after (start t) r.memory.history).loaded) → length l.members ≤ t.loads
+    few l =
+        let less = disjoint_fit l.members (state_after (start t) r.memory.history).loaded (ascending_disjoint 0 l.members l.lists.ascending)
+        (λ x c. loaded_spans t (start t) r.memory.history r.memory.callers.members (λ z d. absurd (omega (arith, d.1))) x ((l.same x).0 c)) (λ x c. (l.same x).0 c) in
+        let room = (lawful_history (start t) r.memory.history (start_lawful t r.memory.callers.terms) r.memory.callers.lawful).room in
+        let loads = (state_fixed (start t) r.memory.history).1 in omega (arith, less, room, loads)
+
     seen_copy : (o : Option CopySight) → IfSome o (CopySightHolds t (get_or s.words 0 0) m.copies) → IfSome o (λ g. g.guard ≡ upper (get_or s.words 0 0) → IsSeen t (state_after (start t) r.memory.history).loaded g)
     seen_copy None h = tt
     seen_copy (Some g) h = λ guard. record {
       copy = m.copies (g.guard % 2);
       loaded_so = h.loaded guard;
       listing = subst (λ u. ListsAll (m.copies (u % 2)) (state_after (start t) r.memory.history).loaded) (sym guard) r.memory.active;
+      few = few (subst (λ u. ListsAll (m.copies (u % 2)) (state_after (start t) r.memory.history).loaded) (sym guard) r.memory.active);
     }
 
     pub tells : ClockTells t (get_or s.words 0 0) me.0 r.memory.history

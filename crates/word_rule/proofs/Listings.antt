@@ -113,7 +113,7 @@ all_by_index P [] h k d l = absurd (omega (arith, l))
 all_by_index P (x ∷ xs) h zero d l = h.0
 all_by_index P (x ∷ xs) h (suc k) d l = all_by_index P xs h.1 k d (omega (arith, l))
 
-ascending_disjoint : (low : ℕ) (xs : List Member) → AscendFrom low xs → AreDisjoint xs
+pub ascending_disjoint : (low : ℕ) (xs : List Member) → AscendFrom low xs → AreDisjoint xs
 ascending_disjoint low [] h = tt
 ascending_disjoint low (x ∷ xs) h = (all_by_index (λ m. ¬ Overlaps m.span x.span) xs (above_free x (x.span.last + 1) xs (omega arith) h.2), ascending_disjoint (x.span.last + 1) xs h.2)
 

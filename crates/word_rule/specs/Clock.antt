@@ -1,5 +1,5 @@
 -- What a load of the clock tells, and what it makes of its caller's log.
-use Rattle.std.specs.Prelude.{◌≡◌, ℕ, ◌%◌, List, [], ◌∷◌, length, Option, IfSome}
+use Rattle.std.specs.Prelude.{◌≡◌, ℕ, ◌≤◌, ◌%◌, List, [], ◌∷◌, length, Option, IfSome}
 use Rattle.std.specs.List.{AllByRecursion}
 use mathlib.Core.List.{IsPrefix}
 use Rattle.reg_model.specs.State.{IsLawful, objects}
@@ -18,11 +18,13 @@ use Rattle.word_rule.specs.Callers.{AreTerms, IsAlone, IsMemberOf, publications,
 use Rattle.word_rule.specs.Copies.{AreOfCopy, ListsAll}
 use Rattle.word_rule.specs.Sights.{after_clock, query_receipt, walk_receipts}
 
--- The words of a copy that lists these members, and has all words of the sight as they were loaded.
+-- The words of a copy that lists these members, no more than may be loaded, and has all words of
+-- the sight as they were loaded.
 pub record IsSeen (t : Terms) (loaded : List Member) (s : CopySight) : Type 0 where
   pub copy : List ℕ
   pub loaded_so : AreOfCopy t (s.guard % 2) copy s.words
   pub listing : ListsAll copy loaded
+  pub few : length listing.members ≤ t.loads
 
 -- What a load of the clock tells of the history, which is seen afterwards.
 pub record ClockTells (t : Terms) (found : ℕ) (v : Log) (past : List Update) : Type 0 where

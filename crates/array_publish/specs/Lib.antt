@@ -1,0 +1,3 @@
+pub mod CopyLoads
+pub mod Search
+pub mod Lookup

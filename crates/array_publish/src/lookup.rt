@@ -1,0 +1,62 @@
+//! A lookup of the loader's half.
+ghost use Rattle.std.specs.Prelude.{◌≡◌, IsOk};
+ghost use Rattle.word_rule.specs.Callers.{IsAlone};
+ghost use Rattle.array_publish.specs.CopyLoads.{IsAtCopy, LoadsCopy};
+ghost use Rattle.array_publish.specs.Search.{IsObjectAt, listed_member};
+ghost use Rattle.array_publish.specs.Lookup.{LooksUp};
+
+use crate::fixed;
+use crate::walk::{self, Listed};
+use reg_model::{Again, Found, Member, Span};
+use word_rule::{Ask, Caller, Words};
+
+/// The clock's word, and what its lower half counts up to.
+const CLOCK_WORD: u32 = 0;
+
+const LOWER: u64 = 1 << 32;
+
+/// The fixed member that contains the address, or else the one that a copy lists.
+fn object_at(words: &Words, me: &mut Caller, copy: u32, pc: u64) -> Option<Listed>
+    requires copy { IsAtCopy words.now copy me.old }
+    ensures loads { LoadsCopy words.now.terms copy me.old me.new }
+    ensures found { IsObjectAt words.now.terms copy me.new words.now.terms.fixed pc result }
+{
+    match fixed::containing(words.fixed(), pc) {
+        Some(member) => Some(Listed {
+            first: member.span.first(),
+            last: member.span.last(),
+            payload: member.payload as u64,
+        }),
+        None => walk::listed_at(words, me, copy, pc),
+    }
+}
+
+/// Looks an address up among the fixed and the loaded members: the one that contains it, at the
+/// stamp of this call's second load of the clock. Again where the loader published between the two
+/// loads. It takes no lock, stores nothing and waits for nobody.
+pub fn try_object(words: &Words, me: &mut Caller, pc: u64) -> Result<Found, Again>
+    requires table { me.old.table ≡ words.now.table }
+    ensures looks { LooksUp words.now.terms pc me.old me.new result }
+    ensures alone { IsAlone me.old.log.lineage → IsOk result }
+    ensures writes { me.new.log.trace.writes ≡ me.old.log.trace.writes }
+{
+    let first = words.load_clock(me, Ask::Nothing);
+    let published = first / LOWER;
+    let object = object_at(words, me, (published % 2) as u32, pc);
+    let second = words.load_clock(me, Ask::Loaded { pc });
+    if second / LOWER != published {
+        return Err(Again::Changed {
+            word: CLOCK_WORD,
+            first,
+            second,
+        });
+    }
+    let stamp = (second % LOWER) as u32;
+    Ok(match object {
+        Some(object) => Found::Hit {
+            member: object.member(),
+            stamp,
+        },
+        None => Found::Miss { stamp },
+    })
+}
