@@ -1,0 +1,4 @@
+pub mod CopyWalks
+pub mod Searches
+pub mod Halves
+pub mod Lookups

@@ -1,6 +1,7 @@
 -- The search for the member of a copy that contains an address.
-use Rattle.std.specs.Prelude.{◌≡◌, ℕ, ◌+◌, ◌<◌, ◌≤◌, ◌⊎◌, List, ◌++◌, length, Option, Some, None}
+use Rattle.std.specs.Prelude.{◌≡◌, ℕ, ◌+◌, ◌^◌, ◌<◌, ◌≤◌, ◌⊎◌, List, ◌++◌, length, Option, Some, None}
 use Rattle.std.specs.Prelude.{option_map}
+use Rattle.reg_model.specs.SpanData.{IsSpan}
 use Rattle.reg_model.specs.Query.{member_at}
 use Rattle.reg_model.specs.declared.span.Member.{Member}
 use Rattle.array_publish.specs.declared.walk.Begun.{Begun}
@@ -27,6 +28,10 @@ IsLastBegun t c k pc count (Some b) =
 -- what the words of a copy say of a member
 abbrev pub listed_member : Listed → Member
 listed_member l = record { span = record { first = l.first; last = l.last }; payload = l.payload }
+
+-- which has a span and a payload of 32 bits
+abbrev pub IsMember : Listed → Type 0
+IsMember l = IsSpan (listed_member l).span × (l.payload < 2 ^ 32)
 
 -- Whatever copy agrees with what was loaded, and lists no more members than may be loaded: this is
 -- the one of the fixed members and of its own that contains the address.

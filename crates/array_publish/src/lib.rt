@@ -10,6 +10,8 @@
 
 mod fixed;
 mod lookup;
+#[cfg(test)]
+mod tests;
 mod walk;
 
 pub use lookup::try_object;

@@ -1,13 +1,14 @@
 //! A lookup of the loader's half.
-ghost use Rattle.std.specs.Prelude.{◌≡◌, IsOk};
+ghost use Rattle.std.specs.Prelude.{◌≡◌, IfSome, IsOk, option_map};
+ghost use Rattle.reg_model.specs.Receipt.{member_of, stamp_of};
 ghost use Rattle.word_rule.specs.Callers.{IsAlone};
 ghost use Rattle.array_publish.specs.CopyLoads.{IsAtCopy, LoadsCopy};
-ghost use Rattle.array_publish.specs.Search.{IsObjectAt, listed_member};
+ghost use Rattle.array_publish.specs.Search.{IsMember, IsObjectAt, listed_member};
 ghost use Rattle.array_publish.specs.Lookup.{LooksUp};
 
 use crate::fixed;
 use crate::walk::{self, Listed};
-use reg_model::{Again, Found, Member, Span};
+use reg_model::{Again, Found};
 use word_rule::{Ask, Caller, Words};
 
 /// The clock's word, and what its lower half counts up to.
@@ -31,6 +32,21 @@ fn object_at(words: &Words, me: &mut Caller, copy: u32, pc: u64) -> Option<Liste
     }
 }
 
+/// The answer at a stamp.
+fn answer(object: Option<Listed>, stamp: u32) -> Found
+    requires { IfSome object IsMember }
+    ensures member { member_of result ≡ option_map listed_member object }
+    ensures stamp { stamp_of result ≡ stamp }
+{
+    match object {
+        Some(object) => Found::Hit {
+            member: object.member(),
+            stamp,
+        },
+        None => Found::Miss { stamp },
+    }
+}
+
 /// Looks an address up among the fixed and the loaded members: the one that contains it, at the
 /// stamp of this call's second load of the clock. Again where the loader published between the two
 /// loads. It takes no lock, stores nothing and waits for nobody.
@@ -51,12 +67,5 @@ pub fn try_object(words: &Words, me: &mut Caller, pc: u64) -> Result<Found, Agai
             second,
         });
     }
-    let stamp = (second % LOWER) as u32;
-    Ok(match object {
-        Some(object) => Found::Hit {
-            member: object.member(),
-            stamp,
-        },
-        None => Found::Miss { stamp },
-    })
+    Ok(answer(object, (second % LOWER) as u32))
 }

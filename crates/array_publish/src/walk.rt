@@ -2,12 +2,11 @@
 //!
 //! Nothing that is loaded is trusted: a copy may be stored into meanwhile. What a search found is
 //! said of every copy that agrees with the words that were loaded.
-ghost use Rattle.std.specs.Prelude.{◌≡◌, ◌+◌, ◌*◌, ◌^◌, ◌<◌, ◌≤◌, []};
+ghost use Rattle.std.specs.Prelude.{◌≡◌, ◌+◌, ◌*◌, ◌<◌, ◌≤◌, []};
 ghost use Rattle.word_rule.specs.Callers.{AreTerms};
 ghost use Rattle.word_rule.specs.Places.{copy_place, copy_words, member_place};
 ghost use Rattle.array_publish.specs.CopyLoads.{IsAtCopy, IsTold, LoadsCopy};
-ghost use Rattle.array_publish.specs.Search.{IsLastBegun, IsObjectAt, listed_member};
-ghost use Rattle.reg_model.specs.SpanData.{IsSpan};
+ghost use Rattle.array_publish.specs.Search.{IsLastBegun, IsMember, IsObjectAt, listed_member};
 
 use reg_model::{Member, Span};
 use segment_array::{segments_for, spot};
@@ -76,13 +75,7 @@ fn load_word(words: &Words, me: &mut Caller, copy: u32, at: u32) -> u64
 
 /// Of so many members, the last one that begins at or below the address. Half of those that are
 /// left are passed by at a time.
-fn last_begun(
-    words: &Words,
-    me: &mut Caller,
-    copy: u32,
-    pc: u64,
-    count: u32,
-) -> Option<Begun>
+fn last_begun(words: &Words, me: &mut Caller, copy: u32, pc: u64, count: u32) -> Option<Begun>
     requires copy { IsAtCopy words.now copy me.old }
     requires count { count ≤ words.now.terms.loads }
     ensures loads { LoadsCopy words.now.terms copy me.old me.new }
@@ -112,7 +105,9 @@ pub fn listed_at(words: &Words, me: &mut Caller, copy: u32, pc: u64) -> Option<L
 {
     let loads = words.loads();
     let count = load_word(words, me, copy, COUNT).min(loads as u64) as u32;
-    let Begun { index, first } = last_begun(words, me, copy, pc, count)?;
+    let Some(Begun { index, first }) = last_begun(words, me, copy, pc, count) else {
+        return None;
+    };
     let place = place_of_member(index);
     let last = load_word(words, me, copy, place + 1);
     if pc > last {
@@ -129,7 +124,7 @@ pub fn listed_at(words: &Words, me: &mut Caller, copy: u32, pc: u64) -> Option<L
 impl Listed {
     /// The member that is meant.
     pub fn member(self) -> Member
-        requires { IsSpan (listed_member self).span × (self.payload < 2 ^ 32) }
+        requires { IsMember self }
         ensures { result ≡ listed_member self }
     {
         let Some(span) = Span::new(self.first, self.last - self.first + 1) else {

@@ -1,0 +1,20 @@
+use Rattle.array_publish.proofs.Lookups.{again, is_member, found_so}
+use Rattle.array_publish.proofs.lookup.try_object.Goals as goal
+
+pub answer-requires : goal.answer-requires
+answer-requires c =
+    let one = c.load_clock-first.ensures in let two = c.load_clock-second.ensures in let o = c.object_at-object.ensures in
+    is_member c.args.words.now.terms c.args.pc c.load_clock-first.result c.load_clock-second.result c.args.me.now c.load_clock-first.new.me c.object_at-object.new.me c.load_clock-second.new.me c.object_at-object.result
+    one.log one.rest o.loads o.found two.log two.rest c.if-second-published.false
+
+pub returns-clause-looks : goal.returns-clause-looks
+returns-clause-looks c =
+    let one = c.load_clock-first.ensures in let two = c.load_clock-second.ensures in let o = c.object_at-object.ensures in
+    found_so c.args.words.now.terms c.args.pc c.load_clock-first.result c.load_clock-second.result c.args.me.now c.load_clock-first.new.me c.object_at-object.new.me c.load_clock-second.new.me c.object_at-object.result
+    one.log one.rest o.loads o.found two.log two.rest c.if-second-published.false c.answer.result c.answer.ensures.member c.answer.ensures.stamp
+
+pub returns-then-second-published-clause-looks : goal.returns-then-second-published-clause-looks
+returns-then-second-published-clause-looks c =
+    let one = c.load_clock-first.ensures in let two = c.load_clock-second.ensures in let o = c.object_at-object.ensures in
+    again c.args.words.now.terms c.args.pc c.load_clock-first.result c.load_clock-second.result c.args.me.now c.load_clock-first.new.me c.object_at-object.new.me c.load_clock-second.new.me c.object_at-object.result
+    one.log one.rest o.loads o.found two.log two.rest c.if-second-published.true

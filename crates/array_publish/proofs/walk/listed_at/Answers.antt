@@ -1,0 +1,59 @@
+use Rattle.std.proofs.Common.{◌+◌, Some, subst, arith}
+use Rattle.word_rule.specs.CallerData.{CallerData}
+use Rattle.word_rule.specs.declared.log.Terms.{Terms}
+use Rattle.array_publish.specs.CopyLoads.{IsTold}
+use Rattle.array_publish.specs.Search.{IsLastBegun}
+use Rattle.array_publish.proofs.CopyWalks.{loads_both, told_later}
+use Rattle.array_publish.proofs.Searches.{begun_later, none_listed, ends_below, is_listed}
+use Rattle.array_publish.proofs.walk.listed_at.Goals as goal
+
+pub returns-in_default-clause-loads : goal.returns-in_default-clause-loads
+returns-in_default-clause-loads c =
+    loads_both c.args.words.now.terms c.args.copy c.args.me.now c.load_word.new.me c.last_begun.new.me c.load_word.ensures.loads c.last_begun.ensures.loads
+
+pub returns-in_default-clause-found : goal.returns-in_default-clause-found
+returns-in_default-clause-found c =
+    let t : Terms = c.args.words.now.terms in
+    let k : CallerData = c.last_begun.new.me in
+    let told = told_later t c.args.copy c.load_word.new.me k 1 c.load_word.result c.last_begun.ensures.loads c.load_word.ensures.told in
+    let none = subst (IsLastBegun t c.args.copy k c.args.pc c.min-count.result) c.in_default.is c.last_begun.ensures.last in
+    none_listed t c.args.copy k c.args.pc c.min-count.result c.load_word.result told (omega (arith, c.min-count.ensures, c.loads-loads.ensures)) none
+
+pub returns-then-pc-last-clause-loads : goal.returns-then-pc-last-clause-loads
+returns-then-pc-last-clause-loads c =
+    let t : Terms = c.args.words.now.terms in
+    let two = loads_both t c.args.copy c.args.me.now c.load_word.new.me c.last_begun.new.me c.load_word.ensures.loads c.last_begun.ensures.loads in
+    loads_both t c.args.copy c.args.me.now c.last_begun.new.me c.load_word-last.new.me two c.load_word-last.ensures.loads
+
+pub returns-then-pc-last-clause-found : goal.returns-then-pc-last-clause-found
+returns-then-pc-last-clause-found c =
+    let t : Terms = c.args.words.now.terms in
+    let k1 : CallerData = c.last_begun.new.me in
+    let k : CallerData = c.load_word-last.new.me in
+    let told = told_later t c.args.copy k1 k 1 c.load_word.result c.load_word-last.ensures.loads (told_later t c.args.copy c.load_word.new.me k1 1 c.load_word.result c.last_begun.ensures.loads c.load_word.ensures.told) in
+    let last = subst (IsLastBegun t c.args.copy k1 c.args.pc c.min-count.result) c.in-Some.is c.last_begun.ensures.last in
+    let begun = begun_later t c.args.copy k1 k c.args.pc c.min-count.result (Some c.in-Some.field-0) c.load_word-last.ensures.loads last in
+    let told_last = subst (λ p. IsTold t c.args.copy k (p + 1) c.load_word-last.result) c.place_of_member-place.ensures c.load_word-last.ensures.told in
+    ends_below t c.args.copy k c.args.pc c.min-count.result c.load_word.result told (omega (arith, c.min-count.ensures, c.loads-loads.ensures)) c.in-Some.field-0 begun c.load_word-last.result told_last (omega (arith, c.if-pc-last.true))
+
+pub returns-clause-loads : goal.returns-clause-loads
+returns-clause-loads c =
+    let t : Terms = c.args.words.now.terms in
+    let two = loads_both t c.args.copy c.args.me.now c.load_word.new.me c.last_begun.new.me c.load_word.ensures.loads c.last_begun.ensures.loads in
+    let three = loads_both t c.args.copy c.args.me.now c.last_begun.new.me c.load_word-last.new.me two c.load_word-last.ensures.loads in
+    loads_both t c.args.copy c.args.me.now c.load_word-last.new.me c.load_word-payload.new.me three c.load_word-payload.ensures.loads
+
+pub returns-clause-found : goal.returns-clause-found
+returns-clause-found c =
+    let t : Terms = c.args.words.now.terms in
+    let k1 : CallerData = c.last_begun.new.me in
+    let k2 : CallerData = c.load_word-last.new.me in
+    let k : CallerData = c.load_word-payload.new.me in
+    let two = loads_both t c.args.copy k1 k2 k c.load_word-last.ensures.loads c.load_word-payload.ensures.loads in
+    let told = told_later t c.args.copy k1 k 1 c.load_word.result two (told_later t c.args.copy c.load_word.new.me k1 1 c.load_word.result c.last_begun.ensures.loads c.load_word.ensures.told) in
+    let last = subst (IsLastBegun t c.args.copy k1 c.args.pc c.min-count.result) c.in-Some.is c.last_begun.ensures.last in
+    let begun = begun_later t c.args.copy k1 k c.args.pc c.min-count.result (Some c.in-Some.field-0) two last in
+    let told_last = told_later t c.args.copy k2 k (c.place_of_member-place.result + 1) c.load_word-last.result c.load_word-payload.ensures.loads c.load_word-last.ensures.told in
+    let last_at = subst (λ p. IsTold t c.args.copy k (p + 1) c.load_word-last.result) c.place_of_member-place.ensures told_last in
+    let payload_at = subst (λ p. IsTold t c.args.copy k (p + 2) c.load_word-payload.result) c.place_of_member-place.ensures c.load_word-payload.ensures.told in
+    is_listed t c.args.copy k c.args.pc c.min-count.result c.load_word.result told (omega (arith, c.min-count.ensures, c.loads-loads.ensures)) c.in-Some.field-0 begun c.load_word-last.result last_at (omega (arith, c.if-pc-last.false)) c.load_word-payload.result payload_at
