@@ -26,7 +26,7 @@ use Rattle.word_rule.specs.declared.log.LoadEvent.{LoadEvent}
 use Rattle.word_rule.specs.declared.log.Terms.{Terms}
 use Rattle.word_rule.specs.CallerData.{CallerData}
 use Rattle.word_rule.specs.Callers.{IsMemberOf, start}
-use Rattle.word_rule.specs.Clock.{AfterClock, IsSeen, clock_receipts}
+use Rattle.word_rule.specs.Clock.{AfterClock, IsSeen}
 use Rattle.word_rule.specs.Copies.{AreOfCopy}
 use Rattle.word_rule.specs.Logs.{load_of}
 use Rattle.word_rule.specs.Places.{lower, upper}
@@ -100,7 +100,7 @@ module _ (t : Terms) (pc first second : ℕ) (k0 k1 k2 k3 : CallerData) (object 
   past = two.0
 
   abbrev receipts : List Receipt
-  receipts = clock_receipts (ask.Loaded pc) second k2.log.sights.copies (record k2.log { past = two.0 })
+  receipts = two.1
 
   -- the callers after each step, as the first one's log tells them
   abbrev after_first : CallerData
@@ -113,13 +113,13 @@ module _ (t : Terms) (pc first second : ℕ) (k0 k1 k2 k3 : CallerData) (object 
   after_second = record after_between { log = after_clock second two.0 receipts after_between.log }
 
   first_is : k1 ≡ after_first
-  first_is = rest1 ∙ (λ i. record k0 { log = one.1.1 i })
+  first_is = rest1 ∙ ((λ i. record k0 { log = one.2.2 i }) ∙ ap (λ rs. record k0 { log = after_clock first one.0 rs k0.log }) one.2.1)
 
   between_is : k2 ≡ after_between
   between_is = between.2.1 ∙ ap (λ (k : CallerData). record k { log = after_copy_loads between.0 between.1 k.log }) first_is
 
   second_is : k3 ≡ after_second
-  second_is = rest2 ∙ ((λ i. record k2 { log = two.1.1 i }) ∙ ap (λ (k : CallerData). record k { log = after_clock second two.0 receipts k.log }) between_is)
+  second_is = rest2 ∙ ((λ i. record k2 { log = two.2.2 i }) ∙ ap (λ (k : CallerData). record k { log = after_clock second two.0 receipts k.log }) between_is)
 
   -- the sight of copies has the guard of the first load
   sight : (s : CopySight) × ((k2.log.sights.copies ≡ Some s) × (s.guard ≡ upper first))
@@ -151,7 +151,7 @@ module _ (t : Terms) (pc first second : ℕ) (k0 k1 k2 k3 : CallerData) (object 
   })
 
   begins : IsPrefix k0.log.past two.0
-  begins = prefix_both k0.log.past one.0 two.0 one.1.0.begins (subst (λ (k : CallerData). IsPrefix k.log.past two.0) between_is two.1.0.begins)
+  begins = prefix_both k0.log.past one.0 two.0 one.2.0.begins (subst (λ (k : CallerData). IsPrefix k.log.past two.0) between_is two.2.0.begins)
 
   -- where the upper halves differ, the receipts are none
   pub again : upper second ≢ upper first → LooksUp t pc k0 k3 (Err (Changed 0 first second))
@@ -164,23 +164,23 @@ module _ (t : Terms) (pc first second : ℕ) (k0 k1 k2 k3 : CallerData) (object 
     receipts = receipts;
     of_copy = between.2.0;
     begins = begins;
-    seen = sym two.1.0.updates;
+    seen = sym two.2.0.updates;
     answer = ((λ e. other (sym e)), refl, none);
     log = log_is;
   }
     where
       none : receipts ≡ []
-      none = rw (sight.1.0, ne_eqb sight.0.guard (upper second) (λ e. other (sym e ∙ sight.1.1))) refl
+      none = two.2.1 ∙ rw (sight.1.0, ne_eqb sight.0.guard (upper second) (λ e. other (sym e ∙ sight.1.1))) refl
 
   module _ (same : upper second ≡ upper first) where
     now : State
     now = state_after (start t) two.0
 
     seen : IsSeen t (state_after (start t) two.0).loaded sight.0
-    seen = subst (λ o. IfSome o (λ s. s.guard ≡ upper second → IsSeen t (state_after (start t) two.0).loaded s)) sight.1.0 two.1.0.copies (sight.1.1 ∙ sym same)
+    seen = subst (λ o. IfSome o (λ s. s.guard ≡ upper second → IsSeen t (state_after (start t) two.0).loaded s)) sight.1.0 two.2.0.copies (sight.1.1 ∙ sym same)
 
     at_stamp : state_at (start t) two.0 (lower second) ≡ state_after (start t) two.0
-    at_stamp = ap (state_after (start t)) (take_all (lower second) two.0 (let u = two.1.0.updates in omega (arith, u)))
+    at_stamp = ap (state_after (start t)) (take_all (lower second) two.0 (let u = two.2.0.updates in omega (arith, u)))
 
     found_now : query Loaded pc (state_after (start t) two.0) ≡ option_map listed_member object
     found_now =
@@ -197,14 +197,14 @@ module _ (t : Terms) (pc first second : ℕ) (k0 k1 k2 k3 : CallerData) (object 
     -- what was found may be made known
     known : (o : Option Member) → query Loaded pc (state_after (start t) two.0) ≡ o → IfSome o (IsMemberOf t)
     known None e = tt
-    known (Some m) e = all_contains (IsMemberOf t) (objects (state_after (start t) two.0)) m two.1.0.members (found_there pc (objects (state_after (start t) two.0)) m e).0
+    known (Some m) e = all_contains (IsMemberOf t) (objects (state_after (start t) two.0)) m two.2.0.members (found_there pc (objects (state_after (start t) two.0)) m e).0
 
     pub is_member : IfSome object IsMember
     is_member = go object (known (option_map listed_member object) found_now)
       where
         go : (o : Option Listed) → IfSome (option_map listed_member o) (IsMemberOf t) → IfSome o IsMember
         go None h = tt
-        go (Some l) h = (h.0, (let a = h.1 in let b = two.1.0.valid.payloads in omega (arith, a, b)))
+        go (Some l) h = (h.0, (let a = h.1 in let b = two.2.0.valid.payloads in omega (arith, a, b)))
 
     pub found_so : (found : Found) → member_of found ≡ option_map listed_member object → stamp_of found ≡ lower second → LooksUp t pc k0 k3 (Ok found)
     found_so found member stamp = record {
@@ -216,7 +216,7 @@ module _ (t : Terms) (pc first second : ℕ) (k0 k1 k2 k3 : CallerData) (object 
       receipts = receipts;
       of_copy = between.2.0;
       begins = begins;
-      seen = sym two.1.0.updates;
+      seen = sym two.2.0.updates;
       answer = (
         sym same,
         stamp,
@@ -229,7 +229,7 @@ module _ (t : Terms) (pc first second : ℕ) (k0 k1 k2 k3 : CallerData) (object 
       where
         receipt_is : receipts ≡ Query Loaded pc found ∷ []
         receipt_is =
-            let terms : k2.log.terms ≡ t = two.1.0.terms in
-            let made : receipts ≡ Query Loaded pc (found_at (query Loaded pc (state_at (start k2.log.terms) two.0 (lower second))) (lower second)) ∷ [] = rw (sight.1.0, eq-eqb sight.0.guard (upper second) (sight.1.1 ∙ sym same)) refl in
+            let terms : k2.log.terms ≡ t = two.2.0.terms in
+            let made : receipts ≡ Query Loaded pc (found_at (query Loaded pc (state_at (start k2.log.terms) two.0 (lower second))) (lower second)) ∷ [] = two.2.1 ∙ rw (sight.1.0, eq-eqb sight.0.guard (upper second) (sight.1.1 ∙ sym same)) refl in
             made ∙ (ap (λ u. Query Loaded pc (found_at (query Loaded pc (state_at (start u) two.0 (lower second))) (lower second)) ∷ []) terms
             ∙ ap (λ z. Query Loaded pc z ∷ []) ((λ i. found_at ((found_then ∙ sym member) i) (sym stamp i)) ∙ found_is found))

@@ -1,22 +1,18 @@
 -- A load of the clock keeps the rule: all of the history is seen, and what was asked is answered.
-use Rattle.std.proofs.Common.{◌≡◌, ℕ, ◌+◌, ◌≤◌, ◌%◌, ◌⊎◌, ◌↔◌, inl, inr, ⊎_elim, List, [], ◌∷◌, ◌++◌, length, length-append, get_or, set, map, take_all, Contains, sym, refl, ap, ◌∙◌, subst, arith, ◌==◌, Bool, true, false, true≢false, IsTrue, Option, Some, None, IfSome, append-nil, if◌then◌else◌}
+use Rattle.std.proofs.Common.{◌≡◌, ℕ, ◌+◌, ◌≤◌, ◌%◌, ◌⊎◌, ◌↔◌, inl, inr, ⊎_elim, List, [], ◌∷◌, ◌++◌, length, length-append, get_or, set, map, take_all, Contains, sym, refl, ap, ◌∙◌, subst, arith, ◌==◌, Bool, true, false, true≢false, IsTrue, Option, Some, None, IfSome, IsSomeAnd, is_some, ◌&&◌, append-nil, if◌then◌else◌}
 use Rattle.std.specs.List.{AllByRecursion, count_by}
 use Rattle.std.proofs.lemmas.List.{nil_from_length}
 use Rattle.std.proofs.lemmas.List.Sums.{sum_by_push}
 use mathlib.Core.Option.{none, some}
-use mathlib.Core.List.{IsPrefix}
 use lib.ListN.{get_elem?}
 use Rattle.atomic_table.specs.Table.{step, keeps, Allows}
 use Rattle.reg_model.specs.History.{state_after, state_at}
-use Rattle.reg_model.specs.Query.{query}
-use Rattle.reg_model.specs.Receipt.{Holds, moment}
+use Rattle.reg_model.specs.Receipt.{moment}
 use Rattle.reg_model.specs.Numbers.{has_number}
 use Rattle.reg_model.specs.declared.span.Member.{Member}
-use Rattle.reg_model.specs.declared.answer.Half.{Half}
 use Rattle.reg_model.specs.declared.answer.Half.TheVariants as half
 use Rattle.reg_model.specs.declared.answer.Update.{Update}
 use Rattle.reg_model.specs.declared.answer.Receipt.{Receipt}
-use Rattle.reg_model.specs.declared.answer.Receipt.TheVariants.{Query}
 use Rattle.reg_model.proofs.Histories.{lawful_history}
 use Rattle.tree_shape.specs.Numbers.{once}
 use Rattle.tree_shape.specs.NodeData.{IsLeaf, LiesInFences, entries_of}
@@ -33,21 +29,24 @@ use Rattle.word_rule.specs.declared.log.Log.{Log}
 use Rattle.word_rule.specs.Places.{lower, upper}
 use Rattle.word_rule.specs.Memory.{Memory, memory_of}
 use Rattle.word_rule.specs.Logs.{is_spent, weight, turns, load_of}
-use Rattle.word_rule.specs.Sights.{after_clock, copies_after_clock, found_at, query_receipt, walk_receipts, with_clock}
+use Rattle.word_rule.specs.Sights.{after_clock, copies_after_clock, query_receipt, walk_receipts, with_clock}
 use Rattle.word_rule.specs.Callers.{total, CallersHold, LogHolds, IsRecord, IsMemberOf, AtLoader, LoaderLock, dones_in, start}
-use Rattle.word_rule.specs.Copies.{ListsAll, CopySightHolds}
-use Rattle.word_rule.specs.Observations.{SightHolds, WasFull, ObservationsHold, HadMembers, IsFullCount, last_moment}
+use Rattle.word_rule.specs.Copies.{ListsAll, ListsMembers, CopySightHolds}
+use Rattle.word_rule.specs.Observations.{SightHolds, WasFull, ObservationsHold, HadMembers, IsFullCount}
 use Rattle.word_rule.specs.TableInvariant.{TableInvariant, IsStill}
-use Rattle.word_rule.specs.Clock.{IsSeen, ClockTells, IsQuestion, clock_receipts}
+use Rattle.word_rule.specs.Clock.{IsSeen, ClockTells, MayAsk, AreAsked}
+use Rattle.word_rule.specs.Steps.{IsRefusalOf, MayRefuse, Refuses}
+use Rattle.word_rule.specs.declared.log.LoaderHolding.{LoaderHolding}
+use Rattle.word_rule.proofs.CopyStores.{loader_held}
+use Rattle.word_rule.proofs.Refusals.{HoldsNow, query_at, query_answers, answer_record, refusal}
 use Rattle.word_rule.specs.Plays.{Seated, loads_clock}
 use Rattle.word_rule.proofs.Facts.{total_same, after_step}
-use Rattle.word_rule.proofs.Each.{all_map, all_append, all_of}
+use Rattle.word_rule.proofs.Each.{all_map, all_append, all_of, some_with}
 use Rattle.word_rule.proofs.Memories.{set_same}
 use Rattle.word_rule.proofs.CallersFrame.{lineages_over, lock_stays, busy}
 use Rattle.word_rule.proofs.NodesFrame.{nodes_same}
 use Rattle.word_rule.proofs.Frames.{Sit, table_step, still_after_load}
-use Rattle.word_rule.proofs.Listings.{ascending_disjoint, disjoint_fit, loaded_members, loaded_spans, start_lawful, state_fixed}
-use Rattle.word_rule.proofs.Receiving.{all_hold_snoc, in_order_later}
+use Rattle.word_rule.proofs.Listings.{ascending_disjoint, disjoint_fit, lists_same, loaded_members, loaded_spans, start_lawful, state_fixed}
 use Rattle.word_rule.proofs.Joins.{record_later, records_later}
 use Rattle.word_rule.proofs.Alone.{seen_all}
 
@@ -56,34 +55,15 @@ pub record LeafLaw : Type 0 where
   pub kind : (f : Contents) (live : ℕ → Bool) (n : ℕ) → IsTree f live → IsTrue (live n) → IsLeaf (f n) ↔ ((f n).level ≡ 0)
   pub entries : (f : Contents) (live : ℕ → Bool) (leaf : ℕ) (m : Member) → IsTree f live → IsTrue (live leaf) → IsLeaf (f leaf) → Contains (entries_of (f leaf)) m ↔ (HasEntry f live m × LiesInFences m.span (f leaf))
 
--- a query's receipt in a history
-abbrev query_at : Terms → List Update → Half → ℕ → ℕ → Receipt
-query_at t history which pc k = Query which pc (found_at (query which pc (state_at (start t) history k)) k)
-
-query_holds : (t : Terms) (history : List Update) (which : Half) (pc k callers since : ℕ) → k ≤ length history → Holds (start t) history t.nodes callers since (query_at t history which pc k)
-query_holds t history which pc k callers since inside = go (query which pc (state_at (start t) history k)) refl
-  where
-    go : (o : Option Member) → query which pc (state_at (start t) history k) ≡ o → Holds (start t) history t.nodes callers since (Query which pc (found_at o k))
-    go None e = record { within = inside; numbered = tt; right = e; filled = tt }
-    go (Some m) e = record { within = inside; numbered = tt; right = e; filled = tt }
-
-query_moment : (o : Option Member) (which : Half) (pc k : ℕ) → moment (Query which pc (found_at o k)) ≡ k
-query_moment None which pc k = refl
-query_moment (Some m) which pc k = refl
-
--- a log's own receipts, with such a receipt more
-query_record : (t : Terms) (past history : List Update) (callers : ℕ) (rs : List Receipt) (which : Half) (pc : ℕ) → IsPrefix past history → IsRecord t past callers rs → IsRecord t history callers (rs ++ query_at t history which pc (length history) ∷ [])
-query_record t past history callers rs which pc longer h =
-    let later = record_later t past history callers callers longer rs h in (
-      all_hold_snoc t history callers 0 rs (query_at t history which pc (length history)) later.0 (query_holds t history which pc (length history) callers (last_moment 0 rs) (omega arith)),
-      in_order_later t history callers rs (query_at t history which pc (length history)) later.0 later.1 refl (query_moment (query which pc (state_at (start t) history (length history))) which pc (length history)),
-    )
+-- what is asked of one's own terms
+pub may_ask : (a b : Ask) (t u : Terms) (v : Log) → a ≡ b → t ≡ u → MayAsk t a v → MayAsk u b v
+may_ask a b t u v same terms h = subst (λ z. MayAsk z b v) terms (subst (λ z. MayAsk t z v) same h)
 
 -- what is asked is answered by one such receipt, or by none
-abbrev Told : Terms → List Update → ℕ → List Receipt → Type 0
-Told t history k rs = (rs ≡ []) ⊎ ((which : Half) × (pc : ℕ) × (rs ≡ query_at t history which pc k ∷ []))
+abbrev Told : Terms → List Update → List Receipt → Type 0
+Told t history rs = (rs ≡ []) ⊎ ((r : Receipt) × ((rs ≡ r ∷ []) × HoldsNow t history r))
 
-module _ (law : LeafLaw) (t : Terms) (slots id : ℕ) (me : Seated) (caller : me.0.role ≡ role.Caller) (a : Ask) (question : IsQuestion a) where
+module _ (law : LeafLaw) (t : Terms) (slots id : ℕ) (me : Seated) (caller : me.0.role ≡ role.Caller) (a : Ask) (may : MayAsk t a me.0) where
   abbrev Rule : Sit → Type 0
   Rule s = TableInvariant t s.words s.views
 
@@ -100,12 +80,6 @@ module _ (law : LeafLaw) (t : Terms) (slots id : ℕ) (me : Seated) (caller : me
     abbrev history : List Update
     history = r.memory.history
 
-    abbrev receipts : List Receipt
-    receipts = clock_receipts a (get_or s.words 0 0) me.0.sights.copies (record me.0 { past = r.memory.history })
-
-    abbrev w : Log
-    w = after_clock (get_or s.words 0 0) r.memory.history (clock_receipts a (get_or s.words 0 0) me.0.sights.copies (record me.0 { past = r.memory.history })) me.0
-
     abbrev event : LoadEvent
     event = load_of me.0 0 (get_or s.words 0 0)
 
@@ -119,36 +93,54 @@ module _ (law : LeafLaw) (t : Terms) (slots id : ℕ) (me : Seated) (caller : me
     low = r.memory.callers.updates
 
     -- the receipt of a walk
-    walked : (pc : ℕ) (o : Option CopySight) → Told me.0.terms r.memory.history (lower (get_or s.words 0 0)) (walk_receipts (record me.0 { past = r.memory.history }) (get_or s.words 0 0) pc o)
+    walked : (pc : ℕ) (o : Option CopySight) → Told t r.memory.history (walk_receipts (record me.0 { past = r.memory.history }) (get_or s.words 0 0) pc o)
     walked pc None = inl refl
     walked pc (Some g) = go (g.guard == upper (get_or s.words 0 0))
       where
-        go : (b : Bool) → Told me.0.terms r.memory.history (lower (get_or s.words 0 0)) (if b then (query_receipt half.Loaded (record me.0 { past = r.memory.history }) pc (lower (get_or s.words 0 0)) ∷ []) else [])
-        go true = inr (half.Loaded, pc, refl)
+        go : (b : Bool) → Told t r.memory.history (if b then (query_receipt half.Loaded (record me.0 { past = r.memory.history }) pc (lower (get_or s.words 0 0)) ∷ []) else [])
+        go true = inr (query_at t r.memory.history half.Loaded pc (length r.memory.history), ((λ i. query_at (terms i) r.memory.history half.Loaded pc (low i) ∷ []), query_answers t r.memory.history half.Loaded pc))
         go false = inl refl
 
-    asked : (b : Ask) → IsQuestion b → Told me.0.terms r.memory.history (lower (get_or s.words 0 0)) (clock_receipts b (get_or s.words 0 0) me.0.sights.copies (record me.0 { past = r.memory.history }))
-    asked ask.Nothing q = inl refl
-    asked (ask.Registered pc) q = inr (half.Registered, pc, refl)
-    asked (ask.Loaded pc) q = walked pc me.0.sights.copies
-    asked (ask.Refused u) q = absurd q
+    -- the receipt of a refusal by what the active copy lists
+    refused : (u : Update) → IsSomeAnd me.0.loader (MayRefuse t u) → (x : Receipt) × (IsRefusalOf u (state_after (start me.0.terms) r.memory.history) (lower (get_or s.words 0 0)) x × HoldsNow t r.memory.history x)
+    refused u may =
+        let h = some_with me.0.loader (MayRefuse t u) may in
+        let mine = loader_held m r.memory.callers.holder id me.0.loader h.0 h.1.0 (r.memory.callers.at_loader id me.0 at) in
+        let copy : h.0.active ≡ m.copies (upper (get_or s.words 0 0) % 2) = mine.1.active in
+        let listed : ListsAll (m.copies (upper (get_or s.words 0 0) % 2)) (state_after (start t) r.memory.history).loaded = r.memory.active in
+        let members_are : h.1.1.0 ≡ listed.members = lists_same (m.copies (upper (get_or s.words 0 0) % 2)) h.1.1.0 listed.members (subst (λ ws. ListsMembers ws h.1.1.0) copy h.1.1.1.0) listed.lists in
+        let told = refusal t r.memory.history r.memory.callers.terms r.memory.callers.lawful r.memory.callers.members listed.members listed.lists.ascending listed.same u (subst (Refuses t u) members_are h.1.1.1.1) in
+        (told.0, (subst (λ k. IsRefusalOf u (state_after (start k) r.memory.history) (lower (get_or s.words 0 0)) told.0) (sym terms) (subst (λ k. IsRefusalOf u (state_after (start t) r.memory.history) k told.0) (sym low) told.1.0), told.1.1))
 
-    told : Told t r.memory.history (length r.memory.history) receipts
-    told = subst (λ k. Told k r.memory.history (length r.memory.history) receipts) terms (subst (λ k. Told me.0.terms r.memory.history k receipts) low (asked a question))
+    pub asked : (b : Ask) → MayAsk t b me.0 → (rs : List Receipt) × (AreAsked b (get_or s.words 0 0) me.0.sights.copies (record me.0 { past = r.memory.history }) rs × Told t r.memory.history rs)
+    asked ask.Nothing q = ([], (refl, inl refl))
+    asked (ask.Registered pc) q = (_, (refl, inr (query_at t r.memory.history half.Registered pc (length r.memory.history), ((λ i. query_at (terms i) r.memory.history half.Registered pc (low i) ∷ []), query_answers t r.memory.history half.Registered pc))))
+    asked (ask.Loaded pc) q = (_, (refl, walked pc me.0.sights.copies))
+    asked (ask.Refused u) q = let x = refused u q in (x.0 ∷ [], ((x.0, (refl, x.1.0)), inr (x.0, (refl, x.1.1))))
+
+    abbrev receipts : List Receipt
+    receipts = (asked a may).0
+
+    abbrev w : Log
+    w = after_clock (get_or s.words 0 0) r.memory.history (asked a may).0 me.0
+
+    told : Told t r.memory.history (asked a may).0
+    told = (asked a may).1.1
 
     own : (c : ℕ) → IsRecord t me.0.past c me.0.receipts.own → IsRecord t r.memory.history c (me.0.receipts.own ++ receipts)
     own c h = ⊎_elim
         (λ (none_more : receipts ≡ []). subst (IsRecord t r.memory.history c) (sym (ap (λ rs. me.0.receipts.own ++ rs) none_more ∙ append-nil me.0.receipts.own)) (record_later t me.0.past r.memory.history c c log.begins me.0.receipts.own h))
-        (λ (one : (which : Half) × (pc : ℕ) × (receipts ≡ query_at t r.memory.history which pc (length r.memory.history) ∷ [])).
-        subst (λ rs. IsRecord t r.memory.history c (me.0.receipts.own ++ rs)) (sym one.2) (query_record t me.0.past r.memory.history c me.0.receipts.own one.0 one.1 log.begins h))
+        (λ (one : (x : Receipt) × ((receipts ≡ x ∷ []) × HoldsNow t r.memory.history x)).
+        subst (λ rs. IsRecord t r.memory.history c (me.0.receipts.own ++ rs)) (sym one.1.0) (answer_record t me.0.past r.memory.history c me.0.receipts.own one.0 one.1.1 log.begins h))
         told
 
     -- no number is among them
     numbers_stay : (n : ℕ) → count_by (has_number n) (me.0.receipts.own ++ receipts) ≡ count_by (has_number n) me.0.receipts.own
     numbers_stay n = ⊎_elim
         (λ (none_more : receipts ≡ []). ap (count_by (has_number n)) (ap (λ rs. me.0.receipts.own ++ rs) none_more ∙ append-nil me.0.receipts.own))
-        (λ (one : (which : Half) × (pc : ℕ) × (receipts ≡ query_at t r.memory.history which pc (length r.memory.history) ∷ [])).
-        ap (λ rs. count_by (has_number n) (me.0.receipts.own ++ rs)) one.2 ∙ (sum_by_push (λ x. once (has_number n x)) me.0.receipts.own (query_at t r.memory.history one.0 one.1 (length r.memory.history)) ∙ (omega arith)))
+        (λ (one : (x : Receipt) × ((receipts ≡ x ∷ []) × HoldsNow t r.memory.history x)).
+        let none : has_number n one.0 ≡ false = ap (λ u. is_some u && (moment one.0 == n)) one.1.1.accepts in
+        ap (λ rs. count_by (has_number n) (me.0.receipts.own ++ rs)) one.1.0 ∙ (sum_by_push (λ x. once (has_number n x)) me.0.receipts.own one.0 ∙ (let z : once (has_number n one.0) ≡ 0 = ap once none in omega (arith, z))))
         told
 
     made_same : total (λ v. v.made) (set s.views id w) ≡ total (λ v. v.made) s.views
@@ -277,6 +269,10 @@ module _ (law : LeafLaw) (t : Terms) (slots id : ℕ) (me : Seated) (caller : me
       few = few (subst (λ u. ListsAll (m.copies (u % 2)) (state_after (start t) r.memory.history).loaded) (sym guard) r.memory.active);
     }
 
+    held_copy : (o : Option LoaderHolding) → AtLoader m r.memory.callers.holder id o → IfSome o (λ h. (upper (get_or s.words 0 0) ≡ h.published) × ListsAll h.active (state_after (start t) r.memory.history).loaded)
+    held_copy None h = tt
+    held_copy (Some g) h = (sym h.1.published, subst (λ ws. ListsAll ws (state_after (start t) r.memory.history).loaded) (sym h.1.active) r.memory.active)
+
     pub tells : ClockTells t (get_or s.words 0 0) me.0 r.memory.history
     tells = record {
       terms = terms;
@@ -289,6 +285,7 @@ module _ (law : LeafLaw) (t : Terms) (slots id : ℕ) (me : Seated) (caller : me
           (subst (AllByRecursion (IsMemberOf t)) (sym (state_fixed (start t) r.memory.history).0) r.memory.callers.terms.members)
           (loaded_members t (start t) r.memory.history r.memory.callers.members tt);
       copies = seen_copy me.0.sights.copies (r.memory.observations id me.0 at).copies;
+      holder = held_copy me.0.loader (r.memory.callers.at_loader id me.0 at);
       alone = λ alone.
           let same = seen_all t m s.views r.memory.history r.memory.callers id me.0 at alone in
           let sum : length me.0.past + length log.begins.0 ≡ length r.memory.history = sym (length-append me.0.past log.begins.0) ∙ ap length log.begins.1 in
@@ -296,7 +293,7 @@ module _ (law : LeafLaw) (t : Terms) (slots id : ℕ) (me : Seated) (caller : me
     }
 
   pub loads_the_clock : Allows Rule slots id me 0 (λ n. n) (loads_clock t a (step slots 0 0 0 none) me)
-  loads_the_clock s r deep at small = (w s r at, keeps, tt, kept_table s r at, ((r.memory.history, (tells s r at, refl)), refl))
+  loads_the_clock s r deep at small = (w s r at, keeps, tt, kept_table s r at, ((r.memory.history, (asked s r at a may).0, (tells s r at, (asked s r at a may).1.0, refl)), refl))
 
   -- the same, told of terms that are known to be these
   pub loads_clock_of : (u : Terms) → t ≡ u → Allows Rule slots id me 0 (λ n. n) (loads_clock u a (step slots 0 0 0 none) me)

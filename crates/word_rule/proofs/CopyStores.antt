@@ -1,5 +1,5 @@
 -- A store in the copy that is not active keeps the rule.
-use Rattle.std.proofs.Common.{◌≡◌, ◌≢◌, ℕ, ◌+◌, ◌-◌, ◌%◌, ◌<◌, List, [], get_or, set, length-set, sym, refl, ap, ◌∙◌, subst, arith, false, Option, Some, None, option_map, append-nil}
+use Rattle.std.proofs.Common.{◌≡◌, ◌≢◌, ℕ, zero, suc, ◌+◌, ◌-◌, ◌%◌, ◌<◌, List, [], get_or, set, length-set, sym, refl, ap, ◌∙◌, subst, arith, true, false, Option, Some, None, option_map, append-nil, IsSomeAnd}
 use Rattle.std.proofs.lemmas.Option.{same_Some}
 use Rattle.std.specs.List.{AllByRecursion}
 use mathlib.Core.Option.{none, some}
@@ -11,15 +11,16 @@ use Rattle.word_rule.specs.declared.log.Terms.{Terms}
 use Rattle.word_rule.specs.declared.log.LoaderHolding.{LoaderHolding}
 use Rattle.word_rule.specs.declared.log.CopySight.{CopySight}
 use Rattle.word_rule.specs.declared.log.Log.{Log}
-use Rattle.word_rule.specs.Places.{copy_place, copy_words, upper, spare}
+use Rattle.word_rule.specs.Places.{copy_place, copy_words, upper, spare, word_count}
 use Rattle.word_rule.specs.Memory.{Memory, memory_of, updated}
-use Rattle.word_rule.specs.Logs.{is_spent}
-use Rattle.word_rule.specs.Steps.{store_in_copy, after_copy_store}
+use Rattle.word_rule.specs.Logs.{is_spent, after_write}
+use Rattle.word_rule.specs.Steps.{MayStoreCopy, store_in_copy, after_copy_store, spare_place}
 use Rattle.reg_model.specs.History.{state_after}
 use Rattle.word_rule.specs.Callers.{HoldsLoader, AtLoader, LoaderLock, start}
 use Rattle.word_rule.specs.Copies.{ListsAll, CopySightHolds}
 use Rattle.word_rule.specs.TableInvariant.{TableInvariant}
 use Rattle.word_rule.specs.Plays.{Seated, stores_copy}
+use Rattle.word_rule.proofs.Each.{some_with}
 use Rattle.word_rule.proofs.Facts.{after_step, within}
 use Rattle.word_rule.proofs.Memories.{set_copy}
 use Rattle.word_rule.proofs.Frames.{Sit}
@@ -36,6 +37,23 @@ other_loader m m' holder j (Some g) far h = absurd (far h.0)
 -- a log that has the loader's lock
 pub loader_held : (m : Memory) (holder : Option ℕ) (id : ℕ) (o : Option LoaderHolding) (h : LoaderHolding) → o ≡ Some h → AtLoader m holder id o → (holder ≡ Some id) × HoldsLoader m h
 loader_held m holder id o h is a = subst (AtLoader m holder id) is a
+
+-- the words that may be stored are in the table
+pub spare_inside : (t : Terms) (at : ℕ) (o : Option LoaderHolding) → IsSomeAnd o (MayStoreCopy t at) → at < word_count t
+spare_inside t at None h = absurd h
+spare_inside t at (Some g) h = go ((g.published + 1) % 2) (omega arith) h.1
+  where
+    go : (c : ℕ) → c < 2 → at < copy_place t c + copy_words t → at < word_count t
+    go zero two less = omega (arith, less)
+    go (suc zero) two less = omega (arith, less)
+    go (suc (suc c)) two less = absurd (omega (arith, two))
+
+-- a word stored, counted from the copy's first
+abbrev put_in_copy : ℕ → ℕ → LoaderHolding → LoaderHolding
+put_in_copy k x h = record h { spare = set h.spare k x; stored = true }
+
+abbrev after_put : ℕ → ℕ → Log → Log
+after_put k x v = record (after_write v) { loader = option_map (put_in_copy k x) v.loader }
 
 module _ (t : Terms) (slots id : ℕ) (me : Seated) (caller : me.0.role ≡ role.Caller) where
   abbrev Holds : Sit → Type 0
@@ -59,20 +77,20 @@ module _ (t : Terms) (slots id : ℕ) (me : Seated) (caller : me.0.role ≡ role
     m' = record (memory_of t s.words) { copies = copies' }
 
     abbrev w : Log
-    w = after_copy_store k x me.0
+    w = after_put k x me.0
 
     mine : (r.memory.callers.holder ≡ Some id) × HoldsLoader (memory_of t s.words) h
     mine = loader_held (memory_of t s.words) r.memory.callers.holder id me.0.loader h is (r.memory.callers.at_loader id me.0 at)
 
-    now : w.loader ≡ Some (store_in_copy k x h)
-    now = ap (option_map (store_in_copy k x)) is
+    now : w.loader ≡ Some (put_in_copy k x h)
+    now = ap (option_map (put_in_copy k x)) is
 
     -- the active copy is the other one
     active_stays : copies' (upper (get_or s.words 0 0) % 2) ≡ (memory_of t s.words).copies (upper (get_or s.words 0 0) % 2)
     active_stays = updated_other (memory_of t s.words).copies (spare (get_or s.words 0 0)) (set ((memory_of t s.words).copies (spare (get_or s.words 0 0))) k x) (upper (get_or s.words 0 0) % 2) (λ e. omega (arith, e))
 
     lock : LoaderLock (memory_of t s.words).loader (set s.views id w) r.memory.callers.holder
-    lock = subst (LoaderLock (memory_of t s.words).loader (set s.views id w)) (sym mine.0) (w, store_in_copy k x h, (set_here s.views id w (within s.views id me.0 at), now))
+    lock = subst (LoaderLock (memory_of t s.words).loader (set s.views id w)) (sym mine.0) (w, put_in_copy k x h, (set_here s.views id w (within s.views id me.0 at), now))
 
     at_lock : (j : ℕ) (u : Log) → get_elem? (set s.views id w) j ≡ some u → AtLoader m' r.memory.callers.holder j u.loader
     at_lock = after_step (λ j u. AtLoader m' r.memory.callers.holder j u.loader) s.views id w
@@ -104,9 +122,19 @@ module _ (t : Terms) (slots id : ℕ) (me : Seated) (caller : me.0.role ≡ role
         (subst (λ ws. ListsAll ws (state_after (start t) r.memory.history).loaded) (sym active_stays) r.memory.active) refl (λ _ p. p) copies (record { own = refl; sights = refl; loads = refl; turn = omega arith })
 
   -- the place of the word is known from the log: its copy is the one that the lock's publications say
-  pub stores_spare : (h : LoaderHolding) → me.0.loader ≡ Some h → (k x : ℕ) → k < copy_words t → Allows Holds slots id me (copy_place t ((h.published + 1) % 2) + k) (λ _. x) (stores_copy k (step slots (copy_place t ((h.published + 1) % 2) + k) x 0 none) me)
-  stores_spare h is k x inside s r deep at small =
-      let mine = loader_held (memory_of t s.words) r.memory.callers.holder id me.0.loader h is (r.memory.callers.at_loader id me.0 at) in
-      let same : (h.published + 1) % 2 ≡ spare (get_or s.words 0 0) = ap (λ u. (u + 1) % 2) mine.1.published in
-      let w : Log = after_copy_store k x me.0 in
-      (w, keeps, tt, subst (λ d. TableInvariant t (set s.words (copy_place t d + k) x) (set s.views id w)) (sym same) (stored h is k x inside s r at), refl)
+  pub stores_spare : (h : LoaderHolding) → me.0.loader ≡ Some h → (at x : ℕ) → MayStoreCopy t at h → Allows Holds slots id me at (λ _. x) (stores_copy (step slots at x 0 none) me)
+  stores_spare h is at x may s r deep here small =
+      let mine = loader_held (memory_of t s.words) r.memory.callers.holder id me.0.loader h is (r.memory.callers.at_loader id me.0 here) in
+      let same : spare_place t h ≡ copy_place t (spare (get_or s.words 0 0)) = ap (λ u. copy_place t ((u + 1) % 2)) mine.1.published in
+      let k : ℕ = at - spare_place t h in
+      let low = may.0 in let high = may.1 in
+      let place : copy_place t (spare (get_or s.words 0 0)) + k ≡ at = omega (arith, same, low) in
+      let terms : me.0.terms ≡ t = (r.memory.callers.each id me.0 here).terms stands in
+      let held : option_map (put_in_copy k x) me.0.loader ≡ option_map (store_in_copy me.0.terms at x) me.0.loader = ap (option_map (put_in_copy k x)) is ∙ (ap (λ u. Some (store_in_copy u at x h)) (sym terms) ∙ sym (ap (option_map (store_in_copy me.0.terms at x)) is)) in
+      let w : Log = after_copy_store at x me.0 in
+      let log : after_put k x me.0 ≡ w = (λ i. record (after_write me.0) { loader = held i }) in
+      (w, keeps, tt, subst (λ (v : Log). TableInvariant t (set s.words at x) (set s.views id v)) log (subst (λ p. TableInvariant t (set s.words p x) (set s.views id (after_put k x me.0))) place (stored h is k x (omega (arith, low, high)) s r here)), refl)
+
+  -- the same of the lock that the log has
+  pub stores_held : (at x : ℕ) → IsSomeAnd me.0.loader (MayStoreCopy t at) → Allows Holds slots id me at (λ _. x) (stores_copy (step slots at x 0 none) me)
+  stores_held at x may = let h = some_with me.0.loader (MayStoreCopy t at) may in stores_spare h.0 h.1.0 at x h.1.1

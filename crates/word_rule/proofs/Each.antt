@@ -1,5 +1,5 @@
 -- What holds of each item of a list.
-use Rattle.std.proofs.Common.{◌≡◌, ℕ, List, [], ◌∷◌, ◌++◌, Option, Some, None, sym, subst, true≢false, eq-eqb, ne_eqb, IsSome, refl}
+use Rattle.std.proofs.Common.{◌≡◌, ℕ, List, [], ◌∷◌, ◌++◌, Option, Some, None, sym, subst, true≢false, eq-eqb, ne_eqb, IsSome, IsSomeAnd, refl}
 use Rattle.std.proofs.lemmas.Option.{none-some, same_Some}
 use Rattle.std.specs.List.{AllByRecursion}
 use native.Mathlib.Decide.{ℕ_discrete}
@@ -35,3 +35,7 @@ held_is P n (g ∷ held) h all found = go (ℕ_discrete g.node n) (held_is P n h
 pub some_of : {A : Type 0} (o : Option A) → IsSome o → (a : A) × (o ≡ Some a)
 some_of None h = absurd (true≢false (sym h))
 some_of (Some a) h = (a, refl)
+
+pub some_with : {A : Type 0} (o : Option A) (P : A → Type 0) → IsSomeAnd o P → (a : A) × ((o ≡ Some a) × P a)
+some_with None P h = absurd h
+some_with (Some a) P h = (a, (refl, h))

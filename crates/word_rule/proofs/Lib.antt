@@ -24,6 +24,7 @@ pub mod SeatNodes
 pub mod Joins
 pub mod Publishing
 pub mod Alone
+pub mod Refusals
 pub mod ClockLoads
 pub mod InitialCallers
 pub mod InitialTable

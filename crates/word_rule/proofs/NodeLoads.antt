@@ -25,7 +25,9 @@ use Rattle.word_rule.specs.Spelling.{node_word}
 use Rattle.word_rule.specs.Held.{held_of}
 use Rattle.word_rule.specs.Logs.{is_spent, load_of}
 use Rattle.word_rule.specs.Sights.{with_copy_word, after_copy_load, after_node_load}
-use Rattle.word_rule.specs.Callers.{total, start}
+use Rattle.word_rule.specs.Callers.{total, start, AtLoader}
+use Rattle.word_rule.specs.Steps.{IsHeldWord}
+use Rattle.word_rule.specs.declared.log.LoaderHolding.{LoaderHolding}
 use Rattle.word_rule.specs.Nodes.{Shadow, HoldsNode, IsPlaced}
 use Rattle.word_rule.specs.Copies.{CopySightHolds}
 use Rattle.word_rule.specs.Observations.{last_moment, HadMembers, IsFullCount, WasFull}
@@ -97,6 +99,20 @@ module _ (t : Terms) (slots id : ℕ) (me : Seated) (caller : me.0.role ≡ role
     head = λ _ is _ _. absurd (omega (arith, is, far));
   }
 
+  -- the holder finds the word of the copy in which it stands
+  held_word : (s : Sit) (r : Holds s) (at : ℕ) → get_elem? s.views id ≡ some me.0 → (o : Option LoaderHolding) → AtLoader (memory_of t s.words) r.memory.callers.holder id o → IfSome o (IsHeldWord t at (get_or s.words at 0))
+  held_word s r at here None h = tt
+  held_word s r at here (Some g) h =
+      let published = h.1.published in record {
+        active = λ inside. of_copy (g.published % 2) g.active (omega arith) (h.1.active ∙ ap (λ u. copy_of t s.words (u % 2)) (sym published)) inside;
+        spare = λ inside. of_copy ((g.published + 1) % 2) g.spare (omega arith) (h.1.spare ∙ ap (λ u. copy_of t s.words ((u + 1) % 2)) (sym published)) inside;
+      }
+    where
+      of_copy : (c : ℕ) (copy : List ℕ) → c < 2 → copy ≡ copy_of t s.words c → IsTrue (is_of_copy t c at) → get_or copy (at - copy_place t c) 0 ≡ get_or s.words at 0
+      of_copy c copy two is inside =
+          let parts = and_parts (nat_le (copy_place t c) at) (nat_lt at (copy_place t c + copy_words t)) inside in
+          ap (λ ws. get_or ws (at - copy_place t c) 0) is ∙ load_copy_at t s.words c at two (leb_true _ _ parts.0) (ltb_true _ _ parts.1)
+
   pub loads_copy_word : (at : ℕ) → 4 + 36 * t.nodes ≤ at → Allows Holds slots id me at (λ n. n) (loads_copy (step slots at 0 0 none) me)
   loads_copy_word at far s r deep here small =
       let found : ℕ = get_or s.words at 0 in
@@ -113,7 +129,7 @@ module _ (t : Terms) (slots id : ℕ) (me : Seated) (caller : me.0.role ≡ role
             (r.memory.nodes.holdings id me.0 here) (λ _ h. h) (λ _. refl)
             (observations_own t m r.memory.history callers r.memory.shadow me.0 w (load_of me.0 at found ∷ []) (record { own = refl; turns = omega arith; loads = refl }) o.sights copies (past_nodes s r at here far, tt) ((omega arith, omega arith), tt) o)
             (λ alone. still_after_load s.words me.0 w (load_of me.0 at found) refl refl refl (r.alone id me.0 here alone)),
-        refl,
+        (refl, subst (λ k. IfSome me.0.loader (IsHeldWord k at found)) (sym terms) (held_word s r at here me.0.loader (r.memory.callers.at_loader id me.0 here))),
       )
 
   -- a full node's count, loaded under its lock

@@ -34,12 +34,12 @@ use Rattle.word_rule.specs.Logs.{is_spent, weight, turns}
 use Rattle.word_rule.specs.Steps.{IsDone, exchange_copies, after_publish, AfterPublish, Publishes, MayPublish}
 use Rattle.word_rule.specs.Callers.{total, CallersHold, LogHolds, ReceiptsHold, HoldsLoader, AtLoader, LoaderLock, IsOfTerms, is_of_loader, dones_in, number_of, start}
 use Rattle.word_rule.specs.Nodes.{Shadow, NodesHold}
-use Rattle.word_rule.specs.Copies.{ListsMembers, ActiveCopy, CopySightHolds}
+use Rattle.word_rule.specs.Copies.{ListsAll, ListsMembers, ActiveCopy, CopySightHolds}
 use Rattle.word_rule.specs.Observations.{SightHolds, WasFull, ObservationsHold, last_moment}
 use Rattle.word_rule.specs.TableInvariant.{TableInvariant}
 use Rattle.word_rule.specs.Plays.{Seated, publishes}
 use Rattle.word_rule.proofs.Facts.{total_set, total_same, part_of_total, after_step, within}
-use Rattle.word_rule.proofs.Each.{all_map, all_append, some_of}
+use Rattle.word_rule.proofs.Each.{all_map, all_append, some_of, some_with}
 use Rattle.word_rule.proofs.Memories.{set_clock}
 use Rattle.word_rule.proofs.CallersFrame.{lineages_over, busy}
 use Rattle.word_rule.proofs.NodesFrame.{nodes_same}
@@ -329,9 +329,22 @@ module _ (t : Terms) (slots id : ℕ) (me : Seated) (caller : me.0.role ≡ role
           (λ j v _ there. over v (r.memory.observations j v there)));
     }) (λ _. still_after_turn (set s.words 0 (get_or s.words 0 0 + 4294967297)) me.0 w (omega arith) refl (r.memory.observations id me.0 at).earlier)
 
-    pub after_it : AfterPublish u me.0 w
-    after_it = let terms : me.0.terms ≡ t = (r.memory.callers.each id me.0 at).terms stands in
-        (r.memory.history, answer_of.0, (subst (λ k. IsDone u (length r.memory.history + 1) (state_after (start k) r.memory.history) answer_of.0) (sym terms) told.is_done, refl))
+    pub after_it : AfterPublish u (get_or s.words 0 0) me.0 w
+    after_it = let terms : me.0.terms ≡ t = (r.memory.callers.each id me.0 at).terms stands in (
+      r.memory.history,
+      answer_of.0,
+      (
+        record {
+          begins = (r.memory.callers.each id me.0 at).begins;
+          number = low;
+          room = small;
+          active = subst (λ o. IfSome o (λ g. ListsAll g.active (state_after (start me.0.terms) r.memory.history).loaded)) (sym is)
+              (subst (λ k. ListsAll h.active (state_after (start k) r.memory.history).loaded) (sym terms) (subst (λ ws. ListsAll ws (state_after (start t) r.memory.history).loaded) (sym mine.1.active) r.memory.active));
+        },
+        subst (λ k. IsDone u (length r.memory.history + 1) (state_after (start k) r.memory.history) answer_of.0) (sym terms) told.is_done,
+        refl,
+      ),
+    )
 
   -- the clock gets one update more in its lower half, and one of the loader in its upper half
   pub publishes_copy : (u : Update) (h : LoaderHolding) → me.0.loader ≡ Some h → MayPublish t me.0.budget.allowance u h → Allows Rule slots id me 0 (λ n. (n + 4294967297) % 2 ^ 64) (publishes u (step slots 0 4294967297 0 none) me)
@@ -342,3 +355,9 @@ module _ (t : Terms) (slots id : ℕ) (me : Seated) (caller : me.0.role ≡ role
     subst (λ x. TableInvariant t (set s.words 0 x) (set s.views id (after_publish u r.memory.history (answer_of u h is may s r at).0 me.0))) (sym (no_overflow u h is may s r at)) (published_table u h is may s r at),
     (after_it u h is may s r at, refl),
   )
+
+  -- the same of the lock that the log has
+  pub publishes_held : (u v : Update) → u ≡ v → IsSomeAnd me.0.loader (MayPublish t me.0.budget.allowance v) → Allows Rule slots id me 0 (λ n. (n + 4294967297) % 2 ^ 64) (publishes u (step slots 0 4294967297 0 none) me)
+  publishes_held u v same may =
+      let h = some_with me.0.loader (MayPublish t me.0.budget.allowance v) may in
+      publishes_copy u h.0 h.1.0 (subst (λ z. MayPublish t me.0.budget.allowance z h.0) (sym same) h.1.1)

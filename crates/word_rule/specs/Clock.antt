@@ -1,5 +1,6 @@
 -- What a load of the clock tells, and what it makes of its caller's log.
 use Rattle.std.specs.Prelude.{◌≡◌, ℕ, ◌≤◌, ◌%◌, List, [], ◌∷◌, length, Option, IfSome}
+use Rattle.std.specs.Prelude.{IsSomeAnd}
 use Rattle.std.specs.List.{AllByRecursion}
 use mathlib.Core.List.{IsPrefix}
 use Rattle.reg_model.specs.State.{IsLawful, objects}
@@ -17,6 +18,7 @@ use Rattle.word_rule.specs.Places.{lower, upper}
 use Rattle.word_rule.specs.Callers.{AreTerms, IsAlone, IsMemberOf, publications, start}
 use Rattle.word_rule.specs.Copies.{AreOfCopy, ListsAll}
 use Rattle.word_rule.specs.Sights.{after_clock, query_receipt, walk_receipts}
+use Rattle.word_rule.specs.Steps.{IsRefusalOf, MayRefuse}
 
 -- The words of a copy that lists these members, no more than may be loaded, and has all words of
 -- the sight as they were loaded.
@@ -39,26 +41,33 @@ pub record ClockTells (t : Terms) (found : ℕ) (v : Log) (past : List Update) :
   -- that lists the loaded members
   pub copies : IfSome v.sights.copies
       (λ s. s.guard ≡ upper found → IsSeen t (state_after (start t) past).loaded s)
+  -- the holder of the loader's lock knows how often it published, and what the active copy lists
+  pub holder : IfSome v.loader (λ h. (upper found ≡ h.published)
+      × ListsAll h.active (state_after (start t) past).loaded)
   -- where nobody else can step, nothing was accepted since
   pub alone : IsAlone v.lineage → past ≡ v.past
 
--- the asks that are no refusals
-abbrev pub IsQuestion : Ask → Type 0
-IsQuestion (ask.Refused u) = ⊥
-IsQuestion _ = Unit {0}
+-- what a load of the clock asks for: a refusal, that the active copy and the fixed members refuse
+-- the update, under the loader's lock
+abbrev pub MayAsk : Terms → Ask → Log → Type 0
+MayAsk t (ask.Refused u) v = IsSomeAnd v.loader (MayRefuse t u)
+MayAsk t _ v = Unit {0}
 
 -- The receipts that a load of the clock appends, by what it is asked, where `seen` has seen all of
--- the history: none; the registered half's answer; or the loader's, where the upper half is still
--- the guard of this sight.
-abbrev pub clock_receipts : Ask → ℕ → Option CopySight → Log → List Receipt
-clock_receipts ask.Nothing found sight seen = []
-clock_receipts (ask.Registered pc) found sight seen =
-    query_receipt half.Registered seen pc (lower found) ∷ []
-clock_receipts (ask.Loaded pc) found sight seen = walk_receipts seen found pc sight
-clock_receipts (ask.Refused u) found sight seen = []
+-- the history: none; the registered half's answer; the loader's, where the upper half is still the
+-- guard of this sight; or the refusal of the update.
+abbrev pub AreAsked : Ask → ℕ → Option CopySight → Log → List Receipt → Type 0
+AreAsked ask.Nothing found sight seen receipts = receipts ≡ []
+AreAsked (ask.Registered pc) found sight seen receipts =
+    receipts ≡ query_receipt half.Registered seen pc (lower found) ∷ []
+AreAsked (ask.Loaded pc) found sight seen receipts =
+    receipts ≡ walk_receipts seen found pc sight
+AreAsked (ask.Refused u) found sight seen receipts = (r : Receipt) × ((receipts ≡ r ∷ [])
+    × IsRefusalOf u (state_after (start seen.terms) seen.past) (lower found) r)
 
 -- The clock was loaded.
 abbrev pub AfterClock : Terms → Ask → ℕ → Log → Log → Type 0
-AfterClock t a found v w = (past : List Update) × (ClockTells t found v past
-    × (w ≡ after_clock found past
-    (clock_receipts a found v.sights.copies (record v { past = past })) v))
+AfterClock t a found v w = (past : List Update) × (receipts : List Receipt)
+    × (ClockTells t found v past
+    × AreAsked a found v.sights.copies (record v { past = past }) receipts
+    × (w ≡ after_clock found past receipts v))

@@ -10,7 +10,7 @@ use Rattle.word_rule.specs.declared.log.Ask.{Ask}
 use Rattle.word_rule.specs.Places.{ALLOWANCE, CONTENT_WORDS}
 use Rattle.word_rule.specs.Spelling.{SpellsNode}
 use Rattle.word_rule.specs.Sights.{after_node_version, after_node_load, after_copy_load}
-use Rattle.word_rule.specs.Steps.{after_node_lock, after_give, after_copy_store, AfterPublish}
+use Rattle.word_rule.specs.Steps.{after_node_lock, after_give, after_copy_store, AfterPublish, IsHeldWord}
 use Rattle.word_rule.specs.Steps.{AfterNodeRelease}
 use Rattle.word_rule.specs.declared.log.Terms.{Terms}
 use Rattle.word_rule.specs.Clock.{AfterClock}
@@ -61,7 +61,9 @@ confirms st me found me' =
 
 -- a word of a copy was loaded
 abbrev pub loads_copy : Stepped → Seated → ℕ → Seated → Type 0
-loads_copy st me found me' = me' ≡ (after_copy_load st.word found me.0, me.1)
+loads_copy st me found me' =
+    (me' ≡ (after_copy_load st.word found me.0, me.1))
+    × IfSome me.0.loader (IsHeldWord me.0.terms st.word found)
 
 -- the clock was loaded
 abbrev pub loads_clock : Terms → Ask → Stepped → Seated → ℕ → Seated → Type 0
@@ -90,12 +92,12 @@ abbrev pub gives_node : Stepped → Seated → ℕ → Seated → Type 0
 gives_node st me found me' = me' ≡ (after_give st.first me.0, me.1)
 
 -- a word of the copy that is not active was stored
-abbrev pub stores_copy : ℕ → Stepped → Seated → ℕ → Seated → Type 0
-stores_copy at st me found me' = me' ≡ (after_copy_store at st.first me.0, me.1)
+abbrev pub stores_copy : Stepped → Seated → ℕ → Seated → Type 0
+stores_copy st me found me' = me' ≡ (after_copy_store st.word st.first me.0, me.1)
 
 -- an update of the loader was published
 abbrev pub publishes : Update → Stepped → Seated → ℕ → Seated → Type 0
-publishes u st me found me' = AfterPublish u me.0 me'.0 × (me'.1 ≡ me.1)
+publishes u st me found me' = AfterPublish u found me.0 me'.0 × (me'.1 ≡ me.1)
 
 -- a node was let go with the next version, and contents settled
 abbrev pub releases_node : ℕ → Stepped → Seated → ℕ → Seated → Type 0

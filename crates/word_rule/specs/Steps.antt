@@ -1,11 +1,13 @@
 -- What the steps on nodes, on the loader's copies, on the clock and on the free head make of a log,
 -- and what they ask for.
-use Rattle.std.specs.Prelude.{◌≡◌, ◌≢◌, ◌↔◌, Contains, is_some, option_map, ℕ, ◌+◌, ◌-◌, ◌<◌, ◌⊎◌}
+use Rattle.std.specs.Prelude.{◌≡◌, ◌≢◌, ◌↔◌, Contains, is_some, option_map, ℕ, ◌+◌, ◌-◌, ◌<◌, ◌≤◌}
+use Rattle.std.specs.Prelude.{◌⊎◌, ◌%◌, slice_index, IfSome, IsNone}
 use Rattle.std.specs.Prelude.{true, false, ◌==◌, IsTrue, List, [], ◌∷◌, ◌++◌, length, Option, Some}
 use Rattle.std.specs.Prelude.{None, IsSome, IsSomeAnd, slice_set, if◌then◌else◌}
 use Rattle.std.specs.List.{find}
 use Rattle.reg_model.specs.History.{state_after}
-use Rattle.reg_model.specs.State.{State, IsFree, at_base}
+use mathlib.Core.List.{IsPrefix}
+use Rattle.reg_model.specs.State.{State, IsFree, IsLowestOverlap, at_base}
 use Rattle.reg_model.specs.declared.span.Member.{Member}
 use Rattle.reg_model.specs.Receipt.{moment, accepted, IsRight}
 use Rattle.reg_model.specs.declared.answer.Update.{Update}
@@ -21,7 +23,7 @@ use Rattle.word_rule.specs.declared.log.Log.{Log}
 use Rattle.word_rule.specs.declared.log.Holding.{Holding}
 use Rattle.word_rule.specs.declared.log.LoaderHolding.{LoaderHolding}
 use Rattle.tree_shape.specs.declared.node.Frame.{Frame}
-use Rattle.word_rule.specs.Places.{HEAD}
+use Rattle.word_rule.specs.Places.{ALLOWANCE, HEAD, copy_place, copy_words, is_of_copy, lower}
 use Rattle.word_rule.specs.Spelling.{spelled}
 use Rattle.word_rule.specs.Held.{held_of, edited, without_lock, all_but, marked_in}
 use Rattle.word_rule.specs.Exchange.{Differs, is_lawful, settle}
@@ -30,7 +32,7 @@ use Rattle.word_rule.specs.Logs.{after_load, after_write, after_spending}
 use Rattle.word_rule.specs.Sights.{with_receipts}
 use Rattle.word_rule.specs.declared.log.Terms.{Terms}
 use Rattle.word_rule.specs.Callers.{IsOfTerms, start}
-use Rattle.word_rule.specs.Copies.{ListsMembers}
+use Rattle.word_rule.specs.Copies.{ListsAll, ListsMembers}
 
 -- The mark of a node at its lock: the root is live, and so is one that the settled content of a
 -- held live node names, at the place that it is given there.
@@ -152,13 +154,29 @@ AfterCommit u v w = (before : List Update) × (r : Receipt) ×
 abbrev pub MayCommit : Update → Log → Type 0
 MayCommit u v = IsTrue (is_lawful v (Some u))
 
--- A word of the copy that is not active was stored, counted from the copy's first.
-abbrev pub store_in_copy : ℕ → ℕ → LoaderHolding → LoaderHolding
-store_in_copy at value h = record h { spare = slice_set h.spare at value; stored = true }
+-- where the copy that is not active begins, for the holder of the loader's lock
+abbrev pub spare_place : Terms → LoaderHolding → ℕ
+spare_place t h = copy_place t ((h.published + 1) % 2)
+
+-- A word of the copy that is not active was stored.
+abbrev pub store_in_copy : Terms → ℕ → ℕ → LoaderHolding → LoaderHolding
+store_in_copy t at value h =
+    record h { spare = slice_set h.spare (at - spare_place t h) value; stored = true }
 
 abbrev pub after_copy_store : ℕ → ℕ → Log → Log
 after_copy_store at value v =
-    record (after_write v) { loader = option_map (store_in_copy at value) v.loader }
+    record (after_write v) { loader = option_map (store_in_copy v.terms at value) v.loader }
+
+-- a store asks for the loader's lock, and a word of the copy that is not active
+abbrev pub MayStoreCopy : Terms → ℕ → LoaderHolding → Type 0
+MayStoreCopy t at h = (spare_place t h ≤ at) × (at < spare_place t h + copy_words t)
+
+-- what a load of a copy's word tells the holder: it is that of the copy in which it stands
+pub record IsHeldWord (t : Terms) (at found : ℕ) (h : LoaderHolding) : Type 0 where
+  pub active : IsTrue (is_of_copy t (h.published % 2) at)
+      → slice_index h.active (at - copy_place t (h.published % 2)) ≡ found
+  pub spare : IsTrue (is_of_copy t ((h.published + 1) % 2) at)
+      → slice_index h.spare (at - spare_place t h) ≡ found
 
 -- A publication: the update of the loader was accepted, and the copy that was stored is the active
 -- one now.
@@ -191,10 +209,31 @@ pub record MayPublish (t : Terms) (allowance : ℕ) (u : Update) (h : LoaderHold
   pub spare : ListsMembers h.spare after
   pub publishes : Publishes t u before after
 
-abbrev pub AfterPublish : Update → Log → Log → Type 0
-AfterPublish u v w = (before : List Update) × (r : Receipt) ×
-    (IsDone u (length before + 1) (state_after (start v.terms) before) r
+-- What a publication tells of the history before it, of which it found this clock.
+pub record PublishTells (found : ℕ) (v : Log) (before : List Update) : Type 0 where
+  pub begins : IsPrefix v.past before
+  pub number : lower found ≡ length before
+  pub room : length before < ALLOWANCE
+  pub active : IfSome v.loader (λ h. ListsAll h.active (state_after (start v.terms) before).loaded)
+
+abbrev pub AfterPublish : Update → ℕ → Log → Log → Type 0
+AfterPublish u found v w = (before : List Update) × (r : Receipt) ×
+    (PublishTells found v before
+    × IsDone u (length before + 1) (state_after (start v.terms) before) r
     × (w ≡ after_publish u before r v))
+
+-- the fixed members and these refuse the update of the loader
+abbrev pub Refuses : Terms → Update → List Member → Type 0
+Refuses t (update.Load m) members =
+    ((other : Member) × IsLowestOverlap m.span (t.fixed ++ members) other)
+    ⊎ (IsFree m.span (t.fixed ++ members) × (length members ≡ t.loads))
+Refuses t (update.Unload base) members = IsNone (at_base base members)
+Refuses t (update.Register m) members = ⊥
+Refuses t (update.Deregister base) members = ⊥
+
+-- a refusal asks that what the active copy lists refuses the update
+abbrev pub MayRefuse : Terms → Update → LoaderHolding → Type 0
+MayRefuse t u h = (members : List Member) × (ListsMembers h.active members × Refuses t u members)
 
 -- what a receipt answers
 abbrev pub Answers : Update → Receipt → Type 0

@@ -113,6 +113,37 @@ impl<A: Asking> Play<(), Log> for LoadsClock<A> {
     ghost then = { loads_clock A.terms A.ask };
 }
 
+pub(crate) struct StoresCopy;
+
+impl Play<(), Log> for StoresCopy {
+    ghost use Rattle.word_rule.specs.Plays.{stores_copy};
+
+    ghost then = { stores_copy };
+}
+
+/// Which update is published.
+pub(crate) trait Updating {
+    ghost use Rattle.reg_model.specs.declared.answer.Update.{Update};
+
+    ghost update: { Update };
+}
+
+impl Updating for Brand {
+    ghost use Rattle.reg_model.specs.declared.answer.Update.TheVariants as update;
+
+    ghost update = { update.Unload 0 };
+}
+
+pub(crate) struct Publishes<U> {
+    updating: PhantomData<U>,
+}
+
+impl<U: Updating> Play<(), Log> for Publishes<U> {
+    ghost use Rattle.word_rule.specs.Plays.{publishes};
+
+    ghost then = { publishes U.update };
+}
+
 /// How much a split gives away, which only the call knows: of so many update calls, these.
 pub(crate) trait Giving {
     ghost use Rattle.std.specs.Prelude.{ℕ};
