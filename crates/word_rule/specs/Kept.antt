@@ -1,6 +1,6 @@
 -- Single steps that keep the table's invariant, whatever the words and the other callers are, and
 -- what they tell the caller that makes them.
-use Rattle.std.specs.Prelude.{◌≡◌, ℕ, ◌+◌, ◌%◌, ◌^◌, ◌==◌}
+use Rattle.std.specs.Prelude.{◌≡◌, ℕ, ◌==◌}
 use mathlib.Core.Option.{none}
 use prog.Atomic.{either}
 use Rattle.atomic_table.specs.Table.{Allows, step}
@@ -32,7 +32,3 @@ abbrev pub ExchangeKeeps : Terms → ℕ → ℕ → Seated → ℕ → ℕ → 
 ExchangeKeeps t slots id me place seen x tells =
     StepKeeps t slots id me place (λ k. either (k == seen) x k)
     (tells (step slots place seen x none) me)
-
-abbrev pub SumKeeps : Terms → ℕ → ℕ → Seated → ℕ → ℕ → Tells → Type 0
-SumKeeps t slots id me place x tells =
-    StepKeeps t slots id me place (λ k. (k + x) % 2 ^ 64) (tells (step slots place x 0 none) me)

@@ -1,21 +1,19 @@
 //! Single steps that keep the table's invariant and that no call makes. Each is the contract of a
 //! function that does nothing.
 
-ghost use Rattle.std.specs.Prelude.{◌≡◌, ℕ, ◌+◌, ◌%◌, ◌^◌, ◌<◌, ◌≤◌, Some, None, IsSome, IsTrue};
-ghost use Rattle.reg_model.specs.declared.answer.Update.{Update};
+ghost use Rattle.std.specs.Prelude.{◌≡◌, ℕ, ◌+◌, ◌%◌, ◌<◌, ◌≤◌, Some, None, IsSome, IsTrue};
 ghost use Rattle.tree_shape.specs.Numbers.{is_among};
 ghost use Rattle.word_rule.specs.declared.log.Ask.TheVariants as ask;
 ghost use Rattle.word_rule.specs.declared.log.Holding.{Holding};
-ghost use Rattle.word_rule.specs.declared.log.LoaderHolding.{LoaderHolding};
 ghost use Rattle.word_rule.specs.declared.log.Terms.{Terms};
 ghost use Rattle.word_rule.specs.Exchange.{is_lawful};
 ghost use Rattle.word_rule.specs.Held.{held_of};
-ghost use Rattle.word_rule.specs.Kept.{LoadKeeps, StoreKeeps, ExchangeKeeps, SumKeeps};
-ghost use Rattle.word_rule.specs.Places.{CLOCK, HEAD, node_place, copy_place, copy_words};
-ghost use Rattle.word_rule.specs.Plays.{Seated, loads_version, locks_node, loads_node, loads_copy};
-ghost use Rattle.word_rule.specs.Plays.{stores_copy, gives_node, publishes, releases_node};
+ghost use Rattle.word_rule.specs.Kept.{LoadKeeps, StoreKeeps, ExchangeKeeps};
+ghost use Rattle.word_rule.specs.Places.{HEAD, node_place};
+ghost use Rattle.word_rule.specs.Plays.{Seated, loads_version, locks_node, loads_node};
+ghost use Rattle.word_rule.specs.Plays.{gives_node, releases_node};
 ghost use Rattle.word_rule.specs.Spelling.{spelled};
-ghost use Rattle.word_rule.specs.Steps.{IsFreeTo, MayPublish};
+ghost use Rattle.word_rule.specs.Steps.{IsFreeTo};
 
 /// The version of a node is loaded: a sight begins, or one that is found to stand marks the
 /// children that it names.
@@ -36,12 +34,6 @@ pub fn load_of_a_held_word()
     tree_shape::laws::fillings();
     tree_shape::laws::order();
 }
-
-/// A word of a copy of the loader's list is loaded.
-pub fn load_of_a_copy()
-    ensures { (t : Terms) (slots id at : ℕ) (me : Seated) → copy_place t 0 ≤ at
-        → LoadKeeps t slots id me at loads_copy }
-{}
 
 /// The root is locked where its version is still the one seen, which was not locked.
 pub fn lock_of_the_root()
@@ -74,19 +66,3 @@ pub fn store_of_the_head()
 {
     tree_shape::laws::children();
 }
-
-/// A word of the copy that is not active is stored, under the loader's lock.
-pub fn store_in_a_copy()
-    ensures { (t : Terms) (slots id at x : ℕ) (me : Seated) (h : LoaderHolding)
-        → me.0.loader ≡ Some h → at < copy_words t
-        → StoreKeeps t slots id me (copy_place t ((h.published + 1) % 2) + at) x
-        (stores_copy at) }
-{}
-
-/// An update of the loader is published, under its lock: the clock counts it in both halves, and
-/// the copies change their parts.
-pub fn publication()
-    ensures { (t : Terms) (slots id : ℕ) (me : Seated) (u : Update) (h : LoaderHolding)
-        → me.0.loader ≡ Some h → MayPublish t me.0.budget.allowance u h
-        → SumKeeps t slots id me CLOCK (2 ^ 32 + 1) (publishes u) }
-{}
