@@ -16,19 +16,19 @@ StepKeeps t slots id me place change tells =
     → Allows (λ s. TableInvariant t s.words s.views) slots id me place change tells
 
 -- what a step tells, of its operands, its caller, the word found and the caller after it
-abbrev pub Tells : Type 1
-Tells = Stepped → Seated → ℕ → Seated → Type 0
+abbrev pub StepTells : Type 1
+StepTells = Stepped → Seated → ℕ → Seated → Type 0
 
-abbrev pub LoadKeeps : Terms → ℕ → ℕ → Seated → ℕ → Tells → Type 0
+abbrev pub LoadKeeps : Terms → ℕ → ℕ → Seated → ℕ → StepTells → Type 0
 LoadKeeps t slots id me place tells =
     StepKeeps t slots id me place (λ k. k) (tells (step slots place 0 0 none) me)
 
-abbrev pub StoreKeeps : Terms → ℕ → ℕ → Seated → ℕ → ℕ → Tells → Type 0
+abbrev pub StoreKeeps : Terms → ℕ → ℕ → Seated → ℕ → ℕ → StepTells → Type 0
 StoreKeeps t slots id me place x tells =
     StepKeeps t slots id me place (λ _. x) (tells (step slots place x 0 none) me)
 
 -- the word seen is exchanged for another one, where it is still found
-abbrev pub ExchangeKeeps : Terms → ℕ → ℕ → Seated → ℕ → ℕ → ℕ → Tells → Type 0
+abbrev pub ExchangeKeeps : Terms → ℕ → ℕ → Seated → ℕ → ℕ → ℕ → StepTells → Type 0
 ExchangeKeeps t slots id me place seen x tells =
     StepKeeps t slots id me place (λ k. either (k == seen) x k)
     (tells (step slots place seen x none) me)
