@@ -8,7 +8,7 @@ use Rattle.frame_parse.specs.declared.records.Extent.{Extent}
 use Rattle.frame_parse.specs.declared.records.CieRecord.{CieRecord}
 use Rattle.frame_parse.specs.Entries.{FdeRecord, Record, Cie, Fde}
 use Rattle.frame_parse.specs.declared.instructions.Instruction.{Instruction}
-use Rattle.frame_parse.specs.declared.instructions.Instruction.TheVariants.{Nop, Advance, Set, Restore, Remember, RestoreState, Cfa, CfaColumn, CfaOffset}
+use Rattle.frame_parse.specs.declared.instructions.Instruction.TheVariants.{Nop, Advance, Set, Restore, Remember, RestoreState, Cfa, CfaColumn, CfaOffset, CfaExpression}
 use Rattle.frame_parse.specs.declared.instructions.Operation.{Operation}
 use Rattle.frame_parse.specs.declared.instructions.Operation.TheVariants as operations
 use Rattle.frame_parse.specs.declared.instructions.Step.{Step}
@@ -36,6 +36,7 @@ given_at at l p s m Advance text a = (a.0, ap (moved l) a.1)
 given_at at l p s m (Set r rule) text a = (a.0, ap (moved l) a.1)
 given_at at l p s m (Restore r) text a = (a.0, ap (moved l) a.1)
 given_at at l p s m (Cfa r n) text a = (a.0, ap (moved l) a.1)
+given_at at l p s m (CfaExpression e) text a = (a.0, ap (moved l) a.1)
 given_at at l p s m Remember text a = given_lift (nat_lt (length s.remembered) 8) (record s { remembered = s.remembered ++ s.offset ∷ [] }) m (faults.Remember at) p text (moved l) a
 given_at at l p s m RestoreState text a = given_lift (nat_lt 0 (length s.remembered)) (record s { offset = top s.remembered; remembered = below_top s.remembered }) m (faults.Remember at) p text (moved l) a
 given_at at l p s m (CfaColumn r) text a = given_lift s.offset s m (faults.CfaRule at) p text (moved l) a

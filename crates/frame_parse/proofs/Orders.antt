@@ -6,7 +6,7 @@ use Rattle.std.proofs.lemmas.List.{length-take}
 use Rattle.frame_parse.specs.declared.fault.RecordFault.{RecordFault}
 use Rattle.frame_parse.specs.declared.instructions.context.Context.{Context}
 use Rattle.frame_parse.specs.declared.instructions.Instruction.{Instruction}
-use Rattle.frame_parse.specs.declared.instructions.Instruction.TheVariants.{Nop, Advance, Set, Restore, Remember, RestoreState, Cfa, CfaColumn, CfaOffset}
+use Rattle.frame_parse.specs.declared.instructions.Instruction.TheVariants.{Nop, Advance, Set, Restore, Remember, RestoreState, Cfa, CfaColumn, CfaOffset, CfaExpression}
 use Rattle.frame_parse.specs.declared.instructions.Operation.{Operation}
 use Rattle.frame_parse.specs.declared.instructions.Operation.TheVariants as operations
 use Rattle.frame_parse.specs.declared.instructions.Step.{Step}
@@ -41,6 +41,10 @@ changes_of at moving s m (Cfa r n) p text a =
     let kept : State = record s { offset = true } in
     let made : Changes moving s (Cfa r n) kept = record { up = refl; still = λ _. refl; may = tt; depth = refl } in
     subst (λ (k : State). Changes moving s (Cfa r n) k) a.1 made
+changes_of at moving s m (CfaExpression e) p text a =
+    let kept : State = record s { offset = false } in
+    let made : Changes moving s (CfaExpression e) kept = record { up = refl; still = λ _. refl; may = tt; depth = refl } in
+    subst (λ (k : State). Changes moving s (CfaExpression e) k) a.1 made
 changes_of at moving s m (CfaColumn r) p text a = same moving s m (CfaColumn r) refl tt refl (chosen s.offset s m _ p text a).1
 changes_of at moving s m (CfaOffset n) p text a = same moving s m (CfaOffset n) refl tt refl (chosen s.offset s m _ p text a).1
 changes_of at moving s m Remember p text a =

@@ -4,8 +4,12 @@ use Rattle.std.specs.Prelude.{◌||◌}
 use Rattle.frame_parse.specs.declared.fault.RecordFault.TheVariants as faults
 use Rattle.frame_parse.specs.declared.instructions.context.Context.{Context}
 use Rattle.frame_parse.specs.declared.program_state.State.{State}
-use Rattle.frame_parse.specs.Programs.{cfa_column, second_column, extended_operation, operation, effect, step}
-use Rattle.eh_bytes.proofs.Exact.{IsExact, then_exact, give_exact, here_exact, refuse_exact, when_exact, check_exact, given_exact}
+use Rattle.frame_parse.specs.Programs.{cfa_column, second_column, expression_fault, expression_block, skipped_block, column_block, extended_operation, operation, effect, step}
+use Rattle.eh_bytes.specs.Grammar.{give, lift}
+use Rattle.frame_expr.specs.Expressions.{expression}
+use Rattle.frame_expr.proofs.Parts.{expression_whole}
+use Rattle.eh_bytes.proofs.Wholes.{lift_whole, filled_exact}
+use Rattle.eh_bytes.proofs.Exact.{IsExact, then_exact, give_exact, here_exact, refuse_exact, when_exact, check_exact, given_exact, block_exact}
 use Rattle.eh_bytes.proofs.Steps.{AreSound}
 use Rattle.frame_parse.specs.declared.instructions.Step.{Step}
 use Rattle.eh_bytes.proofs.Fields.{fixed_exact, uleb_exact, sleb_exact}
@@ -25,6 +29,23 @@ second_column_exact first =
     then_exact _ _ (field_exact _ uleb_exact) (λ r.
     then_exact _ _ (check_exact (nat_lt 16 first || nat_lt r 17) (faults.Column at r)) (λ _. give_exact r)))
 
+expression_block_exact : (depth : ℕ) → IsExact (expression_block depth)
+unfolding expression_block
+expression_block_exact depth =
+    then_exact _ _ (field_exact _ uleb_exact) (λ n.
+    then_exact _ _ here_exact (λ at.
+    then_exact _ _ (filled_exact (faults.Short at) n (lift expression_fault (expression depth)) (lift_whole expression_fault (expression depth) (expression_whole depth))) (λ _. give_exact _)))
+
+skipped_block_exact : IsExact skipped_block
+unfolding skipped_block
+skipped_block_exact =
+    then_exact _ _ (field_exact _ uleb_exact) (λ n.
+    then_exact _ _ here_exact (λ at.
+    then_exact _ _ (block_exact (faults.Short at) n (give (tt {0})) (give_exact (tt {0}))) (λ _. give_exact _)))
+
+column_block_exact : (r : ℕ) → IsExact (column_block r)
+column_block_exact r = when_exact (nat_lt 16 r) skipped_block (expression_block 1) skipped_block_exact (expression_block_exact 1)
+
 extended_operation_exact : (c : Context) (at b : ℕ) → IsExact (extended_operation c at b)
 unfolding extended_operation
 extended_operation_exact c at b =
@@ -43,13 +64,16 @@ extended_operation_exact c at b =
     (when_exact _ _ _ (then_exact _ _ cfa_column_exact (λ r. then_exact _ _ (field_exact _ uleb_exact) (λ n. give_exact _)))
     (when_exact _ _ _ (then_exact _ _ cfa_column_exact (λ r. give_exact _))
     (when_exact _ _ _ (then_exact _ _ (field_exact _ uleb_exact) (λ n. give_exact _))
+    (when_exact _ _ _ (then_exact _ _ (expression_block_exact 0) (λ e. give_exact _))
+    (when_exact _ _ _ (then_exact _ _ (field_exact _ uleb_exact) (λ r. then_exact _ _ (column_block_exact r) (λ e. give_exact _)))
     (when_exact _ _ _ (then_exact _ _ (field_exact _ uleb_exact) (λ r. then_exact _ _ (field_exact _ sleb_exact) (λ n. give_exact _)))
     (when_exact _ _ _ (then_exact _ _ cfa_column_exact (λ r. then_exact _ _ (field_exact _ sleb_exact) (λ n. give_exact _)))
     (when_exact _ _ _ (then_exact _ _ (field_exact _ sleb_exact) (λ n. give_exact _))
     (when_exact _ _ _ (then_exact _ _ (field_exact _ uleb_exact) (λ r. then_exact _ _ (field_exact _ uleb_exact) (λ n. give_exact _)))
     (when_exact _ _ _ (then_exact _ _ (field_exact _ uleb_exact) (λ r. then_exact _ _ (field_exact _ sleb_exact) (λ n. give_exact _)))
+    (when_exact _ _ _ (then_exact _ _ (field_exact _ uleb_exact) (λ r. then_exact _ _ (column_block_exact r) (λ e. give_exact _)))
     (when_exact _ _ _ (then_exact _ _ (field_exact _ uleb_exact) (λ n. give_exact _))
-    (refuse_exact (faults.Opcode at b))))))))))))))))))))))
+    (refuse_exact (faults.Opcode at b)))))))))))))))))))))))))
 
 operation_exact : (c : Context) → IsExact (operation c)
 unfolding operation

@@ -19,6 +19,7 @@ use Rattle.frame_parse.specs.declared.instructions.Instruction.TheVariants.{Nop,
 use Rattle.frame_parse.specs.declared.instructions.Instruction.TheVariants.{Restore, Remember}
 use Rattle.frame_parse.specs.declared.instructions.Instruction.TheVariants.{RestoreState, Cfa}
 use Rattle.frame_parse.specs.declared.instructions.Instruction.TheVariants.{CfaColumn, CfaOffset}
+use Rattle.frame_parse.specs.declared.instructions.Instruction.TheVariants.{CfaExpression}
 use Rattle.frame_parse.specs.declared.instructions.Step.{Step}
 use Rattle.frame_parse.specs.declared.instructions.Operation.{Operation}
 use Rattle.frame_parse.specs.declared.instructions.Operation.TheVariants as operations
@@ -40,13 +41,20 @@ use Rattle.frame_parse.specs.declared.instructions.opcodes.TheConstants.{DW_CFA_
 use Rattle.frame_parse.specs.declared.instructions.opcodes.TheConstants.{DW_CFA_def_cfa}
 use Rattle.frame_parse.specs.declared.instructions.opcodes.TheConstants.{DW_CFA_def_cfa_register}
 use Rattle.frame_parse.specs.declared.instructions.opcodes.TheConstants.{DW_CFA_def_cfa_offset}
+use Rattle.frame_parse.specs.declared.instructions.opcodes.TheConstants.{DW_CFA_def_cfa_expression}
+use Rattle.frame_parse.specs.declared.instructions.opcodes.TheConstants.{DW_CFA_expression}
 use Rattle.frame_parse.specs.declared.instructions.opcodes.TheConstants.{DW_CFA_offset_extended_sf}
 use Rattle.frame_parse.specs.declared.instructions.opcodes.TheConstants.{DW_CFA_def_cfa_sf}
 use Rattle.frame_parse.specs.declared.instructions.opcodes.TheConstants.{DW_CFA_def_cfa_offset_sf}
 use Rattle.frame_parse.specs.declared.instructions.opcodes.TheConstants.{DW_CFA_val_offset}
 use Rattle.frame_parse.specs.declared.instructions.opcodes.TheConstants.{DW_CFA_val_offset_sf}
+use Rattle.frame_parse.specs.declared.instructions.opcodes.TheConstants.{DW_CFA_val_expression}
 use Rattle.frame_parse.specs.declared.instructions.opcodes.TheConstants.{DW_CFA_GNU_args_size}
-use Rattle.eh_bytes.specs.Grammar.{Part, ◌>>=◌, give, here, refuse, when, check, given}
+use Rattle.eh_bytes.specs.Grammar.{Part, ◌>>=◌, give, here, refuse, when, check, given, lift}
+use Rattle.eh_bytes.specs.Grammar.{block, filled}
+use Rattle.frame_expr.specs.declared.fault.ExprFault.{ExprFault}
+use Rattle.frame_expr.specs.declared.fault.ExprFault.TheVariants as exprs
+use Rattle.frame_expr.specs.Expressions.{expression}
 use Rattle.frame_parse.specs.Fields.{field, pointer}
 use Rattle.eh_bytes.specs.Fields.{fixed, uleb, sleb}
 use Rattle.frame_parse.specs.Entries.{FdeRecord}
@@ -100,6 +108,34 @@ second_column first = do
   _ ← check (nat_lt 16 first || nat_lt r 17) (faults.Column at r)
   give r
 
+-- an expression's fault as the record's
+abbrev pub expression_fault : ExprFault → RecordFault
+expression_fault (exprs.Short at) = faults.Short at
+expression_fault (exprs.TooWide at) = faults.TooWide at
+expression_fault (exprs.Operation at byte) = faults.Operation at byte
+expression_fault (exprs.Depth at) = faults.Depth at
+
+-- A block: its length, and that many bytes, which are wholly an expression. The expression's stack
+-- holds so many numbers at the start. It stands for where it is.
+unfoldable pub expression_block : ℕ → Part RecordFault Extent
+expression_block depth = do
+  n ← field uleb
+  at ← here
+  _ ← filled (faults.Short at) n (lift expression_fault (expression depth))
+  give (record { at = at; end = at + n })
+
+-- a block whose bytes are skipped
+unfoldable pub skipped_block : Part RecordFault Extent
+skipped_block = do
+  n ← field uleb
+  at ← here
+  _ ← block (faults.Short at) n (give (tt {0}))
+  give (record { at = at; end = at + n })
+
+-- The expression of a column starts with the CFA. Those for columns above 16 aren't read.
+abbrev pub column_block : ℕ → Part RecordFault Extent
+column_block r = when (nat_lt 16 r) skipped_block (expression_block 1)
+
 -- the instructions whose byte is an extended opcode, which is below 64
 unfoldable pub extended_operation : Context → ℕ → ℕ → Part RecordFault Operation
 extended_operation c at b =
@@ -121,6 +157,10 @@ extended_operation c at b =
     (when (b == DW_CFA_def_cfa) (cfa_column >>= λ r. field uleb >>= λ n. give (other (Cfa r n)))
     (when (b == DW_CFA_def_cfa_register) (cfa_column >>= λ r. give (other (CfaColumn r)))
     (when (b == DW_CFA_def_cfa_offset) (field uleb >>= λ n. give (other (CfaOffset n)))
+    (when (b == DW_CFA_def_cfa_expression) (expression_block 0 >>=
+    λ e. give (other (CfaExpression e)))
+    (when (b == DW_CFA_expression) (field uleb >>= λ r. column_block r >>=
+    λ e. give (other (set r (rules.Expression e))))
     (when (b == DW_CFA_offset_extended_sf) (field uleb >>= λ r. field sleb >>=
     λ n. give (other (set r (rules.Offset (factored c (cast_unsigned w64 n))))))
     (when (b == DW_CFA_def_cfa_sf) (cfa_column >>= λ r. field sleb >>=
@@ -131,8 +171,10 @@ extended_operation c at b =
     λ n. give (other (set r (rules.ValOffset (factored c n)))))
     (when (b == DW_CFA_val_offset_sf) (field uleb >>= λ r. field sleb >>=
     λ n. give (other (set r (rules.ValOffset (factored c (cast_unsigned w64 n))))))
+    (when (b == DW_CFA_val_expression) (field uleb >>= λ r. column_block r >>=
+    λ e. give (other (set r (rules.ValExpression e))))
     (when (b == DW_CFA_GNU_args_size) (field uleb >>= λ n. give (other Nop))
-    (refuse (faults.Opcode at b))))))))))))))))))))))
+    (refuse (faults.Opcode at b)))))))))))))))))))))))))
 
 -- the two high bits of the byte are a primary opcode with an operand in the low six, or 0
 unfoldable pub operation : Context → Part RecordFault Operation
@@ -168,6 +210,7 @@ effect_of at s RestoreState =
     then Ok (record s { offset = top s.remembered; remembered = below_top s.remembered })
     else Err (faults.Remember at)
 effect_of at s (Cfa r n) = Ok (record s { offset = true })
+effect_of at s (CfaExpression e) = Ok (record s { offset = false })
 effect_of at s (CfaColumn r) = change_cfa at s
 effect_of at s (CfaOffset n) = change_cfa at s
 effect_of at s Nop = Ok s

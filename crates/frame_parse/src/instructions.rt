@@ -1,15 +1,17 @@
 //! What instructions say, with factored offsets.
 
+mod blocks;
 mod context;
 mod decode;
 mod effect;
 mod opcodes;
 mod steps;
 
+use crate::records::Extent;
 pub use context::{Context, ProgramKind};
 pub(crate) use steps::{first_state, initial_state, step, steps};
 
-/// A rule for a column, as an instruction sets it.
+/// A rule for a column, as an instruction sets it. Expressions stay in the section's bytes.
 #[derive(Clone, Copy, Debug, PartialEq, Eq)]
 pub enum ReadRule {
     Undefined,
@@ -20,6 +22,10 @@ pub enum ReadRule {
     ValOffset { by: u64 },
     /// Saved in another column.
     Register { column: u8 },
+    /// Saved at the value of the expression in a block, which starts with the CFA.
+    Expression { block: Extent },
+    /// The value of the expression in a block, which starts with the CFA.
+    ValExpression { block: Extent },
 }
 
 /// An instruction. What isn't applied is a `Nop`.
@@ -36,6 +42,8 @@ pub enum Instruction {
     Cfa { column: u8, by: u64 },
     CfaColumn { column: u8 },
     CfaOffset { by: u64 },
+    /// The CFA is the value of the expression in a block.
+    CfaExpression { block: Extent },
 }
 
 /// An instruction with the location at which it holds.

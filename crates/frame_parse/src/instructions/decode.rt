@@ -7,6 +7,7 @@ ghost use Rattle.frame_parse.specs.Programs.{other, factored, set, restore, cfa_
 ghost use Rattle.frame_parse.specs.Programs.{second_column, extended_operation};
 
 use super::context::Context;
+use super::blocks::{column_block, expression_block};
 use super::opcodes::*;
 use super::{Instruction, Operation, ReadRule};
 use crate::fault::RecordFault;
@@ -156,6 +157,14 @@ pub(super) fn extended_operation(
             column: cfa_column(cursor)?,
         })),
         DW_CFA_def_cfa_offset => Ok(other(Instruction::CfaOffset { by: uleb(cursor)? })),
+        DW_CFA_def_cfa_expression => Ok(other(Instruction::CfaExpression {
+            block: expression_block::<0>(cursor)?,
+        })),
+        DW_CFA_expression => {
+            let column = uleb(cursor)?;
+            let block = column_block(cursor, column)?;
+            Ok(other(set(column, ReadRule::Expression { block })))
+        }
         DW_CFA_offset_extended_sf => {
             let column = uleb(cursor)?;
             let by = factored(context, sleb(cursor)?.cast_unsigned());
@@ -179,6 +188,11 @@ pub(super) fn extended_operation(
             let column = uleb(cursor)?;
             let by = factored(context, sleb(cursor)?.cast_unsigned());
             Ok(other(set(column, ReadRule::ValOffset { by })))
+        }
+        DW_CFA_val_expression => {
+            let column = uleb(cursor)?;
+            let block = column_block(cursor, column)?;
+            Ok(other(set(column, ReadRule::ValExpression { block })))
         }
         DW_CFA_GNU_args_size => {
             let _size = uleb(cursor)?;

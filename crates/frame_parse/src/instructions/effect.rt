@@ -57,6 +57,10 @@ fn effect_of(at: usize, state: &mut State, instruction: &Instruction) -> Result<
             state.offset = true;
             Ok(())
         }
+        Instruction::CfaExpression { .. } => {
+            state.offset = false;
+            Ok(())
+        }
         Instruction::CfaColumn { .. } | Instruction::CfaOffset { .. } => { change_cfa(at, state) }
         Instruction::Nop
         | Instruction::Advance

@@ -38,6 +38,10 @@ pub const DW_CFA_def_cfa_register: u8 = 0x0d;
 
 pub const DW_CFA_def_cfa_offset: u8 = 0x0e;
 
+pub const DW_CFA_def_cfa_expression: u8 = 0x0f;
+
+pub const DW_CFA_expression: u8 = 0x10;
+
 pub const DW_CFA_offset_extended_sf: u8 = 0x11;
 
 pub const DW_CFA_def_cfa_sf: u8 = 0x12;
@@ -47,6 +51,8 @@ pub const DW_CFA_def_cfa_offset_sf: u8 = 0x13;
 pub const DW_CFA_val_offset: u8 = 0x14;
 
 pub const DW_CFA_val_offset_sf: u8 = 0x15;
+
+pub const DW_CFA_val_expression: u8 = 0x16;
 
 /// Of the GNU tools: how many bytes of arguments stand on the stack.
 pub const DW_CFA_GNU_args_size: u8 = 0x2e;
