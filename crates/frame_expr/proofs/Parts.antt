@@ -153,7 +153,7 @@ operations_in d p bytes y s =
     (x.1.0, x.0, x.1.1, entry_left (p + length bytes) s.0.0 x.0 x.2)
 
 -- an expression stands for its bytes
-spelled_by : (d p : ℕ) (bytes y : List ℕ) → (expression d).Spells p bytes y → bytes ≡ y
+pub spelled_by : (d p : ℕ) (bytes y : List ℕ) → (expression d).Spells p bytes y → bytes ≡ y
 unfolding expression
 spelled_by d p bytes y s = s.1
 

@@ -7,4 +7,5 @@ pub mod RecordWholes
 pub mod StepsLeft
 pub mod Kept
 pub mod Orders
+pub mod Blocks
 pub mod Lookups

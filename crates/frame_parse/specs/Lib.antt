@@ -6,3 +6,4 @@ pub mod Lookups
 pub mod Reading
 pub mod Programs
 pub mod Order
+pub mod Blocks

@@ -1,7 +1,8 @@
 //! An FDE as a part of its section.
 
-ghost use Rattle.std.specs.Prelude.{◌≡◌, List};
+ghost use Rattle.std.specs.Prelude.{◌≡◌, ◌≤◌, List};
 ghost use Rattle.frame_parse.specs.declared.instructions.Step.{Step};
+ghost use Rattle.frame_parse.specs.Blocks.{HasExpression, HaveExpressions};
 ghost use Rattle.frame_parse.specs.Entries.{with_cie};
 ghost use Rattle.frame_parse.specs.Programs.{HasPrograms, HasSteps, initial_of, program_of};
 ghost use Rattle.frame_parse.specs.Programs.{text_in};
@@ -9,8 +10,9 @@ ghost use Rattle.frame_parse.specs.Programs.{text_in};
 use crate::instructions::{Context, ProgramKind, first_state};
 use crate::program::Program;
 use crate::program_state::{Remembered, State};
-use crate::records::{CieRecord, FdeEntry};
+use crate::records::{CieRecord, Extent, FdeEntry};
 use eh_bytes::Cursor;
+use frame_expr::Expr;
 use std::marker::Model;
 
 /// An FDE of a section, lent from it.
@@ -122,5 +124,28 @@ impl<'a> Fde<'a> {
         let state = first_state(self.cie, entry.first);
         let context = Context::new(self.section, self.cie, ProgramKind::Own);
         Program::new(context, state, cursor)
+    }
+
+    /// The expressions of its instructions stand in the section's bytes, where their blocks say.
+    pub fn expressions_stand(&self)
+        ensures initial { (steps : List Step)
+            → HasSteps (initial_of self.now.section self.now.entry
+            (text_in self.now.bytes self.now.entry.cie.initial)) steps
+            → HaveExpressions self.now.bytes steps }
+        ensures program { (steps : List Step)
+            → HasSteps (program_of self.now.section self.now.entry
+            (text_in self.now.bytes self.now.entry.program)) steps
+            → HaveExpressions self.now.bytes steps }
+    {
+        let _ = &self.bytes;
+    }
+
+    /// The expression in a block of an instruction, lent from the section. It was read with the
+    /// section and isn't read again.
+    pub fn expr<const DEPTH: u32>(&self, block: Extent) -> Expr<'a, DEPTH>
+        requires { HasExpression DEPTH self.now.bytes block }
+        ensures { result.bytes.now ≡ text_in self.now.bytes block }
+    {
+        Expr::of_read(&self.bytes[block.at..block.end])
     }
 }
