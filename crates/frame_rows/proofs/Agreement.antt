@@ -7,7 +7,7 @@ use Rattle.std.proofs.lemmas.Bool.{le-leb, eqb-true, eqb-false}
 use Rattle.std.proofs.lemmas.Option.{slice_get-get_or}
 use Rattle.std.proofs.lemmas.List.{get_or-replicate, length-replicate}
 use Rattle.frame_parse.specs.declared.instructions.Instruction.{Instruction}
-use Rattle.frame_parse.specs.declared.instructions.Instruction.TheVariants.{Nop, Advance, Set, Restore, Remember, RestoreState, Cfa, CfaColumn, CfaOffset}
+use Rattle.frame_parse.specs.declared.instructions.Instruction.TheVariants.{Nop, Advance, Set, Restore, Remember, RestoreState, Cfa, CfaColumn, CfaOffset, CfaExpression}
 use Rattle.frame_parse.specs.declared.instructions.Step.{Step}
 use Rattle.frame_parse.specs.Order.{AreAt}
 use Rattle.frame_rows.specs.declared.row.Rule.{Rule}
@@ -41,6 +41,7 @@ full_step base s Advance full = full
 full_step base s (Cfa q n) full = full
 full_step base s (CfaColumn q) full = full
 full_step base s (CfaOffset n) full = full
+full_step base s (CfaExpression e) full = full
 
 full_fold : (base : Row) (s : Rows) (is : List Instruction) → IsFull s → IsFull (fold (rows_step base) s is)
 full_fold base s [] full = full
@@ -88,6 +89,7 @@ column_step r base s Advance lt full = refl
 column_step r base s (Cfa q n) lt full = refl
 column_step r base s (CfaColumn q) lt full = refl
 column_step r base s (CfaOffset n) lt full = refl
+column_step r base s (CfaExpression e) lt full = refl
 
 column_fold : (r : ℕ) (base : Row) (s : Rows) (is : List Instruction) → r < 17 → IsFull s → column_in r (fold (rows_step base) s is) ≡ fold (register_step r (rule_in r base)) (column_in r s) is
 column_fold r base s [] lt full = refl
@@ -110,6 +112,7 @@ cfa_stepped base s RestoreState = cfa_back s.row s.remembered
 cfa_stepped base s (Cfa q n) = refl
 cfa_stepped base s (CfaColumn q) = refl
 cfa_stepped base s (CfaOffset n) = refl
+cfa_stepped base s (CfaExpression e) = refl
 cfa_stepped base s (Set q rule) = refl
 cfa_stepped base s (Restore q) = refl
 cfa_stepped base s Nop = refl

@@ -1,3 +1,4 @@
 pub mod Onward
 pub mod Agreement
 pub mod BothPrograms
+pub mod Expressions

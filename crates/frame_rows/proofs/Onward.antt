@@ -2,7 +2,7 @@
 use Rattle.std.proofs.Common.{◌≡◌, ℕ, ◌<◌, ◌≤◌, List, [], ◌∷◌, length, nat_le, true, false, refl, sym, ap, subst, ◌∙◌, arith}
 use Rattle.std.proofs.lemmas.Bool.{le-leb, lt-leb}
 use Rattle.frame_parse.specs.declared.instructions.Instruction.{Instruction}
-use Rattle.frame_parse.specs.declared.instructions.Instruction.TheVariants.{Nop, Advance, Set, Restore, Remember, RestoreState, Cfa, CfaColumn, CfaOffset}
+use Rattle.frame_parse.specs.declared.instructions.Instruction.TheVariants.{Nop, Advance, Set, Restore, Remember, RestoreState, Cfa, CfaColumn, CfaOffset, CfaExpression}
 use Rattle.frame_parse.specs.declared.instructions.Step.{Step}
 use Rattle.frame_parse.specs.Programs.{ProgramData, HasSteps}
 use Rattle.frame_parse.specs.Order.{Moves, IsAscendingFrom, IsBalanced, MayStandAt, remembered_after}
@@ -33,6 +33,7 @@ upward RestoreState k l m = omega arith
 upward (Cfa q n) k l m = omega arith
 upward (CfaColumn q) k l m = omega arith
 upward (CfaOffset n) k l m = omega arith
+upward (CfaExpression e) k l m = omega arith
 
 -- only an Advance leads past an address
 within : (i : Instruction) (pc k l : ℕ) → Moves i k l → k ≤ pc → (i ≡ Advance → l ≤ pc) → l ≤ pc
@@ -45,6 +46,7 @@ within RestoreState pc k l m le reached = omega arith
 within (Cfa q n) pc k l m le reached = omega arith
 within (CfaColumn q) pc k l m le reached = omega arith
 within (CfaOffset n) pc k l m le reached = omega arith
+within (CfaExpression e) pc k l m le reached = omega arith
 
 pub none_up_to : (pc l : ℕ) (xs : List Step) → pc < l → IsAscendingFrom l xs → up_to pc xs ≡ []
 none_up_to pc l [] lt a = refl
@@ -118,6 +120,7 @@ plain RestoreState a b = absurd (b refl)
 plain (Cfa q n) a b = record { flat = λ d. refl; stays = λ base row below. refl }
 plain (CfaColumn q) a b = record { flat = λ d. refl; stays = λ base row below. refl }
 plain (CfaOffset n) a b = record { flat = λ d. refl; stays = λ base row below. refl }
+plain (CfaExpression e) a b = record { flat = λ d. refl; stays = λ base row below. refl }
 
 pub leads_plain : (base : Row) (pc : ℕ) (p q : ProgramData) (row : Row) (x : Step) → Gives p x q → IsReached pc x → (x.instruction ≡ Remember → ⊥) → (x.instruction ≡ RestoreState → ⊥)
     → ComesTo base pc p row q (applied base row x.instruction)

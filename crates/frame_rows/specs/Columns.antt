@@ -9,6 +9,7 @@ use Rattle.frame_parse.specs.declared.instructions.Instruction.TheVariants.{Nop,
 use Rattle.frame_parse.specs.declared.instructions.Instruction.TheVariants.{Restore, Remember}
 use Rattle.frame_parse.specs.declared.instructions.Instruction.TheVariants.{RestoreState, Cfa}
 use Rattle.frame_parse.specs.declared.instructions.Instruction.TheVariants.{CfaColumn, CfaOffset}
+use Rattle.frame_parse.specs.declared.instructions.Instruction.TheVariants.{CfaExpression}
 use Rattle.frame_parse.specs.declared.instructions.Step.{Step}
 use Rattle.frame_parse.specs.Programs.{HasSteps, initial_of, program_of, text_in}
 use Rattle.frame_parse.specs.Sections.{FdeData}
@@ -47,6 +48,8 @@ rule_of read.Same = rules.Same
 rule_of (read.Offset n) = rules.Offset n
 rule_of (read.ValOffset n) = rules.ValOffset n
 rule_of (read.Register q) = rules.Register q
+rule_of (read.Expression e) = rules.Expression e
+rule_of (read.ValExpression e) = rules.ValExpression e
 
 -- what an instruction does to column r: it may set it, or give it back the rule `base`
 abbrev pub register_step : ℕ → Rule → Column Rule → Instruction → Column Rule
@@ -59,22 +62,26 @@ register_step r base c Advance = c
 register_step r base c (Cfa q n) = c
 register_step r base c (CfaColumn q) = c
 register_step r base c (CfaOffset n) = c
+register_step r base c (CfaExpression e) = c
 
 -- ---- the CFA's column
 
--- another column and the same offset, or the same column and another offset
+-- another column and the same offset, or the same column and another offset, of a rule that has them
 abbrev pub with_column : ℕ → CfaRule → CfaRule
 with_column q cfas.Missing = cfas.Missing
 with_column q (cfas.Offset p n) = cfas.Offset q n
+with_column q (cfas.Expression e) = cfas.Expression e
 
 abbrev pub with_offset : ℕ → CfaRule → CfaRule
 with_offset n cfas.Missing = cfas.Missing
 with_offset n (cfas.Offset q m) = cfas.Offset q n
+with_offset n (cfas.Expression e) = cfas.Expression e
 
 abbrev pub cfa_step : Column CfaRule → Instruction → Column CfaRule
 cfa_step c (Cfa q n) = record c { rule = cfas.Offset q n }
 cfa_step c (CfaColumn q) = record c { rule = with_column q c.rule }
 cfa_step c (CfaOffset n) = record c { rule = with_offset n c.rule }
+cfa_step c (CfaExpression e) = record c { rule = cfas.Expression e }
 cfa_step c Remember = remember c
 cfa_step c RestoreState = restore_state c
 cfa_step c Nop = c

@@ -1,3 +1,4 @@
 pub mod Columns
 pub mod Rows
 pub mod Walk
+pub mod Expressions

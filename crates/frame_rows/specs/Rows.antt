@@ -6,6 +6,7 @@ use Rattle.frame_parse.specs.declared.instructions.Instruction.TheVariants.{Nop,
 use Rattle.frame_parse.specs.declared.instructions.Instruction.TheVariants.{Restore, Remember}
 use Rattle.frame_parse.specs.declared.instructions.Instruction.TheVariants.{RestoreState, Cfa}
 use Rattle.frame_parse.specs.declared.instructions.Instruction.TheVariants.{CfaColumn, CfaOffset}
+use Rattle.frame_parse.specs.declared.instructions.Instruction.TheVariants.{CfaExpression}
 use Rattle.frame_parse.specs.declared.instructions.Step.{Step}
 use Rattle.frame_parse.specs.Sections.{FdeData}
 use Rattle.frame_rows.specs.declared.row.Rule.TheVariants as rules
@@ -26,6 +27,7 @@ applied base row (Restore q) =
 applied base row (Cfa q n) = record row { cfa = cfas.Offset q n }
 applied base row (CfaColumn q) = record row { cfa = with_column q row.cfa }
 applied base row (CfaOffset n) = record row { cfa = with_offset n row.cfa }
+applied base row (CfaExpression e) = record row { cfa = cfas.Expression e }
 applied base row Remember = row
 applied base row RestoreState = row
 applied base row Nop = row
@@ -51,6 +53,7 @@ rows_step base s (Restore q) = record s { row = applied base s.row (Restore q) }
 rows_step base s (Cfa q n) = record s { row = applied base s.row (Cfa q n) }
 rows_step base s (CfaColumn q) = record s { row = applied base s.row (CfaColumn q) }
 rows_step base s (CfaOffset n) = record s { row = applied base s.row (CfaOffset n) }
+rows_step base s (CfaExpression e) = record s { row = applied base s.row (CfaExpression e) }
 rows_step base s Nop = s
 rows_step base s Advance = s
 

@@ -6,15 +6,17 @@ ghost use Rattle.frame_rows.specs.Columns.{rule_of, with_column, with_offset};
 ghost use Rattle.frame_rows.specs.Rows.{applied, unset};
 
 use crate::base::Base;
-use frame_parse::{Instruction, ReadRule};
+use frame_parse::{Extent, Instruction, ReadRule};
 
-/// How the CFA is found.
+/// How the CFA is found. An expression stays in its block of the section, and the FDE lends it.
 #[derive(Clone, Copy, Debug, PartialEq, Eq)]
 pub enum CfaRule {
     /// No instruction has said it.
     Missing,
     /// A column's number plus an offset, modulo 2^64.
     Offset { column: u8, by: u64 },
+    /// The value of the expression in a block.
+    Expression { block: Extent },
 }
 
 /// How a column of the frame before is found.
@@ -30,6 +32,10 @@ pub enum Rule {
     ValOffset { by: u64 },
     /// Saved in another column.
     Register { column: u8 },
+    /// Saved at the value of the expression in a block, which starts with the CFA.
+    Expression { block: Extent },
+    /// The value of the expression in a block, which starts with the CFA.
+    ValExpression { block: Extent },
 }
 
 /// The rules that hold at an address. Columns 0 to 15 are the registers of x86-64 by their DWARF
@@ -48,6 +54,7 @@ impl CfaRule {
         match self {
             CfaRule::Missing => CfaRule::Missing,
             CfaRule::Offset { by, .. } => CfaRule::Offset { column, by },
+            CfaRule::Expression { block } => CfaRule::Expression { block },
         }
     }
 
@@ -58,6 +65,7 @@ impl CfaRule {
         match self {
             CfaRule::Missing => CfaRule::Missing,
             CfaRule::Offset { column, .. } => CfaRule::Offset { column, by },
+            CfaRule::Expression { block } => CfaRule::Expression { block },
         }
     }
 }
@@ -105,6 +113,8 @@ fn rule_of(read: ReadRule) -> Rule
         ReadRule::Offset { by } => Rule::Offset { by },
         ReadRule::ValOffset { by } => Rule::ValOffset { by },
         ReadRule::Register { column } => Rule::Register { column },
+        ReadRule::Expression { block } => Rule::Expression { block },
+        ReadRule::ValExpression { block } => Rule::ValExpression { block },
     }
 }
 
@@ -121,6 +131,7 @@ pub(crate) fn apply<B: Base>(row: &mut Row, base: &mut B, instruction: Instructi
         Instruction::Cfa { column, by } => row.cfa = CfaRule::Offset { column, by },
         Instruction::CfaColumn { column } => row.cfa = row.cfa.with_column(column),
         Instruction::CfaOffset { by } => row.cfa = row.cfa.with_offset(by),
+        Instruction::CfaExpression { block } => row.cfa = CfaRule::Expression { block },
         Instruction::Nop
         | Instruction::Advance
         | Instruction::Remember

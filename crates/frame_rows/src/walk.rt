@@ -5,6 +5,7 @@ ghost use Rattle.frame_parse.specs.declared.instructions.Step.{Step};
 ghost use Rattle.frame_rows.specs.declared.row.Row.{Row};
 ghost use Rattle.frame_rows.specs.Columns.{HasInitial, HasProgram, rule_at, cfa_at};
 ghost use Rattle.frame_rows.specs.Rows.{base_row, beside, rows_after, unset};
+ghost use Rattle.frame_rows.specs.Expressions.{HasExpressions};
 ghost use Rattle.frame_rows.specs.Walk.{GoesOn, Walks};
 
 use crate::base::{Base, InitialRow, NothingSet};
@@ -97,6 +98,28 @@ pub(crate) fn initial_row(fde: &Fde<'_>) -> Row
     row
 }
 
+/// The rules that hold at an address of an FDE.
+#[inline(always)]
+fn rules_at(fde: &Fde<'_>, pc: u64) -> Row
+    ensures known { (initial : List Step) × (steps : List Step) × HasInitial fde.now initial
+        × HasProgram fde.now steps }
+    ensures cfa { (initial steps : List Step) → HasInitial fde.now initial
+        → HasProgram fde.now steps
+        → result.cfa ≡ cfa_at initial steps pc }
+    ensures columns { (initial steps : List Step) → HasInitial fde.now initial
+        → HasProgram fde.now steps
+        → (r : ℕ) → r < 17 → slice_get result.columns r ≡ Some (rule_at r initial steps pc) }
+{
+    steps_are_ordered();
+    let mut row = Row::unset();
+    set_initial(fde, &mut row);
+    let program = fde.program();
+    if fde.first() <= pc {
+        go_through(program, pc, &mut InitialRow::new(fde), &mut row);
+    }
+    row
+}
+
 /// The row that holds at an address of an FDE: what the initial instructions of its CIE make of a
 /// row in which nothing is set, and then its own instructions whose location is at most the
 /// address. It takes no memory.
@@ -108,15 +131,12 @@ pub fn row_at(fde: &Fde<'_>, pc: u64) -> Row
     ensures cfa { (initial steps : List Step) → HasInitial fde.now initial
         → HasProgram fde.now steps
         → result.cfa ≡ cfa_at initial steps pc }
-    ensures columns { (initial steps : List Step) → HasInitial fde.now initial → HasProgram fde.now steps
+    ensures columns { (initial steps : List Step) → HasInitial fde.now initial
+        → HasProgram fde.now steps
         → (r : ℕ) → r < 17 → slice_get result.columns r ≡ Some (rule_at r initial steps pc) }
+    // The FDE lends the expressions of these rules.
+    ensures expressions { HasExpressions fde.now.bytes result }
 {
-    steps_are_ordered();
-    let mut row = Row::unset();
-    set_initial(fde, &mut row);
-    let program = fde.program();
-    if fde.first() <= pc {
-        go_through(program, pc, &mut InitialRow::new(fde), &mut row);
-    }
-    row
+    fde.expressions_stand();
+    rules_at(fde, pc)
 }
