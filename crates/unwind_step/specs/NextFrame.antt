@@ -25,45 +25,48 @@ pub record Leads (row : Row) : Type 0 where
   pub defined : rule_in row 16 ≢ rules.Undefined
   pub told : rule_in row 16 ≢ rules.Unset
 
--- the columns below a number are restored by their rules
-abbrev pub AreRestored : ℕ → Row → ℕ → List ℕ → List RegionData → List ℕ → Type 0
-AreRestored count row cfa old memory new =
-    (r : ℕ) → r < count → IsRestored r (rule_in row r) cfa old memory (Ok (slice_index new r))
+-- the columns below a number are restored by their rules, whose expressions stand in the bytes
+abbrev pub AreRestored : ℕ → List ℕ → Row → ℕ → List ℕ → List RegionData → List ℕ → Type 0
+AreRestored count bytes row cfa old memory new =
+    (r : ℕ) → r < count → IsRestored bytes r (rule_in row r) cfa old memory (Ok (slice_index new r))
 
 -- a column can't be restored, and all columns before it can
-pub record FailsFirst (row : Row) (cfa : ℕ) (old : List ℕ) (memory : List RegionData)
-    (fault : NoBytes) : Type 0 where
+pub record FailsFirst (bytes : List ℕ) (row : Row) (cfa : ℕ) (old : List ℕ)
+    (memory : List RegionData) (fault : NoBytes) : Type 0 where
   pub r : ℕ
   pub below : r < 17
-  pub fails : IsRestored r (rule_in row r) cfa old memory (Err fault)
+  pub fails : IsRestored bytes r (rule_in row r) cfa old memory (Err fault)
   pub new : List ℕ
-  pub earlier : AreRestored r row cfa old memory new
+  pub earlier : AreRestored r bytes row cfa old memory new
 
 -- the frame before, with each column restored
-pub record IsFrame (row : Row) (old : List ℕ) (memory : List RegionData)
+pub record IsFrame (bytes : List ℕ) (row : Row) (old : List ℕ) (memory : List RegionData)
     (new : List ℕ) : Type 0 where
   pub leads : Leads row
   pub cfa : ℕ
-  pub is_cfa : IsCfa row.cfa old memory (Ok cfa)
-  pub restored : AreRestored 17 row cfa old memory new
+  pub is_cfa : IsCfa bytes row.cfa old memory (Ok cfa)
+  pub restored : AreRestored 17 bytes row cfa old memory new
   pub all : length new ≡ 17
 
 -- the frame before can't be had: the CFA, or the first column that fails, needs bytes that weren't
 -- recorded
-pub record LacksBytes (row : Row) (old : List ℕ) (memory : List RegionData)
+pub record LacksBytes (bytes : List ℕ) (row : Row) (old : List ℕ) (memory : List RegionData)
     (fault : NoBytes) : Type 0 where
   pub leads : Leads row
-  pub fails : IsCfa row.cfa old memory (Err fault)
-      ⊎ ((cfa : ℕ) × IsCfa row.cfa old memory (Ok cfa) × FailsFirst row cfa old memory fault)
+  pub fails : IsCfa bytes row.cfa old memory (Err fault)
+      ⊎ ((cfa : ℕ) × IsCfa bytes row.cfa old memory (Ok cfa)
+      × FailsFirst bytes row cfa old memory fault)
 
 -- What a row makes of the old registers. Of two causes the first counts: no rule for the CFA;
 -- column 16 undefined, or without a rule; the CFA; the columns 0 to 16.
-abbrev pub IsStep : Row → List ℕ → List RegionData → Stepped → Type 0
-IsStep row old memory stepped.NoRow = (row.cfa ≡ cfas.Missing) ⊎ (rule_in row 16 ≡ rules.Unset)
-IsStep row old memory stepped.Undefined =
+abbrev pub IsStep : List ℕ → Row → List ℕ → List RegionData → Stepped → Type 0
+IsStep bytes row old memory stepped.NoRow =
+    (row.cfa ≡ cfas.Missing) ⊎ (rule_in row 16 ≡ rules.Unset)
+IsStep bytes row old memory stepped.Undefined =
     (row.cfa ≢ cfas.Missing) × (rule_in row 16 ≡ rules.Undefined)
-IsStep row old memory (stepped.Frame regs) = IsFrame row old memory regs.columns
-IsStep row old memory (stepped.NoBytes a) = LacksBytes row old memory (record { address = a })
+IsStep bytes row old memory (stepped.Frame regs) = IsFrame bytes row old memory regs.columns
+IsStep bytes row old memory (stepped.NoBytes a) =
+    LacksBytes bytes row old memory (record { address = a })
 
 -- the row of an FDE at an address: the CFA and each column have the rules that its instructions
 -- give them there
@@ -80,4 +83,4 @@ pub record IsNextFrame (f : FdeData) (look : ℕ) (old : List ℕ) (memory : Lis
     (outcome : Stepped) : Type 0 where
   pub row : Row
   pub is_row : IsRow f look row
-  pub is_step : IsStep row old memory outcome
+  pub is_step : IsStep f.bytes row old memory outcome

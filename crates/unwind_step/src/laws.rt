@@ -18,11 +18,13 @@ pub fn payloads_stay_below()
         → HasPayloadsBelow bound old.state → HasPayloadsBelow bound new.state }
 {}
 
-/// A row makes one thing of the old registers, never two.
+/// A row makes one thing of the old registers, never two. Its expressions stand in the bytes.
 pub fn one_outcome()
-    ensures { (row : Row) (old : List ℕ) (memory : List RegionData) (a b : Stepped)
-        → IsStep row old memory a → IsStep row old memory b → a ≡ b }
-{}
+    ensures { (bytes : List ℕ) (row : Row) (old : List ℕ) (memory : List RegionData) (a b : Stepped)
+        → IsStep bytes row old memory a → IsStep bytes row old memory b → a ≡ b }
+{
+    frame_expr::one_answer();
+}
 
 /// A finder in a registry over plain lists stands still, and each of its answers is right of that
 /// registry.

@@ -1,13 +1,18 @@
 //! One frame from another.
 
-ghost use Rattle.std.specs.Prelude.{◌≡◌, ◌≢◌, ◌⊎◌, Ok, Err, IfOk, IfErr, slice_index};
-ghost use Rattle.unwind_step.specs.Rules.{saved_at, IsCfa, IsRestored};
+ghost use Rattle.std.specs.Prelude.{◌≡◌, ◌≢◌, ◌⊎◌, Some, Ok, Err, IfOk, IfErr, slice_index};
+ghost use Rattle.frame_expr.specs.Values.{IsValue};
+ghost use Rattle.frame_parse.specs.Blocks.{HasExpression};
+ghost use Rattle.frame_parse.specs.Programs.{text_in};
+ghost use Rattle.frame_rows.specs.Expressions.{HasCfaExpression, HasColumnExpression};
+ghost use Rattle.frame_rows.specs.Expressions.{HasExpressions};
+ghost use Rattle.unwind_step.specs.Rules.{saved_at, IsCfa, IsRestored, IsSavedThere};
 ghost use Rattle.unwind_step.specs.declared.next.Stepped.{Stepped};
 ghost use Rattle.unwind_step.specs.NextFrame.{Leads, AreRestored, FailsFirst, IsFrame, LacksBytes};
 ghost use Rattle.unwind_step.specs.NextFrame.{IsStep, IsNextFrame};
 
-use frame_expr::{Memory, NoBytes, Regs};
-use frame_parse::Fde;
+use frame_expr::{CfaExpr, ColumnExpr, Memory, NoBytes, Regs, one_answer, value};
+use frame_parse::{Extent, Fde};
 use frame_rows::{CfaRule, Row, Rule, row_at};
 
 /// What comes of a frame.
@@ -43,17 +48,52 @@ fn column_of(regs: &Regs, column: usize) -> u64
     }
 }
 
+/// A frame whose caller is asked for: its FDE, its registers, and the recorded memory.
+#[derive(Clone, Copy)]
+struct Callee<'c, 'a> {
+    fde: &'c Fde<'a>,
+    regs: &'c Regs,
+    memory: &'c Memory,
+}
+
 /// The CFA, where a rule tells it.
-fn cfa_of(rule: &CfaRule, regs: &Regs, memory: &Memory) -> Result<u64, NoBytes>
-    requires { rule.now ≢ CfaRule.Missing }
-    ensures { IsCfa rule.now regs.now.columns memory.now result }
+fn cfa_of(rule: &CfaRule, callee: &Callee<'_, '_>) -> Result<u64, NoBytes>
+    requires missing { rule.now ≢ CfaRule.Missing }
+    requires expression { HasCfaExpression callee.now.fde.now.bytes rule.now }
+    ensures { IsCfa callee.now.fde.now.bytes rule.now callee.now.regs.now.columns
+        callee.now.memory.now result }
 {
-    let _ = memory;
     match rule {
         CfaRule::Missing => unreachable!(),
         CfaRule::Offset { column, by } => {
-            Ok(column_of(regs, *column as usize).wrapping_add(*by))
+            Ok(column_of(callee.regs, *column as usize).wrapping_add(*by))
         }
+        CfaRule::Expression { block } => {
+            let expr: CfaExpr<'_> = callee.fde.expr(*block);
+            value(&expr, callee.regs, callee.memory, None)
+        }
+    }
+}
+
+/// The value of a column's expression, which starts with the CFA.
+fn value_in(block: Extent, cfa: u64, callee: &Callee<'_, '_>) -> Result<u64, NoBytes>
+    requires { HasExpression 1 callee.now.fde.now.bytes block }
+    ensures { IsValue 1 (text_in callee.now.fde.now.bytes block) callee.now.regs.now.columns
+        callee.now.memory.now (Some cfa) result }
+{
+    let expr: ColumnExpr<'_> = callee.fde.expr(block);
+    value(&expr, callee.regs, callee.memory, Some(cfa))
+}
+
+/// The eight bytes at the value of a column's expression.
+fn saved_there(block: Extent, cfa: u64, callee: &Callee<'_, '_>) -> Result<u64, NoBytes>
+    requires { HasExpression 1 callee.now.fde.now.bytes block }
+    ensures { IsSavedThere callee.now.fde.now.bytes block cfa callee.now.regs.now.columns
+        callee.now.memory.now result }
+{
+    match value_in(block, cfa, callee) {
+        Ok(address) => saved_at(address, callee.memory),
+        Err(fault) => Err(fault),
     }
 }
 
@@ -62,46 +102,56 @@ fn restored(
     column: usize,
     rule: &Rule,
     cfa: u64,
-    regs: &Regs,
-    memory: &Memory,
+    callee: &Callee<'_, '_>,
 ) -> Result<u64, NoBytes>
-    ensures { IsRestored column rule.now cfa regs.now.columns memory.now result }
+    requires { HasColumnExpression callee.now.fde.now.bytes rule.now }
+    ensures { IsRestored callee.now.fde.now.bytes column rule.now cfa callee.now.regs.now.columns
+        callee.now.memory.now result }
 {
     match rule {
         Rule::Unset if column == 7 => Ok(cfa),
-        Rule::Unset | Rule::Undefined | Rule::Same => Ok(column_of(regs, column)),
-        Rule::Offset { by } => saved_at(cfa.wrapping_add(*by), memory),
+        Rule::Unset | Rule::Undefined | Rule::Same => Ok(column_of(callee.regs, column)),
+        Rule::Offset { by } => saved_at(cfa.wrapping_add(*by), callee.memory),
         Rule::ValOffset { by } => Ok(cfa.wrapping_add(*by)),
-        Rule::Register { column } => Ok(column_of(regs, *column as usize)),
+        Rule::Register { column } => Ok(column_of(callee.regs, *column as usize)),
+        Rule::Expression { block } => saved_there(*block, cfa, callee),
+        Rule::ValExpression { block } => value_in(*block, cfa, callee),
     }
 }
 
 /// All columns, each restored by its rule from the old registers.
-fn restore_all(row: &Row, cfa: u64, regs: &Regs, memory: &Memory) -> Result<Regs, NoBytes>
-    ensures restored { IfOk result (λ new.
-        AreRestored 17 row.now cfa regs.now.columns memory.now new.columns) }
-    ensures fails { IfErr result (FailsFirst row.now cfa regs.now.columns memory.now) }
+fn restore_all(row: &Row, cfa: u64, callee: &Callee<'_, '_>) -> Result<Regs, NoBytes>
+    requires { HasExpressions callee.now.fde.now.bytes row.now }
+    ensures restored { IfOk result (λ new. AreRestored 17 callee.now.fde.now.bytes row.now cfa
+        callee.now.regs.now.columns callee.now.memory.now new.columns) }
+    ensures fails { IfErr result (FailsFirst callee.now.fde.now.bytes row.now cfa
+        callee.now.regs.now.columns callee.now.memory.now) }
 {
     let mut columns = [0; 17];
     for (column, rule) in row.columns.iter().enumerate() {
-        columns[column] = restored(column, rule, cfa, regs, memory)?;
+        columns[column] = restored(column, rule, cfa, callee)?;
     }
     Ok(Regs { columns })
 }
 
 /// The registers of the frame before, where the row leads to one.
-fn frame_before(row: &Row, regs: &Regs, memory: &Memory) -> Result<Regs, NoBytes>
-    requires { Leads row.now }
-    ensures frame { IfOk result (λ new. IsFrame row.now regs.now.columns memory.now new.columns) }
-    ensures fails { IfErr result (LacksBytes row.now regs.now.columns memory.now) }
+fn frame_before(row: &Row, callee: &Callee<'_, '_>) -> Result<Regs, NoBytes>
+    requires leads { Leads row.now }
+    requires expressions { HasExpressions callee.now.fde.now.bytes row.now }
+    ensures frame { IfOk result (λ new. IsFrame callee.now.fde.now.bytes row.now
+        callee.now.regs.now.columns callee.now.memory.now new.columns) }
+    ensures fails { IfErr result (LacksBytes callee.now.fde.now.bytes row.now
+        callee.now.regs.now.columns callee.now.memory.now) }
 {
-    let cfa = cfa_of(&row.cfa, regs, memory)?;
-    restore_all(row, cfa, regs, memory)
+    let cfa = cfa_of(&row.cfa, callee)?;
+    restore_all(row, cfa, callee)
 }
 
 /// What a row makes of the old registers.
-fn follow(row: &Row, regs: &Regs, memory: &Memory) -> Stepped
-    ensures { IsStep row.now regs.now.columns memory.now result }
+fn follow(row: &Row, callee: &Callee<'_, '_>) -> Stepped
+    requires { HasExpressions callee.now.fde.now.bytes row.now }
+    ensures { IsStep callee.now.fde.now.bytes row.now callee.now.regs.now.columns
+        callee.now.memory.now result }
 {
     if let CfaRule::Missing = row.cfa {
         return Stepped::NoRow;
@@ -109,7 +159,7 @@ fn follow(row: &Row, regs: &Regs, memory: &Memory) -> Stepped
     match row.columns[16] {
         Rule::Undefined => Stepped::Undefined,
         Rule::Unset => Stepped::NoRow,
-        _ => match frame_before(row, regs, memory) {
+        _ => match frame_before(row, callee) {
             Ok(regs) => Stepped::Frame { regs },
             Err(NoBytes { address }) => Stepped::NoBytes { address },
         },
@@ -124,6 +174,7 @@ pub fn step(fde: &Fde<'_>, look: u64, regs: &Regs, memory: &Memory) -> Stepped
     ensures only { (other : Stepped)
         → IsNextFrame fde.now look regs.now.columns memory.now other → other ≡ result }
 {
+    one_answer();
     let row = row_at(fde, look);
-    follow(&row, regs, memory)
+    follow(&row, &Callee { fde, regs, memory })
 }
