@@ -9,11 +9,13 @@ use std::test::*;
 
 mod damaged_rows;
 mod data;
+mod expression_rows;
 mod program_rows;
 mod record_rows;
 
 use damaged_rows::*;
 use data::*;
+use expression_rows::*;
 use program_rows::*;
 use record_rows::*;
 
@@ -73,11 +75,7 @@ fn augmentations(rt: HostRuntime) -> Result<(), Fail> {
     assert!(rt; !fde.signal());
     assert_eq!(rt; fde.lsda(), Some(0xb031));
     assert_eq!(rt; fde.personality(), Some(0xa013));
-    let mut without_rules = S3;
-    for place in 41..52 {
-        without_rules[place] = 0;
-    }
-    let s3 = read(rt.alloc(), 0x6000, &without_rules)?;
+    let s3 = read(rt.alloc(), 0x6000, &S3)?;
     let fde = s3.fde_at(0x5000).ok_or("an FDE covers the address")?;
     assert!(rt; fde.signal());
     assert_eq!(rt; fde.lsda(), None);
@@ -269,38 +267,58 @@ fn steps(rt: HostRuntime) -> Result<(), Fail> {
     Ok(())
 }
 
-/// Expressions aren't read yet.
 #[test]
 fn expressions(rt: HostRuntime) {
-    let refused = FrameFault::Opcode {
-        start: 24,
-        at: 47,
-        byte: 0x0f,
-    };
-    assert_eq!(rt; fault_of(rt.alloc(), 0x3000, &S2), Some(refused));
-    let refused = FrameFault::Opcode {
-        start: 24,
-        at: 41,
-        byte: 0x0f,
-    };
-    assert_eq!(rt; fault_of(rt.alloc(), 0x6000, &S3), Some(refused));
+    for (bytes, answer) in EXPRESSIONS {
+        assert!(rt; is_answered(rt.alloc(), bytes, answer), "{bytes:?}");
+    }
+    for (place, byte, fault) in S2_DAMAGED {
+        let mut damaged = S2;
+        if place < 68 {
+            damaged[place] = byte;
+        }
+        assert_eq!(rt; fault_of(rt.alloc(), 0x3000, &damaged), Some(fault));
+    }
 }
 
-/// The fields of S2 and S3 with nops in the place of their expressions.
+/// The steps of S2 and S3, which name the blocks of their expressions.
 #[test]
-fn fields_beside_expressions(rt: HostRuntime) -> Result<(), Fail> {
-    let mut without_rules = S2;
-    for place in 47..60 {
-        without_rules[place] = 0;
-    }
-    let found = ranges(rt.alloc(), &read(rt.alloc(), 0x3000, &without_rules)?)?;
-    assert_eq!(rt; found.as_slice(), [(0x1000, 0x30)].as_slice());
-    let mut without_rules = S3;
-    for place in 41..51 {
-        without_rules[place] = 0;
-    }
-    let found = ranges(rt.alloc(), &read(rt.alloc(), 0x6000, &without_rules)?)?;
-    assert_eq!(rt; found.as_slice(), [(0x5000, 0x10)].as_slice());
+fn steps_with_expressions(rt: HostRuntime) -> Result<(), Fail> {
+    let s2 = read(rt.alloc(), 0x3000, &S2)?;
+    let fde = s2.fde_at(0x1000).ok_or("an FDE covers the address")?;
+    assert_eq!(rt; fde.range(), 0x30);
+    let program = steps_of(rt.alloc(), fde.program())?;
+    let block = Extent { at: 49, end: 60 };
+    let shown = [
+        at(0x1000, Instruction::CfaOffset { by: 16 }),
+        at(0x1006, Instruction::Advance),
+        at(0x1006, Instruction::CfaOffset { by: 24 }),
+        at(0x1010, Instruction::Advance),
+        at(0x1010, Instruction::CfaExpression { block }),
+        at(0x1010, Instruction::Nop),
+        at(0x1010, Instruction::Nop),
+        at(0x1010, Instruction::Nop),
+        at(0x1010, Instruction::Nop),
+    ];
+    assert_eq!(rt; program.as_slice(), shown.as_slice());
+    let s3 = read(rt.alloc(), 0x6000, &S3)?;
+    let fde = s3.fde_at(0x5000).ok_or("an FDE covers the address")?;
+    assert_eq!(rt; fde.range(), 0x10);
+    let program = steps_of(rt.alloc(), fde.program())?;
+    let rule = ReadRule::Expression {
+        block: Extent { at: 49, end: 51 },
+    };
+    let shown = [
+        at(
+            0x5000,
+            Instruction::CfaExpression {
+                block: Extent { at: 43, end: 46 },
+            },
+        ),
+        at(0x5000, Instruction::Set { column: 16, rule }),
+        at(0x5000, Instruction::Nop),
+    ];
+    assert_eq!(rt; program.as_slice(), shown.as_slice());
     Ok(())
 }
 

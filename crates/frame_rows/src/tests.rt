@@ -3,13 +3,17 @@
 ghost use Rattle.std.specs.Prelude.{◌≤◌, length};
 
 use super::*;
-use frame_parse::Section;
+use frame_parse::{Extent, Section};
 use std::alloc::Global;
 use std::test::*;
 
+mod calls;
 mod data;
+mod expressions;
 
+use calls::*;
 use data::*;
+use expressions::*;
 
 /// What is shown of a column's rule.
 #[derive(Clone, Copy, Debug, PartialEq, Eq)]
@@ -153,5 +157,49 @@ fn missing_cfa(rt: HostRuntime) -> Result<(), Fail> {
     };
     let section = read(rt.alloc(), 0x2000, &EMPTY)?;
     assert_eq!(rt; row_in(&section, 0x1000), Some(row));
+    Ok(())
+}
+
+/// A row with these rules for the CFA and for columns 6 and 16.
+fn row_with(cfa: CfaRule, column_6: Rule, column_16: Rule) -> Row {
+    let mut columns = [Rule::Unset; 17];
+    columns[6] = column_6;
+    columns[16] = column_16;
+    Row { cfa, columns }
+}
+
+#[test]
+fn rules_with_expressions(rt: HostRuntime) -> Result<(), Fail> {
+    let below = Rule::Offset {
+        by: (-8i64).cast_unsigned(),
+    };
+    let s2 = read(rt.alloc(), 0x3000, &S2)?;
+    let cfa = CfaRule::Expression {
+        block: Extent { at: 49, end: 60 },
+    };
+    let pushed = CfaRule::Offset { column: 7, by: 24 };
+    assert_eq!(rt;
+        row_in(&s2, 0x100f),
+        Some(row_with(pushed, Rule::Unset, below))
+    );
+    assert_eq!(rt;
+        row_in(&s2, 0x1010),
+        Some(row_with(cfa, Rule::Unset, below))
+    );
+    let s3 = read(rt.alloc(), 0x6000, &S3)?;
+    let cfa = CfaRule::Expression {
+        block: Extent { at: 43, end: 46 },
+    };
+    let saved = Rule::Expression {
+        block: Extent { at: 49, end: 51 },
+    };
+    assert_eq!(rt;
+        row_in(&s3, 0x5004),
+        Some(row_with(cfa, Rule::Unset, saved))
+    );
+    let restored = read(rt.alloc(), 0x2000, &RESTORED)?;
+    for (pc, cfa, rule) in RESTORED_ROWS {
+        assert_eq!(rt; row_in(&restored, pc), Some(row_with(cfa, rule, below)));
+    }
     Ok(())
 }

@@ -98,12 +98,7 @@ fn saved_there(block: Extent, cfa: u64, callee: &Callee<'_, '_>) -> Result<u64, 
 }
 
 /// The number that a column is restored to by its rule.
-fn restored(
-    column: usize,
-    rule: &Rule,
-    cfa: u64,
-    callee: &Callee<'_, '_>,
-) -> Result<u64, NoBytes>
+fn restored(column: usize, rule: &Rule, cfa: u64, callee: &Callee<'_, '_>) -> Result<u64, NoBytes>
     requires { HasColumnExpression callee.now.fde.now.bytes rule.now }
     ensures { IsRestored callee.now.fde.now.bytes column rule.now cfa callee.now.regs.now.columns
         callee.now.memory.now result }

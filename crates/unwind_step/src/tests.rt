@@ -36,7 +36,7 @@ fn both(alloc: Global) -> Result<Vec<Section>, Fail>
         .ok()
         .ok_or("room for a section")?;
     sections
-        .push(read(alloc, 0x6000, &SIGNAL)?)
+        .push(read(alloc, 0x6000, &S3)?)
         .ok()
         .ok_or("room for another")?;
     Ok(sections)
@@ -163,14 +163,15 @@ fn interrupted_at_the_first_instruction(rt: HostRuntime) -> Result<(), Fail> {
     register(&rt, &mut registry, code)?;
     register(&rt, &mut registry, handler)?;
     let mut memory = Memory::new(rt.alloc());
-    memory.push_region(0x7108, &INTERRUPTED)?;
+    memory.push_region(0x7000, &[0; 8])?;
+    memory.push_region(0x7110, &INTERRUPTED)?;
     let sections = both(rt.alloc())?;
     let mut finder = PlainFinder::new(&registry, 2);
     let recorded = regs(0, 0x7100, 0x5004);
     let told = trace(&rt, rt.alloc(), &mut finder, &sections, &recorded, &memory)?;
     let first = line(0x5004, 0x7100, 0x5004, hit(&handler, 2));
-    let second = line(0x1000, 0x7110, 0x1000, hit(&code, 2));
-    let third = line(0, 0x7118, u64::MAX, miss(2));
+    let second = line(0x1000, 0x7000, 0x1000, hit(&code, 2));
+    let third = line(0, 0x7008, u64::MAX, miss(2));
     assert_eq!(rt; told.frames.as_slice(), [first, second, third].as_slice());
     assert_eq!(rt; told.end, End::NoObject);
     Ok(())
@@ -282,5 +283,48 @@ fn first_cover(rt: HostRuntime) -> Result<(), Fail> {
     let memory = Memory::new(rt.alloc());
     let undefined = Some(Stepped::Undefined);
     assert_eq!(rt; stepped(&section, 0x1000, &memory), undefined);
+    Ok(())
+}
+
+/// The frame address of a linkage table comes from an expression, before and after the push.
+#[test]
+fn linkage_table(rt: HostRuntime) -> Result<(), Fail> {
+    let section = read(rt.alloc(), 0x3000, &S2)?;
+    let fde = section.fde_at(0x1014).ok_or("an FDE covers the address")?;
+    let mut memory = Memory::new(rt.alloc());
+    memory.push_region(0x7000, &PUSHED)?;
+    let before = step(&fde, 0x1014, &regs(0, 0x7000, 0x1014), &memory);
+    let pushed = step(&fde, 0x101b, &regs(0, 0x7000, 0x101b), &memory);
+    let called = regs(0, 0x7008, 0x5000);
+    assert_eq!(rt; before, Stepped::Frame { regs: called });
+    let called = regs(0, 0x7010, 0x6000);
+    assert_eq!(rt; pushed, Stepped::Frame { regs: called });
+    Ok(())
+}
+
+/// Columns by expressions, which start with the CFA.
+#[test]
+fn columns_by_expressions(rt: HostRuntime) -> Result<(), Fail> {
+    let section = read(rt.alloc(), 0x2000, &EXPRESSIONS)?;
+    let mut memory = Memory::new(rt.alloc());
+    memory.push_region(0x7000, &SAVED)?;
+    let new = after(&[
+        (3, 0x105),
+        (6, 0x1111_2222_3333_4444),
+        (7, 0x7010),
+        (12, 0x7028),
+        (16, 0x5555_6666_7777_8888),
+    ]);
+    assert_eq!(rt; stepped(&section, 0x1000, &memory), new);
+    Ok(())
+}
+
+/// What the expression of the CFA reads wasn't recorded.
+#[test]
+fn expression_without_memory(rt: HostRuntime) -> Result<(), Fail> {
+    let section = read(rt.alloc(), 0x6000, &S3)?;
+    let memory = Memory::new(rt.alloc());
+    let lacking = Some(Stepped::NoBytes { address: 0x7010 });
+    assert_eq!(rt; stepped(&section, 0x5004, &memory), lacking);
     Ok(())
 }

@@ -14,9 +14,7 @@ use eh_bytes::Cursor;
 use frame_expr::{Expr, ExprFault};
 
 /// Reads all that is left as an expression, whose fault is then the record's.
-fn expression<'a, const DEPTH: u32>(
-    cursor: &mut Cursor<'a>,
-) -> Result<Expr<'a, DEPTH>, RecordFault>
+fn expression<'a, const DEPTH: u32>(cursor: &mut Cursor<'a>) -> Result<Expr<'a, DEPTH>, RecordFault>
     requires { DEPTH ≤ 1 }
     ensures { Gives (λ e. e.bytes.now) (lift expression_fault (expression DEPTH)).read
         cursor.old result cursor.new }
@@ -33,9 +31,7 @@ fn expression<'a, const DEPTH: u32>(
 /// A block that is an expression.
 #[inline(never)]
 #[tactic(auto, unfolding(crate::specs::Programs::expression_block))]
-pub(super) fn expression_block<const DEPTH: u32>(
-    cursor: &mut Cursor,
-) -> Result<Extent, RecordFault>
+pub(super) fn expression_block<const DEPTH: u32>(cursor: &mut Cursor) -> Result<Extent, RecordFault>
     requires { DEPTH ≤ 1 }
     ensures { Gives (λ e. e) (expression_block DEPTH).read cursor.old result cursor.new }
 {

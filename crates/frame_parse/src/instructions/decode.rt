@@ -6,8 +6,8 @@ ghost use Rattle.frame_parse.specs.declared.instructions.ReadRule.TheVariants as
 ghost use Rattle.frame_parse.specs.Programs.{other, factored, set, restore, cfa_column};
 ghost use Rattle.frame_parse.specs.Programs.{second_column, extended_operation};
 
-use super::context::Context;
 use super::blocks::{column_block, expression_block};
+use super::context::Context;
 use super::opcodes::*;
 use super::{Instruction, Operation, ReadRule};
 use crate::fault::RecordFault;
