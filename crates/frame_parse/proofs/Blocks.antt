@@ -1,7 +1,7 @@
 -- The expressions of instructions stand where these say.
 use Rattle.std.proofs.Common.{◌≡◌, ℕ, ℤ, ◌+◌, ◌-◌, ◌%◌, List, [], ◌∷◌, ◌++◌, length, take, drop, Bool, true, false, cond, nat_lt, refl, sym, ap, subst, ◌∙◌, append_assoc, length-append, arith, inl, inr}
-use Rattle.std.proofs.lemmas.List.{take_at, drop_at, append-nil}
-use Rattle.eh_bytes.specs.Grammar.{Part, ◌>>=◌, give, here, refuse, when, lift}
+use Rattle.std.proofs.lemmas.List.{take_at, drop_at}
+use Rattle.eh_bytes.specs.Grammar.{Part, ◌>>=◌, give, here, refuse, when}
 use Rattle.eh_bytes.specs.Steps.{AreSteps}
 use Rattle.eh_bytes.specs.Fields.{fixed, uleb, sleb}
 use Rattle.frame_expr.specs.Expressions.{expression}
@@ -12,7 +12,7 @@ use Rattle.frame_parse.specs.declared.instructions.context.Context.{Context}
 use Rattle.frame_parse.specs.declared.instructions.ReadRule.{ReadRule}
 use Rattle.frame_parse.specs.declared.instructions.ReadRule.TheVariants as rules
 use Rattle.frame_parse.specs.declared.instructions.Instruction.{Instruction}
-use Rattle.frame_parse.specs.declared.instructions.Instruction.TheVariants.{Nop, Advance, Set, Restore, CfaExpression}
+use Rattle.frame_parse.specs.declared.instructions.Instruction.TheVariants.{Nop, Set, Restore, CfaExpression}
 use Rattle.frame_parse.specs.declared.instructions.Operation.{Operation}
 use Rattle.frame_parse.specs.declared.instructions.Operation.TheVariants as operations
 use Rattle.frame_parse.specs.declared.instructions.Step.{Step}
@@ -20,7 +20,7 @@ use Rattle.frame_parse.specs.declared.program_state.State.{State}
 use Rattle.frame_parse.specs.declared.records.Extent.{Extent}
 use Rattle.frame_parse.specs.Fields.{field, pointer}
 use Rattle.std.specs.Int.{w64, cast_unsigned}
-use Rattle.frame_parse.specs.Programs.{other, factored, set, restore, cfa_column, second_column, expression_block, skipped_block, column_block, extended_operation, operation, instruction_of, step, text_in, IsExtent, HasSteps, HasPrograms, ProgramData, context_of, initial_of, program_of, initial_state, first_state}
+use Rattle.frame_parse.specs.Programs.{other, factored, set, restore, cfa_column, second_column, expression_block, column_block, extended_operation, operation, instruction_of, step, text_in, IsExtent, HasSteps, HasPrograms, ProgramData, context_of, initial_of, program_of, initial_state, first_state}
 use Rattle.frame_parse.specs.declared.instructions.context.ProgramKind.TheVariants.{Initial, Own}
 use Rattle.frame_parse.specs.Sections.{FdeData}
 use Rattle.frame_parse.specs.Blocks.{HasExpression, HasRuleExpression, HasItsExpression, HaveExpressions}

@@ -1,5 +1,5 @@
 -- The fields, records and their lengths are exact, part by part.
-use Rattle.std.proofs.Common.{ℕ, ◌+◌, ◌%◌, ◌^◌, List, [], ◌∷◌, Bool, None, nat_lt}
+use Rattle.std.proofs.Common.{ℕ, ◌+◌, ◌^◌, List, [], ◌∷◌, Bool, None, nat_lt}
 use Rattle.std.specs.Prelude.{◌==◌, ◌||◌, ◌&&◌, not}
 use Rattle.frame_parse.specs.declared.fault.RecordFault.TheVariants.{Short, TooWide, Encoding, NoCie, Version, Column, Range}
 use Rattle.frame_parse.specs.declared.fault.RecordFault.TheVariants as faults
@@ -7,6 +7,7 @@ use Rattle.frame_parse.specs.declared.records.augmentation.Augmentation.{Augment
 use Rattle.frame_parse.specs.declared.records.CieRecord.{CieRecord}
 use Rattle.frame_parse.specs.Fields.{field_fault, field, is_negative, pointer, optional_pointer, is_code_encoding, is_data_encoding, encoding}
 use Rattle.frame_parse.specs.Records.{is_augmentation, plain, letter, letters, augmentation_data, version, augmentation, return_column, cie, range, lsda, fde}
+use Rattle.eh_bytes.specs.declared.encoding.TheConstants.{DW_EH_PE_omit}
 use Rattle.eh_bytes.specs.declared.fault.ByteFault.{ByteFault}
 use Rattle.eh_bytes.specs.Grammar.{Part}
 use Rattle.eh_bytes.proofs.Exact.{IsExact, lift_exact, then_exact, give_exact, here_exact, when_exact, check_exact, block_exact}
@@ -37,7 +38,7 @@ letter_exact : (section l : ℕ) (a : Augmentation) → IsExact (letter section 
 unfolding letter
 letter_exact section l a =
     when_exact _ _ _ (then_exact _ _ (encoding_exact is_data_encoding) (λ e. give_exact _))
-    (when_exact _ _ _ (then_exact _ _ (encoding_exact is_data_encoding) (λ e. then_exact _ _ (when_exact (e == 255) _ _ (give_exact None) (optional_pointer_exact section e)) (λ q. give_exact _)))
+    (when_exact _ _ _ (then_exact _ _ (encoding_exact is_data_encoding) (λ e. then_exact _ _ (when_exact (e == DW_EH_PE_omit) _ _ (give_exact None) (optional_pointer_exact section e)) (λ q. give_exact _)))
     (when_exact _ _ _ (then_exact _ _ (encoding_exact is_code_encoding) (λ e. give_exact _))
     (give_exact _)))
 
@@ -100,7 +101,7 @@ lsda_exact section c =
     when_exact c.has_data _ _
     (then_exact _ _ (field_exact _ uleb_exact) (λ n.
     then_exact _ _ here_exact (λ at.
-    block_exact (Short at) n _ (when_exact (c.augmentation.lsda == 255 || n == 0) _ _ (give_exact None) (optional_pointer_exact section c.augmentation.lsda)))))
+    block_exact (Short at) n _ (when_exact (c.augmentation.lsda == DW_EH_PE_omit || n == 0) _ _ (give_exact None) (optional_pointer_exact section c.augmentation.lsda)))))
     (give_exact None)
 
 pub fde_exact : (section end : ℕ) (c : CieRecord) → IsExact (fde section end c)

@@ -1,5 +1,5 @@
 -- Records and their lengths are exact; what a record holds is whole.
-use Rattle.std.proofs.Common.{ℕ, ◌+◌, List, true, false}
+use Rattle.std.proofs.Common.{ℕ, ◌+◌, List}
 use Rattle.std.specs.Prelude.{◌==◌}
 use Rattle.frame_parse.specs.declared.fault.RecordFault.TheVariants.{Short, NoCie}
 use Rattle.frame_parse.specs.declared.records.CieRecord.{CieRecord}

@@ -2,6 +2,7 @@
 -- them.
 use Rattle.std.specs.Prelude.{ℕ, ◌+◌, ◌-◌, ◌%◌, ◌^◌, Bool, Option, Some, None, nat_lt, ◌==◌, ◌||◌}
 use Rattle.std.specs.Prelude.{◌&&◌, if◌then◌else◌}
+use Rattle.eh_bytes.specs.declared.encoding.TheConstants.{DW_EH_PE_indirect, DW_EH_PE_omit}
 use Rattle.eh_bytes.specs.declared.fault.ByteFault.{ByteFault}
 use Rattle.eh_bytes.specs.declared.fault.ByteFault.TheVariants as bytes
 use Rattle.eh_bytes.specs.Fields.{fixed}
@@ -40,11 +41,11 @@ optional_pointer section e = do
 
 -- the encodings of code: a format, with nothing or the field's address added
 abbrev pub is_code_encoding : ℕ → Bool
-is_code_encoding e = is_pointer e && nat_lt e 128
+is_code_encoding e = is_pointer e && nat_lt e DW_EH_PE_indirect
 
--- the encodings of data: the same, also of a pointer's address, or 255, with which there is none
+-- the encodings of data: the same, also of a pointer's address, or that there is none
 abbrev pub is_data_encoding : ℕ → Bool
-is_data_encoding e = is_pointer e || e == 255
+is_data_encoding e = is_pointer e || e == DW_EH_PE_omit
 
 -- an encoding that is accepted in its place
 unfoldable pub encoding : (ℕ → Bool) → Part RecordFault ℕ

@@ -2,6 +2,7 @@
 use Rattle.std.specs.Prelude.{ℕ, ◌+◌, ◌-◌, ◌^◌, List, [], ◌∷◌, Bool, true, false, Option, Some}
 use Rattle.std.specs.Prelude.{None, nat_lt, ◌==◌, ◌||◌, ◌&&◌, not, if◌then◌else◌}
 use Rattle.std.specs.List.{list_any}
+use Rattle.eh_bytes.specs.declared.encoding.TheConstants.{DW_EH_PE_absptr, DW_EH_PE_omit}
 use Rattle.frame_parse.specs.declared.fault.FrameFault.{FrameFault}
 use Rattle.frame_parse.specs.declared.fault.RecordFault.{RecordFault}
 use Rattle.frame_parse.specs.declared.fault.RecordFault.TheVariants.{Short, NoCie, Version, Column}
@@ -57,7 +58,7 @@ is_augmentation (z ∷ ls) = z == 122 && are_letters ls
 
 -- what holds where nothing is said
 abbrev pub plain : Augmentation
-plain = record { pointers = 0; lsda = 255; personality = None; signal = false }
+plain = record { pointers = DW_EH_PE_absptr; lsda = DW_EH_PE_omit; personality = None; signal = false }
 
 -- what a letter says: L the encoding of LSDA pointers, P the personality, R the encoding of code
 -- addresses, S that the frame is a signal's
@@ -65,7 +66,7 @@ unfoldable pub letter : ℕ → ℕ → Augmentation → Part RecordFault Augmen
 letter section l a =
     when (l == 76) (encoding is_data_encoding >>= λ e. give (record a { lsda = e }))
     (when (l == 80) (encoding is_data_encoding >>=
-    λ e. when (e == 255) (give None) (optional_pointer section e) >>=
+    λ e. when (e == DW_EH_PE_omit) (give None) (optional_pointer section e) >>=
     λ q. give (record a { personality = q }))
     (when (l == 82) (encoding is_code_encoding >>= λ e. give (record a { pointers = e }))
     (give (record a { signal = true }))))
@@ -153,7 +154,7 @@ range e first = do
 unfoldable pub lsda : ℕ → CieRecord → Part RecordFault (Option ℕ)
 lsda section c = when c.has_data
     (field uleb >>= λ n. here >>= λ at. block (Short at) n
-    (when (c.augmentation.lsda == 255 || n == 0) (give None)
+    (when (c.augmentation.lsda == DW_EH_PE_omit || n == 0) (give None)
     (optional_pointer section c.augmentation.lsda)))
     (give None)
 

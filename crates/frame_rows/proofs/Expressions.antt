@@ -1,7 +1,7 @@
 -- A rule that instructions leave was set by one of them: so its expression stands where theirs does.
-use Rattle.std.proofs.Common.{◌≡◌, ℕ, ◌<◌, List, [], ◌∷◌, Bool, true, false, Some, cond, nat_eq, nat_le, sym, subst, ◌∙◌, ap}
+use Rattle.std.proofs.Common.{◌≡◌, ℕ, ◌<◌, List, [], ◌∷◌, Bool, true, false, Some, cond, nat_eq, nat_le, sym, subst}
 use Rattle.std.specs.Prelude.{slice_get}
-use Rattle.std.specs.List.{fold, filter}
+use Rattle.std.specs.List.{fold}
 use Rattle.std.proofs.lemmas.Option.{get_or_from_slice_get}
 use Rattle.frame_parse.specs.Blocks.{HasRuleExpression, HasItsExpression, HaveExpressions}
 use Rattle.frame_parse.specs.declared.instructions.ReadRule.{ReadRule}
@@ -15,7 +15,7 @@ use Rattle.frame_rows.specs.declared.row.Rule.TheVariants as rules
 use Rattle.frame_rows.specs.declared.row.CfaRule.{CfaRule}
 use Rattle.frame_rows.specs.declared.row.CfaRule.TheVariants as cfas
 use Rattle.frame_rows.specs.declared.row.Row.{Row}
-use Rattle.frame_rows.specs.Columns.{Column, new_column, restore_from, rule_of, with_column, with_offset, register_step, cfa_step, instructions, up_to, initial_rule, rule_at, initial_cfa, cfa_at, HasInitial, HasProgram}
+use Rattle.frame_rows.specs.Columns.{Column, new_column, restore_from, rule_of, with_column, with_offset, register_step, cfa_step, instructions, up_to, initial_rule, rule_at, initial_cfa, cfa_at}
 use Rattle.frame_rows.specs.Expressions.{HasColumnExpression, HasCfaExpression, HasExpressions}
 
 -- ---- one column, with what it remembers

@@ -7,14 +7,14 @@ ghost use Rattle.frame_parse.specs.Records.{letter, letters, augmentation_data};
 
 use super::fields::{code_encoding, data, data_encoding, optional_pointer, uleb};
 use crate::fault::RecordFault;
-use eh_bytes::Cursor;
+use eh_bytes::{Cursor, DW_EH_PE_absptr, DW_EH_PE_omit};
 
 /// What the augmentation data of a CIE says.
 #[derive(Clone, Copy, Debug, PartialEq, Eq)]
 pub struct Augmentation {
     /// The encoding of an FDE's addresses.
     pub pointers: u8,
-    /// The encoding of an FDE's LSDA pointer, or 255 where there is none.
+    /// The encoding of an FDE's LSDA pointer, or `DW_EH_PE_omit`.
     pub lsda: u8,
     pub personality: Option<u64>,
     pub signal: bool,
@@ -23,8 +23,8 @@ pub struct Augmentation {
 impl Augmentation {
     /// What holds where nothing is said.
     pub const PLAIN: Augmentation = Augmentation {
-        pointers: 0,
-        lsda: 255,
+        pointers: DW_EH_PE_absptr,
+        lsda: DW_EH_PE_omit,
         personality: None,
         signal: false,
     };
@@ -72,7 +72,7 @@ fn letter(
         b'L' => so_far.lsda = data_encoding(cursor)?,
         b'P' => {
             let encoding = data_encoding(cursor)?;
-            so_far.personality = if encoding == 255 {
+            so_far.personality = if encoding == DW_EH_PE_omit {
                 None
             } else {
                 optional_pointer(cursor, section, encoding)?

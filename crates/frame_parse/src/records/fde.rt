@@ -8,7 +8,7 @@ ghost use Rattle.frame_parse.specs.Records.{range, lsda, fde};
 use super::fields::{data, is_negative, number, optional_pointer, pointer, uleb};
 use super::{CieRecord, Extent, FdeEntry};
 use crate::fault::RecordFault;
-use eh_bytes::Cursor;
+use eh_bytes::{Cursor, DW_EH_PE_omit};
 
 #[tactic(auto, unfolding(crate::specs::Records::range))]
 fn range(cursor: &mut Cursor, encoding: u8, first: u64) -> Result<u64, RecordFault>
@@ -33,7 +33,7 @@ fn lsda(cursor: &mut Cursor, section: u64, cie: &CieRecord) -> Result<Option<u64
     let length = uleb(cursor)?;
     let at = cursor.at();
     let mut inside = data(RecordFault::Short { at }, cursor, length)?;
-    if cie.augmentation.lsda == 255 || length == 0 {
+    if cie.augmentation.lsda == DW_EH_PE_omit || length == 0 {
         return Ok(None);
     }
     optional_pointer(&mut inside, section, cie.augmentation.lsda)

@@ -10,7 +10,9 @@ ghost use Rattle.frame_parse.specs.Fields.{encoding};
 ghost use Rattle.eh_bytes.specs.Fields.{fixed, uleb, sleb, text};
 
 use crate::fault::RecordFault;
-use eh_bytes::{ByteFault, Cursor, DW_EH_PE_pcrel, application_of, is_pointer};
+use eh_bytes::{
+    ByteFault, Cursor, DW_EH_PE_indirect, DW_EH_PE_omit, DW_EH_PE_pcrel, application_of, is_pointer,
+};
 
 /// What a field gave, with its fault as the record's.
 #[inline(always)]
@@ -134,20 +136,20 @@ pub(crate) fn code_encoding(cursor: &mut Cursor) -> Result<u8, RecordFault>
 {
     let at = cursor.at();
     let encoding = byte(cursor)?;
-    if !(is_pointer(encoding) && encoding < 128) {
+    if !(is_pointer(encoding) && encoding < DW_EH_PE_indirect) {
         return Err(RecordFault::Encoding { at, byte: encoding });
     }
     Ok(encoding)
 }
 
-/// An encoding of addresses of data, or 255.
+/// An encoding of addresses of data, or `DW_EH_PE_omit`.
 #[tactic(auto, unfolding(crate::specs::Fields::encoding))]
 pub(crate) fn data_encoding(cursor: &mut Cursor) -> Result<u8, RecordFault>
     ensures { Gives (λ x. x) (encoding is_data_encoding).read cursor.old result cursor.new }
 {
     let at = cursor.at();
     let encoding = byte(cursor)?;
-    if !(is_pointer(encoding) || encoding == 255) {
+    if !(is_pointer(encoding) || encoding == DW_EH_PE_omit) {
         return Err(RecordFault::Encoding { at, byte: encoding });
     }
     Ok(encoding)

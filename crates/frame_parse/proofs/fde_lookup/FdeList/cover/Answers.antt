@@ -1,4 +1,4 @@
-use Rattle.std.proofs.Common.{subst, sym}
+use Rattle.std.proofs.Common.{subst}
 use Rattle.frame_parse.specs.Lookups.{Finds}
 use Rattle.frame_parse.proofs.Lookups.{IsFound, covered, cover-map, within-map}
 use Rattle.frame_parse.proofs.fde_lookup.FdeList.cover.Goals as goal
