@@ -1,7 +1,14 @@
 -- The expressions of instructions stand where these say.
-use Rattle.std.proofs.Common.{◌≡◌, ℕ, ℤ, ◌+◌, ◌-◌, ◌%◌, List, [], ◌∷◌, ◌++◌, length, take, drop, Bool, true, false, cond, nat_lt, refl, sym, ap, subst, ◌∙◌, append_assoc, length-append, arith, inl, inr}
-use Rattle.std.proofs.lemmas.List.{take_at, drop_at}
+use Rattle.std.proofs.Common.{◌≡◌, ℕ, ℤ, ◌+◌, ◌-◌, ◌%◌, List, [], ◌∷◌, ◌++◌, length, take, drop, Ok, Err, Bool, true, false, cond, nat_lt, refl, sym, ap, subst, ◌∙◌, append_assoc, length-append, arith, inl, inr}
+use Rattle.std.specs.Prelude.{slice_range}
+use Rattle.std.proofs.lemmas.List.{take_at, drop_at, take_rest}
+use Rattle.eh_bytes.specs.CursorData.{CursorData}
+use Rattle.eh_bytes.specs.declared.fault.ByteFault.{ByteFault}
+use Rattle.eh_bytes.proofs.Results.{ok_is}
 use Rattle.eh_bytes.specs.Grammar.{Part, ◌>>=◌, give, here, refuse, when}
+use Rattle.eh_bytes.specs.Leb.{uleb_at}
+use Rattle.eh_bytes.proofs.Exact.{left}
+use Rattle.eh_bytes.proofs.Fields.{uleb_exact}
 use Rattle.eh_bytes.specs.Steps.{AreSteps}
 use Rattle.eh_bytes.specs.Fields.{fixed, uleb, sleb}
 use Rattle.frame_expr.specs.Expressions.{expression}
@@ -23,7 +30,7 @@ use Rattle.std.specs.Int.{w64, cast_unsigned}
 use Rattle.frame_parse.specs.Programs.{other, factored, set, restore, cfa_column, second_column, expression_block, column_block, extended_operation, operation, instruction_of, step, text_in, IsExtent, HasSteps, HasPrograms, ProgramData, context_of, initial_of, program_of, initial_state, first_state}
 use Rattle.frame_parse.specs.declared.instructions.context.ProgramKind.TheVariants.{Initial, Own}
 use Rattle.frame_parse.specs.Sections.{FdeData}
-use Rattle.frame_parse.specs.Blocks.{HasExpression, HasRuleExpression, HasItsExpression, HaveExpressions}
+use Rattle.frame_parse.specs.Blocks.{counted, block_in, HasExpression, HasRuleExpression, HasItsExpression, HaveExpressions}
 
 -- ---- a text in the bytes
 
@@ -82,27 +89,33 @@ made_keeps R Q g k kg make = record {
 
 expression_block_keeps : (depth : ℕ) → Keeps (HasExpression depth) (expression_block depth)
 unfolding expression_block
-expression_block_keeps depth = record { keeps = λ bytes p text e a s. here bytes p text e a s }
+expression_block_keeps depth = record { keeps = λ bytes p text b a s. block_has bytes p text b a s }
   where
-    here : (bytes : List ℕ) (p : ℕ) (text : List ℕ) (e : Extent) → StandsAt bytes p text → (expression_block depth).Spells p text e → HasExpression depth bytes e
-    here bytes p text e a s =
-        let place = s.5 in
+    block_has : (bytes : List ℕ) (p : ℕ) (text : List ℕ) (b : ℕ) → StandsAt bytes p text → (expression_block depth).Spells p text b → HasExpression depth bytes b
+    block_has bytes p text b a s =
+        let sized = s.5 in
+        let place = sized.5 in
         let inside = place.5 in
         let from = back_at bytes p text s.1 s.2 s.3 a in
-        let later = back_at bytes (p + length s.1) s.2 place.1 place.2 place.3 from in
-        let block = front_at bytes (p + length s.1 + length place.1) place.2 inside.1 inside.2 inside.3 later in
-        let at : place.0 ≡ p + length s.1 + length place.1 = omega (arith, place.4.1, ap length place.4.0) in
+        let rest : sized.2 ≡ inside.1 ++ inside.2 = place.3 ∙ ap (λ (l : List ℕ). l ++ place.2) place.4.0 ∙ inside.3 in
         let own : inside.1 ≡ inside.0 = spelled_by depth _ inside.1 inside.0 inside.4.1 in
-        let spelled : (expression depth).Spells place.0 inside.1 inside.1 =
-        subst (λ (q : ℕ). (expression depth).Spells q inside.1 inside.1) (sym at)
-        (subst (λ (y : List ℕ). (expression depth).Spells (p + length s.1 + length place.1) inside.1 y) (sym own) inside.4.1) in
-        let found : Extent = record { at = place.0; end = place.0 + s.0 } in
-        let extent : IsExtent bytes found inside.1 = (block.0, block.1, block.2, at ∙ block.3, omega (arith, inside.4.0)) in
-        let made : HasExpression depth bytes found = (inside.1, extent, spelled) in
-        subst (λ (k : Extent). HasExpression depth bytes k) inside.5.1 made
+        let at : p + length s.1 + length sized.1 + length place.1 ≡ s.0 + length sized.1 = omega (arith, s.4.1, ap length s.4.0, ap length place.4.0) in
+        let found : HasExpression depth bytes s.0 = record {
+          before = from.0;
+          size = sized.1;
+          text = inside.1;
+          after = inside.2 ++ from.1;
+          parts = from.2 ∙ ap (λ (l : List ℕ). from.0 ++ (l ++ from.1)) (sized.3 ∙ ap (λ (l : List ℕ). sized.1 ++ l) rest)
+              ∙ ap (λ (l : List ℕ). from.0 ++ l) (append_assoc sized.1 (inside.1 ++ inside.2) from.1 ∙ ap (λ (l : List ℕ). sized.1 ++ l) (append_assoc inside.1 inside.2 from.1));
+          begins = omega (arith, from.3, s.4.1, ap length s.4.0);
+          sized = subst (λ (n : ℕ). uleb.Spells s.0 sized.1 n) (sym inside.4.0) sized.4;
+          spelled = subst (λ (q : ℕ). (expression depth).Spells q inside.1 inside.1) at
+              (subst (λ (y : List ℕ). (expression depth).Spells (p + length s.1 + length sized.1 + length place.1) inside.1 y) (sym own) inside.4.1);
+        } in
+        subst (λ (k : ℕ). HasExpression depth bytes k) inside.5.1 found
 
 -- where the column is one that is applied
-abbrev HasColumnBlock : ℕ → List ℕ → Extent → Type 0
+abbrev HasColumnBlock : ℕ → List ℕ → ℕ → Type 0
 HasColumnBlock r bytes e = nat_lt 16 r ≡ false → HasExpression 1 bytes e
 
 column_block_keeps : (r : ℕ) → Keeps (HasColumnBlock r) (column_block r)
@@ -218,14 +231,41 @@ program_has c s bytes e text steps is has =
     let spelled = subst (λ (l : List ℕ). AreSteps (step c) e.at s l steps has.0) (text_is bytes e text is) has.1 in
     steps_have c bytes e.at s text steps has.0 (is.0, is.1, is.2, is.3) spelled
 
--- the extent of an expression lies in the bytes, and what is between its places spells it
-pub expression_in : (depth : ℕ) (bytes : List ℕ) (e : Extent) → HasExpression depth bytes e → (expression depth).Spells e.at (text_in bytes e) (text_in bytes e)
-expression_in depth bytes e has =
-    subst (λ (l : List ℕ). (expression depth).Spells e.at l l) (sym (text_is bytes e has.0 has.1)) has.2
-
 -- those of an FDE, whose programs stand in the bytes
 pub initial_has : (f : FdeData) (steps : List Step) → HasPrograms f.section f.bytes f.entry → HasSteps (initial_of f.section f.entry (text_in f.bytes f.entry.cie.initial)) steps → HaveExpressions f.bytes steps
 initial_has f steps kept has = program_has (context_of f.section f.entry.cie Initial) (record initial_state { location = f.entry.first }) f.bytes f.entry.cie.initial kept.initial_text steps kept.initial_inside has
 
 pub own_has : (f : FdeData) (steps : List Step) → HasPrograms f.section f.bytes f.entry → HasSteps (program_of f.section f.entry (text_in f.bytes f.entry.program)) steps → HaveExpressions f.bytes steps
 own_has f steps kept has = program_has (context_of f.section f.entry.cie Own) (first_state f.entry.cie f.entry.first) f.bytes f.entry.program kept.text steps kept.inside has
+
+-- ---- the bytes of a block
+
+-- what reading a block's length leaves
+pub length_read : (depth : ℕ) (bytes : List ℕ) (place : ℕ) (has : HasExpression depth bytes place) → uleb_at (left place (drop place bytes)) ≡ Ok (length has.text, left (place + length has.size) (has.text ++ has.after))
+length_read depth bytes place has =
+    let rest : drop place bytes ≡ has.size ++ (has.text ++ has.after) = ap (drop place) has.parts ∙ drop_at has.before (has.size ++ (has.text ++ has.after)) place (sym has.begins) in
+    ap (λ (l : List ℕ). uleb_at (left place l)) rest ∙ uleb_exact.again place has.size (has.text ++ has.after) (length has.text) has.sized
+
+pub block_is : (depth : ℕ) (bytes : List ℕ) (place : ℕ) (has : HasExpression depth bytes place) → block_in bytes place ≡ has.text
+block_is depth bytes place has = ap counted (length_read depth bytes place has) ∙ take_at has.text has.after (length has.text) refl
+
+-- a cursor from the block's place on, whose length is read: what is left begins with the block
+pub record IsLent (n : ℕ) (rest text : List ℕ) : Type 0 where
+  pub all : n ≡ length (take n rest)
+  pub block : take n rest ≡ text
+
+pub is_lent : (depth : ℕ) (bytes : List ℕ) (place : ℕ) (has : HasExpression depth bytes place) (r m : CursorData) (n : ℕ) → r.bytes ≡ slice_range bytes place (length bytes) → r.at ≡ place → uleb_at r ≡ Ok (n, m) → IsLent n m.bytes has.text
+is_lent depth bytes place has r m n from at read =
+    let read_so : uleb_at r ≡ Ok (length has.text, left (place + length has.size) (has.text ++ has.after)) =
+    ap (λ (k : ℕ). uleb_at (left k r.bytes)) at ∙ ap (λ (l : List ℕ). uleb_at (left place l)) (from ∙ take_rest bytes place) ∙ length_read depth bytes place has in
+    let same : (n, m) ≡ (length has.text, left (place + length has.size) (has.text ++ has.after)) = ok_is {F = ByteFault} (n, m) (length has.text, left (place + length has.size) (has.text ++ has.after)) (sym read ∙ read_so) in
+    let size : n ≡ length has.text = ap (λ (z : ℕ × CursorData). z.0) same in
+    let rest : m.bytes ≡ has.text ++ has.after = ap (λ (z : ℕ × CursorData). z.1.bytes) same in
+    let block : take n m.bytes ≡ has.text = ap (take n) rest ∙ take_at has.text has.after n (sym size) in
+    record { all = size ∙ ap length (sym block); block = block }
+
+pub is_read : (depth : ℕ) (bytes : List ℕ) (place : ℕ) (has : HasExpression depth bytes place) (r : CursorData) (f : ByteFault) → r.bytes ≡ slice_range bytes place (length bytes) → r.at ≡ place → uleb_at r ≡ Err f → ⊥
+is_read depth bytes place has r f from at read =
+    let read_so : uleb_at r ≡ Ok (length has.text, left (place + length has.size) (has.text ++ has.after)) =
+    ap (λ (k : ℕ). uleb_at (left k r.bytes)) at ∙ ap (λ (l : List ℕ). uleb_at (left place l)) (from ∙ take_rest bytes place) ∙ length_read depth bytes place has in
+    let both = sym read_so ∙ read in cc

@@ -32,16 +32,18 @@ second_column_exact first =
 expression_block_exact : (depth : ℕ) → IsExact (expression_block depth)
 unfolding expression_block
 expression_block_exact depth =
+    then_exact _ _ here_exact (λ place.
     then_exact _ _ (field_exact _ uleb_exact) (λ n.
     then_exact _ _ here_exact (λ at.
-    then_exact _ _ (filled_exact (faults.Short at) n (lift expression_fault (expression depth)) (lift_whole expression_fault (expression depth) (expression_whole depth))) (λ _. give_exact _)))
+    then_exact _ _ (filled_exact (faults.Short at) n (lift expression_fault (expression depth)) (lift_whole expression_fault (expression depth) (expression_whole depth))) (λ _. give_exact _))))
 
 skipped_block_exact : IsExact skipped_block
 unfolding skipped_block
 skipped_block_exact =
+    then_exact _ _ here_exact (λ place.
     then_exact _ _ (field_exact _ uleb_exact) (λ n.
     then_exact _ _ here_exact (λ at.
-    then_exact _ _ (block_exact (faults.Short at) n (give (tt {0})) (give_exact (tt {0}))) (λ _. give_exact _)))
+    then_exact _ _ (block_exact (faults.Short at) n (give (tt {0})) (give_exact (tt {0}))) (λ _. give_exact _))))
 
 column_block_exact : (r : ℕ) → IsExact (column_block r)
 column_block_exact r = when_exact (nat_lt 16 r) skipped_block (expression_block 1) skipped_block_exact (expression_block_exact 1)

@@ -116,24 +116,26 @@ expression_fault (exprs.Operation at byte) = faults.Operation at byte
 expression_fault (exprs.Depth at) = faults.Depth at
 
 -- A block: its length, and that many bytes, which are wholly an expression. The expression's stack
--- holds so many numbers at the start. It stands for where it is.
-unfoldable pub expression_block : ℕ → Part RecordFault Extent
+-- holds so many numbers at the start. It stands for its place, that of its length.
+unfoldable pub expression_block : ℕ → Part RecordFault ℕ
 expression_block depth = do
+  place ← here
   n ← field uleb
   at ← here
   _ ← filled (faults.Short at) n (lift expression_fault (expression depth))
-  give (record { at = at; end = at + n })
+  give place
 
 -- a block whose bytes are skipped
-unfoldable pub skipped_block : Part RecordFault Extent
+unfoldable pub skipped_block : Part RecordFault ℕ
 skipped_block = do
+  place ← here
   n ← field uleb
   at ← here
   _ ← block (faults.Short at) n (give (tt {0}))
-  give (record { at = at; end = at + n })
+  give place
 
 -- The expression of a column starts with the CFA. Those for columns above 16 aren't read.
-abbrev pub column_block : ℕ → Part RecordFault Extent
+abbrev pub column_block : ℕ → Part RecordFault ℕ
 column_block r = when (nat_lt 16 r) skipped_block (expression_block 1)
 
 -- the instructions whose byte is an extended opcode, which is below 64

@@ -2,7 +2,7 @@
 
 ghost use Rattle.std.specs.Prelude.{◌≡◌, ◌≤◌, List};
 ghost use Rattle.frame_parse.specs.declared.instructions.Step.{Step};
-ghost use Rattle.frame_parse.specs.Blocks.{HasExpression, HaveExpressions};
+ghost use Rattle.frame_parse.specs.Blocks.{block_in, HasExpression, HaveExpressions};
 ghost use Rattle.frame_parse.specs.Entries.{with_cie};
 ghost use Rattle.frame_parse.specs.Programs.{HasPrograms, HasSteps, initial_of, program_of};
 ghost use Rattle.frame_parse.specs.Programs.{text_in};
@@ -10,7 +10,7 @@ ghost use Rattle.frame_parse.specs.Programs.{text_in};
 use crate::instructions::{Context, ProgramKind, first_state};
 use crate::program::Program;
 use crate::program_state::{Remembered, State};
-use crate::records::{CieRecord, Extent, FdeEntry};
+use crate::records::{CieRecord, FdeEntry};
 use eh_bytes::Cursor;
 use frame_expr::Expr;
 use std::marker::Model;
@@ -140,12 +140,16 @@ impl<'a> Fde<'a> {
         let _ = &self.bytes;
     }
 
-    /// The expression in a block of an instruction, lent from the section. It was read with the
-    /// section and isn't read again.
-    pub fn expr<const DEPTH: u32>(&self, block: Extent) -> Expr<'a, DEPTH>
+    /// The expression in the block of an instruction, lent from the section. It was read with the
+    /// section and isn't read again: only the block's length is.
+    pub fn expr<const DEPTH: u32>(&self, block: usize) -> Expr<'a, DEPTH>
         requires { HasExpression DEPTH self.now.bytes block }
-        ensures { result.bytes.now ≡ text_in self.now.bytes block }
+        ensures { result.bytes.now ≡ block_in self.now.bytes block }
     {
-        Expr::of_read(&self.bytes[block.at..block.end])
+        let mut cursor = Cursor::new(self.bytes, block, self.bytes.len());
+        match cursor.uleb() {
+            Ok(length) => Expr::of_read(&cursor.rest()[..length as usize]),
+            Err(_) => unreachable!(),
+        }
     }
 }

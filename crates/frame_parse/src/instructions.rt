@@ -7,11 +7,11 @@ mod effect;
 mod opcodes;
 mod steps;
 
-use crate::records::Extent;
 pub use context::{Context, ProgramKind};
 pub(crate) use steps::{first_state, initial_state, step, steps};
 
-/// A rule for a column, as an instruction sets it. Expressions stay in the section's bytes.
+/// A rule for a column, as an instruction sets it. An expression stays in the section: told is the
+/// place of its block, from which the FDE lends it.
 #[derive(Clone, Copy, Debug, PartialEq, Eq)]
 pub enum ReadRule {
     Undefined,
@@ -22,10 +22,10 @@ pub enum ReadRule {
     ValOffset { by: u64 },
     /// Saved in another column.
     Register { column: u8 },
-    /// Saved at the value of the expression in a block, which starts with the CFA.
-    Expression { block: Extent },
-    /// The value of the expression in a block, which starts with the CFA.
-    ValExpression { block: Extent },
+    /// Saved at the value of an expression, which starts with the CFA.
+    Expression { block: usize },
+    /// The value of an expression, which starts with the CFA.
+    ValExpression { block: usize },
 }
 
 /// An instruction. What isn't applied is a `Nop`.
@@ -42,8 +42,8 @@ pub enum Instruction {
     Cfa { column: u8, by: u64 },
     CfaColumn { column: u8 },
     CfaOffset { by: u64 },
-    /// The CFA is the value of the expression in a block.
-    CfaExpression { block: Extent },
+    /// The CFA is the value of an expression.
+    CfaExpression { block: usize },
 }
 
 /// An instruction with the location at which it holds.

@@ -281,14 +281,14 @@ fn expressions(rt: HostRuntime) {
     }
 }
 
-/// The steps of S2 and S3, which name the blocks of their expressions.
+/// The steps of S2 and S3, which name the places of their expressions.
 #[test]
 fn steps_with_expressions(rt: HostRuntime) -> Result<(), Fail> {
     let s2 = read(rt.alloc(), 0x3000, &S2)?;
     let fde = s2.fde_at(0x1000).ok_or("an FDE covers the address")?;
     assert_eq!(rt; fde.range(), 0x30);
     let program = steps_of(rt.alloc(), fde.program())?;
-    let block = Extent { at: 49, end: 60 };
+    let block = 48;
     let shown = [
         at(0x1000, Instruction::CfaOffset { by: 16 }),
         at(0x1006, Instruction::Advance),
@@ -305,16 +305,9 @@ fn steps_with_expressions(rt: HostRuntime) -> Result<(), Fail> {
     let fde = s3.fde_at(0x5000).ok_or("an FDE covers the address")?;
     assert_eq!(rt; fde.range(), 0x10);
     let program = steps_of(rt.alloc(), fde.program())?;
-    let rule = ReadRule::Expression {
-        block: Extent { at: 49, end: 51 },
-    };
+    let rule = ReadRule::Expression { block: 48 };
     let shown = [
-        at(
-            0x5000,
-            Instruction::CfaExpression {
-                block: Extent { at: 43, end: 46 },
-            },
-        ),
+        at(0x5000, Instruction::CfaExpression { block: 42 }),
         at(0x5000, Instruction::Set { column: 16, rule }),
         at(0x5000, Instruction::Nop),
     ];

@@ -6,20 +6,21 @@ ghost use Rattle.frame_rows.specs.Columns.{rule_of, with_column, with_offset};
 ghost use Rattle.frame_rows.specs.Rows.{applied, unset};
 
 use crate::base::Base;
-use frame_parse::{Extent, Instruction, ReadRule};
+use frame_parse::{Instruction, ReadRule};
 
-/// How the CFA is found. An expression stays in its block of the section, and the FDE lends it.
+/// How the CFA is found. An expression stays in the section: told is the place of its block, from
+/// which the FDE lends it (`Fde::expr`).
 #[derive(Clone, Copy, Debug, PartialEq, Eq)]
 pub enum CfaRule {
     /// No instruction has said it.
     Missing,
     /// A column's number plus an offset, modulo 2^64.
     Offset { column: u8, by: u64 },
-    /// The value of the expression in a block.
-    Expression { block: Extent },
+    /// The value of an expression.
+    Expression { block: usize },
 }
 
-/// How a column of the frame before is found.
+/// How a column of the frame before is found. Expressions stay in the section, as the CFA's.
 #[derive(Clone, Copy, Debug, PartialEq, Eq)]
 pub enum Rule {
     /// No instruction has said it.
@@ -32,10 +33,10 @@ pub enum Rule {
     ValOffset { by: u64 },
     /// Saved in another column.
     Register { column: u8 },
-    /// Saved at the value of the expression in a block, which starts with the CFA.
-    Expression { block: Extent },
-    /// The value of the expression in a block, which starts with the CFA.
-    ValExpression { block: Extent },
+    /// Saved at the value of an expression, which starts with the CFA.
+    Expression { block: usize },
+    /// The value of an expression, which starts with the CFA.
+    ValExpression { block: usize },
 }
 
 /// The rules that hold at an address. Columns 0 to 15 are the registers of x86-64 by their DWARF

@@ -3,7 +3,7 @@
 ghost use Rattle.std.specs.Prelude.{◌≤◌, length};
 
 use super::*;
-use frame_parse::{Extent, Section};
+use frame_parse::Section;
 use std::alloc::Global;
 use std::test::*;
 
@@ -174,9 +174,7 @@ fn rules_with_expressions(rt: HostRuntime) -> Result<(), Fail> {
         by: (-8i64).cast_unsigned(),
     };
     let s2 = read(rt.alloc(), 0x3000, &S2)?;
-    let cfa = CfaRule::Expression {
-        block: Extent { at: 49, end: 60 },
-    };
+    let cfa = CfaRule::Expression { block: 48 };
     let pushed = CfaRule::Offset { column: 7, by: 24 };
     assert_eq!(rt;
         row_in(&s2, 0x100f),
@@ -187,12 +185,8 @@ fn rules_with_expressions(rt: HostRuntime) -> Result<(), Fail> {
         Some(row_with(cfa, Rule::Unset, below))
     );
     let s3 = read(rt.alloc(), 0x6000, &S3)?;
-    let cfa = CfaRule::Expression {
-        block: Extent { at: 43, end: 46 },
-    };
-    let saved = Rule::Expression {
-        block: Extent { at: 49, end: 51 },
-    };
+    let cfa = CfaRule::Expression { block: 42 };
+    let saved = Rule::Expression { block: 48 };
     assert_eq!(rt;
         row_in(&s3, 0x5004),
         Some(row_with(cfa, Rule::Unset, saved))

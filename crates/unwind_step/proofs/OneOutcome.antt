@@ -16,7 +16,7 @@ use Rattle.frame_rows.specs.declared.row.Rule.TheVariants as rules
 use Rattle.unwind_step.specs.declared.next.Stepped.{Stepped}
 use Rattle.unwind_step.specs.declared.next.Stepped.TheVariants as stepped
 use Rattle.unwind_step.specs.Rules.{IsCfa, IsRestored, saved_by}
-use Rattle.frame_parse.specs.Programs.{text_in}
+use Rattle.frame_parse.specs.Blocks.{block_in}
 use Rattle.unwind_step.specs.NextFrame.{AreRestored, FailsFirst, IsFrame, IsStep, LacksBytes, Leads, rule_in}
 
 -- an expression has one value
@@ -35,7 +35,7 @@ value_one law depth text old memory start a b is also =
 cfa_one : ExprLaw → (bytes : List ℕ) (rule : CfaRule) (old : List ℕ) (memory : List RegionData) (a b : Result ℕ NoBytes) → IsCfa bytes rule old memory a → IsCfa bytes rule old memory b → a ≡ b
 cfa_one law bytes cfas.Missing old memory a b is also = absurd is
 cfa_one law bytes (cfas.Offset q n) old memory a b is also = is ∙ sym also
-cfa_one law bytes (cfas.Expression e) old memory a b is also = value_one law 0 (text_in bytes e) old memory None a b is also
+cfa_one law bytes (cfas.Expression e) old memory a b is also = value_one law 0 (block_in bytes e) old memory None a b is also
 
 restored_one : ExprLaw → (bytes : List ℕ) (r : ℕ) (rule : Rule) (cfa : ℕ) (old : List ℕ) (memory : List RegionData) (a b : Result ℕ NoBytes) → IsRestored bytes r rule cfa old memory a → IsRestored bytes r rule cfa old memory b → a ≡ b
 restored_one law bytes r rules.Unset cfa old memory a b is also = is ∙ sym also
@@ -45,9 +45,9 @@ restored_one law bytes r (rules.Offset n) cfa old memory a b is also = is ∙ sy
 restored_one law bytes r (rules.ValOffset n) cfa old memory a b is also = is ∙ sym also
 restored_one law bytes r (rules.Register q) cfa old memory a b is also = is ∙ sym also
 restored_one law bytes r (rules.Expression e) cfa old memory a b is also =
-    let same = value_one law 1 (text_in bytes e) old memory (Some cfa) is.address also.address is.is_value also.is_value in
+    let same = value_one law 1 (block_in bytes e) old memory (Some cfa) is.address also.address is.is_value also.is_value in
     is.is_number ∙ ap (λ (m : Result ℕ NoBytes). saved_by m memory) same ∙ sym also.is_number
-restored_one law bytes r (rules.ValExpression e) cfa old memory a b is also = value_one law 1 (text_in bytes e) old memory (Some cfa) a b is also
+restored_one law bytes r (rules.ValExpression e) cfa old memory a b is also = value_one law 1 (block_in bytes e) old memory (Some cfa) a b is also
 
 -- the CFA fails, or the first column that does
 abbrev Fails : List ℕ → Row → List ℕ → List RegionData → NoBytes → Type 0

@@ -5,8 +5,7 @@ use Rattle.std.specs.Prelude.{slice_index, ◌==◌, if◌then◌else◌}
 use Rattle.frame_expr.specs.declared.fault.NoBytes.{NoBytes}
 use Rattle.frame_expr.specs.Regions.{RegionData, word_at}
 use Rattle.frame_expr.specs.Values.{IsValue}
-use Rattle.frame_parse.specs.declared.records.Extent.{Extent}
-use Rattle.frame_parse.specs.Programs.{text_in}
+use Rattle.frame_parse.specs.Blocks.{block_in}
 use Rattle.frame_rows.specs.declared.row.CfaRule.{CfaRule}
 use Rattle.frame_rows.specs.declared.row.CfaRule.TheVariants as cfas
 use Rattle.frame_rows.specs.declared.row.Rule.{Rule}
@@ -21,11 +20,11 @@ number_read address None = Err (record { address = address })
 abbrev pub saved_at : ℕ → List RegionData → Result ℕ NoBytes
 saved_at address memory = number_read address (word_at address memory)
 
--- the CFA that a rule gives; an expression stands in the bytes of the section
+-- the CFA that a rule gives; an expression stands in a block of the section's bytes
 abbrev pub IsCfa : List ℕ → CfaRule → List ℕ → List RegionData → Result ℕ NoBytes → Type 0
 IsCfa bytes cfas.Missing old memory cfa = ⊥
 IsCfa bytes (cfas.Offset q n) old memory cfa = cfa ≡ Ok ((slice_index old q + n) % 2 ^ 64)
-IsCfa bytes (cfas.Expression e) old memory cfa = IsValue 0 (text_in bytes e) old memory None cfa
+IsCfa bytes (cfas.Expression e) old memory cfa = IsValue 0 (block_in bytes e) old memory None cfa
 
 -- the eight bytes at an address that was worked out
 abbrev pub saved_by : Result ℕ NoBytes → List RegionData → Result ℕ NoBytes
@@ -33,10 +32,10 @@ saved_by (Ok address) memory = saved_at address memory
 saved_by (Err fault) memory = Err fault
 
 -- the eight bytes at the value of an expression that starts with the CFA
-pub record IsSavedThere (bytes : List ℕ) (e : Extent) (cfa : ℕ) (old : List ℕ)
+pub record IsSavedThere (bytes : List ℕ) (e : ℕ) (cfa : ℕ) (old : List ℕ)
     (memory : List RegionData) (number : Result ℕ NoBytes) : Type 0 where
   pub address : Result ℕ NoBytes
-  pub is_value : IsValue 1 (text_in bytes e) old memory (Some cfa) address
+  pub is_value : IsValue 1 (block_in bytes e) old memory (Some cfa) address
   pub is_number : number ≡ saved_by address memory
 
 -- The number that a column is restored to by its rule. Where no rule is set, it keeps its own; but
@@ -54,4 +53,4 @@ IsRestored bytes r (rules.Register q) cfa old memory number = number ≡ Ok (sli
 IsRestored bytes r (rules.Expression e) cfa old memory number =
     IsSavedThere bytes e cfa old memory number
 IsRestored bytes r (rules.ValExpression e) cfa old memory number =
-    IsValue 1 (text_in bytes e) old memory (Some cfa) number
+    IsValue 1 (block_in bytes e) old memory (Some cfa) number

@@ -2,8 +2,7 @@
 
 ghost use Rattle.std.specs.Prelude.{◌≡◌, ◌≢◌, ◌⊎◌, Some, Ok, Err, IfOk, IfErr, slice_index};
 ghost use Rattle.frame_expr.specs.Values.{IsValue};
-ghost use Rattle.frame_parse.specs.Blocks.{HasExpression};
-ghost use Rattle.frame_parse.specs.Programs.{text_in};
+ghost use Rattle.frame_parse.specs.Blocks.{block_in, HasExpression};
 ghost use Rattle.frame_rows.specs.Expressions.{HasCfaExpression, HasColumnExpression};
 ghost use Rattle.frame_rows.specs.Expressions.{HasExpressions};
 ghost use Rattle.unwind_step.specs.Rules.{saved_at, IsCfa, IsRestored, IsSavedThere};
@@ -12,7 +11,7 @@ ghost use Rattle.unwind_step.specs.NextFrame.{Leads, AreRestored, FailsFirst, Is
 ghost use Rattle.unwind_step.specs.NextFrame.{IsStep, IsNextFrame};
 
 use frame_expr::{CfaExpr, ColumnExpr, Memory, NoBytes, Regs, one_answer, value};
-use frame_parse::{Extent, Fde};
+use frame_parse::Fde;
 use frame_rows::{CfaRule, Row, Rule, row_at};
 
 /// What comes of a frame.
@@ -76,9 +75,9 @@ fn cfa_of(rule: &CfaRule, callee: &Callee<'_, '_>) -> Result<u64, NoBytes>
 }
 
 /// The value of a column's expression, which starts with the CFA.
-fn value_in(block: Extent, cfa: u64, callee: &Callee<'_, '_>) -> Result<u64, NoBytes>
+fn value_in(block: usize, cfa: u64, callee: &Callee<'_, '_>) -> Result<u64, NoBytes>
     requires { HasExpression 1 callee.now.fde.now.bytes block }
-    ensures { IsValue 1 (text_in callee.now.fde.now.bytes block) callee.now.regs.now.columns
+    ensures { IsValue 1 (block_in callee.now.fde.now.bytes block) callee.now.regs.now.columns
         callee.now.memory.now (Some cfa) result }
 {
     let expr: ColumnExpr<'_> = callee.fde.expr(block);
@@ -86,7 +85,7 @@ fn value_in(block: Extent, cfa: u64, callee: &Callee<'_, '_>) -> Result<u64, NoB
 }
 
 /// The eight bytes at the value of a column's expression.
-fn saved_there(block: Extent, cfa: u64, callee: &Callee<'_, '_>) -> Result<u64, NoBytes>
+fn saved_there(block: usize, cfa: u64, callee: &Callee<'_, '_>) -> Result<u64, NoBytes>
     requires { HasExpression 1 callee.now.fde.now.bytes block }
     ensures { IsSavedThere callee.now.fde.now.bytes block cfa callee.now.regs.now.columns
         callee.now.memory.now result }

@@ -8,7 +8,6 @@ ghost use Rattle.frame_parse.specs.Programs.{expression_fault, expression_block,
 ghost use Rattle.frame_parse.specs.Programs.{column_block};
 
 use crate::fault::RecordFault;
-use crate::records::Extent;
 use crate::records::fields::{data, uleb};
 use eh_bytes::Cursor;
 use frame_expr::{Expr, ExprFault};
@@ -28,41 +27,37 @@ fn expression<'a, const DEPTH: u32>(cursor: &mut Cursor<'a>) -> Result<Expr<'a, 
     }
 }
 
-/// A block that is an expression.
+/// A block that is an expression. Given is its place, that of its length.
 #[inline(never)]
 #[tactic(auto, unfolding(crate::specs::Programs::expression_block))]
-pub(super) fn expression_block<const DEPTH: u32>(cursor: &mut Cursor) -> Result<Extent, RecordFault>
+pub(super) fn expression_block<const DEPTH: u32>(cursor: &mut Cursor) -> Result<usize, RecordFault>
     requires { DEPTH ≤ 1 }
-    ensures { Gives (λ e. e) (expression_block DEPTH).read cursor.old result cursor.new }
+    ensures { Gives (λ p. p) (expression_block DEPTH).read cursor.old result cursor.new }
 {
+    let place = cursor.at();
     let length = uleb(cursor)?;
     let at = cursor.at();
     let mut block = data(RecordFault::Short { at }, cursor, length)?;
     expression::<DEPTH>(&mut block)?;
-    Ok(Extent {
-        at,
-        end: cursor.at(),
-    })
+    Ok(place)
 }
 
-/// A block that isn't read.
+/// The same of a block that isn't read.
 #[inline(never)]
 #[tactic(auto, unfolding(crate::specs::Programs::skipped_block))]
-fn skipped_block(cursor: &mut Cursor) -> Result<Extent, RecordFault>
-    ensures { Gives (λ e. e) skipped_block.read cursor.old result cursor.new }
+fn skipped_block(cursor: &mut Cursor) -> Result<usize, RecordFault>
+    ensures { Gives (λ p. p) skipped_block.read cursor.old result cursor.new }
 {
+    let place = cursor.at();
     let length = uleb(cursor)?;
     let at = cursor.at();
     data(RecordFault::Short { at }, cursor, length)?;
-    Ok(Extent {
-        at,
-        end: cursor.at(),
-    })
+    Ok(place)
 }
 
 /// The block of a column's rule, which is read up to column 16.
-pub(super) fn column_block(cursor: &mut Cursor, column: u64) -> Result<Extent, RecordFault>
-    ensures { Gives (λ e. e) (column_block column).read cursor.old result cursor.new }
+pub(super) fn column_block(cursor: &mut Cursor, column: u64) -> Result<usize, RecordFault>
+    ensures { Gives (λ p. p) (column_block column).read cursor.old result cursor.new }
 {
     if column > 16 {
         skipped_block(cursor)

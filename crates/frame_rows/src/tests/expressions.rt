@@ -1,7 +1,6 @@
 //! Sections with expressions, and their rows, which `readelf` doesn't show whole: worked out by hand.
 
 use crate::{CfaRule, Rule};
-use frame_parse::Extent;
 
 /// A linkage table. At 0x3000.
 pub(crate) const S2: [u8; 68] = [
@@ -35,38 +34,22 @@ pub(crate) const RESTORED_ROWS: [(u64, CfaRule, Rule); 5] = [
     (
         0x1000,
         CfaRule::Offset { column: 7, by: 8 },
-        Rule::ValExpression {
-            block: Extent { at: 50, end: 52 },
-        },
+        Rule::ValExpression { block: 49 },
     ),
-    (
-        0x1001,
-        CfaRule::Expression {
-            block: Extent { at: 58, end: 60 },
-        },
-        Rule::Same,
-    ),
+    (0x1001, CfaRule::Expression { block: 57 }, Rule::Same),
     (
         0x1002,
-        CfaRule::Expression {
-            block: Extent { at: 58, end: 60 },
-        },
-        Rule::Expression {
-            block: Extent { at: 21, end: 23 },
-        },
+        CfaRule::Expression { block: 57 },
+        Rule::Expression { block: 20 },
     ),
     (
         0x1003,
         CfaRule::Offset { column: 7, by: 8 },
-        Rule::ValExpression {
-            block: Extent { at: 50, end: 52 },
-        },
+        Rule::ValExpression { block: 49 },
     ),
     (
         0x1004,
         CfaRule::Offset { column: 7, by: 16 },
-        Rule::Expression {
-            block: Extent { at: 21, end: 23 },
-        },
+        Rule::Expression { block: 20 },
     ),
 ];
