@@ -48,25 +48,23 @@ pub struct Row {
 }
 
 impl CfaRule {
-    /// Another column, and the same offset.
-    fn with_column(self, column: u8) -> CfaRule
-        ensures { result ≡ with_column column self }
+    /// Another column, and the same offset. A rule of another kind stays.
+    fn set_column(&mut self, new: u8)
+        ensures { self.new ≡ with_column new self.old }
     {
         match self {
-            CfaRule::Missing => CfaRule::Missing,
-            CfaRule::Offset { by, .. } => CfaRule::Offset { column, by },
-            CfaRule::Expression { block } => CfaRule::Expression { block },
+            CfaRule::Offset { column, .. } => *column = new,
+            CfaRule::Missing | CfaRule::Expression { .. } => {}
         }
     }
 
-    /// The same column, and another offset.
-    fn with_offset(self, by: u64) -> CfaRule
-        ensures { result ≡ with_offset by self }
+    /// The same column, and another offset. A rule of another kind stays.
+    fn set_offset(&mut self, new: u64)
+        ensures { self.new ≡ with_offset new self.old }
     {
         match self {
-            CfaRule::Missing => CfaRule::Missing,
-            CfaRule::Offset { column, .. } => CfaRule::Offset { column, by },
-            CfaRule::Expression { block } => CfaRule::Expression { block },
+            CfaRule::Offset { by, .. } => *by = new,
+            CfaRule::Missing | CfaRule::Expression { .. } => {}
         }
     }
 }
@@ -130,8 +128,8 @@ pub(crate) fn apply<B: Base>(row: &mut Row, base: &mut B, instruction: Instructi
         Instruction::Set { column, rule } => row.set(column, rule_of(rule)),
         Instruction::Restore { column } => row.set(column, base.rule(column)),
         Instruction::Cfa { column, by } => row.cfa = CfaRule::Offset { column, by },
-        Instruction::CfaColumn { column } => row.cfa = row.cfa.with_column(column),
-        Instruction::CfaOffset { by } => row.cfa = row.cfa.with_offset(by),
+        Instruction::CfaColumn { column } => row.cfa.set_column(column),
+        Instruction::CfaOffset { by } => row.cfa.set_offset(by),
         Instruction::CfaExpression { block } => row.cfa = CfaRule::Expression { block },
         Instruction::Nop
         | Instruction::Advance
