@@ -1,9 +1,9 @@
 -- Loads, refused exchanges and marks one after another.
-use Rattle.std.proofs.Common.{◌≡◌, ℕ, ◌+◌, List, [], ◌∷◌, ◌++◌, Some, Ok, Err, Result, IfOk, IfErr, ◌≢◌, false, sym, refl, ap, ◌∙◌, append-nil, append_assoc, add_assoc, add-zero, arith}
+use Rattle.std.proofs.Common.{◌≡◌, ℕ, ◌+◌, List, [], ◌∷◌, ◌++◌, Some, Ok, Err, Result, IfOk, IfErr, ◌≢◌, sym, refl, ap, subst, ◌∙◌, append-nil, append_assoc, add_assoc, add-zero, arith}
 use Rattle.std.specs.List.{AllByRecursion}
 use Rattle.word_rule.specs.CallerData.{CallerData}
 use Rattle.word_rule.specs.Places.{LOADER}
-use Rattle.word_rule.specs.Logs.{load_of, after_load, after_loader_lock, after_write}
+use Rattle.word_rule.specs.Logs.{IsTaken, load_of, after_load, after_loader_lock, after_write}
 use Rattle.word_rule.specs.declared.log.LoadEvent.{LoadEvent}
 use Rattle.word_rule.specs.declared.log.LoaderHolding.{LoaderHolding}
 use Rattle.word_rule.specs.declared.log.Log.{Log}
@@ -38,17 +38,18 @@ tries_table a b p = ap (λ k. k.table) p.2.1
 pub tries_free : (a b : CallerData) → Tries a b → b.log.loader ≡ a.log.loader
 tries_free a b p = ap (λ k. k.log.loader) p.2.1
 
-pub takes : (a b c : CallerData) (h : LoaderHolding) → Tries a b → c ≡ record b { log = after_loader_lock h b.log } → Locks a c
-takes a b c h p e =
+pub takes : (a b c : CallerData) (h : LoaderHolding) (version : ℕ) → Tries a b → IsTaken b.log.terms version h → c ≡ record b { log = after_loader_lock h b.log } → Locks a c
+takes a b c h version p taken e =
     let step : CallerData → CallerData = λ k. record k { log = after_loader_lock h k.log } in
-    (p.0, p.1, h, (p.2.0, e ∙ ap step p.2.1))
+    let mine : IsTaken a.log.terms version h = subst (λ (k : CallerData). IsTaken k.log.terms version h) p.2.1 taken in
+    (p.0, p.1, h, (p.2.0, record { taken = refl; active = mine.active; spare = mine.spare; clean = mine.clean }, e ∙ ap step p.2.1))
 
 pub takes_then : (a b c : CallerData) → Locks a b → Tries b c → Locks a c
 takes_then a b c p q =
     let both : tried_by (record a { log = after_loader_lock p.2 (tried p.0 p.1 a.log) }) q.0 q.1 ≡ record a { log = after_loader_lock p.2 (tried (p.0 ++ q.0) (p.1 + q.1) a.log) } =
     (let w : a.log.trace.writes + p.1 + 1 + q.1 ≡ a.log.trace.writes + (p.1 + q.1) + 1 = omega arith in
     (λ i. record a { log = record (counted (append_assoc a.log.trace.loads p.0 q.0 i) (w i) a.log) { loader = Some p.2 } })) in
-    (p.0 ++ q.0, p.1 + q.1, p.2, (all_append p.0 q.0 p.3.0 q.2.0, q.2.1 ∙ (ap (λ k. tried_by k q.0 q.1) p.3.1 ∙ both)))
+    (p.0 ++ q.0, p.1 + q.1, p.2, (all_append p.0 q.0 p.3.0 q.2.0, p.3.1, q.2.1 ∙ (ap (λ k. tried_by k q.0 q.1) p.3.2 ∙ both)))
 
 tries_mark : (a b : CallerData) → b ≡ record a { log = after_write a.log } → Tries a b
 tries_mark a b e = ([], 1, (tt, e ∙ (λ i. record a { log = counted (sym (append-nil a.log.trace.loads) i) (a.log.trace.writes + 1) a.log })))

@@ -1,9 +1,9 @@
 -- What taking a lock makes of a caller.
-use Rattle.std.specs.Prelude.{◌≡◌, ℕ, ◌+◌, List, ◌++◌, Some, false}
+use Rattle.std.specs.Prelude.{◌≡◌, ℕ, ◌+◌, List, ◌++◌}
 use Rattle.std.specs.List.{AllByRecursion}
 use Rattle.word_rule.specs.CallerData.{CallerData}
 use Rattle.word_rule.specs.Places.{LOADER}
-use Rattle.word_rule.specs.Logs.{after_loader_lock}
+use Rattle.word_rule.specs.Logs.{IsTaken, after_loader_lock}
 use Rattle.word_rule.specs.declared.log.LoaderHolding.{LoaderHolding}
 use Rattle.word_rule.specs.declared.log.Log.{Log}
 use Rattle.word_rule.specs.declared.log.LoadEvent.{LoadEvent}
@@ -26,7 +26,7 @@ Tries k k' = (more : List LoadEvent) × (marks : ℕ) ×
 -- The loader's lock was taken; all else was such loads and marks.
 abbrev pub Locks : CallerData → CallerData → Type 0
 Locks k k' = (more : List LoadEvent) × (marks : ℕ) × (h : LoaderHolding) ×
-    (AllByRecursion IsOfLoader more
+    (AllByRecursion IsOfLoader more × IsTaken k.log.terms h.version h
     × (k' ≡ record k { log = after_loader_lock h (tried more marks k.log) }))
 
 -- A caller took turns at a lock: it holds what it held before, and its names and its calls are as

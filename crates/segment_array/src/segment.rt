@@ -65,6 +65,15 @@ impl Segment {
         Segment { count, members }
     }
 
+    /// A segment of these members.
+    pub fn from_slice(members: &[Member]) -> Segment
+        requires room { length members.now ≤ 16 }
+        requires ascending { AscendFrom 0 members.now }
+        ensures { result ≡ members.now }
+    {
+        Segment::of(members, &[], &[])
+    }
+
     /// Its members in ascending order.
     pub fn members(&self) -> &[Member]
         ensures value { result.now ≡ self.now }

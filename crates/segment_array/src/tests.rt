@@ -8,7 +8,7 @@ fn one_member_in_an_empty_segment(rt: HostRuntime) -> Result<(), Fail> {
         panic!(rt; "a span")
     };
     let member = Member { span, payload: 7 };
-    let empty = Segment::of(&[], &[], &[]);
+    let empty = Segment::from_slice(&[]);
     assert!(rt; segment_below(&empty, 0x1000) && segment_hit(&empty, 0x1000).is_none());
     let (segment, handed) = put_into(&empty, &member);
     assert!(rt; handed.is_none() && segment.members().len() == 1);

@@ -1,5 +1,5 @@
 -- Steps on the loader's lock keep the rule.
-use Rattle.std.proofs.Common.{◌≡◌, ◌≢◌, ℕ, ◌+◌, ◌-◌, ◌/◌, ◌%◌, ◌^◌, ◌<◌, ◌≤◌, List, [], ◌∷◌, length, get_or, set, sym, refl, ap, ◌∙◌, subst, inl, inr, ⊎_elim, arith, ◌==◌, MatchBool, IfSome, IsSome, IsSomeAnd, bit_or, Option, Some, None, false, length-set}
+use Rattle.std.proofs.Common.{◌≡◌, ◌≢◌, ℕ, zero, suc, ◌+◌, ◌-◌, ◌/◌, ◌%◌, ◌^◌, ◌<◌, ◌≤◌, List, [], ◌∷◌, length, get_or, set, sym, refl, ap, ◌∙◌, subst, inl, inr, ⊎_elim, arith, ◌==◌, MatchBool, IfSome, IsSome, IsSomeAnd, bit_or, Option, Some, None, Bool, false, eq-eqb, ne_eqb, length-set}
 use Rattle.std.specs.List.{AllByRecursion}
 use Rattle.std.proofs.lemmas.Option.{none-some, same_Some}
 use Rattle.std.proofs.lemmas.Nat.{or_disjoint}
@@ -21,7 +21,7 @@ use Rattle.word_rule.specs.Logs.{is_spent, weight, turns, load_of, IsTaken, afte
 use Rattle.word_rule.specs.Callers.{total, AtLoader, LoaderLock, IsLockedAt}
 use Rattle.word_rule.specs.Observations.{ObservationsHold, WasFull}
 use Rattle.word_rule.specs.TableInvariant.{TableInvariant, IsStill}
-use Rattle.word_rule.specs.Plays.{Seated, looks, locks, marks, releases, releases_same}
+use Rattle.word_rule.specs.Plays.{Seated, looks, locks, grabs, marks, releases, releases_same}
 use Rattle.word_rule.proofs.Facts.{after_step, within}
 use Rattle.word_rule.proofs.Each.{all_map, some_of}
 use Rattle.word_rule.proofs.Memories.{set_loader, set_same, copy_length, by_same}
@@ -212,6 +212,28 @@ module _ (t : Terms) (slots id : ℕ) (me : Seated) (caller : me.0.role ≡ role
       let low = and_mask seen 2 in
       let set_bits : marked seen ≡ bit_or seen 3 = omega (arith, sum, low) in
       subst (λ x. Allows Holds slots id me 2 (λ n. either (n == seen) x n) (marks (step slots 2 seen x none) me)) set_bits (marks_loader seen odd)
+
+  -- bit 0 is set in one step, whatever the word was
+  abbrev Grabbed : Sit → ℕ → Bool → Type 0
+  Grabbed s x b = (w : Log) × (a : Act (Unit {0})) × Valid s.homes me.1 a × Holds (stepped s 2 x id me.1 w a) × MatchBool b
+      ((get_or s.words 2 0 % 4 ≡ 0) × (get_or s.words 2 0 < 2 ^ 63) × ((h : LoaderHolding) × (IsTaken me.0.terms (get_or s.words 2 0) h × (◌≡◌ {A = Seated} (w, carried_after me.1 a) (after_loader_lock h me.0, me.1)))))
+      (◌≡◌ {A = Seated} (w, carried_after me.1 a) (after_load 2 (get_or s.words 2 0) me.0, me.1))
+
+  grabs_word : (s : Sit) (r : Holds s) → length s.homes ≡ slots → (at : mine_at s) → get_or s.words 2 0 < 18446744073709551616 → (m : ℕ) → get_or s.words 2 0 % 2 ≡ m → Grabbed s (bit_or (get_or s.words 2 0) 1) (get_or s.words 2 0 % 2 == 0)
+  grabs_word s r deep at small zero even =
+      let n : ℕ = get_or s.words 2 0 in
+      let hit : Grabbed s (either (n == n) (bit_or n 1) n) (n == n) = locks_by_bit n even s r deep at small in
+      subst (Grabbed s (bit_or n 1)) (sym (eq-eqb (n % 2) 0 even)) (subst (λ b. Grabbed s (either b (bit_or n 1) n) b) (eq-eqb n n refl) hit)
+  grabs_word s r deep at small (suc m) odd =
+      let n : ℕ = get_or s.words 2 0 in
+      let sum = or_add_and n 1 in
+      let low = and_mask n 1 in
+      let same : bit_or n 1 ≡ n = omega (arith, sum, low, odd) in
+      let miss : Grabbed s n false = (after_load 2 n me.0, keeps, tt, loaded s r at, refl) in
+      subst (Grabbed s (bit_or n 1)) (sym (ne_eqb (n % 2) 0 (λ e. omega (arith, e, odd)))) (subst (λ x. Grabbed s x false) (sym same) miss)
+
+  pub grabs_loader : Allows Holds slots id me 2 (λ n. bit_or n 1) (grabs (step slots 2 1 0 none) me)
+  grabs_loader s r deep at small = grabs_word s r deep at small (get_or s.words 2 0 % 2) refl
 
   -- and the version is the one that the caller keeps
   pub releases_kept : (version : ℕ) → IsSome me.0.loader → IfSome me.0.loader (λ h. (h.version ≡ version) × (h.version < 2 ^ 63)) → 0 < me.0.budget.credit

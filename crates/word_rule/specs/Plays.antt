@@ -36,6 +36,14 @@ locks st me found me' = MatchBool (found == st.first)
     × (IsTaken me.0.terms st.first h × (me' ≡ (after_loader_lock h me.0, me.1)))))
     (me' ≡ (after_load st.word found me.0, me.1))
 
+-- bit 0 of the loader's lock was set: the lock is taken at the version found, or was taken before
+abbrev pub grabs : Stepped → Seated → ℕ → Seated → Type 0
+grabs st me found me' = MatchBool (found % 2 == 0)
+    ((found % 4 ≡ 0) × (found < 2 ^ 63)
+    × ((h : LoaderHolding)
+    × (IsTaken me.0.terms found h × (me' ≡ (after_loader_lock h me.0, me.1)))))
+    (me' ≡ (after_load st.word found me.0, me.1))
+
 -- an exchange at the loader's lock for one with bit 1
 abbrev pub marks : Stepped → Seated → ℕ → Seated → Type 0
 marks st me found me' =

@@ -44,6 +44,14 @@ impl Play<(), Log> for Locks {
     ghost then = { locks };
 }
 
+pub(crate) struct Grabs;
+
+impl Play<(), Log> for Grabs {
+    ghost use Rattle.word_rule.specs.Plays.{grabs};
+
+    ghost then = { grabs };
+}
+
 pub(crate) struct Marks;
 
 impl Play<(), Log> for Marks {

@@ -83,6 +83,11 @@ fn each_step_on_the_loaders_lock(rt: HostRuntime) -> Result<(), Fail> {
         panic!(rt; "nobody else is here")
     };
     assert!(rt; words.release_same(&mut a, lock) == 7);
+    let Ok(version) = words.take(&mut a, lock) else {
+        panic!(rt; "the lock is free")
+    };
+    assert!(rt; version == 4 && words.load_version(&mut a, lock, Ask::Nothing) == 5);
+    assert!(rt; words.release_same(&mut a, lock) == 5);
     assert!(rt; words.load_version(&mut a, lock, Ask::Nothing) == 4);
     Ok(())
 }

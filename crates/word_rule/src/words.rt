@@ -10,7 +10,7 @@ ghost use Rattle.word_rule.specs.Callers.{IsLockedAt};
 
 use crate::caller::Caller;
 use crate::log::{Ask, LockId, Log};
-use crate::rule::{Law, Locks, Looks, Made, Marks, Releases, ReleasesSame};
+use crate::rule::{Grabs, Law, Locks, Looks, Made, Marks, Releases, ReleasesSame};
 use atomic_table::Table;
 use reg_model::Member;
 use std::alloc::Global;
@@ -112,6 +112,31 @@ impl Words {
         }
         me.versions[0] = seen;
         Ok(())
+    }
+
+    /// Takes a lock in one step, at the version that it answers. Where it is taken already, answers
+    /// the word found, which stays as it was.
+    pub fn take(&self, me: &mut Caller, lock: LockId) -> Result<u64, u64>
+        requires table { me.old.table ≡ self.now.table }
+        requires lock { lock ≡ LockId.Loader }
+        ensures ok { IfOk result
+            (λ version. (h : LoaderHolding)
+            × (IsTaken me.old.log.terms version h
+            × (me.new ≡ record me.old { log = after_loader_lock h me.old.log }))) }
+        ensures err { IfErr result
+            (λ found. (found % 2 ≡ 1)
+            × (me.new ≡ record me.old { log = after_load LOADER found me.old.log })) }
+    {
+        let _ = lock;
+        let found = self
+            .table
+            .shared
+            .fetch_or::<Grabs>(&mut me.seat, LOADER_WORD, LOCKED);
+        if found % 2 != 0 {
+            return Err(found);
+        }
+        me.versions[0] = found;
+        Ok(found)
     }
 
     /// Says that threads sleep on a lock, where its word is still the one seen, which was locked.

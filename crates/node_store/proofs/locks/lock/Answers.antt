@@ -8,7 +8,7 @@ use Rattle.node_store.proofs.locks.lock.Goals.{then-slept, else-slept}
 pub returns-in-Ok : goal.returns-in-Ok
 returns-in-Ok g c =
     let old : CallerData = c.args.me.now in
-    let took : Locks old c.try_lock.new.me = takes old c.loop.me c.try_lock.new.me c.in-Ok.ensures.ok.0 c.loop.invariant.tries c.in-Ok.ensures.ok.1.1 in
+    let took : Locks old c.try_lock.new.me = takes old c.loop.me c.try_lock.new.me c.in-Ok.ensures.ok.0 c.loop.seen c.loop.invariant.tries c.in-Ok.ensures.ok.1.0 c.in-Ok.ensures.ok.1.1 in
     let P : CallerData → Type 0 = λ k. Locks old k in
     elim c.if-slept.branch [ then-slept w ↦ subst P (sym w.me-is) (takes_then old c.try_lock.new.me w.mark_again.new.me took w.mark_again.ensures) | else-slept w ↦ subst P (sym w.me-is) took ]
 
