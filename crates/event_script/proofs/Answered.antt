@@ -1,5 +1,5 @@
 -- Answers of rounds and threads that are held in types of their own.
-use Rattle.std.proofs.Common.{ℕ, List, [], ◌∷◌, map, arith}
+use Rattle.std.proofs.Common.{List, [], ◌∷◌, map, arith}
 use Rattle.std.specs.List.{All}
 use Rattle.std.proofs.lemmas.List.Elements.{All-cons, All-head, All-tail, All-weaker}
 use Rattle.event_script.specs.Text.{IsPrintable}

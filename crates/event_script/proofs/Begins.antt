@@ -1,16 +1,15 @@
 -- Scripts and the lines before a bad one: some script begins with these, and none with the bad one too.
-use Rattle.std.proofs.Common.{◌≡◌, ◌≢◌, ◌⊎◌, inl, inr, ℕ, suc, ◌+◌, ◌-◌, ◌<◌, ◌≤◌, zero, Bool, true, false, true≢false, cond, eqb, List, [], ◌∷◌, ◌++◌, length, map, take, Result, Ok, Err, refl, sym, ap, ap₂, subst, ◌∙◌, append_assoc, append-nil, length-append, arith}
-use Rattle.std.specs.List.{flat_map, AllByRecursion}
+use Rattle.std.proofs.Common.{◌≡◌, ◌≢◌, inr, ℕ, suc, ◌+◌, ◌-◌, ◌≤◌, zero, Bool, true, false, cond, eqb, List, [], ◌∷◌, ◌++◌, length, take, Result, Ok, Err, refl, sym, ap, subst, ◌∙◌, append_assoc, append-nil, length-append, arith}
+use Rattle.std.specs.List.{All, AllByRecursion}
 use Rattle.std.proofs.lemmas.Bool.{eqb-false}
 use Rattle.std.proofs.lemmas.Grind.{flat_map-append}
-use Rattle.reg_model.specs.SpanData.{SpanData}
-use Rattle.event_script.specs.ScriptData.{ScriptData, AreFixed, IsThread, IsRunnable, IsBuilt}
+use Rattle.event_script.specs.ScriptData.{ScriptData, SnapshotData, IsSnapshot, IsRunnable, IsBuilt}
 use Rattle.event_script.specs.Fields.{with_first, pieces}
-use Rattle.event_script.specs.Spelling.{statement_text, statements_text, first_statements, body_statements, script_text, IsScript}
-use Rattle.event_script.specs.Draft.{DraftData, nothing_known, is_ended, with_statement}
-use Rattle.event_script.specs.Reasons.{LineText, number_in_table, SpeaksAgainst, IsReason, IsGood}
+use Rattle.event_script.specs.Spelling.{statement_text, statements_text, body_statements, script_text}
+use Rattle.event_script.specs.Draft.{DraftData, nothing_known, with_statement}
+use Rattle.event_script.specs.Reasons.{IsReason, IsGood}
 use Rattle.event_script.specs.Refusal.{whole_line, text_before, MakeKnown, IsFirstBad, lines_text, BeginsScript}
-use Rattle.event_script.specs.Reading.{◌>=>◌, after_line, BadLine, at_line, after_lines, outcome}
+use Rattle.event_script.specs.Reading.{◌>=>◌, after_line, BadLine, at_line, after_lines}
 use Rattle.event_script.specs.declared.script.Event.{Event}
 use Rattle.event_script.specs.declared.reader.fault.Reason.{Reason}
 use Rattle.event_script.specs.declared.reader.fault.Reason.TheVariants as reason
@@ -20,8 +19,8 @@ use Rattle.event_script.specs.declared.reader.statement.Statement.{Statement}
 use Rattle.event_script.specs.declared.reader.statement.Statement.TheVariants as statement
 use Rattle.event_script.proofs.Pieces.{some_pieces}
 use Rattle.event_script.proofs.Joined.{Without, pieces_first}
-use Rattle.event_script.proofs.SoFar.{AreRounds, Sound, Step, statements_so_far, script_so_far, no_fixed}
-use Rattle.event_script.proofs.Sound.{rounds_of_one, rounds_of_none, no_rounds_at, LineRead, line_read, line_sound, text_so_far, text_step, at_first}
+use Rattle.event_script.proofs.SoFar.{AreRounds, Sound, statements_so_far, script_so_far, no_snapshots, no_fixed}
+use Rattle.event_script.proofs.Sound.{rounds_of_one, rounds_of_none, no_rounds_at, open_snapshots, line_read, line_sound, text_so_far, text_step, at_first}
 use Rattle.event_script.proofs.Judged.{Judged, judged_line}
 use Rattle.event_script.proofs.Complete.{whole, outcome_complete}
 use Rattle.event_script.proofs.FirstBad.{reads_good, reads_lines}
@@ -118,7 +117,7 @@ record CanEnd (known : DraftData) : Type 0 where
 
 -- the least script: nothing stands in it
 abbrev least : ℕ → ℕ → ScriptData
-least nodes loads = record { nodes = nodes; loads = loads; images = []; sections = []; fixed = []; rounds = [] }
+least nodes loads = record { nodes = nodes; loads = loads; images = []; sections = []; fixed = []; snapshots = []; rounds = [] }
 
 least_runs : (nodes loads : ℕ) → (4 ≤ nodes) × (nodes ≤ 16384) → (1 ≤ loads) × (loads ≤ 1024) → IsRunnable (least nodes loads)
 least_runs nodes loads some_nodes some_loads = record {
@@ -127,26 +126,28 @@ least_runs nodes loads some_nodes some_loads = record {
   images = (omega arith, at_first.spans);
   sections = (refl, at_first.sections);
   fixed = no_fixed [];
+  snapshots = no_snapshots;
   rounds = (omega arith, (no_rounds_at 0 [] refl).each);
 }
 
 least_built : (nodes loads : ℕ) → IsBuilt (least nodes loads)
 least_built nodes loads = (let none = no_rounds_at 0 [] refl in record { rounds = none.few; threads = none.small })
 
-module _ (script : ScriptData) (threads : List (List Event)) (events : List Event) where
+module _ (script : ScriptData) (snapshot : SnapshotData) (threads : List (List Event)) (events : List Event) where
   abbrev so_far : Stage → DraftData
-  so_far stage = record { stage = stage; script = script; threads = threads; events = events }
+  so_far stage = record { stage = stage; script = script; snapshot = snapshot; threads = threads; events = events }
 
   -- with these rounds it is a script
-  with_rounds : (known : DraftData) (rounds : List (List (List Event))) → known.script ≡ script → (4 ≤ script.nodes) × (script.nodes ≤ 16384) → (1 ≤ script.loads) × (script.loads ≤ 1024) → Sound known → AreRounds (length script.images) rounds → IsRunnable (record script { rounds = rounds })
-  with_rounds known rounds same nodes loads s are =
-      subst (λ (x : ScriptData). (4 ≤ x.nodes) × (x.nodes ≤ 16384) → (1 ≤ x.loads) × (x.loads ≤ 1024) → AreRounds (length x.images) rounds → IsRunnable (record x { rounds = rounds })) same
+  with_rounds : (known : DraftData) (snapshots : List SnapshotData) (rounds : List (List (List Event))) → known.script ≡ script → (length snapshots ≤ 4096) × All IsSnapshot snapshots → (4 ≤ script.nodes) × (script.nodes ≤ 16384) → (1 ≤ script.loads) × (script.loads ≤ 1024) → Sound known → AreRounds (length script.images) rounds → IsRunnable (record script { snapshots = snapshots; rounds = rounds })
+  with_rounds known snapshots rounds same some nodes loads s are =
+      subst (λ (x : ScriptData). (4 ≤ x.nodes) × (x.nodes ≤ 16384) → (1 ≤ x.loads) × (x.loads ≤ 1024) → AreRounds (length x.images) rounds → IsRunnable (record x { snapshots = snapshots; rounds = rounds })) same
       (λ nodes loads are. record {
         nodes = nodes;
         loads = loads;
         images = (s.count, s.spans);
         sections = (s.each, s.sections);
         fixed = s.fixed;
+        snapshots = some;
         rounds = (omega (arith, are.few), are.each);
       }) nodes loads are
 
@@ -156,18 +157,22 @@ module _ (script : ScriptData) (threads : List (List Event)) (events : List Even
   can_end stage.Loads s = record { script = least script.nodes 1; more = statement.Loads 1 ∷ statement.End ∷ []; runnable = least_runs script.nodes 1 s.nodes (omega arith, omega arith); built = least_built script.nodes 1; is = refl }
   can_end stage.Images s =
       let are = no_rounds_at (length script.images) script.rounds s.shape.0 in
-      record { script = script; more = statement.End ∷ []; runnable = with_rounds (so_far stage.Images) script.rounds refl s.nodes s.loads s are; built = record { rounds = are.few; threads = are.small }; is = refl }
+      record { script = script; more = statement.End ∷ []; runnable = with_rounds (so_far stage.Images) script.snapshots script.rounds refl s.snapshots s.nodes s.loads s are; built = record { rounds = are.few; threads = are.small }; is = refl }
   can_end stage.Fixed s =
       let are = no_rounds_at (length script.images) script.rounds s.shape.0 in
-      record { script = script; more = statement.End ∷ []; runnable = with_rounds (so_far stage.Fixed) script.rounds refl s.nodes s.loads s are; built = record { rounds = are.few; threads = are.small }; is = refl }
+      record { script = script; more = statement.End ∷ []; runnable = with_rounds (so_far stage.Fixed) script.snapshots script.rounds refl s.snapshots s.nodes s.loads s are; built = record { rounds = are.few; threads = are.small }; is = refl }
+  can_end stage.Snapshots s =
+      let are = no_rounds_at (length script.images) script.rounds s.shape.0 in
+      let some = open_snapshots script snapshot threads events (s.shape.2, s.shape.3) s.snapshots in
+      record { script = script_so_far (so_far stage.Snapshots); more = statement.End ∷ []; runnable = with_rounds (so_far stage.Snapshots) (script.snapshots ++ snapshot ∷ []) script.rounds refl some s.nodes s.loads s are; built = record { rounds = are.few; threads = are.small }; is = refl }
   can_end stage.Round s =
       let are = rounds_of_none (length script.images) script.rounds threads s.shape.0 s.shape.1 in
-      record { script = script_so_far (so_far stage.Round); more = statement.End ∷ []; runnable = with_rounds (so_far stage.Round) (script.rounds ++ threads ∷ []) refl s.nodes s.loads s are; built = record { rounds = are.few; threads = are.small }; is = refl }
+      record { script = script_so_far (so_far stage.Round); more = statement.End ∷ []; runnable = with_rounds (so_far stage.Round) script.snapshots (script.rounds ++ threads ∷ []) refl s.snapshots s.nodes s.loads s are; built = record { rounds = are.few; threads = are.small }; is = refl }
   can_end stage.Thread s =
       let are = rounds_of_one (length script.images) script.rounds threads events s.shape.0 s.shape.1 s.events in
-      record { script = script_so_far (so_far stage.Thread); more = statement.End ∷ []; runnable = with_rounds (so_far stage.Thread) (script.rounds ++ (threads ++ events ∷ []) ∷ []) refl s.nodes s.loads s are; built = record { rounds = are.few; threads = are.small }; is = refl }
+      record { script = script_so_far (so_far stage.Thread); more = statement.End ∷ []; runnable = with_rounds (so_far stage.Thread) script.snapshots (script.rounds ++ (threads ++ events ∷ []) ∷ []) refl s.snapshots s.nodes s.loads s are; built = record { rounds = are.few; threads = are.small }; is = refl }
   can_end stage.Ended s =
-      record { script = script; more = []; runnable = with_rounds (so_far stage.Ended) script.rounds refl s.nodes s.loads s s.shape; built = record { rounds = s.shape.few; threads = s.shape.small }; is = sym (append-nil (body_statements script ++ statement.End ∷ [])) }
+      record { script = script; more = []; runnable = with_rounds (so_far stage.Ended) script.snapshots script.rounds refl s.snapshots s.nodes s.loads s s.shape; built = record { rounds = s.shape.few; threads = s.shape.small }; is = sym (append-nil (body_statements script ++ statement.End ∷ [])) }
 
 -- good lines are the text of what they make known
 record HasText (known last : DraftData) (lines : List (List ℕ)) : Type 0 where
@@ -190,7 +195,7 @@ pub some_begins : (bytes : List ℕ) (number : ℕ) (why : Reason) → IsFirstBa
 unfolding script_text
 some_begins bytes number why bad =
     let made = made_text nothing_known bad.known bad.before at_first bad.good in
-    let ends = can_end bad.known.script bad.known.threads bad.known.events bad.known.stage made.sound in
+    let ends = can_end bad.known.script bad.known.snapshot bad.known.threads bad.known.events bad.known.stage made.sound in
     let count : number - 1 ≡ length bad.before = omega (arith, bad.counted) in
     let taken : take (number - 1) (pieces 10 bytes) ≡ bad.before = ap (take (number - 1)) bad.cut ∙ take_front bad.before (bad.line ∷ bad.others) (number - 1) count in (
       ends.script,

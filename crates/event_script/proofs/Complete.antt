@@ -1,6 +1,6 @@
 -- What is spelled is read: each line of a script is good after those before it.
-use Rattle.std.proofs.Common.{ap₂, ◌≡◌, ℕ, ◌+◌, ◌-◌, ◌^◌, ◌<◌, ◌≤◌, Bool, true, false, cond, ◌&&◌, eqb, ltb, leb, List, [], ◌∷◌, ◌++◌, length, map, Option, Some, Result, Ok, Err, refl, sym, ap, subst, ◌∙◌, append_assoc, append-nil, eq-eqb, lt-ltb, le-leb, arith, length-append}
-use Rattle.std.specs.List.{flat_map, All, AllByRecursion, slice_get}
+use Rattle.std.proofs.Common.{ap₂, ◌≡◌, ℕ, ◌+◌, ◌-◌, ◌^◌, ◌<◌, ◌≤◌, true, false, cond, ◌&&◌, eqb, ltb, leb, List, [], ◌∷◌, ◌++◌, length, map, Option, Result, Ok, Err, refl, sym, ap, subst, ◌∙◌, append_assoc, append-nil, eq-eqb, lt-ltb, le-leb, arith, length-append}
+use Rattle.std.specs.List.{All, AllByRecursion}
 use Rattle.std.specs.Option.{ok_or}
 use Rattle.std.proofs.lemmas.Bool.{and_from, cond-true, cond-false}
 use Rattle.std.proofs.lemmas.List.Elements.{All-head, All-tail, recursion_from_All}
@@ -8,12 +8,17 @@ use Rattle.reg_model.specs.SpanData.{SpanData, IsSpan}
 use Rattle.frame_parse.specs.Sections.{SectionData}
 use Rattle.frame_parse.specs.declared.fault.FrameFault.{FrameFault}
 use Rattle.frame_parse.specs.Reading.{section_of}
-use Rattle.event_script.specs.ScriptData.{ScriptData, ImageData, IsSectionOf, span_of, AreFixed, IsEvent, IsThread, IsRound}
+use Rattle.hex.specs.Hex.{IsBytes}
+use Rattle.frame_expr.specs.Regions.{RegionData, end, AreFrom, AreRegions, Accepts}
+use Rattle.frame_expr.specs.declared.regs.Regs.{Regs}
+use Rattle.event_script.specs.Digits.{hex}
+use Rattle.event_script.specs.declared.reader.statement.SnapshotFields.{SnapshotFields}
+use Rattle.event_script.specs.ScriptData.{ScriptData, ImageData, SnapshotData, IsSnapshot, recorded_bytes, IsSectionOf, span_of, AreFixed, IsEvent, IsThread, IsRound}
 use Rattle.event_script.specs.Fields.{pieces, is_printable}
 use Rattle.event_script.specs.Statements.{word_of, kind_of_statement, statement_fields, statement_line, HasForm}
-use Rattle.event_script.specs.Spelling.{Line, spelling_of, statement_text, statements_text, image_data, image_statements, thread_statements, round_statements, first_statements, body_statements, script_text, IsScript}
-use Rattle.event_script.specs.Draft.{DraftData, nothing_known, may_come, is_ended, has_round, is_unbuilt, rounds_at, span_from, with_image, contents_or_none, with_statement}
-use Rattle.event_script.specs.Reading.{◌>=>◌, kind_of, statement_of, section_or, image_added, last_fixed, is_above, is_named, added, by_word, after_line, at_end, BadLine, at_line, after_lines, outcome}
+use Rattle.event_script.specs.Spelling.{statement_text, statements_text, image_data, image_statements, snapshot_lines, snapshot_statements, round_statements, first_statements, body_statements, script_text, IsScript}
+use Rattle.event_script.specs.Draft.{DraftData, no_snapshot, nothing_known, may_come, is_ended, has_round, is_unbuilt, snapshots_at, rounds_at, span_from, with_image, contents_or_none, with_statement}
+use Rattle.event_script.specs.Reading.{◌>=>◌, statement_of, section_or, image_added, last_fixed, is_above, accepts, is_named, added, by_word, after_line, at_end, BadLine, at_line, after_lines, outcome}
 use Rattle.event_script.specs.declared.script.Event.{Event}
 use Rattle.event_script.specs.declared.script.Event.TheVariants as event
 use Rattle.event_script.specs.declared.reader.fault.Reason.{Reason}
@@ -29,8 +34,9 @@ use Rattle.event_script.proofs.Lines.{line_first}
 use Rattle.event_script.proofs.Words.{word_visible, word_again}
 use Rattle.event_script.proofs.Spoken.{said_again}
 use Rattle.event_script.proofs.Numbers.{decimal_visible, hex_visible}
-use Rattle.event_script.proofs.Sections.{section_visible, section_ok}
+use Rattle.event_script.proofs.Sections.{section_visible, digits_visible, section_ok}
 use Rattle.event_script.proofs.Fixed.{found_span, rise_at}
+use Rattle.event_script.proofs.Judged.{accepted_is}
 
 -- ---- one line
 
@@ -51,6 +57,10 @@ open_still stage.Ended kind.Version e = absurd cc
 open_still stage.Ended _ e = absurd cc
 open_still _ _ e = refl
 
+hexes_visible : (numbers : List ℕ) → AllByRecursion (λ n. n < 2 ^ 64) numbers → AllByRecursion IsVisible (map hex numbers)
+hexes_visible [] small = tt
+hexes_visible (n ∷ numbers) small = (hex_visible n small.0, hexes_visible numbers small.1)
+
 visible : (s : Statement) → HasForm s → AllByRecursion IsVisible (statement_line s)
 visible (statement.Version version) form = (word_visible kind.Version, (decimal_visible version form, tt))
 visible (statement.Nodes nodes) form = (word_visible kind.Nodes, (decimal_visible nodes form, tt))
@@ -58,6 +68,8 @@ visible (statement.Loads loads) form = (word_visible kind.Loads, (decimal_visibl
 visible (statement.Image image) form =
     (word_visible kind.Image, (decimal_visible image.number form.0, (hex_visible image.base form.1, (hex_visible image.size form.2, (hex_visible image.section form.3, (section_visible image.bytes form.4, tt))))))
 visible (statement.Fixed image) form = (word_visible kind.Fixed, (decimal_visible image form, tt))
+visible (statement.Snapshot snapshot) form = (word_visible kind.Snapshot, (decimal_visible snapshot.number form.0, hexes_visible snapshot.regs.columns (recursion_from_All (λ n. n < 2 ^ 64) snapshot.regs.columns form.2)))
+visible (statement.Memory region) form = (word_visible kind.Memory, (hex_visible region.address form.0, (digits_visible region.bytes form.1, tt)))
 visible statement.Round form = (word_visible kind.Round, tt)
 visible statement.Thread form = (word_visible kind.Thread, tt)
 visible (statement.Event (event.Register image)) form = (word_visible kind.Register, (decimal_visible image form, tt))
@@ -113,21 +125,38 @@ adds_then : (first second third : DraftData) (xs ys : List Statement) → Adds f
 adds_then first second third [] ys e q = subst (λ (d : DraftData). Adds d ys third) (sym e) q
 adds_then first second third (x ∷ xs) ys p q = (p.0, adds_then (with_statement first x) second third xs ys p.1 q)
 
+-- ---- recorded memory
+
+-- of regions that ascend each can be recorded above those before it
+accepted_at : (low : ℕ) (before : List RegionData) (region : RegionData) (memory : List RegionData) → AreFrom low (before ++ region ∷ memory) → Accepts before region.address region.bytes
+accepted_at low [] region memory are = (are.1, are.2, omega arith)
+accepted_at low (q ∷ []) region memory are = (are.3.1, are.3.2, are.3.0)
+accepted_at low (q ∷ p ∷ before) region memory are = accepted_at (end q) (p ∷ before) region memory are.3
+
+recorded_parts : (before : List RegionData) (region : RegionData) (memory : List RegionData) → recorded_bytes before + length region.bytes ≤ recorded_bytes (before ++ region ∷ memory)
+recorded_parts [] region memory = omega arith
+recorded_parts (q ∷ before) region memory = let rest = recorded_parts before region memory in omega arith
+
+bytes_in_all : (before : List RegionData) (region : RegionData) (memory : List RegionData) → All (λ region. IsBytes region.bytes) (before ++ region ∷ memory) → IsBytes region.bytes
+bytes_in_all [] region memory are = All-head (λ (r : RegionData). IsBytes r.bytes) region memory are
+bytes_in_all (q ∷ before) region memory are = bytes_in_all before region memory (All-tail (λ (r : RegionData). IsBytes r.bytes) q (before ++ region ∷ memory) are)
+
 -- ---- the lines of a script
 
 abbrev good : DraftData → Result DraftData Reason
 good known = Ok known
 
 module _ (nodes loads : ℕ) where
-  abbrev at : Stage → List SpanData → List SectionData → List ℕ → List (List (List Event)) → List (List Event) → List Event → DraftData
-  at stage images sections fixed rounds threads events = record {
+  abbrev at : Stage → List SpanData → List SectionData → List ℕ → List SnapshotData → SnapshotData → List (List (List Event)) → List (List Event) → List Event → DraftData
+  at stage images sections fixed snapshots snapshot rounds threads events = record {
     stage = stage;
-    script = record { nodes = nodes; loads = loads; images = images; sections = sections; fixed = fixed; rounds = rounds };
+    script = record { nodes = nodes; loads = loads; images = images; sections = sections; fixed = fixed; snapshots = snapshots; rounds = rounds };
+    snapshot = snapshot;
     threads = threads;
     events = events;
   }
 
-  adds_first : 4 ≤ nodes → nodes ≤ 16384 → 1 ≤ loads → loads ≤ 1024 → Adds nothing_known (first_statements nodes loads) (at stage.Images [] [] [] [] [] [])
+  adds_first : 4 ≤ nodes → nodes ≤ 16384 → 1 ≤ loads → loads ≤ 1024 → Adds nothing_known (first_statements nodes loads) (at stage.Images [] [] [] [] no_snapshot [] [] [])
   unfolding added
   adds_first low high least most =
       let nodes_known : DraftData = with_statement nothing_known (statement.Version 1) in
@@ -146,10 +175,10 @@ module _ (nodes loads : ℕ) where
 
   module _ (front : List SpanData) (before : List SectionData) (number : ℕ) (span : SpanData) (section : SectionData) (same : number ≡ length front) (room : length front < 4096) (is : IsSpan span) (whole : IsSectionOf section) where
     abbrev image_known : DraftData
-    image_known = at stage.Images front before [] [] [] []
+    image_known = at stage.Images front before [] [] no_snapshot [] [] []
 
     abbrev image_next : DraftData
-    image_next = at stage.Images (front ++ span ∷ []) (before ++ section ∷ []) [] [] [] []
+    image_next = at stage.Images (front ++ span ∷ []) (before ++ section ∷ []) [] [] no_snapshot [] [] []
 
     abbrev this : ImageData
     this = image_data number span section
@@ -169,7 +198,7 @@ module _ (nodes loads : ℕ) where
     image_after : with_statement image_known (statement.Image this) ≡ image_next
     image_after =
         ap (λ (given : Result SectionData FrameFault). with_image image_known this (contents_or_none section.address section.bytes given)) section_known
-        ∙ ap (λ (s : SpanData). at stage.Images (front ++ s ∷ []) (before ++ section ∷ []) [] [] [] []) span_again
+        ∙ ap (λ (s : SpanData). at stage.Images (front ++ s ∷ []) (before ++ section ∷ []) [] [] no_snapshot [] [] []) span_again
 
     image_good : image_added image_known this ≡ good (with_image image_known this section)
     image_good =
@@ -198,18 +227,18 @@ module _ (nodes loads : ℕ) where
         }
 
   adds_images : (front images : List SpanData) (number : ℕ) (before sections : List SectionData) → number ≡ length front → length sections ≡ length images → length front + length images ≤ 4096 → AllByRecursion IsSpan images → AllByRecursion IsSectionOf sections
-      → Adds (at stage.Images front before [] [] [] []) (image_statements number images sections) (at stage.Images (front ++ images) (before ++ sections) [] [] [] [])
-  adds_images front [] number before [] same each room spans whole = ap₂ (λ (x : List SpanData) (y : List SectionData). at stage.Images x y [] [] [] []) (sym (append-nil front)) (sym (append-nil before))
+      → Adds (at stage.Images front before [] [] no_snapshot [] [] []) (image_statements number images sections) (at stage.Images (front ++ images) (before ++ sections) [] [] no_snapshot [] [] [])
+  adds_images front [] number before [] same each room spans whole = ap₂ (λ (x : List SpanData) (y : List SectionData). at stage.Images x y [] [] no_snapshot [] [] []) (sym (append-nil front)) (sym (append-nil before))
   adds_images front [] number before (section ∷ sections) same each room spans whole = absurd (omega arith)
   adds_images front (span ∷ images) number before [] same each room spans whole = absurd (omega arith)
   adds_images front (span ∷ images) number before (section ∷ sections) same each room spans whole =
       let rest = adds_images (front ++ span ∷ []) images (number + 1) (before ++ section ∷ []) sections (omega (arith, length-append front (span ∷ []))) (omega arith) (omega (arith, length-append front (span ∷ []))) spans.1 whole.1 in
       let few : length front < 4096 = omega arith in
-      let last : at stage.Images ((front ++ span ∷ []) ++ images) ((before ++ section ∷ []) ++ sections) [] [] [] [] ≡ at stage.Images (front ++ span ∷ images) (before ++ section ∷ sections) [] [] [] [] =
-      ap₂ (λ (x : List SpanData) (y : List SectionData). at stage.Images x y [] [] [] []) (append_assoc front (span ∷ []) images) (append_assoc before (section ∷ []) sections) in (
+      let last : at stage.Images ((front ++ span ∷ []) ++ images) ((before ++ section ∷ []) ++ sections) [] [] no_snapshot [] [] [] ≡ at stage.Images (front ++ span ∷ images) (before ++ section ∷ sections) [] [] no_snapshot [] [] [] =
+      ap₂ (λ (x : List SpanData) (y : List SectionData). at stage.Images x y [] [] no_snapshot [] [] []) (append_assoc front (span ∷ []) images) (append_assoc before (section ∷ []) sections) in (
         image_can front before number span section same few spans.0 whole.0,
-        subst (λ (d : DraftData). Adds d (image_statements (number + 1) images sections) (at stage.Images (front ++ span ∷ images) (before ++ section ∷ sections) [] [] [] [])) (sym (image_after front before number span section same few spans.0 whole.0))
-            (subst (Adds (at stage.Images (front ++ span ∷ []) (before ++ section ∷ []) [] [] [] []) (image_statements (number + 1) images sections)) last rest),
+        subst (λ (d : DraftData). Adds d (image_statements (number + 1) images sections) (at stage.Images (front ++ span ∷ images) (before ++ section ∷ sections) [] [] no_snapshot [] [] [])) (sym (image_after front before number span section same few spans.0 whole.0))
+            (subst (Adds (at stage.Images (front ++ span ∷ []) (before ++ section ∷ []) [] [] no_snapshot [] [] []) (image_statements (number + 1) images sections)) last rest),
       )
 
   -- ---- fixed images
@@ -219,13 +248,17 @@ module _ (nodes loads : ℕ) where
   after_fixed start [] = start
   after_fixed start (image ∷ fixed) = stage.Fixed
 
+  none_stacked : (fixed : List ℕ) → snapshots_at (after_fixed stage.Images fixed) [] no_snapshot ≡ []
+  none_stacked [] = refl
+  none_stacked (image ∷ fixed) = refl
+
   still_fixed : (fixed : List ℕ) → after_fixed stage.Fixed fixed ≡ stage.Fixed
   still_fixed [] = refl
   still_fixed (image ∷ fixed) = refl
 
   module _ (images : List SpanData) (sections : List SectionData) (few : length images ≤ 4096) where
     abbrev with_fixed : Stage → List ℕ → DraftData
-    with_fixed start fixed = at start images sections fixed [] [] []
+    with_fixed start fixed = at start images sections fixed [] no_snapshot [] [] []
 
     abbrev IsThere : ℕ → Type 0
     IsThere image = image < length images
@@ -258,36 +291,131 @@ module _ (nodes loads : ℕ) where
           subst (Adds (with_fixed stage.Fixed (front ++ image ∷ [])) (map statement.Fixed fixed)) last rest,
         )
 
-    -- ---- rounds, threads and events
-
     -- before the first round
     record IsEarly (start : Stage) : Type 0 where
+      may_stack : may_come start kind.Snapshot ≡ true
       may_begin : may_come start kind.Round ≡ true
       may_end : may_come start kind.End ≡ true
       no_round : has_round start ≡ false
       none : rounds_at start [] [] [] ≡ []
 
     early : (fixed : List ℕ) → IsEarly (after_fixed stage.Images fixed)
-    early [] = record { may_begin = refl; may_end = refl; no_round = refl; none = refl }
-    early (image ∷ fixed) = record { may_begin = refl; may_end = refl; no_round = refl; none = refl }
+    early [] = record { may_stack = refl; may_begin = refl; may_end = refl; no_round = refl; none = refl }
+    early (image ∷ fixed) = record { may_stack = refl; may_begin = refl; may_end = refl; no_round = refl; none = refl }
 
+    snapshots_are_early : IsEarly stage.Snapshots
+    snapshots_are_early = record { may_stack = refl; may_begin = refl; may_end = refl; no_round = refl; none = refl }
+
+    -- ---- snapshots, and their memory
+
+    -- where the reader stands after these snapshots, and which one goes on
     module _ (fixed : List ℕ) where
-      abbrev ended : List (List (List Event)) → DraftData
-      ended rounds = at stage.Ended images sections fixed rounds [] []
+      abbrev with_stacks : Stage → List SnapshotData → SnapshotData → DraftData
+      with_stacks start snapshots snapshot = at start images sections fixed snapshots snapshot [] [] []
 
-      end_early : (start : Stage) → IsEarly start → Adds (with_fixed start fixed) (statement.End ∷ []) (ended [])
+      snapshot_can : (start : Stage) (front : List SnapshotData) (snapshot : SnapshotData) (fields : SnapshotFields) → may_come start kind.Snapshot ≡ true → fields.number ≡ length (snapshots_at start front snapshot) → length (snapshots_at start front snapshot) < 4096
+          → length fields.regs.columns ≡ 17 → All (λ n. n < 2 ^ 64) fields.regs.columns → CanAdd (with_stacks start front snapshot) (statement.Snapshot fields)
       unfolding added
-      end_early start is = (record { may = is.may_end; built = refl; form = tt; is = refl }, ap ended is.none)
+      snapshot_can start front snapshot fields may number room count small =
+          let next = with_statement (with_stacks start front snapshot) (statement.Snapshot fields) in
+          let so_far = length (snapshots_at start front snapshot) in
+          record {
+            may = may;
+            built = refl;
+            form = (omega arith, count, small);
+            is = cond-true (eqb fields.number so_far) (cond (ltb so_far 4096) (good next) (Err reason.Limit)) (Err reason.Order) (eq-eqb _ _ number)
+                ∙ cond-true (ltb so_far 4096) (good next) (Err reason.Limit) (lt-ltb _ _ room);
+          }
 
-      round_early : (start : Stage) → IsEarly start → Adds (with_fixed start fixed) (statement.Round ∷ []) (with_fixed stage.Round fixed)
+      memory_can : (front : List SnapshotData) (snapshot : SnapshotData) (region : RegionData) → recorded_bytes snapshot.memory + length region.bytes ≤ 65536 → Accepts snapshot.memory region.address region.bytes → IsBytes region.bytes
+          → CanAdd (with_stacks stage.Snapshots front snapshot) (statement.Memory region)
       unfolding added
-      round_early start is =
-          let few_rounds : ltb (length (rounds_at start [] [] [])) 64 ≡ true = ap (λ (r : List (List (List Event))). ltb (length r) 64) is.none in (
-            record { may = is.may_begin; built = is.no_round; form = tt; is = cond-true (ltb (length (rounds_at start [] [] [])) 64) (good (with_statement (with_fixed start fixed) statement.Round)) (Err reason.Limit) few_rounds },
-            ap (λ (r : List (List (List Event))). at stage.Round images sections fixed r [] []) is.none,
+      memory_can front snapshot region few accepted are =
+          let grown : SnapshotData = record snapshot { memory = snapshot.memory ++ region ∷ [] } in
+          let test = leb (recorded_bytes snapshot.memory + length region.bytes) 65536 in
+          record {
+            may = refl;
+            built = refl;
+            form = (let top = accepted.1 in omega arith, are, accepted.0);
+            is = ap (λ (r : Result SnapshotData Reason). r >=> λ x. good (with_stacks stage.Snapshots front x)) (
+                cond-true test (cond (accepts snapshot.memory region) (Ok grown) (Err reason.Region)) (Err reason.Limit) (le-leb _ _ few)
+                ∙ cond-true (accepts snapshot.memory region) (Ok grown) (Err reason.Region) (accepted_is snapshot.memory region accepted));
+          }
+
+      adds_memory : (front : List SnapshotData) (regs : Regs) (before memory : List RegionData) → AreRegions (before ++ memory) → All (λ region. IsBytes region.bytes) (before ++ memory) → recorded_bytes (before ++ memory) ≤ 65536
+          → Adds (with_stacks stage.Snapshots front (record { regs = regs; memory = before })) (map statement.Memory memory) (with_stacks stage.Snapshots front (record { regs = regs; memory = before ++ memory }))
+      adds_memory front regs before [] regions bytes few = ap (λ (x : List RegionData). with_stacks stage.Snapshots front (record { regs = regs; memory = x })) (sym (append-nil before))
+      adds_memory front regs before (region ∷ memory) regions bytes few =
+          let regrouped : (before ++ region ∷ []) ++ memory ≡ before ++ region ∷ memory = append_assoc before (region ∷ []) memory in
+          let rest = adds_memory front regs (before ++ region ∷ []) memory (subst AreRegions (sym regrouped) regions) (subst (All (λ region. IsBytes region.bytes)) (sym regrouped) bytes) (subst (λ (x : List RegionData). recorded_bytes x ≤ 65536) (sym regrouped) few) in
+          let sum = recorded_parts before region memory in (
+            memory_can front (record { regs = regs; memory = before }) region (omega arith) (accepted_at 0 before region memory regions) (bytes_in_all before region memory bytes),
+            subst (λ (x : List RegionData). Adds (with_stacks stage.Snapshots front (record { regs = regs; memory = before ++ region ∷ [] })) (map statement.Memory memory) (with_stacks stage.Snapshots front (record { regs = regs; memory = x }))) regrouped rest,
           )
 
-      thread_can : CanAdd (with_fixed stage.Round fixed) statement.Thread
+      -- a snapshot, after the others
+      adds_snapshot : (start : Stage) (front : List SnapshotData) (before snapshot : SnapshotData) (number : ℕ) → may_come start kind.Snapshot ≡ true → number ≡ length (snapshots_at start front before) → length (snapshots_at start front before) < 4096 → IsSnapshot snapshot
+          → Adds (with_stacks start front before) (snapshot_lines number snapshot) (with_stacks stage.Snapshots (snapshots_at start front before) snapshot)
+      adds_snapshot start front before snapshot number may same room is = (
+        snapshot_can start front before (record { number = number; regs = snapshot.regs }) may same room is.count is.columns,
+        adds_memory (snapshots_at start front before) snapshot.regs [] snapshot.memory is.regions is.bytes is.size,
+      )
+
+      -- further snapshots, the last of which goes on
+      record Stacked (snapshots : List SnapshotData) (start : Stage) (front : List SnapshotData) (before : SnapshotData) (number : ℕ) : Type 0 where
+        last : Stage
+        so_far : List SnapshotData
+        snapshot : SnapshotData
+        early : IsEarly last
+        adds : Adds (with_stacks start front before) (snapshot_statements number snapshots) (with_stacks last so_far snapshot)
+        all : snapshots_at last so_far snapshot ≡ snapshots_at start front before ++ snapshots
+
+      adds_snapshots : (start : Stage) (front : List SnapshotData) (before : SnapshotData) (number : ℕ) (snapshots : List SnapshotData) → IsEarly start → number ≡ length (snapshots_at start front before)
+          → length (snapshots_at start front before) + length snapshots ≤ 4096 → AllByRecursion IsSnapshot snapshots → Stacked snapshots start front before number
+      adds_snapshots start front before number [] is same room are = record { last = start; so_far = front; snapshot = before; early = is; adds = refl; all = sym (append-nil (snapshots_at start front before)) }
+      adds_snapshots start front before number (snapshot ∷ snapshots) is same room are =
+          let stacked = snapshots_at start front before in
+          let rest = adds_snapshots stage.Snapshots stacked snapshot (number + 1) snapshots snapshots_are_early (omega (arith, length-append stacked (snapshot ∷ []))) (omega (arith, length-append stacked (snapshot ∷ []))) are.1 in
+          record {
+            last = rest.last;
+            so_far = rest.so_far;
+            snapshot = rest.snapshot;
+            early = rest.early;
+            adds = adds_then (with_stacks start front before) (with_stacks stage.Snapshots stacked snapshot) (with_stacks rest.last rest.so_far rest.snapshot) (snapshot_lines number snapshot) (snapshot_statements (number + 1) snapshots)
+                (adds_snapshot start front before snapshot number is.may_stack same (omega arith) are.0) rest.adds;
+            all = rest.all ∙ append_assoc stacked (snapshot ∷ []) snapshots;
+          }
+
+    -- ---- rounds, threads and events
+
+    module _ (fixed : List ℕ) (snapshots : List SnapshotData) where
+      -- a round has begun, or was over
+      abbrev after_all : Stage → List (List (List Event)) → List (List Event) → List Event → DraftData
+      after_all stage rounds threads events = at stage images sections fixed snapshots no_snapshot rounds threads events
+
+      abbrev ended : List (List (List Event)) → DraftData
+      ended rounds = after_all stage.Ended rounds [] []
+
+      module _ (start : Stage) (so_far : List SnapshotData) (snapshot : SnapshotData) (is : IsEarly start) (all : snapshots_at start so_far snapshot ≡ snapshots) where
+        abbrev before_all : DraftData
+        before_all = at start images sections fixed so_far snapshot [] [] []
+
+        end_early : Adds before_all (statement.End ∷ []) (ended [])
+        unfolding added
+        end_early = (
+          record { may = is.may_end; built = refl; form = tt; is = refl },
+          ap₂ (λ (r : List (List (List Event))) (x : List SnapshotData). at stage.Ended images sections fixed x no_snapshot r [] []) is.none all,
+        )
+
+        round_early : Adds before_all (statement.Round ∷ []) (after_all stage.Round [] [] [])
+        unfolding added
+        round_early =
+            let few_rounds : ltb (length (rounds_at start [] [] [])) 64 ≡ true = ap (λ (r : List (List (List Event))). ltb (length r) 64) is.none in (
+              record { may = is.may_begin; built = is.no_round; form = tt; is = cond-true (ltb (length (rounds_at start [] [] [])) 64) (good (with_statement before_all statement.Round)) (Err reason.Limit) few_rounds },
+              ap₂ (λ (r : List (List (List Event))) (x : List SnapshotData). at stage.Round images sections fixed x no_snapshot r [] []) is.none all,
+            )
+
+      thread_can : CanAdd (after_all stage.Round [] [] []) statement.Thread
       unfolding added
       thread_can = record { may = refl; built = refl; form = tt; is = refl }
 
@@ -319,55 +447,55 @@ module _ (nodes loads : ℕ) where
       event_built known (event.Unload base) = refl
       event_built known (event.Find pc) = refl
 
-      event_can : (front : List Event) (e : Event) → length front < 4096 → IsEvent (length images) e → CanAdd (at stage.Thread images sections fixed [] [] front) (statement.Event e)
+      event_can : (front : List Event) (e : Event) → length front < 4096 → IsEvent (length images) e → CanAdd (after_all stage.Thread [] [] front) (statement.Event e)
       unfolding added
       event_can front e room is =
-          let next = at stage.Thread images sections fixed [] [] (front ++ e ∷ []) in
+          let next = after_all stage.Thread [] [] (front ++ e ∷ []) in
           record {
             may = event_may e;
-            built = event_built (at stage.Thread images sections fixed [] [] front) e;
+            built = event_built (after_all stage.Thread [] [] front) e;
             form = event_form e is;
             is = cond-true (ltb (length front) 4096) (cond (is_named (length images) e) (good next) (Err reason.Name)) (Err reason.Limit) (lt-ltb _ _ room)
                 ∙ cond-true (is_named (length images) e) (good next) (Err reason.Name) (event_named e is);
           }
 
-      adds_events : (front events : List Event) → length front + length events ≤ 4096 → AllByRecursion (IsEvent (length images)) events → Adds (at stage.Thread images sections fixed [] [] front) (map statement.Event events) (at stage.Thread images sections fixed [] [] (front ++ events))
-      adds_events front [] room are = ap (at stage.Thread images sections fixed [] []) (sym (append-nil front))
+      adds_events : (front events : List Event) → length front + length events ≤ 4096 → AllByRecursion (IsEvent (length images)) events → Adds (after_all stage.Thread [] [] front) (map statement.Event events) (after_all stage.Thread [] [] (front ++ events))
+      adds_events front [] room are = ap (after_all stage.Thread [] []) (sym (append-nil front))
       adds_events front (e ∷ events) room are =
           let rest = adds_events (front ++ e ∷ []) events (omega (arith, length-append front (e ∷ []))) are.1 in (
             event_can front e (omega arith) are.0,
-            subst (λ (x : List Event). Adds (at stage.Thread images sections fixed [] [] (front ++ e ∷ [])) (map statement.Event events) (at stage.Thread images sections fixed [] [] x)) (append_assoc front (e ∷ []) events) rest,
+            subst (λ (x : List Event). Adds (after_all stage.Thread [] [] (front ++ e ∷ [])) (map statement.Event events) (after_all stage.Thread [] [] x)) (append_assoc front (e ∷ []) events) rest,
           )
 
-      end_round : CanAdd (with_fixed stage.Round fixed) statement.End
+      end_round : CanAdd (after_all stage.Round [] [] []) statement.End
       unfolding added
       end_round = record { may = refl; built = refl; form = tt; is = refl }
 
-      end_thread : (events : List Event) → CanAdd (at stage.Thread images sections fixed [] [] events) statement.End
+      end_thread : (events : List Event) → CanAdd (after_all stage.Thread [] [] events) statement.End
       unfolding added
       end_thread events = record { may = refl; built = refl; form = tt; is = refl }
 
       -- the rounds, and the last line
-      adds_rounds : (start : Stage) (rounds : List (List (List Event))) → IsEarly start → length rounds ≤ 1 → AllByRecursion (λ threads. length threads ≤ 1) rounds → AllByRecursion (IsRound (length images)) rounds
-          → Adds (with_fixed start fixed) (round_statements rounds ++ statement.End ∷ []) (ended rounds)
-      adds_rounds start [] is one small are = end_early start is
-      adds_rounds start ([] ∷ []) is one small are = adds_then (with_fixed start fixed) (with_fixed stage.Round fixed) (ended ([] ∷ [])) (statement.Round ∷ []) (statement.End ∷ []) (round_early start is) (end_round, refl)
-      adds_rounds start ((events ∷ []) ∷ []) is one small are =
+      adds_rounds : (start : Stage) (so_far : List SnapshotData) (snapshot : SnapshotData) (rounds : List (List (List Event))) → IsEarly start → snapshots_at start so_far snapshot ≡ snapshots → length rounds ≤ 1 → AllByRecursion (λ threads. length threads ≤ 1) rounds → AllByRecursion (IsRound (length images)) rounds
+          → Adds (at start images sections fixed so_far snapshot [] [] []) (round_statements rounds ++ statement.End ∷ []) (ended rounds)
+      adds_rounds start so_far snapshot [] is all one small are = end_early start so_far snapshot is all
+      adds_rounds start so_far snapshot ([] ∷ []) is all one small are = adds_then (before_all start so_far snapshot is all) (after_all stage.Round [] [] []) (ended ([] ∷ [])) (statement.Round ∷ []) (statement.End ∷ []) (round_early start so_far snapshot is all) (end_round, refl)
+      adds_rounds start so_far snapshot ((events ∷ []) ∷ []) is all one small are =
           let thread = recursion_from_All (IsThread (length images)) (events ∷ []) are.0.1 in
           let each = recursion_from_All (IsEvent (length images)) events thread.0.1 in
           let room = thread.0.0 in
-          let happen = adds_then (at stage.Thread images sections fixed [] [] []) (at stage.Thread images sections fixed [] [] events) (ended ((events ∷ []) ∷ [])) (map statement.Event events) (statement.End ∷ []) (adds_events [] events (omega arith) each) (end_thread events, refl) in
-          let all = adds_then (with_fixed start fixed) (with_fixed stage.Round fixed) (ended ((events ∷ []) ∷ [])) (statement.Round ∷ []) (statement.Thread ∷ (map statement.Event events ++ statement.End ∷ [])) (round_early start is) (thread_can, happen) in
+          let happen = adds_then (after_all stage.Thread [] [] []) (after_all stage.Thread [] [] events) (ended ((events ∷ []) ∷ [])) (map statement.Event events) (statement.End ∷ []) (adds_events [] events (omega arith) each) (end_thread events, refl) in
+          let lines = adds_then (before_all start so_far snapshot is all) (after_all stage.Round [] [] []) (ended ((events ∷ []) ∷ [])) (statement.Round ∷ []) (statement.Thread ∷ (map statement.Event events ++ statement.End ∷ [])) (round_early start so_far snapshot is all) (thread_can, happen) in
           let same : round_statements ((events ∷ []) ∷ []) ≡ statement.Round ∷ statement.Thread ∷ map statement.Event events =
           ap (λ (x : List Statement). statement.Round ∷ x) (append-nil (statement.Thread ∷ (map statement.Event events ++ [])))
           ∙ ap (λ (x : List Statement). statement.Round ∷ statement.Thread ∷ x) (append-nil (map statement.Event events)) in
-          subst (λ (x : List Statement). Adds (with_fixed start fixed) (x ++ statement.End ∷ []) (ended ((events ∷ []) ∷ []))) (sym same) all
-      adds_rounds start ((events ∷ more ∷ threads) ∷ []) is one small are = absurd (omega (arith, small.0))
-      adds_rounds start (threads ∷ more ∷ rounds) is one small are = absurd (omega arith)
+          subst (λ (x : List Statement). Adds (before_all start so_far snapshot is all) (x ++ statement.End ∷ []) (ended ((events ∷ []) ∷ []))) (sym same) lines
+      adds_rounds start so_far snapshot ((events ∷ more ∷ threads) ∷ []) is all one small are = absurd (omega (arith, small.0))
+      adds_rounds start so_far snapshot (threads ∷ more ∷ rounds) is all one small are = absurd (omega arith)
 
 -- a script's lines can be added one after another
 abbrev pub whole : ScriptData → DraftData
-whole s = record { stage = stage.Ended; script = s; threads = []; events = [] }
+whole s = record { stage = stage.Ended; script = s; snapshot = no_snapshot; threads = []; events = [] }
 
 script_adds : (bytes : List ℕ) (s : ScriptData) → IsScript bytes s → Adds nothing_known (body_statements s ++ statement.End ∷ []) (whole s)
 script_adds bytes s is =
@@ -378,17 +506,26 @@ script_adds bytes s is =
     let small = recursion_from_All (λ threads. length threads ≤ 1) s.rounds is.built.threads in
     let are = recursion_from_All (IsRound (length s.images)) s.rounds run.rounds.1 in
     let start = after_fixed s.nodes s.loads stage.Images s.fixed in
-    let at_first = at s.nodes s.loads stage.Images [] [] [] [] [] [] in
-    let at_images = at s.nodes s.loads stage.Images s.images s.sections [] [] [] [] in
-    let at_fixed = at s.nodes s.loads start s.images s.sections s.fixed [] [] [] in
+    let at_first = at s.nodes s.loads stage.Images [] [] [] [] no_snapshot [] [] [] in
+    let at_images = at s.nodes s.loads stage.Images s.images s.sections [] [] no_snapshot [] [] [] in
+    let at_fixed = at s.nodes s.loads start s.images s.sections s.fixed [] no_snapshot [] [] [] in
     let first = adds_first s.nodes s.loads run.nodes.0 run.nodes.1 run.loads.0 run.loads.1 in
     let images = adds_images s.nodes s.loads [] s.images 0 [] s.sections refl run.sections.0 (omega (arith, few)) spans sections in
     let fixed = adds_fixed s.nodes s.loads s.images s.sections few stage.Images [] s.fixed refl run.fixed in
-    let rounds = adds_rounds s.nodes s.loads s.images s.sections few s.fixed start s.rounds (early s.nodes s.loads s.images s.sections few s.fixed) is.built.rounds small are in
+    let is_early = early s.nodes s.loads s.images s.sections few s.fixed in
+    let none : snapshots_at start [] no_snapshot ≡ [] = none_stacked s.nodes s.loads s.fixed in
+    let no_count : length (snapshots_at start [] no_snapshot) ≡ 0 = ap (λ (x : List SnapshotData). length x) none in
+    let some = run.snapshots.0 in
+    let stacks = adds_snapshots s.nodes s.loads s.images s.sections few s.fixed start [] no_snapshot 0 s.snapshots is_early (omega arith) (omega arith) (recursion_from_All IsSnapshot s.snapshots run.snapshots.1) in
+    let all_stacks : snapshots_at stacks.last stacks.so_far stacks.snapshot ≡ s.snapshots = stacks.all ∙ ap (λ (x : List SnapshotData). x ++ s.snapshots) none in
+    let at_stacks = at s.nodes s.loads stacks.last s.images s.sections s.fixed stacks.so_far stacks.snapshot [] [] [] in
+    let rounds = adds_rounds s.nodes s.loads s.images s.sections few s.fixed s.snapshots stacks.last stacks.so_far stacks.snapshot s.rounds stacks.early all_stacks is.built.rounds small are in
+    let front = first_statements s.nodes s.loads ++ image_statements 0 s.images s.sections in
     let one = adds_then nothing_known at_first at_images (first_statements s.nodes s.loads) (image_statements 0 s.images s.sections) first images in
-    let two = adds_then nothing_known at_images at_fixed (first_statements s.nodes s.loads ++ image_statements 0 s.images s.sections) (map statement.Fixed s.fixed) one fixed in
-    let all = adds_then nothing_known at_fixed (whole s) (first_statements s.nodes s.loads ++ image_statements 0 s.images s.sections ++ map statement.Fixed s.fixed) (round_statements s.rounds ++ statement.End ∷ []) two rounds in
-    subst (λ (x : List Statement). Adds nothing_known x (whole s)) (sym (append_assoc (first_statements s.nodes s.loads ++ image_statements 0 s.images s.sections ++ map statement.Fixed s.fixed) (round_statements s.rounds) (statement.End ∷ []))) all
+    let two = adds_then nothing_known at_images at_fixed front (map statement.Fixed s.fixed) one fixed in
+    let three = adds_then nothing_known at_fixed at_stacks (front ++ map statement.Fixed s.fixed) (snapshot_statements 0 s.snapshots) two stacks.adds in
+    let all = adds_then nothing_known at_stacks (whole s) (front ++ map statement.Fixed s.fixed ++ snapshot_statements 0 s.snapshots) (round_statements s.rounds ++ statement.End ∷ []) three rounds in
+    subst (λ (x : List Statement). Adds nothing_known x (whole s)) (sym (append_assoc (front ++ map statement.Fixed s.fixed ++ snapshot_statements 0 s.snapshots) (round_statements s.rounds) (statement.End ∷ []))) all
 
 -- what is spelled is read
 pub outcome_complete : (bytes : List ℕ) (s : ScriptData) → IsScript bytes s → outcome bytes ≡ Ok (whole s)

@@ -1,19 +1,17 @@
 -- The first bad line of the table is the one that the reader finds.
-use Rattle.std.proofs.Common.{◌≡◌, ◌≢◌, ◌⊎◌, inl, inr, ℕ, ◌+◌, ◌-◌, ◌^◌, ◌<◌, ◌≤◌, Bool, true, false, true≢false, cond, ◌&&◌, eqb, ltb, leb, List, [], ◌∷◌, ◌++◌, length, Option, Some, None, Result, Ok, Err, refl, sym, ap, subst, ◌∙◌, append_assoc, ltb-true, arith}
+use Rattle.std.proofs.Common.{◌≡◌, ◌⊎◌, inl, inr, ℕ, ◌+◌, ◌-◌, ◌^◌, Bool, true, false, true≢false, cond, ◌&&◌, eqb, ltb, leb, List, [], ◌∷◌, ◌++◌, length, Result, Ok, Err, refl, sym, ap, subst, ◌∙◌, ltb-true, arith}
 use Rattle.std.specs.List.{slice_get}
 use Rattle.std.specs.Option.{ok_or}
 use Rattle.std.proofs.lemmas.Bool.{ltb-false}
-use Rattle.reg_model.specs.SpanData.{SpanData}
 use Rattle.frame_parse.specs.Sections.{SectionData}
 use Rattle.frame_parse.specs.Reading.{section_of}
 use Rattle.frame_parse.specs.declared.fault.FrameFault.{FrameFault}
-use Rattle.event_script.specs.ScriptData.{ScriptData, ImageData}
-use Rattle.event_script.specs.Fields.{pieces}
+use Rattle.event_script.specs.ScriptData.{ScriptData, ImageData, SnapshotData, recorded_bytes}
 use Rattle.event_script.specs.Spelling.{IsScript}
-use Rattle.event_script.specs.Draft.{DraftData, nothing_known, is_ended, threads_so_far, rounds_so_far, with_image, contents_or_none, with_statement}
+use Rattle.event_script.specs.Draft.{DraftData, nothing_known, is_ended, snapshots_so_far, threads_so_far, rounds_so_far, with_image, contents_or_none, with_statement}
 use Rattle.event_script.specs.Reasons.{LineText, Says, SaysSome, HasBadSection, number_in_table, SpeaksAgainst, IsReason, IsGood}
 use Rattle.event_script.specs.Refusal.{whole_line, text_before, HasLineHere, MakeKnown, IsFirstBad, HasOneReading}
-use Rattle.event_script.specs.Reading.{◌>=>◌, section_or, image_added, last_fixed, is_above, is_named, added, after_line, at_end, BadLine, at_line, after_lines, outcome}
+use Rattle.event_script.specs.Reading.{◌>=>◌, section_or, image_added, last_fixed, is_above, accepts, region_added, is_named, added, after_line, at_end, BadLine, at_line, after_lines, outcome}
 use Rattle.event_script.specs.Fault.{Tells, FailsAt}
 use Rattle.event_script.specs.declared.reader.ScriptFault.{ScriptFault}
 use Rattle.event_script.specs.declared.reader.ScriptFault.TheVariants.{Bad, NoMemory}
@@ -26,7 +24,7 @@ use Rattle.event_script.proofs.Steps.{bind_ok, guard_last, guard_then, ok_is}
 use Rattle.event_script.proofs.Spoken.{says_one}
 use Rattle.event_script.proofs.Sections.{section_bad}
 use Rattle.event_script.proofs.Judged.{Judged, judged_line, judged_end}
-use Rattle.event_script.proofs.Sound.{section_from_or, LineRead, line_read, outcome_sound}
+use Rattle.event_script.proofs.Sound.{section_from_or, line_read, outcome_sound}
 use Rattle.event_script.proofs.Complete.{whole, outcome_complete, one_script}
 
 -- ---- what a good line adds
@@ -51,6 +49,15 @@ added_makes known next (statement.Image image) e = image_made known next image e
 added_makes known next (statement.Fixed image) e =
     let named = bind_ok (ok_or (slice_get known.script.images image) reason.Name) _ next e in
     (guard_last (is_above (last_fixed known.script.images known.script.fixed) named.0) reason.Fixed (with_statement known (statement.Fixed image)) next named.2).1
+added_makes known next (statement.Snapshot fields) e =
+    let order = guard_then (eqb fields.number (length (snapshots_so_far known))) reason.Order _ next e in
+    (guard_last (ltb (length (snapshots_so_far known)) 4096) reason.Limit (with_statement known (statement.Snapshot fields)) next order.1).1
+added_makes known next (statement.Memory region) e =
+    let grown : SnapshotData = record known.snapshot { memory = known.snapshot.memory ++ region ∷ [] } in
+    let one = bind_ok (region_added known.snapshot region) (λ x. Ok (record known { snapshot = x })) next e in
+    let limit = guard_then (leb (recorded_bytes known.snapshot.memory + length region.bytes) 65536) reason.Limit _ one.0 one.1 in
+    let accepted = guard_last (accepts known.snapshot.memory region) reason.Region grown one.0 limit.1 in
+    ap (λ (x : SnapshotData). record known { snapshot = x }) accepted.1 ∙ ok_is _ next one.2
 added_makes known next statement.Round e = (guard_last (ltb (length (rounds_so_far known)) 64) reason.Limit (with_statement known statement.Round) next e).1
 added_makes known next statement.Thread e = (guard_last (ltb (length (threads_so_far known)) 16) reason.Limit (with_statement known statement.Thread) next e).1
 added_makes known next (statement.Event happens) e =
@@ -225,6 +232,7 @@ same_number known text reason.Span reason.Span e p q = refl
 same_number known text (reason.Section a) (reason.Section b) e p q = ap reason.Section (one_section text a b p q)
 same_number known text reason.Name reason.Name e p q = refl
 same_number known text reason.Fixed reason.Fixed e p q = refl
+same_number known text reason.Region reason.Region e p q = refl
 same_number known text _ _ e p q = absurd (omega arith)
 
 pub one_reason : (known : DraftData) (text : LineText) (a b : Reason) → IsReason known text a → IsReason known text b → a ≡ b

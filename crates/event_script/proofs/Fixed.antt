@@ -1,13 +1,13 @@
 -- Fixed images: one after another, each above the one before.
-use Rattle.std.proofs.Common.{◌≡◌, ℕ, suc, ◌+◌, ◌-◌, ◌<◌, ◌≤◌, ◌&&◌, ◌||◌, true, false, eqb, ltb, leb, List, [], ◌∷◌, ◌++◌, length, map, Option, Some, None, refl, sym, ap, ◌∙◌, inl, inr, eqb-true, ne_eqb, ltb-true, lt-ltb, leb-true, subst, arith}
+use Rattle.std.proofs.Common.{◌≡◌, ℕ, suc, ◌-◌, ◌<◌, ◌≤◌, true, false, eqb, leb, List, [], ◌∷◌, ◌++◌, length, map, Option, Some, None, refl, sym, ap, ◌∙◌, inl, inr, eqb-true, ne_eqb, ltb-true, lt-ltb, leb-true, subst, arith}
 use Rattle.std.specs.List.{All, AllByRecursion, IsDistinct, list_any, slice_get}
 use Rattle.std.specs.Option.{unwrap_or, option_and_then}
 use Rattle.std.proofs.lemmas.Bool.{and_parts, or_cases, ltb-false}
 use Rattle.std.proofs.lemmas.Map.Steps.{length-le_from_distinct_below}
 use Rattle.std.proofs.lemmas.List.Elements.{All-head, All-tail, All-push, All-from_recursion, recursion_from_All}
 use Rattle.std.proofs.lemmas.Option.{slice_get_within, slice_get-get_or, unwrap_or-slice_get}
-use Rattle.reg_model.specs.SpanData.{SpanData, IsSpan, contains, Overlaps}
-use Rattle.reg_model.specs.State.{IsFree, AreDisjoint}
+use Rattle.reg_model.specs.SpanData.{SpanData, IsSpan, Overlaps}
+use Rattle.reg_model.specs.State.{AreDisjoint}
 use Rattle.reg_model.specs.declared.span.Member.{Member}
 use Rattle.event_script.specs.ScriptData.{span_of, Rise, AreFixed}
 use Rattle.event_script.specs.Reading.{last_fixed, is_above}

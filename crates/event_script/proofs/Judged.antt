@@ -1,21 +1,23 @@
 -- A line is refused for the first reason of the table that holds of it, or none does.
-use Rattle.std.proofs.Common.{◌≡◌, ◌≢◌, ◌⊎◌, inl, inr, ℕ, ◌+◌, ◌-◌, ◌^◌, ◌<◌, ◌≤◌, Bool, true, false, true≢false, cond, ◌&&◌, eqb, ltb, leb, List, [], ◌∷◌, ◌++◌, length, Option, Some, None, Result, Ok, Err, refl, sym, ap, subst, ◌∙◌, eqb-true, ltb-true, leb-true, arith}
+use Rattle.std.proofs.Common.{◌≡◌, ◌≢◌, ◌⊎◌, inl, inr, ℕ, ◌+◌, ◌-◌, ◌^◌, ◌<◌, ◌≤◌, Bool, true, false, true≢false, cond, ◌&&◌, eqb, ltb, leb, List, [], ◌∷◌, ◌++◌, length, Option, Some, None, Result, Ok, Err, refl, sym, ap, subst, ◌∙◌, eqb-true, ltb-true, leb-true, lt-ltb, le-leb, arith}
 use Rattle.std.specs.List.{slice_get}
-use Rattle.std.specs.Option.{ok_or, option_and_then}
-use Rattle.std.proofs.lemmas.Bool.{and_parts, eqb-false, ltb-false, leb-false}
-use Rattle.std.proofs.lemmas.Option.{slice_get_within, slice_get_past}
+use Rattle.std.specs.Option.{ok_or}
+use Rattle.std.proofs.lemmas.Bool.{and_parts, and_from, eqb-false, ltb-false, leb-false}
+use Rattle.std.proofs.lemmas.Option.{slice_get_within}
 use Rattle.reg_model.specs.SpanData.{SpanData}
-use Rattle.frame_parse.specs.Sections.{SectionData, IsRefused}
+use Rattle.frame_parse.specs.Sections.{SectionData}
 use Rattle.frame_parse.specs.Reading.{section_of}
 use Rattle.frame_parse.specs.declared.fault.FrameFault.{FrameFault}
-use Rattle.event_script.specs.ScriptData.{ImageData, span_of}
+use Rattle.event_script.specs.ScriptData.{ImageData, SnapshotData, recorded_bytes, span_of}
 use Rattle.event_script.specs.Fields.{pieces, is_printable}
-use Rattle.event_script.specs.Statements.{word_of, forms, kind_of_statement, statement_fields, statement_line, HasForm, AreFields}
+use Rattle.event_script.specs.Statements.{word_of, forms, kind_of_statement, statement_fields, AreFields}
 use Rattle.event_script.specs.Spelling.{Line}
-use Rattle.event_script.specs.Draft.{DraftData, may_come, is_ended, is_unbuilt, threads_so_far, rounds_so_far, with_image, with_statement}
-use Rattle.event_script.specs.Reasons.{LineText, fields_of, IsOfKind, Says, SaysSome, IsOutOfOrder, IsOutsideLimit, IsNoSpan, HasBadSection, IsNameless, IsNotAbove, number_in_table, SpeaksAgainst, IsReason, IsGood}
+use Rattle.event_script.specs.Draft.{DraftData, may_come, is_ended, is_unbuilt, snapshots_so_far, threads_so_far, rounds_so_far, with_image, with_statement}
+use Rattle.frame_expr.specs.Regions.{RegionData, regions_end, Accepts}
+use Rattle.event_script.specs.declared.reader.statement.SnapshotFields.{SnapshotFields}
+use Rattle.event_script.specs.Reasons.{LineText, IsOfKind, Says, SaysSome, IsOutOfOrder, IsOutsideLimit, IsNoSpan, HasBadSection, IsNameless, IsNotAbove, IsNoRegion, number_in_table, SpeaksAgainst, IsReason, IsGood}
 use Rattle.event_script.specs.Refusal.{whole_line}
-use Rattle.event_script.specs.Reading.{◌>=>◌, kind_of, statement_of, section_or, image_added, last_fixed, is_above, fixed_added, is_named, added, by_word, after_line, at_end}
+use Rattle.event_script.specs.Reading.{◌>=>◌, kind_of, statement_of, section_or, image_added, last_fixed, is_above, fixed_added, snapshot_added, accepts, memory_added, is_named, added, by_word, after_line, at_end}
 use Rattle.event_script.specs.declared.script.Event.{Event}
 use Rattle.event_script.specs.declared.script.Event.TheVariants as event
 use Rattle.event_script.specs.declared.reader.fault.Reason.{Reason}
@@ -27,13 +29,13 @@ use Rattle.event_script.specs.declared.reader.statement.Statement.TheVariants as
 use Rattle.event_script.proofs.Pieces.{some_pieces}
 use Rattle.event_script.proofs.Steps.{kind_word}
 use Rattle.event_script.proofs.Words.{word_again}
-use Rattle.event_script.proofs.Spoken.{same_kind, says_one, Spoken, spoken, fields_fit, Wrong, IsLater, unspoken}
+use Rattle.event_script.proofs.Spoken.{same_kind, says_one, spoken, fields_fit, Wrong, IsLater, unspoken}
 use Rattle.event_script.proofs.Sections.{section_bad, section_refused}
 use Rattle.event_script.proofs.Fixed.{found_span, above_low, too_low}
 
 -- ---- reasons that were passed by, in order
 
-pub numbered_from : (r : Reason) → (0 < number_in_table r) × (number_in_table r < 15)
+pub numbered_from : (r : Reason) → (0 < number_in_table r) × (number_in_table r < 16)
 numbered_from reason.Missing = (omega arith, omega arith)
 numbered_from _ = (omega arith, omega arith)
 
@@ -141,11 +143,18 @@ module _ (known : DraftData) (text : LineText) where
       at reason.Name e = refute
       at _ e = absurd (omega arith)
 
-  pub pass_fixed : Passed 14 → Not reason.Fixed → IsGood known text
-  pass_fixed before refute other = one_more 14 before at other (numbered_from other).1
+  pub pass_fixed : Passed 14 → Not reason.Fixed → Passed 15
+  pass_fixed before refute = one_more 14 before at
     where
       at : (other : Reason) → number_in_table other ≡ 14 → Not other
       at reason.Fixed e = refute
+      at _ e = absurd (omega arith)
+
+  pub pass_region : Passed 15 → Not reason.Region → IsGood known text
+  pass_region before refute other = one_more 15 before at other (numbered_from other).1
+    where
+      at : (other : Reason) → number_in_table other ≡ 15 → Not other
+      at reason.Region e = refute
       at _ e = absurd (omega arith)
 
   pub refused : (why : Reason) → Passed (number_in_table why) → SpeaksAgainst why known text → IsReason known text why
@@ -170,6 +179,7 @@ module _ (known : DraftData) (text : LineText) (s : Statement) (says : Says text
     section : (fault : FrameFault) → HasBadSection fault s → ⊥
     name : IsNameless known s → ⊥
     fixed : IsNotAbove known s → ⊥
+    region : IsNoRegion known s → ⊥
 
   to_limit : Passed known text 9 → (IsOutOfOrder known s → ⊥) → Passed known text 10
   to_limit before order = pass_order known text before (not_said (IsOutOfOrder known) order)
@@ -187,7 +197,9 @@ module _ (known : DraftData) (text : LineText) (s : Statement) (says : Says text
   to_fixed before order limit span section name = pass_name known text (to_name before order limit span section) (not_said (IsNameless known) name)
 
   good : Passed known text 9 → Rows → IsGood known text
-  good before rows = pass_fixed known text (to_fixed before rows.order rows.limit rows.span rows.section rows.name) (not_said (IsNotAbove known) rows.fixed)
+  good before rows =
+      let passed = pass_fixed known text (to_fixed before rows.order rows.limit rows.span rows.section rows.name) (not_said (IsNotAbove known) rows.fixed) in
+      pass_region known text passed (not_said (IsNoRegion known) rows.region)
 
   limit_holds : Passed known text 9 → (IsOutOfOrder known s → ⊥) → IsOutsideLimit known s → IsReason known text reason.Limit
   limit_holds before order holds = refused known text reason.Limit (to_limit before order) (s, says, holds)
@@ -212,10 +224,10 @@ inside low high n e (inr above) = let p = and_parts (leb low n) (leb n high) e i
 
 module _ (known : DraftData) (text : LineText) where
   -- a statement with only a limit
-  by_limit : (s : Statement) → Says text s → Passed known text 9 → (IsOutOfOrder known s → ⊥) → (IsNoSpan s → ⊥) → ((fault : FrameFault) → HasBadSection fault s → ⊥) → (IsNameless known s → ⊥) → (IsNotAbove known s → ⊥)
+  by_limit : (s : Statement) → Says text s → Passed known text 9 → (IsOutOfOrder known s → ⊥) → (IsNoSpan s → ⊥) → ((fault : FrameFault) → HasBadSection fault s → ⊥) → (IsNameless known s → ⊥) → (IsNotAbove known s → ⊥) → (IsNoRegion known s → ⊥)
       → (t : Bool) → (t ≡ true → IsOutsideLimit known s → ⊥) → (t ≡ false → IsOutsideLimit known s) → (next : DraftData) → Judged known text (cond t (Ok next) (Err reason.Limit))
-  by_limit s says before order span section name fixed true within beyond next = good known text s says before (record { order = order; limit = within refl; span = span; section = section; name = name; fixed = fixed })
-  by_limit s says before order span section name fixed false within beyond next = limit_holds known text s says before order (beyond refl)
+  by_limit s says before order span section name fixed region true within beyond next = good known text s says before (record { order = order; limit = within refl; span = span; section = section; name = name; fixed = fixed; region = region })
+  by_limit s says before order span section name fixed region false within beyond next = limit_holds known text s says before order (beyond refl)
 
 -- ---- small facts
 
@@ -273,6 +285,7 @@ module _ (known : DraftData) (text : LineText) (image : ImageData) (says : Says 
     section = λ fault bad. section_or_fault (section_of image.section image.bytes) section fault is (section_bad image.section image.bytes fault bad);
     name = nothing;
     fixed = nothing;
+    region = nothing;
   })
   image_read (Err fault) is order limit span = refused known text (reason.Section fault) (to_section known text line_image says before order limit span) (line_image, says, section_refused image.section image.bytes fault is)
 
@@ -321,7 +334,7 @@ module _ (known : DraftData) (text : LineText) (image : ℕ) (says : Says text (
   is_missing none true e = absurd (some_or_none (slice_get known.script.images image) (span_of known.script.images image) (found_span known.script.images image (ltb-true _ _ e)) none)
 
   fixed_above : (span : SpanData) → slice_get known.script.images image ≡ Some span → (t : Bool) → is_above (last_fixed known.script.images known.script.fixed) span ≡ t → Judged known text (cond t (Ok (with_statement known line_fixed)) (Err reason.Fixed))
-  fixed_above span is true test = good known text line_fixed says before (record { order = nothing; limit = nothing; span = nothing; section = no_section; name = is_there span is; fixed = above_low known.script.images known.script.fixed image span is test })
+  fixed_above span is true test = good known text line_fixed says before (record { order = nothing; limit = nothing; span = nothing; section = no_section; name = is_there span is; fixed = above_low known.script.images known.script.fixed image span is test; region = nothing })
   fixed_above span is false test = refused known text reason.Fixed (to_fixed known text line_fixed says before nothing nothing nothing no_section (is_there span is)) (line_fixed, says, too_low known.script.images known.script.fixed image span is test)
 
   fixed_named : (o : Option SpanData) → slice_get known.script.images image ≡ o → Judged known text (ok_or o reason.Name >=> λ span. cond (is_above (last_fixed known.script.images known.script.fixed) span) (Ok (with_statement known line_fixed)) (Err reason.Fixed))
@@ -331,6 +344,63 @@ module _ (known : DraftData) (text : LineText) (image : ℕ) (says : Says text (
   judged_fixed : Judged known text (fixed_added known image)
   judged_fixed = fixed_named (slice_get known.script.images image) refl
 
+-- ---- a snapshot, and its memory
+
+module _ (known : DraftData) (text : LineText) (snapshot : SnapshotFields) (says : Says text (statement.Snapshot snapshot)) (before : Passed known text 9) where
+  abbrev line_snapshot : Statement
+  line_snapshot = statement.Snapshot snapshot
+
+  snapshot_ordered : (t : Bool) → eqb snapshot.number (length (snapshots_so_far known)) ≡ t
+      → Judged known text (cond t (cond (ltb (length (snapshots_so_far known)) 4096) (Ok (with_statement known line_snapshot)) (Err reason.Limit)) (Err reason.Order))
+  snapshot_ordered true is =
+      by_limit known text line_snapshot says before (λ other. other (eqb-true _ _ is)) nothing no_section nothing nothing nothing (ltb (length (snapshots_so_far known)) 4096)
+      (λ is many. let few = ltb-true _ _ is in absurd (omega arith)) (λ is. ltb-false _ _ is) (with_statement known line_snapshot)
+  snapshot_ordered false is = refused known text reason.Order before (line_snapshot, says, eqb-false _ _ is)
+
+  judged_snapshot : Judged known text (snapshot_added known snapshot)
+  judged_snapshot = snapshot_ordered (eqb snapshot.number (length (snapshots_so_far known))) refl
+
+-- the test of a region
+pub accepted_true : (regions : List RegionData) (region : RegionData) → accepts regions region ≡ true → Accepts regions region.address region.bytes
+accepted_true regions region e =
+    let p = and_parts (ltb 0 (length region.bytes) && ltb (region.address + length region.bytes) (2 ^ 64)) (leb (regions_end regions) region.address) e in
+    let q = and_parts (ltb 0 (length region.bytes)) (ltb (region.address + length region.bytes) (2 ^ 64)) p.0 in
+    (ltb-true _ _ q.0, ltb-true _ _ q.1, leb-true _ _ p.1)
+
+pub accepted_is : (regions : List RegionData) (region : RegionData) → Accepts regions region.address region.bytes → accepts regions region ≡ true
+accepted_is regions region are =
+    and_from (ltb 0 (length region.bytes) && ltb (region.address + length region.bytes) (2 ^ 64)) (leb (regions_end regions) region.address)
+    (and_from (ltb 0 (length region.bytes)) (ltb (region.address + length region.bytes) (2 ^ 64)) (lt-ltb _ _ are.0) (lt-ltb _ _ are.1)) (le-leb _ _ are.2)
+
+pub accepted_false : (regions : List RegionData) (region : RegionData) → accepts regions region ≡ false → Accepts regions region.address region.bytes → ⊥
+accepted_false regions region e are =
+    true≢false (sym (accepted_is regions region are) ∙ e)
+
+module _ (known : DraftData) (text : LineText) (region : RegionData) (says : Says text (statement.Memory region)) (before : Passed known text 9) where
+  abbrev line_memory : Statement
+  line_memory = statement.Memory region
+
+  abbrev with_region : SnapshotData
+  with_region = record known.snapshot { memory = known.snapshot.memory ++ region ∷ [] }
+
+  abbrev made_known : SnapshotData → Result DraftData Reason
+  made_known snapshot = Ok (record known { snapshot = snapshot })
+
+  to_region : (IsOutsideLimit known line_memory → ⊥) → Passed known text 15
+  to_region limit = pass_fixed known text (to_fixed known text line_memory says before nothing limit nothing no_section nothing) (not_said known text line_memory says (IsNotAbove known) nothing)
+
+  memory_accepted : (IsOutsideLimit known line_memory → ⊥) → (t : Bool) → accepts known.snapshot.memory region ≡ t → Judged known text (cond t (Ok with_region) (Err reason.Region) >=> made_known)
+  memory_accepted limit true is = good known text line_memory says before (record { order = nothing; limit = limit; span = nothing; section = no_section; name = nothing; fixed = nothing; region = λ refute. refute (accepted_true known.snapshot.memory region is) })
+  memory_accepted limit false is = refused known text reason.Region (to_region limit) (line_memory, says, accepted_false known.snapshot.memory region is)
+
+  memory_limited : (t : Bool) → leb (recorded_bytes known.snapshot.memory + length region.bytes) 65536 ≡ t
+      → Judged known text (cond t (cond (accepts known.snapshot.memory region) (Ok with_region) (Err reason.Region)) (Err reason.Limit) >=> made_known)
+  memory_limited true is = memory_accepted (λ many. let few = leb-true (recorded_bytes known.snapshot.memory + length region.bytes) 65536 is in absurd (omega arith)) (accepts known.snapshot.memory region) refl
+  memory_limited false is = limit_holds known text line_memory says before nothing (leb-false (recorded_bytes known.snapshot.memory + length region.bytes) 65536 is)
+
+  judged_memory : Judged known text (memory_added known region)
+  judged_memory = memory_limited (leb (recorded_bytes known.snapshot.memory + length region.bytes) 65536) refl
+
 -- ---- an event
 
 module _ (known : DraftData) (text : LineText) (e : Event) (says : Says text (statement.Event e)) (before : Passed known text 9) where
@@ -338,7 +408,7 @@ module _ (known : DraftData) (text : LineText) (e : Event) (says : Says text (st
   line_event = statement.Event e
 
   event_named : (t : Bool) → is_named (length known.script.images) e ≡ t → (IsOutsideLimit known line_event → ⊥) → Judged known text (cond t (Ok (with_statement known line_event)) (Err reason.Name))
-  event_named true is limit = good known text line_event says before (record { order = nothing; limit = limit; span = nothing; section = no_section; name = named_there (length known.script.images) known e refl is; fixed = nothing })
+  event_named true is limit = good known text line_event says before (record { order = nothing; limit = limit; span = nothing; section = no_section; name = named_there (length known.script.images) known e refl is; fixed = nothing; region = nothing })
   event_named false is limit = refused known text reason.Name (to_name known text line_event says before nothing limit nothing no_section) (line_event, says, named_missing (length known.script.images) known e refl is)
 
   event_limited : (t : Bool) → ltb (length known.events) 4096 ≡ t → Judged known text (cond t (cond (is_named (length known.script.images) e) (Ok (with_statement known line_event)) (Err reason.Name)) (Err reason.Limit))
@@ -350,19 +420,21 @@ module _ (known : DraftData) (text : LineText) (e : Event) (says : Says text (st
 pub judged_statement : (known : DraftData) (text : LineText) (s : Statement) → Says text s → Passed known text 9 → Judged known text (added known s)
 unfolding added
 judged_statement known text (statement.Version version) says before =
-    by_limit known text (statement.Version version) says before nothing nothing no_section nothing nothing (eqb version 1) (λ is other. other (eqb-true _ _ is)) (λ is. eqb-false _ _ is) (with_statement known (statement.Version version))
+    by_limit known text (statement.Version version) says before nothing nothing no_section nothing nothing nothing (eqb version 1) (λ is other. other (eqb-true _ _ is)) (λ is. eqb-false _ _ is) (with_statement known (statement.Version version))
 judged_statement known text (statement.Nodes nodes) says before =
-    by_limit known text (statement.Nodes nodes) says before nothing nothing no_section nothing nothing (leb 4 nodes && leb nodes 16384) (inside 4 16384 nodes) (outside 4 16384 nodes) (with_statement known (statement.Nodes nodes))
+    by_limit known text (statement.Nodes nodes) says before nothing nothing no_section nothing nothing nothing (leb 4 nodes && leb nodes 16384) (inside 4 16384 nodes) (outside 4 16384 nodes) (with_statement known (statement.Nodes nodes))
 judged_statement known text (statement.Loads loads) says before =
-    by_limit known text (statement.Loads loads) says before nothing nothing no_section nothing nothing (leb 1 loads && leb loads 1024) (inside 1 1024 loads) (outside 1 1024 loads) (with_statement known (statement.Loads loads))
+    by_limit known text (statement.Loads loads) says before nothing nothing no_section nothing nothing nothing (leb 1 loads && leb loads 1024) (inside 1 1024 loads) (outside 1 1024 loads) (with_statement known (statement.Loads loads))
 judged_statement known text (statement.Image image) says before = judged_image known text image says before
 judged_statement known text (statement.Fixed image) says before = judged_fixed known text image says before
+judged_statement known text (statement.Snapshot snapshot) says before = judged_snapshot known text snapshot says before
+judged_statement known text (statement.Memory region) says before = judged_memory known text region says before
 judged_statement known text statement.Round says before =
-    by_limit known text statement.Round says before nothing nothing no_section nothing nothing (ltb (length (rounds_so_far known)) 64) (λ is many. let few = ltb-true _ _ is in absurd (omega arith)) (λ is. ltb-false _ _ is) (with_statement known statement.Round)
+    by_limit known text statement.Round says before nothing nothing no_section nothing nothing nothing (ltb (length (rounds_so_far known)) 64) (λ is many. let few = ltb-true _ _ is in absurd (omega arith)) (λ is. ltb-false _ _ is) (with_statement known statement.Round)
 judged_statement known text statement.Thread says before =
-    by_limit known text statement.Thread says before nothing nothing no_section nothing nothing (ltb (length (threads_so_far known)) 16) (λ is many. let few = ltb-true _ _ is in absurd (omega arith)) (λ is. ltb-false _ _ is) (with_statement known statement.Thread)
+    by_limit known text statement.Thread says before nothing nothing no_section nothing nothing nothing (ltb (length (threads_so_far known)) 16) (λ is many. let few = ltb-true _ _ is in absurd (omega arith)) (λ is. ltb-false _ _ is) (with_statement known statement.Thread)
 judged_statement known text (statement.Event e) says before = event_limited known text e says before (ltb (length known.events) 4096) refl
-judged_statement known text statement.End says before = good known text statement.End says before (record { order = nothing; limit = nothing; span = nothing; section = no_section; name = nothing; fixed = nothing })
+judged_statement known text statement.End says before = good known text statement.End says before (record { order = nothing; limit = nothing; span = nothing; section = no_section; name = nothing; fixed = nothing; region = nothing })
 
 -- ---- a line
 
@@ -400,7 +472,6 @@ module _ (known : DraftData) (line : List ℕ) where
         spoken_line k fields is may (pass_unbuilt known here passed (of_kind k fields is (λ k fields. is_unbuilt known k ≡ true) (λ may. true≢false (sym may ∙ e)))) (later k e) (statement_of k fields) refl
       where
         later : (k : Kind) → is_unbuilt known k ≡ false → IsLater k → ⊥
-        later kind.Snapshot e is = true≢false e
         later kind.Unwind e is = true≢false e
         later _ e is = is
 

@@ -1,5 +1,5 @@
 -- How many lines there are.
-use Rattle.std.proofs.Common.{◌≡◌, ℕ, ◌+◌, ◌-◌, ◌≤◌, false, List, [], ◌∷◌, ◌++◌, length, map, All, Ok, refl, ap, ap₂, ◌∙◌, arith, length-append}
+use Rattle.std.proofs.Common.{◌≡◌, ℕ, ◌+◌, ◌*◌, ◌≤◌, false, List, [], ◌∷◌, ◌++◌, length, map, All, Ok, refl, ap, ap₂, ◌∙◌, arith, length-append}
 use Rattle.frame_parse.specs.Sections.{SectionData}
 use Rattle.reg_model.specs.SpanData.{SpanData, IsSpan}
 use Rattle.event_script.specs.declared.script.Event.{Event}
@@ -8,14 +8,17 @@ use Rattle.event_script.specs.declared.reader.kinds.Stage.{Stage}
 use Rattle.event_script.specs.declared.reader.kinds.Stage.TheVariants as stage
 use Rattle.event_script.specs.declared.reader.statement.Statement.{Statement}
 use Rattle.event_script.specs.declared.reader.statement.Statement.TheVariants as statement
-use Rattle.event_script.specs.ScriptData.{ScriptData, AreFixed, IsThread}
-use Rattle.event_script.specs.Spelling.{image_statements, round_statements}
+use Rattle.std.specs.List.{AllByRecursion}
+use Rattle.std.proofs.lemmas.List.Elements.{recursion_from_All}
+use Rattle.frame_expr.specs.Regions.{RegionData, end, AreFrom}
+use Rattle.event_script.specs.ScriptData.{ScriptData, SnapshotData, IsSnapshot, recorded_bytes, AreFixed, IsThread}
+use Rattle.event_script.specs.Spelling.{image_statements, snapshot_lines, snapshot_statements, round_statements}
 use Rattle.event_script.specs.Draft.{DraftData, is_ended}
 use Rattle.event_script.specs.Reading.{after_line}
 use Rattle.event_script.proofs.Steps.{guard_else}
 use Rattle.event_script.proofs.Fixed.{few_fixed}
 use Rattle.event_script.proofs.SoFar.{statements_at, statements_so_far, ShapeAt, Sound}
-use Rattle.event_script.proofs.Sound.{one_thread, line_read, line_sound}
+use Rattle.event_script.proofs.Sound.{one_thread, open_snapshots, line_read, line_sound}
 
 map_count : {A B : Type 0} (f : A → B) (xs : List A) → length (map f xs) ≡ length xs
 map_count f [] = refl
@@ -26,34 +29,52 @@ images_count number [] sections = omega arith
 images_count number (span ∷ images) [] = omega arith
 images_count number (span ∷ images) (section ∷ sections) = omega (arith, images_count (number + 1) images sections)
 
-module _ (script : ScriptData) (count : length script.images ≤ 4096) (spans : All IsSpan script.images) (fixed : AreFixed script.images script.fixed) where
-  -- the lines of the images, of the fixed ones, and of the rounds
-  middle_count : (lines rounds : List Statement) (most : ℕ) → lines ≡ rounds → length rounds ≤ most
-      → length (image_statements 0 script.images script.sections ++ map statement.Fixed script.fixed ++ lines) ≤ 8192 + most
-  middle_count lines rounds most is small =
-      omega (arith, length-append (image_statements 0 script.images script.sections ++ map statement.Fixed script.fixed) lines, length-append (image_statements 0 script.images script.sections) (map statement.Fixed script.fixed), images_count 0 script.images script.sections, map_count statement.Fixed script.fixed, few_fixed script.images script.fixed spans fixed, ap length is)
+-- each region has a byte at least
+regions_count : (low : ℕ) (regions : List RegionData) → AreFrom low regions → length regions ≤ recorded_bytes regions
+regions_count low [] are = omega arith
+regions_count low (r ∷ regions) are = let some = are.1 in let rest = regions_count (end r) regions are.3 in omega arith
 
-  module _ (threads : List (List Event)) (events : List Event) (thread : IsThread (length script.images) events) where
-    few_at : (at : Stage) → ShapeAt at (record { stage = at; script = script; threads = threads; events = events }) → is_ended at ≡ false → length (statements_at at (record { stage = at; script = script; threads = threads; events = events })) ≤ 12300
+snapshot_count : (number : ℕ) (snapshot : SnapshotData) → IsSnapshot snapshot → length (snapshot_lines number snapshot) ≤ 65537
+snapshot_count number snapshot is =
+    let size = is.size in
+    omega (arith, map_count statement.Memory snapshot.memory, regions_count 0 snapshot.memory is.regions)
+
+snapshots_count : (number : ℕ) (snapshots : List SnapshotData) → AllByRecursion IsSnapshot snapshots → length (snapshot_statements number snapshots) ≤ 65537 * length snapshots
+snapshots_count number [] are = omega arith
+snapshots_count number (snapshot ∷ snapshots) are =
+    omega (arith, length-append (snapshot_lines number snapshot) (snapshot_statements (number + 1) snapshots), snapshot_count number snapshot are.0, snapshots_count (number + 1) snapshots are.1)
+
+module _ (script : ScriptData) (count : length script.images ≤ 4096) (spans : All IsSpan script.images) (fixed : AreFixed script.images script.fixed) where
+  -- the lines of the images, of the fixed ones, of the snapshots, and of the rounds
+  middle_count : (snapshots : List SnapshotData) (lines rounds : List Statement) (most : ℕ) → (length snapshots ≤ 4096) × All IsSnapshot snapshots → lines ≡ rounds → length rounds ≤ most
+      → length (image_statements 0 script.images script.sections ++ map statement.Fixed script.fixed ++ snapshot_statements 0 snapshots ++ lines) ≤ 268447744 + most
+  middle_count snapshots lines rounds most some is small =
+      let few = some.0 in
+      let stacks = snapshots_count 0 snapshots (recursion_from_All IsSnapshot snapshots some.1) in
+      omega (arith, length-append (image_statements 0 script.images script.sections ++ map statement.Fixed script.fixed ++ snapshot_statements 0 snapshots) lines, length-append (image_statements 0 script.images script.sections ++ map statement.Fixed script.fixed) (snapshot_statements 0 snapshots), length-append (image_statements 0 script.images script.sections) (map statement.Fixed script.fixed), images_count 0 script.images script.sections, map_count statement.Fixed script.fixed, few_fixed script.images script.fixed spans fixed, ap length is)
+
+  module _ (snapshot : SnapshotData) (threads : List (List Event)) (events : List Event) (some : (length script.snapshots ≤ 4096) × All IsSnapshot script.snapshots) (thread : IsThread (length script.images) events) where
+    few_at : (at : Stage) → ShapeAt at (record { stage = at; script = script; snapshot = snapshot; threads = threads; events = events }) → is_ended at ≡ false → length (statements_at at (record { stage = at; script = script; snapshot = snapshot; threads = threads; events = events })) ≤ 268451852
     few_at stage.Version shape going = omega arith
     few_at stage.Nodes shape going = omega arith
     few_at stage.Loads shape going = omega arith
-    few_at stage.Images shape going = omega (arith, middle_count (round_statements script.rounds) [] 0 (ap round_statements shape.0) (omega arith))
-    few_at stage.Fixed shape going = omega (arith, middle_count (round_statements script.rounds) [] 0 (ap round_statements shape.0) (omega arith))
+    few_at stage.Images shape going = omega (arith, middle_count script.snapshots (round_statements script.rounds) [] 0 some (ap round_statements shape.0) (omega arith))
+    few_at stage.Fixed shape going = omega (arith, middle_count script.snapshots (round_statements script.rounds) [] 0 some (ap round_statements shape.0) (omega arith))
+    few_at stage.Snapshots shape going = omega (arith, middle_count (script.snapshots ++ snapshot ∷ []) (round_statements script.rounds) [] 0 (open_snapshots script snapshot threads events (shape.2, shape.3) some) (ap round_statements shape.0) (omega arith))
     few_at stage.Round shape going =
-        omega (arith, middle_count (round_statements (script.rounds ++ threads ∷ [])) (statement.Round ∷ []) 1 (ap₂ (λ (r : List (List (List Event))) (t : List (List Event)). round_statements (r ++ t ∷ [])) shape.0 shape.1) (omega arith))
+        omega (arith, middle_count script.snapshots (round_statements (script.rounds ++ threads ∷ [])) (statement.Round ∷ []) 1 some (ap₂ (λ (r : List (List (List Event))) (t : List (List Event)). round_statements (r ++ t ∷ [])) shape.0 shape.1) (omega arith))
     few_at stage.Thread shape going =
         let is : round_statements (script.rounds ++ (threads ++ events ∷ []) ∷ []) ≡ statement.Round ∷ statement.Thread ∷ map statement.Event events =
         ap₂ (λ (r : List (List (List Event))) (t : List (List Event)). round_statements (r ++ (t ++ events ∷ []) ∷ [])) shape.0 shape.1 ∙ one_thread events in
-        omega (arith, middle_count (round_statements (script.rounds ++ (threads ++ events ∷ []) ∷ [])) (statement.Round ∷ statement.Thread ∷ map statement.Event events) 4098 is (omega (arith, map_count statement.Event events, thread.0)))
+        omega (arith, middle_count script.snapshots (round_statements (script.rounds ++ (threads ++ events ∷ []) ∷ [])) (statement.Round ∷ statement.Thread ∷ map statement.Event events) 4098 some is (omega (arith, map_count statement.Event events, thread.0)))
     few_at stage.Ended shape going = absurd cc
 
 -- before a good line there are few lines
-pub few_lines : (known next : DraftData) (line : List ℕ) → Sound known → after_line known line ≡ Ok next → length (statements_so_far known) ≤ 12300
+pub few_lines : (known next : DraftData) (line : List ℕ) → Sound known → after_line known line ≡ Ok next → length (statements_so_far known) ≤ 268451852
 unfolding after_line
 few_lines known next line s e =
     let open_still = guard_else (is_ended known.stage) reason.After _ next e in
-    few_at known.script s.count s.spans s.fixed known.threads known.events s.events known.stage s.shape open_still.0
+    few_at known.script s.count s.spans s.fixed known.snapshot known.threads known.events s.snapshots s.events known.stage s.shape open_still.0
 
 -- a good line is one more line
 pub one_more_line : (known next : DraftData) (line : List ℕ) (number : ℕ) → Sound known → number ≡ length (statements_so_far known) + 1 → after_line known line ≡ Ok next

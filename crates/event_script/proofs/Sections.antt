@@ -18,7 +18,7 @@ use Rattle.frame_parse.specs.Sections.{SectionData, HasFdes, IsSection, IsRefuse
 use Rattle.frame_parse.specs.Reading.{section_of}
 use Rattle.frame_parse.proofs.OneAnswer.{one_answer, answered}
 use Rattle.event_script.specs.Lower.{is_lower}
-use Rattle.event_script.specs.Fields.{bytes_if, section_bytes}
+use Rattle.event_script.specs.Fields.{bytes_if, bytes_in, section_bytes}
 use Rattle.event_script.specs.Statements.{section_digits}
 use Rattle.event_script.specs.Reading.{IsOfBytes}
 use Rattle.event_script.specs.declared.reader.fault.Reason.TheVariants as reason
@@ -113,18 +113,22 @@ none_unless (Some x) never = absurd (never x refl)
 
 pub dash_in : (field : List ℕ) → bytes_eq field (codes "-") ≡ true → section_bytes field ≡ Some []
 unfolding section_bytes
-dash_in field dash = cond-true (bytes_eq field (codes "-")) (Some []) (bytes_if field (decode_of field)) dash
+dash_in field dash = cond-true (bytes_eq field (codes "-")) (Some []) (bytes_in field) dash
 
-module _ (field : List ℕ) (no_dash : bytes_eq field (codes "-") ≡ false) where
-  decoded : section_bytes field ≡ bytes_if field (decode_of field)
-  unfolding section_bytes
-  decoded = cond-false (bytes_eq field (codes "-")) (Some []) (bytes_if field (decode_of field)) no_dash
+pub no_dash_in : (field : List ℕ) → bytes_eq field (codes "-") ≡ false → section_bytes field ≡ bytes_in field
+unfolding section_bytes
+no_dash_in field other = cond-false (bytes_eq field (codes "-")) (Some []) (bytes_in field) other
+
+module _ (field : List ℕ) where
+  decoded : bytes_in field ≡ bytes_if field (decode_of field)
+  unfolding bytes_in
+  decoded = refl
 
   -- text that doesn't decode
-  pub undecoded_in : (e : FromHexError) → decode_of field ≡ Err e → section_bytes field ≡ None
+  pub undecoded_in : (e : FromHexError) → decode_of field ≡ Err e → bytes_in field ≡ None
   undecoded_in e is = decoded ∙ ap (bytes_if field) is
 
-  pub empty_in : length field ≡ 0 → section_bytes field ≡ None
+  pub empty_in : length field ≡ 0 → bytes_in field ≡ None
   unfolding decode_pairs
   empty_in none = decoded ∙ by field none
     where
@@ -133,8 +137,8 @@ module _ (field : List ℕ) (no_dash : bytes_eq field (codes "-") ≡ false) whe
       by (b ∷ field) none = absurd (omega arith)
 
   -- text with another byte than digits in lower case
-  pub not_lower_in : list_all is_lower field ≡ false → section_bytes field ≡ None
-  not_lower_in other = none_unless (section_bytes field) (λ bytes e. by (decode_of field) refl bytes (sym decoded ∙ e))
+  pub not_lower_in : list_all is_lower field ≡ false → bytes_in field ≡ None
+  not_lower_in other = none_unless (bytes_in field) (λ bytes e. by (decode_of field) refl bytes (sym decoded ∙ e))
     where
       same : (b : ℕ) (rest bytes : List ℕ) → decode_of field ≡ Ok (b ∷ rest) → (t : Bool) → bytes_eq field (encode_lower (b ∷ rest)) ≡ t → cond t (Some (b ∷ rest)) None ≡ Some bytes → ⊥
       same b rest bytes is true eq e =
@@ -148,7 +152,7 @@ module _ (field : List ℕ) (no_dash : bytes_eq field (codes "-") ≡ false) whe
       by (Ok []) is bytes e = cc
       by (Ok (b ∷ rest)) is bytes e = same b rest bytes is (bytes_eq field (encode_lower (b ∷ rest))) refl e
 
-  pub decoded_in : (bytes : List ℕ) → length field ≢ 0 → list_all is_lower field ≡ true → decode_of field ≡ Ok bytes → section_bytes field ≡ Some bytes
+  pub decoded_in : (bytes : List ℕ) → length field ≢ 0 → list_all is_lower field ≡ true → decode_of field ≡ Ok bytes → bytes_in field ≡ Some bytes
   decoded_in bytes some lower is = decoded ∙ ap (bytes_if field) is ∙ by bytes (decode_of-ok field bytes is).2 (lower_again field bytes lower is)
     where
       by : (bytes : List ℕ) → length field ≡ 2 * length bytes → encode_lower bytes ≡ field → bytes_if field (Ok bytes) ≡ Some bytes
@@ -160,14 +164,19 @@ encoded_text : (b : ℕ) (bytes : List ℕ) → IsBytes (b ∷ bytes) → bytes_
 unfolding encode_with
 encoded_text b bytes fits = and_right _ _ refl
 
+pub some_bytes_again : (bytes : List ℕ) → IsBytes bytes → 0 < length bytes → bytes_in (encode_lower bytes) ≡ Some bytes
+unfolding bytes_in
+some_bytes_again [] fits some = absurd (omega arith)
+some_bytes_again (b ∷ bytes) fits some =
+    let text = encode_lower (b ∷ bytes) in
+    ap (bytes_if text) (decode_of-encode_lower (b ∷ bytes) fits)
+    ∙ cond-true (bytes_eq text text) (Some (b ∷ bytes)) None ((bytes_eq-Decides text text).1 refl)
+
 pub bytes_again : (bytes : List ℕ) → IsBytes bytes → section_bytes (section_digits bytes) ≡ Some bytes
 unfolding section_bytes
 bytes_again [] fits = refl
 bytes_again (b ∷ bytes) fits =
-    let text = encode_lower (b ∷ bytes) in
-    cond-false (bytes_eq text (codes "-")) (Some []) (bytes_if text (decode_of text)) (encoded_text b bytes fits)
-    ∙ ap (bytes_if text) (decode_of-encode_lower (b ∷ bytes) fits)
-    ∙ cond-true (bytes_eq text text) (Some (b ∷ bytes)) None ((bytes_eq-Decides text text).1 refl)
+    no_dash_in (encode_lower (b ∷ bytes)) (encoded_text b bytes fits) ∙ some_bytes_again (b ∷ bytes) fits (omega arith)
 
 -- what is written can be seen
 visible_if_lower : (field : List ℕ) → list_all is_lower field ≡ true → AllByRecursion (λ b. (33 ≤ b) × (b ≤ 126)) field
@@ -180,6 +189,9 @@ visible_if_lower (c ∷ field) lower =
       ],
       visible_if_lower field p.1,
     )
+
+pub digits_visible : (bytes : List ℕ) → IsBytes bytes → AllByRecursion (λ b. (33 ≤ b) × (b ≤ 126)) (encode_lower bytes)
+digits_visible bytes fits = visible_if_lower (encode_lower bytes) (encode_is_lower bytes fits)
 
 pub section_visible : (bytes : List ℕ) → IsBytes bytes → AllByRecursion (λ b. (33 ≤ b) × (b ≤ 126)) (section_digits bytes)
 section_visible [] fits = ((omega arith, omega arith), tt)

@@ -1,10 +1,10 @@
 -- What the lines so far say, and what holds of what they make known.
-use Rattle.std.proofs.Common.{◌≡◌, ℕ, ◌+◌, ◌<◌, ◌≤◌, List, [], ◌∷◌, ◌++◌, length, All, subst, arith}
+use Rattle.std.proofs.Common.{◌≡◌, ℕ, ◌<◌, ◌≤◌, List, [], ◌∷◌, ◌++◌, length, All, subst, arith}
 use Rattle.std.proofs.lemmas.List.Elements.{All-from_recursion}
 use Rattle.reg_model.specs.SpanData.{SpanData, IsSpan}
-use Rattle.event_script.specs.ScriptData.{ScriptData, IsSectionOf, AreFixed, IsEvent, IsThread, IsRound}
+use Rattle.event_script.specs.ScriptData.{ScriptData, IsSnapshot, IsSectionOf, AreFixed, IsEvent, IsThread, IsRound}
 use Rattle.event_script.specs.Spelling.{body_statements}
-use Rattle.event_script.specs.Draft.{DraftData, rounds_so_far}
+use Rattle.event_script.specs.Draft.{DraftData, snapshots_so_far, rounds_so_far}
 use Rattle.event_script.specs.declared.script.Event.{Event}
 use Rattle.event_script.specs.declared.reader.kinds.Stage.{Stage}
 use Rattle.event_script.specs.declared.reader.kinds.Stage.TheVariants as stage
@@ -13,9 +13,9 @@ use Rattle.event_script.specs.declared.reader.statement.Statement.TheVariants as
 
 -- ---- the lines so far
 
--- the script so far, with the round that goes on
+-- the script so far, with the snapshot or the round that goes on
 abbrev pub script_so_far : DraftData → ScriptData
-script_so_far known = record known.script { rounds = rounds_so_far known }
+script_so_far known = record known.script { snapshots = snapshots_so_far known; rounds = rounds_so_far known }
 
 abbrev pub statements_at : Stage → DraftData → List Statement
 statements_at stage.Version known = []
@@ -47,12 +47,13 @@ pub record AreRounds (images : ℕ) (rounds : List (List (List Event))) : Type 0
   pub each : All (IsRound images) rounds
 
 abbrev pub ShapeAt : Stage → DraftData → Type 0
-ShapeAt stage.Images known = (known.script.rounds ≡ []) × (known.threads ≡ []) × (known.events ≡ []) × (known.script.fixed ≡ [])
-ShapeAt stage.Fixed known = (known.script.rounds ≡ []) × (known.threads ≡ [])
+ShapeAt stage.Images known = (known.script.rounds ≡ []) × (known.threads ≡ []) × (known.events ≡ []) × (known.script.fixed ≡ []) × (known.script.snapshots ≡ [])
+ShapeAt stage.Fixed known = (known.script.rounds ≡ []) × (known.threads ≡ []) × (known.script.snapshots ≡ [])
+ShapeAt stage.Snapshots known = (known.script.rounds ≡ []) × (known.threads ≡ []) × (length known.script.snapshots < 4096) × IsSnapshot known.snapshot
 ShapeAt stage.Round known = (known.script.rounds ≡ []) × (known.threads ≡ [])
 ShapeAt stage.Thread known = (known.script.rounds ≡ []) × (known.threads ≡ [])
 ShapeAt stage.Ended known = AreRounds (length known.script.images) known.script.rounds
-ShapeAt _ known = (known.script.images ≡ []) × (known.script.rounds ≡ []) × (known.threads ≡ []) × (known.events ≡ []) × (known.script.fixed ≡ [])
+ShapeAt _ known = (known.script.images ≡ []) × (known.script.rounds ≡ []) × (known.threads ≡ []) × (known.events ≡ []) × (known.script.fixed ≡ []) × (known.script.snapshots ≡ [])
 
 pub record Sound (known : DraftData) : Type 0 where
   pub each : length known.script.sections ≡ length known.script.images
@@ -62,6 +63,7 @@ pub record Sound (known : DraftData) : Type 0 where
   pub count : length known.script.images ≤ 4096
   pub spans : All IsSpan known.script.images
   pub fixed : AreFixed known.script.images known.script.fixed
+  pub snapshots : (length known.script.snapshots ≤ 4096) × All IsSnapshot known.script.snapshots
   pub events : IsThread (length known.script.images) known.events
   pub shape : ShapeAt known.stage known
 
@@ -75,6 +77,9 @@ same_step known made next s e step = subst (λ (n : DraftData). Step known n s) 
 
 pub no_events : (images : ℕ) → IsThread images []
 no_events images = (omega arith, All-from_recursion (IsEvent images) [] tt)
+
+pub no_snapshots : (0 ≤ 4096) × All IsSnapshot []
+no_snapshots = (omega arith, All-from_recursion IsSnapshot [] tt)
 
 pub no_fixed : (images : List SpanData) → AreFixed images []
 no_fixed images = record { named = All-from_recursion (λ image. image < length images) [] tt; rising = tt }

@@ -1,6 +1,6 @@
 -- What is read is spelled so: each good line says what it adds.
-use Rattle.std.proofs.Common.{◌≡◌, ℕ, ◌+◌, ◌-◌, ◌^◌, ◌<◌, ◌≤◌, Bool, true, false, cond, ◌&&◌, eqb, ltb, leb, List, [], ◌∷◌, ◌++◌, length, map, Option, Some, None, Result, Ok, Err, refl, sym, ap, ap₂, subst, ◌∙◌, append_assoc, append-nil, eqb-true, ltb-true, leb-true, arith, length-append}
-use Rattle.std.specs.List.{flat_map, slice_get}
+use Rattle.std.proofs.Common.{◌≡◌, ℕ, ◌+◌, ◌-◌, ◌^◌, ◌<◌, ◌≤◌, Bool, true, false, cond, ◌&&◌, eqb, ltb, leb, List, [], ◌∷◌, ◌++◌, length, map, Result, Ok, Err, refl, sym, ap, ap₂, subst, ◌∙◌, append_assoc, append-nil, eqb-true, ltb-true, leb-true, arith, length-append}
+use Rattle.std.specs.List.{slice_get, All}
 use Rattle.std.specs.Option.{ok_or}
 use Rattle.std.proofs.lemmas.Bool.{and_parts}
 use Rattle.std.proofs.lemmas.Grind.{flat_map-append}
@@ -11,14 +11,16 @@ use Rattle.reg_model.specs.SpanData.{SpanData, IsSpan}
 use Rattle.frame_parse.specs.Sections.{SectionData}
 use Rattle.frame_parse.specs.Reading.{section_of}
 use Rattle.frame_parse.specs.declared.fault.FrameFault.{FrameFault}
-use Rattle.event_script.specs.ScriptData.{ScriptData, ImageData, IsSectionOf, AreFixed, IsEvent, IsThread, IsRound}
+use Rattle.frame_expr.specs.Regions.{RegionData, end, regions_end, AreFrom, Accepts}
+use Rattle.event_script.specs.declared.reader.statement.SnapshotFields.{SnapshotFields}
+use Rattle.event_script.specs.ScriptData.{ScriptData, ImageData, SnapshotData, IsSnapshot, recorded_bytes, IsSectionOf, AreFixed, IsEvent, IsThread, IsRound}
 use Rattle.event_script.specs.Statements.{kind_of_statement, statement_fields, HasForm}
-use Rattle.event_script.specs.Spelling.{Line, spelling_of, statement_text, statements_text, image_data, image_statements, thread_statements, round_statements, first_statements, script_text, IsScript}
+use Rattle.event_script.specs.Spelling.{Line, spelling_of, statement_text, statements_text, image_data, image_statements, snapshot_lines, snapshot_statements, round_statements, script_text, IsScript}
 use Rattle.event_script.specs.Fields.{pieces, is_printable}
-use Rattle.event_script.specs.Draft.{DraftData, nothing_known, may_come, is_ended, is_unbuilt, span_from, with_image, with_statement, contents_or_none}
+use Rattle.event_script.specs.Draft.{DraftData, nothing_known, may_come, is_ended, is_unbuilt, span_from, with_image, with_statement}
 use Rattle.event_script.specs.Reasons.{Says}
 use Rattle.event_script.specs.Refusal.{whole_line}
-use Rattle.event_script.specs.Reading.{◌>=>◌, kind_of, statement_of, section_or, image_added, last_fixed, is_above, fixed_added, is_named, added, by_word, after_line, at_end, BadLine, at_line, after_lines, outcome}
+use Rattle.event_script.specs.Reading.{kind_of, statement_of, section_or, image_added, last_fixed, is_above, fixed_added, snapshot_added, accepts, region_added, memory_added, is_named, added, by_word, after_line, at_end, BadLine, at_line, after_lines, outcome}
 use Rattle.event_script.specs.declared.script.Event.{Event}
 use Rattle.event_script.specs.declared.script.Event.TheVariants as event
 use Rattle.event_script.specs.declared.reader.fault.Reason.{Reason}
@@ -29,10 +31,11 @@ use Rattle.event_script.specs.declared.reader.statement.Statement.{Statement}
 use Rattle.event_script.specs.declared.reader.statement.Statement.TheVariants as statement
 use Rattle.event_script.proofs.Joined.{join, join_pieces, spelled_pieces}
 use Rattle.event_script.proofs.Steps.{bind_ok, guard_last, guard_then, guard_else, ok_is, some_from, kind_word}
-use Rattle.event_script.proofs.Spoken.{same_kind, Spoken, spoken}
+use Rattle.event_script.proofs.Spoken.{same_kind, spoken}
 use Rattle.event_script.proofs.Sections.{section_is}
 use Rattle.event_script.proofs.Fixed.{fixed_push}
-use Rattle.event_script.proofs.SoFar.{statements_at, statements_so_far, NodesAt, LoadsAt, AreRounds, ShapeAt, Sound, Step, same_step, no_events, no_fixed}
+use Rattle.event_script.proofs.Judged.{accepted_true}
+use Rattle.event_script.proofs.SoFar.{statements_at, statements_so_far, NodesAt, LoadsAt, AreRounds, ShapeAt, Sound, Step, same_step, no_events, no_snapshots, no_fixed}
 
 -- ---- lists of what lines say
 
@@ -59,9 +62,20 @@ one_thread events =
 before_rounds : (known : List Statement) (rounds : List (List (List Event))) → rounds ≡ [] → known ++ round_statements rounds ≡ known
 before_rounds known rounds e = ap (λ (r : List (List (List Event))). known ++ round_statements r) e ∙ append-nil known
 
+-- and no snapshots
+before_snapshots : (known : List Statement) (snapshots : List SnapshotData) (rounds : List (List (List Event))) → snapshots ≡ [] → rounds ≡ [] → known ++ snapshot_statements 0 snapshots ++ round_statements rounds ≡ known
+before_snapshots known snapshots rounds none no_rounds = before_rounds (known ++ snapshot_statements 0 snapshots) rounds no_rounds ∙ ap (λ (x : List SnapshotData). known ++ snapshot_statements 0 x) none ∙ append-nil known
+
 -- and no fixed images either
-before_fixed : (known : List Statement) (fixed : List ℕ) (rounds : List (List (List Event))) → fixed ≡ [] → rounds ≡ [] → known ++ map statement.Fixed fixed ++ round_statements rounds ≡ known
-before_fixed known fixed rounds none no_rounds = before_rounds (known ++ map statement.Fixed fixed) rounds no_rounds ∙ ap (λ (f : List ℕ). known ++ map statement.Fixed f) none ∙ append-nil known
+before_fixed : (known : List Statement) (fixed : List ℕ) (snapshots : List SnapshotData) (rounds : List (List (List Event))) → fixed ≡ [] → snapshots ≡ [] → rounds ≡ [] → known ++ map statement.Fixed fixed ++ snapshot_statements 0 snapshots ++ round_statements rounds ≡ known
+before_fixed known fixed snapshots rounds none no_snapshots no_rounds = before_snapshots (known ++ map statement.Fixed fixed) snapshots rounds no_snapshots no_rounds ∙ ap (λ (f : List ℕ). known ++ map statement.Fixed f) none ∙ append-nil known
+
+pub snapshots_push : (number : ℕ) (snapshots : List SnapshotData) (snapshot : SnapshotData) → snapshot_statements number (snapshots ++ snapshot ∷ []) ≡ snapshot_statements number snapshots ++ snapshot_lines (number + length snapshots) snapshot
+snapshots_push number [] snapshot = append-nil (snapshot_lines number snapshot) ∙ ap (λ (n : ℕ). snapshot_lines n snapshot) (omega arith)
+snapshots_push number (first ∷ snapshots) snapshot =
+    let next : number + 1 + length snapshots ≡ number + length (first ∷ snapshots) = omega arith in
+    ap (λ (x : List Statement). snapshot_lines number first ++ x) (snapshots_push (number + 1) snapshots snapshot ∙ ap (λ (n : ℕ). snapshot_statements (number + 1) snapshots ++ snapshot_lines n snapshot) next)
+    ∙ sym (append_assoc (snapshot_lines number first) (snapshot_statements (number + 1) snapshots) (snapshot_lines (number + length (first ∷ snapshots)) snapshot))
 
 pub rounds_of_one : (images : ℕ) (rounds : List (List (List Event))) (threads : List (List Event)) (events : List Event) → rounds ≡ [] → threads ≡ [] → IsThread images events → AreRounds images (rounds ++ (threads ++ events ∷ []) ∷ [])
 rounds_of_one images rounds threads events no_rounds no_threads thread =
@@ -85,6 +99,38 @@ pub no_rounds_at : (images : ℕ) (rounds : List (List (List Event))) → rounds
 no_rounds_at images rounds none =
     subst (AreRounds images) (sym none)
     (record { few = omega arith; small = All-from_recursion (λ threads. length threads ≤ 1) [] tt; each = All-from_recursion (IsRound images) [] tt })
+
+-- ---- recorded memory
+
+-- regions that ascend end above where they begin
+from_end : (low : ℕ) (r : RegionData) (rs : List RegionData) → AreFrom low (r ∷ rs) → low ≤ regions_end (r ∷ rs)
+from_end low r [] are = let above = are.0 in omega arith
+from_end low r (q ∷ rs) are = let above = are.0 in let rest = from_end (end r) q rs are.3 in omega arith
+
+from_push : (low : ℕ) (rs : List RegionData) (r : RegionData) → AreFrom low rs → low ≤ r.address → regions_end rs ≤ r.address → 0 < length r.bytes → end r < 2 ^ 64 → AreFrom low (rs ++ r ∷ [])
+from_push low [] r are above ends some top = (above, some, top, tt)
+from_push low (q ∷ []) r are above ends some top = (are.0, are.1, are.2, (ends, some, top, tt))
+from_push low (q ∷ p ∷ rs) r are above ends some top =
+    let rest = from_end (end q) p rs are.3 in
+    (are.0, are.1, are.2, from_push (end q) (p ∷ rs) r are.3 (omega arith) ends some top)
+
+pub recorded_push : (rs : List RegionData) (r : RegionData) → recorded_bytes (rs ++ r ∷ []) ≡ recorded_bytes rs + length r.bytes
+recorded_push [] r = omega arith
+recorded_push (q ∷ rs) r = let rest = recorded_push rs r in omega arith
+
+-- a snapshot with one more region
+snapshot_push : (snapshot : SnapshotData) (region : RegionData) → IsSnapshot snapshot → HasForm (statement.Memory region) → recorded_bytes snapshot.memory + length region.bytes ≤ 65536 → Accepts snapshot.memory region.address region.bytes
+    → IsSnapshot (record snapshot { memory = snapshot.memory ++ region ∷ [] })
+snapshot_push snapshot region is form few accepted = record {
+  count = is.count;
+  columns = is.columns;
+  regions = from_push 0 snapshot.memory region is.regions (omega arith) accepted.2 accepted.0 accepted.1;
+  bytes = All-push (λ region. IsBytes region.bytes) snapshot.memory region is.bytes form.1;
+  size = (let sum = recorded_push snapshot.memory region in omega arith);
+}
+
+no_memory : (fields : SnapshotFields) → HasForm (statement.Snapshot fields) → IsSnapshot (record { regs = fields.regs; memory = [] })
+no_memory fields form = record { count = form.1; columns = form.2; regions = tt; bytes = All-from_recursion (λ region. IsBytes region.bytes) [] tt; size = omega arith }
 
 -- ---- sections
 
@@ -110,15 +156,22 @@ image_is image section count number some address bytes =
 
 -- ---- one more line
 
-module _ (script : ScriptData) (threads : List (List Event)) (events : List Event) where
+module _ (script : ScriptData) (snapshot : SnapshotData) (threads : List (List Event)) (events : List Event) where
   abbrev as_of : Stage → DraftData
-  as_of stage = record { stage = stage; script = script; threads = threads; events = events }
+  as_of stage = record { stage = stage; script = script; snapshot = snapshot; threads = threads; events = events }
 
   abbrev images_part : List Statement
   images_part = image_statements 0 script.images script.sections
 
   abbrev fixed_part : List Statement
   fixed_part = images_part ++ map statement.Fixed script.fixed
+
+  -- with these snapshots
+  abbrev part_with : List SnapshotData → List Statement
+  part_with snapshots = fixed_part ++ snapshot_statements 0 snapshots
+
+  abbrev snapshots_part : List Statement
+  snapshots_part = part_with script.snapshots
 
   abbrev top : List Statement → List Statement
   top lines = statement.Version 1 ∷ statement.Nodes script.nodes ∷ statement.Loads script.loads ∷ lines
@@ -127,7 +180,7 @@ module _ (script : ScriptData) (threads : List (List Event)) (events : List Even
   version_sound version next s e =
       let g = guard_last (eqb version 1) reason.Limit (as_of stage.Nodes) next e in
       same_step _ (as_of stage.Nodes) next _ g.1 (record {
-        sound = record { each = s.each; sections = s.sections; nodes = tt; loads = tt; count = s.count; spans = s.spans; fixed = s.fixed; events = s.events; shape = s.shape };
+        sound = record { each = s.each; sections = s.sections; nodes = tt; loads = tt; count = s.count; spans = s.spans; fixed = s.fixed; snapshots = s.snapshots; events = s.events; shape = s.shape };
         statements = ap (λ (n : ℕ). statement.Version n ∷ []) (sym (eqb-true version 1 g.0));
       })
 
@@ -137,7 +190,7 @@ module _ (script : ScriptData) (threads : List (List Event)) (events : List Even
       let g = guard_last (leb 4 nodes && leb nodes 16384) reason.Limit made next e in
       let limits = and_parts (leb 4 nodes) (leb nodes 16384) g.0 in
       same_step _ made next _ g.1 (record {
-        sound = record { each = s.each; sections = s.sections; nodes = (leb-true 4 nodes limits.0, leb-true nodes 16384 limits.1); loads = tt; count = s.count; spans = s.spans; fixed = s.fixed; events = s.events; shape = s.shape };
+        sound = record { each = s.each; sections = s.sections; nodes = (leb-true 4 nodes limits.0, leb-true nodes 16384 limits.1); loads = tt; count = s.count; spans = s.spans; fixed = s.fixed; snapshots = s.snapshots; events = s.events; shape = s.shape };
         statements = refl;
       })
 
@@ -147,9 +200,10 @@ module _ (script : ScriptData) (threads : List (List Event)) (events : List Even
       let g = guard_last (leb 1 loads && leb loads 1024) reason.Limit made next e in
       let limits = and_parts (leb 1 loads) (leb loads 1024) g.0 in
       same_step _ made next _ g.1 (record {
-        sound = record { each = s.each; sections = s.sections; nodes = s.nodes; loads = (leb-true 1 loads limits.0, leb-true loads 1024 limits.1); count = s.count; spans = s.spans; fixed = s.fixed; events = s.events; shape = (s.shape.1, s.shape.2, s.shape.3, s.shape.4) };
-        statements = ap₂ (λ (is : List SpanData) (rs : List (List (List Event))). statement.Version 1 ∷ statement.Nodes script.nodes ∷ statement.Loads loads ∷ (image_statements 0 is script.sections ++ map statement.Fixed script.fixed ++ round_statements rs)) s.shape.0 s.shape.1
-            ∙ ap (λ (f : List ℕ). statement.Version 1 ∷ statement.Nodes script.nodes ∷ statement.Loads loads ∷ (map statement.Fixed f ++ [])) s.shape.4;
+        sound = record { each = s.each; sections = s.sections; nodes = s.nodes; loads = (leb-true 1 loads limits.0, leb-true loads 1024 limits.1); count = s.count; spans = s.spans; fixed = s.fixed; snapshots = s.snapshots; events = s.events; shape = (s.shape.1, s.shape.2, s.shape.3, s.shape.4, s.shape.5) };
+        statements = ap (λ (x : List Statement). statement.Version 1 ∷ statement.Nodes script.nodes ∷ statement.Loads loads ∷ x) (
+            before_fixed images_part script.fixed script.snapshots script.rounds s.shape.4 s.shape.5 s.shape.1
+            ∙ ap (λ (is : List SpanData). image_statements 0 is script.sections) s.shape.0);
       })
 
   image_sound : (image : ImageData) (next : DraftData) → HasForm (statement.Image image) → Sound (as_of stage.Images) → image_added (as_of stage.Images) image ≡ Ok next → Step (as_of stage.Images) next (statement.Image image)
@@ -187,20 +241,21 @@ module _ (script : ScriptData) (threads : List (List Event)) (events : List Even
           count = omega (arith, length-append images (span ∷ []));
           spans = All-push IsSpan images span s.spans good;
           fixed = subst (AreFixed (images ++ span ∷ [])) (sym s.shape.3) (no_fixed (images ++ span ∷ []));
+          snapshots = s.snapshots;
           events = subst (IsThread (length (images ++ span ∷ []))) (sym s.shape.2) (no_events (length (images ++ span ∷ [])));
           shape = s.shape;
         };
         statements = ap top (
-            before_fixed (image_statements 0 (images ++ span ∷ []) (script.sections ++ section ∷ [])) script.fixed script.rounds s.shape.3 s.shape.0
+            before_fixed (image_statements 0 (images ++ span ∷ []) (script.sections ++ section ∷ [])) script.fixed script.snapshots script.rounds s.shape.3 s.shape.4 s.shape.0
             ∙ images_push 0 images script.sections span section each
-            ∙ ap₂ (λ (x : List Statement) (y : ImageData). x ++ statement.Image y ∷ []) (sym (before_fixed images_part script.fixed script.rounds s.shape.3 s.shape.0)) (image_is image section (length images) number some section_is_one.0 section_is_one.1));
+            ∙ ap₂ (λ (x : List Statement) (y : ImageData). x ++ statement.Image y ∷ []) (sym (before_fixed images_part script.fixed script.snapshots script.rounds s.shape.3 s.shape.4 s.shape.0)) (image_is image section (length images) number some section_is_one.0 section_is_one.1));
       })
 
   -- ---- fixed images
 
   -- where no image was fixed, the next may be
   may_be_fixed : Sound (as_of stage.Images) → Sound (as_of stage.Fixed)
-  may_be_fixed s = record { each = s.each; sections = s.sections; nodes = s.nodes; loads = s.loads; count = s.count; spans = s.spans; fixed = s.fixed; events = s.events; shape = (s.shape.0, s.shape.1) }
+  may_be_fixed s = record { each = s.each; sections = s.sections; nodes = s.nodes; loads = s.loads; count = s.count; spans = s.spans; fixed = s.fixed; snapshots = s.snapshots; events = s.events; shape = (s.shape.0, s.shape.1, s.shape.4) }
 
   from_images : (next : DraftData) (s : Statement) → Step (as_of stage.Fixed) next s → Step (as_of stage.Images) next s
   from_images next s step = record { sound = step.sound; statements = step.statements }
@@ -212,25 +267,103 @@ module _ (script : ScriptData) (threads : List (List Event)) (events : List Even
       let made = with_statement (as_of stage.Fixed) (statement.Fixed image) in
       let above = guard_last (is_above (last_fixed script.images script.fixed) named.0) reason.Fixed made next named.2 in
       same_step _ made next _ above.1 (record {
-        sound = record { each = s.each; sections = s.sections; nodes = s.nodes; loads = s.loads; count = s.count; spans = s.spans; fixed = fixed_push script.images script.fixed image named.0 s.fixed found above.0; events = s.events; shape = s.shape };
+        sound = record { each = s.each; sections = s.sections; nodes = s.nodes; loads = s.loads; count = s.count; spans = s.spans; fixed = fixed_push script.images script.fixed image named.0 s.fixed found above.0; snapshots = s.snapshots; events = s.events; shape = s.shape };
         statements = ap top (
-            before_rounds (images_part ++ map statement.Fixed (script.fixed ++ image ∷ [])) script.rounds s.shape.0
+            before_snapshots (images_part ++ map statement.Fixed (script.fixed ++ image ∷ [])) script.snapshots script.rounds s.shape.2 s.shape.0
             ∙ ap (λ (x : List Statement). images_part ++ x) (map_push statement.Fixed script.fixed image)
             ∙ sym (append_assoc images_part (map statement.Fixed script.fixed) (statement.Fixed image ∷ []))
-            ∙ ap (λ (x : List Statement). x ++ statement.Fixed image ∷ []) (sym (before_rounds fixed_part script.rounds s.shape.0)));
+            ∙ ap (λ (x : List Statement). x ++ statement.Fixed image ∷ []) (sym (before_snapshots fixed_part script.snapshots script.rounds s.shape.2 s.shape.0)));
+      })
+
+  -- ---- snapshots
+
+  -- the snapshots so far where one goes on
+  abbrev pub with_open : List SnapshotData
+  with_open = script.snapshots ++ snapshot ∷ []
+
+  pub open_snapshots : (length script.snapshots < 4096) × IsSnapshot snapshot → (length script.snapshots ≤ 4096) × All IsSnapshot script.snapshots → (length with_open ≤ 4096) × All IsSnapshot with_open
+  open_snapshots one so_far =
+      let few = one.0 in
+      (omega (arith, length-append script.snapshots (snapshot ∷ [])), All-push IsSnapshot script.snapshots snapshot so_far.1 one.1)
+
+  snapshot_begun : (snapshots : List SnapshotData) (fields : SnapshotFields) → script.rounds ≡ [] → fields.number ≡ length snapshots
+      → top (part_with (snapshots ++ record { regs = fields.regs; memory = [] } ∷ []) ++ round_statements script.rounds) ≡ top (part_with snapshots ++ round_statements script.rounds) ++ statement.Snapshot fields ∷ []
+  snapshot_begun snapshots fields no_rounds number =
+      let begun : SnapshotData = record { regs = fields.regs; memory = [] } in
+      let number_is : 0 + length snapshots ≡ fields.number = omega arith in
+      let lines : snapshot_lines (0 + length snapshots) begun ≡ statement.Snapshot fields ∷ [] = ap (λ (n : ℕ). statement.Snapshot (record { number = n; regs = fields.regs }) ∷ []) number_is in
+      ap top (
+      before_rounds (part_with (snapshots ++ begun ∷ [])) script.rounds no_rounds
+      ∙ ap (λ (x : List Statement). fixed_part ++ x) (snapshots_push 0 snapshots begun ∙ ap (λ (x : List Statement). snapshot_statements 0 snapshots ++ x) lines)
+      ∙ sym (append_assoc fixed_part (snapshot_statements 0 snapshots) (statement.Snapshot fields ∷ []))
+      ∙ ap (λ (x : List Statement). x ++ statement.Snapshot fields ∷ []) (sym (before_rounds (part_with snapshots) script.rounds no_rounds)))
+
+  snapshot_sound : (fields : SnapshotFields) (next : DraftData) → HasForm (statement.Snapshot fields) → Sound (as_of stage.Fixed) → snapshot_added (as_of stage.Fixed) fields ≡ Ok next → Step (as_of stage.Fixed) next (statement.Snapshot fields)
+  snapshot_sound fields next form s e =
+      let made = with_statement (as_of stage.Fixed) (statement.Snapshot fields) in
+      let order = guard_then (eqb fields.number (length script.snapshots)) reason.Order _ next e in
+      let limit = guard_last (ltb (length script.snapshots) 4096) reason.Limit made next order.1 in
+      same_step _ made next _ limit.1 (record {
+        sound = record { each = s.each; sections = s.sections; nodes = s.nodes; loads = s.loads; count = s.count; spans = s.spans; fixed = s.fixed; snapshots = s.snapshots; events = s.events; shape = (s.shape.0, s.shape.1, ltb-true _ _ limit.0, no_memory fields form) };
+        statements = snapshot_begun script.snapshots fields s.shape.0 (eqb-true _ _ order.0);
+      })
+
+  next_snapshot_sound : (fields : SnapshotFields) (next : DraftData) → HasForm (statement.Snapshot fields) → Sound (as_of stage.Snapshots) → snapshot_added (as_of stage.Snapshots) fields ≡ Ok next → Step (as_of stage.Snapshots) next (statement.Snapshot fields)
+  next_snapshot_sound fields next form s e =
+      let made = with_statement (as_of stage.Snapshots) (statement.Snapshot fields) in
+      let order = guard_then (eqb fields.number (length with_open)) reason.Order _ next e in
+      let limit = guard_last (ltb (length with_open) 4096) reason.Limit made next order.1 in
+      same_step _ made next _ limit.1 (record {
+        sound = record { each = s.each; sections = s.sections; nodes = s.nodes; loads = s.loads; count = s.count; spans = s.spans; fixed = s.fixed; snapshots = open_snapshots (s.shape.2, s.shape.3) s.snapshots; events = s.events; shape = (s.shape.0, s.shape.1, ltb-true _ _ limit.0, no_memory fields form) };
+        statements = snapshot_begun with_open fields s.shape.0 (eqb-true _ _ order.0);
+      })
+
+  memory_sound : (region : RegionData) (next : DraftData) → HasForm (statement.Memory region) → Sound (as_of stage.Snapshots) → memory_added (as_of stage.Snapshots) region ≡ Ok next → Step (as_of stage.Snapshots) next (statement.Memory region)
+  memory_sound region next form s e =
+      let grown : SnapshotData = record snapshot { memory = snapshot.memory ++ region ∷ [] } in
+      let made = with_statement (as_of stage.Snapshots) (statement.Memory region) in
+      let added_one = bind_ok (region_added snapshot region) (λ x. Ok (record (as_of stage.Snapshots) { snapshot = x })) next e in
+      let limit = guard_then (leb (recorded_bytes snapshot.memory + length region.bytes) 65536) reason.Limit _ added_one.0 added_one.1 in
+      let accepted = guard_last (accepts snapshot.memory region) reason.Region grown added_one.0 limit.1 in
+      let same : made ≡ next = ap (λ (x : SnapshotData). record (as_of stage.Snapshots) { snapshot = x }) accepted.1 ∙ ok_is _ next added_one.2 in
+      let number = 0 + length script.snapshots in
+      same_step _ made next _ same (record {
+        sound = record { each = s.each; sections = s.sections; nodes = s.nodes; loads = s.loads; count = s.count; spans = s.spans; fixed = s.fixed; snapshots = s.snapshots; events = s.events; shape = (s.shape.0, s.shape.1, s.shape.2, snapshot_push snapshot region s.shape.3 form (leb-true _ _ limit.0) (accepted_true snapshot.memory region accepted.0)) };
+        statements = ap top (
+            before_rounds (part_with (script.snapshots ++ grown ∷ [])) script.rounds s.shape.0
+            ∙ ap (λ (x : List Statement). fixed_part ++ x) (
+            snapshots_push 0 script.snapshots grown
+            ∙ ap (λ (x : List Statement). snapshot_statements 0 script.snapshots ++ statement.Snapshot (record { number = number; regs = snapshot.regs }) ∷ x) (map_push statement.Memory snapshot.memory region)
+            ∙ sym (append_assoc (snapshot_statements 0 script.snapshots) (snapshot_lines number snapshot) (statement.Memory region ∷ []))
+            ∙ ap (λ (x : List Statement). x ++ statement.Memory region ∷ []) (sym (snapshots_push 0 script.snapshots snapshot)))
+            ∙ sym (append_assoc fixed_part (snapshot_statements 0 with_open) (statement.Memory region ∷ []))
+            ∙ ap (λ (x : List Statement). x ++ statement.Memory region ∷ []) (sym (before_rounds (part_with with_open) script.rounds s.shape.0)));
       })
 
   -- ---- rounds and threads
+
+  round_begun : (snapshots : List SnapshotData) → script.rounds ≡ [] → top (part_with snapshots ++ round_statements (script.rounds ++ [] ∷ [])) ≡ top (part_with snapshots ++ round_statements script.rounds) ++ statement.Round ∷ []
+  round_begun snapshots no_rounds =
+      ap top (
+      ap (λ (r : List (List (List Event))). part_with snapshots ++ round_statements (r ++ [] ∷ [])) no_rounds
+      ∙ ap (λ (x : List Statement). x ++ statement.Round ∷ []) (sym (before_rounds (part_with snapshots) script.rounds no_rounds)))
+
+  round_after_snapshots : (next : DraftData) → Sound (as_of stage.Snapshots) → cond (ltb (length script.rounds) 64) (Ok (with_statement (as_of stage.Snapshots) statement.Round)) (Err reason.Limit) ≡ Ok next → Step (as_of stage.Snapshots) next statement.Round
+  round_after_snapshots next s e =
+      let made = with_statement (as_of stage.Snapshots) statement.Round in
+      let few = guard_last (ltb (length script.rounds) 64) reason.Limit made next e in
+      same_step _ made next _ few.1 (record {
+        sound = record { each = s.each; sections = s.sections; nodes = s.nodes; loads = s.loads; count = s.count; spans = s.spans; fixed = s.fixed; snapshots = open_snapshots (s.shape.2, s.shape.3) s.snapshots; events = no_events (length script.images); shape = (s.shape.0, refl) };
+        statements = round_begun with_open s.shape.0;
+      })
 
   round_sound : (next : DraftData) → Sound (as_of stage.Fixed) → cond (ltb (length script.rounds) 64) (Ok (with_statement (as_of stage.Fixed) statement.Round)) (Err reason.Limit) ≡ Ok next → Step (as_of stage.Fixed) next statement.Round
   round_sound next s e =
       let made = with_statement (as_of stage.Fixed) statement.Round in
       let few = guard_last (ltb (length script.rounds) 64) reason.Limit made next e in
       same_step _ made next _ few.1 (record {
-        sound = record { each = s.each; sections = s.sections; nodes = s.nodes; loads = s.loads; count = s.count; spans = s.spans; fixed = s.fixed; events = no_events (length script.images); shape = (s.shape.0, refl) };
-        statements = ap top (
-            ap (λ (r : List (List (List Event))). fixed_part ++ round_statements (r ++ [] ∷ [])) s.shape.0
-            ∙ ap (λ (x : List Statement). x ++ statement.Round ∷ []) (sym (before_rounds fixed_part script.rounds s.shape.0)));
+        sound = record { each = s.each; sections = s.sections; nodes = s.nodes; loads = s.loads; count = s.count; spans = s.spans; fixed = s.fixed; snapshots = s.snapshots; events = no_events (length script.images); shape = (s.shape.0, refl) };
+        statements = round_begun script.snapshots s.shape.0;
       })
 
   thread_sound : (next : DraftData) → Sound (as_of stage.Round) → cond (ltb (length threads) 16) (Ok (with_statement (as_of stage.Round) statement.Thread)) (Err reason.Limit) ≡ Ok next → Step (as_of stage.Round) next statement.Thread
@@ -238,18 +371,18 @@ module _ (script : ScriptData) (threads : List (List Event)) (events : List Even
       let made = with_statement (as_of stage.Round) statement.Thread in
       let few = guard_last (ltb (length threads) 16) reason.Limit made next e in
       same_step _ made next _ few.1 (record {
-        sound = record { each = s.each; sections = s.sections; nodes = s.nodes; loads = s.loads; count = s.count; spans = s.spans; fixed = s.fixed; events = no_events (length script.images); shape = s.shape };
+        sound = record { each = s.each; sections = s.sections; nodes = s.nodes; loads = s.loads; count = s.count; spans = s.spans; fixed = s.fixed; snapshots = s.snapshots; events = no_events (length script.images); shape = s.shape };
         statements = ap top (
-            ap₂ (λ (r : List (List (List Event))) (t : List (List Event)). fixed_part ++ round_statements (r ++ (t ++ [] ∷ []) ∷ [])) s.shape.0 s.shape.1
-            ∙ sym (append_assoc fixed_part (statement.Round ∷ []) (statement.Thread ∷ []))
-            ∙ ap₂ (λ (r : List (List (List Event))) (t : List (List Event)). (fixed_part ++ round_statements (r ++ t ∷ [])) ++ statement.Thread ∷ []) (sym s.shape.0) (sym s.shape.1));
+            ap₂ (λ (r : List (List (List Event))) (t : List (List Event)). snapshots_part ++ round_statements (r ++ (t ++ [] ∷ []) ∷ [])) s.shape.0 s.shape.1
+            ∙ sym (append_assoc snapshots_part (statement.Round ∷ []) (statement.Thread ∷ []))
+            ∙ ap₂ (λ (r : List (List (List Event))) (t : List (List Event)). (snapshots_part ++ round_statements (r ++ t ∷ [])) ++ statement.Thread ∷ []) (sym s.shape.0) (sym s.shape.1));
       })
 
-  thread_push : (e : Event) → fixed_part ++ round_statements (((events ++ e ∷ []) ∷ []) ∷ []) ≡ (fixed_part ++ round_statements ((events ∷ []) ∷ [])) ++ statement.Event e ∷ []
+  thread_push : (e : Event) → snapshots_part ++ round_statements (((events ++ e ∷ []) ∷ []) ∷ []) ≡ (snapshots_part ++ round_statements ((events ∷ []) ∷ [])) ++ statement.Event e ∷ []
   thread_push e =
-      ap (λ (x : List Statement). fixed_part ++ x) (one_thread (events ++ e ∷ []) ∙ ap (λ (x : List Statement). statement.Round ∷ statement.Thread ∷ x) (map_push statement.Event events e))
-      ∙ sym (append_assoc fixed_part (statement.Round ∷ statement.Thread ∷ map statement.Event events) (statement.Event e ∷ []))
-      ∙ ap (λ (x : List Statement). (fixed_part ++ x) ++ statement.Event e ∷ []) (sym (one_thread events))
+      ap (λ (x : List Statement). snapshots_part ++ x) (one_thread (events ++ e ∷ []) ∙ ap (λ (x : List Statement). statement.Round ∷ statement.Thread ∷ x) (map_push statement.Event events e))
+      ∙ sym (append_assoc snapshots_part (statement.Round ∷ statement.Thread ∷ map statement.Event events) (statement.Event e ∷ []))
+      ∙ ap (λ (x : List Statement). (snapshots_part ++ x) ++ statement.Event e ∷ []) (sym (one_thread events))
 
   -- the event names an image that there is, and its numbers are small
   event_is : (e : Event) → is_named (length script.images) e ≡ true → HasForm (statement.Event e) → IsEvent (length script.images) e
@@ -277,32 +410,39 @@ module _ (script : ScriptData) (threads : List (List Event)) (events : List Even
           count = s.count;
           spans = s.spans;
           fixed = s.fixed;
+          snapshots = s.snapshots;
           events = (omega (arith, length-append events (happens ∷ [])), All-push (IsEvent (length script.images)) events happens so_far.1 (event_is happens named.0 form));
           shape = s.shape;
         };
         statements = ap top (
-            ap₂ (λ (r : List (List (List Event))) (t : List (List Event)). fixed_part ++ round_statements (r ++ (t ++ (events ++ happens ∷ []) ∷ []) ∷ [])) s.shape.0 s.shape.1
+            ap₂ (λ (r : List (List (List Event))) (t : List (List Event)). snapshots_part ++ round_statements (r ++ (t ++ (events ++ happens ∷ []) ∷ []) ∷ [])) s.shape.0 s.shape.1
             ∙ thread_push happens
-            ∙ ap₂ (λ (r : List (List (List Event))) (t : List (List Event)). (fixed_part ++ round_statements (r ++ (t ++ events ∷ []) ∷ [])) ++ statement.Event happens ∷ []) (sym s.shape.0) (sym s.shape.1));
+            ∙ ap₂ (λ (r : List (List (List Event))) (t : List (List Event)). (snapshots_part ++ round_statements (r ++ (t ++ events ∷ []) ∷ [])) ++ statement.Event happens ∷ []) (sym s.shape.0) (sym s.shape.1));
       })
 
   -- ---- the last line
 
   end_fixed : (next : DraftData) → Sound (as_of stage.Fixed) → with_statement (as_of stage.Fixed) statement.End ≡ next → Step (as_of stage.Fixed) next statement.End
   end_fixed next s e = same_step _ (with_statement (as_of stage.Fixed) statement.End) next _ e (record {
-    sound = record { each = s.each; sections = s.sections; nodes = s.nodes; loads = s.loads; count = s.count; spans = s.spans; fixed = s.fixed; events = no_events (length script.images); shape = no_rounds_at (length script.images) script.rounds s.shape.0 };
+    sound = record { each = s.each; sections = s.sections; nodes = s.nodes; loads = s.loads; count = s.count; spans = s.spans; fixed = s.fixed; snapshots = s.snapshots; events = no_events (length script.images); shape = no_rounds_at (length script.images) script.rounds s.shape.0 };
+    statements = refl;
+  })
+
+  end_snapshots : (next : DraftData) → Sound (as_of stage.Snapshots) → with_statement (as_of stage.Snapshots) statement.End ≡ next → Step (as_of stage.Snapshots) next statement.End
+  end_snapshots next s e = same_step _ (with_statement (as_of stage.Snapshots) statement.End) next _ e (record {
+    sound = record { each = s.each; sections = s.sections; nodes = s.nodes; loads = s.loads; count = s.count; spans = s.spans; fixed = s.fixed; snapshots = open_snapshots (s.shape.2, s.shape.3) s.snapshots; events = no_events (length script.images); shape = no_rounds_at (length script.images) script.rounds s.shape.0 };
     statements = refl;
   })
 
   end_round : (next : DraftData) → Sound (as_of stage.Round) → with_statement (as_of stage.Round) statement.End ≡ next → Step (as_of stage.Round) next statement.End
   end_round next s e = same_step _ (with_statement (as_of stage.Round) statement.End) next _ e (record {
-    sound = record { each = s.each; sections = s.sections; nodes = s.nodes; loads = s.loads; count = s.count; spans = s.spans; fixed = s.fixed; events = no_events (length script.images); shape = rounds_of_none (length script.images) script.rounds threads s.shape.0 s.shape.1 };
+    sound = record { each = s.each; sections = s.sections; nodes = s.nodes; loads = s.loads; count = s.count; spans = s.spans; fixed = s.fixed; snapshots = s.snapshots; events = no_events (length script.images); shape = rounds_of_none (length script.images) script.rounds threads s.shape.0 s.shape.1 };
     statements = refl;
   })
 
   end_thread : (next : DraftData) → Sound (as_of stage.Thread) → with_statement (as_of stage.Thread) statement.End ≡ next → Step (as_of stage.Thread) next statement.End
   end_thread next s e = same_step _ (with_statement (as_of stage.Thread) statement.End) next _ e (record {
-    sound = record { each = s.each; sections = s.sections; nodes = s.nodes; loads = s.loads; count = s.count; spans = s.spans; fixed = s.fixed; events = no_events (length script.images); shape = rounds_of_one (length script.images) script.rounds threads events s.shape.0 s.shape.1 s.events };
+    sound = record { each = s.each; sections = s.sections; nodes = s.nodes; loads = s.loads; count = s.count; spans = s.spans; fixed = s.fixed; snapshots = s.snapshots; events = no_events (length script.images); shape = rounds_of_one (length script.images) script.rounds threads events s.shape.0 s.shape.1 s.events };
     statements = refl;
   })
 
@@ -314,11 +454,17 @@ module _ (script : ScriptData) (threads : List (List Event)) (events : List Even
   statement_sound stage.Loads (statement.Loads loads) next may built form s e = loads_sound loads next s e
   statement_sound stage.Images (statement.Image image) next may built form s e = image_sound image next form s e
   statement_sound stage.Images (statement.Fixed image) next may built form s e = from_images next _ (fixed_sound image next (may_be_fixed s) e)
+  statement_sound stage.Images (statement.Snapshot fields) next may built form s e = from_images next _ (snapshot_sound fields next form (may_be_fixed s) e)
   statement_sound stage.Images statement.Round next may built form s e = from_images next _ (round_sound next (may_be_fixed s) e)
   statement_sound stage.Images statement.End next may built form s e = from_images next _ (end_fixed next (may_be_fixed s) (ok_is _ next e))
   statement_sound stage.Fixed (statement.Fixed image) next may built form s e = fixed_sound image next s e
+  statement_sound stage.Fixed (statement.Snapshot fields) next may built form s e = snapshot_sound fields next form s e
   statement_sound stage.Fixed statement.Round next may built form s e = round_sound next s e
   statement_sound stage.Fixed statement.End next may built form s e = end_fixed next s (ok_is _ next e)
+  statement_sound stage.Snapshots (statement.Snapshot fields) next may built form s e = next_snapshot_sound fields next form s e
+  statement_sound stage.Snapshots (statement.Memory region) next may built form s e = memory_sound region next form s e
+  statement_sound stage.Snapshots statement.Round next may built form s e = round_after_snapshots next s e
+  statement_sound stage.Snapshots statement.End next may built form s e = end_snapshots next s (ok_is _ next e)
   statement_sound stage.Round statement.Thread next may built form s e = thread_sound next s e
   statement_sound stage.Round statement.End next may built form s e = end_round next s (ok_is _ next e)
   statement_sound stage.Thread (statement.Event happens) next may built form s e = event_sound happens next form s e
@@ -367,7 +513,7 @@ module _ (known next : DraftData) (line : List ℕ) where
       words_read (pieces 32 line) refl printable.1
 
   pub line_sound : Sound known → (r : LineRead known next line) → Step known next r.statement
-  line_sound s r = statement_sound known.script known.threads known.events known.stage r.statement next r.may r.built r.says.form s r.is
+  line_sound s r = statement_sound known.script known.snapshot known.threads known.events known.stage r.statement next r.may r.built r.says.form s r.is
 
 -- the text of a line that says this
 pub said_text : (line : List ℕ) (s : Statement) → Says (whole_line line) s → statement_text s ≡ line ++ 10 ∷ []
@@ -433,8 +579,9 @@ at_first = record {
   count = omega arith;
   spans = All-from_recursion IsSpan [] tt;
   fixed = no_fixed [];
+  snapshots = no_snapshots;
   events = no_events 0;
-  shape = (refl, refl, refl, refl, refl);
+  shape = (refl, refl, refl, refl, refl, refl);
 }
 
 script_from : (known : DraftData) (text : List ℕ) → Ended known text → IsScript text known.script
@@ -453,6 +600,7 @@ script_from known text e = by known.stage refl e.is_last
             images = (s.count, s.spans);
             sections = (s.each, s.sections);
             fixed = s.fixed;
+            snapshots = s.snapshots;
             rounds = (omega (arith, shape.few), shape.each);
           };
           built = record { rounds = shape.few; threads = shape.small };

@@ -1,15 +1,22 @@
 -- What a line's fields say, and why they say nothing.
-use Rattle.std.proofs.Common.{◌≡◌, ◌≢◌, ◌⊎◌, inl, inr, ℕ, ◌+◌, ◌^◌, ◌<◌, Bool, true, false, cond, List, [], ◌∷◌, length, Option, Some, None, Result, Ok, Err, refl, sym, ap, subst, ◌∙◌, arith}
+use Rattle.std.proofs.Common.{◌≡◌, ◌≢◌, ◌⊎◌, inl, inr, ℕ, zero, suc, ◌^◌, ◌<◌, Bool, true, false, cond, eqb, eqb-true, eq-eqb, List, [], ◌∷◌, length, map, replicate, Option, Some, None, Result, Ok, Err, refl, sym, ap, subst, ◌∙◌, arith}
+use Rattle.std.specs.List.{All, AllByRecursion}
+use Rattle.std.specs.Option.{option_map, option_and_then}
+use Rattle.std.proofs.lemmas.Bool.{cond-true, eqb-false}
+use Rattle.std.proofs.lemmas.List.{length-map}
+use Rattle.std.proofs.lemmas.List.Elements.{recursion_from_All}
+use Rattle.hex.specs.Hex.{IsBytes, encode_lower}
+use Rattle.frame_expr.specs.Regions.{RegionData}
+use Rattle.event_script.specs.declared.reader.statement.SnapshotFields.{SnapshotFields}
 use Rattle.std.specs.Option.{ok_or}
 use Rattle.std.specs.Fmt.{decimal}
 use Rattle.event_script.specs.Digits.{hex}
 use Rattle.event_script.specs.ScriptData.{ImageData}
-use Rattle.event_script.specs.Fields.{decimal_in, hex_in, section_bytes}
-use Rattle.event_script.specs.Statements.{word_of, Form, Decimal, Hexadecimal, Bytes, forms, section_digits, IsField, AreFields, kind_of_event, event_fields, kind_of_statement, statement_fields, statement_line, HasEventForm, HasForm}
+use Rattle.event_script.specs.Fields.{decimal_in, hex_in, bytes_in, section_bytes, all_hex_in}
+use Rattle.event_script.specs.Statements.{word_of, Form, Decimal, Hexadecimal, Bytes, BytesOrDash, forms, IsField, AreFields, kind_of_statement, statement_fields, statement_line, HasForm}
 use Rattle.event_script.specs.Spelling.{Line}
 use Rattle.event_script.specs.Reasons.{LineText, Says}
-use Rattle.event_script.specs.Reading.{◌>=>◌, kind_of, has_any, only, five, one_decimal, one_hex, image_fields, fieldless, statement_of}
-use Rattle.event_script.specs.declared.script.Event.{Event}
+use Rattle.event_script.specs.Reading.{◌>=>◌, kind_of, one_decimal, one_hex, image_fields, numbers_in, snapshot_fields, memory_fields, fieldless, statement_of}
 use Rattle.event_script.specs.declared.script.Event.TheVariants as event
 use Rattle.event_script.specs.declared.reader.fault.Reason.{Reason}
 use Rattle.event_script.specs.declared.reader.fault.Reason.TheVariants as reason
@@ -17,10 +24,10 @@ use Rattle.event_script.specs.declared.reader.kinds.Kind.{Kind}
 use Rattle.event_script.specs.declared.reader.kinds.Kind.TheVariants as kind
 use Rattle.event_script.specs.declared.reader.statement.Statement.{Statement}
 use Rattle.event_script.specs.declared.reader.statement.Statement.TheVariants as statement
-use Rattle.event_script.proofs.Steps.{bind_ok, ok_is, no_fields, one_decimal_is, one_hex_is, image_fields_are}
+use Rattle.event_script.proofs.Steps.{bind_ok, ok_is, one_decimal_is, one_hex_is, image_fields_are, snapshot_fields_are, memory_fields_are}
 use Rattle.event_script.proofs.Words.{word_again}
 use Rattle.event_script.proofs.Numbers.{decimal_again, hex_again}
-use Rattle.event_script.proofs.Sections.{bytes_again}
+use Rattle.event_script.proofs.Sections.{bytes_again, some_bytes_again}
 
 -- ---- what is said
 
@@ -61,6 +68,14 @@ spoken kind.Image fields s e =
     let are = image_fields_are fields a.0 a.1 in
     same_spoken kind.Image fields (statement.Image a.0) s a.2 (record { line = ap (λ (x : Line). word_of kind.Image ∷ x) are.is; form = (are.number, are.base, are.size, are.section, are.bytes) })
 spoken kind.Fixed fields s e = decimal_spoken kind.Fixed statement.Fixed fields s (λ n. refl) (λ n lt. lt) e
+spoken kind.Snapshot fields s e =
+    let a = bind_ok (snapshot_fields fields) (λ snapshot. said (statement.Snapshot snapshot)) s e in
+    let are = snapshot_fields_are fields a.0 a.1 in
+    same_spoken kind.Snapshot fields (statement.Snapshot a.0) s a.2 (record { line = ap (λ (x : Line). word_of kind.Snapshot ∷ x) are.is; form = (are.number, are.count, are.columns) })
+spoken kind.Memory fields s e =
+    let a = bind_ok (memory_fields fields) (λ region. said (statement.Memory region)) s e in
+    let are = memory_fields_are fields a.0 a.1 in
+    same_spoken kind.Memory fields (statement.Memory a.0) s a.2 (record { line = ap (λ (x : Line). word_of kind.Memory ∷ x) are.is; form = (are.address, are.bytes, are.some) })
 spoken kind.Round fields s e = alone_spoken kind.Round statement.Round fields s refl tt e
 spoken kind.Thread fields s e = alone_spoken kind.Thread statement.Thread fields s refl tt e
 spoken kind.Register fields s e = decimal_spoken kind.Register (λ n. statement.Event (event.Register n)) fields s (λ n. refl) (λ n lt. lt) e
@@ -69,7 +84,6 @@ spoken kind.Load fields s e = decimal_spoken kind.Load (λ n. statement.Event (e
 spoken kind.Unload fields s e = hex_spoken kind.Unload (λ n. statement.Event (event.Unload n)) fields s (λ n. refl) (λ n lt. lt) e
 spoken kind.Find fields s e = hex_spoken kind.Find (λ n. statement.Event (event.Find n)) fields s (λ n. refl) (λ n lt. lt) e
 spoken kind.End fields s e = alone_spoken kind.End statement.End fields s refl tt e
-spoken kind.Snapshot fields s e = absurd cc
 spoken kind.Unwind fields s e = absurd cc
 
 -- ---- what is said is understood
@@ -86,6 +100,21 @@ decimal_said make n lt = ap (λ (r : Result ℕ Reason). r >=> λ m. said (make 
 hex_said : (make : ℕ → Statement) (n : ℕ) → n < 2 ^ 64 → (one_hex (hex n ∷ []) >=> λ m. said (make m)) ≡ Ok (make n)
 hex_said make n lt = ap (λ (r : Result ℕ Reason). r >=> λ m. said (make m)) (one_hex_again n lt)
 
+all_hex_again : (numbers : List ℕ) → AllByRecursion (λ n. n < 2 ^ 64) numbers → all_hex_in (map hex numbers) ≡ Some numbers
+all_hex_again [] small = refl
+all_hex_again (n ∷ numbers) small = rw (hex_again n small.0, all_hex_again numbers small.1) refl
+
+snapshot_said : (number : ℕ) (columns : List ℕ) → number < 2 ^ 32 → length columns ≡ 17 → All (λ n. n < 2 ^ 64) columns
+    → snapshot_fields (decimal number ∷ map hex columns) ≡ Ok (record { number = number; regs = record { columns = columns } })
+snapshot_said number columns lt count small =
+    let fields = map hex columns in
+    let all : eqb (length (decimal number ∷ fields)) 18 ≡ true = eq-eqb _ _ (omega (arith, length-map columns hex)) in
+    cond-true (eqb (length (decimal number ∷ fields)) 18) (numbers_in (decimal number ∷ fields)) (Err reason.Fields) all
+    ∙ rw (decimal_again number lt, all_hex_again columns (recursion_from_All (λ n. n < 2 ^ 64) columns small)) refl
+
+memory_said : (region : RegionData) → region.address < 2 ^ 64 → IsBytes region.bytes → 0 < length region.bytes → memory_fields (hex region.address ∷ encode_lower region.bytes ∷ []) ≡ Ok region
+memory_said region lt are some = rw (hex_again region.address lt, some_bytes_again region.bytes are some) refl
+
 pub said_again : (s : Statement) → HasForm s → statement_of (kind_of_statement s) (statement_fields s) ≡ Ok s
 unfolding statement_of
 said_again (statement.Version version) form = decimal_said statement.Version version form
@@ -93,6 +122,8 @@ said_again (statement.Nodes nodes) form = decimal_said statement.Nodes nodes for
 said_again (statement.Loads loads) form = decimal_said statement.Loads loads form
 said_again (statement.Image image) form = rw (decimal_again image.number form.0, hex_again image.base form.1, hex_again image.size form.2, hex_again image.section form.3, bytes_again image.bytes form.4) refl
 said_again (statement.Fixed image) form = decimal_said statement.Fixed image form
+said_again (statement.Snapshot s) form = ap (λ (r : Result SnapshotFields Reason). r >=> λ snapshot. said (statement.Snapshot snapshot)) (snapshot_said s.number s.regs.columns form.0 form.1 form.2)
+said_again (statement.Memory region) form = ap (λ (r : Result RegionData Reason). r >=> λ region. said (statement.Memory region)) (memory_said region form.0 form.1 form.2)
 said_again statement.Round form = refl
 said_again statement.Thread form = refl
 said_again (statement.Event (event.Register image)) form = decimal_said (λ n. statement.Event (event.Register n)) image form
@@ -110,12 +141,20 @@ decimal_fits n lt = ((n, lt, refl), tt)
 hex_fits : (n : ℕ) → n < 2 ^ 64 → AreFields (Hexadecimal ∷ []) (hex n ∷ [])
 hex_fits n lt = ((n, lt, refl), tt)
 
+hexes_fit : (count : ℕ) (numbers : List ℕ) → length numbers ≡ count → AllByRecursion (λ n. n < 2 ^ 64) numbers → AreFields (replicate count Hexadecimal) (map hex numbers)
+hexes_fit zero numbers same small = tt
+hexes_fit (suc count) [] same small = absurd (omega arith)
+hexes_fit (suc count) (n ∷ numbers) same small = ((n, small.0, refl), hexes_fit count numbers (omega arith) small.1)
+
 pub fields_fit : (s : Statement) → HasForm s → (length (statement_fields s) ≡ length (forms (kind_of_statement s))) × AreFields (forms (kind_of_statement s)) (statement_fields s)
 fields_fit (statement.Version version) has = (refl, decimal_fits version has)
 fields_fit (statement.Nodes nodes) has = (refl, decimal_fits nodes has)
 fields_fit (statement.Loads loads) has = (refl, decimal_fits loads has)
 fields_fit (statement.Image image) has = (refl, ((image.number, has.0, refl), ((image.base, has.1, refl), ((image.size, has.2, refl), ((image.section, has.3, refl), ((image.bytes, has.4, refl), tt))))))
 fields_fit (statement.Fixed image) has = (refl, decimal_fits image has)
+fields_fit (statement.Snapshot s) has =
+    (omega (arith, has.1, length-map s.regs.columns hex), ((s.number, has.0, refl), hexes_fit 17 s.regs.columns has.1 (recursion_from_All (λ n. n < 2 ^ 64) s.regs.columns has.2)))
+fields_fit (statement.Memory region) has = (refl, ((region.address, has.0, refl), ((region.bytes, has.1, has.2, refl), tt)))
 fields_fit statement.Round has = (refl, tt)
 fields_fit statement.Thread has = (refl, tt)
 fields_fit (statement.Event (event.Register image)) has = (refl, decimal_fits image has)
@@ -158,7 +197,13 @@ hex_none field none (n, lt, is) = never (hex_in field) none (ap hex_in is ∙ he
     never : (o : Option ℕ) → o ≡ None → o ≡ Some n → ⊥
     never o p q = cc
 
-bytes_none : (field : List ℕ) → section_bytes field ≡ None → IsField Bytes field → ⊥
+some_bytes_none : (field : List ℕ) → bytes_in field ≡ None → IsField Bytes field → ⊥
+some_bytes_none field none (bytes, are, some, is) = never (bytes_in field) none (ap bytes_in is ∙ some_bytes_again bytes are some)
+  where
+    never : (o : Option (List ℕ)) → o ≡ None → o ≡ Some bytes → ⊥
+    never o p q = cc
+
+bytes_none : (field : List ℕ) → section_bytes field ≡ None → IsField BytesOrDash field → ⊥
 bytes_none field none (bytes, are, is) = never (section_bytes field) none (ap section_bytes is ∙ bytes_again bytes are)
   where
     never : (o : Option (List ℕ)) → o ≡ None → o ≡ Some bytes → ⊥
@@ -185,7 +230,7 @@ alone_wrong made [] why e = absurd cc
 alone_wrong made (field ∷ fields) why e = miscounted {A = Statement} [] (field ∷ fields) why (λ same. omega arith) e
 
 abbrev image_forms : List Form
-image_forms = Decimal ∷ Hexadecimal ∷ Hexadecimal ∷ Hexadecimal ∷ Bytes ∷ []
+image_forms = Decimal ∷ Hexadecimal ∷ Hexadecimal ∷ Hexadecimal ∷ BytesOrDash ∷ []
 
 five_wrong : (a b c d x : List ℕ) (why : Reason) → image_fields (a ∷ b ∷ c ∷ d ∷ x ∷ []) ≡ Err why → Wrong image_forms (a ∷ b ∷ c ∷ d ∷ x ∷ []) why
 five_wrong a b c d x why e = elim (bind_err (ok_or (decimal_in a) reason.Spelling) _ why e) [
@@ -223,6 +268,67 @@ image_wrong (a ∷ b ∷ c ∷ d ∷ []) why e = miscounted {A = ImageData} imag
 image_wrong (a ∷ b ∷ c ∷ d ∷ x ∷ []) why e = five_wrong a b c d x why e
 image_wrong (a ∷ b ∷ c ∷ d ∷ x ∷ y ∷ fields) why e = miscounted {A = ImageData} image_forms (a ∷ b ∷ c ∷ d ∷ x ∷ y ∷ fields) why (λ same. omega arith) e
 
+-- a field that is no number
+hexes_none : (count : ℕ) (fields : Line) → length fields ≡ count → all_hex_in fields ≡ None → AreFields (replicate count Hexadecimal) fields → ⊥
+hexes_none count [] same none are = absurd cc
+hexes_none zero (field ∷ fields) same none are = absurd (omega arith)
+hexes_none (suc count) (field ∷ fields) same none are = by (hex_in field) refl (all_hex_in fields) (λ e. hexes_none count fields (omega arith) e are.1) none
+  where
+    by : (o : Option ℕ) → hex_in field ≡ o → (p : Option (List ℕ)) → (p ≡ None → ⊥) → option_and_then (λ n. option_map (λ ns. n ∷ ns) p) o ≡ None → ⊥
+    by None is p more e = hex_none field is are.0
+    by (Some n) is None more e = more refl
+    by (Some n) is (Some ns) more e = absurd cc
+
+abbrev snapshot_forms : List Form
+snapshot_forms = Decimal ∷ replicate 17 Hexadecimal
+
+numbers_wrong : (fields : Line) (why : Reason) → length fields ≡ 18 → numbers_in fields ≡ Err why → Wrong snapshot_forms fields why
+numbers_wrong [] why same e = absurd (omega arith)
+numbers_wrong (number ∷ columns) why same e = elim (bind_err (ok_or (decimal_in number) reason.Spelling) _ why e) [
+  | inl p ↦ (let o = or_err (decimal_in number) reason.Spelling why p in bad (λ are. decimal_none number o.0 are.0) o.1)
+  | inr p ↦ elim (bind_err (ok_or (all_hex_in columns) reason.Spelling) _ why p.2) [
+    | inl q ↦ (let o = or_err (all_hex_in columns) reason.Spelling why q in bad (λ are. hexes_none 17 columns (omega arith) o.0 are.1) o.1)
+    | inr q ↦ never _ q.2
+  ]
+]
+  where
+    bad : (AreFields snapshot_forms (number ∷ columns) → ⊥) → reason.Spelling ≡ why → Wrong snapshot_forms (number ∷ columns) why
+    bad refute is = misspelled snapshot_forms (number ∷ columns) why same refute is
+
+    never : (snapshot : SnapshotFields) → Ok snapshot ≡ failed {A = SnapshotFields} why → Wrong snapshot_forms (number ∷ columns) why
+    never snapshot f = absurd cc
+
+snapshot_wrong : (fields : Line) (why : Reason) → snapshot_fields fields ≡ Err why → Wrong snapshot_forms fields why
+snapshot_wrong fields why e = by (eqb (length fields) 18) refl e
+  where
+    by : (t : Bool) → eqb (length fields) 18 ≡ t → cond t (numbers_in fields) (Err reason.Fields) ≡ Err why → Wrong snapshot_forms fields why
+    by true same e = numbers_wrong fields why (eqb-true _ _ same) e
+    by false other e = miscounted {A = SnapshotFields} snapshot_forms fields why (eqb-false _ _ other) e
+
+abbrev memory_forms : List Form
+memory_forms = Hexadecimal ∷ Bytes ∷ []
+
+two_wrong : (a x : List ℕ) (why : Reason) → memory_fields (a ∷ x ∷ []) ≡ Err why → Wrong memory_forms (a ∷ x ∷ []) why
+two_wrong a x why e = elim (bind_err (ok_or (hex_in a) reason.Spelling) _ why e) [
+  | inl p ↦ (let o = or_err (hex_in a) reason.Spelling why p in bad (λ are. hex_none a o.0 are.0) o.1)
+  | inr p ↦ elim (bind_err (ok_or (bytes_in x) reason.Spelling) _ why p.2) [
+    | inl q ↦ (let o = or_err (bytes_in x) reason.Spelling why q in bad (λ are. some_bytes_none x o.0 are.1.0) o.1)
+    | inr q ↦ never _ q.2
+  ]
+]
+  where
+    bad : (AreFields memory_forms (a ∷ x ∷ []) → ⊥) → reason.Spelling ≡ why → Wrong memory_forms (a ∷ x ∷ []) why
+    bad refute is = misspelled memory_forms (a ∷ x ∷ []) why refl refute is
+
+    never : (region : RegionData) → Ok region ≡ failed {A = RegionData} why → Wrong memory_forms (a ∷ x ∷ []) why
+    never region f = absurd cc
+
+memory_wrong : (fields : Line) (why : Reason) → memory_fields fields ≡ Err why → Wrong memory_forms fields why
+memory_wrong [] why e = miscounted {A = RegionData} memory_forms [] why (λ same. omega arith) e
+memory_wrong (a ∷ []) why e = miscounted {A = RegionData} memory_forms (a ∷ []) why (λ same. omega arith) e
+memory_wrong (a ∷ x ∷ []) why e = two_wrong a x why e
+memory_wrong (a ∷ x ∷ y ∷ fields) why e = miscounted {A = RegionData} memory_forms (a ∷ x ∷ y ∷ fields) why (λ same. omega arith) e
+
 -- the reading of a number, where what it makes can't be refused
 make_err : {A : Type 0} (r : Result A Reason) (make : A → Statement) (why : Reason) → (r >=> λ x. said (make x)) ≡ Err why → r ≡ Err why
 make_err (Ok x) make why e = absurd cc
@@ -230,7 +336,6 @@ make_err {A} (Err d) make why e = ap (λ (w : Reason). failed {A = A} w) (err_is
 
 -- the kinds of lines that can't be run at all
 abbrev pub IsLater : Kind → Type 0
-IsLater kind.Snapshot = Unit {0}
 IsLater kind.Unwind = Unit {0}
 IsLater _ = ⊥
 
@@ -241,6 +346,8 @@ unspoken kind.Nodes fields why e = inl (decimal_wrong fields why (make_err (one_
 unspoken kind.Loads fields why e = inl (decimal_wrong fields why (make_err (one_decimal fields) statement.Loads why e))
 unspoken kind.Image fields why e = inl (image_wrong fields why (make_err (image_fields fields) statement.Image why e))
 unspoken kind.Fixed fields why e = inl (decimal_wrong fields why (make_err (one_decimal fields) statement.Fixed why e))
+unspoken kind.Snapshot fields why e = inl (snapshot_wrong fields why (make_err (snapshot_fields fields) statement.Snapshot why e))
+unspoken kind.Memory fields why e = inl (memory_wrong fields why (make_err (memory_fields fields) statement.Memory why e))
 unspoken kind.Round fields why e = inl (alone_wrong statement.Round fields why e)
 unspoken kind.Thread fields why e = inl (alone_wrong statement.Thread fields why e)
 unspoken kind.Register fields why e = inl (decimal_wrong fields why (make_err (one_decimal fields) (λ n. statement.Event (event.Register n)) why e))
@@ -249,7 +356,6 @@ unspoken kind.Load fields why e = inl (decimal_wrong fields why (make_err (one_d
 unspoken kind.Unload fields why e = inl (hex_wrong fields why (make_err (one_hex fields) (λ n. statement.Event (event.Unload n)) why e))
 unspoken kind.Find fields why e = inl (hex_wrong fields why (make_err (one_hex fields) (λ n. statement.Event (event.Find n)) why e))
 unspoken kind.End fields why e = inl (alone_wrong statement.End fields why e)
-unspoken kind.Snapshot fields why e = inr tt
 unspoken kind.Unwind fields why e = inr tt
 
 -- ---- one line says one thing

@@ -1,8 +1,10 @@
 -- What a good line says: its fields, and what it adds.
-use Rattle.std.proofs.Common.{◌≡◌, ℕ, ◌^◌, ◌<◌, Bool, true, false, cond, List, [], ◌∷◌, Option, Some, None, Result, Ok, Err, refl, ap, subst, ◌∙◌, arith}
+use Rattle.std.proofs.Common.{◌≡◌, ℕ, ◌^◌, ◌<◌, Bool, true, false, cond, eqb, eqb-true, List, [], ◌∷◌, length, map, Option, Some, None, Result, Ok, Err, refl, ap, ap₂, subst, ◌∙◌, arith}
 use Rattle.std.specs.Prelude.{codes}
-use Rattle.std.specs.List.{find}
-use Rattle.std.specs.Option.{ok_or}
+use Rattle.std.specs.List.{find, All, AllByRecursion}
+use Rattle.std.specs.Option.{ok_or, option_map, option_and_then}
+use Rattle.std.proofs.lemmas.List.{length-map}
+use Rattle.std.proofs.lemmas.List.Elements.{All-from_recursion}
 use Rattle.std.specs.Str.{bytes_eq}
 use Rattle.std.specs.Fmt.{decimal}
 use Rattle.std.proofs.lemmas.Slice.Eq.{bytes_eq-Decides}
@@ -16,8 +18,10 @@ use Rattle.event_script.specs.Digits.{hex}
 use Rattle.event_script.specs.ScriptData.{ImageData}
 use Rattle.event_script.specs.Statements.{word_of, section_digits}
 use Rattle.event_script.specs.Spelling.{Line}
-use Rattle.event_script.specs.Fields.{decimal_in, hex_in, bytes_if, section_bytes}
-use Rattle.event_script.specs.Reading.{◌>=>◌, only, five, has_any, one_decimal, one_hex, image_fields, kind_of, kinds}
+use Rattle.event_script.specs.Fields.{decimal_in, hex_in, bytes_if, bytes_in, section_bytes, all_hex_in}
+use Rattle.event_script.specs.Reading.{◌>=>◌, only, two, five, has_any, one_decimal, one_hex, image_fields, numbers_in, snapshot_fields, memory_fields, kind_of, kinds}
+use Rattle.event_script.specs.declared.reader.statement.SnapshotFields.{SnapshotFields}
+use Rattle.frame_expr.specs.Regions.{RegionData}
 use Rattle.event_script.proofs.Numbers.{number_is}
 
 pub bind_ok : {A B E : Type 0} (r : Result A E) (f : A → Result B E) (y : B) → (r >=> f) ≡ Ok y → (x : A) × (r ≡ Ok x) × (f x ≡ Ok y)
@@ -88,29 +92,41 @@ five_is (a ∷ b ∷ c ∷ d ∷ x ∷ y ∷ fields) f e = absurd cc
 five_same : (fields : Line) (a b c d e f g h i j : List ℕ) → fields ≡ a ∷ b ∷ c ∷ d ∷ e ∷ [] → a ≡ f → b ≡ g → c ≡ h → d ≡ i → e ≡ j → fields ≡ f ∷ g ∷ h ∷ i ∷ j ∷ []
 five_same fields a b c d e f g h i j is p q r s t = cc
 
-bytes_parts : (field : List ℕ) (decoded : Result (List ℕ) FromHexError) (bytes : List ℕ) → decode_of field ≡ decoded → bytes_if field decoded ≡ Some bytes → IsBytes bytes × (field ≡ section_digits bytes)
+-- bytes of which there is one at least, as a field spells them
+abbrev pub AreBytes : List ℕ → List ℕ → Type 0
+AreBytes field bytes = IsBytes bytes × (0 < length bytes) × (field ≡ encode_lower bytes)
+
+bytes_parts : (field : List ℕ) (decoded : Result (List ℕ) FromHexError) (bytes : List ℕ) → decode_of field ≡ decoded → bytes_if field decoded ≡ Some bytes → AreBytes field bytes
 bytes_parts field (Err e) bytes is found = absurd cc
 bytes_parts field (Ok []) bytes is found = absurd cc
 bytes_parts field (Ok (b ∷ others)) bytes is found = by (bytes_eq field (encode_lower (b ∷ others))) refl found
   where
-    by : (t : Bool) → bytes_eq field (encode_lower (b ∷ others)) ≡ t → cond t (Some (b ∷ others)) None ≡ Some bytes → IsBytes bytes × (field ≡ section_digits bytes)
+    by : (t : Bool) → bytes_eq field (encode_lower (b ∷ others)) ≡ t → cond t (Some (b ∷ others)) None ≡ Some bytes → AreBytes field bytes
     by true same e =
         let bytes_is : b ∷ others ≡ bytes = cc in
-        subst (λ (x : List ℕ). IsBytes x × (field ≡ section_digits x)) bytes_is ((decode_of-ok field (b ∷ others) is).3, (bytes_eq-Decides field (encode_lower (b ∷ others))).0 same)
+        subst (AreBytes field) bytes_is ((decode_of-ok field (b ∷ others) is).3, omega arith, (bytes_eq-Decides field (encode_lower (b ∷ others))).0 same)
     by false same e = absurd cc
 
 no_bytes : IsBytes []
 no_bytes i = omega arith
 
+pub some_bytes_are : (field bytes : List ℕ) → bytes_in field ≡ Some bytes → AreBytes field bytes
+unfolding bytes_in
+some_bytes_are field bytes e = bytes_parts field (decode_of field) bytes refl e
+
+some_digits : (bytes : List ℕ) → 0 < length bytes → encode_lower bytes ≡ section_digits bytes
+some_digits [] some = absurd (omega arith)
+some_digits (b ∷ bytes) some = refl
+
 pub bytes_are : (field bytes : List ℕ) → section_bytes field ≡ Some bytes → IsBytes bytes × (field ≡ section_digits bytes)
 unfolding section_bytes
 bytes_are field bytes e = by (bytes_eq field (codes "-")) refl e
   where
-    by : (t : Bool) → bytes_eq field (codes "-") ≡ t → cond t (Some []) (bytes_if field (decode_of field)) ≡ Some bytes → IsBytes bytes × (field ≡ section_digits bytes)
+    by : (t : Bool) → bytes_eq field (codes "-") ≡ t → cond t (Some []) (bytes_in field) ≡ Some bytes → IsBytes bytes × (field ≡ section_digits bytes)
     by true same e =
         let bytes_is : [] ≡ bytes = cc in
         subst (λ (x : List ℕ). IsBytes x × (field ≡ section_digits x)) bytes_is (no_bytes, (bytes_eq-Decides field (codes "-")).0 same)
-    by false same e = bytes_parts field (decode_of field) bytes refl e
+    by false same e = (let are = some_bytes_are field bytes e in (are.0, are.2 ∙ some_digits bytes are.1))
 
 -- an image's fields are spelled so
 pub record AreImageFields (fields : Line) (image : ImageData) : Type 0 where
@@ -143,6 +159,89 @@ image_fields_are fields image e =
     let parts = five_is fields f.0 (some_from (five fields) reason.Fields f.0 f.1) in
     same_image fields (record { number = n.0; base = b.0; size = s.0; section = a.0; bytes = c.0 }) image
     (record { is = five_same fields _ _ _ _ _ _ _ _ _ _ parts number.1 base.1 size.1 section.1 bytes.1; number = number.0; base = base.0; size = size.0; section = section.0; bytes = bytes.0 }) c.2
+
+-- the numbers of fields
+pub all_hex_are : (fields : Line) (numbers : List ℕ) → all_hex_in fields ≡ Some numbers → (fields ≡ map hex numbers) × AllByRecursion (λ n. n < 2 ^ 64) numbers
+all_hex_are [] numbers e = let none : [] ≡ numbers = cc in subst (λ (ns : List ℕ). ([] ≡ map hex ns) × AllByRecursion (λ n. n < 2 ^ 64) ns) none (refl, tt)
+all_hex_are (field ∷ fields) numbers e = by (hex_in field) refl (all_hex_in fields) (all_hex_are fields) e
+  where
+    by : (o : Option ℕ) → hex_in field ≡ o → (p : Option (List ℕ)) → ((ns : List ℕ) → p ≡ Some ns → (fields ≡ map hex ns) × AllByRecursion (λ n. n < 2 ^ 64) ns)
+        → option_and_then (λ n. option_map (λ ns. n ∷ ns) p) o ≡ Some numbers → (field ∷ fields ≡ map hex numbers) × AllByRecursion (λ n. n < 2 ^ 64) numbers
+    by (Some n) is (Some ns) more e =
+        let same : n ∷ ns ≡ numbers = cc in
+        let first = hex_is field n is in
+        let rest = more ns refl in
+        subst (λ (xs : List ℕ). (field ∷ fields ≡ map hex xs) × AllByRecursion (λ n. n < 2 ^ 64) xs) same (ap₂ (λ (x : List ℕ) (xs : Line). x ∷ xs) first.1 rest.0, (first.0, rest.1))
+    by (Some n) is None more e = absurd cc
+    by None is p more e = absurd cc
+
+-- a snapshot's fields are spelled so
+pub record AreSnapshotFields (fields : Line) (snapshot : SnapshotFields) : Type 0 where
+  pub is : fields ≡ decimal snapshot.number ∷ map hex snapshot.regs.columns
+  pub number : snapshot.number < 2 ^ 32
+  pub count : length snapshot.regs.columns ≡ 17
+  pub columns : All (λ n. n < 2 ^ 64) snapshot.regs.columns
+
+abbrev read_snapshot : SnapshotFields → Result SnapshotFields Reason
+read_snapshot snapshot = Ok snapshot
+
+same_snapshot : (fields : Line) (x y : SnapshotFields) → AreSnapshotFields fields x → read_snapshot x ≡ read_snapshot y → AreSnapshotFields fields y
+same_snapshot fields x y are e = let same : x ≡ y = cc in subst (AreSnapshotFields fields) same are
+
+numbers_are : (fields : Line) (snapshot : SnapshotFields) → length fields ≡ 18 → numbers_in fields ≡ Ok snapshot → AreSnapshotFields fields snapshot
+numbers_are [] snapshot count e = absurd (omega arith)
+numbers_are (number ∷ columns) snapshot count e =
+    let n = bind_ok (ok_or (decimal_in number) reason.Spelling) _ snapshot e in
+    let c = bind_ok (ok_or (all_hex_in columns) reason.Spelling) _ snapshot n.2 in
+    let first = decimal_is number n.0 (some_from (decimal_in number) reason.Spelling n.0 n.1) in
+    let rest = all_hex_are columns c.0 (some_from (all_hex_in columns) reason.Spelling c.0 c.1) in
+    let same_count : length columns ≡ length c.0 = ap (λ (xs : Line). length xs) rest.0 ∙ length-map c.0 hex in
+    same_snapshot (number ∷ columns) (record { number = n.0; regs = record { columns = c.0 } }) snapshot
+    (record {
+      is = ap₂ (λ (x : List ℕ) (xs : Line). x ∷ xs) first.1 rest.0;
+      number = first.0;
+      count = omega arith;
+      columns = All-from_recursion (λ n. n < 2 ^ 64) c.0 rest.1;
+    }) c.2
+
+pub snapshot_fields_are : (fields : Line) (snapshot : SnapshotFields) → snapshot_fields fields ≡ Ok snapshot → AreSnapshotFields fields snapshot
+snapshot_fields_are fields snapshot e =
+    let count = guard_then (eqb (length fields) 18) reason.Fields (numbers_in fields) snapshot e in
+    numbers_are fields snapshot (eqb-true _ _ count.0) count.1
+
+two_is : (fields : Line) (f : List ℕ × List ℕ) → two fields ≡ Some f → fields ≡ f.0 ∷ f.1 ∷ []
+two_is [] f e = absurd cc
+two_is (a ∷ []) f e = absurd cc
+two_is (a ∷ b ∷ []) f e = let same : (a, b) ≡ f = cc in ap (λ (g : List ℕ × List ℕ). g.0 ∷ g.1 ∷ []) same
+two_is (a ∷ b ∷ c ∷ fields) f e = absurd cc
+
+-- the fields of recorded memory are spelled so
+pub record AreMemoryFields (fields : Line) (region : RegionData) : Type 0 where
+  pub is : fields ≡ hex region.address ∷ encode_lower region.bytes ∷ []
+  pub address : region.address < 2 ^ 64
+  pub bytes : IsBytes region.bytes
+  pub some : 0 < length region.bytes
+
+abbrev read_region : RegionData → Result RegionData Reason
+read_region region = Ok region
+
+same_region : (fields : Line) (x y : RegionData) → AreMemoryFields fields x → read_region x ≡ read_region y → AreMemoryFields fields y
+same_region fields x y are e = let same : x ≡ y = cc in subst (AreMemoryFields fields) same are
+
+pub memory_fields_are : (fields : Line) (region : RegionData) → memory_fields fields ≡ Ok region → AreMemoryFields fields region
+memory_fields_are fields region e =
+    let f = bind_ok (ok_or (two fields) reason.Fields) _ region e in
+    let a = bind_ok (ok_or (hex_in f.0.0) reason.Spelling) _ region f.2 in
+    let b = bind_ok (ok_or (bytes_in f.0.1) reason.Spelling) _ region a.2 in
+    let address = hex_is f.0.0 a.0 (some_from (hex_in f.0.0) reason.Spelling a.0 a.1) in
+    let bytes = some_bytes_are f.0.1 b.0 (some_from (bytes_in f.0.1) reason.Spelling b.0 b.1) in
+    same_region fields (record { address = a.0; bytes = b.0 }) region
+    (record {
+      is = two_is fields f.0 (some_from (two fields) reason.Fields f.0 f.1) ∙ ap₂ (λ (x y : List ℕ). x ∷ y ∷ []) address.1 bytes.2;
+      address = address.0;
+      bytes = bytes.0;
+      some = bytes.1;
+    }) b.2
 
 -- ---- the kind of a line
 

@@ -1,5 +1,5 @@
 -- The words that lines begin with.
-use Rattle.std.proofs.Common.{◌≡◌, ℕ, ◌≤◌, Bool, true, ◌&&◌, leb, List, [], ◌∷◌, Some, refl, arith}
+use Rattle.std.proofs.Common.{◌≡◌, ℕ, true, ◌&&◌, leb, List, [], ◌∷◌, Some, refl}
 use Rattle.std.specs.List.{list_all}
 use Rattle.std.proofs.lemmas.Bool.{and_parts, leb-true}
 use Rattle.event_script.specs.Statements.{word_of}
@@ -25,6 +25,7 @@ word_visible k = visible_from_test (word_of k) (by k)
     by kind.Image = refl
     by kind.Fixed = refl
     by kind.Snapshot = refl
+    by kind.Memory = refl
     by kind.Round = refl
     by kind.Thread = refl
     by kind.Register = refl
@@ -43,6 +44,7 @@ word_again kind.Loads = refl
 word_again kind.Image = refl
 word_again kind.Fixed = refl
 word_again kind.Snapshot = refl
+word_again kind.Memory = refl
 word_again kind.Round = refl
 word_again kind.Thread = refl
 word_again kind.Register = refl

@@ -1,11 +1,11 @@
 -- A script as far as its lines have come: which lines may come, and what each adds.
-use Rattle.std.specs.Prelude.{◌≡◌, ℕ, ◌+◌, ◌-◌, List, [], ◌∷◌, ◌++◌, Bool, true, false, Result, Ok}
-use Rattle.std.specs.Prelude.{Err}
+use Rattle.std.specs.Prelude.{ℕ, ◌+◌, ◌-◌, List, [], ◌∷◌, ◌++◌, Bool, true, false, Result, Ok}
+use Rattle.std.specs.Prelude.{Err, replicate}
 use Rattle.reg_model.specs.SpanData.{SpanData}
 use Rattle.frame_parse.specs.Sections.{SectionData}
 use Rattle.frame_parse.specs.Reading.{section_of}
 use Rattle.frame_parse.specs.declared.fault.FrameFault.{FrameFault}
-use Rattle.event_script.specs.ScriptData.{ScriptData, ImageData}
+use Rattle.event_script.specs.ScriptData.{ScriptData, ImageData, SnapshotData}
 use Rattle.event_script.specs.declared.script.Event.{Event}
 use Rattle.event_script.specs.declared.reader.kinds.Stage.{Stage}
 use Rattle.event_script.specs.declared.reader.kinds.Stage.TheVariants as stage
@@ -14,20 +14,40 @@ use Rattle.event_script.specs.declared.reader.kinds.Kind.TheVariants as kind
 use Rattle.event_script.specs.declared.reader.statement.Statement.{Statement}
 use Rattle.event_script.specs.declared.reader.statement.Statement.TheVariants as statement
 
--- What the lines so far make known: which lines may come, what stands of the script, the threads
--- that are over of the round that goes on, and the events of the thread that goes on.
+-- What the lines so far make known: which lines may come, what stands of the script, the snapshot
+-- whose memory goes on, the threads that are over of the round that goes on, and the events of the
+-- thread that goes on.
 pub record DraftData : Type 0 where
   pub stage : Stage
   pub script : ScriptData
+  pub snapshot : SnapshotData
   pub threads : List (List Event)
   pub events : List Event
 
 abbrev pub no_script : ScriptData
-no_script = record { nodes = 0; loads = 0; images = []; sections = []; fixed = []; rounds = [] }
+no_script = record {
+  nodes = 0;
+  loads = 0;
+  images = [];
+  sections = [];
+  fixed = [];
+  snapshots = [];
+  rounds = [];
+}
+
+-- where no snapshot goes on
+abbrev pub no_snapshot : SnapshotData
+no_snapshot = record { regs = record { columns = replicate 17 0 }; memory = [] }
 
 -- before the first line
 abbrev pub nothing_known : DraftData
-nothing_known = record { stage = stage.Version; script = no_script; threads = []; events = [] }
+nothing_known = record {
+  stage = stage.Version;
+  script = no_script;
+  snapshot = no_snapshot;
+  threads = [];
+  events = [];
+}
 
 -- ---- which lines may come
 
@@ -45,6 +65,10 @@ may_come stage.Fixed kind.Fixed = true
 may_come stage.Fixed kind.Snapshot = true
 may_come stage.Fixed kind.Round = true
 may_come stage.Fixed kind.End = true
+may_come stage.Snapshots kind.Snapshot = true
+may_come stage.Snapshots kind.Memory = true
+may_come stage.Snapshots kind.Round = true
+may_come stage.Snapshots kind.End = true
 may_come stage.Round kind.Round = true
 may_come stage.Round kind.Thread = true
 may_come stage.Round kind.End = true
@@ -74,16 +98,20 @@ abbrev pub has_thread : Stage → Bool
 has_thread stage.Thread = true
 has_thread _ = false
 
--- Lines that can't be run after what the lines before made known: those of backtraces, a second
--- round, a second thread.
+-- Lines that can't be run after what the lines before made known: a backtrace, a second round, a
+-- second thread.
 abbrev pub is_unbuilt : DraftData → Kind → Bool
-is_unbuilt known kind.Snapshot = true
 is_unbuilt known kind.Unwind = true
 is_unbuilt known kind.Round = has_round known.stage
 is_unbuilt known kind.Thread = has_thread known.stage
 is_unbuilt known _ = false
 
 -- ---- what each adds
+
+-- the snapshots, with the one that goes on
+abbrev pub snapshots_at : Stage → List SnapshotData → SnapshotData → List SnapshotData
+snapshots_at stage.Snapshots snapshots snapshot = snapshots ++ snapshot ∷ []
+snapshots_at _ snapshots snapshot = snapshots
 
 -- the threads of the round, with the one that goes on
 abbrev pub threads_at : Stage → List (List Event) → List Event → List (List Event)
@@ -96,6 +124,10 @@ abbrev pub rounds_at : Stage → List (List (List Event)) → List (List Event) 
 rounds_at stage.Round rounds threads events = rounds ++ threads ∷ []
 rounds_at stage.Thread rounds threads events = rounds ++ (threads ++ events ∷ []) ∷ []
 rounds_at _ rounds threads events = rounds
+
+-- all snapshots so far
+abbrev pub snapshots_so_far : DraftData → List SnapshotData
+snapshots_so_far known = snapshots_at known.stage known.script.snapshots known.snapshot
 
 -- the threads so far of the round that goes on, and all rounds so far
 abbrev pub threads_so_far : DraftData → List (List Event)
@@ -122,11 +154,22 @@ with_image known image section =
       };
     }
 
--- the round that goes on is over
+-- the snapshot that goes on is over
+abbrev pub after_snapshot : DraftData → DraftData
+after_snapshot known = record known {
+  script = record known.script { snapshots = snapshots_so_far known };
+  snapshot = no_snapshot;
+}
+
+-- the snapshot or the round that goes on is over
 abbrev pub after_round : DraftData → Stage → DraftData
 after_round known next = record {
   stage = next;
-  script = record known.script { rounds = rounds_so_far known };
+  script = record known.script {
+    snapshots = snapshots_so_far known;
+    rounds = rounds_so_far known;
+  };
+  snapshot = no_snapshot;
   threads = [];
   events = [];
 }
@@ -145,6 +188,15 @@ with_statement known (statement.Fixed image) = record known {
   stage = stage.Fixed;
   script = record known.script { fixed = known.script.fixed ++ image ∷ [] };
 }
+with_statement known (statement.Snapshot snapshot) =
+    record (after_snapshot known) {
+      stage = stage.Snapshots;
+      snapshot = record { regs = snapshot.regs; memory = [] };
+    }
+with_statement known (statement.Memory region) =
+    record known {
+      snapshot = record known.snapshot { memory = known.snapshot.memory ++ region ∷ [] };
+    }
 with_statement known statement.Round = after_round known stage.Round
 with_statement known statement.Thread =
     record known { stage = stage.Thread; threads = threads_so_far known; events = [] }

@@ -8,6 +8,7 @@ use Rattle.event_script.specs.declared.reader.fault.Reason.TheVariants.{Missing,
 use Rattle.event_script.specs.declared.reader.fault.Reason.TheVariants.{Byte, Word, Unbuilt, Fields}
 use Rattle.event_script.specs.declared.reader.fault.Reason.TheVariants.{Spelling, Order, Limit}
 use Rattle.event_script.specs.declared.reader.fault.Reason.TheVariants.{Span, Section, Name, Fixed}
+use Rattle.event_script.specs.declared.reader.fault.Reason.TheVariants.{Region}
 
 -- a refusal of a section: its name, where its record starts, and the place that is refused
 abbrev pub section_fault_at : List ℕ → ℕ → ℕ → List ℕ
@@ -48,6 +49,7 @@ reason_text Span = codes "span"
 reason_text (Section fault) = section_fault_text fault
 reason_text Name = codes "name"
 reason_text Fixed = codes "fixed"
+reason_text Region = codes "region"
 
 -- the first bad line, and the first reason that holds of it
 abbrev pub fault_text : ℕ → Reason → List ℕ

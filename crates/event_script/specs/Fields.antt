@@ -4,6 +4,7 @@ use Rattle.std.specs.Prelude.{Option, Some, None, Result, Ok, Err, codes, if◌t
 use Rattle.hex.specs.Hex.{decode_of, encode_lower}
 use Rattle.hex.specs.declared.error.FromHexError.{FromHexError}
 use Rattle.std.specs.List.{list_all}
+use Rattle.std.specs.Option.{option_map, option_and_then}
 use Rattle.std.specs.Str.{bytes_eq}
 use Rattle.std.specs.Str.Parse.{digits_value}
 use Rattle.std.specs.Fmt.{digits}
@@ -53,7 +54,16 @@ bytes_if field (Ok []) = None
 bytes_if field (Ok (b ∷ bytes)) =
     if bytes_eq field (encode_lower (b ∷ bytes)) then Some (b ∷ bytes) else None
 
+-- the bytes, one at least, whose lower-case digits the field is
+unfoldable pub bytes_in : List ℕ → Option (List ℕ)
+bytes_in field = bytes_if field (decode_of field)
+
 -- the bytes of a section: none of a dash, else those whose lower-case digits the field is
 unfoldable pub section_bytes : List ℕ → Option (List ℕ)
-section_bytes field =
-    if bytes_eq field (codes "-") then Some [] else bytes_if field (decode_of field)
+section_bytes field = if bytes_eq field (codes "-") then Some [] else bytes_in field
+
+-- the hexadecimal numbers of all fields
+abbrev pub all_hex_in : List (List ℕ) → Option (List ℕ)
+all_hex_in [] = Some []
+all_hex_in (field ∷ fields) =
+    option_and_then (λ n. option_map (λ numbers. n ∷ numbers) (all_hex_in fields)) (hex_in field)

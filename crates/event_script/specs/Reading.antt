@@ -1,6 +1,7 @@
 -- How scripts are read, line after line. That this finds the first bad line of the table, and the
 -- script that the bytes spell, is proved.
-use Rattle.std.specs.Prelude.{◌≡◌, ℕ, ◌+◌, ◌-◌, ◌^◌, List, [], ◌∷◌, length, Bool, true, false, ◌&&◌}
+use Rattle.std.specs.Prelude.{◌≡◌, ℕ, ◌+◌, ◌-◌, ◌^◌, List, [], ◌∷◌, ◌++◌, length, Bool, true, false}
+use Rattle.std.specs.Prelude.{◌&&◌}
 use Rattle.std.specs.Prelude.{◌==◌, nat_lt, nat_le, Option, Some, None, Result, Ok, Err, slice_get}
 use Rattle.std.specs.Prelude.{if◌then◌else◌}
 use Rattle.std.specs.List.{find}
@@ -13,13 +14,17 @@ use Rattle.frame_parse.specs.declared.fault.FrameFault.TheVariants as frame_faul
 use Rattle.frame_parse.specs.Reading.{section_of}
 use Rattle.event_script.specs.declared.limits.TheConstants.{VERSION, LEAST_NODES, MOST_NODES}
 use Rattle.event_script.specs.declared.limits.TheConstants.{LEAST_LOADS, MOST_LOADS, MOST_IMAGES}
-use Rattle.event_script.specs.declared.limits.TheConstants.{MOST_SECTION_BYTES, MOST_ROUNDS}
+use Rattle.event_script.specs.declared.limits.TheConstants.{MOST_SECTION_BYTES, MOST_SNAPSHOTS}
+use Rattle.event_script.specs.declared.limits.TheConstants.{MOST_MEMORY_BYTES, MOST_ROUNDS}
 use Rattle.event_script.specs.declared.limits.TheConstants.{MOST_THREADS, MOST_EVENTS}
-use Rattle.event_script.specs.ScriptData.{ImageData}
+use Rattle.frame_expr.specs.Regions.{RegionData, regions_end}
+use Rattle.event_script.specs.ScriptData.{ImageData, SnapshotData, recorded_bytes}
 use Rattle.event_script.specs.Fields.{pieces, is_printable, decimal_in, hex_in, section_bytes}
+use Rattle.event_script.specs.Fields.{bytes_in, all_hex_in}
 use Rattle.event_script.specs.Statements.{word_of}
 use Rattle.event_script.specs.Draft.{DraftData, nothing_known, may_come, is_ended, is_unbuilt}
-use Rattle.event_script.specs.Draft.{threads_so_far, rounds_so_far, with_image, with_statement}
+use Rattle.event_script.specs.Draft.{snapshots_so_far, threads_so_far, rounds_so_far}
+use Rattle.event_script.specs.Draft.{with_image, with_statement}
 use Rattle.event_script.specs.declared.script.Event.{Event}
 use Rattle.event_script.specs.declared.script.Event.TheVariants as event
 use Rattle.event_script.specs.declared.reader.fault.Reason.{Reason}
@@ -28,6 +33,7 @@ use Rattle.event_script.specs.declared.reader.fault.LineFault.{LineFault}
 use Rattle.event_script.specs.declared.reader.fault.LineFault.TheVariants as fault
 use Rattle.event_script.specs.declared.reader.kinds.Kind.{Kind}
 use Rattle.event_script.specs.declared.reader.kinds.Kind.TheVariants as kind
+use Rattle.event_script.specs.declared.reader.statement.SnapshotFields.{SnapshotFields}
 use Rattle.event_script.specs.declared.reader.statement.Statement.{Statement}
 use Rattle.event_script.specs.declared.reader.statement.Statement.TheVariants as statement
 
@@ -50,9 +56,8 @@ abbrev pub GivesLine : {A : Type 0} → Result A LineFault → Result A Reason �
 GivesLine (Ok x) given = given ≡ Ok x
 GivesLine (Err e) given = Fails e given
 
--- The same of a reader that changes the draft in its place.
-abbrev pub LeavesDraft : {A : Type 0} → DraftData → Result A LineFault → Result DraftData Reason
-    → Type 0
+-- The same of a reader that changes a draft in its place.
+abbrev pub LeavesDraft : {A D : Type 0} → D → Result A LineFault → Result D Reason → Type 0
 LeavesDraft now (Ok x) given = given ≡ Ok now
 LeavesDraft now (Err e) given = Fails e given
 
@@ -60,8 +65,8 @@ LeavesDraft now (Err e) given = Fails e given
 
 abbrev pub kinds : List Kind
 kinds = kind.Find ∷ kind.Register ∷ kind.Deregister ∷ kind.Load ∷ kind.Unload ∷ kind.Unwind ∷
-    kind.Thread ∷ kind.Round ∷ kind.Image ∷ kind.Fixed ∷ kind.Snapshot ∷ kind.Version ∷ kind.Nodes ∷
-    kind.Loads ∷ kind.End ∷ []
+    kind.Memory ∷ kind.Thread ∷ kind.Round ∷ kind.Image ∷ kind.Fixed ∷ kind.Snapshot ∷
+    kind.Version ∷ kind.Nodes ∷ kind.Loads ∷ kind.End ∷ []
 
 unfoldable pub kind_of : List ℕ → Option Kind
 kind_of word = find (λ kind. bytes_eq word (word_of kind)) kinds
@@ -95,6 +100,28 @@ image_fields fields =
     ok_or (section_bytes image.4) reason.Spelling >=> λ bytes.
     Ok (record { number = number; base = base; size = size; section = section; bytes = bytes })
 
+-- a number, and those of the 17 columns
+abbrev pub numbers_in : List (List ℕ) → Result SnapshotFields Reason
+numbers_in [] = Err reason.Fields
+numbers_in (number ∷ columns) =
+    ok_or (decimal_in number) reason.Spelling >=> λ number.
+    ok_or (all_hex_in columns) reason.Spelling >=> λ columns.
+    Ok (record { number = number; regs = record { columns = columns } })
+
+abbrev pub snapshot_fields : List (List ℕ) → Result SnapshotFields Reason
+snapshot_fields fields = if length fields == 18 then numbers_in fields else Err reason.Fields
+
+abbrev pub two : List (List ℕ) → Option (List ℕ × List ℕ)
+two (address ∷ bytes ∷ []) = Some (address, bytes)
+two _ = None
+
+abbrev pub memory_fields : List (List ℕ) → Result RegionData Reason
+memory_fields fields =
+    ok_or (two fields) reason.Fields >=> λ region.
+    ok_or (hex_in region.0) reason.Spelling >=> λ address.
+    ok_or (bytes_in region.1) reason.Spelling >=> λ bytes.
+    Ok (record { address = address; bytes = bytes })
+
 -- where no field follows
 abbrev pub fieldless : List (List ℕ) → Statement → Result Statement Reason
 fieldless fields s = if has_any fields then Err reason.Fields else Ok s
@@ -105,6 +132,9 @@ statement_of kind.Nodes fields = one_decimal fields >=> λ nodes. Ok (statement.
 statement_of kind.Loads fields = one_decimal fields >=> λ loads. Ok (statement.Loads loads)
 statement_of kind.Image fields = image_fields fields >=> λ image. Ok (statement.Image image)
 statement_of kind.Fixed fields = one_decimal fields >=> λ image. Ok (statement.Fixed image)
+statement_of kind.Snapshot fields =
+    snapshot_fields fields >=> λ snapshot. Ok (statement.Snapshot snapshot)
+statement_of kind.Memory fields = memory_fields fields >=> λ region. Ok (statement.Memory region)
 statement_of kind.Round fields = fieldless fields statement.Round
 statement_of kind.Thread fields = fieldless fields statement.Thread
 statement_of kind.Register fields =
@@ -153,6 +183,31 @@ fixed_added known image =
     if is_above (last_fixed known.script.images known.script.fixed) span
     then Ok (with_statement known (statement.Fixed image)) else Err reason.Fixed
 
+abbrev pub snapshot_added : DraftData → SnapshotFields → Result DraftData Reason
+snapshot_added known snapshot =
+    if snapshot.number == length (snapshots_so_far known) then
+    (if nat_lt (length (snapshots_so_far known)) MOST_SNAPSHOTS
+    then Ok (with_statement known (statement.Snapshot snapshot)) else Err reason.Limit)
+    else Err reason.Order
+
+-- whether the region can be recorded above the others
+abbrev pub accepts : List RegionData → RegionData → Bool
+accepts regions region =
+    nat_lt 0 (length region.bytes) && nat_lt (region.address + length region.bytes) (2 ^ 64)
+    && nat_le (regions_end regions) region.address
+
+-- the snapshot with one more region of memory
+abbrev pub region_added : SnapshotData → RegionData → Result SnapshotData Reason
+region_added snapshot region =
+    if nat_le (recorded_bytes snapshot.memory + length region.bytes) MOST_MEMORY_BYTES then
+    (if accepts snapshot.memory region
+    then Ok (record snapshot { memory = snapshot.memory ++ region ∷ [] }) else Err reason.Region)
+    else Err reason.Limit
+
+abbrev pub memory_added : DraftData → RegionData → Result DraftData Reason
+memory_added known region =
+    region_added known.snapshot region >=> λ snapshot. Ok (record known { snapshot = snapshot })
+
 -- whether an event names no image that there isn't
 abbrev pub is_named : ℕ → Event → Bool
 is_named images (event.Register image) = nat_lt image images
@@ -171,6 +226,8 @@ added known (statement.Loads loads) =
     then Ok (with_statement known (statement.Loads loads)) else Err reason.Limit
 added known (statement.Image image) = image_added known image
 added known (statement.Fixed image) = fixed_added known image
+added known (statement.Snapshot snapshot) = snapshot_added known snapshot
+added known (statement.Memory region) = memory_added known region
 added known statement.Round =
     if nat_lt (length (rounds_so_far known)) MOST_ROUNDS
     then Ok (with_statement known statement.Round) else Err reason.Limit

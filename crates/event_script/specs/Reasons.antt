@@ -5,14 +5,17 @@ use Rattle.frame_parse.specs.Sections.{IsRefused}
 use Rattle.frame_parse.specs.declared.fault.FrameFault.{FrameFault}
 use Rattle.event_script.specs.declared.limits.TheConstants.{VERSION, LEAST_NODES, MOST_NODES}
 use Rattle.event_script.specs.declared.limits.TheConstants.{LEAST_LOADS, MOST_LOADS, MOST_IMAGES}
-use Rattle.event_script.specs.declared.limits.TheConstants.{MOST_SECTION_BYTES, MOST_ROUNDS}
+use Rattle.event_script.specs.declared.limits.TheConstants.{MOST_SECTION_BYTES, MOST_SNAPSHOTS}
+use Rattle.event_script.specs.declared.limits.TheConstants.{MOST_MEMORY_BYTES, MOST_ROUNDS}
 use Rattle.event_script.specs.declared.limits.TheConstants.{MOST_THREADS, MOST_EVENTS}
 use Rattle.reg_model.specs.SpanData.{SpanData}
 use Rattle.event_script.specs.Fields.{pieces, is_printable}
 use Rattle.event_script.specs.Statements.{word_of, forms, AreFields, statement_line, HasForm}
 use Rattle.event_script.specs.Spelling.{Line}
-use Rattle.event_script.specs.Draft.{DraftData, may_come, is_ended, is_unbuilt, threads_so_far}
-use Rattle.event_script.specs.Draft.{rounds_so_far}
+use Rattle.frame_expr.specs.Regions.{Accepts}
+use Rattle.event_script.specs.ScriptData.{recorded_bytes}
+use Rattle.event_script.specs.Draft.{DraftData, may_come, is_ended, is_unbuilt, snapshots_so_far}
+use Rattle.event_script.specs.Draft.{threads_so_far, rounds_so_far}
 use Rattle.event_script.specs.declared.script.Event.TheVariants as event
 use Rattle.event_script.specs.declared.reader.fault.Reason.{Reason}
 use Rattle.event_script.specs.declared.reader.fault.Reason.TheVariants as reason
@@ -47,9 +50,11 @@ SaysSome text P = (s : Statement) × Says text s × P s
 
 -- ---- reasons against what a line says, in what the lines before it made known
 
--- an image's number isn't the next
+-- an image's or a snapshot's number isn't the next
 abbrev pub IsOutOfOrder : DraftData → Statement → Type 0
 IsOutOfOrder known (statement.Image image) = image.number ≢ length known.script.images
+IsOutOfOrder known (statement.Snapshot snapshot) =
+    snapshot.number ≢ length (snapshots_so_far known)
 IsOutOfOrder known _ = ⊥
 
 -- a number, or a count with this line, is outside its limit
@@ -59,6 +64,10 @@ IsOutsideLimit known (statement.Nodes nodes) = (nodes < LEAST_NODES) ⊎ (MOST_N
 IsOutsideLimit known (statement.Loads loads) = (loads < LEAST_LOADS) ⊎ (MOST_LOADS < loads)
 IsOutsideLimit known (statement.Image image) =
     (MOST_IMAGES ≤ length known.script.images) ⊎ (MOST_SECTION_BYTES < length image.bytes)
+IsOutsideLimit known (statement.Snapshot snapshot) =
+    MOST_SNAPSHOTS ≤ length (snapshots_so_far known)
+IsOutsideLimit known (statement.Memory region) =
+    MOST_MEMORY_BYTES < recorded_bytes known.snapshot.memory + length region.bytes
 IsOutsideLimit known statement.Round = MOST_ROUNDS ≤ length (rounds_so_far known)
 IsOutsideLimit known statement.Thread = MOST_THREADS ≤ length (threads_so_far known)
 IsOutsideLimit known (statement.Event event) = MOST_EVENTS ≤ length known.events
@@ -91,6 +100,12 @@ IsNotAbove known (statement.Fixed image) =
     × (above.first ≤ below.last)
 IsNotAbove known _ = ⊥
 
+-- the region can't be recorded above those before it
+abbrev pub IsNoRegion : DraftData → Statement → Type 0
+IsNoRegion known (statement.Memory region) =
+    Accepts known.snapshot.memory region.address region.bytes → ⊥
+IsNoRegion known _ = ⊥
+
 -- ---- the table
 
 -- its number in the table
@@ -109,6 +124,7 @@ number_in_table reason.Span = 11
 number_in_table (reason.Section fault) = 12
 number_in_table reason.Name = 13
 number_in_table reason.Fixed = 14
+number_in_table reason.Region = 15
 
 -- The reason holds of what stands in the place of a line, in what the lines before made known.
 abbrev pub SpeaksAgainst : Reason → DraftData → LineText → Type 0
@@ -141,6 +157,7 @@ SpeaksAgainst reason.Span known text = SaysSome text IsNoSpan
 SpeaksAgainst (reason.Section fault) known text = SaysSome text (HasBadSection fault)
 SpeaksAgainst reason.Name known text = SaysSome text (IsNameless known)
 SpeaksAgainst reason.Fixed known text = SaysSome text (IsNotAbove known)
+SpeaksAgainst reason.Region known text = SaysSome text (IsNoRegion known)
 
 -- the first reason that holds
 pub record IsReason (known : DraftData) (text : LineText) (why : Reason) : Type 0 where

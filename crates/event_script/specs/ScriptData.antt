@@ -1,16 +1,24 @@
 -- Scripts as plain data, and their limits.
-use Rattle.std.specs.Prelude.{◌≡◌, ℕ, ◌^◌, ◌<◌, ◌≤◌, List, [], ◌∷◌, length, map, All, unwrap_or}
+use Rattle.std.specs.Prelude.{◌≡◌, ℕ, ◌+◌, ◌^◌, ◌<◌, ◌≤◌, List, [], ◌∷◌, length, map, All, unwrap_or}
 use Rattle.std.specs.Prelude.{slice_get}
 use Rattle.reg_model.specs.SpanData.{SpanData, IsSpan}
 use Rattle.hex.specs.Hex.{IsBytes}
+use Rattle.frame_expr.specs.Regions.{RegionData, AreRegions}
+use Rattle.frame_expr.specs.declared.regs.Regs.{Regs}
 use Rattle.frame_parse.specs.Sections.{SectionData, HasFdes}
 use Rattle.event_script.specs.declared.limits.TheConstants.{LEAST_NODES, MOST_NODES, LEAST_LOADS}
 use Rattle.event_script.specs.declared.limits.TheConstants.{MOST_LOADS, MOST_IMAGES}
-use Rattle.event_script.specs.declared.limits.TheConstants.{MOST_SECTION_BYTES, MOST_ROUNDS}
+use Rattle.event_script.specs.declared.limits.TheConstants.{MOST_SECTION_BYTES, MOST_SNAPSHOTS}
+use Rattle.event_script.specs.declared.limits.TheConstants.{MOST_MEMORY_BYTES, MOST_ROUNDS}
 use Rattle.event_script.specs.declared.limits.TheConstants.{MOST_THREADS, MOST_EVENTS}
 use Rattle.event_script.specs.declared.script.Event.{Event}
 use Rattle.event_script.specs.declared.script.Event.TheVariants.{Register, Deregister, Load, Unload}
 use Rattle.event_script.specs.declared.script.Event.TheVariants.{Find}
+
+-- what a contract sees of a recorded stack: the registers of its innermost frame, and memory
+pub record SnapshotData : Type 0 where
+  pub regs : Regs
+  pub memory : List RegionData
 
 -- what a contract sees of a script: by round and thread, the events
 pub record ScriptData : Type 0 where
@@ -19,6 +27,7 @@ pub record ScriptData : Type 0 where
   pub images : List SpanData
   pub sections : List SectionData
   pub fixed : List ℕ
+  pub snapshots : List SnapshotData
   pub rounds : List (List (List Event))
 
 -- The event names an image that there is; addresses have 64 bits.
@@ -57,14 +66,28 @@ pub record AreFixed (images : List SpanData) (fixed : List ℕ) : Type 0 where
   pub named : All (λ image. image < length images) fixed
   pub rising : Rise (map (span_of images) fixed)
 
--- each number and each count is within its limit, each image is a span and has a section, and each
--- event is one of these images'
+-- how many bytes were recorded
+abbrev pub recorded_bytes : List RegionData → ℕ
+recorded_bytes [] = 0
+recorded_bytes (region ∷ regions) = length region.bytes + recorded_bytes regions
+
+-- the numbers of 17 columns, and regions that ascend, of few bytes altogether
+pub record IsSnapshot (snapshot : SnapshotData) : Type 0 where
+  pub count : length snapshot.regs.columns ≡ 17
+  pub columns : All (λ n. n < 2 ^ 64) snapshot.regs.columns
+  pub regions : AreRegions snapshot.memory
+  pub bytes : All (λ region. IsBytes region.bytes) snapshot.memory
+  pub size : recorded_bytes snapshot.memory ≤ MOST_MEMORY_BYTES
+
+-- each number and each count is within its limit, each image is a span and has a section, each
+-- snapshot is one, and each event is one of these images'
 pub record IsRunnable (s : ScriptData) : Type 0 where
   pub nodes : (LEAST_NODES ≤ s.nodes) × (s.nodes ≤ MOST_NODES)
   pub loads : (LEAST_LOADS ≤ s.loads) × (s.loads ≤ MOST_LOADS)
   pub images : (length s.images ≤ MOST_IMAGES) × All IsSpan s.images
   pub sections : (length s.sections ≡ length s.images) × All IsSectionOf s.sections
   pub fixed : AreFixed s.images s.fixed
+  pub snapshots : (length s.snapshots ≤ MOST_SNAPSHOTS) × All IsSnapshot s.snapshots
   pub rounds : (length s.rounds ≤ MOST_ROUNDS) × All (IsRound (length s.images)) s.rounds
 
 -- What can be run: one round of one thread at the most. It goes when threads come.

@@ -4,7 +4,7 @@ use Rattle.std.specs.List.{flat_map}
 use Rattle.frame_parse.specs.Sections.{SectionData}
 use Rattle.reg_model.specs.SpanData.{SpanData}
 use Rattle.event_script.specs.declared.limits.TheConstants.{VERSION}
-use Rattle.event_script.specs.ScriptData.{ScriptData, ImageData, IsRunnable, IsBuilt}
+use Rattle.event_script.specs.ScriptData.{ScriptData, ImageData, SnapshotData, IsRunnable, IsBuilt}
 use Rattle.event_script.specs.Statements.{statement_line}
 use Rattle.event_script.specs.declared.script.Event.{Event}
 use Rattle.event_script.specs.declared.reader.statement.Statement.{Statement}
@@ -45,6 +45,18 @@ image_statements number (span ∷ images) [] = []
 image_statements number (span ∷ images) (section ∷ sections) =
     statement.Image (image_data number span section) ∷ image_statements (number + 1) images sections
 
+-- a snapshot's registers, and then its memory
+abbrev pub snapshot_lines : ℕ → SnapshotData → List Statement
+snapshot_lines number snapshot =
+    statement.Snapshot (record { number = number; regs = snapshot.regs })
+    ∷ map statement.Memory snapshot.memory
+
+-- the snapshots, numbered upwards
+abbrev pub snapshot_statements : ℕ → List SnapshotData → List Statement
+snapshot_statements number [] = []
+snapshot_statements number (snapshot ∷ snapshots) =
+    snapshot_lines number snapshot ++ snapshot_statements (number + 1) snapshots
+
 abbrev pub thread_statements : List (List Event) → List Statement
 thread_statements [] = []
 thread_statements (events ∷ threads) =
@@ -64,7 +76,7 @@ first_statements nodes loads =
 abbrev pub body_statements : ScriptData → List Statement
 body_statements s =
     first_statements s.nodes s.loads ++ image_statements 0 s.images s.sections
-    ++ map statement.Fixed s.fixed ++ round_statements s.rounds
+    ++ map statement.Fixed s.fixed ++ snapshot_statements 0 s.snapshots ++ round_statements s.rounds
 
 -- the text of a script
 unfoldable pub script_text : ScriptData → List ℕ

@@ -1,9 +1,8 @@
 -- What lines say, whatever stands before them, and how that is spelled.
-use Rattle.std.specs.Prelude.{◌≡◌, ℕ, ◌^◌, ◌<◌, List, [], ◌∷◌, replicate, codes}
+use Rattle.std.specs.Prelude.{◌≡◌, ℕ, ◌^◌, ◌<◌, List, [], ◌∷◌, length, map, All, replicate, codes}
 use Rattle.std.specs.Fmt.{decimal}
 use Rattle.hex.specs.Hex.{IsBytes, encode_lower}
 use Rattle.event_script.specs.Digits.{hex}
-use Rattle.event_script.specs.ScriptData.{ImageData}
 use Rattle.event_script.specs.declared.script.Event.{Event}
 use Rattle.event_script.specs.declared.script.Event.TheVariants as event
 use Rattle.event_script.specs.declared.reader.kinds.Kind.{Kind}
@@ -19,6 +18,7 @@ word_of kind.Loads = codes "loads"
 word_of kind.Image = codes "image"
 word_of kind.Fixed = codes "fixed"
 word_of kind.Snapshot = codes "snapshot"
+word_of kind.Memory = codes "memory"
 word_of kind.Round = codes "round"
 word_of kind.Thread = codes "thread"
 word_of kind.Register = codes "register"
@@ -29,16 +29,19 @@ word_of kind.Find = codes "find"
 word_of kind.Unwind = codes "unwind"
 word_of kind.End = codes "end"
 
--- how a field is spelled: as a decimal number, as a hexadecimal one, or as bytes
+-- how a field is spelled: as a decimal number, as a hexadecimal one, as bytes, of which there is one
+-- at least, or as bytes or a dash
 pub data Form : Type 0 where
   Decimal : Form
   Hexadecimal : Form
   Bytes : Form
+  BytesOrDash : Form
 
 -- the fields that come after the word
 abbrev pub forms : Kind → List Form
-forms kind.Image = Decimal ∷ Hexadecimal ∷ Hexadecimal ∷ Hexadecimal ∷ Bytes ∷ []
+forms kind.Image = Decimal ∷ Hexadecimal ∷ Hexadecimal ∷ Hexadecimal ∷ BytesOrDash ∷ []
 forms kind.Snapshot = Decimal ∷ replicate 17 Hexadecimal
+forms kind.Memory = Hexadecimal ∷ Bytes ∷ []
 forms kind.Round = []
 forms kind.Thread = []
 forms kind.Deregister = Hexadecimal ∷ []
@@ -56,7 +59,9 @@ section_digits (b ∷ bytes) = encode_lower (b ∷ bytes)
 abbrev pub IsField : Form → List ℕ → Type 0
 IsField Decimal field = (n : ℕ) × (n < 2 ^ 32) × (field ≡ decimal n)
 IsField Hexadecimal field = (n : ℕ) × (n < 2 ^ 64) × (field ≡ hex n)
-IsField Bytes field = (bytes : List ℕ) × IsBytes bytes × (field ≡ section_digits bytes)
+IsField Bytes field =
+    (bytes : List ℕ) × IsBytes bytes × (0 < length bytes) × (field ≡ encode_lower bytes)
+IsField BytesOrDash field = (bytes : List ℕ) × IsBytes bytes × (field ≡ section_digits bytes)
 
 -- each field is spelled as its form
 abbrev pub AreFields : List Form → List (List ℕ) → Type 0
@@ -84,6 +89,8 @@ kind_of_statement (statement.Nodes nodes) = kind.Nodes
 kind_of_statement (statement.Loads loads) = kind.Loads
 kind_of_statement (statement.Image image) = kind.Image
 kind_of_statement (statement.Fixed image) = kind.Fixed
+kind_of_statement (statement.Snapshot snapshot) = kind.Snapshot
+kind_of_statement (statement.Memory region) = kind.Memory
 kind_of_statement statement.Round = kind.Round
 kind_of_statement statement.Thread = kind.Thread
 kind_of_statement (statement.Event event) = kind_of_event event
@@ -97,6 +104,9 @@ statement_fields (statement.Image image) =
     decimal image.number ∷ hex image.base ∷ hex image.size ∷ hex image.section
     ∷ section_digits image.bytes ∷ []
 statement_fields (statement.Fixed image) = decimal image ∷ []
+statement_fields (statement.Snapshot snapshot) =
+    decimal snapshot.number ∷ map hex snapshot.regs.columns
+statement_fields (statement.Memory region) = hex region.address ∷ encode_lower region.bytes ∷ []
 statement_fields (statement.Event event) = event_fields event
 statement_fields _ = []
 
@@ -120,5 +130,10 @@ HasForm (statement.Image image) =
     (image.number < 2 ^ 32) × (image.base < 2 ^ 64) × (image.size < 2 ^ 64)
     × (image.section < 2 ^ 64) × IsBytes image.bytes
 HasForm (statement.Fixed image) = image < 2 ^ 32
+HasForm (statement.Snapshot snapshot) =
+    (snapshot.number < 2 ^ 32) × (length snapshot.regs.columns ≡ 17)
+    × All (λ n. n < 2 ^ 64) snapshot.regs.columns
+HasForm (statement.Memory region) =
+    (region.address < 2 ^ 64) × IsBytes region.bytes × (0 < length region.bytes)
 HasForm (statement.Event event) = HasEventForm event
 HasForm _ = Unit {0}

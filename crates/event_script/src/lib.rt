@@ -20,4 +20,4 @@ pub use print::journal::{print_answer, print_journal, print_updates};
 pub use print::script::print_script;
 pub use reader::fault::Reason;
 pub use reader::{ScriptFault, read};
-pub use script::{Event, Round, Script, Thread};
+pub use script::{Event, Round, Script, Snapshot, Thread};

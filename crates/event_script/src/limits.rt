@@ -18,6 +18,11 @@ pub const MOST_IMAGES: usize = 4_096;
 /// Bytes of one section.
 pub const MOST_SECTION_BYTES: usize = 65_536;
 
+pub const MOST_SNAPSHOTS: usize = 4_096;
+
+/// Recorded bytes of one snapshot.
+pub const MOST_MEMORY_BYTES: usize = 65_536;
+
 pub const MOST_ROUNDS: usize = 64;
 
 /// Threads of one round.

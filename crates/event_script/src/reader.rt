@@ -14,6 +14,7 @@ mod fault_tests;
 mod fields;
 mod kinds;
 mod numbers;
+mod snapshot_draft;
 mod statement;
 #[cfg(test)]
 mod tests;
@@ -77,6 +78,7 @@ pub fn read(alloc: Global, bytes: &[u8]) -> Result<Script, ScriptFault>
         images,
         sections,
         fixed,
+        snapshots,
         rounds,
         ..
     } = draft;
@@ -86,6 +88,7 @@ pub fn read(alloc: Global, bytes: &[u8]) -> Result<Script, ScriptFault>
         images,
         sections,
         fixed,
+        snapshots,
         rounds,
     })
 }

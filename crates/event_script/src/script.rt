@@ -1,10 +1,26 @@
-//! What a script says: the images, and the events of each thread.
+//! What a script says: the images, the recorded stacks, and the events of each thread.
 
 ghost use Rattle.std.specs.Prelude.{◌≡◌, ℕ, List};
 
+use frame_expr::{Memory, Regs};
 use frame_parse::Section;
 use reg_model::Span;
 use std::marker::Model;
+
+/// A stack as it was recorded: the registers of its innermost frame, and memory.
+#[derive(Drop)]
+pub struct Snapshot {
+    pub regs: Regs,
+    pub memory: Memory,
+}
+
+impl Model for Snapshot {
+    ghost use Rattle.event_script.specs.ScriptData.{SnapshotData};
+
+    ghost Value = { SnapshotData };
+
+    ghost view = { λ s. record { regs = s.regs; memory = s.memory } };
+}
 
 /// What a thread asks of the registry, or does to it.
 #[derive(Clone, Copy, Debug, PartialEq, Eq)]
@@ -65,6 +81,8 @@ pub struct Script {
     pub sections: Vec<Section>,
     /// The images that are there from the start and can't be unloaded, in order of their spans.
     pub fixed: Vec<u32>,
+    /// The recorded stacks, by their numbers.
+    pub snapshots: Vec<Snapshot>,
     pub rounds: Vec<Round>,
 }
 
@@ -79,6 +97,7 @@ impl Model for Script {
       images = s.images.items;
       sections = s.sections.items;
       fixed = s.fixed.items;
+      snapshots = s.snapshots.items;
       rounds = s.rounds.items;
     } };
 
@@ -89,6 +108,7 @@ impl Model for Script {
           images = s.images.items;
           sections = s.sections.items;
           fixed = s.fixed.items;
+          snapshots = s.snapshots.items;
           rounds = s.rounds.items;
         }) };
 }

@@ -41,6 +41,7 @@ fn put_reason(text: &mut String, reason: Reason) -> Result<(), AllocError>
         Reason::Section { fault } => put_section(text, fault),
         Reason::Name => text.push_str("name"),
         Reason::Fixed => text.push_str("fixed"),
+        Reason::Region => text.push_str("region"),
     }
 }
 

@@ -1,14 +1,18 @@
 //! The one text of a script.
 
-ghost use Rattle.std.specs.Prelude.{◌≡◌, ◌++◌, [], ◌∷◌, length, map, decimal, IfOk, OnOk};
+ghost use Rattle.std.specs.Prelude.{◌≡◌, ◌++◌, [], ◌∷◌, length, map, codes, decimal, IfOk, OnOk};
 ghost use Rattle.std.specs.String.{string_bytes};
 ghost use Rattle.event_script.specs.Statements.{section_digits};
 ghost use Rattle.event_script.specs.Spelling.{spelling_of, statement_text, statements_text};
 ghost use Rattle.event_script.specs.Spelling.{image_data, image_statements, thread_statements};
+ghost use Rattle.event_script.specs.Spelling.{snapshot_lines, snapshot_statements};
 ghost use Rattle.event_script.specs.Spelling.{round_statements, script_text};
+ghost use Rattle.event_script.specs.Digits.{hex};
+ghost use Rattle.std.specs.List.{flat_map};
 ghost use Rattle.event_script.specs.declared.reader.statement.Statement.TheVariants as statement;
 
-use crate::script::{Event, Round, Script, Thread};
+use crate::script::{Event, Round, Script, Snapshot, Thread};
+use frame_expr::Memory;
 use frame_parse::Section;
 use reg_model::{NoMemory, Span};
 use std::alloc::{AllocError, Global};
@@ -24,6 +28,7 @@ pub fn print_script(alloc: Global, script: &Script) -> Result<Vec<u8>, NoMemory>
     put_number(&mut text, "loads", script.loads)?;
     put_images(alloc, &mut text, &script.images, &script.sections)?;
     put_fixed(&mut text, &script.fixed)?;
+    put_snapshots(alloc, &mut text, &script.snapshots)?;
     put_rounds(&mut text, &script.rounds)?;
     text.push_str("end\n")?;
     Ok(text.into_bytes())
@@ -93,6 +98,86 @@ fn put_fixed(text: &mut String, fixed: &[u32]) -> Result<(), AllocError>
 {
     for image in fixed {
         put_number(text, "fixed", *image)?;
+    }
+    Ok(())
+}
+
+/// Adds the number of a column, after a space.
+fn put_column(text: &mut String, column: u64) -> Result<(), AllocError>
+    ensures { OnOk result (string_bytes text.new ≡ string_bytes text.old ++ 32 ∷ hex column) }
+{
+    write!(text, " {column:x}")
+}
+
+/// Adds the numbers of columns.
+fn put_columns(text: &mut String, columns: &[u64]) -> Result<(), AllocError>
+    ensures { OnOk result (string_bytes text.new
+        ≡ string_bytes text.old ++ flat_map (λ n. 32 ∷ hex n) columns.now) }
+{
+    for column in columns {
+        put_column(text, *column)?;
+    }
+    Ok(())
+}
+
+/// Adds a line of memory.
+fn put_region(
+    alloc: Global,
+    text: &mut String,
+    address: u64,
+    bytes: &[u8],
+) -> Result<(), AllocError>
+    ensures { OnOk result (string_bytes text.new ≡ string_bytes text.old
+        ++ statement_text (statement.Memory (record { address = address; bytes = bytes.now }))) }
+{
+    write!(text, "memory {address:x} ")?;
+    let digits = hex::encode(alloc, bytes)?;
+    text.push_str(digits.as_str())?;
+    text.push_str("\n")
+}
+
+/// Adds the lines of a snapshot's memory.
+fn put_memory(alloc: Global, text: &mut String, memory: &Memory) -> Result<(), AllocError>
+    ensures { OnOk result (string_bytes text.new
+        ≡ string_bytes text.old ++ statements_text (map statement.Memory memory.now)) }
+{
+    for index in 0..memory.count() {
+        put_region(alloc, text, memory.address(index), memory.region(index))?;
+    }
+    Ok(())
+}
+
+/// Adds the word of a snapshot, and its number.
+fn put_snapshot_number(text: &mut String, number: usize) -> Result<(), AllocError>
+    ensures { OnOk result (string_bytes text.new
+        ≡ string_bytes text.old ++ (codes "snapshot " ++ decimal number)) }
+{
+    write!(text, "snapshot {number}")
+}
+
+/// Adds the lines of a snapshot.
+fn put_snapshot(
+    alloc: Global,
+    text: &mut String,
+    number: usize,
+    snapshot: &Snapshot,
+) -> Result<(), AllocError>
+    ensures { OnOk result (string_bytes text.new ≡ string_bytes text.old
+        ++ statements_text (snapshot_lines number snapshot.now)) }
+{
+    put_snapshot_number(text, number)?;
+    put_columns(text, &snapshot.regs.columns)?;
+    text.push_str("\n")?;
+    put_memory(alloc, text, &snapshot.memory)
+}
+
+/// Adds the lines of the snapshots.
+fn put_snapshots(alloc: Global, text: &mut String, snapshots: &[Snapshot]) -> Result<(), AllocError>
+    ensures { OnOk result (string_bytes text.new
+        ≡ string_bytes text.old ++ statements_text (snapshot_statements 0 snapshots.now)) }
+{
+    for (number, snapshot) in snapshots.iter().enumerate() {
+        put_snapshot(alloc, text, number, snapshot)?;
     }
     Ok(())
 }

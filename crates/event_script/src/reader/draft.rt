@@ -6,21 +6,26 @@ ghost use Rattle.event_script.specs.Fields.{fields_after};
 ghost use Rattle.event_script.specs.declared.limits.TheConstants.{MOST_SECTION_BYTES};
 ghost use Rattle.event_script.specs.declared.reader.kinds.Stage.TheVariants as stage;
 ghost use Rattle.event_script.specs.declared.reader.statement.Statement.TheVariants as statement;
-ghost use Rattle.event_script.specs.Draft.{nothing_known, is_unbuilt, threads_so_far, after_round};
-ghost use Rattle.event_script.specs.Draft.{with_statement};
+ghost use Rattle.event_script.specs.Draft.{no_snapshot, nothing_known, is_unbuilt, threads_so_far};
+ghost use Rattle.event_script.specs.Draft.{after_snapshot, after_round, with_statement};
 ghost use Rattle.event_script.specs.Reading.{GivesLine, LeavesDraft, spoken_added, section_or};
 ghost use Rattle.event_script.specs.Reading.{image_added, last_fixed, is_above, fixed_added};
-ghost use Rattle.event_script.specs.Reading.{is_named, added, after_line, at_end};
+ghost use Rattle.event_script.specs.Reading.{snapshot_added, memory_added, is_named, added};
+ghost use Rattle.event_script.specs.Reading.{after_line, at_end};
 
 use crate::limits::{
     LEAST_LOADS, LEAST_NODES, MOST_EVENTS, MOST_IMAGES, MOST_LOADS, MOST_NODES, MOST_ROUNDS,
-    MOST_SECTION_BYTES, MOST_THREADS, VERSION,
+    MOST_SECTION_BYTES, MOST_SNAPSHOTS, MOST_THREADS, VERSION,
 };
 use crate::reader::fault::{LineFault, Reason};
 use crate::reader::fields::{first_field, is_printable};
 use crate::reader::kinds::{Kind, Stage, kind_of, may_come};
-use crate::reader::statement::{ImageFields, Statement, statement_of};
-use crate::script::{Event, Round, Thread};
+use crate::reader::snapshot_draft::SnapshotDraft;
+use crate::reader::statement::{
+    ImageFields, MemoryFields, SnapshotFields, Statement, statement_of,
+};
+use crate::script::{Event, Round, Snapshot, Thread};
+use frame_expr::Regs;
 use frame_parse::{FrameFault, Section};
 use reg_model::Span;
 use std::alloc::Global;
@@ -36,6 +41,10 @@ pub struct Draft {
     pub images: Vec<Span>,
     pub sections: Vec<Section>,
     pub fixed: Vec<u32>,
+    /// The snapshots that are over.
+    pub snapshots: Vec<Snapshot>,
+    /// The snapshot whose memory goes on.
+    pub snapshot: SnapshotDraft,
     /// The rounds that are over.
     pub rounds: Vec<Round>,
     /// The threads that are over, of the round that goes on.
@@ -57,8 +66,10 @@ impl Model for Draft {
         images = d.images.items;
         sections = d.sections.items;
         fixed = d.fixed.items;
+        snapshots = d.snapshots.items;
         rounds = d.rounds.items;
       };
+      snapshot = d.snapshot;
       threads = d.threads.items;
       events = d.events.items;
     } };
@@ -101,6 +112,13 @@ fn is_named(images: usize, event: Event) -> bool
     }
 }
 
+/// Where no snapshot goes on.
+fn no_snapshot(alloc: Global) -> SnapshotDraft
+    ensures { result ≡ no_snapshot }
+{
+    SnapshotDraft::new(alloc, Regs { columns: [0; 17] })
+}
+
 impl Draft {
     /// Before the first line.
     pub fn new(alloc: Global) -> Self
@@ -113,10 +131,24 @@ impl Draft {
             images: Vec::new(alloc),
             sections: Vec::new(alloc),
             fixed: Vec::new(alloc),
+            snapshots: Vec::new(alloc),
+            snapshot: no_snapshot(alloc),
             rounds: Vec::new(alloc),
             threads: Vec::new(alloc),
             events: Vec::new(alloc),
         }
+    }
+
+    /// Ends the snapshot that goes on, if one does.
+    fn end_snapshot(&mut self, alloc: Global) -> Result<(), LineFault>
+        ensures { LeavesDraft self.new result (Ok (after_snapshot self.old)) }
+    {
+        let snapshot = replace(&mut self.snapshot, no_snapshot(alloc));
+        match self.stage {
+            Stage::Snapshots => self.snapshots.push(snapshot.into_snapshot())?,
+            _ => {}
+        }
+        Ok(())
     }
 
     /// Ends the thread that goes on, if one does.
@@ -132,10 +164,11 @@ impl Draft {
         Ok(())
     }
 
-    /// Ends the round that goes on, if one does.
+    /// Ends the snapshot or the round that goes on, if one does.
     fn end_round(&mut self, alloc: Global) -> Result<(), LineFault>
         ensures { LeavesDraft self.new result (Ok (after_round self.old self.old.stage)) }
     {
+        self.end_snapshot(alloc)?;
         self.end_thread(alloc)?;
         let threads = replace(&mut self.threads, Vec::new(alloc));
         match self.stage {
@@ -208,6 +241,27 @@ impl Draft {
         Ok(())
     }
 
+    fn snapshot(&mut self, alloc: Global, snapshot: SnapshotFields) -> Result<(), LineFault>
+        ensures { LeavesDraft self.new result (snapshot_added self.old snapshot) }
+    {
+        self.end_snapshot(alloc)?;
+        if snapshot.number as usize != self.snapshots.len() {
+            return Err(Reason::Order.into());
+        }
+        if self.snapshots.len() >= MOST_SNAPSHOTS {
+            return Err(Reason::Limit.into());
+        }
+        self.stage = Stage::Snapshots;
+        self.snapshot = SnapshotDraft::new(alloc, snapshot.regs);
+        Ok(())
+    }
+
+    fn memory(&mut self, region: MemoryFields) -> Result<(), LineFault>
+        ensures { LeavesDraft self.new result (memory_added self.old region) }
+    {
+        self.snapshot.push(region)
+    }
+
     #[tactic(auto, unfolding(crate::specs::Reading::added))]
     fn round(&mut self, alloc: Global) -> Result<(), LineFault>
         ensures { LeavesDraft self.new result (added self.old statement.Round) }
@@ -266,6 +320,8 @@ impl Draft {
             Statement::Loads(loads) => self.loads(loads),
             Statement::Image(image) => self.image(alloc, image),
             Statement::Fixed(image) => self.fixed(image),
+            Statement::Snapshot(snapshot) => self.snapshot(alloc, snapshot),
+            Statement::Memory(region) => self.memory(region),
             Statement::Round => self.round(alloc),
             Statement::Thread => self.thread(alloc),
             Statement::Event(event) => self.event(event),
@@ -278,7 +334,7 @@ impl Draft {
         ensures { result ≡ is_unbuilt self.now kind }
     {
         match kind {
-            Kind::Snapshot | Kind::Unwind => true,
+            Kind::Unwind => true,
             Kind::Round => matches!(self.stage, Stage::Round | Stage::Thread),
             Kind::Thread => matches!(self.stage, Stage::Thread),
             _ => false,

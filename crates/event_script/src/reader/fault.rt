@@ -19,13 +19,13 @@ pub enum Reason {
     Byte,
     /// Its first field can't start a line here.
     Word,
-    /// Its form can't be run yet.
+    /// Its form can't be run.
     Unbuilt,
     /// The number of fields is wrong.
     Fields,
     /// A field isn't spelled as its kind.
     Spelling,
-    /// The image's number isn't the next.
+    /// The image's or the snapshot's number isn't the next.
     Order,
     /// A number, or a count with this line, is outside its limit.
     Limit,
@@ -33,10 +33,12 @@ pub enum Reason {
     Span,
     /// The section's first refusal.
     Section { fault: FrameFault },
-    /// It names an image that the script hasn't.
+    /// It names an image or a snapshot that the script hasn't.
     Name,
     /// Its span isn't wholly above the fixed span before it.
     Fixed,
+    /// The memory's bytes reach past the greatest address, or aren't above those before them.
+    Region,
 }
 
 /// Why reading ends before the bytes do.

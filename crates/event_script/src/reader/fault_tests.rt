@@ -5,7 +5,7 @@ use super::*;
 use frame_parse::FrameFault;
 
 /// Texts with their first bad line and its reason.
-const BAD: [(&[u8], u32, Reason); 14] = [
+const BAD: [(&[u8], u32, Reason); 15] = [
     (b"", 1, Reason::Missing),
     (b"frames 1\nnodes 4\nloads 1\nend\nend\n", 5, Reason::After),
     (b"frames 1", 1, Reason::Unended),
@@ -45,6 +45,12 @@ const BAD: [(&[u8], u32, Reason); 14] = [
         b"frames 1\nnodes 4\nloads 1\nimage 0 1000 20 0 -\nfixed 0\nfixed 0\n",
         6,
         Reason::Fixed,
+    ),
+    (
+        b"frames 1\nnodes 4\nloads 1\nsnapshot 0 0 0 0 0 0 0 0 0 0 0 0 0 0 0 0 0 0\n\
+        memory 7000 0000\nmemory 7001 00\n",
+        6,
+        Reason::Region,
     ),
 ];
 

@@ -1,9 +1,9 @@
 //! Lines and fields, as parts of the bytes.
 
-ghost use Rattle.std.specs.Prelude.{◌≡◌, ℕ, ◌<◌, ◌≤◌, ◌≢◌, [], ◌∷◌, Some, None, length};
+ghost use Rattle.std.specs.Prelude.{◌≡◌, ◌==◌, ℕ, ◌<◌, ◌≤◌, ◌≢◌, [], ◌∷◌, Some, None, length};
 ghost use Rattle.std.specs.Prelude.{slice_index, MatchOption};
 ghost use Rattle.event_script.specs.Fields.{pieces, fields_after, is_printable};
-ghost use Rattle.event_script.specs.Reading.{has_any, only, five};
+ghost use Rattle.event_script.specs.Reading.{has_any, only, two, five};
 
 /// Where the byte stands first, or the length of the bytes where it doesn't stand in them.
 pub fn place_of(bytes: &[u8], byte: u8) -> usize
@@ -58,6 +58,32 @@ pub fn has_any(rest: &[u8]) -> bool
     ensures { result ≡ has_any (fields_after rest.now) }
 {
     !rest.is_empty()
+}
+
+/// Whether so many fields follow.
+pub fn has_count(rest: &[u8], count: usize) -> bool
+    ensures { result ≡ (length (fields_after rest.now) == count) }
+{
+    let mut left = rest;
+    let mut missing = count;
+    while missing > 0 {
+        let Some((_, others)) = next_field(left) else {
+            return false;
+        };
+        left = others;
+        missing -= 1;
+    }
+    !has_any(left)
+}
+
+/// The next two fields, where they are the last ones.
+pub fn two_fields(rest: &[u8]) -> Option<(&[u8], &[u8])>
+    ensures { MatchOption result (two (fields_after rest.now) ≡ None)
+        (λ f. two (fields_after rest.now) ≡ Some (f.0.now, f.1.now)) }
+{
+    let (first, rest) = next_field(rest)?;
+    let second = only_field(rest)?;
+    Some((first, second))
 }
 
 /// The next five fields, where they are the last ones.

@@ -13,8 +13,10 @@ pub enum Stage {
     Loads,
     /// Images, and then what comes after them.
     Images,
-    /// An image was fixed: others may be, and then rounds come.
+    /// An image was fixed: others may be, and then comes what comes after them.
     Fixed,
+    /// A snapshot was begun: its memory, other snapshots, and then rounds come.
+    Snapshots,
     /// A round has begun, and no thread in it.
     Round,
     /// A thread has begun.
@@ -32,6 +34,7 @@ pub enum Kind {
     Image,
     Fixed,
     Snapshot,
+    Memory,
     Round,
     Thread,
     Register,
@@ -60,6 +63,8 @@ pub fn kind_of(word: &[u8]) -> Option<Kind>
         Some(Kind::Unload)
     } else if word == b"unwind".as_slice() {
         Some(Kind::Unwind)
+    } else if word == b"memory".as_slice() {
+        Some(Kind::Memory)
     } else if word == b"thread".as_slice() {
         Some(Kind::Thread)
     } else if word == b"round".as_slice() {
@@ -96,6 +101,10 @@ pub fn may_come(stage: Stage, kind: Kind) -> bool
             Kind::Image | Kind::Fixed | Kind::Snapshot | Kind::Round | Kind::End
         ),
         Stage::Fixed => matches!(kind, Kind::Fixed | Kind::Snapshot | Kind::Round | Kind::End),
+        Stage::Snapshots => matches!(
+            kind,
+            Kind::Snapshot | Kind::Memory | Kind::Round | Kind::End
+        ),
         Stage::Round => matches!(kind, Kind::Round | Kind::Thread | Kind::End),
         Stage::Thread => matches!(
             kind,

@@ -2,7 +2,7 @@
 
 ghost use Rattle.std.specs.Prelude.{◌≡◌, ℕ, ◌+◌, ◌^◌, ◌<◌, ◌≤◌, false, MatchOption, IfOk};
 ghost use Rattle.std.specs.Fmt.{digit_glyph};
-ghost use Rattle.event_script.specs.Fields.{number_in, decimal_in, hex_in, section_bytes};
+ghost use Rattle.event_script.specs.Fields.{number_in, decimal_in, hex_in, bytes_in, section_bytes};
 ghost use Rattle.std.specs.List.{list_all};
 ghost use Rattle.std.specs.Option.{option_map};
 ghost use Rattle.event_script.specs.Lower.{is_lower};
@@ -72,15 +72,12 @@ fn are_lower(field: &[u8]) -> bool
     field.iter().all(|b| (b'0' <= *b && *b <= b'9') || (b'a' <= *b && *b <= b'f'))
 }
 
-#[tactic(auto, unfolding(crate::specs::Fields::section_bytes))]
-/// The bytes of a section: none for a dash, else those whose digits in lower case the field is.
-pub fn section_bytes(alloc: Global, field: &[u8]) -> Result<Option<Vec<u8>>, NoMemory>
+#[tactic(auto, unfolding(crate::specs::Fields::bytes_in))]
+/// The bytes, one at least, whose digits in lower case the field is.
+pub fn bytes_in(alloc: Global, field: &[u8]) -> Result<Option<Vec<u8>>, NoMemory>
     ensures { IfOk result
-        (λ found. option_map (λ bytes. bytes.items) found ≡ section_bytes field.now) }
+        (λ found. option_map (λ bytes. bytes.items) found ≡ bytes_in field.now) }
 {
-    if field == b"-".as_slice() {
-        return Ok(Some(Vec::new(alloc)));
-    }
     if field.is_empty() {
         return Ok(None);
     }
@@ -94,4 +91,16 @@ pub fn section_bytes(alloc: Global, field: &[u8]) -> Result<Option<Vec<u8>>, NoM
             _ => Ok(None),
         },
     }
+}
+
+#[tactic(auto, unfolding(crate::specs::Fields::section_bytes))]
+/// The bytes of a section: none for a dash, else those whose digits in lower case the field is.
+pub fn section_bytes(alloc: Global, field: &[u8]) -> Result<Option<Vec<u8>>, NoMemory>
+    ensures { IfOk result
+        (λ found. option_map (λ bytes. bytes.items) found ≡ section_bytes field.now) }
+{
+    if field == b"-".as_slice() {
+        return Ok(Some(Vec::new(alloc)));
+    }
+    bytes_in(alloc, field)
 }

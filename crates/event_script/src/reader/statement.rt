@@ -1,15 +1,18 @@
 //! What a line says, whatever stands before it.
 
-ghost use Rattle.std.specs.Prelude.{◌≡◌};
+ghost use Rattle.std.specs.Prelude.{◌≡◌, length, IfSome, MatchOption, None, Some};
 ghost use Rattle.event_script.specs.Fields.{fields_after};
 ghost use Rattle.event_script.specs.Reading.{GivesLine, one_decimal, one_hex, image_fields};
-ghost use Rattle.event_script.specs.Reading.{fieldless, statement_of};
+ghost use Rattle.event_script.specs.Reading.{snapshot_fields, memory_fields, fieldless};
+ghost use Rattle.event_script.specs.Reading.{statement_of};
+ghost use Rattle.event_script.specs.Fields.{all_hex_in};
 
 use crate::reader::fault::{LineFault, Reason};
-use crate::reader::fields::{five_fields, has_any, only_field};
+use crate::reader::fields::{five_fields, has_any, has_count, next_field, only_field, two_fields};
 use crate::reader::kinds::Kind;
-use crate::reader::numbers::{decimal_in, hex_in, section_bytes};
+use crate::reader::numbers::{bytes_in, decimal_in, hex_in, section_bytes};
 use crate::script::Event;
+use frame_expr::Regs;
 use std::alloc::Global;
 use std::marker::Model;
 
@@ -38,6 +41,28 @@ impl Model for ImageFields {
     } };
 }
 
+/// What the line of a snapshot says.
+#[derive(Clone, Copy, Debug, PartialEq, Eq)]
+pub struct SnapshotFields {
+    pub number: u32,
+    pub regs: Regs,
+}
+
+/// What a line of recorded memory says.
+#[derive(Drop)]
+pub struct MemoryFields {
+    pub address: u64,
+    pub bytes: Vec<u8>,
+}
+
+impl Model for MemoryFields {
+    ghost use Rattle.frame_expr.specs.Regions.{RegionData};
+
+    ghost Value = { RegionData };
+
+    ghost view = { λ m. record { address = m.address; bytes = m.bytes.items } };
+}
+
 /// What a line says.
 #[derive(Drop)]
 pub enum Statement {
@@ -47,6 +72,10 @@ pub enum Statement {
     Image(ImageFields),
     /// An image is fixed.
     Fixed(u32),
+    /// A snapshot begins.
+    Snapshot(SnapshotFields),
+    /// Memory of the snapshot that goes on.
+    Memory(MemoryFields),
     /// A round begins.
     Round,
     /// A thread begins.
@@ -66,6 +95,8 @@ pub fn statement_of(alloc: Global, kind: Kind, rest: &[u8]) -> Result<Statement,
         Kind::Loads => Ok(Statement::Loads(one_decimal(rest)?)),
         Kind::Image => Ok(Statement::Image(image_fields(alloc, rest)?)),
         Kind::Fixed => Ok(Statement::Fixed(one_decimal(rest)?)),
+        Kind::Snapshot => Ok(Statement::Snapshot(snapshot_fields(rest)?)),
+        Kind::Memory => Ok(Statement::Memory(memory_fields(alloc, rest)?)),
         Kind::Round => fieldless(rest, Statement::Round),
         Kind::Thread => fieldless(rest, Statement::Thread),
         Kind::Register => {
@@ -89,7 +120,7 @@ pub fn statement_of(alloc: Global, kind: Kind, rest: &[u8]) -> Result<Statement,
             Ok(Statement::Event(Event::Find { pc }))
         }
         Kind::End => fieldless(rest, Statement::End),
-        Kind::Snapshot | Kind::Unwind => Err(Reason::Unbuilt.into()),
+        Kind::Unwind => Err(Reason::Unbuilt.into()),
     }
 }
 
@@ -136,4 +167,46 @@ fn image_fields(alloc: Global, rest: &[u8]) -> Result<ImageFields, LineFault>
         section,
         bytes,
     })
+}
+
+/// The numbers of the 17 columns.
+fn columns_of(rest: &[u8]) -> Option<[u64; 17]>
+    requires { length (fields_after rest.now) ≡ 17 }
+    ensures { MatchOption result (all_hex_in (fields_after rest.now) ≡ None)
+        (λ columns. all_hex_in (fields_after rest.now) ≡ Some columns) }
+{
+    let mut columns = [0; 17];
+    let mut left = rest;
+    for index in 0..17 {
+        let (field, others) = next_field(left)?;
+        columns[index] = hex_in(field)?;
+        left = others;
+    }
+    Some(columns)
+}
+
+/// The fields of a snapshot: its number, and the numbers of its columns.
+fn snapshot_fields(rest: &[u8]) -> Result<SnapshotFields, LineFault>
+    ensures { GivesLine result (snapshot_fields (fields_after rest.now)) }
+{
+    if !has_count(rest, 18) {
+        return Err(Reason::Fields.into());
+    }
+    let (first, others) = next_field(rest).ok_or(Reason::Fields)?;
+    let number = decimal_in(first).ok_or(Reason::Spelling)?;
+    let columns = columns_of(others).ok_or(Reason::Spelling)?;
+    Ok(SnapshotFields {
+        number,
+        regs: Regs { columns },
+    })
+}
+
+/// The fields of recorded memory: its address and its bytes.
+fn memory_fields(alloc: Global, rest: &[u8]) -> Result<MemoryFields, LineFault>
+    ensures { GivesLine result (memory_fields (fields_after rest.now)) }
+{
+    let (address, bytes) = two_fields(rest).ok_or(Reason::Fields)?;
+    let address = hex_in(address).ok_or(Reason::Spelling)?;
+    let bytes = bytes_in(alloc, bytes)?.ok_or(Reason::Spelling)?;
+    Ok(MemoryFields { address, bytes })
 }

@@ -3,11 +3,15 @@
 use super::*;
 use crate::print::script::print_script;
 use crate::script::Event;
+use frame_expr::Regs;
 use std::test::Fail;
 
-/// Each kind of line: the cases one_range and loaded_and_fixed in one.
+/// Each kind of line that can be run: the cases one_range, loaded_and_fixed and
+/// call_is_last_instruction in one.
 const ALL_LINES: &[u8] = b"frames 1\nnodes 16\nloads 2\nimage 0 1000 20 0 -\n\
-image 1 1010 20 0 -\nimage 2 3000 10 0 -\nfixed 0\nfixed 2\nround\nthread\nregister 1\n\
+image 1 1010 20 0 -\nimage 2 3000 10 0 -\nfixed 0\nfixed 2\n\
+snapshot 0 0 1 2 3 4 5 7010 7000 8 9 a b c d e f ffffffffffffffff\nmemory 7000 2010000000000000\n\
+memory 7008 00\nsnapshot 1 0 0 0 0 0 0 0 0 0 0 0 0 0 0 0 0 0\nround\nthread\nregister 1\n\
 find 1010\nload 2\nunload 3000\nderegister 1010\nend\n";
 
 /// A script with a section that ends after a record (section_without_end_mark), and how many bytes
@@ -27,6 +31,31 @@ fn a_script_is_what_its_lines_say(rt: HostRuntime) -> Result<(), Fail> {
     assert_eq!(rt; image.first(), 0x1000);
     assert_eq!(rt; image.last(), 0x101f);
     assert_eq!(rt; script.fixed.as_slice(), [0, 2].as_slice());
+    assert_eq!(rt; script.snapshots.len(), 2);
+    let snapshot = script.snapshots.first().ok_or("a snapshot")?;
+    let columns = [
+        0,
+        1,
+        2,
+        3,
+        4,
+        5,
+        0x7010,
+        0x7000,
+        8,
+        9,
+        10,
+        11,
+        12,
+        13,
+        14,
+        15,
+        u64::MAX,
+    ];
+    assert_eq!(rt; snapshot.regs, Regs { columns });
+    assert_eq!(rt; snapshot.memory.count(), 2);
+    assert_eq!(rt; snapshot.memory.word(0x7000), Some(0x1020));
+    assert_eq!(rt; snapshot.memory.word(0x7001), None);
     assert_eq!(rt; script.rounds.len(), 1);
     for round in &script.rounds {
         assert_eq!(rt; round.threads.len(), 1);

@@ -1,5 +1,5 @@
 use Rattle.std.proofs.Common.{◌≡◌, ◌++◌, take}
-use Rattle.event_script.specs.Text.{numbered, thread_text}
+use Rattle.event_script.specs.Text.{thread_text}
 use Rattle.event_script.proofs.print.journal.add_thread.Given as goal
 
 -- the text so far

@@ -1,6 +1,5 @@
-use Rattle.std.proofs.Common.{◌≡◌, ◌++◌, [], refl, ◌∙◌}
-use Rattle.event_script.specs.Text.{numbered, round_text, updates_text}
-use Rattle.event_script.proofs.Texts.{appended}
+use Rattle.std.proofs.Common.{◌≡◌, refl, ◌∙◌}
+use Rattle.event_script.specs.Text.{updates_text}
 use Rattle.event_script.proofs.Numbered.{rounds_text_is}
 use Rattle.event_script.proofs.Answered.{printable_is}
 use Rattle.event_script.proofs.print.journal.print_journal.Goals as goal

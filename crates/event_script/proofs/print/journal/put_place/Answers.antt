@@ -1,8 +1,8 @@
-use Rattle.std.proofs.Common.{◌≡◌, ◌++◌, [], append_assoc, sym, ◌∙◌, ap, codes}
+use Rattle.std.proofs.Common.{◌≡◌, ◌++◌, append_assoc, sym, ◌∙◌, ap, codes}
 use Rattle.std.proofs.lemmas.List.{append-nil}
 use Rattle.std.proofs.lemmas.Result.{on_ok_weaker}
 use Rattle.std.specs.String.{string_bytes}
-use Rattle.event_script.specs.Text.{found_text, loaded_text}
+use Rattle.event_script.specs.Text.{found_text}
 use Rattle.event_script.proofs.Texts.{appended}
 use Rattle.event_script.proofs.print.journal.put_place.Goals as goal
 
