@@ -3,7 +3,7 @@ use Rattle.std.proofs.Common.{◌≡◌, ◌≢◌, inr, ℕ, suc, ◌+◌, ◌-
 use Rattle.std.specs.List.{All, AllByRecursion}
 use Rattle.std.proofs.lemmas.Bool.{eqb-false}
 use Rattle.std.proofs.lemmas.Grind.{flat_map-append}
-use Rattle.event_script.specs.ScriptData.{ScriptData, SnapshotData, IsSnapshot, IsRunnable, IsBuilt}
+use Rattle.event_script.specs.ScriptData.{ScriptData, SnapshotData, Counts, counts_of, IsSnapshot, IsRunnable, IsBuilt}
 use Rattle.event_script.specs.Fields.{with_first, pieces}
 use Rattle.event_script.specs.Spelling.{statement_text, statements_text, body_statements, script_text}
 use Rattle.event_script.specs.Draft.{DraftData, nothing_known, with_statement}
@@ -119,6 +119,9 @@ record CanEnd (known : DraftData) : Type 0 where
 abbrev least : ℕ → ℕ → ScriptData
 least nodes loads = record { nodes = nodes; loads = loads; images = []; sections = []; fixed = []; snapshots = []; rounds = [] }
 
+abbrev none_there : Counts
+none_there = record { images = 0; snapshots = 0 }
+
 least_runs : (nodes loads : ℕ) → (4 ≤ nodes) × (nodes ≤ 16384) → (1 ≤ loads) × (loads ≤ 1024) → IsRunnable (least nodes loads)
 least_runs nodes loads some_nodes some_loads = record {
   nodes = some_nodes;
@@ -127,20 +130,20 @@ least_runs nodes loads some_nodes some_loads = record {
   sections = (refl, at_first.sections);
   fixed = no_fixed [];
   snapshots = no_snapshots;
-  rounds = (omega arith, (no_rounds_at 0 [] refl).each);
+  rounds = (omega arith, (no_rounds_at none_there [] refl).each);
 }
 
 least_built : (nodes loads : ℕ) → IsBuilt (least nodes loads)
-least_built nodes loads = (let none = no_rounds_at 0 [] refl in record { rounds = none.few; threads = none.small })
+least_built nodes loads = (let none = no_rounds_at none_there [] refl in record { rounds = none.few; threads = none.small })
 
 module _ (script : ScriptData) (snapshot : SnapshotData) (threads : List (List Event)) (events : List Event) where
   abbrev so_far : Stage → DraftData
   so_far stage = record { stage = stage; script = script; snapshot = snapshot; threads = threads; events = events }
 
   -- with these rounds it is a script
-  with_rounds : (known : DraftData) (snapshots : List SnapshotData) (rounds : List (List (List Event))) → known.script ≡ script → (length snapshots ≤ 4096) × All IsSnapshot snapshots → (4 ≤ script.nodes) × (script.nodes ≤ 16384) → (1 ≤ script.loads) × (script.loads ≤ 1024) → Sound known → AreRounds (length script.images) rounds → IsRunnable (record script { snapshots = snapshots; rounds = rounds })
+  with_rounds : (known : DraftData) (snapshots : List SnapshotData) (rounds : List (List (List Event))) → known.script ≡ script → (length snapshots ≤ 4096) × All IsSnapshot snapshots → (4 ≤ script.nodes) × (script.nodes ≤ 16384) → (1 ≤ script.loads) × (script.loads ≤ 1024) → Sound known → AreRounds (record { images = length script.images; snapshots = length snapshots }) rounds → IsRunnable (record script { snapshots = snapshots; rounds = rounds })
   with_rounds known snapshots rounds same some nodes loads s are =
-      subst (λ (x : ScriptData). (4 ≤ x.nodes) × (x.nodes ≤ 16384) → (1 ≤ x.loads) × (x.loads ≤ 1024) → AreRounds (length x.images) rounds → IsRunnable (record x { snapshots = snapshots; rounds = rounds })) same
+      subst (λ (x : ScriptData). (4 ≤ x.nodes) × (x.nodes ≤ 16384) → (1 ≤ x.loads) × (x.loads ≤ 1024) → AreRounds (record { images = length x.images; snapshots = length snapshots }) rounds → IsRunnable (record x { snapshots = snapshots; rounds = rounds })) same
       (λ nodes loads are. record {
         nodes = nodes;
         loads = loads;
@@ -156,20 +159,20 @@ module _ (script : ScriptData) (snapshot : SnapshotData) (threads : List (List E
   can_end stage.Nodes s = record { script = least 4 1; more = statement.Nodes 4 ∷ statement.Loads 1 ∷ statement.End ∷ []; runnable = least_runs 4 1 (omega arith, omega arith) (omega arith, omega arith); built = least_built 4 1; is = refl }
   can_end stage.Loads s = record { script = least script.nodes 1; more = statement.Loads 1 ∷ statement.End ∷ []; runnable = least_runs script.nodes 1 s.nodes (omega arith, omega arith); built = least_built script.nodes 1; is = refl }
   can_end stage.Images s =
-      let are = no_rounds_at (length script.images) script.rounds s.shape.0 in
+      let are = no_rounds_at (counts_of script) script.rounds s.shape.0 in
       record { script = script; more = statement.End ∷ []; runnable = with_rounds (so_far stage.Images) script.snapshots script.rounds refl s.snapshots s.nodes s.loads s are; built = record { rounds = are.few; threads = are.small }; is = refl }
   can_end stage.Fixed s =
-      let are = no_rounds_at (length script.images) script.rounds s.shape.0 in
+      let are = no_rounds_at (counts_of script) script.rounds s.shape.0 in
       record { script = script; more = statement.End ∷ []; runnable = with_rounds (so_far stage.Fixed) script.snapshots script.rounds refl s.snapshots s.nodes s.loads s are; built = record { rounds = are.few; threads = are.small }; is = refl }
   can_end stage.Snapshots s =
-      let are = no_rounds_at (length script.images) script.rounds s.shape.0 in
+      let are = no_rounds_at (record { images = length script.images; snapshots = length (script.snapshots ++ snapshot ∷ []) }) script.rounds s.shape.0 in
       let some = open_snapshots script snapshot threads events (s.shape.2, s.shape.3) s.snapshots in
       record { script = script_so_far (so_far stage.Snapshots); more = statement.End ∷ []; runnable = with_rounds (so_far stage.Snapshots) (script.snapshots ++ snapshot ∷ []) script.rounds refl some s.nodes s.loads s are; built = record { rounds = are.few; threads = are.small }; is = refl }
   can_end stage.Round s =
-      let are = rounds_of_none (length script.images) script.rounds threads s.shape.0 s.shape.1 in
+      let are = rounds_of_none (counts_of script) script.rounds threads s.shape.0 s.shape.1 in
       record { script = script_so_far (so_far stage.Round); more = statement.End ∷ []; runnable = with_rounds (so_far stage.Round) script.snapshots (script.rounds ++ threads ∷ []) refl s.snapshots s.nodes s.loads s are; built = record { rounds = are.few; threads = are.small }; is = refl }
   can_end stage.Thread s =
-      let are = rounds_of_one (length script.images) script.rounds threads events s.shape.0 s.shape.1 s.events in
+      let are = rounds_of_one (counts_of script) script.rounds threads events s.shape.0 s.shape.1 s.events in
       record { script = script_so_far (so_far stage.Thread); more = statement.End ∷ []; runnable = with_rounds (so_far stage.Thread) script.snapshots (script.rounds ++ (threads ++ events ∷ []) ∷ []) refl s.snapshots s.nodes s.loads s are; built = record { rounds = are.few; threads = are.small }; is = refl }
   can_end stage.Ended s =
       record { script = script; more = []; runnable = with_rounds (so_far stage.Ended) script.snapshots script.rounds refl s.snapshots s.nodes s.loads s s.shape; built = record { rounds = s.shape.few; threads = s.shape.small }; is = sym (append-nil (body_statements script ++ statement.End ∷ [])) }

@@ -13,7 +13,7 @@ use Rattle.frame_expr.specs.Regions.{RegionData, end, AreFrom, AreRegions, Accep
 use Rattle.frame_expr.specs.declared.regs.Regs.{Regs}
 use Rattle.event_script.specs.Digits.{hex}
 use Rattle.event_script.specs.declared.reader.statement.SnapshotFields.{SnapshotFields}
-use Rattle.event_script.specs.ScriptData.{ScriptData, ImageData, SnapshotData, IsSnapshot, recorded_bytes, IsSectionOf, span_of, AreFixed, IsEvent, IsThread, IsRound}
+use Rattle.event_script.specs.ScriptData.{ScriptData, ImageData, SnapshotData, Counts, counts_of, IsSnapshot, recorded_bytes, IsSectionOf, span_of, AreFixed, IsEvent, IsThread, IsRound}
 use Rattle.event_script.specs.Fields.{pieces, is_printable}
 use Rattle.event_script.specs.Statements.{word_of, kind_of_statement, statement_fields, statement_line, HasForm}
 use Rattle.event_script.specs.Spelling.{statement_text, statements_text, image_data, image_statements, snapshot_lines, snapshot_statements, round_statements, first_statements, body_statements, script_text, IsScript}
@@ -77,6 +77,7 @@ visible (statement.Event (event.Deregister base)) form = (word_visible kind.Dere
 visible (statement.Event (event.Load image)) form = (word_visible kind.Load, (decimal_visible image form, tt))
 visible (statement.Event (event.Unload base)) form = (word_visible kind.Unload, (hex_visible base form, tt))
 visible (statement.Event (event.Find pc)) form = (word_visible kind.Find, (hex_visible pc form, tt))
+visible (statement.Event (event.Unwind snapshot)) form = (word_visible kind.Unwind, (decimal_visible snapshot form, tt))
 visible statement.End form = (word_visible kind.End, tt)
 
 word_added : (known : DraftData) (s : Statement) → CanAdd known s → by_word known (statement_line s) ≡ Ok (with_statement known s)
@@ -388,7 +389,10 @@ module _ (nodes loads : ℕ) where
 
     -- ---- rounds, threads and events
 
-    module _ (fixed : List ℕ) (snapshots : List SnapshotData) where
+    module _ (fixed : List ℕ) (snapshots : List SnapshotData) (few_stacks : length snapshots ≤ 4096) where
+      abbrev counts : Counts
+      counts = record { images = length images; snapshots = length snapshots }
+
       -- a round has begun, or was over
       abbrev after_all : Stage → List (List (List Event)) → List (List Event) → List Event → DraftData
       after_all stage rounds threads events = at stage images sections fixed snapshots no_snapshot rounds threads events
@@ -419,19 +423,21 @@ module _ (nodes loads : ℕ) where
       unfolding added
       thread_can = record { may = refl; built = refl; form = tt; is = refl }
 
-      event_form : (e : Event) → IsEvent (length images) e → HasForm (statement.Event e)
+      event_form : (e : Event) → IsEvent counts e → HasForm (statement.Event e)
       event_form (event.Register image) is = omega arith
       event_form (event.Deregister base) is = is
       event_form (event.Load image) is = omega arith
       event_form (event.Unload base) is = is
       event_form (event.Find pc) is = is
+      event_form (event.Unwind stack) is = omega arith
 
-      event_named : (e : Event) → IsEvent (length images) e → is_named (length images) e ≡ true
+      event_named : (e : Event) → IsEvent counts e → is_named counts e ≡ true
       event_named (event.Register image) is = lt-ltb _ _ is
       event_named (event.Deregister base) is = refl
       event_named (event.Load image) is = lt-ltb _ _ is
       event_named (event.Unload base) is = refl
       event_named (event.Find pc) is = refl
+      event_named (event.Unwind stack) is = lt-ltb _ _ is
 
       event_may : (e : Event) → may_come stage.Thread (kind_of_statement (statement.Event e)) ≡ true
       event_may (event.Register image) = refl
@@ -439,6 +445,7 @@ module _ (nodes loads : ℕ) where
       event_may (event.Load image) = refl
       event_may (event.Unload base) = refl
       event_may (event.Find pc) = refl
+      event_may (event.Unwind stack) = refl
 
       event_built : (known : DraftData) (e : Event) → is_unbuilt known (kind_of_statement (statement.Event e)) ≡ false
       event_built known (event.Register image) = refl
@@ -446,8 +453,9 @@ module _ (nodes loads : ℕ) where
       event_built known (event.Load image) = refl
       event_built known (event.Unload base) = refl
       event_built known (event.Find pc) = refl
+      event_built known (event.Unwind stack) = refl
 
-      event_can : (front : List Event) (e : Event) → length front < 4096 → IsEvent (length images) e → CanAdd (after_all stage.Thread [] [] front) (statement.Event e)
+      event_can : (front : List Event) (e : Event) → length front < 4096 → IsEvent counts e → CanAdd (after_all stage.Thread [] [] front) (statement.Event e)
       unfolding added
       event_can front e room is =
           let next = after_all stage.Thread [] [] (front ++ e ∷ []) in
@@ -455,11 +463,11 @@ module _ (nodes loads : ℕ) where
             may = event_may e;
             built = event_built (after_all stage.Thread [] [] front) e;
             form = event_form e is;
-            is = cond-true (ltb (length front) 4096) (cond (is_named (length images) e) (good next) (Err reason.Name)) (Err reason.Limit) (lt-ltb _ _ room)
-                ∙ cond-true (is_named (length images) e) (good next) (Err reason.Name) (event_named e is);
+            is = cond-true (ltb (length front) 4096) (cond (is_named counts e) (good next) (Err reason.Name)) (Err reason.Limit) (lt-ltb _ _ room)
+                ∙ cond-true (is_named counts e) (good next) (Err reason.Name) (event_named e is);
           }
 
-      adds_events : (front events : List Event) → length front + length events ≤ 4096 → AllByRecursion (IsEvent (length images)) events → Adds (after_all stage.Thread [] [] front) (map statement.Event events) (after_all stage.Thread [] [] (front ++ events))
+      adds_events : (front events : List Event) → length front + length events ≤ 4096 → AllByRecursion (IsEvent counts) events → Adds (after_all stage.Thread [] [] front) (map statement.Event events) (after_all stage.Thread [] [] (front ++ events))
       adds_events front [] room are = ap (after_all stage.Thread [] []) (sym (append-nil front))
       adds_events front (e ∷ events) room are =
           let rest = adds_events (front ++ e ∷ []) events (omega (arith, length-append front (e ∷ []))) are.1 in (
@@ -476,13 +484,13 @@ module _ (nodes loads : ℕ) where
       end_thread events = record { may = refl; built = refl; form = tt; is = refl }
 
       -- the rounds, and the last line
-      adds_rounds : (start : Stage) (so_far : List SnapshotData) (snapshot : SnapshotData) (rounds : List (List (List Event))) → IsEarly start → snapshots_at start so_far snapshot ≡ snapshots → length rounds ≤ 1 → AllByRecursion (λ threads. length threads ≤ 1) rounds → AllByRecursion (IsRound (length images)) rounds
+      adds_rounds : (start : Stage) (so_far : List SnapshotData) (snapshot : SnapshotData) (rounds : List (List (List Event))) → IsEarly start → snapshots_at start so_far snapshot ≡ snapshots → length rounds ≤ 1 → AllByRecursion (λ threads. length threads ≤ 1) rounds → AllByRecursion (IsRound counts) rounds
           → Adds (at start images sections fixed so_far snapshot [] [] []) (round_statements rounds ++ statement.End ∷ []) (ended rounds)
       adds_rounds start so_far snapshot [] is all one small are = end_early start so_far snapshot is all
       adds_rounds start so_far snapshot ([] ∷ []) is all one small are = adds_then (before_all start so_far snapshot is all) (after_all stage.Round [] [] []) (ended ([] ∷ [])) (statement.Round ∷ []) (statement.End ∷ []) (round_early start so_far snapshot is all) (end_round, refl)
       adds_rounds start so_far snapshot ((events ∷ []) ∷ []) is all one small are =
-          let thread = recursion_from_All (IsThread (length images)) (events ∷ []) are.0.1 in
-          let each = recursion_from_All (IsEvent (length images)) events thread.0.1 in
+          let thread = recursion_from_All (IsThread counts) (events ∷ []) are.0.1 in
+          let each = recursion_from_All (IsEvent counts) events thread.0.1 in
           let room = thread.0.0 in
           let happen = adds_then (after_all stage.Thread [] [] []) (after_all stage.Thread [] [] events) (ended ((events ∷ []) ∷ [])) (map statement.Event events) (statement.End ∷ []) (adds_events [] events (omega arith) each) (end_thread events, refl) in
           let lines = adds_then (before_all start so_far snapshot is all) (after_all stage.Round [] [] []) (ended ((events ∷ []) ∷ [])) (statement.Round ∷ []) (statement.Thread ∷ (map statement.Event events ++ statement.End ∷ [])) (round_early start so_far snapshot is all) (thread_can, happen) in
@@ -504,7 +512,7 @@ script_adds bytes s is =
     let spans = recursion_from_All IsSpan s.images run.images.1 in
     let sections = recursion_from_All IsSectionOf s.sections run.sections.1 in
     let small = recursion_from_All (λ threads. length threads ≤ 1) s.rounds is.built.threads in
-    let are = recursion_from_All (IsRound (length s.images)) s.rounds run.rounds.1 in
+    let are = recursion_from_All (IsRound (counts_of s)) s.rounds run.rounds.1 in
     let start = after_fixed s.nodes s.loads stage.Images s.fixed in
     let at_first = at s.nodes s.loads stage.Images [] [] [] [] no_snapshot [] [] [] in
     let at_images = at s.nodes s.loads stage.Images s.images s.sections [] [] no_snapshot [] [] [] in
@@ -519,7 +527,7 @@ script_adds bytes s is =
     let stacks = adds_snapshots s.nodes s.loads s.images s.sections few s.fixed start [] no_snapshot 0 s.snapshots is_early (omega arith) (omega arith) (recursion_from_All IsSnapshot s.snapshots run.snapshots.1) in
     let all_stacks : snapshots_at stacks.last stacks.so_far stacks.snapshot ≡ s.snapshots = stacks.all ∙ ap (λ (x : List SnapshotData). x ++ s.snapshots) none in
     let at_stacks = at s.nodes s.loads stacks.last s.images s.sections s.fixed stacks.so_far stacks.snapshot [] [] [] in
-    let rounds = adds_rounds s.nodes s.loads s.images s.sections few s.fixed s.snapshots stacks.last stacks.so_far stacks.snapshot s.rounds stacks.early all_stacks is.built.rounds small are in
+    let rounds = adds_rounds s.nodes s.loads s.images s.sections few s.fixed s.snapshots some stacks.last stacks.so_far stacks.snapshot s.rounds stacks.early all_stacks is.built.rounds small are in
     let front = first_statements s.nodes s.loads ++ image_statements 0 s.images s.sections in
     let one = adds_then nothing_known at_first at_images (first_statements s.nodes s.loads) (image_statements 0 s.images s.sections) first images in
     let two = adds_then nothing_known at_images at_fixed front (map statement.Fixed s.fixed) one fixed in

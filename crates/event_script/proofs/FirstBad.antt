@@ -6,7 +6,7 @@ use Rattle.std.proofs.lemmas.Bool.{ltb-false}
 use Rattle.frame_parse.specs.Sections.{SectionData}
 use Rattle.frame_parse.specs.Reading.{section_of}
 use Rattle.frame_parse.specs.declared.fault.FrameFault.{FrameFault}
-use Rattle.event_script.specs.ScriptData.{ScriptData, ImageData, SnapshotData, recorded_bytes}
+use Rattle.event_script.specs.ScriptData.{ScriptData, ImageData, SnapshotData, counts_of, recorded_bytes}
 use Rattle.event_script.specs.Spelling.{IsScript}
 use Rattle.event_script.specs.Draft.{DraftData, nothing_known, is_ended, snapshots_so_far, threads_so_far, rounds_so_far, with_image, contents_or_none, with_statement}
 use Rattle.event_script.specs.Reasons.{LineText, Says, SaysSome, HasBadSection, number_in_table, SpeaksAgainst, IsReason, IsGood}
@@ -62,7 +62,7 @@ added_makes known next statement.Round e = (guard_last (ltb (length (rounds_so_f
 added_makes known next statement.Thread e = (guard_last (ltb (length (threads_so_far known)) 16) reason.Limit (with_statement known statement.Thread) next e).1
 added_makes known next (statement.Event happens) e =
     let limit = guard_then (ltb (length known.events) 4096) reason.Limit _ next e in
-    (guard_last (is_named (length known.script.images) happens) reason.Name (with_statement known (statement.Event happens)) next limit.1).1
+    (guard_last (is_named (counts_of known.script) happens) reason.Name (with_statement known (statement.Event happens)) next limit.1).1
 added_makes known next statement.End e = ok_is (with_statement known statement.End) next e
 
 -- ---- what the reader finds is the first bad line

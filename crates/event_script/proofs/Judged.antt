@@ -8,7 +8,7 @@ use Rattle.reg_model.specs.SpanData.{SpanData}
 use Rattle.frame_parse.specs.Sections.{SectionData}
 use Rattle.frame_parse.specs.Reading.{section_of}
 use Rattle.frame_parse.specs.declared.fault.FrameFault.{FrameFault}
-use Rattle.event_script.specs.ScriptData.{ImageData, SnapshotData, recorded_bytes, span_of}
+use Rattle.event_script.specs.ScriptData.{ImageData, SnapshotData, recorded_bytes, counts_of, span_of}
 use Rattle.event_script.specs.Fields.{pieces, is_printable}
 use Rattle.event_script.specs.Statements.{word_of, forms, kind_of_statement, statement_fields, AreFields}
 use Rattle.event_script.specs.Spelling.{Line}
@@ -23,13 +23,12 @@ use Rattle.event_script.specs.declared.script.Event.TheVariants as event
 use Rattle.event_script.specs.declared.reader.fault.Reason.{Reason}
 use Rattle.event_script.specs.declared.reader.fault.Reason.TheVariants as reason
 use Rattle.event_script.specs.declared.reader.kinds.Kind.{Kind}
-use Rattle.event_script.specs.declared.reader.kinds.Kind.TheVariants as kind
 use Rattle.event_script.specs.declared.reader.statement.Statement.{Statement}
 use Rattle.event_script.specs.declared.reader.statement.Statement.TheVariants as statement
 use Rattle.event_script.proofs.Pieces.{some_pieces}
 use Rattle.event_script.proofs.Steps.{kind_word}
 use Rattle.event_script.proofs.Words.{word_again}
-use Rattle.event_script.proofs.Spoken.{same_kind, says_one, spoken, fields_fit, Wrong, IsLater, unspoken}
+use Rattle.event_script.proofs.Spoken.{same_kind, says_one, spoken, fields_fit, Wrong, unspoken}
 use Rattle.event_script.proofs.Sections.{section_bad, section_refused}
 use Rattle.event_script.proofs.Fixed.{found_span, above_low, too_low}
 
@@ -249,15 +248,17 @@ failed_draft why = Err why
 why_is : (known : DraftData) (x y : Reason) → failed_draft x ≡ failed_draft y → x ≡ y
 why_is known x y e = cc
 
-named_there : (images : ℕ) (known : DraftData) (e : Event) → images ≡ length known.script.images → is_named images e ≡ true → IsNameless known (statement.Event e) → ⊥
-named_there images known (event.Register image) same is past = let lt = ltb-true image images is in absurd (omega arith)
-named_there images known (event.Load image) same is past = let lt = ltb-true image images is in absurd (omega arith)
-named_there images known _ same is past = past
+named_there : (known : DraftData) (e : Event) → is_named (counts_of known.script) e ≡ true → IsNameless known (statement.Event e) → ⊥
+named_there known (event.Register image) is past = let lt = ltb-true image (length known.script.images) is in absurd (omega arith)
+named_there known (event.Load image) is past = let lt = ltb-true image (length known.script.images) is in absurd (omega arith)
+named_there known (event.Unwind snapshot) is past = let lt = ltb-true snapshot (length known.script.snapshots) is in absurd (omega arith)
+named_there known _ is past = past
 
-named_missing : (images : ℕ) (known : DraftData) (e : Event) → images ≡ length known.script.images → is_named images e ≡ false → IsNameless known (statement.Event e)
-named_missing images known (event.Register image) same is = let le = ltb-false image images is in omega arith
-named_missing images known (event.Load image) same is = let le = ltb-false image images is in omega arith
-named_missing images known _ same is = absurd (true≢false is)
+named_missing : (known : DraftData) (e : Event) → is_named (counts_of known.script) e ≡ false → IsNameless known (statement.Event e)
+named_missing known (event.Register image) is = ltb-false image (length known.script.images) is
+named_missing known (event.Load image) is = ltb-false image (length known.script.images) is
+named_missing known (event.Unwind snapshot) is = ltb-false snapshot (length known.script.snapshots) is
+named_missing known _ is = absurd (true≢false is)
 
 -- ---- the image of a line
 
@@ -407,12 +408,12 @@ module _ (known : DraftData) (text : LineText) (e : Event) (says : Says text (st
   abbrev line_event : Statement
   line_event = statement.Event e
 
-  event_named : (t : Bool) → is_named (length known.script.images) e ≡ t → (IsOutsideLimit known line_event → ⊥) → Judged known text (cond t (Ok (with_statement known line_event)) (Err reason.Name))
-  event_named true is limit = good known text line_event says before (record { order = nothing; limit = limit; span = nothing; section = no_section; name = named_there (length known.script.images) known e refl is; fixed = nothing; region = nothing })
-  event_named false is limit = refused known text reason.Name (to_name known text line_event says before nothing limit nothing no_section) (line_event, says, named_missing (length known.script.images) known e refl is)
+  event_named : (t : Bool) → is_named (counts_of known.script) e ≡ t → (IsOutsideLimit known line_event → ⊥) → Judged known text (cond t (Ok (with_statement known line_event)) (Err reason.Name))
+  event_named true is limit = good known text line_event says before (record { order = nothing; limit = limit; span = nothing; section = no_section; name = named_there known e is; fixed = nothing; region = nothing })
+  event_named false is limit = refused known text reason.Name (to_name known text line_event says before nothing limit nothing no_section) (line_event, says, named_missing known e is)
 
-  event_limited : (t : Bool) → ltb (length known.events) 4096 ≡ t → Judged known text (cond t (cond (is_named (length known.script.images) e) (Ok (with_statement known line_event)) (Err reason.Name)) (Err reason.Limit))
-  event_limited true is = event_named (is_named (length known.script.images) e) refl (λ many. let few = ltb-true _ _ is in absurd (omega arith))
+  event_limited : (t : Bool) → ltb (length known.events) 4096 ≡ t → Judged known text (cond t (cond (is_named (counts_of known.script) e) (Ok (with_statement known line_event)) (Err reason.Name)) (Err reason.Limit))
+  event_limited true is = event_named (is_named (counts_of known.script) e) refl (λ many. let few = ltb-true _ _ is in absurd (omega arith))
   event_limited false is = limit_holds known text line_event says before nothing (ltb-false _ _ is)
 
 -- ---- what a line says, of any kind
@@ -449,8 +450,8 @@ module _ (known : DraftData) (line : List ℕ) where
         let same = same_kind other k others fields (sym other_is ∙ is) in
         refute (subst (λ (xs : Line). P k xs) same.1 (subst (λ (x : Kind). P x others) same.0 holds))
 
-    spoken_line : (k : Kind) (fields : Line) → pieces 32 line ≡ word_of k ∷ fields → may_come known.stage k ≡ true → Passed known here 7 → (IsLater k → ⊥) → (given : Result Statement Reason) → statement_of k fields ≡ given → Judged known here (given >=> λ s. added known s)
-    spoken_line k fields is may passed built (Ok s) e =
+    spoken_line : (k : Kind) (fields : Line) → pieces 32 line ≡ word_of k ∷ fields → may_come known.stage k ≡ true → Passed known here 7 → (given : Result Statement Reason) → statement_of k fields ≡ given → Judged known here (given >=> λ s. added known s)
+    spoken_line k fields is may passed (Ok s) e =
         let says = spoken k fields s e in
         let same = same_kind k (kind_of_statement s) fields (statement_fields s) says.line in
         let fit = fields_fit s says.form in
@@ -459,7 +460,7 @@ module _ (known : DraftData) (line : List ℕ) where
         let p = pass_fields known here passed (of_kind k fields is (λ k fields. length fields ≢ length (forms k)) (λ other. other count)) in
         let q = pass_spelling known here p (of_kind k fields is (λ k fields. AreFields (forms k) fields → ⊥) (λ refute. refute fields_are)) in
         judged_statement known here s (record { line = is ∙ says.line; form = says.form }) q
-    spoken_line k fields is may passed built (Err why) e = elim (unspoken k fields why e) [ inl wrong ↦ wrong_line why wrong | inr later ↦ absurd (built later) ]
+    spoken_line k fields is may passed (Err why) e = wrong_line why (unspoken k fields why e)
       where
         wrong_line : (why : Reason) → Wrong (forms k) fields why → IsReason known here why
         wrong_line reason.Fields other = refused known here reason.Fields passed (k, fields, is, may, other)
@@ -469,11 +470,7 @@ module _ (known : DraftData) (line : List ℕ) where
     built_line : (k : Kind) (fields : Line) → pieces 32 line ≡ word_of k ∷ fields → may_come known.stage k ≡ true → Passed known here 6 → (t : Bool) → is_unbuilt known k ≡ t → Judged known here (cond t (Err reason.Unbuilt) (statement_of k fields >=> λ s. added known s))
     built_line k fields is may passed true e = refused known here reason.Unbuilt passed (k, fields, is, may, e)
     built_line k fields is may passed false e =
-        spoken_line k fields is may (pass_unbuilt known here passed (of_kind k fields is (λ k fields. is_unbuilt known k ≡ true) (λ may. true≢false (sym may ∙ e)))) (later k e) (statement_of k fields) refl
-      where
-        later : (k : Kind) → is_unbuilt known k ≡ false → IsLater k → ⊥
-        later kind.Unwind e is = true≢false e
-        later _ e is = is
+        spoken_line k fields is may (pass_unbuilt known here passed (of_kind k fields is (λ k fields. is_unbuilt known k ≡ true) (λ may. true≢false (sym may ∙ e)))) (statement_of k fields) refl
 
     kind_line : (k : Kind) (fields : Line) → pieces 32 line ≡ word_of k ∷ fields → (t : Bool) → may_come known.stage k ≡ t → Judged known here (cond t (cond (is_unbuilt known k) (Err reason.Unbuilt) (statement_of k fields >=> λ s. added known s)) (Err reason.Word))
     kind_line k fields is true may = built_line k fields is may (pass_word known here before (λ refute. refute k fields is may)) (is_unbuilt known k) refl

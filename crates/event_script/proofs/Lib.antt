@@ -1,5 +1,6 @@
 pub mod Texts
 pub mod Numbered
+pub mod TraceLines
 pub mod Answered
 pub mod Pieces
 pub mod Numbers

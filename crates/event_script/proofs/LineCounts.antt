@@ -11,7 +11,7 @@ use Rattle.event_script.specs.declared.reader.statement.Statement.TheVariants as
 use Rattle.std.specs.List.{AllByRecursion}
 use Rattle.std.proofs.lemmas.List.Elements.{recursion_from_All}
 use Rattle.frame_expr.specs.Regions.{RegionData, end, AreFrom}
-use Rattle.event_script.specs.ScriptData.{ScriptData, SnapshotData, IsSnapshot, recorded_bytes, AreFixed, IsThread}
+use Rattle.event_script.specs.ScriptData.{ScriptData, SnapshotData, counts_of, IsSnapshot, recorded_bytes, AreFixed, IsThread}
 use Rattle.event_script.specs.Spelling.{image_statements, snapshot_lines, snapshot_statements, round_statements}
 use Rattle.event_script.specs.Draft.{DraftData, is_ended}
 use Rattle.event_script.specs.Reading.{after_line}
@@ -53,7 +53,7 @@ module _ (script : ScriptData) (count : length script.images ≤ 4096) (spans : 
       let stacks = snapshots_count 0 snapshots (recursion_from_All IsSnapshot snapshots some.1) in
       omega (arith, length-append (image_statements 0 script.images script.sections ++ map statement.Fixed script.fixed ++ snapshot_statements 0 snapshots) lines, length-append (image_statements 0 script.images script.sections ++ map statement.Fixed script.fixed) (snapshot_statements 0 snapshots), length-append (image_statements 0 script.images script.sections) (map statement.Fixed script.fixed), images_count 0 script.images script.sections, map_count statement.Fixed script.fixed, few_fixed script.images script.fixed spans fixed, ap length is)
 
-  module _ (snapshot : SnapshotData) (threads : List (List Event)) (events : List Event) (some : (length script.snapshots ≤ 4096) × All IsSnapshot script.snapshots) (thread : IsThread (length script.images) events) where
+  module _ (snapshot : SnapshotData) (threads : List (List Event)) (events : List Event) (some : (length script.snapshots ≤ 4096) × All IsSnapshot script.snapshots) (thread : IsThread (counts_of script) events) where
     few_at : (at : Stage) → ShapeAt at (record { stage = at; script = script; snapshot = snapshot; threads = threads; events = events }) → is_ended at ≡ false → length (statements_at at (record { stage = at; script = script; snapshot = snapshot; threads = threads; events = events })) ≤ 268451852
     few_at stage.Version shape going = omega arith
     few_at stage.Nodes shape going = omega arith

@@ -2,7 +2,7 @@
 use Rattle.std.proofs.Common.{◌≡◌, ℕ, ◌<◌, ◌≤◌, List, [], ◌∷◌, ◌++◌, length, All, subst, arith}
 use Rattle.std.proofs.lemmas.List.Elements.{All-from_recursion}
 use Rattle.reg_model.specs.SpanData.{SpanData, IsSpan}
-use Rattle.event_script.specs.ScriptData.{ScriptData, IsSnapshot, IsSectionOf, AreFixed, IsEvent, IsThread, IsRound}
+use Rattle.event_script.specs.ScriptData.{ScriptData, Counts, counts_of, IsSnapshot, IsSectionOf, AreFixed, IsEvent, IsThread, IsRound}
 use Rattle.event_script.specs.Spelling.{body_statements}
 use Rattle.event_script.specs.Draft.{DraftData, snapshots_so_far, rounds_so_far}
 use Rattle.event_script.specs.declared.script.Event.{Event}
@@ -41,18 +41,18 @@ LoadsAt stage.Loads loads = Unit {0}
 LoadsAt _ loads = (1 ≤ loads) × (loads ≤ 1024)
 
 -- the rounds that can be run
-pub record AreRounds (images : ℕ) (rounds : List (List (List Event))) : Type 0 where
+pub record AreRounds (counts : Counts) (rounds : List (List (List Event))) : Type 0 where
   pub few : length rounds ≤ 1
   pub small : All (λ threads. length threads ≤ 1) rounds
-  pub each : All (IsRound images) rounds
+  pub each : All (IsRound counts) rounds
 
 abbrev pub ShapeAt : Stage → DraftData → Type 0
 ShapeAt stage.Images known = (known.script.rounds ≡ []) × (known.threads ≡ []) × (known.events ≡ []) × (known.script.fixed ≡ []) × (known.script.snapshots ≡ [])
-ShapeAt stage.Fixed known = (known.script.rounds ≡ []) × (known.threads ≡ []) × (known.script.snapshots ≡ [])
-ShapeAt stage.Snapshots known = (known.script.rounds ≡ []) × (known.threads ≡ []) × (length known.script.snapshots < 4096) × IsSnapshot known.snapshot
+ShapeAt stage.Fixed known = (known.script.rounds ≡ []) × (known.threads ≡ []) × (known.script.snapshots ≡ []) × (known.events ≡ [])
+ShapeAt stage.Snapshots known = (known.script.rounds ≡ []) × (known.threads ≡ []) × (length known.script.snapshots < 4096) × IsSnapshot known.snapshot × (known.events ≡ [])
 ShapeAt stage.Round known = (known.script.rounds ≡ []) × (known.threads ≡ [])
 ShapeAt stage.Thread known = (known.script.rounds ≡ []) × (known.threads ≡ [])
-ShapeAt stage.Ended known = AreRounds (length known.script.images) known.script.rounds
+ShapeAt stage.Ended known = AreRounds (counts_of known.script) known.script.rounds
 ShapeAt _ known = (known.script.images ≡ []) × (known.script.rounds ≡ []) × (known.threads ≡ []) × (known.events ≡ []) × (known.script.fixed ≡ []) × (known.script.snapshots ≡ [])
 
 pub record Sound (known : DraftData) : Type 0 where
@@ -64,7 +64,7 @@ pub record Sound (known : DraftData) : Type 0 where
   pub spans : All IsSpan known.script.images
   pub fixed : AreFixed known.script.images known.script.fixed
   pub snapshots : (length known.script.snapshots ≤ 4096) × All IsSnapshot known.script.snapshots
-  pub events : IsThread (length known.script.images) known.events
+  pub events : IsThread (counts_of known.script) known.events
   pub shape : ShapeAt known.stage known
 
 -- after one more line, which says this
@@ -75,8 +75,8 @@ pub record Step (known next : DraftData) (s : Statement) : Type 0 where
 pub same_step : (known made next : DraftData) (s : Statement) → made ≡ next → Step known made s → Step known next s
 same_step known made next s e step = subst (λ (n : DraftData). Step known n s) e step
 
-pub no_events : (images : ℕ) → IsThread images []
-no_events images = (omega arith, All-from_recursion (IsEvent images) [] tt)
+pub no_events : (counts : Counts) → IsThread counts []
+no_events counts = (omega arith, All-from_recursion (IsEvent counts) [] tt)
 
 pub no_snapshots : (0 ≤ 4096) × All IsSnapshot []
 no_snapshots = (omega arith, All-from_recursion IsSnapshot [] tt)

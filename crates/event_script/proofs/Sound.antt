@@ -13,7 +13,7 @@ use Rattle.frame_parse.specs.Reading.{section_of}
 use Rattle.frame_parse.specs.declared.fault.FrameFault.{FrameFault}
 use Rattle.frame_expr.specs.Regions.{RegionData, end, regions_end, AreFrom, Accepts}
 use Rattle.event_script.specs.declared.reader.statement.SnapshotFields.{SnapshotFields}
-use Rattle.event_script.specs.ScriptData.{ScriptData, ImageData, SnapshotData, IsSnapshot, recorded_bytes, IsSectionOf, AreFixed, IsEvent, IsThread, IsRound}
+use Rattle.event_script.specs.ScriptData.{ScriptData, ImageData, SnapshotData, Counts, counts_of, IsSnapshot, recorded_bytes, IsSectionOf, AreFixed, IsEvent, IsThread, IsRound}
 use Rattle.event_script.specs.Statements.{kind_of_statement, statement_fields, HasForm}
 use Rattle.event_script.specs.Spelling.{Line, spelling_of, statement_text, statements_text, image_data, image_statements, snapshot_lines, snapshot_statements, round_statements, script_text, IsScript}
 use Rattle.event_script.specs.Fields.{pieces, is_printable}
@@ -77,28 +77,28 @@ snapshots_push number (first ∷ snapshots) snapshot =
     ap (λ (x : List Statement). snapshot_lines number first ++ x) (snapshots_push (number + 1) snapshots snapshot ∙ ap (λ (n : ℕ). snapshot_statements (number + 1) snapshots ++ snapshot_lines n snapshot) next)
     ∙ sym (append_assoc (snapshot_lines number first) (snapshot_statements (number + 1) snapshots) (snapshot_lines (number + length (first ∷ snapshots)) snapshot))
 
-pub rounds_of_one : (images : ℕ) (rounds : List (List (List Event))) (threads : List (List Event)) (events : List Event) → rounds ≡ [] → threads ≡ [] → IsThread images events → AreRounds images (rounds ++ (threads ++ events ∷ []) ∷ [])
-rounds_of_one images rounds threads events no_rounds no_threads thread =
-    subst (AreRounds images) (ap₂ (λ (r : List (List (List Event))) (t : List (List Event)). r ++ (t ++ events ∷ []) ∷ []) (sym no_rounds) (sym no_threads))
+pub rounds_of_one : (counts : Counts) (rounds : List (List (List Event))) (threads : List (List Event)) (events : List Event) → rounds ≡ [] → threads ≡ [] → IsThread counts events → AreRounds counts (rounds ++ (threads ++ events ∷ []) ∷ [])
+rounds_of_one counts rounds threads events no_rounds no_threads thread =
+    subst (AreRounds counts) (ap₂ (λ (r : List (List (List Event))) (t : List (List Event)). r ++ (t ++ events ∷ []) ∷ []) (sym no_rounds) (sym no_threads))
     (record {
       few = omega arith;
       small = All-from_recursion (λ threads. length threads ≤ 1) ((events ∷ []) ∷ []) (omega arith, tt);
-      each = All-from_recursion (IsRound images) ((events ∷ []) ∷ []) ((omega arith, All-from_recursion (IsThread images) (events ∷ []) (thread, tt)), tt);
+      each = All-from_recursion (IsRound counts) ((events ∷ []) ∷ []) ((omega arith, All-from_recursion (IsThread counts) (events ∷ []) (thread, tt)), tt);
     })
 
-pub rounds_of_none : (images : ℕ) (rounds : List (List (List Event))) (threads : List (List Event)) → rounds ≡ [] → threads ≡ [] → AreRounds images (rounds ++ threads ∷ [])
-rounds_of_none images rounds threads no_rounds no_threads =
-    subst (AreRounds images) (ap₂ (λ (r : List (List (List Event))) (t : List (List Event)). r ++ t ∷ []) (sym no_rounds) (sym no_threads))
+pub rounds_of_none : (counts : Counts) (rounds : List (List (List Event))) (threads : List (List Event)) → rounds ≡ [] → threads ≡ [] → AreRounds counts (rounds ++ threads ∷ [])
+rounds_of_none counts rounds threads no_rounds no_threads =
+    subst (AreRounds counts) (ap₂ (λ (r : List (List (List Event))) (t : List (List Event)). r ++ t ∷ []) (sym no_rounds) (sym no_threads))
     (record {
       few = omega arith;
       small = All-from_recursion (λ threads. length threads ≤ 1) ([] ∷ []) (omega arith, tt);
-      each = All-from_recursion (IsRound images) ([] ∷ []) ((omega arith, All-from_recursion (IsThread images) [] tt), tt);
+      each = All-from_recursion (IsRound counts) ([] ∷ []) ((omega arith, All-from_recursion (IsThread counts) [] tt), tt);
     })
 
-pub no_rounds_at : (images : ℕ) (rounds : List (List (List Event))) → rounds ≡ [] → AreRounds images rounds
-no_rounds_at images rounds none =
-    subst (AreRounds images) (sym none)
-    (record { few = omega arith; small = All-from_recursion (λ threads. length threads ≤ 1) [] tt; each = All-from_recursion (IsRound images) [] tt })
+pub no_rounds_at : (counts : Counts) (rounds : List (List (List Event))) → rounds ≡ [] → AreRounds counts rounds
+no_rounds_at counts rounds none =
+    subst (AreRounds counts) (sym none)
+    (record { few = omega arith; small = All-from_recursion (λ threads. length threads ≤ 1) [] tt; each = All-from_recursion (IsRound counts) [] tt })
 
 -- ---- recorded memory
 
@@ -242,7 +242,7 @@ module _ (script : ScriptData) (snapshot : SnapshotData) (threads : List (List E
           spans = All-push IsSpan images span s.spans good;
           fixed = subst (AreFixed (images ++ span ∷ [])) (sym s.shape.3) (no_fixed (images ++ span ∷ []));
           snapshots = s.snapshots;
-          events = subst (IsThread (length (images ++ span ∷ []))) (sym s.shape.2) (no_events (length (images ++ span ∷ [])));
+          events = subst (IsThread (counts_of made.script)) (sym s.shape.2) (no_events (counts_of made.script));
           shape = s.shape;
         };
         statements = ap top (
@@ -255,7 +255,7 @@ module _ (script : ScriptData) (snapshot : SnapshotData) (threads : List (List E
 
   -- where no image was fixed, the next may be
   may_be_fixed : Sound (as_of stage.Images) → Sound (as_of stage.Fixed)
-  may_be_fixed s = record { each = s.each; sections = s.sections; nodes = s.nodes; loads = s.loads; count = s.count; spans = s.spans; fixed = s.fixed; snapshots = s.snapshots; events = s.events; shape = (s.shape.0, s.shape.1, s.shape.4) }
+  may_be_fixed s = record { each = s.each; sections = s.sections; nodes = s.nodes; loads = s.loads; count = s.count; spans = s.spans; fixed = s.fixed; snapshots = s.snapshots; events = s.events; shape = (s.shape.0, s.shape.1, s.shape.4, s.shape.2) }
 
   from_images : (next : DraftData) (s : Statement) → Step (as_of stage.Fixed) next s → Step (as_of stage.Images) next s
   from_images next s step = record { sound = step.sound; statements = step.statements }
@@ -275,11 +275,17 @@ module _ (script : ScriptData) (snapshot : SnapshotData) (threads : List (List E
             ∙ ap (λ (x : List Statement). x ++ statement.Fixed image ∷ []) (sym (before_snapshots fixed_part script.snapshots script.rounds s.shape.2 s.shape.0)));
       })
 
+  abbrev counts : Counts
+  counts = counts_of script
+
   -- ---- snapshots
 
   -- the snapshots so far where one goes on
   abbrev pub with_open : List SnapshotData
   with_open = script.snapshots ++ snapshot ∷ []
+
+  abbrev counts_open : Counts
+  counts_open = record { images = length script.images; snapshots = length with_open }
 
   pub open_snapshots : (length script.snapshots < 4096) × IsSnapshot snapshot → (length script.snapshots ≤ 4096) × All IsSnapshot script.snapshots → (length with_open ≤ 4096) × All IsSnapshot with_open
   open_snapshots one so_far =
@@ -304,7 +310,7 @@ module _ (script : ScriptData) (snapshot : SnapshotData) (threads : List (List E
       let order = guard_then (eqb fields.number (length script.snapshots)) reason.Order _ next e in
       let limit = guard_last (ltb (length script.snapshots) 4096) reason.Limit made next order.1 in
       same_step _ made next _ limit.1 (record {
-        sound = record { each = s.each; sections = s.sections; nodes = s.nodes; loads = s.loads; count = s.count; spans = s.spans; fixed = s.fixed; snapshots = s.snapshots; events = s.events; shape = (s.shape.0, s.shape.1, ltb-true _ _ limit.0, no_memory fields form) };
+        sound = record { each = s.each; sections = s.sections; nodes = s.nodes; loads = s.loads; count = s.count; spans = s.spans; fixed = s.fixed; snapshots = s.snapshots; events = s.events; shape = (s.shape.0, s.shape.1, ltb-true _ _ limit.0, no_memory fields form, s.shape.3) };
         statements = snapshot_begun script.snapshots fields s.shape.0 (eqb-true _ _ order.0);
       })
 
@@ -314,7 +320,7 @@ module _ (script : ScriptData) (snapshot : SnapshotData) (threads : List (List E
       let order = guard_then (eqb fields.number (length with_open)) reason.Order _ next e in
       let limit = guard_last (ltb (length with_open) 4096) reason.Limit made next order.1 in
       same_step _ made next _ limit.1 (record {
-        sound = record { each = s.each; sections = s.sections; nodes = s.nodes; loads = s.loads; count = s.count; spans = s.spans; fixed = s.fixed; snapshots = open_snapshots (s.shape.2, s.shape.3) s.snapshots; events = s.events; shape = (s.shape.0, s.shape.1, ltb-true _ _ limit.0, no_memory fields form) };
+        sound = record { each = s.each; sections = s.sections; nodes = s.nodes; loads = s.loads; count = s.count; spans = s.spans; fixed = s.fixed; snapshots = open_snapshots (s.shape.2, s.shape.3) s.snapshots; events = subst (IsThread (counts_of made.script)) (sym s.shape.4) (no_events (counts_of made.script)); shape = (s.shape.0, s.shape.1, ltb-true _ _ limit.0, no_memory fields form, s.shape.4) };
         statements = snapshot_begun with_open fields s.shape.0 (eqb-true _ _ order.0);
       })
 
@@ -328,7 +334,7 @@ module _ (script : ScriptData) (snapshot : SnapshotData) (threads : List (List E
       let same : made ≡ next = ap (λ (x : SnapshotData). record (as_of stage.Snapshots) { snapshot = x }) accepted.1 ∙ ok_is _ next added_one.2 in
       let number = 0 + length script.snapshots in
       same_step _ made next _ same (record {
-        sound = record { each = s.each; sections = s.sections; nodes = s.nodes; loads = s.loads; count = s.count; spans = s.spans; fixed = s.fixed; snapshots = s.snapshots; events = s.events; shape = (s.shape.0, s.shape.1, s.shape.2, snapshot_push snapshot region s.shape.3 form (leb-true _ _ limit.0) (accepted_true snapshot.memory region accepted.0)) };
+        sound = record { each = s.each; sections = s.sections; nodes = s.nodes; loads = s.loads; count = s.count; spans = s.spans; fixed = s.fixed; snapshots = s.snapshots; events = s.events; shape = (s.shape.0, s.shape.1, s.shape.2, snapshot_push snapshot region s.shape.3 form (leb-true _ _ limit.0) (accepted_true snapshot.memory region accepted.0), s.shape.4) };
         statements = ap top (
             before_rounds (part_with (script.snapshots ++ grown ∷ [])) script.rounds s.shape.0
             ∙ ap (λ (x : List Statement). fixed_part ++ x) (
@@ -353,7 +359,7 @@ module _ (script : ScriptData) (snapshot : SnapshotData) (threads : List (List E
       let made = with_statement (as_of stage.Snapshots) statement.Round in
       let few = guard_last (ltb (length script.rounds) 64) reason.Limit made next e in
       same_step _ made next _ few.1 (record {
-        sound = record { each = s.each; sections = s.sections; nodes = s.nodes; loads = s.loads; count = s.count; spans = s.spans; fixed = s.fixed; snapshots = open_snapshots (s.shape.2, s.shape.3) s.snapshots; events = no_events (length script.images); shape = (s.shape.0, refl) };
+        sound = record { each = s.each; sections = s.sections; nodes = s.nodes; loads = s.loads; count = s.count; spans = s.spans; fixed = s.fixed; snapshots = open_snapshots (s.shape.2, s.shape.3) s.snapshots; events = no_events counts_open; shape = (s.shape.0, refl) };
         statements = round_begun with_open s.shape.0;
       })
 
@@ -362,7 +368,7 @@ module _ (script : ScriptData) (snapshot : SnapshotData) (threads : List (List E
       let made = with_statement (as_of stage.Fixed) statement.Round in
       let few = guard_last (ltb (length script.rounds) 64) reason.Limit made next e in
       same_step _ made next _ few.1 (record {
-        sound = record { each = s.each; sections = s.sections; nodes = s.nodes; loads = s.loads; count = s.count; spans = s.spans; fixed = s.fixed; snapshots = s.snapshots; events = no_events (length script.images); shape = (s.shape.0, refl) };
+        sound = record { each = s.each; sections = s.sections; nodes = s.nodes; loads = s.loads; count = s.count; spans = s.spans; fixed = s.fixed; snapshots = s.snapshots; events = no_events counts; shape = (s.shape.0, refl) };
         statements = round_begun script.snapshots s.shape.0;
       })
 
@@ -371,7 +377,7 @@ module _ (script : ScriptData) (snapshot : SnapshotData) (threads : List (List E
       let made = with_statement (as_of stage.Round) statement.Thread in
       let few = guard_last (ltb (length threads) 16) reason.Limit made next e in
       same_step _ made next _ few.1 (record {
-        sound = record { each = s.each; sections = s.sections; nodes = s.nodes; loads = s.loads; count = s.count; spans = s.spans; fixed = s.fixed; snapshots = s.snapshots; events = no_events (length script.images); shape = s.shape };
+        sound = record { each = s.each; sections = s.sections; nodes = s.nodes; loads = s.loads; count = s.count; spans = s.spans; fixed = s.fixed; snapshots = s.snapshots; events = no_events counts; shape = s.shape };
         statements = ap top (
             ap₂ (λ (r : List (List (List Event))) (t : List (List Event)). snapshots_part ++ round_statements (r ++ (t ++ [] ∷ []) ∷ [])) s.shape.0 s.shape.1
             ∙ sym (append_assoc snapshots_part (statement.Round ∷ []) (statement.Thread ∷ []))
@@ -385,20 +391,21 @@ module _ (script : ScriptData) (snapshot : SnapshotData) (threads : List (List E
       ∙ ap (λ (x : List Statement). (snapshots_part ++ x) ++ statement.Event e ∷ []) (sym (one_thread events))
 
   -- the event names an image that there is, and its numbers are small
-  event_is : (e : Event) → is_named (length script.images) e ≡ true → HasForm (statement.Event e) → IsEvent (length script.images) e
+  event_is : (e : Event) → is_named counts e ≡ true → HasForm (statement.Event e) → IsEvent counts e
   event_is (event.Register image) named form = ltb-true image (length script.images) named
   event_is (event.Deregister base) named form = form
   event_is (event.Load image) named form = ltb-true image (length script.images) named
   event_is (event.Unload base) named form = form
   event_is (event.Find pc) named form = form
+  event_is (event.Unwind stack) named form = ltb-true stack (length script.snapshots) named
 
   event_sound : (happens : Event) (next : DraftData) → HasForm (statement.Event happens) → Sound (as_of stage.Thread)
-      → cond (ltb (length events) 4096) (cond (is_named (length script.images) happens) (Ok (with_statement (as_of stage.Thread) (statement.Event happens))) (Err reason.Name)) (Err reason.Limit) ≡ Ok next
+      → cond (ltb (length events) 4096) (cond (is_named counts happens) (Ok (with_statement (as_of stage.Thread) (statement.Event happens))) (Err reason.Name)) (Err reason.Limit) ≡ Ok next
       → Step (as_of stage.Thread) next (statement.Event happens)
   event_sound happens next form s e =
       let made = with_statement (as_of stage.Thread) (statement.Event happens) in
       let limit = guard_then (ltb (length events) 4096) reason.Limit _ next e in
-      let named = guard_last (is_named (length script.images) happens) reason.Name made next limit.1 in
+      let named = guard_last (is_named counts happens) reason.Name made next limit.1 in
       let few = ltb-true (length events) 4096 limit.0 in
       let so_far = s.events in
       same_step _ made next _ named.1 (record {
@@ -411,7 +418,7 @@ module _ (script : ScriptData) (snapshot : SnapshotData) (threads : List (List E
           spans = s.spans;
           fixed = s.fixed;
           snapshots = s.snapshots;
-          events = (omega (arith, length-append events (happens ∷ [])), All-push (IsEvent (length script.images)) events happens so_far.1 (event_is happens named.0 form));
+          events = (omega (arith, length-append events (happens ∷ [])), All-push (IsEvent counts) events happens so_far.1 (event_is happens named.0 form));
           shape = s.shape;
         };
         statements = ap top (
@@ -424,25 +431,25 @@ module _ (script : ScriptData) (snapshot : SnapshotData) (threads : List (List E
 
   end_fixed : (next : DraftData) → Sound (as_of stage.Fixed) → with_statement (as_of stage.Fixed) statement.End ≡ next → Step (as_of stage.Fixed) next statement.End
   end_fixed next s e = same_step _ (with_statement (as_of stage.Fixed) statement.End) next _ e (record {
-    sound = record { each = s.each; sections = s.sections; nodes = s.nodes; loads = s.loads; count = s.count; spans = s.spans; fixed = s.fixed; snapshots = s.snapshots; events = no_events (length script.images); shape = no_rounds_at (length script.images) script.rounds s.shape.0 };
+    sound = record { each = s.each; sections = s.sections; nodes = s.nodes; loads = s.loads; count = s.count; spans = s.spans; fixed = s.fixed; snapshots = s.snapshots; events = no_events counts; shape = no_rounds_at counts script.rounds s.shape.0 };
     statements = refl;
   })
 
   end_snapshots : (next : DraftData) → Sound (as_of stage.Snapshots) → with_statement (as_of stage.Snapshots) statement.End ≡ next → Step (as_of stage.Snapshots) next statement.End
   end_snapshots next s e = same_step _ (with_statement (as_of stage.Snapshots) statement.End) next _ e (record {
-    sound = record { each = s.each; sections = s.sections; nodes = s.nodes; loads = s.loads; count = s.count; spans = s.spans; fixed = s.fixed; snapshots = open_snapshots (s.shape.2, s.shape.3) s.snapshots; events = no_events (length script.images); shape = no_rounds_at (length script.images) script.rounds s.shape.0 };
+    sound = record { each = s.each; sections = s.sections; nodes = s.nodes; loads = s.loads; count = s.count; spans = s.spans; fixed = s.fixed; snapshots = open_snapshots (s.shape.2, s.shape.3) s.snapshots; events = no_events counts_open; shape = no_rounds_at counts_open script.rounds s.shape.0 };
     statements = refl;
   })
 
   end_round : (next : DraftData) → Sound (as_of stage.Round) → with_statement (as_of stage.Round) statement.End ≡ next → Step (as_of stage.Round) next statement.End
   end_round next s e = same_step _ (with_statement (as_of stage.Round) statement.End) next _ e (record {
-    sound = record { each = s.each; sections = s.sections; nodes = s.nodes; loads = s.loads; count = s.count; spans = s.spans; fixed = s.fixed; snapshots = s.snapshots; events = no_events (length script.images); shape = rounds_of_none (length script.images) script.rounds threads s.shape.0 s.shape.1 };
+    sound = record { each = s.each; sections = s.sections; nodes = s.nodes; loads = s.loads; count = s.count; spans = s.spans; fixed = s.fixed; snapshots = s.snapshots; events = no_events counts; shape = rounds_of_none counts script.rounds threads s.shape.0 s.shape.1 };
     statements = refl;
   })
 
   end_thread : (next : DraftData) → Sound (as_of stage.Thread) → with_statement (as_of stage.Thread) statement.End ≡ next → Step (as_of stage.Thread) next statement.End
   end_thread next s e = same_step _ (with_statement (as_of stage.Thread) statement.End) next _ e (record {
-    sound = record { each = s.each; sections = s.sections; nodes = s.nodes; loads = s.loads; count = s.count; spans = s.spans; fixed = s.fixed; snapshots = s.snapshots; events = no_events (length script.images); shape = rounds_of_one (length script.images) script.rounds threads events s.shape.0 s.shape.1 s.events };
+    sound = record { each = s.each; sections = s.sections; nodes = s.nodes; loads = s.loads; count = s.count; spans = s.spans; fixed = s.fixed; snapshots = s.snapshots; events = no_events counts; shape = rounds_of_one counts script.rounds threads events s.shape.0 s.shape.1 s.events };
     statements = refl;
   })
 
@@ -474,6 +481,7 @@ module _ (script : ScriptData) (snapshot : SnapshotData) (threads : List (List E
   statement_sound _ (statement.Event (event.Load image)) next may built form s e = absurd cc
   statement_sound _ (statement.Event (event.Unload base)) next may built form s e = absurd cc
   statement_sound _ (statement.Event (event.Find pc)) next may built form s e = absurd cc
+  statement_sound _ (statement.Event (event.Unwind stack)) next may built form s e = absurd cc
   statement_sound _ _ next may built form s e = absurd cc
 
 -- ---- lines
@@ -580,7 +588,7 @@ at_first = record {
   spans = All-from_recursion IsSpan [] tt;
   fixed = no_fixed [];
   snapshots = no_snapshots;
-  events = no_events 0;
+  events = no_events (record { images = 0; snapshots = 0 });
   shape = (refl, refl, refl, refl, refl, refl);
 }
 

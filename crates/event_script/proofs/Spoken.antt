@@ -83,8 +83,8 @@ spoken kind.Deregister fields s e = hex_spoken kind.Deregister (λ n. statement.
 spoken kind.Load fields s e = decimal_spoken kind.Load (λ n. statement.Event (event.Load n)) fields s (λ n. refl) (λ n lt. lt) e
 spoken kind.Unload fields s e = hex_spoken kind.Unload (λ n. statement.Event (event.Unload n)) fields s (λ n. refl) (λ n lt. lt) e
 spoken kind.Find fields s e = hex_spoken kind.Find (λ n. statement.Event (event.Find n)) fields s (λ n. refl) (λ n lt. lt) e
+spoken kind.Unwind fields s e = decimal_spoken kind.Unwind (λ n. statement.Event (event.Unwind n)) fields s (λ n. refl) (λ n lt. lt) e
 spoken kind.End fields s e = alone_spoken kind.End statement.End fields s refl tt e
-spoken kind.Unwind fields s e = absurd cc
 
 -- ---- what is said is understood
 
@@ -131,6 +131,7 @@ said_again (statement.Event (event.Deregister base)) form = hex_said (λ n. stat
 said_again (statement.Event (event.Load image)) form = decimal_said (λ n. statement.Event (event.Load n)) image form
 said_again (statement.Event (event.Unload base)) form = hex_said (λ n. statement.Event (event.Unload n)) base form
 said_again (statement.Event (event.Find pc)) form = hex_said (λ n. statement.Event (event.Find n)) pc form
+said_again (statement.Event (event.Unwind snapshot)) form = decimal_said (λ n. statement.Event (event.Unwind n)) snapshot form
 said_again statement.End form = refl
 
 -- ---- and has the fields of its kind
@@ -162,6 +163,7 @@ fields_fit (statement.Event (event.Deregister base)) has = (refl, hex_fits base 
 fields_fit (statement.Event (event.Load image)) has = (refl, decimal_fits image has)
 fields_fit (statement.Event (event.Unload base)) has = (refl, hex_fits base has)
 fields_fit (statement.Event (event.Find pc)) has = (refl, hex_fits pc has)
+fields_fit (statement.Event (event.Unwind snapshot)) has = (refl, decimal_fits snapshot has)
 fields_fit statement.End has = (refl, tt)
 
 -- ---- why fields say nothing
@@ -334,29 +336,24 @@ make_err : {A : Type 0} (r : Result A Reason) (make : A → Statement) (why : Re
 make_err (Ok x) make why e = absurd cc
 make_err {A} (Err d) make why e = ap (λ (w : Reason). failed {A = A} w) (err_is {A = Statement} d why e)
 
--- the kinds of lines that can't be run at all
-abbrev pub IsLater : Kind → Type 0
-IsLater kind.Unwind = Unit {0}
-IsLater _ = ⊥
-
-pub unspoken : (k : Kind) (fields : Line) (why : Reason) → statement_of k fields ≡ Err why → Wrong (forms k) fields why ⊎ IsLater k
+pub unspoken : (k : Kind) (fields : Line) (why : Reason) → statement_of k fields ≡ Err why → Wrong (forms k) fields why
 unfolding statement_of
-unspoken kind.Version fields why e = inl (decimal_wrong fields why (make_err (one_decimal fields) statement.Version why e))
-unspoken kind.Nodes fields why e = inl (decimal_wrong fields why (make_err (one_decimal fields) statement.Nodes why e))
-unspoken kind.Loads fields why e = inl (decimal_wrong fields why (make_err (one_decimal fields) statement.Loads why e))
-unspoken kind.Image fields why e = inl (image_wrong fields why (make_err (image_fields fields) statement.Image why e))
-unspoken kind.Fixed fields why e = inl (decimal_wrong fields why (make_err (one_decimal fields) statement.Fixed why e))
-unspoken kind.Snapshot fields why e = inl (snapshot_wrong fields why (make_err (snapshot_fields fields) statement.Snapshot why e))
-unspoken kind.Memory fields why e = inl (memory_wrong fields why (make_err (memory_fields fields) statement.Memory why e))
-unspoken kind.Round fields why e = inl (alone_wrong statement.Round fields why e)
-unspoken kind.Thread fields why e = inl (alone_wrong statement.Thread fields why e)
-unspoken kind.Register fields why e = inl (decimal_wrong fields why (make_err (one_decimal fields) (λ n. statement.Event (event.Register n)) why e))
-unspoken kind.Deregister fields why e = inl (hex_wrong fields why (make_err (one_hex fields) (λ n. statement.Event (event.Deregister n)) why e))
-unspoken kind.Load fields why e = inl (decimal_wrong fields why (make_err (one_decimal fields) (λ n. statement.Event (event.Load n)) why e))
-unspoken kind.Unload fields why e = inl (hex_wrong fields why (make_err (one_hex fields) (λ n. statement.Event (event.Unload n)) why e))
-unspoken kind.Find fields why e = inl (hex_wrong fields why (make_err (one_hex fields) (λ n. statement.Event (event.Find n)) why e))
-unspoken kind.End fields why e = inl (alone_wrong statement.End fields why e)
-unspoken kind.Unwind fields why e = inr tt
+unspoken kind.Version fields why e = decimal_wrong fields why (make_err (one_decimal fields) statement.Version why e)
+unspoken kind.Nodes fields why e = decimal_wrong fields why (make_err (one_decimal fields) statement.Nodes why e)
+unspoken kind.Loads fields why e = decimal_wrong fields why (make_err (one_decimal fields) statement.Loads why e)
+unspoken kind.Image fields why e = image_wrong fields why (make_err (image_fields fields) statement.Image why e)
+unspoken kind.Fixed fields why e = decimal_wrong fields why (make_err (one_decimal fields) statement.Fixed why e)
+unspoken kind.Snapshot fields why e = snapshot_wrong fields why (make_err (snapshot_fields fields) statement.Snapshot why e)
+unspoken kind.Memory fields why e = memory_wrong fields why (make_err (memory_fields fields) statement.Memory why e)
+unspoken kind.Round fields why e = alone_wrong statement.Round fields why e
+unspoken kind.Thread fields why e = alone_wrong statement.Thread fields why e
+unspoken kind.Register fields why e = decimal_wrong fields why (make_err (one_decimal fields) (λ n. statement.Event (event.Register n)) why e)
+unspoken kind.Deregister fields why e = hex_wrong fields why (make_err (one_hex fields) (λ n. statement.Event (event.Deregister n)) why e)
+unspoken kind.Load fields why e = decimal_wrong fields why (make_err (one_decimal fields) (λ n. statement.Event (event.Load n)) why e)
+unspoken kind.Unload fields why e = hex_wrong fields why (make_err (one_hex fields) (λ n. statement.Event (event.Unload n)) why e)
+unspoken kind.Find fields why e = hex_wrong fields why (make_err (one_hex fields) (λ n. statement.Event (event.Find n)) why e)
+unspoken kind.Unwind fields why e = decimal_wrong fields why (make_err (one_decimal fields) (λ n. statement.Event (event.Unwind n)) why e)
+unspoken kind.End fields why e = alone_wrong statement.End fields why e
 
 -- ---- one line says one thing
 

@@ -98,10 +98,8 @@ abbrev pub has_thread : Stage → Bool
 has_thread stage.Thread = true
 has_thread _ = false
 
--- Lines that can't be run after what the lines before made known: a backtrace, a second round, a
--- second thread.
+-- Lines that can't be run after what the lines before made known: a second round, a second thread.
 abbrev pub is_unbuilt : DraftData → Kind → Bool
-is_unbuilt known kind.Unwind = true
 is_unbuilt known kind.Round = has_round known.stage
 is_unbuilt known kind.Thread = has_thread known.stage
 is_unbuilt known _ = false

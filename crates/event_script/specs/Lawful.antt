@@ -1,5 +1,6 @@
 -- Lawful journals: what the answers to a script's events may be.
-use Rattle.std.specs.Prelude.{◌≡◌, ℕ, ◌+◌, ◌≤◌, List, [], ◌∷◌, length, map, is_some, All, count_by}
+use Rattle.std.specs.Prelude.{◌≡◌, ℕ, ◌+◌, ◌≤◌, List, [], ◌∷◌, length, map, Some, is_some, All}
+use Rattle.std.specs.Prelude.{count_by, slice_get}
 use Rattle.std.specs.List.{AllZip, flat_map}
 use Rattle.reg_model.specs.SpanData.{SpanData}
 use Rattle.reg_model.specs.State.{State, opening}
@@ -11,28 +12,37 @@ use Rattle.reg_model.specs.declared.span.Member.{Member}
 use Rattle.reg_model.specs.declared.answer.Update.{Update}
 use Rattle.reg_model.specs.declared.answer.Receipt.{Receipt}
 use Rattle.reg_model.specs.declared.answer.Receipt.TheVariants as receipt
-use Rattle.event_script.specs.ScriptData.{ScriptData, span_of}
+use Rattle.frame_parse.specs.Sections.{SectionData}
+use Rattle.unwind_step.specs.Backtrace.{Unfolds}
+use Rattle.unwind_step.specs.declared.backtrace.FrameLine.{FrameLine}
+use Rattle.event_script.specs.ScriptData.{ScriptData, SnapshotData, span_of}
 use Rattle.event_script.specs.JournalData.{JournalData}
 use Rattle.event_script.specs.declared.script.Event.{Event}
 use Rattle.event_script.specs.declared.script.Event.TheVariants as event
 use Rattle.event_script.specs.declared.journal.Answer.{Answer}
 use Rattle.event_script.specs.declared.journal.Answer.TheVariants.{Register, Deregister, Load}
-use Rattle.event_script.specs.declared.journal.Answer.TheVariants.{Unload, Find}
+use Rattle.event_script.specs.declared.journal.Answer.TheVariants.{Unload, Find, Unwind}
 
 -- the member that is meant by the number of an image
 abbrev pub image_member : List SpanData → ℕ → Member
 image_member images image = record { span = span_of images image; payload = image }
 
--- the answer is of the event's kind, with its image, base or address
+-- the answer is of the event's kind, with its image, base, address or snapshot
 abbrev pub AnswersEvent : Event → Answer → Type 0
 AnswersEvent (event.Register image) (Register asked answer) = asked ≡ image
 AnswersEvent (event.Deregister base) (Deregister asked answer) = asked ≡ base
 AnswersEvent (event.Load image) (Load asked answer) = asked ≡ image
 AnswersEvent (event.Unload base) (Unload asked answer) = asked ≡ base
 AnswersEvent (event.Find pc) (Find asked place) = (asked ≡ pc) × IsPlace place
+AnswersEvent (event.Unwind snapshot) (Unwind asked trace) =
+    (asked ≡ snapshot) × All (λ line. IsPlace line.place) trace.frames
 AnswersEvent _ _ = ⊥
 
--- the receipts of an event: that of its update, or those of its place
+-- the receipts of the places of a trace, in order
+abbrev pub receipts_of_trace : List FrameLine → List Receipt
+receipts_of_trace frames = flat_map (λ line. receipts_of_place line.look line.place) frames
+
+-- the receipts of an event: that of its update, or those of its place or of its trace's places
 abbrev pub receipts_of : List SpanData → Answer → List Receipt
 receipts_of images (Register image answer) =
     receipt.Register (image_member images image) answer ∷ []
@@ -40,6 +50,7 @@ receipts_of images (Deregister base answer) = receipt.Deregister base answer ∷
 receipts_of images (Load image answer) = receipt.Load (image_member images image) answer ∷ []
 receipts_of images (Unload base answer) = receipt.Unload base answer ∷ []
 receipts_of images (Find pc place) = receipts_of_place pc place
+receipts_of images (Unwind snapshot trace) = receipts_of_trace trace.frames
 
 -- the receipts of each thread, by round
 abbrev pub thread_receipts : List SpanData → JournalData → List (List (List Receipt))
@@ -75,6 +86,13 @@ fixed_members script = map (image_member script.images) script.fixed
 abbrev pub start_of : ScriptData → State
 start_of script = opening (fixed_members script) script.loads
 
+-- a trace unfolds from its snapshot and the images' sections
+abbrev pub IsUnfolded : List SectionData → List SnapshotData → Answer → Type 0
+IsUnfolded sections snapshots (Unwind number trace) =
+    (snapshot : SnapshotData) × (slice_get snapshots number ≡ Some snapshot)
+    × Unfolds sections snapshot.memory snapshot.regs trace
+IsUnfolded sections snapshots _ = Unit {0}
+
 -- A journal of the script may be this. Its history is read off its own numbers.
 pub record IsLawfulJournal (script : ScriptData) (journal : JournalData) : Type 0 where
   pub answered : AllZip (AllZip (AllZip AnswersEvent)) script.rounds journal.rounds
@@ -85,3 +103,4 @@ pub record IsLawfulJournal (script : ScriptData) (journal : JournalData) : Type 
       (history_of (in_one (thread_receipts script.images journal)) journal.updates) script.nodes 1
       (thread_receipts script.images journal)
   pub rounds : AreInRounds 0 (thread_receipts script.images journal)
+  pub unfolded : All (All (All (IsUnfolded script.sections script.snapshots))) journal.rounds

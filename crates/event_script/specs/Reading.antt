@@ -18,7 +18,8 @@ use Rattle.event_script.specs.declared.limits.TheConstants.{MOST_SECTION_BYTES, 
 use Rattle.event_script.specs.declared.limits.TheConstants.{MOST_MEMORY_BYTES, MOST_ROUNDS}
 use Rattle.event_script.specs.declared.limits.TheConstants.{MOST_THREADS, MOST_EVENTS}
 use Rattle.frame_expr.specs.Regions.{RegionData, regions_end}
-use Rattle.event_script.specs.ScriptData.{ImageData, SnapshotData, recorded_bytes}
+use Rattle.event_script.specs.ScriptData.{ImageData, SnapshotData, Counts, recorded_bytes}
+use Rattle.event_script.specs.ScriptData.{counts_of}
 use Rattle.event_script.specs.Fields.{pieces, is_printable, decimal_in, hex_in, section_bytes}
 use Rattle.event_script.specs.Fields.{bytes_in, all_hex_in}
 use Rattle.event_script.specs.Statements.{word_of}
@@ -146,8 +147,9 @@ statement_of kind.Load fields =
 statement_of kind.Unload fields =
     one_hex fields >=> λ base. Ok (statement.Event (event.Unload base))
 statement_of kind.Find fields = one_hex fields >=> λ pc. Ok (statement.Event (event.Find pc))
+statement_of kind.Unwind fields =
+    one_decimal fields >=> λ snapshot. Ok (statement.Event (event.Unwind snapshot))
 statement_of kind.End fields = fieldless fields statement.End
-statement_of _ fields = Err reason.Unbuilt
 
 -- ---- what is known after it, or why it is bad
 
@@ -208,11 +210,12 @@ abbrev pub memory_added : DraftData → RegionData → Result DraftData Reason
 memory_added known region =
     region_added known.snapshot region >=> λ snapshot. Ok (record known { snapshot = snapshot })
 
--- whether an event names no image that there isn't
-abbrev pub is_named : ℕ → Event → Bool
-is_named images (event.Register image) = nat_lt image images
-is_named images (event.Load image) = nat_lt image images
-is_named images _ = true
+-- whether an event names nothing that there isn't
+abbrev pub is_named : Counts → Event → Bool
+is_named counts (event.Register image) = nat_lt image counts.images
+is_named counts (event.Load image) = nat_lt image counts.images
+is_named counts (event.Unwind snapshot) = nat_lt snapshot counts.snapshots
+is_named counts _ = true
 
 unfoldable pub added : DraftData → Statement → Result DraftData Reason
 added known (statement.Version version) =
@@ -236,7 +239,7 @@ added known statement.Thread =
     then Ok (with_statement known statement.Thread) else Err reason.Limit
 added known (statement.Event event) =
     if nat_lt (length known.events) MOST_EVENTS
-    then (if is_named (length known.script.images) event
+    then (if is_named (counts_of known.script) event
     then Ok (with_statement known (statement.Event event)) else Err reason.Name)
     else Err reason.Limit
 added known statement.End = Ok (with_statement known statement.End)

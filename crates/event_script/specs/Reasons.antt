@@ -83,11 +83,13 @@ abbrev pub HasBadSection : FrameFault → Statement → Type 0
 HasBadSection fault (statement.Image image) = IsRefused image.section image.bytes fault
 HasBadSection fault _ = ⊥
 
--- it names an image that the script hasn't
+-- it names an image or a snapshot that the script hasn't
 abbrev pub IsNameless : DraftData → Statement → Type 0
 IsNameless known (statement.Fixed image) = length known.script.images ≤ image
 IsNameless known (statement.Event (event.Register image)) = length known.script.images ≤ image
 IsNameless known (statement.Event (event.Load image)) = length known.script.images ≤ image
+IsNameless known (statement.Event (event.Unwind snapshot)) =
+    length known.script.snapshots ≤ snapshot
 IsNameless known _ = ⊥
 
 -- its span isn't wholly above that of the fixed image before it

@@ -13,7 +13,7 @@ use Rattle.event_script.specs.declared.limits.TheConstants.{MOST_MEMORY_BYTES, M
 use Rattle.event_script.specs.declared.limits.TheConstants.{MOST_THREADS, MOST_EVENTS}
 use Rattle.event_script.specs.declared.script.Event.{Event}
 use Rattle.event_script.specs.declared.script.Event.TheVariants.{Register, Deregister, Load, Unload}
-use Rattle.event_script.specs.declared.script.Event.TheVariants.{Find}
+use Rattle.event_script.specs.declared.script.Event.TheVariants.{Find, Unwind}
 
 -- what a contract sees of a recorded stack: the registers of its innermost frame, and memory
 pub record SnapshotData : Type 0 where
@@ -30,19 +30,28 @@ pub record ScriptData : Type 0 where
   pub snapshots : List SnapshotData
   pub rounds : List (List (List Event))
 
--- The event names an image that there is; addresses have 64 bits.
-abbrev pub IsEvent : ℕ → Event → Type 0
-IsEvent images (Register image) = image < images
-IsEvent images (Deregister base) = base < 2 ^ 64
-IsEvent images (Load image) = image < images
-IsEvent images (Unload base) = base < 2 ^ 64
-IsEvent images (Find pc) = pc < 2 ^ 64
+-- how many images and how many snapshots there are
+pub record Counts : Type 0 where
+  pub images : ℕ
+  pub snapshots : ℕ
 
-abbrev pub IsThread : ℕ → List Event → Type 0
-IsThread images events = (length events ≤ MOST_EVENTS) × All (IsEvent images) events
+-- The event names an image or a snapshot that there is; addresses have 64 bits.
+abbrev pub IsEvent : Counts → Event → Type 0
+IsEvent counts (Register image) = image < counts.images
+IsEvent counts (Deregister base) = base < 2 ^ 64
+IsEvent counts (Load image) = image < counts.images
+IsEvent counts (Unload base) = base < 2 ^ 64
+IsEvent counts (Find pc) = pc < 2 ^ 64
+IsEvent counts (Unwind snapshot) = snapshot < counts.snapshots
 
-abbrev pub IsRound : ℕ → List (List Event) → Type 0
-IsRound images threads = (length threads ≤ MOST_THREADS) × All (IsThread images) threads
+abbrev pub IsThread : Counts → List Event → Type 0
+IsThread counts events = (length events ≤ MOST_EVENTS) × All (IsEvent counts) events
+
+abbrev pub IsRound : Counts → List (List Event) → Type 0
+IsRound counts threads = (length threads ≤ MOST_THREADS) × All (IsThread counts) threads
+
+abbrev pub counts_of : ScriptData → Counts
+counts_of s = record { images = length s.images; snapshots = length s.snapshots }
 
 -- the section of an image, whose bytes are records of `.eh_frame`
 pub record IsSectionOf (section : SectionData) : Type 0 where
@@ -80,7 +89,7 @@ pub record IsSnapshot (snapshot : SnapshotData) : Type 0 where
   pub size : recorded_bytes snapshot.memory ≤ MOST_MEMORY_BYTES
 
 -- each number and each count is within its limit, each image is a span and has a section, each
--- snapshot is one, and each event is one of these images'
+-- snapshot is one, and each event names one of these
 pub record IsRunnable (s : ScriptData) : Type 0 where
   pub nodes : (LEAST_NODES ≤ s.nodes) × (s.nodes ≤ MOST_NODES)
   pub loads : (LEAST_LOADS ≤ s.loads) × (s.loads ≤ MOST_LOADS)
@@ -88,7 +97,7 @@ pub record IsRunnable (s : ScriptData) : Type 0 where
   pub sections : (length s.sections ≡ length s.images) × All IsSectionOf s.sections
   pub fixed : AreFixed s.images s.fixed
   pub snapshots : (length s.snapshots ≤ MOST_SNAPSHOTS) × All IsSnapshot s.snapshots
-  pub rounds : (length s.rounds ≤ MOST_ROUNDS) × All (IsRound (length s.images)) s.rounds
+  pub rounds : (length s.rounds ≤ MOST_ROUNDS) × All (IsRound (counts_of s)) s.rounds
 
 -- What can be run: one round of one thread at the most. It goes when threads come.
 pub record IsBuilt (s : ScriptData) : Type 0 where

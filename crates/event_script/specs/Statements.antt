@@ -75,6 +75,7 @@ kind_of_event (event.Deregister base) = kind.Deregister
 kind_of_event (event.Load image) = kind.Load
 kind_of_event (event.Unload base) = kind.Unload
 kind_of_event (event.Find pc) = kind.Find
+kind_of_event (event.Unwind snapshot) = kind.Unwind
 
 abbrev pub event_fields : Event → List (List ℕ)
 event_fields (event.Register image) = decimal image ∷ []
@@ -82,6 +83,7 @@ event_fields (event.Deregister base) = hex base ∷ []
 event_fields (event.Load image) = decimal image ∷ []
 event_fields (event.Unload base) = hex base ∷ []
 event_fields (event.Find pc) = hex pc ∷ []
+event_fields (event.Unwind snapshot) = decimal snapshot ∷ []
 
 abbrev pub kind_of_statement : Statement → Kind
 kind_of_statement (statement.Version version) = kind.Version
@@ -120,6 +122,7 @@ HasEventForm (event.Deregister base) = base < 2 ^ 64
 HasEventForm (event.Load image) = image < 2 ^ 32
 HasEventForm (event.Unload base) = base < 2 ^ 64
 HasEventForm (event.Find pc) = pc < 2 ^ 64
+HasEventForm (event.Unwind snapshot) = snapshot < 2 ^ 32
 
 -- its numbers are as small as their forms want
 abbrev pub HasForm : Statement → Type 0

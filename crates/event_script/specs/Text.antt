@@ -1,5 +1,5 @@
 -- The text of a journal.
-use Rattle.std.specs.Prelude.{ℕ, ◌+◌, List, [], ◌∷◌, ◌++◌, Option, Some, None, codes}
+use Rattle.std.specs.Prelude.{ℕ, ◌+◌, List, [], ◌∷◌, ◌++◌, Option, Some, None, All, codes}
 use Rattle.std.specs.List.{flat_map}
 use Rattle.std.specs.Fmt.{decimal}
 use Rattle.reg_model.specs.Receipt.{IsPlace}
@@ -13,11 +13,15 @@ use Rattle.reg_model.specs.declared.answer.Loading.{Loading}
 use Rattle.reg_model.specs.declared.answer.Loading.TheVariants as loading
 use Rattle.reg_model.specs.declared.answer.Removed.{Removed}
 use Rattle.reg_model.specs.declared.answer.Removed.TheVariants as removed
+use Rattle.unwind_step.specs.Backtrace.{TraceData}
+use Rattle.unwind_step.specs.declared.backtrace.End.{End}
+use Rattle.unwind_step.specs.declared.backtrace.End.TheVariants as end
+use Rattle.unwind_step.specs.declared.backtrace.FrameLine.{FrameLine}
 use Rattle.event_script.specs.Digits.{hex}
 use Rattle.event_script.specs.JournalData.{JournalData}
 use Rattle.event_script.specs.declared.journal.Answer.{Answer}
 use Rattle.event_script.specs.declared.journal.Answer.TheVariants.{Register, Deregister, Load}
-use Rattle.event_script.specs.declared.journal.Answer.TheVariants.{Unload, Find}
+use Rattle.event_script.specs.declared.journal.Answer.TheVariants.{Unload, Find, Unwind}
 
 -- which member overlaps: its first address and its image
 abbrev pub overlap_text : Member → ℕ → List ℕ
@@ -56,7 +60,29 @@ loaded_text (Some found) = codes " loaded " ++ found_text found
 abbrev pub place_text : Place → List ℕ
 place_text place = codes "registered " ++ found_text place.registered ++ loaded_text place.loaded
 
--- what the line of an event says after its number
+-- what the line of a frame says, which are numbered from 0
+abbrev pub frame_line : ℕ → FrameLine → List ℕ
+frame_line number line =
+    codes "frame " ++ decimal number ++ codes " pc " ++ hex line.pc ++ codes " sp " ++ hex line.sp
+    ++ codes " look " ++ hex line.look ++ codes " " ++ place_text line.place
+
+abbrev pub frame_lines : ℕ → List FrameLine → List (List ℕ)
+frame_lines number [] = []
+frame_lines number (line ∷ lines) = frame_line number line ∷ frame_lines (number + 1) lines
+
+-- why there are no more
+abbrev pub end_line : End → List ℕ
+end_line end.NoObject = codes "end noobject"
+end_line end.NoFde = codes "end nofde"
+end_line end.NoRow = codes "end norow"
+end_line end.Undefined = codes "end undefined"
+end_line (end.NoBytes address) = codes "end nobytes " ++ hex address
+end_line end.Long = codes "end long"
+
+abbrev pub trace_lines : TraceData → List (List ℕ)
+trace_lines trace = frame_lines 0 trace.frames ++ end_line trace.end ∷ []
+
+-- what the first line of an event says after its number
 abbrev pub answer_line : Answer → List ℕ
 answer_line (Register image answer) =
     codes "register " ++ decimal image ++ codes " " ++ inserted_text answer
@@ -65,21 +91,31 @@ answer_line (Deregister base answer) =
 answer_line (Load image answer) = codes "load " ++ decimal image ++ codes " " ++ loading_text answer
 answer_line (Unload base answer) = codes "unload " ++ hex base ++ codes " " ++ removed_text answer
 answer_line (Find pc place) = codes "find " ++ hex pc ++ codes " " ++ place_text place
+answer_line (Unwind snapshot trace) = codes "unwind " ++ decimal snapshot
 
--- the lines of an event; there is one of each event that is built
+-- and the lines after it
+abbrev pub further_lines : Answer → List (List ℕ)
+further_lines (Unwind snapshot trace) = trace_lines trace
+further_lines _ = []
+
+-- the lines of an event
 abbrev pub answer_lines : Answer → List (List ℕ)
-answer_lines answer = answer_line answer ∷ []
+answer_lines answer = answer_line answer ∷ further_lines answer
 
 -- an event's number: round, thread and event, each from 1
 abbrev pub event_number : ℕ → ℕ → ℕ → List ℕ
 event_number round thread event =
     decimal round ++ codes "." ++ decimal thread ++ codes "." ++ decimal event
 
+-- a line of an event, after its number
+abbrev pub event_line : ℕ → ℕ → ℕ → List ℕ → List ℕ
+event_line round thread event line =
+    event_number round thread event ++ codes " " ++ line ++ codes "\n"
+
 -- the lines of an event, each after its number
 abbrev pub answer_text : ℕ → ℕ → ℕ → Answer → List ℕ
 answer_text round thread event answer =
-    flat_map (λ line. event_number round thread event ++ codes " " ++ line ++ codes "\n")
-    (answer_lines answer)
+    flat_map (event_line round thread event) (answer_lines answer)
 
 -- a text for each item, which are numbered upwards, one after another
 abbrev pub numbered : {X : Type 0} → (ℕ → X → List ℕ) → ℕ → List X → List ℕ
@@ -106,4 +142,5 @@ IsPrintable (Deregister base removed.Spent) = ⊥
 IsPrintable (Load image loading.Spent) = ⊥
 IsPrintable (Unload base removed.Spent) = ⊥
 IsPrintable (Find pc place) = IsPlace place
+IsPrintable (Unwind snapshot trace) = All (λ line. IsPlace line.place) trace.frames
 IsPrintable _ = Unit {0}

@@ -4,15 +4,17 @@ ghost use Rattle.std.specs.Prelude.{◌≡◌, ℕ, List};
 
 use reg_model::{Inserted, Loading, Place, Removed};
 use std::marker::Model;
+use unwind_step::Trace;
 
 /// An event with its answer.
-#[derive(Clone, Copy, Debug, PartialEq, Eq)]
+#[derive(Debug, Drop)]
 pub enum Answer {
     Register { image: u32, answer: Inserted },
     Deregister { base: u64, answer: Removed },
     Load { image: u32, answer: Loading },
     Unload { base: u64, answer: Removed },
     Find { pc: u64, place: Place },
+    Unwind { snapshot: u32, trace: Trace },
 }
 
 /// The answers by round, thread and event, and the number of updates that were accepted.

@@ -16,7 +16,9 @@ mod script;
 
 pub use journal::{Answer, Journal};
 pub use print::fault::print_fault;
-pub use print::journal::{print_answer, print_journal, print_updates};
+pub use print::journal::{
+    EventNumber, line_count, print_answer, print_journal, print_line, print_updates,
+};
 pub use print::script::print_script;
 pub use reader::fault::Reason;
 pub use reader::{ScriptFault, read};

@@ -35,6 +35,8 @@ pub enum Event {
     Unload { base: u64 },
     /// Asks what contains an address.
     Find { pc: u64 },
+    /// Unwinds a recorded stack, by its number.
+    Unwind { snapshot: u32 },
 }
 
 /// The events of one thread, in order.

@@ -1,10 +1,12 @@
 //! The text of a journal.
 
-ghost use Rattle.std.specs.Prelude.{◌≡◌, ℕ, ◌++◌, IfOk, OnOk, All, codes};
+ghost use Rattle.std.specs.Prelude.{◌≡◌, ℕ, ◌<◌, [], ◌++◌, length, slice_index_or, IfOk, OnOk, All};
+ghost use Rattle.std.specs.Prelude.{codes, decimal};
 ghost use Rattle.std.specs.String.{string_bytes};
 ghost use Rattle.event_script.specs.Digits.{hex};
 ghost use Rattle.event_script.specs.Text.{IsPrintable, overlap_text, inserted_text, loading_text};
-ghost use Rattle.event_script.specs.Text.{removed_text, found_text, place_text, answer_line};
+ghost use Rattle.event_script.specs.Text.{removed_text, found_text, place_text, frame_line};
+ghost use Rattle.event_script.specs.Text.{end_line, trace_lines, answer_line, answer_lines, event_line};
 ghost use Rattle.event_script.specs.Text.{answer_text, numbered, thread_text, updates_text};
 ghost use Rattle.event_script.specs.Text.{journal_text};
 
@@ -15,6 +17,15 @@ use crate::journal::{Answer, Journal};
 use reg_model::{Found, Inserted, Loading, Member, NoMemory, Place, Removed};
 use std::alloc::{AllocError, Global};
 use std::fmt::Write;
+use unwind_step::{End, FrameLine, Trace};
+
+/// The round, the thread and the event, each counted from 1.
+#[derive(Clone, Copy, Debug, PartialEq, Eq)]
+pub struct EventNumber {
+    pub round: usize,
+    pub thread: usize,
+    pub event: usize,
+}
 
 /// The lines of one event, numbered from 1 in its round and thread.
 pub fn print_answer(
@@ -32,22 +43,33 @@ pub fn print_answer(
         thread: thread as usize,
         event: event as usize,
     };
-    lines_of(alloc, number, answer)
+    let mut text = Vec::new(alloc);
+    add_answer(alloc, &mut text, number, answer)?;
+    Ok(text)
 }
 
-/// The round, the thread and the event, each counted from 1.
-#[derive(Clone, Copy, Debug, PartialEq, Eq)]
-struct EventNumber {
-    round: usize,
-    thread: usize,
-    event: usize,
+/// How many lines an event has: one, and of a backtrace one more for each frame and for its end.
+pub fn line_count(answer: &Answer) -> usize
+    ensures { result ≡ length (answer_lines answer.now) }
+{
+    match answer {
+        Answer::Unwind { trace, .. } => trace.frames.len() + 2,
+        _ => 1,
+    }
 }
 
-/// The lines of an event, each after its number.
-fn lines_of(alloc: Global, number: EventNumber, answer: &Answer) -> Result<Vec<u8>, NoMemory>
-    requires { IsPrintable answer.now }
+/// A line of an event, which are counted from 0, after the event's number.
+pub fn print_line(
+    alloc: Global,
+    number: EventNumber,
+    answer: &Answer,
+    line: usize,
+) -> Result<Vec<u8>, NoMemory>
+    requires printable { IsPrintable answer.now }
+    requires line { line < length (answer_lines answer.now) }
     ensures text { IfOk result
-        (λ text. text.items ≡ answer_text number.round number.thread number.event answer.now) }
+        (λ text. text.items ≡ event_line number.round number.thread number.event
+        (slice_index_or (answer_lines answer.now) line [])) }
 {
     let EventNumber {
         round,
@@ -56,12 +78,78 @@ fn lines_of(alloc: Global, number: EventNumber, answer: &Answer) -> Result<Vec<u
     } = number;
     let mut text = String::new(alloc);
     write!(text, "{round}.{thread}.{event} ")?;
-    put_answer(&mut text, answer)?;
+    put_line(&mut text, answer, line)?;
     text.push_str("\n")?;
     Ok(text.into_bytes())
 }
 
-/// Adds what the line of an event says after its number.
+/// Adds what a line of an event says after its number.
+fn put_line(text: &mut String, answer: &Answer, line: usize) -> Result<(), AllocError>
+    requires { line < length (answer_lines answer.now) }
+    ensures { OnOk result (string_bytes text.new
+        ≡ string_bytes text.old ++ slice_index_or (answer_lines answer.now) line []) }
+{
+    if line == 0 {
+        return put_answer(text, answer);
+    }
+    match answer {
+        Answer::Unwind { trace, .. } => put_trace_line(text, trace, line - 1),
+        _ => Ok(()),
+    }
+}
+
+/// Adds a line of a backtrace, after the first one.
+fn put_trace_line(text: &mut String, trace: &Trace, line: usize) -> Result<(), AllocError>
+    requires { line < length (trace_lines trace.now) }
+    ensures { OnOk result (string_bytes text.new
+        ≡ string_bytes text.old ++ slice_index_or (trace_lines trace.now) line []) }
+{
+    if line < trace.frames.len() {
+        put_frame(text, line, &trace.frames[line])
+    } else {
+        put_end(text, trace.end)
+    }
+}
+
+/// Adds the line of a frame.
+fn put_frame(text: &mut String, number: usize, line: &FrameLine) -> Result<(), AllocError>
+    ensures { OnOk result (string_bytes text.new
+        ≡ string_bytes text.old ++ frame_line number line.now) }
+{
+    put_frame_start(text, number, line.pc, line.sp, line.look)?;
+    put_place(text, &line.place)
+}
+
+/// Adds the number and the addresses of a frame, and a space.
+fn put_frame_start(
+    text: &mut String,
+    number: usize,
+    pc: u64,
+    sp: u64,
+    look: u64,
+) -> Result<(), AllocError>
+    ensures { OnOk result (string_bytes text.new ≡ string_bytes text.old
+        ++ (codes "frame " ++ decimal number ++ codes " pc " ++ hex pc ++ codes " sp " ++ hex sp
+        ++ codes " look " ++ hex look ++ codes " ")) }
+{
+    write!(text, "frame {number} pc {pc:x} sp {sp:x} look {look:x} ")
+}
+
+/// Adds the line that says why there are no more frames.
+fn put_end(text: &mut String, end: End) -> Result<(), AllocError>
+    ensures { OnOk result (string_bytes text.new ≡ string_bytes text.old ++ end_line end) }
+{
+    match end {
+        End::NoObject => text.push_str("end noobject"),
+        End::NoFde => text.push_str("end nofde"),
+        End::NoRow => text.push_str("end norow"),
+        End::Undefined => text.push_str("end undefined"),
+        End::NoBytes { address } => write!(text, "end nobytes {address:x}"),
+        End::Long => text.push_str("end long"),
+    }
+}
+
+/// Adds what the first line of an event says after its number.
 fn put_answer(text: &mut String, answer: &Answer) -> Result<(), AllocError>
     ensures { OnOk result (string_bytes text.new
         ≡ string_bytes text.old ++ answer_line answer.now) }
@@ -87,6 +175,7 @@ fn put_answer(text: &mut String, answer: &Answer) -> Result<(), AllocError>
             put_address(text, "find", *pc)?;
             put_place(text, place)
         }
+        Answer::Unwind { snapshot, .. } => write!(text, "unwind {snapshot}"),
     }
 }
 
@@ -208,8 +297,10 @@ fn add_answer(
     ensures { OnOk result (text.new.items
         ≡ text.old.items ++ answer_text number.round number.thread number.event answer.now) }
 {
-    let lines = lines_of(alloc, number, answer)?;
-    text.extend_from_slice(&lines)?;
+    for line in 0..line_count(answer) {
+        let piece = print_line(alloc, number, answer, line)?;
+        text.extend_from_slice(&piece)?;
+    }
     Ok(())
 }
 

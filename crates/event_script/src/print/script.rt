@@ -193,6 +193,7 @@ fn put_event(text: &mut String, event: &Event) -> Result<(), AllocError>
         Event::Load { image } => write!(text, "load {image}\n"),
         Event::Unload { base } => write!(text, "unload {base:x}\n"),
         Event::Find { pc } => write!(text, "find {pc:x}\n"),
+        Event::Unwind { snapshot } => write!(text, "unwind {snapshot}\n"),
     }
 }
 

@@ -102,12 +102,13 @@ fn is_above_last(images: &[Span], fixed: &[u32], span: &Span) -> bool
     }
 }
 
-/// Whether the event names no image that there isn't.
-fn is_named(images: usize, event: Event) -> bool
-    ensures { result ≡ is_named images event }
+/// Whether the event names nothing that there isn't.
+fn is_named(images: usize, snapshots: usize, event: Event) -> bool
+    ensures { result ≡ is_named (record { images = images; snapshots = snapshots }) event }
 {
     match event {
         Event::Register { image } | Event::Load { image } => (image as usize) < images,
+        Event::Unwind { snapshot } => (snapshot as usize) < snapshots,
         _ => true,
     }
 }
@@ -293,7 +294,7 @@ impl Draft {
         if self.events.len() >= MOST_EVENTS {
             return Err(Reason::Limit.into());
         }
-        if !is_named(self.images.len(), event) {
+        if !is_named(self.images.len(), self.snapshots.len(), event) {
             return Err(Reason::Name.into());
         }
         self.events.push(event)?;
@@ -334,7 +335,6 @@ impl Draft {
         ensures { result ≡ is_unbuilt self.now kind }
     {
         match kind {
-            Kind::Unwind => true,
             Kind::Round => matches!(self.stage, Stage::Round | Stage::Thread),
             Kind::Thread => matches!(self.stage, Stage::Thread),
             _ => false,

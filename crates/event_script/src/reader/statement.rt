@@ -119,8 +119,11 @@ pub fn statement_of(alloc: Global, kind: Kind, rest: &[u8]) -> Result<Statement,
             let pc = one_hex(rest)?;
             Ok(Statement::Event(Event::Find { pc }))
         }
+        Kind::Unwind => {
+            let snapshot = one_decimal(rest)?;
+            Ok(Statement::Event(Event::Unwind { snapshot }))
+        }
         Kind::End => fieldless(rest, Statement::End),
-        Kind::Unwind => Err(Reason::Unbuilt.into()),
     }
 }
 

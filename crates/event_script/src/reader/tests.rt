@@ -12,7 +12,7 @@ const ALL_LINES: &[u8] = b"frames 1\nnodes 16\nloads 2\nimage 0 1000 20 0 -\n\
 image 1 1010 20 0 -\nimage 2 3000 10 0 -\nfixed 0\nfixed 2\n\
 snapshot 0 0 1 2 3 4 5 7010 7000 8 9 a b c d e f ffffffffffffffff\nmemory 7000 2010000000000000\n\
 memory 7008 00\nsnapshot 1 0 0 0 0 0 0 0 0 0 0 0 0 0 0 0 0 0\nround\nthread\nregister 1\n\
-find 1010\nload 2\nunload 3000\nderegister 1010\nend\n";
+find 1010\nload 2\nunwind 1\nunload 3000\nderegister 1010\nend\n";
 
 /// A script with a section that ends after a record (section_without_end_mark), and how many bytes
 /// that has.
@@ -64,6 +64,7 @@ fn a_script_is_what_its_lines_say(rt: HostRuntime) -> Result<(), Fail> {
                 Event::Register { image: 1 },
                 Event::Find { pc: 0x1010 },
                 Event::Load { image: 2 },
+                Event::Unwind { snapshot: 1 },
                 Event::Unload { base: 0x3000 },
                 Event::Deregister { base: 0x1010 },
             ];

@@ -325,3 +325,30 @@ fn journal_of_two_empty_rounds(rt: HostRuntime) -> Result<(), Fail> {
     assert_eq!(rt; text.as_slice(), b"updates 0\n".as_slice());
     Ok(())
 }
+
+#[test]
+fn a_backtrace_ends_with_its_reason(rt: HostRuntime) -> Result<(), Fail> {
+    let alloc = rt.alloc();
+    let trace = Trace {
+        frames: Vec::new(alloc),
+        end: End::NoBytes { address: 0x7000 },
+    };
+    let answer = Answer::Unwind { snapshot: 0, trace };
+    let number = EventNumber {
+        round: 1,
+        thread: 1,
+        event: 2,
+    };
+    assert_eq!(rt; line_count(&answer), 2);
+    let first = print_line(alloc, number, &answer, 0)?;
+    assert_eq!(rt; first.as_slice(), b"1.1.2 unwind 0\n".as_slice());
+    prints(
+        &rt,
+        alloc,
+        1,
+        1,
+        2,
+        answer,
+        "1.1.2 unwind 0\n1.1.2 end nobytes 7000\n",
+    )
+}
