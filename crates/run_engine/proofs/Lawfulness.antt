@@ -1,5 +1,5 @@
 -- What is a lawful journal: records that hold, in any order; and a chain of calls.
-use Rattle.std.proofs.Common.{◌≡◌, ℕ, ◌+◌, ◌≤◌, List, [], ◌∷◌, ◌++◌, length, map, refl, sym, ◌∙◌, ap, subst, max, arith}
+use Rattle.std.proofs.Common.{◌≡◌, ℕ, ◌+◌, List, [], ◌∷◌, ◌++◌, length, map, refl, sym, ◌∙◌, ap, subst, max, arith}
 use Rattle.std.specs.List.{All, AllByRecursion, AllZip, flat_map}
 use Rattle.std.proofs.lemmas.List.Elements.{All-from_recursion, All-head, All-map, All-tail, All-weaker}
 use Rattle.reg_model.specs.SpanData.{SpanData}
@@ -11,12 +11,15 @@ use Rattle.reg_model.specs.PlainRegistryData.{PlainRegistryData, LeadsTo}
 use Rattle.reg_model.specs.Chain.{Chain, PlainStep, all_made, made_count, HoldsAlways, IsBetween, Rises}
 use Rattle.reg_model.specs.declared.answer.Update.{Update}
 use Rattle.reg_model.specs.declared.answer.Receipt.{Receipt}
-use Rattle.event_script.specs.ScriptData.{ScriptData}
+use Rattle.event_script.specs.ScriptData.{ScriptData, SnapshotData}
 use Rattle.event_script.specs.JournalData.{JournalData}
-use Rattle.event_script.specs.Lawful.{IsLawfulJournal, AnswersEvent, receipts_of, thread_receipts, in_one, start_of, RoundsHold, AreInRounds}
+use Rattle.frame_parse.specs.Sections.{SectionData}
+use Rattle.event_script.specs.declared.script.Event.{Event}
+use Rattle.event_script.specs.Lawful.{IsLawfulJournal, AnswersEvent, IsUnfolded, receipts_of, thread_receipts, in_one, start_of, RoundsHold, AreInRounds}
 use Rattle.event_script.specs.declared.journal.Answer.{Answer}
 use Rattle.run_engine.specs.Outcome.{IsUnfilled}
-use Rattle.run_engine.proofs.Lists.{AllByRecursion-append, AllByRecursion-parts, AllZip-map, AllZip-weaker, flat_map-map, flat_map-same}
+use Rattle.run_engine.specs.Played.{Answers}
+use Rattle.run_engine.proofs.Lists.{AllByRecursion-append, AllByRecursion-parts, AllZip-map, AllZip-weaker, AllZip-second, flat_map-map, flat_map-same}
 use Rattle.run_engine.proofs.Chains.{Chain-parts}
 
 -- the receipts of a round, thread by thread
@@ -45,8 +48,8 @@ rounds_at start history nodes callers (round ∷ rounds) holds =
 
 -- Where every event is answered, there is one history with each number on one receipt, each thread's record holds in it, and
 -- the rounds keep their bounds, the journal is lawful. Nothing is asked of the order in which the calls were made.
-pub records_lawful : ((history : List Update) (receipts : List Receipt) → AllByRecursion (IsAtNumber history) receipts → AreNumbered (length history) receipts → history_of receipts (length history) ≡ history) → (script : ScriptData) (journal : JournalData) (history : List Update) → AllZip (AllZip (AllZip AnswersEvent)) script.rounds journal.rounds → length history ≡ journal.updates → IsHistory (start_of script) history → AreNumbered journal.updates (in_one (thread_receipts script.images journal)) → RoundsHold (start_of script) history script.nodes 1 (thread_receipts script.images journal) → AreInRounds 0 (thread_receipts script.images journal) → IsLawfulJournal script journal
-records_lawful tell script journal history answered count is numbered holds rounds =
+pub records_lawful : ((history : List Update) (receipts : List Receipt) → AllByRecursion (IsAtNumber history) receipts → AreNumbered (length history) receipts → history_of receipts (length history) ≡ history) → (script : ScriptData) (journal : JournalData) (history : List Update) → AllZip (AllZip (AllZip AnswersEvent)) script.rounds journal.rounds → length history ≡ journal.updates → IsHistory (start_of script) history → AreNumbered journal.updates (in_one (thread_receipts script.images journal)) → RoundsHold (start_of script) history script.nodes 1 (thread_receipts script.images journal) → AreInRounds 0 (thread_receipts script.images journal) → All (All (All (IsUnfolded script.sections script.snapshots))) journal.rounds → IsLawfulJournal script journal
+records_lawful tell script journal history answered count is numbered holds rounds unfolded =
     let receipts = in_one (thread_receipts script.images journal) in
     let P : ℕ → Type 0 = λ n. AreNumbered n receipts in
     let told : history_of receipts journal.updates ≡ history =
@@ -57,6 +60,7 @@ records_lawful tell script journal history answered count is numbered holds roun
       history = rw told is;
       receipts = rw told holds;
       rounds = rounds;
+      unfolded = unfolded;
     }
 
 record_always : (start : State) (history : List Update) (nodes callers since : ℕ) (receipts : List Receipt) → AllByRecursion (HoldsAlways start history) receipts → AllHold start history nodes callers since receipts
@@ -82,6 +86,17 @@ answered_play : {T U : Type 0} {E : Type 0} (R : E → Answer → Type 0) (answe
 answered_play {T} {U} R answers_of threads_of events rounds answered =
     AllZip-map (AllZip (AllZip R)) (λ round. map answers_of (threads_of round)) events rounds
     (AllZip-weaker _ _ (λ threads round zipped. AllZip-map (AllZip R) answers_of threads (threads_of round) zipped) events rounds answered)
+
+-- right answers are their events', and their traces unfold
+module _ (sections : List SectionData) (snapshots : List SnapshotData) where
+  events_answered : (events : List (List (List Event))) (rounds : List (List (List Answer))) → AllZip (AllZip (AllZip (Answers sections snapshots))) events rounds → AllZip (AllZip (AllZip AnswersEvent)) events rounds
+  events_answered = AllZip-weaker _ _ (AllZip-weaker _ _ (AllZip-weaker _ _ (λ event answer both. both.0)))
+
+  traces_unfolded : (events : List (List (List Event))) (rounds : List (List (List Answer))) → AllZip (AllZip (AllZip (Answers sections snapshots))) events rounds → All (All (All (IsUnfolded sections snapshots))) rounds
+  traces_unfolded =
+      AllZip-second (AllZip (AllZip (Answers sections snapshots))) (All (All (IsUnfolded sections snapshots)))
+      (AllZip-second (AllZip (Answers sections snapshots)) (All (IsUnfolded sections snapshots))
+      (AllZip-second (Answers sections snapshots) (IsUnfolded sections snapshots) (λ event answer both. both.1)))
 
 -- a chain of calls, from what the laws say of it
 module _ (rise : (old new : PlainRegistryData) (receipts : List Receipt) → Chain PlainStep old receipts new → Rises old receipts new) where
@@ -118,8 +133,8 @@ module _ (rise : (old new : PlainRegistryData) (receipts : List Receipt) → Cha
       )
 
   -- calls one after another from the opening state, by the receipts of each thread of each round
-  pub chain_lawful : ((history : List Update) (receipts : List Receipt) → AllByRecursion (IsAtNumber history) receipts → AreNumbered (length history) receipts → history_of receipts (length history) ≡ history) → ((start : State) (history : List Update) (old new : PlainRegistryData) (receipts : List Receipt) → LeadsTo start history old → Chain PlainStep old receipts new → LeadsTo start (history ++ all_made receipts) new × AllByRecursion (HoldsAlways start (history ++ all_made receipts)) receipts) → (script : ScriptData) (journal : JournalData) (end : PlainRegistryData) → AllZip (AllZip (AllZip AnswersEvent)) script.rounds journal.rounds → journal.updates ≡ end.updates → Chain PlainStep (record { state = start_of script; updates = 0 }) (in_one (thread_receipts script.images journal)) end → IsLawfulJournal script journal
-  chain_lawful tell hold script journal end answered updates chain =
+  pub chain_lawful : ((history : List Update) (receipts : List Receipt) → AllByRecursion (IsAtNumber history) receipts → AreNumbered (length history) receipts → history_of receipts (length history) ≡ history) → ((start : State) (history : List Update) (old new : PlainRegistryData) (receipts : List Receipt) → LeadsTo start history old → Chain PlainStep old receipts new → LeadsTo start (history ++ all_made receipts) new × AllByRecursion (HoldsAlways start (history ++ all_made receipts)) receipts) → (script : ScriptData) (journal : JournalData) (end : PlainRegistryData) → AllZip (AllZip (AllZip AnswersEvent)) script.rounds journal.rounds → All (All (All (IsUnfolded script.sections script.snapshots))) journal.rounds → journal.updates ≡ end.updates → Chain PlainStep (record { state = start_of script; updates = 0 }) (in_one (thread_receipts script.images journal)) end → IsLawfulJournal script journal
+  chain_lawful tell hold script journal end answered unfolded updates chain =
       let start = start_of script in
       let first : PlainRegistryData = record { state = start; updates = 0 } in
       let receipts = in_one (thread_receipts script.images journal) in
@@ -133,13 +148,17 @@ module _ (rise : (old new : PlainRegistryData) (receipts : List Receipt) → Cha
       (subst P (sym updates) rises.numbers)
       (rounds_hold start (all_made receipts) script.nodes 1 (thread_receipts script.images journal) first end chain held.1)
       (rounds_between (thread_receipts script.images journal) 0 first end refl chain)
+      unfolded
 
   -- the same where rounds and threads are held in types of their own
-  pub lawful_play : ((history : List Update) (receipts : List Receipt) → AllByRecursion (IsAtNumber history) receipts → AreNumbered (length history) receipts → history_of receipts (length history) ≡ history) → ((start : State) (history : List Update) (old new : PlainRegistryData) (receipts : List Receipt) → LeadsTo start history old → Chain PlainStep old receipts new → LeadsTo start (history ++ all_made receipts) new × AllByRecursion (HoldsAlways start (history ++ all_made receipts)) receipts) → {T U : Type 0} (answers_of : T → List Answer) (threads_of : U → List T) (script : ScriptData) (rounds : List U) (updates : ℕ) (end : PlainRegistryData) → AllZip (λ threads round. AllZip (λ events thread. AllZip AnswersEvent events (answers_of thread)) threads (threads_of round)) script.rounds rounds → updates ≡ end.updates → Chain PlainStep (record { state = start_of script; updates = 0 }) (flat_map (λ round. flat_map (λ thread. flat_map (receipts_of script.images) (answers_of thread)) (threads_of round)) rounds) end → IsLawfulJournal script (record { rounds = map (λ round. map answers_of (threads_of round)) rounds; updates = updates })
+  pub lawful_play : ((history : List Update) (receipts : List Receipt) → AllByRecursion (IsAtNumber history) receipts → AreNumbered (length history) receipts → history_of receipts (length history) ≡ history) → ((start : State) (history : List Update) (old new : PlainRegistryData) (receipts : List Receipt) → LeadsTo start history old → Chain PlainStep old receipts new → LeadsTo start (history ++ all_made receipts) new × AllByRecursion (HoldsAlways start (history ++ all_made receipts)) receipts) → {T U : Type 0} (answers_of : T → List Answer) (threads_of : U → List T) (script : ScriptData) (rounds : List U) (updates : ℕ) (end : PlainRegistryData) → AllZip (λ threads round. AllZip (λ events thread. AllZip (Answers script.sections script.snapshots) events (answers_of thread)) threads (threads_of round)) script.rounds rounds → updates ≡ end.updates → Chain PlainStep (record { state = start_of script; updates = 0 }) (flat_map (λ round. flat_map (λ thread. flat_map (receipts_of script.images) (answers_of thread)) (threads_of round)) rounds) end → IsLawfulJournal script (record { rounds = map (λ round. map answers_of (threads_of round)) rounds; updates = updates })
   lawful_play tell hold {T} {U} answers_of threads_of script rounds updates end answered same chain =
       let P : List Receipt → Type 0 = λ receipts. Chain PlainStep (record { state = start_of script; updates = 0 }) receipts end in
-      chain_lawful tell hold script (record { rounds = map (λ round. map answers_of (threads_of round)) rounds; updates = updates }) end
-      (answered_play AnswersEvent answers_of threads_of script.rounds rounds answered)
+      let played : List (List (List Answer)) = map (λ round. map answers_of (threads_of round)) rounds in
+      let all = answered_play (Answers script.sections script.snapshots) answers_of threads_of script.rounds rounds answered in
+      chain_lawful tell hold script (record { rounds = played; updates = updates }) end
+      (events_answered script.sections script.snapshots script.rounds played all)
+      (traces_unfolded script.sections script.snapshots script.rounds played all)
       same (subst P (sym (all_receipts script.images answers_of threads_of rounds updates)) chain)
 
 pub unfilled_play : {T U : Type 0} (answers_of : T → List Answer) (threads_of : U → List T) (rounds : List U) → All (λ round. All (λ thread. All IsUnfilled (answers_of thread)) (threads_of round)) rounds → All (All (All IsUnfilled)) (map (λ round. map answers_of (threads_of round)) rounds)

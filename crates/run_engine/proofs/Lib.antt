@@ -1,9 +1,11 @@
 pub mod Bytes
 pub mod Pieces
 pub mod Numbered
+pub mod Lines
 pub mod Played
 pub mod Lists
 pub mod Chains
+pub mod Traces
 pub mod Lawfulness
 pub mod Unfilled
 pub mod Endings

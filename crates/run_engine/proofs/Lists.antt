@@ -1,6 +1,7 @@
 -- Lists beside lists.
 use Rattle.std.proofs.Common.{◌≡◌, ◌≤◌, ℕ, take, length-take, List, [], ◌∷◌, ◌++◌, length, map, refl, ap, arith}
-use Rattle.std.specs.List.{AllZip, AllByRecursion, flat_map}
+use Rattle.std.specs.List.{All, AllZip, AllByRecursion, flat_map}
+use Rattle.std.proofs.lemmas.List.Elements.{All-cons, All-from_recursion}
 
 pub AllZip-more : {A B : Type 0} (R : A → B → Type 0) (xs : List A) (ys : List B) (a : A) (b : B) → AllZip R xs ys → R a b → AllZip R (xs ++ a ∷ []) (ys ++ b ∷ [])
 AllZip-more R [] [] a b front last = (last, tt)
@@ -41,6 +42,13 @@ AllZip-length R [] [] all = refl
 AllZip-length R (x ∷ xs) (y ∷ ys) all = (let rest = AllZip-length R xs ys all.1 in omega arith)
 AllZip-length R [] (y ∷ ys) all = absurd all
 AllZip-length R (x ∷ xs) [] all = absurd all
+
+-- what holds of the second of two beside each other
+pub AllZip-second : {A B : Type 0} (R : A → B → Type 0) (P : B → Type 0) → ((a : A) (b : B) → R a b → P b) → (xs : List A) (ys : List B) → AllZip R xs ys → All P ys
+AllZip-second R P from [] [] all = All-from_recursion P [] tt
+AllZip-second R P from (x ∷ xs) (y ∷ ys) all = All-cons P y ys (from x y all.0) (AllZip-second R P from xs ys all.1)
+AllZip-second R P from [] (y ∷ ys) all = absurd all
+AllZip-second R P from (x ∷ xs) [] all = absurd all
 
 -- beside the first items, at most as many as all of them
 pub AllZip-front : {A B : Type 0} (R : A → B → Type 0) (i : ℕ) (xs : List A) (ys : List B) → AllZip R (take i xs) ys → length ys ≤ length xs

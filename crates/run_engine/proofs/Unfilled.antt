@@ -1,5 +1,5 @@
 -- Answers of a registry that has room: none says that a tree is full.
-use Rattle.std.proofs.Common.{ℕ, List, [], ◌∷◌, ◌++◌, map, arith}
+use Rattle.std.proofs.Common.{List, [], ◌∷◌, arith}
 use Rattle.std.specs.List.{All, AllByRecursion, flat_map}
 use Rattle.std.proofs.lemmas.List.Elements.{All-cons}
 use Rattle.reg_model.specs.SpanData.{SpanData}
@@ -7,9 +7,9 @@ use Rattle.reg_model.specs.Chain.{Chain, HasRoom, PlainStep}
 use Rattle.reg_model.specs.PlainRegistryData.{PlainRegistryData}
 use Rattle.reg_model.specs.declared.answer.Inserted.TheVariants as inserted
 use Rattle.reg_model.specs.declared.answer.Receipt.{Receipt}
-use Rattle.event_script.specs.Lawful.{receipts_of, in_one}
+use Rattle.event_script.specs.Lawful.{receipts_of}
 use Rattle.event_script.specs.declared.journal.Answer.{Answer}
-use Rattle.event_script.specs.declared.journal.Answer.TheVariants.{Register, Deregister, Load, Unload, Find}
+use Rattle.event_script.specs.declared.journal.Answer.TheVariants.{Register, Deregister, Load, Unload, Find, Unwind}
 use Rattle.run_engine.specs.Outcome.{IsUnfilled}
 use Rattle.run_engine.proofs.Lists.{AllByRecursion-parts}
 
@@ -26,6 +26,7 @@ answer_unfilled images (Deregister base answer) room = tt
 answer_unfilled images (Load image answer) room = tt
 answer_unfilled images (Unload base answer) room = tt
 answer_unfilled images (Find pc place) room = tt
+answer_unfilled images (Unwind snapshot trace) room = tt
 
 -- each item, by what holds of the receipts of all
 each_of : {X : Type 0} (f : X → List Receipt) (P : X → Type 0) → ((x : X) → AllByRecursion HasRoom (f x) → P x) → (xs : List X) → AllByRecursion HasRoom (flat_map f xs) → All P xs

@@ -1,7 +1,12 @@
 -- What playing a script gives: few answers, each of which can be written.
-use Rattle.std.specs.Prelude.{ℕ, ◌-◌, ◌^◌, ◌≤◌, List, length, All}
+use Rattle.std.specs.Prelude.{◌≡◌, ℕ, ◌-◌, ◌^◌, ◌≤◌, List, length, All}
 use Rattle.reg_model.specs.PlainRegistryData.{PlainRegistryData}
+use Rattle.reg_model.specs.SpanData.{SpanData}
+use Rattle.frame_parse.specs.Sections.{SectionData}
+use Rattle.event_script.specs.ScriptData.{SnapshotData}
+use Rattle.event_script.specs.Lawful.{AnswersEvent, IsUnfolded}
 use Rattle.event_script.specs.Text.{IsPrintable}
+use Rattle.event_script.specs.declared.script.Event.{Event}
 use Rattle.event_script.specs.declared.journal.Answer.{Answer}
 
 -- the answers of a thread, of a round's threads, and of all rounds
@@ -13,6 +18,15 @@ IsPlayedRound threads = (length threads ≤ 16) × All IsPlayedThread threads
 
 abbrev pub IsPlayed : List (List (List Answer)) → Type 0
 IsPlayed rounds = (length rounds ≤ 64) × All IsPlayedRound rounds
+
+-- the answer is the event's, and a trace unfolds
+abbrev pub Answers : List SectionData → List SnapshotData → Event → Answer → Type 0
+Answers sections snapshots event answer =
+    AnswersEvent event answer × IsUnfolded sections snapshots answer
+
+-- few images, each with a section
+abbrev pub AreImages : List SpanData → List SectionData → Type 0
+AreImages images sections = (length images ≤ 4096) × (length sections ≡ length images)
 
 -- how many more updates may be asked of a registry over plain lists
 abbrev pub updates_left : PlainRegistryData → ℕ

@@ -1,14 +1,15 @@
 //! Writes a journal, a piece for each line.
 
-ghost use Rattle.std.specs.Prelude.{◌≡◌, ◌≢◌, ℕ, ◌≤◌, length, map, All, OnOk, OnErr, Err};
+ghost use Rattle.std.specs.Prelude.{◌≡◌, ◌≢◌, ℕ, ◌<◌, ◌≤◌, [], length, map, slice_index_or};
+ghost use Rattle.std.specs.Prelude.{All, OnOk, OnErr, Err};
 ghost use Rattle.event_script.specs.Text.{IsPrintable, numbered, answer_text, thread_text};
-ghost use Rattle.event_script.specs.Text.{round_text, journal_text};
+ghost use Rattle.event_script.specs.Text.{round_text, journal_text, answer_lines, event_line};
 ghost use Rattle.run_engine.specs.Ports.{Rose, Gains, GainsPart};
 ghost use Rattle.run_engine.specs.Played.{IsPlayedThread, IsPlayed};
 
 use crate::player::ThreadNumber;
 use crate::ports::{Sink, SinkFault};
-use event_script::{Answer, Journal, print_answer, print_updates};
+use event_script::{Answer, EventNumber, Journal, line_count, print_line, print_updates};
 use std::alloc::Global;
 
 /// Writes a piece: what the sink leaves of it is offered again.
@@ -28,7 +29,34 @@ pub fn write_piece<K: Sink>(sink: &mut K, piece: &[u8]) -> Result<(), SinkFault>
     Ok(())
 }
 
-/// Writes the lines of an event, which has this number in its thread.
+/// Writes a line of an event.
+fn write_line<K: Sink>(
+    alloc: Global,
+    sink: &mut K,
+    number: EventNumber,
+    answer: &Answer,
+    line: usize,
+) -> Result<(), SinkFault>
+    requires printable { IsPrintable answer.now }
+    requires line { line < length (answer_lines answer.now) }
+    ensures ok { OnOk result
+        (Gains (K.written sink.old) (K.written sink.new)
+        (event_line number.round number.thread number.event
+        (slice_index_or (answer_lines answer.now) line []))) }
+    ensures err { OnErr result
+        (GainsPart (K.written sink.old) (K.written sink.new)
+        (event_line number.round number.thread number.event
+        (slice_index_or (answer_lines answer.now) line []))) }
+    ensures failed { result ≡ Err SinkFault.Failed → Rose (K.faults sink.old) (K.faults sink.new) }
+    ensures sound { result ≢ Err SinkFault.Failed → K.faults sink.new ≡ K.faults sink.old }
+{
+    match print_line(alloc, number, answer, line) {
+        Ok(text) => write_piece(sink, &text),
+        Err(_) => Err(SinkFault::NoMemory),
+    }
+}
+
+/// Writes the lines of an event, which has this number in its thread, a piece for each.
 fn write_answer<K: Sink>(
     alloc: Global,
     sink: &mut K,
@@ -46,10 +74,18 @@ fn write_answer<K: Sink>(
     ensures failed { result ≡ Err SinkFault.Failed → Rose (K.faults sink.old) (K.faults sink.new) }
     ensures sound { result ≢ Err SinkFault.Failed → K.faults sink.new ≡ K.faults sink.old }
 {
-    match print_answer(alloc, number.round, number.thread, event, answer) {
-        Ok(text) => write_piece(sink, &text),
-        Err(_) => Err(SinkFault::NoMemory),
+    let place = EventNumber {
+        round: number.round as usize,
+        thread: number.thread as usize,
+        event: event as usize,
+    };
+    for line in 0..line_count(answer) {
+        match write_line(alloc, sink, place, answer, line) {
+            Ok(()) => {}
+            Err(fault) => return Err(fault),
+        }
     }
+    Ok(())
 }
 
 /// Writes the answers of a thread.

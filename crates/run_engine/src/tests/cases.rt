@@ -1,4 +1,4 @@
-//! Two worked cases, with an event of each kind. The others are run through the program, by
+//! Three worked cases, with an event of each kind. The others are run through the program, by
 //! `.ci/cases`.
 
 use super::{run_on, text_of};
@@ -97,5 +97,41 @@ fn loaded_and_fixed(rt: HostRuntime) -> Result<(), Fail> {
         rt.alloc(),
         &[LOADED_AND_FIXED],
         &[LOADED_AND_FIXED_JOURNAL],
+    )
+}
+
+const CALL_IS_LAST_INSTRUCTION: &str = "\
+frames 1
+nodes 16
+loads 8
+image 0 1000 30 2000 1400000000000000017a5200017810011b0c0708900100001c0000001c000000e0eff\
+fff2000000000410e108602430d0600000000000000140000003c000000e0efffff10000000000000000000000\
+000000000
+snapshot 0 0 0 0 0 0 0 7010 7000 0 0 0 0 0 0 0 0 1025
+memory 7000 2010000000000000000000000000000000000000000000000000000000000000
+round
+thread
+register 0
+unwind 0
+end
+";
+
+const CALL_IS_LAST_INSTRUCTION_JOURNAL: &str = "\
+1.1.1 register 0 done 1
+1.1.2 unwind 0
+1.1.2 frame 0 pc 1025 sp 7000 look 1025 registered 0 at 1
+1.1.2 frame 1 pc 1020 sp 7008 look 101f registered 0 at 1
+1.1.2 frame 2 pc 0 sp 7020 look ffffffffffffffff registered none at 1 loaded none at 1
+1.1.2 end noobject
+updates 1
+";
+
+#[test]
+fn call_is_last_instruction(rt: HostRuntime) -> Result<(), Fail> {
+    plays(
+        &rt,
+        rt.alloc(),
+        &[CALL_IS_LAST_INSTRUCTION],
+        &[CALL_IS_LAST_INSTRUCTION_JOURNAL],
     )
 }

@@ -1,0 +1,15 @@
+use Rattle.std.proofs.Common.{◌∙◌, arith}
+use Rattle.event_script.specs.Text.{answer_lines, event_line}
+use Rattle.run_engine.proofs.Lines.{line_gains, line_gains_part}
+use Rattle.run_engine.proofs.writing.write_answer.Goals as goal
+
+pub loop-line-preserved : goal.loop-line-preserved
+loop-line-preserved g c =
+    record {
+      gained = line_gains (event_line c.args.number.round c.args.number.thread c.args.event) (answer_lines c.args.answer.now) c.loop-line.line (omega (arith, c.line_count-line-end.ensures, c.loop-line-test.true)) _ _ _ c.loop-line.invariant.gained c.in-Ok.ensures.ok;
+      sound = c.in-Ok.ensures.sound (λ is. cc) ∙ c.loop-line.invariant.sound;
+    }
+
+pub returns-in-Err-clause-err : goal.returns-in-Err-clause-err
+returns-in-Err-clause-err g c =
+    line_gains_part (event_line c.args.number.round c.args.number.thread c.args.event) (answer_lines c.args.answer.now) c.loop-line.line (omega (arith, c.line_count-line-end.ensures, c.loop-line-test.true)) _ _ _ c.loop-line.invariant.gained c.in-Err.ensures.err
