@@ -18,7 +18,7 @@ use Rattle.frame_parse.specs.Sections.{SectionData, HasFdes, IsSection, IsRefuse
 use Rattle.frame_parse.specs.Reading.{section_of}
 use Rattle.frame_parse.proofs.OneAnswer.{one_answer, answered}
 use Rattle.event_script.specs.Lower.{is_lower}
-use Rattle.event_script.specs.Fields.{bytes_if, bytes_in, section_bytes}
+use Rattle.event_script.specs.Fields.{bytes_if, hex_bytes_in, section_bytes}
 use Rattle.event_script.specs.Statements.{section_digits}
 use Rattle.event_script.specs.Reading.{IsOfBytes}
 use Rattle.event_script.specs.declared.reader.fault.Reason.TheVariants as reason
@@ -113,22 +113,22 @@ none_unless (Some x) never = absurd (never x refl)
 
 pub dash_in : (field : List ℕ) → bytes_eq field (codes "-") ≡ true → section_bytes field ≡ Some []
 unfolding section_bytes
-dash_in field dash = cond-true (bytes_eq field (codes "-")) (Some []) (bytes_in field) dash
+dash_in field dash = cond-true (bytes_eq field (codes "-")) (Some []) (hex_bytes_in field) dash
 
-pub no_dash_in : (field : List ℕ) → bytes_eq field (codes "-") ≡ false → section_bytes field ≡ bytes_in field
+pub no_dash_in : (field : List ℕ) → bytes_eq field (codes "-") ≡ false → section_bytes field ≡ hex_bytes_in field
 unfolding section_bytes
-no_dash_in field other = cond-false (bytes_eq field (codes "-")) (Some []) (bytes_in field) other
+no_dash_in field other = cond-false (bytes_eq field (codes "-")) (Some []) (hex_bytes_in field) other
 
 module _ (field : List ℕ) where
-  decoded : bytes_in field ≡ bytes_if field (decode_of field)
-  unfolding bytes_in
+  decoded : hex_bytes_in field ≡ bytes_if field (decode_of field)
+  unfolding hex_bytes_in
   decoded = refl
 
   -- text that doesn't decode
-  pub undecoded_in : (e : FromHexError) → decode_of field ≡ Err e → bytes_in field ≡ None
+  pub undecoded_in : (e : FromHexError) → decode_of field ≡ Err e → hex_bytes_in field ≡ None
   undecoded_in e is = decoded ∙ ap (bytes_if field) is
 
-  pub empty_in : length field ≡ 0 → bytes_in field ≡ None
+  pub empty_in : length field ≡ 0 → hex_bytes_in field ≡ None
   unfolding decode_pairs
   empty_in none = decoded ∙ by field none
     where
@@ -137,8 +137,8 @@ module _ (field : List ℕ) where
       by (b ∷ field) none = absurd (omega arith)
 
   -- text with another byte than digits in lower case
-  pub not_lower_in : list_all is_lower field ≡ false → bytes_in field ≡ None
-  not_lower_in other = none_unless (bytes_in field) (λ bytes e. by (decode_of field) refl bytes (sym decoded ∙ e))
+  pub not_lower_in : list_all is_lower field ≡ false → hex_bytes_in field ≡ None
+  not_lower_in other = none_unless (hex_bytes_in field) (λ bytes e. by (decode_of field) refl bytes (sym decoded ∙ e))
     where
       same : (b : ℕ) (rest bytes : List ℕ) → decode_of field ≡ Ok (b ∷ rest) → (t : Bool) → bytes_eq field (encode_lower (b ∷ rest)) ≡ t → cond t (Some (b ∷ rest)) None ≡ Some bytes → ⊥
       same b rest bytes is true eq e =
@@ -152,7 +152,7 @@ module _ (field : List ℕ) where
       by (Ok []) is bytes e = cc
       by (Ok (b ∷ rest)) is bytes e = same b rest bytes is (bytes_eq field (encode_lower (b ∷ rest))) refl e
 
-  pub decoded_in : (bytes : List ℕ) → length field ≢ 0 → list_all is_lower field ≡ true → decode_of field ≡ Ok bytes → bytes_in field ≡ Some bytes
+  pub decoded_in : (bytes : List ℕ) → length field ≢ 0 → list_all is_lower field ≡ true → decode_of field ≡ Ok bytes → hex_bytes_in field ≡ Some bytes
   decoded_in bytes some lower is = decoded ∙ ap (bytes_if field) is ∙ by bytes (decode_of-ok field bytes is).2 (lower_again field bytes lower is)
     where
       by : (bytes : List ℕ) → length field ≡ 2 * length bytes → encode_lower bytes ≡ field → bytes_if field (Ok bytes) ≡ Some bytes
@@ -164,8 +164,8 @@ encoded_text : (b : ℕ) (bytes : List ℕ) → IsBytes (b ∷ bytes) → bytes_
 unfolding encode_with
 encoded_text b bytes fits = and_right _ _ refl
 
-pub some_bytes_again : (bytes : List ℕ) → IsBytes bytes → 0 < length bytes → bytes_in (encode_lower bytes) ≡ Some bytes
-unfolding bytes_in
+pub some_bytes_again : (bytes : List ℕ) → IsBytes bytes → 0 < length bytes → hex_bytes_in (encode_lower bytes) ≡ Some bytes
+unfolding hex_bytes_in
 some_bytes_again [] fits some = absurd (omega arith)
 some_bytes_again (b ∷ bytes) fits some =
     let text = encode_lower (b ∷ bytes) in

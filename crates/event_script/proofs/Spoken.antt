@@ -12,7 +12,7 @@ use Rattle.std.specs.Option.{ok_or}
 use Rattle.std.specs.Fmt.{decimal}
 use Rattle.event_script.specs.Digits.{hex}
 use Rattle.event_script.specs.ScriptData.{ImageData}
-use Rattle.event_script.specs.Fields.{decimal_in, hex_in, bytes_in, section_bytes, all_hex_in}
+use Rattle.event_script.specs.Fields.{decimal_in, hex_in, hex_bytes_in, section_bytes, all_hex_in}
 use Rattle.event_script.specs.Statements.{word_of, Form, Decimal, Hexadecimal, Bytes, BytesOrDash, forms, IsField, AreFields, kind_of_statement, statement_fields, statement_line, HasForm}
 use Rattle.event_script.specs.Spelling.{Line}
 use Rattle.event_script.specs.Reasons.{LineText, Says}
@@ -199,8 +199,8 @@ hex_none field none (n, lt, is) = never (hex_in field) none (ap hex_in is ∙ he
     never : (o : Option ℕ) → o ≡ None → o ≡ Some n → ⊥
     never o p q = cc
 
-some_bytes_none : (field : List ℕ) → bytes_in field ≡ None → IsField Bytes field → ⊥
-some_bytes_none field none (bytes, are, some, is) = never (bytes_in field) none (ap bytes_in is ∙ some_bytes_again bytes are some)
+some_bytes_none : (field : List ℕ) → hex_bytes_in field ≡ None → IsField Bytes field → ⊥
+some_bytes_none field none (bytes, are, some, is) = never (hex_bytes_in field) none (ap hex_bytes_in is ∙ some_bytes_again bytes are some)
   where
     never : (o : Option (List ℕ)) → o ≡ None → o ≡ Some bytes → ⊥
     never o p q = cc
@@ -313,8 +313,8 @@ memory_forms = Hexadecimal ∷ Bytes ∷ []
 two_wrong : (a x : List ℕ) (why : Reason) → memory_fields (a ∷ x ∷ []) ≡ Err why → Wrong memory_forms (a ∷ x ∷ []) why
 two_wrong a x why e = elim (bind_err (ok_or (hex_in a) reason.Spelling) _ why e) [
   | inl p ↦ (let o = or_err (hex_in a) reason.Spelling why p in bad (λ are. hex_none a o.0 are.0) o.1)
-  | inr p ↦ elim (bind_err (ok_or (bytes_in x) reason.Spelling) _ why p.2) [
-    | inl q ↦ (let o = or_err (bytes_in x) reason.Spelling why q in bad (λ are. some_bytes_none x o.0 are.1.0) o.1)
+  | inr p ↦ elim (bind_err (ok_or (hex_bytes_in x) reason.Spelling) _ why p.2) [
+    | inl q ↦ (let o = or_err (hex_bytes_in x) reason.Spelling why q in bad (λ are. some_bytes_none x o.0 are.1.0) o.1)
     | inr q ↦ never _ q.2
   ]
 ]

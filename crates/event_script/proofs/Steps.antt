@@ -18,7 +18,7 @@ use Rattle.event_script.specs.Digits.{hex}
 use Rattle.event_script.specs.ScriptData.{ImageData}
 use Rattle.event_script.specs.Statements.{word_of, section_digits}
 use Rattle.event_script.specs.Spelling.{Line}
-use Rattle.event_script.specs.Fields.{decimal_in, hex_in, bytes_if, bytes_in, section_bytes, all_hex_in}
+use Rattle.event_script.specs.Fields.{decimal_in, hex_in, bytes_if, hex_bytes_in, section_bytes, all_hex_in}
 use Rattle.event_script.specs.Reading.{◌>=>◌, only, two, five, has_any, one_decimal, one_hex, image_fields, numbers_in, snapshot_fields, memory_fields, kind_of, kinds}
 use Rattle.event_script.specs.declared.reader.statement.SnapshotFields.{SnapshotFields}
 use Rattle.frame_expr.specs.Regions.{RegionData}
@@ -110,8 +110,8 @@ bytes_parts field (Ok (b ∷ others)) bytes is found = by (bytes_eq field (encod
 no_bytes : IsBytes []
 no_bytes i = omega arith
 
-pub some_bytes_are : (field bytes : List ℕ) → bytes_in field ≡ Some bytes → AreBytes field bytes
-unfolding bytes_in
+pub some_bytes_are : (field bytes : List ℕ) → hex_bytes_in field ≡ Some bytes → AreBytes field bytes
+unfolding hex_bytes_in
 some_bytes_are field bytes e = bytes_parts field (decode_of field) bytes refl e
 
 some_digits : (bytes : List ℕ) → 0 < length bytes → encode_lower bytes ≡ section_digits bytes
@@ -122,7 +122,7 @@ pub bytes_are : (field bytes : List ℕ) → section_bytes field ≡ Some bytes 
 unfolding section_bytes
 bytes_are field bytes e = by (bytes_eq field (codes "-")) refl e
   where
-    by : (t : Bool) → bytes_eq field (codes "-") ≡ t → cond t (Some []) (bytes_in field) ≡ Some bytes → IsBytes bytes × (field ≡ section_digits bytes)
+    by : (t : Bool) → bytes_eq field (codes "-") ≡ t → cond t (Some []) (hex_bytes_in field) ≡ Some bytes → IsBytes bytes × (field ≡ section_digits bytes)
     by true same e =
         let bytes_is : [] ≡ bytes = cc in
         subst (λ (x : List ℕ). IsBytes x × (field ≡ section_digits x)) bytes_is (no_bytes, (bytes_eq-Decides field (codes "-")).0 same)
@@ -232,9 +232,9 @@ pub memory_fields_are : (fields : Line) (region : RegionData) → memory_fields 
 memory_fields_are fields region e =
     let f = bind_ok (ok_or (two fields) reason.Fields) _ region e in
     let a = bind_ok (ok_or (hex_in f.0.0) reason.Spelling) _ region f.2 in
-    let b = bind_ok (ok_or (bytes_in f.0.1) reason.Spelling) _ region a.2 in
+    let b = bind_ok (ok_or (hex_bytes_in f.0.1) reason.Spelling) _ region a.2 in
     let address = hex_is f.0.0 a.0 (some_from (hex_in f.0.0) reason.Spelling a.0 a.1) in
-    let bytes = some_bytes_are f.0.1 b.0 (some_from (bytes_in f.0.1) reason.Spelling b.0 b.1) in
+    let bytes = some_bytes_are f.0.1 b.0 (some_from (hex_bytes_in f.0.1) reason.Spelling b.0 b.1) in
     same_region fields (record { address = a.0; bytes = b.0 }) region
     (record {
       is = two_is fields f.0 (some_from (two fields) reason.Fields f.0 f.1) ∙ ap₂ (λ (x y : List ℕ). x ∷ y ∷ []) address.1 bytes.2;

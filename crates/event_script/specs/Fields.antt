@@ -55,12 +55,12 @@ bytes_if field (Ok (b ∷ bytes)) =
     if bytes_eq field (encode_lower (b ∷ bytes)) then Some (b ∷ bytes) else None
 
 -- the bytes, one at least, whose lower-case digits the field is
-unfoldable pub bytes_in : List ℕ → Option (List ℕ)
-bytes_in field = bytes_if field (decode_of field)
+unfoldable pub hex_bytes_in : List ℕ → Option (List ℕ)
+hex_bytes_in field = bytes_if field (decode_of field)
 
 -- the bytes of a section: none of a dash, else those whose lower-case digits the field is
 unfoldable pub section_bytes : List ℕ → Option (List ℕ)
-section_bytes field = if bytes_eq field (codes "-") then Some [] else bytes_in field
+section_bytes field = if bytes_eq field (codes "-") then Some [] else hex_bytes_in field
 
 -- the hexadecimal numbers of all fields
 abbrev pub all_hex_in : List (List ℕ) → Option (List ℕ)

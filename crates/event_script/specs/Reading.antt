@@ -21,7 +21,7 @@ use Rattle.frame_expr.specs.Regions.{RegionData, regions_end}
 use Rattle.event_script.specs.ScriptData.{ImageData, SnapshotData, Counts, recorded_bytes}
 use Rattle.event_script.specs.ScriptData.{counts_of}
 use Rattle.event_script.specs.Fields.{pieces, is_printable, decimal_in, hex_in, section_bytes}
-use Rattle.event_script.specs.Fields.{bytes_in, all_hex_in}
+use Rattle.event_script.specs.Fields.{hex_bytes_in, all_hex_in}
 use Rattle.event_script.specs.Statements.{word_of}
 use Rattle.event_script.specs.Draft.{DraftData, nothing_known, may_come, is_ended, is_unbuilt}
 use Rattle.event_script.specs.Draft.{snapshots_so_far, threads_so_far, rounds_so_far}
@@ -120,7 +120,7 @@ abbrev pub memory_fields : List (List ℕ) → Result RegionData Reason
 memory_fields fields =
     ok_or (two fields) reason.Fields >=> λ region.
     ok_or (hex_in region.0) reason.Spelling >=> λ address.
-    ok_or (bytes_in region.1) reason.Spelling >=> λ bytes.
+    ok_or (hex_bytes_in region.1) reason.Spelling >=> λ bytes.
     Ok (record { address = address; bytes = bytes })
 
 -- where no field follows

@@ -1,6 +1,6 @@
 -- Scripts as plain data, and their limits.
-use Rattle.std.specs.Prelude.{◌≡◌, ℕ, ◌+◌, ◌^◌, ◌<◌, ◌≤◌, List, [], ◌∷◌, length, map, All, unwrap_or}
-use Rattle.std.specs.Prelude.{slice_get}
+use Rattle.std.specs.Prelude.{◌≡◌, ℕ, ◌+◌, ◌^◌, ◌<◌, ◌≤◌, List, [], ◌∷◌, length, map, All}
+use Rattle.std.specs.Prelude.{unwrap_or, slice_get}
 use Rattle.reg_model.specs.SpanData.{SpanData, IsSpan}
 use Rattle.hex.specs.Hex.{IsBytes}
 use Rattle.frame_expr.specs.Regions.{RegionData, AreRegions}

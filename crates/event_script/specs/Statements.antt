@@ -29,8 +29,8 @@ word_of kind.Find = codes "find"
 word_of kind.Unwind = codes "unwind"
 word_of kind.End = codes "end"
 
--- how a field is spelled: as a decimal number, as a hexadecimal one, as bytes, of which there is one
--- at least, or as bytes or a dash
+-- how a field is spelled: as a decimal number, as a hexadecimal one, as bytes, one at least, or as
+-- bytes or a dash
 pub data Form : Type 0 where
   Decimal : Form
   Hexadecimal : Form

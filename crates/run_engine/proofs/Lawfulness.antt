@@ -18,7 +18,7 @@ use Rattle.event_script.specs.declared.script.Event.{Event}
 use Rattle.event_script.specs.Lawful.{IsLawfulJournal, AnswersEvent, IsUnfolded, receipts_of, thread_receipts, in_one, start_of, RoundsHold, AreInRounds}
 use Rattle.event_script.specs.declared.journal.Answer.{Answer}
 use Rattle.run_engine.specs.Outcome.{IsUnfilled}
-use Rattle.run_engine.specs.Played.{Answers}
+use Rattle.run_engine.specs.Played.{IsRightAnswer}
 use Rattle.run_engine.proofs.Lists.{AllByRecursion-append, AllByRecursion-parts, AllZip-map, AllZip-weaker, AllZip-second, flat_map-map, flat_map-same}
 use Rattle.run_engine.proofs.Chains.{Chain-parts}
 
@@ -89,14 +89,14 @@ answered_play {T} {U} R answers_of threads_of events rounds answered =
 
 -- right answers are their events', and their traces unfold
 module _ (sections : List SectionData) (snapshots : List SnapshotData) where
-  events_answered : (events : List (List (List Event))) (rounds : List (List (List Answer))) → AllZip (AllZip (AllZip (Answers sections snapshots))) events rounds → AllZip (AllZip (AllZip AnswersEvent)) events rounds
+  events_answered : (events : List (List (List Event))) (rounds : List (List (List Answer))) → AllZip (AllZip (AllZip (IsRightAnswer sections snapshots))) events rounds → AllZip (AllZip (AllZip AnswersEvent)) events rounds
   events_answered = AllZip-weaker _ _ (AllZip-weaker _ _ (AllZip-weaker _ _ (λ event answer both. both.0)))
 
-  traces_unfolded : (events : List (List (List Event))) (rounds : List (List (List Answer))) → AllZip (AllZip (AllZip (Answers sections snapshots))) events rounds → All (All (All (IsUnfolded sections snapshots))) rounds
+  traces_unfolded : (events : List (List (List Event))) (rounds : List (List (List Answer))) → AllZip (AllZip (AllZip (IsRightAnswer sections snapshots))) events rounds → All (All (All (IsUnfolded sections snapshots))) rounds
   traces_unfolded =
-      AllZip-second (AllZip (AllZip (Answers sections snapshots))) (All (All (IsUnfolded sections snapshots)))
-      (AllZip-second (AllZip (Answers sections snapshots)) (All (IsUnfolded sections snapshots))
-      (AllZip-second (Answers sections snapshots) (IsUnfolded sections snapshots) (λ event answer both. both.1)))
+      AllZip-second (AllZip (AllZip (IsRightAnswer sections snapshots))) (All (All (IsUnfolded sections snapshots)))
+      (AllZip-second (AllZip (IsRightAnswer sections snapshots)) (All (IsUnfolded sections snapshots))
+      (AllZip-second (IsRightAnswer sections snapshots) (IsUnfolded sections snapshots) (λ event answer both. both.1)))
 
 -- a chain of calls, from what the laws say of it
 module _ (rise : (old new : PlainRegistryData) (receipts : List Receipt) → Chain PlainStep old receipts new → Rises old receipts new) where
@@ -151,11 +151,11 @@ module _ (rise : (old new : PlainRegistryData) (receipts : List Receipt) → Cha
       unfolded
 
   -- the same where rounds and threads are held in types of their own
-  pub lawful_play : ((history : List Update) (receipts : List Receipt) → AllByRecursion (IsAtNumber history) receipts → AreNumbered (length history) receipts → history_of receipts (length history) ≡ history) → ((start : State) (history : List Update) (old new : PlainRegistryData) (receipts : List Receipt) → LeadsTo start history old → Chain PlainStep old receipts new → LeadsTo start (history ++ all_made receipts) new × AllByRecursion (HoldsAlways start (history ++ all_made receipts)) receipts) → {T U : Type 0} (answers_of : T → List Answer) (threads_of : U → List T) (script : ScriptData) (rounds : List U) (updates : ℕ) (end : PlainRegistryData) → AllZip (λ threads round. AllZip (λ events thread. AllZip (Answers script.sections script.snapshots) events (answers_of thread)) threads (threads_of round)) script.rounds rounds → updates ≡ end.updates → Chain PlainStep (record { state = start_of script; updates = 0 }) (flat_map (λ round. flat_map (λ thread. flat_map (receipts_of script.images) (answers_of thread)) (threads_of round)) rounds) end → IsLawfulJournal script (record { rounds = map (λ round. map answers_of (threads_of round)) rounds; updates = updates })
+  pub lawful_play : ((history : List Update) (receipts : List Receipt) → AllByRecursion (IsAtNumber history) receipts → AreNumbered (length history) receipts → history_of receipts (length history) ≡ history) → ((start : State) (history : List Update) (old new : PlainRegistryData) (receipts : List Receipt) → LeadsTo start history old → Chain PlainStep old receipts new → LeadsTo start (history ++ all_made receipts) new × AllByRecursion (HoldsAlways start (history ++ all_made receipts)) receipts) → {T U : Type 0} (answers_of : T → List Answer) (threads_of : U → List T) (script : ScriptData) (rounds : List U) (updates : ℕ) (end : PlainRegistryData) → AllZip (λ threads round. AllZip (λ events thread. AllZip (IsRightAnswer script.sections script.snapshots) events (answers_of thread)) threads (threads_of round)) script.rounds rounds → updates ≡ end.updates → Chain PlainStep (record { state = start_of script; updates = 0 }) (flat_map (λ round. flat_map (λ thread. flat_map (receipts_of script.images) (answers_of thread)) (threads_of round)) rounds) end → IsLawfulJournal script (record { rounds = map (λ round. map answers_of (threads_of round)) rounds; updates = updates })
   lawful_play tell hold {T} {U} answers_of threads_of script rounds updates end answered same chain =
       let P : List Receipt → Type 0 = λ receipts. Chain PlainStep (record { state = start_of script; updates = 0 }) receipts end in
       let played : List (List (List Answer)) = map (λ round. map answers_of (threads_of round)) rounds in
-      let all = answered_play (Answers script.sections script.snapshots) answers_of threads_of script.rounds rounds answered in
+      let all = answered_play (IsRightAnswer script.sections script.snapshots) answers_of threads_of script.rounds rounds answered in
       chain_lawful tell hold script (record { rounds = played; updates = updates }) end
       (events_answered script.sections script.snapshots script.rounds played all)
       (traces_unfolded script.sections script.snapshots script.rounds played all)

@@ -20,8 +20,8 @@ abbrev pub IsPlayed : List (List (List Answer)) → Type 0
 IsPlayed rounds = (length rounds ≤ 64) × All IsPlayedRound rounds
 
 -- the answer is the event's, and a trace unfolds
-abbrev pub Answers : List SectionData → List SnapshotData → Event → Answer → Type 0
-Answers sections snapshots event answer =
+abbrev pub IsRightAnswer : List SectionData → List SnapshotData → Event → Answer → Type 0
+IsRightAnswer sections snapshots event answer =
     AnswersEvent event answer × IsUnfolded sections snapshots answer
 
 -- few images, each with a section

@@ -9,7 +9,7 @@ ghost use Rattle.event_script.specs.Lawful.{image_member, receipts_of, receipts_
 ghost use Rattle.event_script.specs.Lawful.{IsUnfolded};
 ghost use Rattle.event_script.specs.Text.{IsPrintable};
 ghost use Rattle.event_script.specs.declared.journal.Answer.TheVariants as answer;
-ghost use Rattle.run_engine.specs.Played.{Answers, AreImages, updates_left};
+ghost use Rattle.run_engine.specs.Played.{IsRightAnswer, AreImages, updates_left};
 
 use crate::player::{Player, Setting};
 use event_script::{Answer, Event};
@@ -55,7 +55,8 @@ fn play_event<R: Wait>(
     requires left { 0 < updates_left registry.old }
     requires is_below { HasPayloadsBelow (length setting.images.now) registry.old.state }
     ensures answered { IfOk result
-        (λ answer. Answers setting.entry.sections.now setting.entry.snapshots.now event answer) }
+        (λ answer. IsRightAnswer setting.entry.sections.now setting.entry.snapshots.now event
+        answer) }
     ensures calls { IfOk result
         (λ answer. Chain PlainStep registry.old (receipts_of setting.entry.images.now answer)
         registry.new) }

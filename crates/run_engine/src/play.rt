@@ -7,7 +7,7 @@ ghost use Rattle.event_script.specs.ScriptData.{IsRound};
 ghost use Rattle.event_script.specs.Lawful.{image_member, receipts_of};
 ghost use Rattle.event_script.specs.Lawful.{IsLawfulJournal};
 ghost use Rattle.run_engine.specs.Outcome.{IsUnfilled};
-ghost use Rattle.run_engine.specs.Played.{IsPlayedThread, IsPlayed, Answers, AreImages};
+ghost use Rattle.run_engine.specs.Played.{IsPlayedThread, IsPlayed, IsRightAnswer, AreImages};
 ghost use Rattle.run_engine.specs.Played.{updates_left};
 ghost use Rattle.unwind_step.specs.Finders.{HasPayloadsBelow};
 
@@ -39,7 +39,9 @@ fn play_round<R: Wait, G: Gate>(
     requires left { 4096 * length threads.now ≤ updates_left registry.old }
     requires is_below { HasPayloadsBelow (length setting.images.now) registry.old.state }
     ensures answered { IfOk result (λ answers. AllZip
-        (λ events thread. AllZip (Answers setting.entry.sections.now setting.entry.snapshots.now) events thread.items) threads.now answers.items) }
+        (λ events thread. AllZip
+        (IsRightAnswer setting.entry.sections.now setting.entry.snapshots.now) events thread.items)
+        threads.now answers.items) }
     ensures calls { IfOk result
         (λ answers. Chain PlainStep registry.old (flat_map
         (λ thread. flat_map (receipts_of setting.entry.images.now) thread.items) answers.items)
@@ -82,12 +84,15 @@ fn play_rounds<R: Wait, G: Gate>(
     requires is_below { HasPayloadsBelow (length setting.images.now) registry.old.state }
     ensures answered { IfOk result (λ answers. AllZip
         (λ threads round. AllZip
-        (λ events thread. AllZip (Answers setting.entry.sections.now setting.entry.snapshots.now) events thread.items) threads round.items)
+        (λ events thread. AllZip
+        (IsRightAnswer setting.entry.sections.now setting.entry.snapshots.now) events thread.items)
+        threads round.items)
         rounds.now answers.items) }
     ensures calls { IfOk result
         (λ answers. Chain PlainStep registry.old (flat_map
         (λ round. flat_map
-        (λ thread. flat_map (receipts_of setting.entry.images.now) thread.items) round.items) answers.items)
+        (λ thread. flat_map (receipts_of setting.entry.images.now) thread.items) round.items)
+        answers.items)
         registry.new) }
     ensures played { IfOk result
         (λ answers. (length answers.items ≤ 64)

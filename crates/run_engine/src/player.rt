@@ -7,7 +7,7 @@ ghost use Rattle.reg_model.specs.declared.answer.Receipt.{Receipt};
 ghost use Rattle.event_script.specs.ScriptData.{IsEvent, IsThread};
 ghost use Rattle.event_script.specs.Lawful.{receipts_of};
 ghost use Rattle.event_script.specs.Text.{IsPrintable};
-ghost use Rattle.run_engine.specs.Played.{IsPlayedThread, Answers, AreImages};
+ghost use Rattle.run_engine.specs.Played.{IsPlayedThread, IsRightAnswer, AreImages};
 
 use crate::gate::Gate;
 use event_script::{Answer, Event, Snapshot};
@@ -53,7 +53,8 @@ pub trait Player {
         requires left { 0 < left self.old }
         requires is_below { is_below (length setting.images.now) self.old }
         ensures answered { IfOk result
-            (λ answer. Answers setting.entry.sections.now setting.entry.snapshots.now event answer) }
+            (λ answer. IsRightAnswer setting.entry.sections.now setting.entry.snapshots.now event
+            answer) }
         ensures calls { IfOk result
             (λ answer. Chain step self.old (receipts_of setting.entry.images.now answer) self.new) }
         ensures printable { IfOk result IsPrintable }
@@ -87,8 +88,8 @@ pub fn play_thread<R: Wait, G: Gate, P: Player>(
     requires left { length events.now ≤ P.left player.old }
     requires is_below { P.is_below (length setting.images.now) player.old }
     ensures answered { IfOk result
-        (λ answers. AllZip (Answers setting.entry.sections.now setting.entry.snapshots.now) events.now
-        answers.items) }
+        (λ answers. AllZip (IsRightAnswer setting.entry.sections.now setting.entry.snapshots.now)
+        events.now answers.items) }
     ensures calls { IfOk result
         (λ answers. Chain P.step player.old
         (flat_map (receipts_of setting.entry.images.now) answers.items) player.new) }

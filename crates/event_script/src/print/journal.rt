@@ -6,7 +6,8 @@ ghost use Rattle.std.specs.String.{string_bytes};
 ghost use Rattle.event_script.specs.Digits.{hex};
 ghost use Rattle.event_script.specs.Text.{IsPrintable, overlap_text, inserted_text, loading_text};
 ghost use Rattle.event_script.specs.Text.{removed_text, found_text, place_text, frame_line};
-ghost use Rattle.event_script.specs.Text.{end_line, trace_lines, answer_line, answer_lines, event_line};
+ghost use Rattle.event_script.specs.Text.{end_line, trace_lines, answer_line, answer_lines};
+ghost use Rattle.event_script.specs.Text.{event_line};
 ghost use Rattle.event_script.specs.Text.{answer_text, numbered, thread_text, updates_text};
 ghost use Rattle.event_script.specs.Text.{journal_text};
 

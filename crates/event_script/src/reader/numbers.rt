@@ -2,7 +2,8 @@
 
 ghost use Rattle.std.specs.Prelude.{◌≡◌, ℕ, ◌+◌, ◌^◌, ◌<◌, ◌≤◌, false, MatchOption, IfOk};
 ghost use Rattle.std.specs.Fmt.{digit_glyph};
-ghost use Rattle.event_script.specs.Fields.{number_in, decimal_in, hex_in, bytes_in, section_bytes};
+ghost use Rattle.event_script.specs.Fields.{number_in, decimal_in, hex_in, hex_bytes_in};
+ghost use Rattle.event_script.specs.Fields.{section_bytes};
 ghost use Rattle.std.specs.List.{list_all};
 ghost use Rattle.std.specs.Option.{option_map};
 ghost use Rattle.event_script.specs.Lower.{is_lower};
@@ -72,11 +73,11 @@ fn are_lower(field: &[u8]) -> bool
     field.iter().all(|b| (b'0' <= *b && *b <= b'9') || (b'a' <= *b && *b <= b'f'))
 }
 
-#[tactic(auto, unfolding(crate::specs::Fields::bytes_in))]
+#[tactic(auto, unfolding(crate::specs::Fields::hex_bytes_in))]
 /// The bytes, one at least, whose digits in lower case the field is.
-pub fn bytes_in(alloc: Global, field: &[u8]) -> Result<Option<Vec<u8>>, NoMemory>
+pub fn hex_bytes_in(alloc: Global, field: &[u8]) -> Result<Option<Vec<u8>>, NoMemory>
     ensures { IfOk result
-        (λ found. option_map (λ bytes. bytes.items) found ≡ bytes_in field.now) }
+        (λ found. option_map (λ bytes. bytes.items) found ≡ hex_bytes_in field.now) }
 {
     if field.is_empty() {
         return Ok(None);
@@ -102,5 +103,5 @@ pub fn section_bytes(alloc: Global, field: &[u8]) -> Result<Option<Vec<u8>>, NoM
     if field == b"-".as_slice() {
         return Ok(Some(Vec::new(alloc)));
     }
-    bytes_in(alloc, field)
+    hex_bytes_in(alloc, field)
 }

@@ -10,7 +10,7 @@ ghost use Rattle.event_script.specs.Fields.{all_hex_in};
 use crate::reader::fault::{LineFault, Reason};
 use crate::reader::fields::{five_fields, has_any, has_count, next_field, only_field, two_fields};
 use crate::reader::kinds::Kind;
-use crate::reader::numbers::{bytes_in, decimal_in, hex_in, section_bytes};
+use crate::reader::numbers::{decimal_in, hex_bytes_in, hex_in, section_bytes};
 use crate::script::Event;
 use frame_expr::Regs;
 use std::alloc::Global;
@@ -210,6 +210,6 @@ fn memory_fields(alloc: Global, rest: &[u8]) -> Result<MemoryFields, LineFault>
 {
     let (address, bytes) = two_fields(rest).ok_or(Reason::Fields)?;
     let address = hex_in(address).ok_or(Reason::Spelling)?;
-    let bytes = bytes_in(alloc, bytes)?.ok_or(Reason::Spelling)?;
+    let bytes = hex_bytes_in(alloc, bytes)?.ok_or(Reason::Spelling)?;
     Ok(MemoryFields { address, bytes })
 }

@@ -5,7 +5,7 @@ use Rattle.std.proofs.lemmas.List.Elements.{All-push, All-get_or}
 use Rattle.event_script.specs.ScriptData.{IsThread}
 use Rattle.event_script.specs.Lawful.{receipts_of}
 use Rattle.event_script.specs.declared.script.Event.{Event}
-use Rattle.run_engine.specs.Played.{IsPlayedThread, Answers}
+use Rattle.run_engine.specs.Played.{IsPlayedThread, IsRightAnswer}
 use Rattle.run_engine.proofs.Lists.{AllZip-more, AllZip-front}
 use Rattle.reg_model.specs.Chain.{PlainStep}
 use Rattle.run_engine.proofs.Chains.{Chain-push}
@@ -25,7 +25,7 @@ loop-index-preserved g c =
     let few : length item ≤ 4096 = subst P (sym c.index-threads-index.is) (All-get_or (IsThread (record { images = length c.args.setting.images.now; snapshots = length c.args.setting.snapshots.now })) threads c.loop-index.index item c.loop-index-test.true c.requires.round.1).0 in
     let count : length c.deref.result.now ≡ length item = ap length events in
     rw c.in_ok-push.ensures.items (record {
-      answered = rw grown (AllZip-more (λ events thread. AllZip (Answers c.args.setting.sections.now c.args.setting.snapshots.now) events thread.items) passed answers item played before.answered (rw (← events) c.in_ok-played.ensures.answered));
+      answered = rw grown (AllZip-more (λ events thread. AllZip (IsRightAnswer c.args.setting.sections.now c.args.setting.snapshots.now) events thread.items) passed answers item played before.answered (rw (← events) c.in_ok-played.ensures.answered));
       calls = Chain-push PlainStep (λ thread. flat_map (receipts_of c.args.setting.images.now) thread.items) _ _ _ answers played before.calls c.in_ok-played.ensures.calls;
       played = All-push (λ thread. IsPlayedThread thread.items) answers played before.played c.in_ok-played.ensures.played;
       is_below = c.in_ok-played.ensures.is_below;
@@ -34,5 +34,5 @@ loop-index-preserved g c =
 
 pub returns-clause-played : goal.returns-clause-played
 returns-clause-played g c =
-    let count = AllZip-front (λ events thread. AllZip (Answers c.args.setting.sections.now c.args.setting.snapshots.now) events thread.items) c.loop-index.index c.args.threads.now c.loop-index.answers.items c.loop-index.invariant.answered in
+    let count = AllZip-front (λ events thread. AllZip (IsRightAnswer c.args.setting.sections.now c.args.setting.snapshots.now) events thread.items) c.loop-index.index c.args.threads.now c.loop-index.answers.items c.loop-index.invariant.answered in
     (let few = c.requires.round.0 in omega arith, c.loop-index.invariant.played)

@@ -2,7 +2,7 @@ use Rattle.std.proofs.Common.{arith}
 use Rattle.std.proofs.lemmas.List.{take_more}
 use Rattle.std.proofs.lemmas.List.Elements.{All-push}
 use Rattle.event_script.specs.Lawful.{receipts_of}
-use Rattle.run_engine.specs.Played.{Answers}
+use Rattle.run_engine.specs.Played.{IsRightAnswer}
 use Rattle.event_script.specs.Text.{IsPrintable}
 use Rattle.event_script.specs.declared.script.Event.TheVariants.{Register}
 use Rattle.run_engine.proofs.Lists.{AllZip-more, AllZip-front}
@@ -15,7 +15,7 @@ loop-index-preserved g c =
     let answer = c.in_ok-answer.answer in
     let before = c.loop-index.invariant in
     rw c.in_ok-push.ensures.items (record {
-      answered = rw (take_more c.args.events.now c.loop-index.index (Register 0) c.loop-index-test.true) (AllZip-more (Answers c.args.setting.sections.now c.args.setting.snapshots.now) _ answers _ answer before.answered c.in_ok-answer.ensures.answered);
+      answered = rw (take_more c.args.events.now c.loop-index.index (Register 0) c.loop-index-test.true) (AllZip-more (IsRightAnswer c.args.setting.sections.now c.args.setting.snapshots.now) _ answers _ answer before.answered c.in_ok-answer.ensures.answered);
       calls = Chain-push g.P.Player.step (receipts_of c.args.setting.images.now) _ _ _ answers answer before.calls c.in_ok-answer.ensures.calls;
       printable = All-push IsPrintable answers answer before.printable c.in_ok-answer.ensures.printable;
       is_below = c.in_ok-answer.ensures.is_below;
@@ -24,5 +24,5 @@ loop-index-preserved g c =
 
 pub returns-clause-played : goal.returns-clause-played
 returns-clause-played g c =
-    let count = AllZip-front (Answers c.args.setting.sections.now c.args.setting.snapshots.now) c.loop-index.index c.args.events.now c.loop-index.answers.items c.loop-index.invariant.answered in
+    let count = AllZip-front (IsRightAnswer c.args.setting.sections.now c.args.setting.snapshots.now) c.loop-index.index c.args.events.now c.loop-index.answers.items c.loop-index.invariant.answered in
     (let few = c.requires.thread.0 in omega arith, c.loop-index.invariant.printable)

@@ -12,4 +12,4 @@ returns-then-eq c =
 pub returns : goal.returns
 returns c =
     let other : bytes_eq c.args.field.now (codes "-") ≡ false = ap (bytes_eq c.args.field.now) (sym c.as_slice.ensures) ∙ sym c.if-eq.ensures in
-    rw (no_dash_in c.args.field.now other) c.bytes_in.ensures
+    rw (no_dash_in c.args.field.now other) c.hex_bytes_in.ensures

@@ -1,7 +1,7 @@
 use Rattle.std.proofs.Common.{sym, eqb-true, inl, inr}
 use Rattle.std.proofs.lemmas.Bool.{eqb-false}
 use Rattle.event_script.proofs.Sections.{undecoded_in, empty_in, not_lower_in, decoded_in}
-use Rattle.event_script.proofs.reader.numbers.bytes_in.Goals as goal
+use Rattle.event_script.proofs.reader.numbers.hex_bytes_in.Goals as goal
 
 pub returns-then-is_empty : goal.returns-then-is_empty
 returns-then-is_empty c = sym (empty_in c.args.field.now (eqb-true _ _ (sym c.if-is_empty.ensures)))
