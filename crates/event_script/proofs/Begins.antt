@@ -20,8 +20,11 @@ use Rattle.event_script.specs.declared.reader.statement.Statement.TheVariants as
 use Rattle.event_script.proofs.Pieces.{some_pieces}
 use Rattle.event_script.proofs.Joined.{Without, pieces_first}
 use Rattle.event_script.proofs.SoFar.{AreRounds, Sound, statements_so_far, script_so_far, no_snapshots, no_fixed}
-use Rattle.event_script.proofs.Sound.{rounds_of_one, rounds_of_none, no_rounds_at, open_snapshots, line_read, line_sound, text_so_far, text_step, at_first}
-use Rattle.event_script.proofs.Judged.{Judged, judged_line}
+use Rattle.event_script.proofs.LineLists.{rounds_of_one, rounds_of_none, no_rounds_at}
+use Rattle.event_script.proofs.Sound.{open_snapshots}
+use Rattle.event_script.proofs.LinesRead.{line_read, line_sound, text_so_far, text_step, at_first}
+use Rattle.event_script.proofs.Passed.{Judged}
+use Rattle.event_script.proofs.Judged.{judged_line}
 use Rattle.event_script.proofs.Complete.{whole, outcome_complete}
 use Rattle.event_script.proofs.FirstBad.{reads_good, reads_lines}
 

@@ -2,145 +2,34 @@
 use Rattle.std.proofs.Common.{ap₂, ◌≡◌, ℕ, ◌+◌, ◌-◌, ◌^◌, ◌<◌, ◌≤◌, true, false, cond, ◌&&◌, eqb, ltb, leb, List, [], ◌∷◌, ◌++◌, length, map, Option, Result, Ok, Err, refl, sym, ap, subst, ◌∙◌, append_assoc, append-nil, eq-eqb, lt-ltb, le-leb, arith, length-append}
 use Rattle.std.specs.List.{All, AllByRecursion}
 use Rattle.std.specs.Option.{ok_or}
-use Rattle.std.proofs.lemmas.Bool.{and_from, cond-true, cond-false}
+use Rattle.std.proofs.lemmas.Bool.{and_from, cond-true}
 use Rattle.std.proofs.lemmas.List.Elements.{All-head, All-tail, recursion_from_All}
 use Rattle.reg_model.specs.SpanData.{SpanData, IsSpan}
 use Rattle.frame_parse.specs.Sections.{SectionData}
 use Rattle.frame_parse.specs.declared.fault.FrameFault.{FrameFault}
 use Rattle.frame_parse.specs.Reading.{section_of}
 use Rattle.hex.specs.Hex.{IsBytes}
-use Rattle.frame_expr.specs.Regions.{RegionData, end, AreFrom, AreRegions, Accepts}
+use Rattle.frame_expr.specs.Regions.{RegionData, AreRegions, Accepts}
 use Rattle.frame_expr.specs.declared.regs.Regs.{Regs}
-use Rattle.event_script.specs.Digits.{hex}
 use Rattle.event_script.specs.declared.reader.statement.SnapshotFields.{SnapshotFields}
 use Rattle.event_script.specs.ScriptData.{ScriptData, ImageData, SnapshotData, Counts, counts_of, IsSnapshot, recorded_bytes, IsSectionOf, span_of, AreFixed, IsEvent, IsThread, IsRound}
-use Rattle.event_script.specs.Fields.{pieces, is_printable}
-use Rattle.event_script.specs.Statements.{word_of, kind_of_statement, statement_fields, statement_line, HasForm}
-use Rattle.event_script.specs.Spelling.{statement_text, statements_text, image_data, image_statements, snapshot_lines, snapshot_statements, round_statements, first_statements, body_statements, script_text, IsScript}
-use Rattle.event_script.specs.Draft.{DraftData, no_snapshot, nothing_known, may_come, is_ended, has_round, is_unbuilt, snapshots_at, rounds_at, span_from, with_image, contents_or_none, with_statement}
-use Rattle.event_script.specs.Reading.{◌>=>◌, statement_of, section_or, image_added, last_fixed, is_above, accepts, is_named, added, by_word, after_line, at_end, BadLine, at_line, after_lines, outcome}
+use Rattle.event_script.specs.Statements.{kind_of_statement, HasForm}
+use Rattle.event_script.specs.Spelling.{statements_text, image_data, image_statements, snapshot_lines, snapshot_statements, round_statements, first_statements, body_statements, script_text, IsScript}
+use Rattle.event_script.specs.Draft.{DraftData, no_snapshot, nothing_known, may_come, has_round, is_unbuilt, snapshots_at, rounds_at, span_from, with_image, contents_or_none, with_statement}
+use Rattle.event_script.specs.Reading.{◌>=>◌, section_or, image_added, last_fixed, is_above, accepts, is_named, added, at_end, BadLine, after_lines, outcome}
 use Rattle.event_script.specs.declared.script.Event.{Event}
 use Rattle.event_script.specs.declared.script.Event.TheVariants as event
 use Rattle.event_script.specs.declared.reader.fault.Reason.{Reason}
 use Rattle.event_script.specs.declared.reader.fault.Reason.TheVariants as reason
 use Rattle.event_script.specs.declared.reader.kinds.Stage.{Stage}
 use Rattle.event_script.specs.declared.reader.kinds.Stage.TheVariants as stage
-use Rattle.event_script.specs.declared.reader.kinds.Kind.{Kind}
 use Rattle.event_script.specs.declared.reader.kinds.Kind.TheVariants as kind
 use Rattle.event_script.specs.declared.reader.statement.Statement.{Statement}
 use Rattle.event_script.specs.declared.reader.statement.Statement.TheVariants as statement
-use Rattle.event_script.proofs.Joined.{join, IsVisible, fields_again, printable_again, lines_again}
-use Rattle.event_script.proofs.Lines.{line_first}
-use Rattle.event_script.proofs.Words.{word_visible, word_again}
-use Rattle.event_script.proofs.Spoken.{said_again}
-use Rattle.event_script.proofs.Numbers.{decimal_visible, hex_visible}
-use Rattle.event_script.proofs.Sections.{section_visible, digits_visible, section_ok}
+use Rattle.event_script.proofs.Sections.{section_ok}
 use Rattle.event_script.proofs.Fixed.{found_span, rise_at}
-use Rattle.event_script.proofs.Judged.{accepted_is}
-
--- ---- one line
-
--- the line may come, and no reason speaks against it
-record CanAdd (known : DraftData) (s : Statement) : Type 0 where
-  may : may_come known.stage (kind_of_statement s) ≡ true
-  built : is_unbuilt known (kind_of_statement s) ≡ false
-  form : HasForm s
-  is : added known s ≡ Ok (with_statement known s)
-
--- the lines can be added one after another
-abbrev Adds : DraftData → List Statement → DraftData → Type 0
-Adds known [] last = known ≡ last
-Adds known (s ∷ statements) last = CanAdd known s × Adds (with_statement known s) statements last
-
-open_still : (at : Stage) (k : Kind) → may_come at k ≡ true → is_ended at ≡ false
-open_still stage.Ended kind.Version e = absurd cc
-open_still stage.Ended _ e = absurd cc
-open_still _ _ e = refl
-
-hexes_visible : (numbers : List ℕ) → AllByRecursion (λ n. n < 2 ^ 64) numbers → AllByRecursion IsVisible (map hex numbers)
-hexes_visible [] small = tt
-hexes_visible (n ∷ numbers) small = (hex_visible n small.0, hexes_visible numbers small.1)
-
-visible : (s : Statement) → HasForm s → AllByRecursion IsVisible (statement_line s)
-visible (statement.Version version) form = (word_visible kind.Version, (decimal_visible version form, tt))
-visible (statement.Nodes nodes) form = (word_visible kind.Nodes, (decimal_visible nodes form, tt))
-visible (statement.Loads loads) form = (word_visible kind.Loads, (decimal_visible loads form, tt))
-visible (statement.Image image) form =
-    (word_visible kind.Image, (decimal_visible image.number form.0, (hex_visible image.base form.1, (hex_visible image.size form.2, (hex_visible image.section form.3, (section_visible image.bytes form.4, tt))))))
-visible (statement.Fixed image) form = (word_visible kind.Fixed, (decimal_visible image form, tt))
-visible (statement.Snapshot snapshot) form = (word_visible kind.Snapshot, (decimal_visible snapshot.number form.0, hexes_visible snapshot.regs.columns (recursion_from_All (λ n. n < 2 ^ 64) snapshot.regs.columns form.2)))
-visible (statement.Memory region) form = (word_visible kind.Memory, (hex_visible region.address form.0, (digits_visible region.bytes form.1, tt)))
-visible statement.Round form = (word_visible kind.Round, tt)
-visible statement.Thread form = (word_visible kind.Thread, tt)
-visible (statement.Event (event.Register image)) form = (word_visible kind.Register, (decimal_visible image form, tt))
-visible (statement.Event (event.Deregister base)) form = (word_visible kind.Deregister, (hex_visible base form, tt))
-visible (statement.Event (event.Load image)) form = (word_visible kind.Load, (decimal_visible image form, tt))
-visible (statement.Event (event.Unload base)) form = (word_visible kind.Unload, (hex_visible base form, tt))
-visible (statement.Event (event.Find pc)) form = (word_visible kind.Find, (hex_visible pc form, tt))
-visible (statement.Event (event.Unwind snapshot)) form = (word_visible kind.Unwind, (decimal_visible snapshot form, tt))
-visible statement.End form = (word_visible kind.End, tt)
-
-word_added : (known : DraftData) (s : Statement) → CanAdd known s → by_word known (statement_line s) ≡ Ok (with_statement known s)
-unfolding by_word
-word_added known s can =
-    let k = kind_of_statement s in
-    let fields = statement_fields s in
-    let say = λ (k : Kind). statement_of k fields >=> λ s. added known s in
-    let given = λ (k : Kind). cond (may_come known.stage k) (cond (is_unbuilt known k) (Err reason.Unbuilt) (say k)) (Err reason.Word) in
-    ap (λ (o : Option Kind). ok_or o reason.Word >=> given) (word_again k)
-    ∙ cond-true (may_come known.stage k) (cond (is_unbuilt known k) (Err reason.Unbuilt) (say k)) (Err reason.Word) can.may
-    ∙ cond-false (is_unbuilt known k) (Err reason.Unbuilt) (say k) can.built
-    ∙ ap (λ (r : Result Statement Reason). r >=> λ s. added known s) (said_again s can.form)
-    ∙ can.is
-
-line_added : (known : DraftData) (s : Statement) → CanAdd known s → after_line known (join 32 (statement_line s)) ≡ Ok (with_statement known s)
-unfolding after_line
-line_added known s can =
-    let line = join 32 (statement_line s) in
-    cond-false (is_ended known.stage) (Err reason.After) (cond (is_printable line) (by_word known (pieces 32 line)) (Err reason.Byte)) (open_still known.stage (kind_of_statement s) can.may)
-    ∙ cond-true (is_printable line) (by_word known (pieces 32 line)) (Err reason.Byte) (printable_again (statement_line s) (visible s can.form))
-    ∙ ap (by_word known) (fields_again (word_of (kind_of_statement s)) (statement_fields s) (visible s can.form))
-    ∙ word_added known s can
-
-reads_statement : (known : DraftData) (s : Statement) (number : ℕ) (others : List ℕ) → CanAdd known s
-    → after_lines known number (pieces 10 (statement_text s ++ others)) ≡ after_lines (with_statement known s) (number + 1) (pieces 10 others)
-reads_statement known s number others can =
-    let line = join 32 (statement_line s) in
-    ap (after_lines known number) (lines_again (word_of (kind_of_statement s)) (statement_fields s) others (visible s can.form))
-    ∙ line_first known number line others
-    ∙ ap (λ (given : Result DraftData Reason). at_line number given >=> λ after. after_lines after (number + 1) (pieces 10 others)) (line_added known s can)
-
-reads_all : (known last : DraftData) (statements : List Statement) (number : ℕ) (others : List ℕ) → Adds known statements last
-    → after_lines known number (pieces 10 (statements_text statements ++ others)) ≡ after_lines last (number + length statements) (pieces 10 others)
-reads_all known last [] number others e =
-    let same : number ≡ number + 0 = omega arith in
-    ap₂ (λ (d : DraftData) (n : ℕ). after_lines d n (pieces 10 others)) e same
-reads_all known last (s ∷ statements) number others (can, adds) =
-    let same : number + 1 + length statements ≡ number + length (s ∷ statements) = omega arith in
-    ap (λ (x : List ℕ). after_lines known number (pieces 10 x)) (append_assoc (statement_text s) (statements_text statements) others)
-    ∙ reads_statement known s number (statements_text statements ++ others) can
-    ∙ reads_all (with_statement known s) last statements (number + 1) others adds
-    ∙ ap (λ (n : ℕ). after_lines last n (pieces 10 others)) same
-
-adds_then : (first second third : DraftData) (xs ys : List Statement) → Adds first xs second → Adds second ys third → Adds first (xs ++ ys) third
-adds_then first second third [] ys e q = subst (λ (d : DraftData). Adds d ys third) (sym e) q
-adds_then first second third (x ∷ xs) ys p q = (p.0, adds_then (with_statement first x) second third xs ys p.1 q)
-
--- ---- recorded memory
-
--- of regions that ascend each can be recorded above those before it
-accepted_at : (low : ℕ) (before : List RegionData) (region : RegionData) (memory : List RegionData) → AreFrom low (before ++ region ∷ memory) → Accepts before region.address region.bytes
-accepted_at low [] region memory are = (are.1, are.2, omega arith)
-accepted_at low (q ∷ []) region memory are = (are.3.1, are.3.2, are.3.0)
-accepted_at low (q ∷ p ∷ before) region memory are = accepted_at (end q) (p ∷ before) region memory are.3
-
-recorded_parts : (before : List RegionData) (region : RegionData) (memory : List RegionData) → recorded_bytes before + length region.bytes ≤ recorded_bytes (before ++ region ∷ memory)
-recorded_parts [] region memory = omega arith
-recorded_parts (q ∷ before) region memory = let rest = recorded_parts before region memory in omega arith
-
-bytes_in_all : (before : List RegionData) (region : RegionData) (memory : List RegionData) → All (λ region. IsBytes region.bytes) (before ++ region ∷ memory) → IsBytes region.bytes
-bytes_in_all [] region memory are = All-head (λ (r : RegionData). IsBytes r.bytes) region memory are
-bytes_in_all (q ∷ before) region memory are = bytes_in_all before region memory (All-tail (λ (r : RegionData). IsBytes r.bytes) q (before ++ region ∷ memory) are)
+use Rattle.event_script.proofs.Recorded.{accepted_is, accepted_at, bytes_in_all, recorded_parts}
+use Rattle.event_script.proofs.Added.{Adds, CanAdd, adds_then, reads_all}
 
 -- ---- the lines of a script
 

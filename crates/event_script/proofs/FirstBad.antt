@@ -23,8 +23,10 @@ use Rattle.event_script.proofs.Pieces.{some_pieces}
 use Rattle.event_script.proofs.Steps.{bind_ok, guard_last, guard_then, ok_is}
 use Rattle.event_script.proofs.Spoken.{says_one}
 use Rattle.event_script.proofs.Sections.{section_bad}
-use Rattle.event_script.proofs.Judged.{Judged, judged_line, judged_end}
-use Rattle.event_script.proofs.Sound.{section_from_or, line_read, outcome_sound}
+use Rattle.event_script.proofs.Passed.{Judged}
+use Rattle.event_script.proofs.Judged.{judged_line, judged_end}
+use Rattle.event_script.proofs.Sound.{section_from_or}
+use Rattle.event_script.proofs.LinesRead.{line_read, outcome_sound}
 use Rattle.event_script.proofs.Complete.{whole, outcome_complete, one_script}
 
 -- ---- what a good line adds

@@ -11,10 +11,15 @@ pub mod Sections
 pub mod Words
 pub mod Spoken
 pub mod Fixed
+pub mod Recorded
+pub mod Passed
 pub mod Judged
 pub mod SoFar
+pub mod LineLists
 pub mod Sound
+pub mod LinesRead
 pub mod LineCounts
+pub mod Added
 pub mod Complete
 pub mod FirstBad
 pub mod Begins

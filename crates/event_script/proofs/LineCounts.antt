@@ -18,7 +18,9 @@ use Rattle.event_script.specs.Reading.{after_line}
 use Rattle.event_script.proofs.Steps.{guard_else}
 use Rattle.event_script.proofs.Fixed.{few_fixed}
 use Rattle.event_script.proofs.SoFar.{statements_at, statements_so_far, ShapeAt, Sound}
-use Rattle.event_script.proofs.Sound.{one_thread, open_snapshots, line_read, line_sound}
+use Rattle.event_script.proofs.LineLists.{one_thread}
+use Rattle.event_script.proofs.Sound.{open_snapshots}
+use Rattle.event_script.proofs.LinesRead.{line_read, line_sound}
 
 map_count : {A B : Type 0} (f : A → B) (xs : List A) → length (map f xs) ≡ length xs
 map_count f [] = refl

@@ -1,26 +1,21 @@
 -- What is read is spelled so: each good line says what it adds.
-use Rattle.std.proofs.Common.{◌≡◌, ℕ, ◌+◌, ◌-◌, ◌^◌, ◌<◌, ◌≤◌, Bool, true, false, cond, ◌&&◌, eqb, ltb, leb, List, [], ◌∷◌, ◌++◌, length, map, Result, Ok, Err, refl, sym, ap, ap₂, subst, ◌∙◌, append_assoc, append-nil, eqb-true, ltb-true, leb-true, arith, length-append}
+use Rattle.std.proofs.Common.{◌≡◌, ℕ, ◌+◌, ◌-◌, ◌^◌, ◌<◌, ◌≤◌, true, false, cond, ◌&&◌, eqb, ltb, leb, List, [], ◌∷◌, ◌++◌, length, map, Result, Ok, Err, refl, sym, ap, ap₂, subst, ◌∙◌, append_assoc, eqb-true, ltb-true, leb-true, arith, length-append}
 use Rattle.std.specs.List.{slice_get, All}
 use Rattle.std.specs.Option.{ok_or}
 use Rattle.std.proofs.lemmas.Bool.{and_parts}
-use Rattle.std.proofs.lemmas.Grind.{flat_map-append}
-use Rattle.std.proofs.lemmas.List.{map-append}
-use Rattle.std.proofs.lemmas.List.Elements.{All-push, All-from_recursion}
+use Rattle.std.proofs.lemmas.List.Elements.{All-push}
 use Rattle.hex.specs.Hex.{IsBytes}
 use Rattle.reg_model.specs.SpanData.{SpanData, IsSpan}
 use Rattle.frame_parse.specs.Sections.{SectionData}
 use Rattle.frame_parse.specs.Reading.{section_of}
 use Rattle.frame_parse.specs.declared.fault.FrameFault.{FrameFault}
-use Rattle.frame_expr.specs.Regions.{RegionData, end, regions_end, AreFrom, Accepts}
+use Rattle.frame_expr.specs.Regions.{RegionData}
 use Rattle.event_script.specs.declared.reader.statement.SnapshotFields.{SnapshotFields}
-use Rattle.event_script.specs.ScriptData.{ScriptData, ImageData, SnapshotData, Counts, counts_of, IsSnapshot, recorded_bytes, IsSectionOf, AreFixed, IsEvent, IsThread, IsRound}
-use Rattle.event_script.specs.Statements.{kind_of_statement, statement_fields, HasForm}
-use Rattle.event_script.specs.Spelling.{Line, spelling_of, statement_text, statements_text, image_data, image_statements, snapshot_lines, snapshot_statements, round_statements, script_text, IsScript}
-use Rattle.event_script.specs.Fields.{pieces, is_printable}
-use Rattle.event_script.specs.Draft.{DraftData, nothing_known, may_come, is_ended, is_unbuilt, span_from, with_image, with_statement}
-use Rattle.event_script.specs.Reasons.{Says}
-use Rattle.event_script.specs.Refusal.{whole_line}
-use Rattle.event_script.specs.Reading.{kind_of, statement_of, section_or, image_added, last_fixed, is_above, fixed_added, snapshot_added, accepts, region_added, memory_added, is_named, added, by_word, after_line, at_end, BadLine, at_line, after_lines, outcome}
+use Rattle.event_script.specs.ScriptData.{ScriptData, ImageData, SnapshotData, Counts, counts_of, IsSnapshot, recorded_bytes, IsSectionOf, AreFixed, IsEvent, IsThread}
+use Rattle.event_script.specs.Statements.{kind_of_statement, HasForm}
+use Rattle.event_script.specs.Spelling.{image_data, image_statements, snapshot_lines, snapshot_statements, round_statements}
+use Rattle.event_script.specs.Draft.{DraftData, may_come, is_unbuilt, span_from, with_image, with_statement}
+use Rattle.event_script.specs.Reading.{section_or, image_added, last_fixed, is_above, fixed_added, snapshot_added, accepts, region_added, memory_added, is_named, added}
 use Rattle.event_script.specs.declared.script.Event.{Event}
 use Rattle.event_script.specs.declared.script.Event.TheVariants as event
 use Rattle.event_script.specs.declared.reader.fault.Reason.{Reason}
@@ -29,108 +24,12 @@ use Rattle.event_script.specs.declared.reader.kinds.Stage.{Stage}
 use Rattle.event_script.specs.declared.reader.kinds.Stage.TheVariants as stage
 use Rattle.event_script.specs.declared.reader.statement.Statement.{Statement}
 use Rattle.event_script.specs.declared.reader.statement.Statement.TheVariants as statement
-use Rattle.event_script.proofs.Joined.{join, join_pieces, spelled_pieces}
-use Rattle.event_script.proofs.Steps.{bind_ok, guard_last, guard_then, guard_else, ok_is, some_from, kind_word}
-use Rattle.event_script.proofs.Spoken.{same_kind, spoken}
+use Rattle.event_script.proofs.Steps.{bind_ok, guard_last, guard_then, ok_is, some_from}
 use Rattle.event_script.proofs.Sections.{section_is}
 use Rattle.event_script.proofs.Fixed.{fixed_push}
-use Rattle.event_script.proofs.Judged.{accepted_true}
-use Rattle.event_script.proofs.SoFar.{statements_at, statements_so_far, NodesAt, LoadsAt, AreRounds, ShapeAt, Sound, Step, same_step, no_events, no_snapshots, no_fixed}
-
--- ---- lists of what lines say
-
-pub images_push : (number : ℕ) (images : List SpanData) (sections : List SectionData) (span : SpanData) (section : SectionData) → length sections ≡ length images
-    → image_statements number (images ++ span ∷ []) (sections ++ section ∷ []) ≡ image_statements number images sections ++ statement.Image (image_data (number + length images) span section) ∷ []
-images_push number [] [] span section e = ap (λ (n : ℕ). statement.Image (image_data n span section) ∷ []) (omega arith)
-images_push number [] (a ∷ sections) span section e = absurd (omega arith)
-images_push number (i ∷ images) [] span section e = absurd (omega arith)
-images_push number (i ∷ images) (a ∷ sections) span section e =
-    let rest = images_push (number + 1) images sections span section (omega arith) in
-    let next : number + 1 + length images ≡ number + length (i ∷ images) = omega arith in
-    ap (λ (x : List Statement). statement.Image (image_data number i a) ∷ x) (rest ∙ ap (λ (n : ℕ). image_statements (number + 1) images sections ++ statement.Image (image_data n span section) ∷ []) next)
-
-pub map_push : {A B : Type 0} (f : A → B) (xs : List A) (x : A) → map f (xs ++ x ∷ []) ≡ map f xs ++ f x ∷ []
-map_push f xs x = map-append f xs (x ∷ [])
-
--- a round of one thread
-pub one_thread : (events : List Event) → round_statements ((events ∷ []) ∷ []) ≡ statement.Round ∷ statement.Thread ∷ map statement.Event events
-one_thread events =
-    ap (λ (x : List Statement). statement.Round ∷ x) (append-nil (statement.Thread ∷ (map statement.Event events ++ [])))
-    ∙ ap (λ (x : List Statement). statement.Round ∷ statement.Thread ∷ x) (append-nil (map statement.Event events))
-
--- lines and what the rounds so far add, none
-before_rounds : (known : List Statement) (rounds : List (List (List Event))) → rounds ≡ [] → known ++ round_statements rounds ≡ known
-before_rounds known rounds e = ap (λ (r : List (List (List Event))). known ++ round_statements r) e ∙ append-nil known
-
--- and no snapshots
-before_snapshots : (known : List Statement) (snapshots : List SnapshotData) (rounds : List (List (List Event))) → snapshots ≡ [] → rounds ≡ [] → known ++ snapshot_statements 0 snapshots ++ round_statements rounds ≡ known
-before_snapshots known snapshots rounds none no_rounds = before_rounds (known ++ snapshot_statements 0 snapshots) rounds no_rounds ∙ ap (λ (x : List SnapshotData). known ++ snapshot_statements 0 x) none ∙ append-nil known
-
--- and no fixed images either
-before_fixed : (known : List Statement) (fixed : List ℕ) (snapshots : List SnapshotData) (rounds : List (List (List Event))) → fixed ≡ [] → snapshots ≡ [] → rounds ≡ [] → known ++ map statement.Fixed fixed ++ snapshot_statements 0 snapshots ++ round_statements rounds ≡ known
-before_fixed known fixed snapshots rounds none no_snapshots no_rounds = before_snapshots (known ++ map statement.Fixed fixed) snapshots rounds no_snapshots no_rounds ∙ ap (λ (f : List ℕ). known ++ map statement.Fixed f) none ∙ append-nil known
-
-pub snapshots_push : (number : ℕ) (snapshots : List SnapshotData) (snapshot : SnapshotData) → snapshot_statements number (snapshots ++ snapshot ∷ []) ≡ snapshot_statements number snapshots ++ snapshot_lines (number + length snapshots) snapshot
-snapshots_push number [] snapshot = append-nil (snapshot_lines number snapshot) ∙ ap (λ (n : ℕ). snapshot_lines n snapshot) (omega arith)
-snapshots_push number (first ∷ snapshots) snapshot =
-    let next : number + 1 + length snapshots ≡ number + length (first ∷ snapshots) = omega arith in
-    ap (λ (x : List Statement). snapshot_lines number first ++ x) (snapshots_push (number + 1) snapshots snapshot ∙ ap (λ (n : ℕ). snapshot_statements (number + 1) snapshots ++ snapshot_lines n snapshot) next)
-    ∙ sym (append_assoc (snapshot_lines number first) (snapshot_statements (number + 1) snapshots) (snapshot_lines (number + length (first ∷ snapshots)) snapshot))
-
-pub rounds_of_one : (counts : Counts) (rounds : List (List (List Event))) (threads : List (List Event)) (events : List Event) → rounds ≡ [] → threads ≡ [] → IsThread counts events → AreRounds counts (rounds ++ (threads ++ events ∷ []) ∷ [])
-rounds_of_one counts rounds threads events no_rounds no_threads thread =
-    subst (AreRounds counts) (ap₂ (λ (r : List (List (List Event))) (t : List (List Event)). r ++ (t ++ events ∷ []) ∷ []) (sym no_rounds) (sym no_threads))
-    (record {
-      few = omega arith;
-      small = All-from_recursion (λ threads. length threads ≤ 1) ((events ∷ []) ∷ []) (omega arith, tt);
-      each = All-from_recursion (IsRound counts) ((events ∷ []) ∷ []) ((omega arith, All-from_recursion (IsThread counts) (events ∷ []) (thread, tt)), tt);
-    })
-
-pub rounds_of_none : (counts : Counts) (rounds : List (List (List Event))) (threads : List (List Event)) → rounds ≡ [] → threads ≡ [] → AreRounds counts (rounds ++ threads ∷ [])
-rounds_of_none counts rounds threads no_rounds no_threads =
-    subst (AreRounds counts) (ap₂ (λ (r : List (List (List Event))) (t : List (List Event)). r ++ t ∷ []) (sym no_rounds) (sym no_threads))
-    (record {
-      few = omega arith;
-      small = All-from_recursion (λ threads. length threads ≤ 1) ([] ∷ []) (omega arith, tt);
-      each = All-from_recursion (IsRound counts) ([] ∷ []) ((omega arith, All-from_recursion (IsThread counts) [] tt), tt);
-    })
-
-pub no_rounds_at : (counts : Counts) (rounds : List (List (List Event))) → rounds ≡ [] → AreRounds counts rounds
-no_rounds_at counts rounds none =
-    subst (AreRounds counts) (sym none)
-    (record { few = omega arith; small = All-from_recursion (λ threads. length threads ≤ 1) [] tt; each = All-from_recursion (IsRound counts) [] tt })
-
--- ---- recorded memory
-
--- regions that ascend end above where they begin
-from_end : (low : ℕ) (r : RegionData) (rs : List RegionData) → AreFrom low (r ∷ rs) → low ≤ regions_end (r ∷ rs)
-from_end low r [] are = let above = are.0 in omega arith
-from_end low r (q ∷ rs) are = let above = are.0 in let rest = from_end (end r) q rs are.3 in omega arith
-
-from_push : (low : ℕ) (rs : List RegionData) (r : RegionData) → AreFrom low rs → low ≤ r.address → regions_end rs ≤ r.address → 0 < length r.bytes → end r < 2 ^ 64 → AreFrom low (rs ++ r ∷ [])
-from_push low [] r are above ends some top = (above, some, top, tt)
-from_push low (q ∷ []) r are above ends some top = (are.0, are.1, are.2, (ends, some, top, tt))
-from_push low (q ∷ p ∷ rs) r are above ends some top =
-    let rest = from_end (end q) p rs are.3 in
-    (are.0, are.1, are.2, from_push (end q) (p ∷ rs) r are.3 (omega arith) ends some top)
-
-pub recorded_push : (rs : List RegionData) (r : RegionData) → recorded_bytes (rs ++ r ∷ []) ≡ recorded_bytes rs + length r.bytes
-recorded_push [] r = omega arith
-recorded_push (q ∷ rs) r = let rest = recorded_push rs r in omega arith
-
--- a snapshot with one more region
-snapshot_push : (snapshot : SnapshotData) (region : RegionData) → IsSnapshot snapshot → HasForm (statement.Memory region) → recorded_bytes snapshot.memory + length region.bytes ≤ 65536 → Accepts snapshot.memory region.address region.bytes
-    → IsSnapshot (record snapshot { memory = snapshot.memory ++ region ∷ [] })
-snapshot_push snapshot region is form few accepted = record {
-  count = is.count;
-  columns = is.columns;
-  regions = from_push 0 snapshot.memory region is.regions (omega arith) accepted.2 accepted.0 accepted.1;
-  bytes = All-push (λ region. IsBytes region.bytes) snapshot.memory region is.bytes form.1;
-  size = (let sum = recorded_push snapshot.memory region in omega arith);
-}
-
-no_memory : (fields : SnapshotFields) → HasForm (statement.Snapshot fields) → IsSnapshot (record { regs = fields.regs; memory = [] })
-no_memory fields form = record { count = form.1; columns = form.2; regions = tt; bytes = All-from_recursion (λ region. IsBytes region.bytes) [] tt; size = omega arith }
+use Rattle.event_script.proofs.SoFar.{Sound, Step, same_step, no_events, no_fixed}
+use Rattle.event_script.proofs.Recorded.{accepted_true, no_memory, snapshot_push}
+use Rattle.event_script.proofs.LineLists.{before_fixed, before_rounds, before_snapshots, images_push, map_push, no_rounds_at, one_thread, rounds_of_none, rounds_of_one, snapshots_push}
 
 -- ---- sections
 
@@ -454,7 +353,7 @@ module _ (script : ScriptData) (snapshot : SnapshotData) (threads : List (List E
   })
 
   -- ---- a line of any kind
-  statement_sound : (at : Stage) (s : Statement) (next : DraftData) → may_come at (kind_of_statement s) ≡ true → is_unbuilt (as_of at) (kind_of_statement s) ≡ false → HasForm s → Sound (as_of at) → added (as_of at) s ≡ Ok next → Step (as_of at) next s
+  pub statement_sound : (at : Stage) (s : Statement) (next : DraftData) → may_come at (kind_of_statement s) ≡ true → is_unbuilt (as_of at) (kind_of_statement s) ≡ false → HasForm s → Sound (as_of at) → added (as_of at) s ≡ Ok next → Step (as_of at) next s
   unfolding added
   statement_sound stage.Version (statement.Version version) next may built form s e = version_sound version next s e
   statement_sound stage.Nodes (statement.Nodes nodes) next may built form s e = nodes_sound nodes next s e
@@ -483,139 +382,3 @@ module _ (script : ScriptData) (snapshot : SnapshotData) (threads : List (List E
   statement_sound _ (statement.Event (event.Find pc)) next may built form s e = absurd cc
   statement_sound _ (statement.Event (event.Unwind stack)) next may built form s e = absurd cc
   statement_sound _ _ next may built form s e = absurd cc
-
--- ---- lines
-
--- a line that was read says something that may come, and that is what it adds
-pub record LineRead (known next : DraftData) (line : List ℕ) : Type 0 where
-  pub statement : Statement
-  pub says : Says (whole_line line) statement
-  pub may : may_come known.stage (kind_of_statement statement) ≡ true
-  pub built : is_unbuilt known (kind_of_statement statement) ≡ false
-  pub is : added known statement ≡ Ok next
-
-module _ (known next : DraftData) (line : List ℕ) where
-  words_read : (fields : Line) → pieces 32 line ≡ fields → by_word known fields ≡ Ok next → LineRead known next line
-  unfolding by_word
-  words_read [] is e = absurd cc
-  words_read (word ∷ fields) is e =
-      let k = bind_ok (ok_or (kind_of word) reason.Word) _ next e in
-      let may = guard_then (may_come known.stage k.0) reason.Word _ next k.2 in
-      let built = guard_else (is_unbuilt known k.0) reason.Unbuilt _ next may.1 in
-      let s = bind_ok (statement_of k.0 fields) (λ s. added known s) next built.1 in
-      let is_spoken = spoken k.0 fields s.0 s.1 in
-      let same = (same_kind k.0 (kind_of_statement s.0) fields (statement_fields s.0) is_spoken.line).0 in
-      record {
-        statement = s.0;
-        says = record { line = is ∙ ap (λ (w : List ℕ). w ∷ fields) (kind_word word k.0 k.1) ∙ is_spoken.line; form = is_spoken.form };
-        may = sym (ap (may_come known.stage) same) ∙ may.0;
-        built = sym (ap (is_unbuilt known) same) ∙ built.0;
-        is = s.2;
-      }
-
-  pub line_read : after_line known line ≡ Ok next → LineRead known next line
-  unfolding after_line
-  line_read e =
-      let open_still = guard_else (is_ended known.stage) reason.After _ next e in
-      let printable = guard_then (is_printable line) reason.Byte (by_word known (pieces 32 line)) next open_still.1 in
-      words_read (pieces 32 line) refl printable.1
-
-  pub line_sound : Sound known → (r : LineRead known next line) → Step known next r.statement
-  line_sound s r = statement_sound known.script known.snapshot known.threads known.events known.stage r.statement next r.may r.built r.says.form s r.is
-
--- the text of a line that says this
-pub said_text : (line : List ℕ) (s : Statement) → Says (whole_line line) s → statement_text s ≡ line ++ 10 ∷ []
-said_text line s says = sym (ap spelling_of says.line) ∙ spelled_pieces line
-
--- the text of the lines so far
-abbrev pub text_so_far : DraftData → List ℕ
-text_so_far known = statements_text (statements_so_far known)
-
-pub text_step : (known next : DraftData) (line : List ℕ) (s : Statement) → Says (whole_line line) s → Step known next s → text_so_far next ≡ text_so_far known ++ (line ++ 10 ∷ [])
-text_step known next line s says step =
-    ap statements_text step.statements ∙ flat_map-append statement_text (statements_so_far known) (s ∷ [])
-    ∙ ap (λ (x : List ℕ). text_so_far known ++ x) (append-nil (statement_text s) ∙ said_text line s says)
-
--- the end of a script
-record Ended (known : DraftData) (text : List ℕ) : Type 0 where
-  sound : Sound known
-  is_last : is_ended known.stage ≡ true
-  is : text ≡ text_so_far known
-
-end_sound : (known next : DraftData) (rest : List ℕ) → Sound known → at_end known rest ≡ Ok next → Ended next (text_so_far known ++ rest)
-unfolding at_end
-end_sound known next [] s e =
-    let g = guard_last (is_ended known.stage) reason.Missing known next e in
-    subst (λ (n : DraftData). Ended n (text_so_far known ++ [])) g.1 (record { sound = s; is_last = g.0; is = append-nil (text_so_far known) })
-end_sound known next (b ∷ rest) s e = absurd (never (is_ended known.stage) e)
-  where
-    never : (t : Bool) → cond t (Err reason.After) (Err reason.Unended) ≡ Ok next → ⊥
-    never true e = absurd cc
-    never false e = absurd cc
-
-abbrev numbered : DraftData → Result DraftData BadLine
-numbered known = Ok known
-
-pub numbered_ok : (number : ℕ) (given : Result DraftData Reason) (next : DraftData) → at_line number given ≡ Ok next → given ≡ Ok next
-numbered_ok number (Ok known) next e = ap Ok (known_is known next e)
-  where
-    known_is : (known next : DraftData) → numbered known ≡ numbered next → known ≡ next
-    known_is known next e = cc
-numbered_ok number (Err why) next e = absurd cc
-
-lines_sound : (known next : DraftData) (number : ℕ) (lines : List (List ℕ)) → Sound known → after_lines known number lines ≡ Ok next → Ended next (text_so_far known ++ join 10 lines)
-unfolding after_lines
-lines_sound known next number [] s e = end_sound known next [] s (numbered_ok number (at_end known []) next e)
-lines_sound known next number (rest ∷ []) s e = end_sound known next rest s (numbered_ok number (at_end known rest) next e)
-lines_sound known next number (line ∷ more ∷ others) s e =
-    let a = bind_ok (at_line number (after_line known line)) (λ after. after_lines after (number + 1) (more ∷ others)) next e in
-    let r = line_read known a.0 line (numbered_ok number (after_line known line) a.0 a.1) in
-    let step = line_sound known a.0 line s r in
-    let rest = lines_sound a.0 next (number + 1) (more ∷ others) step.sound a.2 in
-    let regrouped : text_so_far a.0 ++ join 10 (more ∷ others) ≡ text_so_far known ++ join 10 (line ∷ more ∷ others) =
-    ap (λ (x : List ℕ). x ++ join 10 (more ∷ others)) (text_step known a.0 line r.statement r.says step)
-    ∙ append_assoc (text_so_far known) (line ++ 10 ∷ []) (join 10 (more ∷ others))
-    ∙ ap (λ (x : List ℕ). text_so_far known ++ x) (append_assoc line (10 ∷ []) (join 10 (more ∷ others))) in
-    subst (Ended next) regrouped rest
-
-pub at_first : Sound nothing_known
-at_first = record {
-  each = refl;
-  sections = All-from_recursion IsSectionOf [] tt;
-  nodes = tt;
-  loads = tt;
-  count = omega arith;
-  spans = All-from_recursion IsSpan [] tt;
-  fixed = no_fixed [];
-  snapshots = no_snapshots;
-  events = no_events (record { images = 0; snapshots = 0 });
-  shape = (refl, refl, refl, refl, refl, refl);
-}
-
-script_from : (known : DraftData) (text : List ℕ) → Ended known text → IsScript text known.script
-unfolding script_text
-script_from known text e = by known.stage refl e.is_last
-  where
-    by : (at : Stage) → known.stage ≡ at → is_ended at ≡ true → IsScript text known.script
-    by stage.Ended same is_last =
-        let s = e.sound in
-        let shape = subst (λ (x : Stage). ShapeAt x known) same s.shape in
-        record {
-          text = e.is ∙ ap (λ (x : Stage). statements_text (statements_at x known)) same;
-          runnable = record {
-            nodes = subst (λ (x : Stage). NodesAt x known.script.nodes) same s.nodes;
-            loads = subst (λ (x : Stage). LoadsAt x known.script.loads) same s.loads;
-            images = (s.count, s.spans);
-            sections = (s.each, s.sections);
-            fixed = s.fixed;
-            snapshots = s.snapshots;
-            rounds = (omega (arith, shape.few), shape.each);
-          };
-          built = record { rounds = shape.few; threads = shape.small };
-        }
-    by _ same is_last = absurd cc
-
--- what is read is a script
-pub outcome_sound : (bytes : List ℕ) (known : DraftData) → outcome bytes ≡ Ok known → IsScript bytes known.script
-outcome_sound bytes known e =
-    script_from known bytes (subst (Ended known) (join_pieces 10 bytes) (lines_sound nothing_known known 1 (pieces 10 bytes) at_first e))

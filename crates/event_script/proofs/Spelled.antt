@@ -19,7 +19,7 @@ use Rattle.frame_expr.specs.declared.regs.Regs.{Regs}
 use Rattle.event_script.specs.Digits.{hex}
 use Rattle.event_script.specs.ScriptData.{ScriptData, SnapshotData}
 use Rattle.event_script.specs.Spelling.{spelling_of, statement_text, statements_text, image_data, image_statements, snapshot_lines, snapshot_statements, thread_statements, round_statements, first_statements, body_statements, script_text}
-use Rattle.event_script.proofs.Sound.{images_push, snapshots_push, map_push}
+use Rattle.event_script.proofs.LineLists.{images_push, snapshots_push, map_push}
 
 lines_more : (old text new : List ℕ) (lines more : List Statement) → text ≡ old ++ statements_text lines → new ≡ text ++ statements_text more → new ≡ old ++ statements_text (lines ++ more)
 lines_more old text new lines more p q =

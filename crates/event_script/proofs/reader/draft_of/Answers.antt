@@ -3,7 +3,7 @@ use Rattle.std.proofs.lemmas.Result.{err_from_is_err_and}
 use Rattle.event_script.specs.Fault.{FailsAt}
 use Rattle.event_script.specs.Reading.{after_line, at_end}
 use Rattle.event_script.proofs.Lines.{line_good, line_bad, lines_end}
-use Rattle.event_script.proofs.Sound.{numbered_ok}
+use Rattle.event_script.proofs.LinesRead.{numbered_ok}
 use Rattle.event_script.proofs.LineCounts.{few_lines, one_more_line}
 use Rattle.event_script.proofs.reader.draft_of.Goals as goal
 

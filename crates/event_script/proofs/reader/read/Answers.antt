@@ -4,7 +4,7 @@ use Rattle.event_script.specs.Spelling.{IsScript}
 use Rattle.event_script.specs.Draft.{DraftData}
 use Rattle.std.proofs.lemmas.Result.{err_from_is_err_and}
 use Rattle.event_script.proofs.FirstBad.{tells}
-use Rattle.event_script.proofs.Sound.{outcome_sound}
+use Rattle.event_script.proofs.LinesRead.{outcome_sound}
 use Rattle.event_script.proofs.reader.read.Goals as goal
 
 pub invariant_of-result : goal.invariant_of-result

@@ -1,6 +1,6 @@
 use Rattle.std.proofs.Common.{◌≡◌, ◌+◌, length, ap, ◌∙◌, arith}
 use Rattle.event_script.specs.ScriptData.{recorded_bytes}
-use Rattle.event_script.proofs.Sound.{recorded_push}
+use Rattle.event_script.proofs.Recorded.{recorded_push}
 use Rattle.event_script.proofs.reader.snapshot_draft.SnapshotDraft.push.Goals as goal
 
 pub invariant_of-self-2 : goal.invariant_of-self-2
