@@ -58,7 +58,12 @@ is_augmentation (z ∷ ls) = z == 122 && are_letters ls
 
 -- what holds where nothing is said
 abbrev pub plain : Augmentation
-plain = record { pointers = DW_EH_PE_absptr; lsda = DW_EH_PE_omit; personality = None; signal = false }
+plain = record {
+  pointers = DW_EH_PE_absptr;
+  lsda = DW_EH_PE_omit;
+  personality = None;
+  signal = false;
+}
 
 -- what a letter says: L the encoding of LSDA pointers, P the personality, R the encoding of code
 -- addresses, S that the frame is a signal's

@@ -66,7 +66,8 @@ register_step r base c (CfaExpression e) = c
 
 -- ---- the CFA's column
 
--- another column and the same offset, or the same column and another offset, of a rule that has them
+-- another column and the same offset, or the same column and another offset, of a rule that has
+-- both
 abbrev pub with_column : ℕ → CfaRule → CfaRule
 with_column q cfas.Missing = cfas.Missing
 with_column q (cfas.Offset p n) = cfas.Offset q n

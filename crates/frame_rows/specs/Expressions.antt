@@ -1,5 +1,5 @@
--- Where the expressions of rules stand: in the bytes of the section from which the instructions were
--- read.
+-- Where the expressions of rules stand: in the bytes of the section from which the instructions
+-- were read.
 use Rattle.std.specs.Prelude.{ℕ, ◌<◌, List, slice_index_or}
 use Rattle.frame_parse.specs.Blocks.{HasExpression}
 use Rattle.frame_rows.specs.declared.row.Rule.{Rule}
