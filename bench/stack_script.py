@@ -1,9 +1,9 @@
 #!/usr/bin/env python3
 """stack_script.py REGISTERS STACK SECTION ADDRESS [OTHERS]: writes a script of a recorded stack.
 
-REGISTERS is a text of 20 hexadecimal numbers: the 17 columns, the stack's address, the image's first
-address and its size. STACK has the stack's bytes, SECTION those of .eh_frame at ADDRESS (hexadecimal).
-OTHERS images with empty sections, below the stack's image, come before it.
+REGISTERS is a text of 20 hexadecimal numbers: the 17 columns, the stack's address, the image's
+first address and its size. STACK has the stack's bytes, SECTION those of .eh_frame, which stood at
+ADDRESS (hexadecimal). OTHERS images with empty sections, below the stack's image, come before it.
 """
 import sys
 
