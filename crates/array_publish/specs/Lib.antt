@@ -1,3 +1,5 @@
 pub mod CopyLoads
 pub mod Search
 pub mod Lookup
+pub mod Holders
+pub mod Writing

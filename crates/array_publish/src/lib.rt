@@ -13,5 +13,6 @@ mod lookup;
 #[cfg(test)]
 mod tests;
 mod walk;
+mod writing;
 
 pub use lookup::try_object;

@@ -4,7 +4,7 @@
 //! said of every copy that agrees with the words that were loaded.
 ghost use Rattle.std.specs.Prelude.{◌≡◌, ◌+◌, ◌*◌, ◌<◌, ◌≤◌, []};
 ghost use Rattle.word_rule.specs.Callers.{AreTerms};
-ghost use Rattle.word_rule.specs.Places.{copy_place, copy_words, member_place};
+ghost use Rattle.word_rule.specs.Places.{copy_place, copy_words, member_place, segment_place};
 ghost use Rattle.array_publish.specs.CopyLoads.{IsAtCopy, IsTold, LoadsCopy};
 ghost use Rattle.array_publish.specs.Search.{IsLastBegun, IsMember, IsObjectAt, listed_member};
 
@@ -26,7 +26,7 @@ const HEADER_WORDS: u32 = 2;
 const MEMBER_WORDS: u32 = 3;
 
 /// Where a copy says how many members it lists.
-const COUNT: u32 = 1;
+pub const COUNT: u32 = 1;
 
 /// The last member that begins at or below an address: which it is, and where it begins.
 #[derive(Clone, Copy)]
@@ -44,7 +44,7 @@ pub struct Listed {
 }
 
 /// Where copy 0 or 1 begins in the table.
-fn place_of_copy(words: &Words, copy: u32) -> u32
+pub fn place_of_copy(words: &Words, copy: u32) -> u32
     requires valid { AreTerms words.now.terms }
     requires one { copy < 2 }
     ensures { result ≡ copy_place words.now.terms copy }
@@ -53,8 +53,16 @@ fn place_of_copy(words: &Words, copy: u32) -> u32
     FIRST_NODE + NODE_WORDS * words.nodes() + copy * size
 }
 
+/// Where a segment begins in a copy.
+pub fn place_of_segment(segment: u32) -> u32
+    requires { segment ≤ 64 }
+    ensures { result ≡ segment_place segment }
+{
+    HEADER_WORDS + SEGMENT_WORDS * segment
+}
+
 /// Where a member stands in a copy.
-fn place_of_member(index: u32) -> u32
+pub fn place_of_member(index: u32) -> u32
     requires { index ≤ 1024 }
     ensures { result ≡ member_place index }
 {

@@ -1,0 +1,59 @@
+-- The holder of the loader's lock: the words of both copies, and what it makes of the one that isn't
+-- active.
+use Rattle.std.specs.Prelude.{◌≡◌, ℕ, ◌+◌, ◌<◌, ◌%◌, Bool, List, [], ◌++◌, length, Option, Some, None}
+use Rattle.std.specs.Prelude.{option_map, IsSomeAnd, slice_index}
+use Rattle.reg_model.specs.declared.span.Member.{Member}
+use Rattle.word_rule.specs.declared.log.LoadEvent.{LoadEvent}
+use Rattle.word_rule.specs.declared.log.LoaderHolding.{LoaderHolding}
+use Rattle.word_rule.specs.declared.log.Log.{Log}
+use Rattle.word_rule.specs.declared.log.Sights.{Sights}
+use Rattle.word_rule.specs.CallerData.{CallerData, WordsData}
+use Rattle.word_rule.specs.Callers.{AreTerms}
+use Rattle.word_rule.specs.Places.{copy_words, member_place}
+
+-- the words of the active copy, and of the other one
+abbrev pub active_words : Option LoaderHolding → List ℕ
+active_words None = []
+active_words (Some h) = h.active
+
+abbrev pub spare_words : Option LoaderHolding → List ℕ
+spare_words None = []
+spare_words (Some h) = h.spare
+
+-- A caller of these words that holds the loader's lock, where copy c is active.
+pub record IsHolder (w : WordsData) (c : ℕ) (k : CallerData) : Type 0 where
+  pub table : k.table ≡ w.table
+  pub terms : k.log.terms ≡ w.terms
+  pub valid : AreTerms w.terms
+  pub one : c < 2
+  pub holds : IsSomeAnd k.log.loader (λ h. (h.published % 2 ≡ c)
+      × (length h.active ≡ copy_words w.terms) × (length h.spare ≡ copy_words w.terms))
+
+abbrev pub with_spare : List ℕ → Bool → LoaderHolding → LoaderHolding
+with_spare spare stored h = record h { spare = spare; stored = stored }
+
+-- a log after loads and stores, so that the copy that isn't active has these words
+abbrev pub after_work : List LoadEvent → ℕ → Sights → List ℕ → Bool → Log → Log
+after_work more stores sights spare stored v = record v {
+  trace = record v.trace {
+    loads = v.trace.loads ++ more;
+    writes = v.trace.writes + stores;
+  };
+  sights = sights;
+  loader = option_map (with_spare spare stored) v.loader;
+}
+
+-- The copy that isn't active came to have these words, by loads and stores alone.
+abbrev pub Spells : List ℕ → CallerData → CallerData → Type 0
+Spells spare k k' = (more : List LoadEvent) × (stores : ℕ) × (sights : Sights) × (stored : Bool)
+    × (k' ≡ record k { log = after_work more stores sights spare stored k.log })
+
+-- what the words of a copy say of its member i
+abbrev pub member_in : List ℕ → ℕ → Member
+member_in words i = record {
+  span = record {
+    first = slice_index words (member_place i);
+    last = slice_index words (member_place i + 1);
+  };
+  payload = slice_index words (member_place i + 2);
+}

@@ -1,0 +1,58 @@
+-- What a copy is to list: what the active one lists, with one member more or one less.
+use Rattle.std.specs.Prelude.{◌≡◌, ℕ, ◌+◌, ◌-◌, ◌<◌, ◌≤◌, ◌==◌, nat_lt, List, slice_index, slice_set}
+use Rattle.std.specs.Prelude.{if◌then◌else◌}
+use Rattle.reg_model.specs.declared.span.Member.{Member}
+use Rattle.array_publish.specs.declared.writing.Change.{Change}
+use Rattle.array_publish.specs.declared.writing.Change.TheVariants.{Put, Take}
+use Rattle.word_rule.specs.Places.{member_place, segment_place, segments}
+use Rattle.word_rule.specs.Callers.{IsMemberOf}
+use Rattle.word_rule.specs.Copies.{count_in}
+use Rattle.word_rule.specs.declared.log.Terms.{Terms}
+use Rattle.array_publish.specs.Holders.{member_in}
+
+-- member i of the list after the change, where the words of the active copy are these
+abbrev pub wanted : Change → List ℕ → ℕ → Member
+wanted (Put place m) active i =
+    if nat_lt i place then member_in active i
+    else (if i == place then m else member_in active (i - 1))
+wanted (Take place) active i =
+    if nat_lt i place then member_in active i else member_in active (i + 1)
+
+-- a member is put between two or at an end; one that is there is taken
+abbrev pub HasPlace : Change → ℕ → Type 0
+HasPlace (Put place m) count = place ≤ count
+HasPlace (Take place) count = place < count
+
+-- how many there are afterwards
+abbrev pub changed_count : Change → ℕ → ℕ
+changed_count (Put place m) count = count + 1
+changed_count (Take place) count = count - 1
+
+-- the words of so many members say what may be made known, and there is room for them
+pub record AreKnown (t : Terms) (words : List ℕ) (count : ℕ) : Type 0 where
+  pub each : (i : ℕ) → i < count → IsMemberOf t (member_in words i)
+  pub room : count ≤ t.loads
+
+-- a member written into its place
+abbrev pub with_member : ℕ → Member → List ℕ → List ℕ
+with_member i m words =
+    slice_set (slice_set (slice_set words (member_place i) m.span.first)
+    (member_place i + 1) m.span.last) (member_place i + 2) m.payload
+
+-- so many segments have their numbers and their counts, for so many members
+abbrev pub HaveHeaders : List ℕ → ℕ → ℕ → Type 0
+HaveHeaders words count upto = (s : ℕ) → s < upto → (slice_index words (segment_place s) ≡ s)
+    × (slice_index words (segment_place s + 1) ≡ count_in count s)
+
+-- so many of the wanted members are written
+abbrev pub HasMembers : Change → List ℕ → List ℕ → ℕ → Type 0
+HasMembers change active words upto =
+    (i : ℕ) → i < upto → member_in words i ≡ wanted change active i
+
+-- A copy has all words that it is to have, for so many members.
+pub record IsWritten (change : Change) (active : List ℕ) (count : ℕ)
+    (words : List ℕ) : Type 0 where
+  pub head : slice_index words 0 ≡ segments count
+  pub number : slice_index words 1 ≡ count
+  pub headers : HaveHeaders words count (segments count)
+  pub members : HasMembers change active words count
