@@ -4,3 +4,4 @@ pub mod Halves
 pub mod Lookups
 pub mod Works
 pub mod Written
+pub mod Changed

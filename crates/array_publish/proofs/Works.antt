@@ -123,3 +123,28 @@ spells_none k =
 -- loads one after another
 pub loads_then : (t : Terms) (c : ℕ) (spare : List ℕ) (a b d : CallerData) → IsSomeAnd a.log.loader (Holds t c) → Spells spare a b → Spells (spare_words b.log.loader) b d → Spells spare a d
 loads_then t c spare a b d h p q = spells_both spare spare a b d p (subst (λ ws. Spells ws b d) (spells_spare t c spare a b h p) q)
+
+-- two words one after another
+pub two_words : (t : Terms) (c p q x y : ℕ) (k0 k1 k2 : CallerData) → IsSomeAnd k0.log.loader (Holds t c) → Spells (set (spare_words k0.log.loader) p x) k0 k1 → Spells (set (spare_words k1.log.loader) q y) k1 k2 → Spells (set (set (spare_words k0.log.loader) p x) q y) k0 k2
+two_words t c p q x y k0 k1 k2 h0 one two =
+    let s1 = spells_spare t c (set (spare_words k0.log.loader) p x) k0 k1 h0 one in
+    spells_both (set (spare_words k0.log.loader) p x) (set (set (spare_words k0.log.loader) p x) q y) k0 k1 k2 one (subst (λ ws. Spells (set ws q y) k1 k2) s1 two)
+
+-- a step of a loop that writes: what it makes of the words, and that the caller still holds the lock
+pub record Written (w : WordsData) (c : ℕ) (words : List ℕ) (k0 k : CallerData) : Type 0 where
+  pub spells : Spells (spare_words k.log.loader) k0 k
+  pub holder : IsHolder w c k
+  pub active : active_words k.log.loader ≡ active_words k0.log.loader
+  pub spare : spare_words k.log.loader ≡ words
+
+pub written_next : (w : WordsData) (c : ℕ) (spare words : List ℕ) (k0 k k' : CallerData) → Written w c spare k0 k → Spells words k k' → length words ≡ copy_words w.terms → Written w c words k0 k'
+written_next w c spare words k0 k k' h p wide =
+    let is = spells_spare w.terms c words k k' h.holder.holds p in record {
+      spells = subst (λ ws. Spells ws k0 k') (sym is) (spells_both (spare_words k.log.loader) words k0 k k' h.spells p);
+      holder = holder_stays w c words k k' h.holder p wide;
+      active = spells_active words k k' p ∙ h.active;
+      spare = is;
+    }
+
+pub written_none : (w : WordsData) (c : ℕ) (k : CallerData) → IsHolder w c k → Written w c (spare_words k.log.loader) k k
+written_none w c k h = record { spells = spells_none k; holder = h; active = refl; spare = refl }

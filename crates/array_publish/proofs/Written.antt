@@ -1,9 +1,11 @@
 -- Words of members and segments, written one after another.
 use Rattle.std.proofs.Common.{◌≡◌, ◌≢◌, ℕ, zero, suc, ◌+◌, ◌-◌, ◌*◌, ◌/◌, ◌<◌, ◌≤◌, ◌%◌, List, length, get_or, set, length-set, get_or-set_same, get_or-set_other, sym, refl, ap, ◌∙◌, subst, arith, ⊎_elim}
-use Rattle.word_rule.specs.Places.{member_place, segment_place}
+use native.Mathlib.Decide.{ℕ_discrete}
+use Rattle.word_rule.specs.Places.{member_place, segment_place, segments}
+use Rattle.word_rule.specs.Copies.{count_in}
 use Rattle.reg_model.specs.declared.span.Member.{Member}
 use Rattle.array_publish.specs.Holders.{member_in}
-use Rattle.array_publish.specs.Writing.{HasMembers, with_member}
+use Rattle.array_publish.specs.Writing.{HasMembers, HaveHeaders, IsWritten, SameMembers, wanted, with_header, with_member, with_totals}
 use Rattle.array_publish.specs.declared.writing.Change.{Change}
 
 -- members stand one after another
@@ -41,3 +43,72 @@ written_below j i m words less =
       };
       payload = three_others words p m.span.first m.span.last m.payload (member_place j + 2) (omega (arith, above)) k;
     })
+
+-- one member more is written
+pub one_more : (change : Change) (active words : List ℕ) (i : ℕ) (m : Member) → member_place i + 2 < length words → HasMembers change active words i → m ≡ wanted change active i → HasMembers change active (with_member i m words) (i + 1)
+one_more change active words i m inside h is j less = go (ℕ_discrete j i)
+  where
+    go : Dec (j ≡ i) → member_in (with_member i m words) j ≡ wanted change active j
+    go (yes e) = subst (λ n. member_in (with_member i m words) n ≡ wanted change active n) (sym e) (written_here i m words inside ∙ is)
+    go (no ne) = written_below j i m words (omega (arith, less, ne)) ∙ h j (omega (arith, less, ne))
+
+-- a segment's header is no member's word
+never_header : (j s d e : ℕ) → d ≤ 2 → e ≤ 1 → member_place j + d ≢ segment_place s + e
+never_header j s d e few one same = omega (arith, few, one, same)
+
+two_others : (words : List ℕ) (p q x y at : ℕ) → at ≢ p → at ≢ q → get_or (set (set words p x) q y) at 0 ≡ get_or words at 0
+two_others words p q x y at far other = get_or-set_other (set words p x) q at y 0 other ∙ get_or-set_other words p at x 0 far
+
+pub header_apart : (s count : ℕ) (words : List ℕ) → SameMembers words (with_header s count words)
+header_apart s count words j =
+    let p : ℕ = segment_place s in
+    let far : (d : ℕ) → d ≤ 2 → member_place j + d ≢ segment_place s = (λ d few e. never_header j s d 0 few (omega arith) (omega (arith, e))) in
+    let zero_far : member_place j ≢ segment_place s = (λ e. far 0 (omega arith) (omega (arith, e))) in
+    let zero_next : member_place j ≢ segment_place s + 1 = (λ e. never_header j s 0 1 (omega arith) (omega arith) (omega (arith, e))) in
+    (λ k. record {
+      span = record {
+        first = two_others words p (p + 1) s count (member_place j) zero_far zero_next k;
+        last = two_others words p (p + 1) s count (member_place j + 1) (far 1 (omega arith)) (never_header j s 1 1 (omega arith) (omega arith)) k;
+      };
+      payload = two_others words p (p + 1) s count (member_place j + 2) (far 2 (omega arith)) (never_header j s 2 1 (omega arith) (omega arith)) k;
+    })
+
+-- one header more
+pub one_header : (count s : ℕ) (words : List ℕ) → segment_place s + 1 < length words → HaveHeaders words count s → HaveHeaders (with_header s (count_in count s) words) count (s + 1)
+one_header count s words inside h j less = go (ℕ_discrete j s)
+  where
+    l1 : length (set words (segment_place s) s) ≡ length words
+    l1 = length-set words (segment_place s) s
+
+    here : (get_or (with_header s (count_in count s) words) (segment_place s) 0 ≡ s) × (get_or (with_header s (count_in count s) words) (segment_place s + 1) 0 ≡ count_in count s)
+    here = (
+      get_or-set_other (set words (segment_place s) s) (segment_place s + 1) (segment_place s) (count_in count s) 0 (λ e. omega (arith, e)) ∙ get_or-set_same words (segment_place s) s 0 (omega (arith, inside)),
+      get_or-set_same (set words (segment_place s) s) (segment_place s + 1) (count_in count s) 0 (let l = l1 in omega (arith, inside, l)),
+    )
+
+    go : Dec (j ≡ s) → (get_or (with_header s (count_in count s) words) (segment_place j) 0 ≡ j) × (get_or (with_header s (count_in count s) words) (segment_place j + 1) 0 ≡ count_in count j)
+    go (yes e) = subst (λ n. (get_or (with_header s (count_in count s) words) (segment_place n) 0 ≡ n) × (get_or (with_header s (count_in count s) words) (segment_place n + 1) 0 ≡ count_in count n)) (sym e) here
+    go (no ne) =
+        let old = h j (omega (arith, less, ne)) in (
+          two_others words (segment_place s) (segment_place s + 1) s (count_in count s) (segment_place j) (λ e. ne (omega (arith, e))) (λ e. omega (arith, e)) ∙ old.0,
+          two_others words (segment_place s) (segment_place s + 1) s (count_in count s) (segment_place j + 1) (λ e. omega (arith, e)) (λ e. ne (omega (arith, e))) ∙ old.1,
+        )
+
+-- the totals stand before all segments
+pub totals_written : (change : Change) (active words : List ℕ) (count : ℕ) → 2 ≤ length words → HasMembers change active words count → HaveHeaders words count (segments count) → IsWritten change active count (with_totals count words)
+totals_written change active words count wide members headers =
+    let l1 = length-set words 0 (segments count) in record {
+      head = get_or-set_other (set words 0 (segments count)) 1 0 count 0 (λ e. omega (arith, e)) ∙ get_or-set_same words 0 (segments count) 0 (omega (arith, wide));
+      number = get_or-set_same (set words 0 (segments count)) 1 count 0 (omega (arith, wide, l1));
+      headers = λ s less. let h = headers s less in (two_others words 0 1 (segments count) count (segment_place s) (λ e. omega (arith, e)) (λ e. omega (arith, e)) ∙ h.0, two_others words 0 1 (segments count) count (segment_place s + 1) (λ e. omega (arith, e)) (λ e. omega (arith, e)) ∙ h.1);
+      members = λ i less. same i ∙ members i less;
+    }
+  where
+    same : SameMembers words (with_totals count words)
+    same i k = record {
+      span = record {
+        first = two_others words 0 1 (segments count) count (member_place i) (λ e. omega (arith, e)) (λ e. omega (arith, e)) k;
+        last = two_others words 0 1 (segments count) count (member_place i + 1) (λ e. omega (arith, e)) (λ e. omega (arith, e)) k;
+      };
+      payload = two_others words 0 1 (segments count) count (member_place i + 2) (λ e. omega (arith, e)) (λ e. omega (arith, e)) k;
+    }

@@ -1,5 +1,5 @@
 -- What a copy is to list: what the active one lists, with one member more or one less.
-use Rattle.std.specs.Prelude.{◌≡◌, ℕ, ◌+◌, ◌-◌, ◌<◌, ◌≤◌, ◌==◌, nat_lt, List, slice_index, slice_set}
+use Rattle.std.specs.Prelude.{◌≡◌, ℕ, ◌+◌, ◌-◌, ◌<◌, ◌≤◌, ◌⊎◌, ◌==◌, nat_lt, List, slice_index, slice_set}
 use Rattle.std.specs.Prelude.{if◌then◌else◌}
 use Rattle.reg_model.specs.declared.span.Member.{Member}
 use Rattle.array_publish.specs.declared.writing.Change.{Change}
@@ -17,6 +17,13 @@ wanted (Put place m) active i =
     else (if i == place then m else member_in active (i - 1))
 wanted (Take place) active i =
     if nat_lt i place then member_in active i else member_in active (i + 1)
+
+-- the members before the i-th end below the address, and those from it on, of so many, don't
+abbrev pub EndsBelow : List ℕ → ℕ → ℕ → Type 0
+EndsBelow words address i = (i ≡ 0) ⊎ ((member_in words (i - 1)).span.last < address)
+
+abbrev pub EndsFrom : List ℕ → ℕ → ℕ → ℕ → Type 0
+EndsFrom words address count i = (i ≡ count) ⊎ (address ≤ (member_in words i).span.last)
 
 -- a member is put between two or at an end; one that is there is taken
 abbrev pub HasPlace : Change → ℕ → Type 0
@@ -39,6 +46,11 @@ with_member i m words =
     slice_set (slice_set (slice_set words (member_place i) m.span.first)
     (member_place i + 1) m.span.last) (member_place i + 2) m.payload
 
+-- a segment's number of the one below it, and its count
+abbrev pub with_header : ℕ → ℕ → List ℕ → List ℕ
+with_header s count words =
+    slice_set (slice_set words (segment_place s) s) (segment_place s + 1) count
+
 -- so many segments have their numbers and their counts, for so many members
 abbrev pub HaveHeaders : List ℕ → ℕ → ℕ → Type 0
 HaveHeaders words count upto = (s : ℕ) → s < upto → (slice_index words (segment_place s) ≡ s)
@@ -48,6 +60,14 @@ HaveHeaders words count upto = (s : ℕ) → s < upto → (slice_index words (se
 abbrev pub HasMembers : Change → List ℕ → List ℕ → ℕ → Type 0
 HasMembers change active words upto =
     (i : ℕ) → i < upto → member_in words i ≡ wanted change active i
+
+-- the number of segments in use, and that of members
+abbrev pub with_totals : ℕ → List ℕ → List ℕ
+with_totals count words = slice_set (slice_set words 0 (segments count)) 1 count
+
+-- all members are as they were
+abbrev pub SameMembers : List ℕ → List ℕ → Type 0
+SameMembers words words' = (i : ℕ) → member_in words' i ≡ member_in words i
 
 -- A copy has all words that it is to have, for so many members.
 pub record IsWritten (change : Change) (active : List ℕ) (count : ℕ)

@@ -25,6 +25,9 @@ const HEADER_WORDS: u32 = 2;
 /// The words of a member: its first and its last address, and its payload.
 const MEMBER_WORDS: u32 = 3;
 
+/// Where a copy says how many segments are in use.
+pub const HEAD: u32 = 0;
+
 /// Where a copy says how many members it lists.
 pub const COUNT: u32 = 1;
 

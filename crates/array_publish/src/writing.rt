@@ -1,13 +1,16 @@
 //! The copy that isn't active, written under the loader's lock: only words that differ are stored.
-ghost use Rattle.std.specs.Prelude.{◌≡◌, ℕ, ◌+◌, ◌<◌, ◌≤◌, List, length, slice_index, slice_set};
+ghost use Rattle.std.specs.Prelude.{◌≡◌, ◌*◌, ◌<◌, ◌≤◌, slice_index, slice_set};
 ghost use Rattle.word_rule.specs.Callers.{IsMemberOf};
-ghost use Rattle.word_rule.specs.Places.{copy_words};
+ghost use Rattle.word_rule.specs.Places.{copy_words, segments};
 ghost use Rattle.array_publish.specs.Holders.{IsHolder, Spells, active_words, member_in};
 ghost use Rattle.array_publish.specs.Holders.{spare_words};
-ghost use Rattle.array_publish.specs.Writing.{AreKnown, HasMembers, HasPlace, changed_count};
-ghost use Rattle.array_publish.specs.Writing.{IsWritten, wanted, with_member};
+ghost use Rattle.array_publish.specs.Writing.{AreKnown, EndsBelow, EndsFrom, HasMembers, HasPlace};
+ghost use Rattle.array_publish.specs.Writing.{HaveHeaders};
+ghost use Rattle.array_publish.specs.Writing.{IsWritten, SameMembers, changed_count, wanted};
+ghost use Rattle.array_publish.specs.Writing.{with_header, with_member, with_totals};
+ghost use Rattle.word_rule.specs.Copies.{count_in};
 
-use crate::walk::{COUNT, Listed, place_of_copy, place_of_member, place_of_segment};
+use crate::walk::{COUNT, HEAD, Listed, place_of_copy, place_of_member, place_of_segment};
 use reg_model::Member;
 use segment_array::segments_for;
 use word_rule::{Caller, Words};
@@ -83,6 +86,30 @@ pub fn active_member(words: &Words, me: &mut Caller, active: u32, index: u32) ->
     listed.member()
 }
 
+/// How many members of the active copy end below the address. Half of those that are left are
+/// passed by at a time.
+pub fn ending_below(words: &Words, me: &mut Caller, active: &ActiveCopy, address: u64) -> u32
+    requires holder { IsHolder words.now active.now.copy me.old }
+    requires room { active.now.count ≤ words.now.terms.loads }
+    ensures same { Spells (spare_words me.old.log.loader) me.old me.new }
+    ensures inside { result ≤ active.now.count }
+    ensures below { EndsBelow (active_words me.old.log.loader) address result }
+    ensures above { EndsFrom (active_words me.old.log.loader) address active.now.count result }
+{
+    let mut low = 0;
+    let mut high = active.count;
+    while low < high {
+        let index = low + (high - low) / 2;
+        let last = active_word(words, me, active.copy, place_of_member(index) + 1);
+        if last < address {
+            low = index + 1;
+        } else {
+            high = index;
+        }
+    }
+    low
+}
+
 /// The member with this index after a change.
 fn changed_member(
     words: &Words,
@@ -140,4 +167,57 @@ fn write_members(
         let member = changed_member(words, me, active, change, index);
         store_member(words, me, active.copy, index, &member);
     }
+}
+
+/// Says of a segment which is below it, and how many of so many members it has.
+fn store_header(words: &Words, me: &mut Caller, copy: u32, segment: u32, count: u32)
+    requires holder { IsHolder words.now copy me.old }
+    requires inside { segment < segments words.now.terms.loads }
+    requires some { FULL * segment ≤ count }
+    ensures { Spells (with_header segment (count_in count segment) (spare_words me.old.log.loader))
+        me.old me.new }
+{
+    let place = place_of_segment(segment);
+    store_word(words, me, copy, place, segment as u64);
+    let members = FULL.min(count - FULL * segment);
+    store_word(words, me, copy, place + 1, members as u64);
+}
+
+/// Says of each segment which is below it, and how many members it has.
+fn write_headers(words: &Words, me: &mut Caller, copy: u32, count: u32)
+    requires holder { IsHolder words.now copy me.old }
+    requires room { count ≤ words.now.terms.loads }
+    ensures same { Spells (spare_words me.new.log.loader) me.old me.new }
+    ensures holder { IsHolder words.now copy me.new }
+    ensures headers { HaveHeaders (spare_words me.new.log.loader) count (segments count) }
+    ensures members { SameMembers (spare_words me.old.log.loader) (spare_words me.new.log.loader) }
+{
+    for segment in 0..segments_for(count) {
+        store_header(words, me, copy, segment, count);
+    }
+}
+
+/// Says how many segments are in use, and how many members there are.
+fn store_totals(words: &Words, me: &mut Caller, copy: u32, count: u32)
+    requires holder { IsHolder words.now copy me.old }
+    ensures { Spells (with_totals count (spare_words me.old.log.loader)) me.old me.new }
+{
+    store_word(words, me, copy, HEAD, segments_for(count) as u64);
+    store_word(words, me, copy, COUNT, count as u64);
+}
+
+/// Writes the copy that isn't active: what the active one lists, after a change.
+pub fn write_copy(words: &Words, me: &mut Caller, active: &ActiveCopy, change: &Change, count: u32)
+    requires holder { IsHolder words.now active.now.copy me.old }
+    requires known { AreKnown words.now.terms (active_words me.old.log.loader) active.now.count }
+    requires place { HasPlace change.now active.now.count }
+    requires count { count ≡ changed_count change.now active.now.count }
+    requires room { count ≤ words.now.terms.loads }
+    ensures same { Spells (spare_words me.new.log.loader) me.old me.new }
+    ensures written { IsWritten change.now (active_words me.old.log.loader) count
+        (spare_words me.new.log.loader) }
+{
+    write_members(words, me, active, change, count);
+    write_headers(words, me, active.copy, count);
+    store_totals(words, me, active.copy, count);
 }

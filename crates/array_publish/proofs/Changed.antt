@@ -1,0 +1,107 @@
+-- A list with one member more, or one less: where its members stand, and what it has.
+use Rattle.std.proofs.Common.{◌≡◌, ◌≢◌, ℕ, zero, suc, ◌+◌, ◌-◌, ◌<◌, ◌≤◌, ◌⊎◌, ◌↔◌, inl, inr, ⊎_elim, List, [], ◌∷◌, ◌++◌, length, length-append, take, drop, get_or, Contains, sym, refl, ap, ◌∙◌, subst, arith, ◌==◌, true, false, Option, Some, None, IfSome, slice_get, eq-eqb, ne_eqb, nat_lt, lt_of_not-le}
+use Rattle.std.specs.List.{All, AllByRecursion}
+use Rattle.std.proofs.lemmas.List.{length-drop, length-take}
+use native.Mathlib.Decide.{ℕ_discrete, dec_le}
+use borrow.Author.Tests.{lt-ltb, le-ltb}
+use Rattle.reg_model.specs.SpanData.{Overlaps}
+use Rattle.reg_model.specs.State.{IsFree}
+use Rattle.reg_model.specs.declared.span.Member.{Member}
+use Rattle.reg_model.proofs.Spans.{overlap_bounds}
+use Rattle.segment_array.specs.Ascending.{AscendFrom}
+use Rattle.segment_array.specs.Placing.{IsPlaceOf, IsWithMember}
+use Rattle.segment_array.proofs.Places.{with_member}
+use Rattle.word_rule.specs.Places.{member_place, segments}
+use Rattle.word_rule.specs.Copies.{ListsMembers, StandFrom}
+use Rattle.array_publish.specs.Holders.{member_in}
+use Rattle.array_publish.specs.Writing.{IsWritten, wanted}
+use Rattle.array_publish.specs.declared.writing.Change.TheVariants.{Put, Take}
+
+-- ---- members by their index
+
+get_front : (xs ys : List Member) (i : ℕ) (d : Member) → i < length xs → get_or (xs ++ ys) i d ≡ get_or xs i d
+get_front [] ys i d h = absurd (omega (arith, h))
+get_front (x ∷ xs) ys zero d h = refl
+get_front (x ∷ xs) ys (suc i) d h = get_front xs ys i d (omega (arith, h))
+
+get_behind : (xs ys : List Member) (i : ℕ) (d : Member) → get_or (xs ++ ys) (length xs + i) d ≡ get_or ys i d
+get_behind [] ys i d = let e : zero + i ≡ i = omega arith in ap (λ j. get_or ys j d) e
+get_behind (x ∷ xs) ys i d = (let e : length (x ∷ xs) + i ≡ suc (length xs + i) = omega arith in ap (λ j. get_or (x ∷ (xs ++ ys)) j d) e) ∙ get_behind xs ys i d
+
+get_taken : (k i : ℕ) (xs : List Member) (d : Member) → i < k → get_or (take k xs) i d ≡ get_or xs i d
+get_taken zero i xs d h = absurd (omega (arith, h))
+get_taken (suc k) i [] d h = refl
+get_taken (suc k) zero (x ∷ xs) d h = refl
+get_taken (suc k) (suc i) (x ∷ xs) d h = get_taken k i xs d (omega (arith, h))
+
+get_dropped : (k i : ℕ) (xs : List Member) (d : Member) → get_or (drop k xs) i d ≡ get_or xs (k + i) d
+get_dropped zero i xs d = let e : i ≡ zero + i = omega arith in ap (λ j. get_or xs j d) e
+get_dropped (suc k) i [] d = refl
+get_dropped (suc k) i (x ∷ xs) d = get_dropped k i xs d ∙ (let e : suc (k + i) ≡ suc k + i = omega arith in ap (λ j. get_or (x ∷ xs) j d) e)
+
+-- what the words say of a member is that member
+pub stands_at : (words : List ℕ) (j i : ℕ) (xs : List Member) (d : Member) → StandFrom words j xs → i < length xs → member_in words (j + i) ≡ get_or xs i d
+stands_at words j i [] d h less = absurd (omega (arith, less))
+stands_at words j zero (x ∷ xs) d h less =
+    let e : j + zero ≡ j = omega arith in ap (member_in words) e ∙ (λ k. record { span = record { first = h.0 k; last = h.1 k }; payload = h.2 k })
+stands_at words j (suc i) (x ∷ xs) d h less =
+    let e : j + suc i ≡ j + 1 + i = omega arith in ap (member_in words) e ∙ stands_at words (j + 1) i xs d h.3 (omega (arith, less))
+
+-- and words that say so of each member list them
+pub stand_each : (words : List ℕ) (j : ℕ) (xs : List Member) (d : Member) → ((i : ℕ) → i < length xs → member_in words (j + i) ≡ get_or xs i d) → StandFrom words j xs
+stand_each words j [] d h = tt
+stand_each words j (x ∷ xs) d h =
+    let e : j + 0 ≡ j = omega arith in
+    let here : member_in words j ≡ x = ap (member_in words) (sym e) ∙ h 0 (omega arith) in
+    (ap (λ m. m.span.first) here, ap (λ m. m.span.last) here, ap (λ m. m.payload) here, stand_each words (j + 1) xs d (λ i less. (let f : j + 1 + i ≡ j + suc i = omega arith in ap (member_in words) f) ∙ h (suc i) (omega (arith, less))))
+
+-- ---- one member more
+
+abbrev pub put_at : ℕ → Member → List Member → List Member
+put_at k m xs = take k xs ++ m ∷ drop k xs
+
+pub put_length : (k : ℕ) (m : Member) (xs : List Member) → k ≤ length xs → length (put_at k m xs) ≡ length xs + 1
+put_length k m xs le =
+    let a = length-append (take k xs) (m ∷ drop k xs) in let b = length-take k xs in let c = length-drop k xs in omega (arith, a, b, c, le)
+
+pub put_member : (words : List ℕ) (xs : List Member) (k i : ℕ) (m : Member) → StandFrom words 0 xs → k ≤ length xs → i < length xs + 1 → wanted (Put k m) words i ≡ get_or (put_at k m xs) i m
+put_member words xs k i m h le less = go (dec_le k i) (ℕ_discrete i k)
+  where
+    len : length (take k xs) ≡ k
+    len = let b = length-take k xs in omega (arith, b, le)
+
+    at : (j : ℕ) → j < length xs → member_in words j ≡ get_or xs j m
+    at j inside = (let e : j ≡ 0 + j = omega arith in ap (member_in words) e) ∙ stands_at words 0 j xs m h inside
+
+    go : Dec (k ≤ i) → Dec (i ≡ k) → wanted (Put k m) words i ≡ get_or (put_at k m xs) i m
+    go (no high) same =
+        let less_k = lt_of_not-le high in
+        let l = len in
+        rw (lt-ltb i k less_k) (at i (omega (arith, less_k, le)) ∙ sym (get_front (take k xs) (m ∷ drop k xs) i m (omega (arith, l, less_k)) ∙ get_taken k i xs m less_k))
+    go (yes low) (yes e) =
+        let l = len in let place : i ≡ length (take k xs) + 0 = omega (arith, e, l) in
+        rw (le-ltb i k low, eq-eqb i k e) (sym (ap (λ j. get_or (put_at k m xs) j m) place ∙ get_behind (take k xs) (m ∷ drop k xs) 0 m))
+    go (yes low) (no ne) =
+        let l = len in let place : i ≡ length (take k xs) + suc (i - 1 - k) = omega (arith, ne, low, l) in let back : k + (i - 1 - k) ≡ i - 1 = omega (arith, ne, low) in
+        rw (le-ltb i k low, ne_eqb i k ne) (at (i - 1) (omega (arith, less, ne, low)) ∙ sym (ap (λ j. get_or (put_at k m xs) j m) place ∙ (get_behind (take k xs) (m ∷ drop k xs) (suc (i - 1 - k)) m ∙ (get_dropped k (i - 1 - k) xs m ∙ ap (λ j. get_or xs j m) back))))
+
+-- ---- where a span fits among members that ascend
+
+pub all_below : (low k a : ℕ) (xs : List Member) (d : Member) → AscendFrom low xs → k ≤ length xs → (k ≡ 0) ⊎ ((get_or xs (k - 1) d).span.last < a) → AllByRecursion (λ x. x.span.last < a) (take k xs)
+all_below low zero a xs d h le end = tt
+all_below low (suc k) a [] d h le end = absurd (omega (arith, le))
+all_below low (suc zero) a (x ∷ xs) d h le end = (⊎_elim (λ (e : 1 ≡ 0). absurd (omega (arith, e))) (λ (l : x.span.last < a). l) end, tt)
+all_below low (suc (suc k)) a (x ∷ []) d h le end = absurd (omega (arith, le))
+all_below low (suc (suc k)) a (x ∷ y ∷ xs) d h le end =
+    let rest = all_below (x.span.last + 1) (suc k) a (y ∷ xs) d h.2 (omega (arith, le)) (⊎_elim (λ (e : suc (suc k) ≡ 0). absurd (omega (arith, e))) (λ (l : (get_or (x ∷ y ∷ xs) (suc (suc k) - 1) d).span.last < a). inr (let e : suc (suc k) - 1 ≡ suc (suc k - 1) = omega arith in subst (λ n. (get_or (x ∷ y ∷ xs) n d).span.last < a) e l)) end) in
+    let first = h.2.0 in let ordered = h.2.1 in let l = rest.0 in (omega (arith, first, ordered, l), rest)
+
+pub all_from : (low b : ℕ) (xs : List Member) → AscendFrom low xs → b < low → AllByRecursion (λ x. b < x.span.first) xs
+all_from low b [] h less = tt
+all_from low b (x ∷ xs) h less = let a = h.0 in let o = h.1 in (omega (arith, a, less), all_from (x.span.last + 1) b xs h.2 (omega (arith, a, o, less)))
+
+pub all_above : (low k b : ℕ) (xs : List Member) (d : Member) → AscendFrom low xs → (k ≡ length xs) ⊎ (b < (get_or xs k d).span.first) → AllByRecursion (λ x. b < x.span.first) (drop k xs)
+all_above low zero b [] d h begin = tt
+all_above low zero b (x ∷ xs) d h begin = ⊎_elim (λ (e : 0 ≡ length (x ∷ xs)). absurd (omega (arith, e))) (λ (l : b < x.span.first). let o = h.1 in (l, all_from (x.span.last + 1) b xs h.2 (omega (arith, l, o)))) begin
+all_above low (suc k) b [] d h begin = tt
+all_above low (suc k) b (x ∷ xs) d h begin = all_above (x.span.last + 1) k b xs d h.2 (⊎_elim (λ (e : suc k ≡ length (x ∷ xs)). inl (omega (arith, e))) (λ (l : b < (get_or xs k d).span.first). inr l) begin)
