@@ -1,7 +1,8 @@
 -- A list with one member more, or one less: where its members stand, and what it has.
 use Rattle.std.proofs.Common.{◌≡◌, ◌≢◌, ℕ, zero, suc, ◌+◌, ◌-◌, ◌<◌, ◌≤◌, ◌⊎◌, ◌↔◌, inl, inr, ⊎_elim, List, [], ◌∷◌, ◌++◌, length, length-append, take, drop, get_or, Contains, sym, refl, ap, ◌∙◌, subst, arith, ◌==◌, true, false, Option, Some, None, IfSome, slice_get, eq-eqb, ne_eqb, nat_lt, lt_of_not-le}
 use Rattle.std.specs.List.{All, AllByRecursion}
-use Rattle.std.proofs.lemmas.List.{length-drop, length-take}
+use Rattle.std.proofs.lemmas.List.{length-drop, length-take, take-append-drop}
+use Rattle.std.proofs.lemmas.List.Elements.{All-append}
 use native.Mathlib.Decide.{ℕ_discrete, dec_le}
 use borrow.Author.Tests.{lt-ltb, le-ltb}
 use Rattle.reg_model.specs.SpanData.{Overlaps}
@@ -12,7 +13,12 @@ use Rattle.segment_array.specs.Ascending.{AscendFrom}
 use Rattle.segment_array.specs.Placing.{IsPlaceOf, IsWithMember}
 use Rattle.segment_array.proofs.Places.{with_member}
 use Rattle.word_rule.specs.Places.{member_place, segments}
-use Rattle.word_rule.specs.Copies.{ListsMembers, StandFrom}
+use Rattle.word_rule.specs.Copies.{ListsMembers, StandFrom, count_in}
+use Rattle.word_rule.specs.Callers.{IsMemberOf}
+use Rattle.word_rule.specs.Steps.{MayPublish}
+use Rattle.word_rule.specs.declared.log.LoaderHolding.{LoaderHolding}
+use Rattle.word_rule.specs.declared.log.Terms.{Terms}
+use Rattle.reg_model.specs.declared.answer.Update.TheVariants as update
 use Rattle.array_publish.specs.Holders.{member_in}
 use Rattle.array_publish.specs.Writing.{IsWritten, wanted}
 use Rattle.array_publish.specs.declared.writing.Change.TheVariants.{Put, Take}
@@ -87,14 +93,15 @@ put_member words xs k i m h le less = go (dec_le k i) (ℕ_discrete i k)
 
 -- ---- where a span fits among members that ascend
 
-pub all_below : (low k a : ℕ) (xs : List Member) (d : Member) → AscendFrom low xs → k ≤ length xs → (k ≡ 0) ⊎ ((get_or xs (k - 1) d).span.last < a) → AllByRecursion (λ x. x.span.last < a) (take k xs)
+pub all_below : (low k a : ℕ) (xs : List Member) (d : Member) → AscendFrom low xs → k ≤ length xs → (k ≡ 0) ⊎ ((get_or xs (k - 1) d).span.last < a) → AllByRecursion (λ x. (x.span.first ≤ x.span.last) × (x.span.last < a)) (take k xs)
 all_below low zero a xs d h le end = tt
 all_below low (suc k) a [] d h le end = absurd (omega (arith, le))
-all_below low (suc zero) a (x ∷ xs) d h le end = (⊎_elim (λ (e : 1 ≡ 0). absurd (omega (arith, e))) (λ (l : x.span.last < a). l) end, tt)
+all_below low (suc zero) a (x ∷ xs) d h le end = ((h.1, ⊎_elim (λ (e : 1 ≡ 0). absurd (omega (arith, e))) (λ (l : x.span.last < a). l) end), tt)
 all_below low (suc (suc k)) a (x ∷ []) d h le end = absurd (omega (arith, le))
 all_below low (suc (suc k)) a (x ∷ y ∷ xs) d h le end =
-    let rest = all_below (x.span.last + 1) (suc k) a (y ∷ xs) d h.2 (omega (arith, le)) (⊎_elim (λ (e : suc (suc k) ≡ 0). absurd (omega (arith, e))) (λ (l : (get_or (x ∷ y ∷ xs) (suc (suc k) - 1) d).span.last < a). inr (let e : suc (suc k) - 1 ≡ suc (suc k - 1) = omega arith in subst (λ n. (get_or (x ∷ y ∷ xs) n d).span.last < a) e l)) end) in
-    let first = h.2.0 in let ordered = h.2.1 in let l = rest.0 in (omega (arith, first, ordered, l), rest)
+    let same : suc (suc k) - 1 ≡ suc (suc k - 1) = omega arith in
+    let rest = all_below (x.span.last + 1) (suc k) a (y ∷ xs) d h.2 (omega (arith, le)) (⊎_elim (λ (e : suc (suc k) ≡ 0). absurd (omega (arith, e))) (λ (l : (get_or (x ∷ y ∷ xs) (suc (suc k) - 1) d).span.last < a). inr (subst (λ n. (get_or (x ∷ y ∷ xs) n d).span.last < a) same l)) end) in
+    let first = h.2.0 in let ordered = h.2.1 in let l = rest.0.1 in ((h.1, omega (arith, first, ordered, l)), rest)
 
 pub all_from : (low b : ℕ) (xs : List Member) → AscendFrom low xs → b < low → AllByRecursion (λ x. b < x.span.first) xs
 all_from low b [] h less = tt
@@ -105,3 +112,61 @@ all_above low zero b [] d h begin = tt
 all_above low zero b (x ∷ xs) d h begin = ⊎_elim (λ (e : 0 ≡ length (x ∷ xs)). absurd (omega (arith, e))) (λ (l : b < x.span.first). let o = h.1 in (l, all_from (x.span.last + 1) b xs h.2 (omega (arith, l, o)))) begin
 all_above low (suc k) b [] d h begin = tt
 all_above low (suc k) b (x ∷ xs) d h begin = all_above (x.span.last + 1) k b xs d h.2 (⊎_elim (λ (e : suc k ≡ length (x ∷ xs)). inl (omega (arith, e))) (λ (l : b < (get_or xs k d).span.first). inr l) begin)
+
+pub by_index : (P : Member → Type 0) (xs : List Member) → AllByRecursion P xs → All P xs
+by_index P [] h k d l = absurd (omega (arith, l))
+by_index P (x ∷ xs) h zero d l = h.0
+by_index P (x ∷ xs) h (suc k) d l = by_index P xs h.1 k d (omega (arith, l))
+
+pub all_to : (P Q : Member → Type 0) → ((x : Member) → P x → Q x) → (xs : List Member) → AllByRecursion P xs → AllByRecursion Q xs
+all_to P Q f [] h = tt
+all_to P Q f (x ∷ xs) h = (f x h.0, all_to P Q f xs h.1)
+
+above_some : (k b : ℕ) (xs : List Member) (d : Member) → (k ≡ length xs) ⊎ (b < (get_or xs k d).span.first) → IfSome (slice_get xs k) (λ x. b < x.span.first)
+above_some zero b [] d h = tt
+above_some zero b (x ∷ xs) d h = ⊎_elim (λ (e : 0 ≡ length (x ∷ xs)). absurd (omega (arith, e))) (λ (l : b < x.span.first). l) h
+above_some (suc k) b [] d h = tt
+above_some (suc k) b (x ∷ xs) d h = above_some k b xs d (⊎_elim (λ (e : suc k ≡ length (x ∷ xs)). inl (omega (arith, e))) (λ (l : b < (get_or xs k d).span.first). inr l) h)
+
+-- a span between two members, or at an end, overlaps none, and has its place there
+pub fits_at : (xs : List Member) (k : ℕ) (m d : Member) → AscendFrom 0 xs → m.span.first ≤ m.span.last → k ≤ length xs → (k ≡ 0) ⊎ ((get_or xs (k - 1) d).span.last < m.span.first) → (k ≡ length xs) ⊎ (m.span.last < (get_or xs k d).span.first) → IsFree m.span xs × IsPlaceOf m.span.first xs k
+fits_at xs k m d h span le end begin =
+    let front = all_below 0 k m.span.first xs d h le end in
+    let back = all_above 0 k m.span.last xs d h begin in
+    let apart_front = all_to (λ x. (x.span.first ≤ x.span.last) × (x.span.last < m.span.first)) (λ x. ¬ Overlaps x.span m.span) (λ x l over. let b = overlap_bounds x.span m.span over in let c = b.1 in let e = l.1 in omega (arith, c, e)) (take k xs) front in
+    let apart_back = all_to (λ x. m.span.last < x.span.first) (λ x. ¬ Overlaps x.span m.span) (λ x l over. let b = overlap_bounds x.span m.span over in let c = b.0 in omega (arith, c, l)) (drop k xs) back in
+    (
+      subst (IsFree m.span) (take-append-drop k xs) (All-append (λ x. ¬ Overlaps x.span m.span) (take k xs) (drop k xs) (by_index (λ x. ¬ Overlaps x.span m.span) (take k xs) apart_front) (by_index (λ x. ¬ Overlaps x.span m.span) (drop k xs) apart_back)),
+      record {
+        inside = le;
+        below = by_index (λ x. x.span.first ≤ m.span.first) (take k xs) (all_to (λ x. (x.span.first ≤ x.span.last) × (x.span.last < m.span.first)) (λ x. x.span.first ≤ m.span.first) (λ x l. let a = l.0 in let b = l.1 in omega (arith, a, b)) (take k xs) front);
+        above = above_some k m.span.first xs d (⊎_elim (λ (e : k ≡ length xs). inl e) (λ (l : m.span.last < (get_or xs k d).span.first). inr (omega (arith, l, span))) begin);
+      },
+    )
+
+-- the words that were written list the members with this one
+pub lists_put : (k n : ℕ) (m : Member) (xs : List Member) (active spare : List ℕ) → ListsMembers active xs → n ≡ length xs → k ≤ n → AscendFrom 0 (put_at k m xs) → IsWritten (Put k m) active (n + 1) spare → ListsMembers spare (put_at k m xs)
+lists_put k n m xs active spare lists len le ascending written =
+    let count : n + 1 ≡ length (put_at k m xs) = (let a = put_length k m xs (omega (arith, len, le)) in omega (arith, a, len)) in record {
+      head = written.head ∙ ap segments count;
+      count = written.number ∙ count;
+      previous = λ s less. (written.headers s (omega (arith, less, count))).0;
+      counts = λ s less. (written.headers s (omega (arith, less, count))).1 ∙ ap (λ c. count_in c s) count;
+      ascending = ascending;
+      stand = stand_each spare 0 (put_at k m xs) m (λ i less. (let e : 0 + i ≡ i = omega arith in ap (member_in spare) e) ∙ (written.members i (omega (arith, less, count)) ∙ put_member active xs k i m lists.stand (omega (arith, len, le)) (omega (arith, less, count, len))));
+    }
+
+-- so a load may be published
+pub may_load : (t : Terms) (allowance k n : ℕ) (m d : Member) (xs : List Member) (h : LoaderHolding) → 0 < allowance → IsMemberOf t m → ListsMembers h.active xs → n ≡ length xs → n < t.loads → k ≤ n → IsFree m.span t.fixed → (k ≡ 0) ⊎ ((get_or xs (k - 1) d).span.last < m.span.first) → (k ≡ length xs) ⊎ (m.span.last < (get_or xs k d).span.first)
+    → IsWritten (Put k m) h.active (n + 1) h.spare → MayPublish t allowance (update.Load m) h
+may_load t allowance k n m d xs h due member lists len room le fixed end begin written =
+    let fit = fits_at xs k m d lists.ascending member.0.ordered (omega (arith, le, len)) end begin in
+    let w = with_member xs m k lists.ascending member.0.ordered fit.0 fit.1 in record {
+      before = xs;
+      after = put_at k m xs;
+      due = due;
+      member = member;
+      active = lists;
+      spare = lists_put k n m xs h.active h.spare lists len le w.ascending written;
+      publishes = (All-append (λ x. ¬ Overlaps x.span m.span) t.fixed xs fixed fit.0, omega (arith, room, len), w.kept);
+    }

@@ -5,3 +5,5 @@ pub mod Lookups
 pub mod Works
 pub mod Written
 pub mod Changed
+pub mod Overlaps
+pub mod Knowing

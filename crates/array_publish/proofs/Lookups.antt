@@ -74,7 +74,7 @@ same_found pc low members loaded h same = go (member_at pc loaded) refl (member_
     go None e (Some m) f = let d = found_there pc members m f in
         let found : IsSome (member_at pc loaded) = contains_find (λ (x : Member). contains x.span pc) loaded m ((same m).0 d.0) d.1 in absurd (true≢false (sym (subst IsSome e found)))
 
-all_contains : (P : Member → Type 0) (members : List Member) (m : Member) → AllByRecursion P members → Contains members m → P m
+pub all_contains : (P : Member → Type 0) (members : List Member) (m : Member) → AllByRecursion P members → Contains members m → P m
 all_contains P [] m h (k, l, e) = absurd (omega (arith, l))
 all_contains P (x ∷ members) m h (zero, l, e) = subst P e h.0
 all_contains P (x ∷ members) m h (suc k, l, e) = all_contains P members m h.1 (k, omega (arith, l), e)

@@ -3,3 +3,4 @@ pub mod Search
 pub mod Lookup
 pub mod Holders
 pub mod Writing
+pub mod Update

@@ -12,6 +12,7 @@ mod fixed;
 mod lookup;
 #[cfg(test)]
 mod tests;
+mod update;
 mod walk;
 mod writing;
 

@@ -1,4 +1,4 @@
-use Rattle.std.proofs.Common.{◌≡◌, ◌+◌, ◌<◌, ◌≤◌, List, ℕ, get_or, inl, inr, refl, sym, ap, ◌∙◌, subst, arith}
+use Rattle.std.proofs.Common.{◌≡◌, ◌+◌, ◌-◌, ◌/◌, ◌<◌, ◌≤◌, List, ℕ, get_or, inl, inr, refl, sym, ap, ◌∙◌, subst, arith}
 use Rattle.word_rule.specs.CallerData.{CallerData, WordsData}
 use Rattle.array_publish.specs.Holders.{Spells, active_words, member_in, spare_words}
 use Rattle.array_publish.proofs.Works.{Written, written_next, written_none, spare_wide}
@@ -21,10 +21,13 @@ loop-low-preserved-then-last-address c =
     let order = inv.order in let test = c.loop-low-test.true in
     let same = subst (λ ws. Spells ws k c.active_word-last.new.me) inv.work.spare c.active_word-last.ensures.same in
     let value = c.active_word-last.ensures.value ∙ (λ i. get_or (inv.work.active i) (c.place_of_member.ensures i + 1) 0) in
-    let true_test = c.if-last-address.true in record {
+    let index : ℕ = c.loop-low.low + (c.loop-low.high - c.loop-low.low) / 2 in
+    let before : index ≡ index + 1 - 1 = omega arith in
+    let true_test = c.if-last-address.true in
+    let ends : (member_in (active_words k0.log.loader) index).span.last < c.args.address = omega (arith, value, true_test) in record {
       work = written_next w c.args.active.now.copy (spare_words k0.log.loader) (spare_words k0.log.loader) k0 k c.active_word-last.new.me inv.work same (spare_wide w c.args.active.now.copy k0 c.requires.holder);
       order = (omega (arith, order, test), order.1);
-      below = inr (subst (λ i. (member_in (active_words k0.log.loader) i).span.last < c.args.address) (omega arith) (omega (arith, value, true_test)));
+      below = inr (subst (λ i. (member_in (active_words k0.log.loader) i).span.last < c.args.address) before ends);
       above = inv.above;
     }
 

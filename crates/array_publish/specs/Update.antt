@@ -1,0 +1,91 @@
+-- What an update of the loader makes of its caller.
+use Rattle.std.specs.Prelude.{◌≡◌, ℕ, ◌+◌, ◌-◌, ◌<◌, ◌≤◌, Bool, List, [], ◌∷◌, ◌++◌, length, Option, Some}
+use Rattle.std.specs.Prelude.{None, IsSomeAnd}
+use Rattle.std.specs.List.{AllByRecursion}
+use mathlib.Core.List.{IsPrefix}
+use Rattle.reg_model.specs.SpanData.{SpanData}
+use Rattle.reg_model.specs.State.{IsFree, IsLowestOverlap, objects}
+use Rattle.reg_model.specs.History.{state_after}
+use Rattle.reg_model.specs.declared.answer.Loading.{Loading}
+use Rattle.reg_model.specs.declared.answer.Loading.TheVariants as loading
+use Rattle.reg_model.specs.declared.answer.Receipt.{Receipt}
+use Rattle.reg_model.specs.declared.answer.Receipt.TheVariants as receipt
+use Rattle.reg_model.specs.declared.answer.Update.{Update}
+use Rattle.reg_model.specs.declared.answer.Update.TheVariants as update
+use Rattle.reg_model.specs.declared.span.Member.{Member}
+use Rattle.array_publish.specs.declared.writing.ActiveCopy.{ActiveCopy}
+use Rattle.word_rule.specs.declared.log.LoadEvent.{LoadEvent}
+use Rattle.word_rule.specs.declared.log.LoaderHolding.{LoaderHolding}
+use Rattle.word_rule.specs.declared.log.Log.{Log}
+use Rattle.word_rule.specs.declared.log.Sights.{Sights}
+use Rattle.word_rule.specs.declared.log.Terms.{Terms}
+use Rattle.word_rule.specs.CallerData.{CallerData, WordsData}
+use Rattle.word_rule.specs.Callers.{IsMemberOf, start}
+use Rattle.word_rule.specs.Copies.{ListsAll}
+use Rattle.word_rule.specs.Places.{copy_words}
+use Rattle.array_publish.specs.Holders.{IsHolder, active_words, after_work}
+
+-- the lock of the loader is held, and both copies have all their words
+abbrev pub HoldsCopies : Terms → CallerData → Type 0
+HoldsCopies t k = IsSomeAnd k.log.loader
+    (λ h. (length h.active ≡ copy_words t) × (length h.spare ≡ copy_words t))
+
+-- What the holder knows of the active copy: it lists the loaded members of the history that was
+-- seen, so many.
+pub record KnowsCopy (w : WordsData) (a : ActiveCopy) (k : CallerData) : Type 0 where
+  pub holder : IsHolder w a.copy k
+  pub listing : ListsAll (active_words k.log.loader)
+      (state_after (start w.terms) k.log.past).loaded
+  pub count : a.count ≡ length listing.members
+  pub known : AllByRecursion (IsMemberOf w.terms) listing.members
+  pub room : a.count ≤ w.terms.loads
+
+-- a log after work under the lock, which has seen this much
+abbrev pub after_seeing : List Update → List LoadEvent → ℕ → Sights → List ℕ → Bool → Log → Log
+after_seeing past more stores sights spare stored v =
+    record (after_work more stores sights spare stored v) { past = past }
+
+-- Words were loaded and stored under the lock, and maybe more of the history was seen.
+abbrev pub Works : CallerData → CallerData → Type 0
+Works k k' = (past : List Update) × (more : List LoadEvent) × (stores : ℕ) × (sights : Sights)
+    × (spare : List ℕ) × (stored : Bool) × (IsPrefix k.log.past past
+    × (k' ≡ record k { log = after_seeing past more stores sights spare stored k.log }))
+
+-- a log after an update was answered with this receipt, and so many accepted
+abbrev pub after_answer : List Update → List LoadEvent → ℕ → Sights → Option LoaderHolding
+    → Receipt → ℕ → Log → Log
+after_answer past more stores sights loader r accepted v = record v {
+  past = past;
+  budget = record v.budget { allowance = v.budget.allowance - accepted };
+  receipts = record v.receipts { own = v.receipts.own ++ r ∷ [] };
+  trace = record v.trace {
+    loads = v.trace.loads ++ more;
+    writes = v.trace.writes + stores;
+  };
+  sights = sights;
+  loader = loader;
+}
+
+-- The answer to a load is right, where `seen` was the history before and `past` is it afterwards.
+abbrev pub IsRightLoad : Terms → Member → List Update → List Update → Loading → Type 0
+IsRightLoad t m seen past (loading.Done number) = (before : List Update) × (IsPrefix seen before
+    × (past ≡ before ++ update.Load m ∷ []) × (number ≡ length past))
+IsRightLoad t m seen past (loading.Overlap other stamp) = IsPrefix seen past
+    × (stamp ≡ length past)
+    × IsLowestOverlap m.span (objects (state_after (start t) past)) other
+IsRightLoad t m seen past (loading.LoadFull stamp) = IsPrefix seen past
+    × (stamp ≡ length past)
+    × IsFree m.span (objects (state_after (start t) past))
+    × (length (state_after (start t) past).loaded ≡ t.loads)
+IsRightLoad t m seen past loading.Spent = ⊥
+
+abbrev pub accepted_load : Loading → ℕ
+accepted_load (loading.Done number) = 1
+accepted_load _ = 0
+
+-- A load was answered under the lock, which is still held.
+abbrev pub AnswersLoad : Terms → Member → CallerData → CallerData → Loading → Type 0
+AnswersLoad t m k k' answer = (past : List Update) × (more : List LoadEvent) × (stores : ℕ)
+    × (sights : Sights) × (h : LoaderHolding) × (IsRightLoad t m k.log.past past answer
+    × (k' ≡ record k { log = after_answer past more stores sights (Some h)
+        (receipt.Load m answer) (accepted_load answer) k.log }))

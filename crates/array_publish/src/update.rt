@@ -1,0 +1,87 @@
+//! Updates of the loader, under its lock.
+ghost use Rattle.std.specs.Prelude.{◌≡◌, ◌<◌, ◌≤◌, ◌⊎◌, ◌++◌, List, length, IfSome, IfNone};
+ghost use Rattle.reg_model.specs.State.{IsFree, IsLowestOverlap};
+ghost use Rattle.reg_model.specs.declared.span.Member.{Member};
+ghost use Rattle.segment_array.specs.Ascending.{AscendFrom};
+ghost use Rattle.word_rule.specs.CallerData.{due};
+ghost use Rattle.word_rule.specs.Callers.{IsMemberOf};
+ghost use Rattle.word_rule.specs.Copies.{ListsMembers};
+ghost use Rattle.array_publish.specs.Holders.{IsHolder, Spells, active_words, member_in};
+ghost use Rattle.array_publish.specs.Holders.{spare_words};
+ghost use Rattle.array_publish.specs.Writing.{EndsBelow, EndsFrom};
+ghost use Rattle.array_publish.specs.Update.{AnswersLoad, HoldsCopies, KnowsCopy, Works};
+
+use crate::walk::COUNT;
+use crate::writing::{ActiveCopy, Change, active_member, active_word, ending_below, write_copy};
+use reg_model::{Loading, Member, Span, Update};
+use word_rule::{Ask, Caller, Words};
+
+/// What the lower half of the clock counts up to.
+const LOWER: u64 = 1 << 32;
+
+/// Which copy is active, and how many members it lists.
+fn active_copy(words: &Words, me: &mut Caller) -> ActiveCopy
+    requires table { me.old.table ≡ words.now.table }
+    requires held { HoldsCopies words.now.terms me.old }
+    ensures works { Works me.old me.new }
+    ensures knows { KnowsCopy words.now result me.new }
+{
+    let clock = words.load_clock(me, Ask::Nothing);
+    let copy = (clock / LOWER % 2) as u32;
+    let count = active_word(words, me, copy, COUNT) as u32;
+    ActiveCopy { copy, count }
+}
+
+/// Of members that ascend, the first one that overlaps the span.
+fn first_overlap(members: &[Member], span: &Span) -> Option<Member>
+    requires { AscendFrom 0 members.now }
+    ensures found { IfSome result (IsLowestOverlap span.now members.now) }
+    ensures none { IfNone result (IsFree span.now members.now) }
+{
+    for member in members {
+        if member.span.overlaps(span) {
+            return Some(*member);
+        }
+    }
+    None
+}
+
+/// The lowest of the fixed and the loaded members that overlap a span, below which so many loaded
+/// ones end.
+fn lowest_overlap(
+    words: &Words,
+    me: &mut Caller,
+    active: &ActiveCopy,
+    place: u32,
+    span: &Span,
+) -> Option<Member>
+    requires knows { KnowsCopy words.now active.now me.old }
+    requires inside { place ≤ active.now.count }
+    requires below { EndsBelow (active_words me.old.log.loader) span.now.first place }
+    requires above { EndsFrom (active_words me.old.log.loader) span.now.first active.now.count place }
+    ensures same { Spells (spare_words me.old.log.loader) me.old me.new }
+    ensures found { (xs : List Member) → ListsMembers (active_words me.old.log.loader) xs
+        → IfSome result (IsLowestOverlap span.now (words.now.terms.fixed ++ xs)) }
+    ensures none { IfNone result (IsFree span.now words.now.terms.fixed
+        × ((place ≡ active.now.count)
+        ⊎ (span.now.last < (member_in (active_words me.old.log.loader) place).span.first))) }
+{
+    let fixed = first_overlap(words.fixed(), span);
+    if place == active.count {
+        return fixed;
+    }
+    let member = active_member(words, me, active.copy, place);
+    if span.last() < member.span.first() {
+        return fixed;
+    }
+    match fixed {
+        None => Some(member),
+        Some(low) => {
+            if member.span.first() < low.span.first() {
+                Some(member)
+            } else {
+                Some(low)
+            }
+        }
+    }
+}
