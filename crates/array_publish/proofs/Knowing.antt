@@ -28,9 +28,9 @@ all_there : (P : Member → Type 0) (xs : List Member) → ((x : Member) → Con
 all_there P [] f = tt
 all_there P (x ∷ xs) f = (f x (0, omega arith, refl), all_there P xs (λ z c. f z (suc c.0, (let l = c.1 in omega (arith, l)), c.2)))
 
-module _ (w : WordsData) (k0 k1 k2 : CallerData) (found count : ℕ) (table : k0.table ≡ w.table) (held : HoldsCopies w.terms k0) (one : AfterClock w.terms ask.Nothing found k0.log k1.log) (rest : k1 ≡ record k0 { log = k1.log }) (two : Spells (spare_words k1.log.loader) k1 k2) (is : count ≡ get_or (active_words k1.log.loader) 1 0) where
+module _ (w : WordsData) (k0 k1 k2 : CallerData) (found count : ℕ) (table : k0.table ≡ w.table) (own : HoldsCopies k0.log.terms k0) (one : AfterClock w.terms ask.Nothing found k0.log k1.log) (rest : k1 ≡ record k0 { log = k1.log }) (two : Spells (spare_words k1.log.loader) k1 k2) (is : count ≡ get_or (active_words k1.log.loader) 1 0) where
   lock : (h : LoaderHolding) × ((k0.log.loader ≡ Some h) × ((length h.active ≡ copy_words w.terms) × (length h.spare ≡ copy_words w.terms)))
-  lock = some_with k0.log.loader (λ (h : LoaderHolding). (length h.active ≡ copy_words w.terms) × (length h.spare ≡ copy_words w.terms)) held
+  lock = some_with k0.log.loader (λ (h : LoaderHolding). (length h.active ≡ copy_words w.terms) × (length h.spare ≡ copy_words w.terms)) (subst (λ (t : Terms). HoldsCopies t k0) one.2.0.terms own)
 
   tells : ClockTells w.terms found k0.log one.0
   tells = one.2.0

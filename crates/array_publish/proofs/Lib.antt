@@ -7,3 +7,4 @@ pub mod Written
 pub mod Changed
 pub mod Overlaps
 pub mod Knowing
+pub mod Answering

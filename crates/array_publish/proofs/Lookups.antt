@@ -89,7 +89,7 @@ guarded first None = (record { guard = upper first; words = [] }, (refl, refl))
 guarded first (Some s) = by_same s.guard (upper first) (λ b. (z : CopySight) × (((if b then Some s else Some (record { guard = upper first; words = [] })) ≡ Some z) × (z.guard ≡ upper first)))
     (λ e. (s, (refl, e))) (λ _. (record { guard = upper first; words = [] }, (refl, refl)))
 
-prefix_both : (a b c : List Update) → IsPrefix a b → IsPrefix b c → IsPrefix a c
+pub prefix_both : (a b c : List Update) → IsPrefix a b → IsPrefix b c → IsPrefix a c
 prefix_both a b c p q = (p.0 ++ q.0, sym (append_assoc a p.0 q.0) ∙ (ap (λ z. z ++ q.0) p.1 ∙ q.1))
 
 module _ (t : Terms) (pc first second : ℕ) (k0 k1 k2 k3 : CallerData) (object : Option Listed)

@@ -89,3 +89,20 @@ AnswersLoad t m k k' answer = (past : List Update) × (more : List LoadEvent) ×
     × (sights : Sights) × (h : LoaderHolding) × (IsRightLoad t m k.log.past past answer
     × (k' ≡ record k { log = after_answer past more stores sights (Some h)
         (receipt.Load m answer) (accepted_load answer) k.log }))
+
+-- A log after an update call: answered with this receipt, so many accepted, the lock let go.
+abbrev pub after_call : List Update → List LoadEvent → ℕ → Sights → Receipt → ℕ → Log → Log
+after_call past more stores sights r accepted v =
+    let answered = after_answer past more stores sights None r accepted v in
+    record answered { budget = record answered.budget { credit = v.budget.credit - 1 } }
+
+-- A load, made by one of the update calls: it is answered as the state is after all of the history
+-- that is seen then, and nothing else of the caller changes. Or there is no such call left.
+abbrev pub LoadsMember : Terms → Member → CallerData → CallerData → Loading → Type 0
+LoadsMember t m k k' loading.Spent = (k.left ≡ 0) × (k' ≡ k)
+LoadsMember t m k k' answer = (0 < k.left) × ((past : List Update) × (more : List LoadEvent)
+    × (stores : ℕ) × (sights : Sights) × (IsRightLoad t m k.log.past past answer
+    × (k' ≡ record k {
+      left = k.left - 1;
+      log = after_call past more stores sights (receipt.Load m answer) (accepted_load answer) k.log;
+    })))

@@ -17,3 +17,4 @@ mod walk;
 mod writing;
 
 pub use lookup::try_object;
+pub use update::load;

@@ -1,5 +1,5 @@
-//! Updates of the loader, under its lock.
-ghost use Rattle.std.specs.Prelude.{◌≡◌, ◌<◌, ◌≤◌, ◌⊎◌, ◌++◌, List, length, IfSome, IfNone};
+//! Updates of the loader. Each takes the loader's lock, so one is made at a time; lookups go on.
+ghost use Rattle.std.specs.Prelude.{◌≡◌, ◌<◌, ◌≤◌, ◌⊎◌, ◌++◌, List, length, None, IfSome, IfNone};
 ghost use Rattle.reg_model.specs.State.{IsFree, IsLowestOverlap};
 ghost use Rattle.reg_model.specs.declared.span.Member.{Member};
 ghost use Rattle.segment_array.specs.Ascending.{AscendFrom};
@@ -9,12 +9,15 @@ ghost use Rattle.word_rule.specs.Copies.{ListsMembers};
 ghost use Rattle.array_publish.specs.Holders.{IsHolder, Spells, active_words, member_in};
 ghost use Rattle.array_publish.specs.Holders.{spare_words};
 ghost use Rattle.array_publish.specs.Writing.{EndsBelow, EndsFrom};
-ghost use Rattle.array_publish.specs.Update.{AnswersLoad, HoldsCopies, KnowsCopy, Works};
+ghost use Rattle.array_publish.specs.Update.{AnswersLoad, HoldsCopies, KnowsCopy, LoadsMember};
+ghost use Rattle.array_publish.specs.Update.{Works};
 
 use crate::walk::COUNT;
 use crate::writing::{ActiveCopy, Change, active_member, active_word, ending_below, write_copy};
 use reg_model::{Loading, Member, Span, Update};
-use word_rule::{Ask, Caller, Words};
+use node_store::{lock, unlock};
+use std::sync::Wait;
+use word_rule::{Ask, Caller, LockId, Words};
 
 /// What the lower half of the clock counts up to.
 const LOWER: u64 = 1 << 32;
@@ -22,7 +25,7 @@ const LOWER: u64 = 1 << 32;
 /// Which copy is active, and how many members it lists.
 fn active_copy(words: &Words, me: &mut Caller) -> ActiveCopy
     requires table { me.old.table ≡ words.now.table }
-    requires held { HoldsCopies words.now.terms me.old }
+    requires held { HoldsCopies me.old.log.terms me.old }
     ensures works { Works me.old me.new }
     ensures knows { KnowsCopy words.now result me.new }
 {
@@ -84,4 +87,55 @@ fn lowest_overlap(
             }
         }
     }
+}
+
+/// Loads a member, by the holder of the loader's lock.
+fn load_held(words: &Words, me: &mut Caller, member: &Member) -> Loading
+    requires table { me.old.table ≡ words.now.table }
+    requires held { HoldsCopies me.old.log.terms me.old }
+    requires due { 0 < due me.old }
+    requires payload { member.now.payload < words.now.terms.payloads }
+    ensures { AnswersLoad words.now.terms member.now me.old me.new result }
+{
+    let active = active_copy(words, me);
+    let place = ending_below(words, me, &active, member.span.first());
+    let update = Update::Load { member: *member };
+    if let Some(other) = lowest_overlap(words, me, &active, place, &member.span) {
+        let clock = words.load_clock(me, Ask::Refused { update });
+        return Loading::Overlap {
+            member: other,
+            stamp: (clock % LOWER) as u32,
+        };
+    }
+    if active.count == words.loads() {
+        let clock = words.load_clock(me, Ask::Refused { update });
+        return Loading::LoadFull {
+            stamp: (clock % LOWER) as u32,
+        };
+    }
+    let change = Change::Put {
+        place,
+        member: *member,
+    };
+    write_copy(words, me, &active, &change, active.count + 1);
+    let number = words.publish(me, update);
+    Loading::Done { number }
+}
+
+/// Loads a member where no fixed or loaded one overlaps it, and fewer are loaded than may be. The
+/// overlapping member with the least first address is named, also where no more may be loaded.
+/// Spent where the caller may begin no more update calls. It waits for the loader's lock.
+pub fn load<R: Wait>(rt: &R, words: &Words, me: &mut Caller, member: Member) -> Loading
+    requires table { me.old.table ≡ words.now.table }
+    requires free { me.old.log.loader ≡ None }
+    requires payload { member.payload < words.now.terms.payloads }
+    ensures { LoadsMember words.now.terms member me.old me.new result }
+{
+    if !me.use_one() {
+        return Loading::Spent;
+    }
+    lock(rt, words, me, LockId::Loader);
+    let answer = load_held(words, me, &member);
+    unlock(rt, words, me, LockId::Loader);
+    answer
 }

@@ -1,5 +1,5 @@
 //! The copy that isn't active, written under the loader's lock: only words that differ are stored.
-ghost use Rattle.std.specs.Prelude.{◌≡◌, ◌*◌, ◌<◌, ◌≤◌, slice_index, slice_set};
+ghost use Rattle.std.specs.Prelude.{◌≡◌, ◌*◌, ◌<◌, ◌≤◌, length, slice_index, slice_set};
 ghost use Rattle.word_rule.specs.Callers.{IsMemberOf};
 ghost use Rattle.word_rule.specs.Places.{copy_words, segments};
 ghost use Rattle.array_publish.specs.Holders.{IsHolder, Spells, active_words, member_in};
@@ -20,12 +20,14 @@ const FULL: u32 = 16;
 
 /// What an update makes of a list of members: one more, which comes to stand at a place, or the one
 /// there less.
+#[derive(Drop)]
 pub enum Change {
     Put { place: u32, member: Member },
     Take { place: u32 },
 }
 
 /// Which copy is active, and how many members it lists.
+#[derive(Clone, Copy)]
 pub struct ActiveCopy {
     pub copy: u32,
     pub count: u32,
@@ -214,6 +216,7 @@ pub fn write_copy(words: &Words, me: &mut Caller, active: &ActiveCopy, change: &
     requires count { count ≡ changed_count change.now active.now.count }
     requires room { count ≤ words.now.terms.loads }
     ensures same { Spells (spare_words me.new.log.loader) me.old me.new }
+    ensures wide { length (spare_words me.new.log.loader) ≡ copy_words words.now.terms }
     ensures written { IsWritten change.now (active_words me.old.log.loader) count
         (spare_words me.new.log.loader) }
 {

@@ -1,5 +1,6 @@
 use Rattle.std.proofs.Common.{◌≡◌, ◌+◌, ◌≤◌, ℕ, List, length, length-set, set, sym, refl, ap, ◌∙◌, subst, arith}
 use Rattle.word_rule.specs.CallerData.{CallerData, WordsData}
+use Rattle.word_rule.specs.Places.{segments}
 use Rattle.array_publish.specs.Holders.{Spells, active_words, spare_words}
 use Rattle.array_publish.specs.Writing.{IsWritten, with_totals}
 use Rattle.array_publish.proofs.Works.{spare_wide, spells_both, spells_spare}
@@ -30,3 +31,13 @@ returns-clause-written c =
     let active : List ℕ = active_words k0.log.loader in
     subst (IsWritten c.args.change.now active c.args.count) (sym is)
     (totals_written c.args.change.now active (spare_words k2.log.loader) c.args.count (omega (arith, wide)) (λ i less. c.write_headers.ensures.members i ∙ c.write_members.ensures.members i less) c.write_headers.ensures.headers)
+
+pub returns-clause-wide : goal.returns-clause-wide
+returns-clause-wide c =
+    let w : WordsData = c.args.words.now in
+    let k2 : CallerData = c.write_headers.new.me in
+    let k3 : CallerData = c.store_totals.new.me in
+    let words : List ℕ = with_totals c.args.count (spare_words k2.log.loader) in
+    let h2 = c.write_headers.ensures.holder in
+    let is = spells_spare w.terms c.args.active.now.copy words k2 k3 h2.holds c.store_totals.ensures in
+    ap length is ∙ (length-set (set (spare_words k2.log.loader) 0 (segments c.args.count)) 1 c.args.count ∙ (length-set (spare_words k2.log.loader) 0 (segments c.args.count) ∙ spare_wide w c.args.active.now.copy k2 h2))

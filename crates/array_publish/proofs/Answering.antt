@@ -1,0 +1,324 @@
+-- How an update is answered under the lock: refused, or published.
+use Rattle.std.proofs.Common.{◌≡◌, ◌≢◌, ℕ, zero, suc, ◌+◌, ◌-◌, ◌<◌, ◌≤◌, ◌⊎◌, ◌↔◌, inl, inr, ⊎_elim, List, [], ◌∷◌, ◌++◌, length, length-append, get_or, Contains, sym, refl, ap, ◌∙◌, subst, arith, Bool, true, false, true≢false, Option, Some, None, IfSome, IsSome, IsSomeAnd, IsTrue, option_map, append_assoc, append-nil, add_assoc}
+use Rattle.std.specs.List.{All, AllByRecursion}
+use Rattle.std.proofs.lemmas.Option.{none-some, same_Some}
+use Rattle.std.proofs.lemmas.List.Elements.{All-contains, Contains-get_or, Contains-append_left, Contains-append_right, Contains-append_cases}
+use mathlib.Core.List.{IsPrefix}
+use Rattle.reg_model.specs.SpanData.{SpanData, Overlaps, contains}
+use Rattle.reg_model.specs.State.{State, AreDisjoint, IsFree, IsLowestOverlap, objects}
+use Rattle.reg_model.specs.History.{state_after}
+use Rattle.reg_model.specs.Receipt.{accepted, moment, IsRight}
+use Rattle.reg_model.specs.declared.span.Member.{Member}
+use Rattle.reg_model.specs.declared.answer.Loading.{Loading}
+use Rattle.reg_model.specs.declared.answer.Loading.TheVariants as loading
+use Rattle.reg_model.specs.declared.answer.Receipt.{Receipt}
+use Rattle.reg_model.specs.declared.answer.Receipt.TheVariants as receipt
+use Rattle.reg_model.specs.declared.answer.Update.{Update}
+use Rattle.reg_model.specs.declared.answer.Update.TheVariants as update
+use Rattle.reg_model.proofs.Spans.{contains_from, contains_bounds}
+use Rattle.word_rule.specs.declared.log.Ask.TheVariants as ask
+use Rattle.word_rule.specs.declared.log.LoadEvent.{LoadEvent}
+use Rattle.word_rule.specs.declared.log.LoaderHolding.{LoaderHolding}
+use Rattle.word_rule.specs.declared.log.Log.{Log}
+use Rattle.word_rule.specs.declared.log.Sights.{Sights}
+use Rattle.word_rule.specs.declared.log.Terms.{Terms}
+use Rattle.word_rule.specs.CallerData.{CallerData, WordsData}
+use Rattle.word_rule.specs.Callers.{IsMemberOf, start}
+use Rattle.word_rule.specs.Clock.{AfterClock}
+use Rattle.word_rule.specs.Copies.{ListsAll, ListsMembers}
+use Rattle.word_rule.specs.Logs.{after_loader_lock, after_loader_release, load_of}
+use Rattle.word_rule.specs.Places.{copy_words, lower}
+use Rattle.word_rule.specs.Steps.{IsRefusalOf, MayRefuse, Refuses, AfterPublish, MayPublish, after_publish, exchange_copies}
+use Rattle.word_rule.proofs.Listings.{free_of, state_fixed}
+use Rattle.array_publish.specs.Holders.{Spells, active_words, after_work, spare_words, with_spare}
+use Rattle.array_publish.specs.Update.{AnswersLoad, HoldsCopies, LoadsMember, after_call, IsRightLoad, KnowsCopy, Works, accepted_load, after_answer, after_seeing}
+use Rattle.array_publish.specs.declared.writing.ActiveCopy.{ActiveCopy}
+use Rattle.array_publish.specs.Holders.{member_in}
+use Rattle.array_publish.specs.Writing.{EndsBelow, IsWritten}
+use Rattle.array_publish.specs.declared.writing.Change.TheVariants.{Put}
+use Rattle.array_publish.proofs.Changed.{may_load}
+use Rattle.array_publish.proofs.Lookups.{prefix_both}
+use Rattle.array_publish.proofs.Overlaps.{ends_listed, free_split, listed_is}
+use Rattle.array_publish.proofs.Works.{Holds, spells_active}
+use Rattle.word_rule.proofs.Each.{some_of}
+use Rattle.node_store.specs.Locking.{Locks, tried}
+use Rattle.word_rule.specs.Sights.{after_clock}
+use native.Mathlib.Decide.{ℕ_discrete}
+
+-- ---- the receipt of a refusal
+
+abbrev is_load : Update → Bool
+is_load (update.Load m) = true
+is_load (update.Register m) = false
+is_load (update.Deregister base) = false
+is_load (update.Unload base) = false
+
+abbrev loaded_by : Member → Update → Member
+loaded_by d (update.Load m) = m
+loaded_by d (update.Register m) = d
+loaded_by d (update.Deregister base) = d
+loaded_by d (update.Unload base) = d
+
+-- disjoint members that overlap are one
+disjoint_one : (xs : List Member) (a b : Member) → AreDisjoint xs → Contains xs a → Contains xs b → Overlaps a.span b.span → a ≡ b
+disjoint_one [] a b h (k, l, e) there over = absurd (omega (arith, l))
+disjoint_one (x ∷ xs) a b h (zero, l, e) (zero, m, f) over = sym e ∙ f
+disjoint_one (x ∷ xs) a b h (zero, l, e) (suc j, m, f) over = absurd (All-contains (λ z. ¬ Overlaps z.span x.span) xs b h.0 (j, omega (arith, m), f) (over.0, (over.1.1, subst (λ (z : Member). IsTrue (contains z.span over.0)) (sym e) over.1.0)))
+disjoint_one (x ∷ xs) a b h (suc k, l, e) (zero, m, f) over = absurd (All-contains (λ z. ¬ Overlaps z.span x.span) xs a h.0 (k, omega (arith, l), e) (over.0, (over.1.0, subst (λ (z : Member). IsTrue (contains z.span over.0)) (sym f) over.1.1)))
+disjoint_one (x ∷ xs) a b h (suc k, l, e) (suc j, m, f) over = disjoint_one xs a b h.1 (k, omega (arith, l), e) (j, omega (arith, m), f) over
+
+ordered_of : (a b : SpanData) → Overlaps a b → a.first ≤ a.last
+ordered_of a b over = let c = contains_bounds a over.0 over.1.0 in let x = c.0 in let y = c.1 in omega (arith, x, y)
+
+one_lowest : (span : SpanData) (xs : List Member) (a b : Member) → AreDisjoint xs → IsLowestOverlap span xs a → IsLowestOverlap span xs b → a ≡ b
+one_lowest span xs a b h p q =
+    let low = All-contains (λ z. Overlaps z.span span → a.span.first ≤ z.span.first) xs b p.lowest q.listed q.overlaps in
+    let high = All-contains (λ z. Overlaps z.span span → b.span.first ≤ z.span.first) xs a q.lowest p.listed p.overlaps in
+    let one = ordered_of a.span span p.overlaps in let two = ordered_of b.span span q.overlaps in
+    disjoint_one xs a b h p.listed q.listed (a.span.first, (contains_from a.span a.span.first (omega arith) one, contains_from b.span a.span.first high (omega (arith, low, high, two))))
+
+not_free : (span : SpanData) (xs : List Member) (a : Member) → IsLowestOverlap span xs a → IsFree span xs → ⊥
+not_free span xs a p free = All-contains (λ z. ¬ Overlaps z.span span) xs a free p.listed p.overlaps
+
+overlap_told : (m other : Member) (s : State) (stamp : ℕ) (r : Receipt) → AreDisjoint (objects s) → IsLowestOverlap m.span (objects s) other → IsRefusalOf (update.Load m) s stamp r → r ≡ receipt.Load m (loading.Overlap other stamp)
+overlap_told m other s stamp (receipt.Register n a) h low r = absurd (true≢false (ap is_load r.0))
+overlap_told m other s stamp (receipt.Deregister b a) h low r = absurd (true≢false (ap is_load r.0))
+overlap_told m other s stamp (receipt.Unload b a) h low r = absurd (true≢false (ap is_load r.0))
+overlap_told m other s stamp (receipt.Query w pc f) h low r = absurd r.0
+overlap_told m other s stamp (receipt.Load n (loading.Done k)) h low r = absurd (none-some _ (sym r.1))
+overlap_told m other s stamp (receipt.Load n loading.Spent) h low r = absurd r.3
+overlap_told m other s stamp (receipt.Load n (loading.LoadFull k)) h low r =
+    let same : m ≡ n = ap (loaded_by m) r.0 in absurd (not_free m.span (objects s) other low (subst (λ (z : Member). IsFree z.span (objects s)) (sym same) r.3.0))
+overlap_told m other s stamp (receipt.Load n (loading.Overlap o k)) h low r =
+    let same : m ≡ n = ap (loaded_by m) r.0 in
+    let one : other ≡ o = one_lowest m.span (objects s) other o h low (subst (λ (z : Member). IsLowestOverlap z.span (objects s) o) (sym same) r.3) in
+    (λ i. receipt.Load (sym same i) (loading.Overlap (sym one i) (r.2 i)))
+
+full_told : (m : Member) (s : State) (stamp : ℕ) (r : Receipt) → IsFree m.span (objects s) → IsRefusalOf (update.Load m) s stamp r → r ≡ receipt.Load m (loading.LoadFull stamp)
+full_told m s stamp (receipt.Register n a) free r = absurd (true≢false (ap is_load r.0))
+full_told m s stamp (receipt.Deregister b a) free r = absurd (true≢false (ap is_load r.0))
+full_told m s stamp (receipt.Unload b a) free r = absurd (true≢false (ap is_load r.0))
+full_told m s stamp (receipt.Query w pc f) free r = absurd r.0
+full_told m s stamp (receipt.Load n (loading.Done k)) free r = absurd (none-some _ (sym r.1))
+full_told m s stamp (receipt.Load n loading.Spent) free r = absurd r.3
+full_told m s stamp (receipt.Load n (loading.Overlap o k)) free r =
+    let same : m ≡ n = ap (loaded_by m) r.0 in absurd (not_free m.span (objects s) o (subst (λ (z : Member). IsLowestOverlap z.span (objects s) o) (sym same) r.3) free)
+full_told m s stamp (receipt.Load n (loading.LoadFull k)) free r =
+    let same : m ≡ n = ap (loaded_by m) r.0 in (λ i. receipt.Load (sym same i) (loading.LoadFull (r.2 i)))
+
+-- ---- work under the lock
+
+pub works_then : (spare : List ℕ) (a b d : CallerData) → Works a b → Spells spare b d → Works a d
+works_then spare a b d p q = (
+  p.0,
+  p.1 ++ q.0,
+  p.2 + q.1,
+  q.2,
+  spare,
+  q.3,
+  (p.6.0, q.4 ∙ (ap (λ (k : CallerData). record k { log = after_work q.0 q.1 q.2 spare q.3 k.log }) p.6.1
+  ∙ (λ i. record a { log = record a.log { past = p.0; trace = record a.log.trace { loads = append_assoc a.log.trace.loads p.1 q.0 i; writes = add_assoc a.log.trace.writes p.2 q.1 i }; sights = q.2; loader = twice a.log.loader i } }))),
+)
+  where
+    twice : (o : Option LoaderHolding) → option_map (with_spare spare q.3) (option_map (with_spare p.4 p.5) o) ≡ option_map (with_spare spare q.3) o
+    twice None = refl
+    twice (Some h) = refl
+
+-- the holder may ask for a refusal by what it knows
+refuses_held : (w : WordsData) (c : ℕ) (u : Update) (xs : List Member) (o : Option LoaderHolding) → IsSomeAnd o (Holds w.terms c) → ListsMembers (active_words o) xs → Refuses w.terms u xs → IsSomeAnd o (MayRefuse w.terms u)
+refuses_held w c u xs None e l r = absurd e
+refuses_held w c u xs (Some g) e l r = (xs, (l, r))
+
+pub may_refuse : (w : WordsData) (a : ActiveCopy) (k : CallerData) (u : Update) (h : KnowsCopy w a k) → Refuses w.terms u h.listing.members → IsSomeAnd k.log.loader (MayRefuse w.terms u)
+may_refuse w a k u h r = refuses_held w a.copy u h.listing.members k.log.loader h.holder.holds h.listing.lists r
+
+-- what the active copy lists is free of a span that ends before its place
+pub begin_listed : (active : List ℕ) (xs : List Member) (n k a : ℕ) (d : Member) → ListsMembers active xs → n ≡ length xs → k ≤ n → (k ≡ n) ⊎ (a < (member_in active k).span.first) → (k ≡ length xs) ⊎ (a < (get_or xs k d).span.first)
+begin_listed active xs n k a d lists len le begin = go (ℕ_discrete k n)
+  where
+    go : Dec (k ≡ n) → (k ≡ length xs) ⊎ (a < (get_or xs k d).span.first)
+    go (yes e) = inl (e ∙ len)
+    go (no ne) = ⊎_elim (λ (e : k ≡ n). absurd (ne e)) (λ (l : a < (member_in active k).span.first). inr (subst (λ (m : Member). a < m.span.first) (listed_is active xs k d lists.stand (omega (arith, le, ne, len))) l)) begin
+
+pub free_listed : (active : List ℕ) (xs : List Member) (n k : ℕ) (span : SpanData) (d : Member) → ListsMembers active xs → n ≡ length xs → k ≤ n → EndsBelow active span.first k → (k ≡ n) ⊎ (span.last < (member_in active k).span.first) → IsFree span xs
+free_listed active xs n k span d lists len le below begin =
+    free_split xs k span d lists.ascending (omega (arith, le, len)) (ends_listed active xs span.first k d lists.stand (omega (arith, le, len)) below) (begin_listed active xs n k span.last d lists len le begin)
+
+-- what is said of the fixed members and of those listed is said of the state's
+there : (s : State) (fixed xs : List Member) → s.fixed ≡ fixed → ((x : Member) → Contains xs x ↔ Contains s.loaded x) → (x : Member) → Contains (fixed ++ xs) x → Contains (objects s) x
+there s fixed xs is same x c = ⊎_elim (λ (e : Contains fixed x). Contains-append_left s.fixed s.loaded x (subst (λ ys. Contains ys x) (sym is) e)) (λ (e : Contains xs x). Contains-append_right s.fixed s.loaded x ((same x).0 e)) (Contains-append_cases fixed xs x c)
+
+back : (s : State) (fixed xs : List Member) → s.fixed ≡ fixed → ((x : Member) → Contains xs x ↔ Contains s.loaded x) → (x : Member) → Contains (objects s) x → Contains (fixed ++ xs) x
+back s fixed xs is same x c = ⊎_elim (λ (e : Contains s.fixed x). Contains-append_left fixed xs x (subst (λ ys. Contains ys x) is e)) (λ (e : Contains s.loaded x). Contains-append_right fixed xs x ((same x).1 e)) (Contains-append_cases s.fixed s.loaded x c)
+
+lowest_objects : (s : State) (fixed xs : List Member) (span : SpanData) (m : Member) → s.fixed ≡ fixed → ((x : Member) → Contains xs x ↔ Contains s.loaded x) → IsLowestOverlap span (fixed ++ xs) m → IsLowestOverlap span (objects s) m
+lowest_objects s fixed xs span m is same h = record {
+  listed = there s fixed xs is same m h.listed;
+  overlaps = h.overlaps;
+  lowest = λ k d l. All-contains (λ z. Overlaps z.span span → m.span.first ≤ z.span.first) (fixed ++ xs) (get_or (objects s) k d) h.lowest (back s fixed xs is same (get_or (objects s) k d) (Contains-get_or (objects s) k d l));
+}
+
+lists_of : (t : Terms) (loaded : List Member) (o : Option LoaderHolding) → IsSome o → (published : ℕ) → IfSome o (λ h. (published ≡ h.published) × ListsAll h.active loaded) → ListsAll (active_words o) loaded
+lists_of t loaded None some_lock p h = absurd (true≢false (sym some_lock))
+lists_of t loaded (Some g) some_lock p h = h.1
+
+-- a refusal, at a load of the clock
+module _ (t : Terms) (k0 k3 k4 : CallerData) (found : ℕ) (m : Member) (works : Works k0 k3) (held : IsSome k3.log.loader) (after : AfterClock t (ask.Refused (update.Load m)) found k3.log k4.log) (rest : k4 ≡ record k3 { log = k4.log }) where
+  abbrev now : State
+  now = state_after (start t) after.0
+
+  lock : (h : LoaderHolding) × (k3.log.loader ≡ Some h)
+  lock = some_of k3.log.loader held
+
+  told : IsRefusalOf (update.Load m) (state_after (start t) after.0) (lower found) after.2.1.0
+  told = subst (λ u. IsRefusalOf (update.Load m) (state_after (start u) after.0) (lower found) after.2.1.0) after.2.0.terms after.2.1.1.1
+
+  begins : IsPrefix k0.log.past after.0
+  begins = prefix_both k0.log.past works.0 after.0 works.6.0 (subst (λ (k : CallerData). IsPrefix k.log.past after.0) works.6.1 after.2.0.begins)
+
+  listed : ListsAll (active_words k3.log.loader) (state_after (start t) after.0).loaded
+  listed = lists_of t (state_after (start t) after.0).loaded k3.log.loader held _ after.2.0.holder
+
+  abbrev worked : CallerData
+  worked = record k0 { log = after_seeing works.0 works.1 works.2 works.3 works.4 works.5 k0.log }
+
+  abbrev event : LoadEvent
+  event = load_of worked.log 0 found
+
+  answered : (r : Receipt) → after.2.1.0 ≡ r → k4 ≡ record k0 { log = after_answer after.0 (works.1 ++ event ∷ []) works.2 (after_clock found after.0 [] worked.log).sights (Some lock.0) r 0 k0.log }
+  answered r is =
+      let receipts : after.1 ≡ r ∷ [] = after.2.1.1.0 ∙ ap (λ x. x ∷ []) is in
+      let loader : option_map (with_spare works.4 works.5) k0.log.loader ≡ Some lock.0 = sym (ap (λ (k : CallerData). k.log.loader) works.6.1) ∙ lock.1 in
+      let kept : k0.log.budget.allowance ≡ k0.log.budget.allowance - 0 = omega arith in
+      rest ∙ ((λ i. record k3 { log = after.2.2 i }) ∙ (ap (λ (k : CallerData). record k { log = after_clock found after.0 after.1 k.log }) works.6.1
+      ∙ (λ i. record k0 {
+        log = record k0.log {
+          past = after.0;
+          budget = record k0.log.budget { allowance = kept i };
+          receipts = record k0.log.receipts { own = k0.log.receipts.own ++ receipts i };
+          trace = record k0.log.trace { loads = append_assoc k0.log.trace.loads works.1 (event ∷ []) i; writes = k0.log.trace.writes + works.2 };
+          sights = (after_clock found after.0 [] worked.log).sights;
+          loader = loader i;
+        };
+      })))
+
+  pub overlap_so : (other : Member) → ((xs : List Member) → ListsMembers (active_words k3.log.loader) xs → IsLowestOverlap m.span (t.fixed ++ xs) other) → AnswersLoad t m k0 k4 (loading.Overlap other (lower found))
+  overlap_so other lowest =
+      let low = lowest_objects (state_after (start t) after.0) t.fixed listed.members m.span other (state_fixed (start t) after.0).0 listed.same (lowest listed.members listed.lists) in
+      (after.0, works.1 ++ event ∷ [], works.2, (after_clock found after.0 [] worked.log).sights, lock.0, ((begins, after.2.0.updates, low), answered (receipt.Load m (loading.Overlap other (lower found))) (overlap_told m other (state_after (start t) after.0) (lower found) after.2.1.0 after.2.0.lawful.objects low told)))
+
+  pub full_so : ((xs : List Member) → ListsMembers (active_words k3.log.loader) xs → IsFree m.span (t.fixed ++ xs)) → AnswersLoad t m k0 k4 (loading.LoadFull (lower found))
+  full_so free =
+      let all = free_of m (t.fixed ++ listed.members) (objects (state_after (start t) after.0)) (back (state_after (start t) after.0) t.fixed listed.members (state_fixed (start t) after.0).0 listed.same) (free listed.members listed.lists) in
+      let is = full_told m (state_after (start t) after.0) (lower found) after.2.1.0 all told in
+      let right : IsRight (state_after (start t) after.0) (receipt.Load m (loading.LoadFull (lower found))) = subst (IsRight (state_after (start t) after.0)) is told.3 in
+      (after.0, works.1 ++ event ∷ [], works.2, (after_clock found after.0 [] worked.log).sights, lock.0, ((begins, after.2.0.updates, all, right.1 ∙ (state_fixed (start t) after.0).1), answered (receipt.Load m (loading.LoadFull (lower found))) is))
+
+-- a publication
+pub published_so : (t : Terms) (k0 k4 k5 : CallerData) (found number : ℕ) (m : Member) → Works k0 k4 → IsSome k4.log.loader → AfterPublish (update.Load m) found k4.log k5.log → k5 ≡ record k4 { log = k5.log } → number ≡ length k5.log.past → AnswersLoad t m k0 k5 (loading.Done number)
+published_so t k0 k4 k5 found number m works held after rest is =
+    let lock = some_of k4.log.loader held in
+    let past : k5.log.past ≡ after.0 ++ update.Load m ∷ [] = ap (λ v. v.past) after.2.2 in
+    let len : number ≡ length (after.0 ++ update.Load m ∷ []) = is ∙ ap length past in
+    let sum = length-append after.0 (update.Load m ∷ []) in
+    let same : length after.0 + 1 ≡ number = omega (arith, len, sum) in
+    let r : after.1 ≡ receipt.Load m (loading.Done number) = after.2.1 ∙ ap (λ n. receipt.Load m (loading.Done n)) same in
+    let begins = prefix_both k0.log.past works.0 after.0 works.6.0 (subst (λ (k : CallerData). IsPrefix k.log.past after.0) works.6.1 after.2.0.begins) in
+    let loader : option_map (with_spare works.4 works.5) k0.log.loader ≡ Some lock.0 = sym (ap (λ (k : CallerData). k.log.loader) works.6.1) ∙ lock.1 in
+    (
+      after.0 ++ update.Load m ∷ [],
+      works.1,
+      works.2 + 1,
+      works.3,
+      exchange_copies lock.0,
+      (
+        (after.0, (begins, refl, len)),
+        rest ∙ ((λ i. record k4 { log = after.2.2 i }) ∙ (ap (λ (k : CallerData). record k { log = after_publish (update.Load m) after.0 after.1 k.log }) works.6.1
+        ∙ (λ i. record k0 {
+          log = record k0.log {
+            past = after.0 ++ update.Load m ∷ [];
+            budget = record k0.log.budget { allowance = k0.log.budget.allowance - 1 };
+            receipts = record k0.log.receipts { own = k0.log.receipts.own ++ r i ∷ [] };
+            trace = record k0.log.trace { loads = k0.log.trace.loads ++ works.1; writes = add_assoc k0.log.trace.writes works.2 1 i };
+            sights = works.3;
+            loader = option_map exchange_copies (loader i);
+          };
+        }))),
+      ),
+    )
+
+-- the holder may publish what it wrote
+written_held : (t : Terms) (c allowance k n : ℕ) (m d : Member) (xs : List Member) (o : Option LoaderHolding) → IsSomeAnd o (Holds t c) → 0 < allowance → IsMemberOf t m → ListsMembers (active_words o) xs → n ≡ length xs → n < t.loads → k ≤ n → IsFree m.span t.fixed → (k ≡ 0) ⊎ ((get_or xs (k - 1) d).span.last < m.span.first) → (k ≡ length xs) ⊎ (m.span.last < (get_or xs k d).span.first)
+    → IsWritten (Put k m) (active_words o) (n + 1) (spare_words o) → IsSomeAnd o (MayPublish t allowance (update.Load m))
+written_held t c allowance k n m d xs None h due member lists len room le fixed end begin written = absurd h
+written_held t c allowance k n m d xs (Some g) h due member lists len room le fixed end begin written = may_load t allowance k n m d xs g due member lists len room le fixed end begin written
+
+pub may_publish : (w : WordsData) (a : ActiveCopy) (k3 k4 : CallerData) (place : ℕ) (m : Member) → KnowsCopy w a k3 → Spells (spare_words k4.log.loader) k3 k4 → IsSomeAnd k4.log.loader (Holds w.terms a.copy) → 0 < k4.log.budget.allowance → IsMemberOf w.terms m → a.count < w.terms.loads → place ≤ a.count → EndsBelow (active_words k3.log.loader) m.span.first place → IsFree m.span w.terms.fixed → (place ≡ a.count) ⊎ (m.span.last < (member_in (active_words k3.log.loader) place).span.first)
+    → IsWritten (Put place m) (active_words k3.log.loader) (a.count + 1) (spare_words k4.log.loader) → IsSomeAnd k4.log.loader (MayPublish w.terms k4.log.budget.allowance (update.Load m))
+may_publish w a k3 k4 place m knows same held due member room le below fixed begin written =
+    let xs : List Member = knows.listing.members in
+    let lists = knows.listing.lists in
+    let active = spells_active (spare_words k4.log.loader) k3 k4 same in
+    let count = knows.count in
+    written_held w.terms a.copy k4.log.budget.allowance place a.count m m xs k4.log.loader held due member (subst (λ ws. ListsMembers ws xs) (sym active) lists) count room le fixed
+    (ends_listed (active_words k3.log.loader) xs m.span.first place m lists.stand (omega (arith, le, count)) below) (begin_listed (active_words k3.log.loader) xs a.count place m.span.last m lists count le begin)
+    (subst (λ ws. IsWritten (Put place m) ws (a.count + 1) (spare_words k4.log.loader)) (sym active) written)
+
+pub is_held : (t : Terms) (c : ℕ) (o : Option LoaderHolding) → IsSomeAnd o (Holds t c) → IsSome o
+is_held t c None h = absurd h
+is_held t c (Some g) h = refl
+
+pub holds_of : (t : Terms) (c : ℕ) (spare : List ℕ) (a b : CallerData) → IsSomeAnd a.log.loader (Holds t c) → Spells spare a b → length spare ≡ copy_words t → IsSomeAnd b.log.loader (Holds t c)
+holds_of t c spare a b h p wide = subst (λ o. IsSomeAnd o (Holds t c)) (sym (ap (λ (k : CallerData). k.log.loader) p.4)) (go a.log.loader h)
+  where
+    go : (o : Option LoaderHolding) → IsSomeAnd o (Holds t c) → IsSomeAnd (option_map (with_spare spare p.3) o) (Holds t c)
+    go None e = absurd e
+    go (Some g) e = (e.0, e.1, wide)
+
+-- the whole call: begun, locked, answered, let go
+pub loads_whole : (t : Terms) (m : Member) (k0 k1 k2 k3 k4 : CallerData) (answer : Loading) → 0 < k0.left → k1 ≡ record k0 { left = k0.left - 1 } → Locks k1 k2 → AnswersLoad t m k2 k3 answer → k4 ≡ record k3 { log = after_loader_release k3.log } → LoadsMember t m k0 k4 answer
+loads_whole t m k0 k1 k2 k3 k4 answer some_left begun locked told gone = go answer told
+  where
+    locks_is : k2 ≡ record k0 { left = k0.left - 1; log = after_loader_lock locked.2 (tried locked.0 locked.1 k0.log) }
+    locks_is = locked.3.2 ∙ ap (λ (k : CallerData). record k { log = after_loader_lock locked.2 (tried locked.0 locked.1 k.log) }) begun
+
+    ends : (a : Loading) (p : AnswersLoad t m k2 k3 a) → (past : List Update) × (more : List LoadEvent) × (stores : ℕ) × (sights : Sights) × (IsRightLoad t m k0.log.past past a × (k4 ≡ record k0 { left = k0.left - 1; log = after_call past more stores sights (receipt.Load m a) (accepted_load a) k0.log }))
+    ends a p =
+        let writes : k0.log.trace.writes + locked.1 + 1 + p.2 + 1 ≡ k0.log.trace.writes + (locked.1 + 1 + p.2 + 1) = omega arith in (
+          p.0,
+          locked.0 ++ p.1,
+          locked.1 + 1 + p.2 + 1,
+          p.3,
+          (
+            subst (λ (k : CallerData). IsRightLoad t m k.log.past p.0 a) locks_is p.5.0,
+            gone ∙ (ap (λ (k : CallerData). record k { log = after_loader_release k.log }) (p.5.1 ∙ ap (λ (k : CallerData). record k { log = after_answer p.0 p.1 p.2 p.3 (Some p.4) (receipt.Load m a) (accepted_load a) k.log }) locks_is)
+            ∙ (λ i. record k0 {
+              left = k0.left - 1;
+              log = record k0.log {
+                past = p.0;
+                budget = record { allowance = k0.log.budget.allowance - accepted_load a; credit = k0.log.budget.credit - 1 };
+                receipts = record k0.log.receipts { own = k0.log.receipts.own ++ receipt.Load m a ∷ [] };
+                trace = record k0.log.trace { loads = append_assoc k0.log.trace.loads locked.0 p.1 i; writes = writes i };
+                sights = p.3;
+                loader = None;
+              };
+            })),
+          ),
+        )
+
+    go : (a : Loading) → AnswersLoad t m k2 k3 a → LoadsMember t m k0 k4 a
+    go (loading.Done n) p = (some_left, ends (loading.Done n) p)
+    go (loading.Overlap o s) p = (some_left, ends (loading.Overlap o s) p)
+    go (loading.LoadFull s) p = (some_left, ends (loading.LoadFull s) p)
+    go loading.Spent p = absurd p.5.0
+
+-- a lock just taken has all words of both copies
+pub taken_copies : (k k' : CallerData) → Locks k k' → HoldsCopies k'.log.terms k'
+taken_copies k k' p = subst (λ (z : CallerData). HoldsCopies z.log.terms z) (sym p.3.2) (p.3.1.active, p.3.1.spare)
+
+-- what the call may still do, while the lock is held
+pub locked_budget : (k k' : CallerData) → Locks k k' → (k'.left ≡ k.left) × (k'.log.budget ≡ k.log.budget) × (k'.table ≡ k.table)
+locked_budget k k' p = (ap (λ z. z.left) p.3.2, ap (λ z. z.log.budget) p.3.2, ap (λ z. z.table) p.3.2)
+
+pub answered_budget : (t : Terms) (m : Member) (k k' : CallerData) (a : Loading) → AnswersLoad t m k k' a → (k'.left ≡ k.left) × (k'.log.budget.credit ≡ k.log.budget.credit) × (k'.table ≡ k.table) × IsSome k'.log.loader
+answered_budget t m k k' a p = (ap (λ z. z.left) p.5.1, ap (λ z. z.log.budget.credit) p.5.1, ap (λ z. z.table) p.5.1, subst (λ (z : CallerData). IsSome z.log.loader) (sym p.5.1) refl)

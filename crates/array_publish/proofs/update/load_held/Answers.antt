@@ -1,0 +1,97 @@
+use Rattle.std.proofs.Common.{◌≡◌, ◌+◌, ◌-◌, ◌<◌, ◌≤◌, ◌⊎◌, ◌++◌, inl, inr, ℕ, List, length, sym, refl, ap, ◌∙◌, subst, arith, Option, None, IfNone, IfSome, IsSome}
+use Rattle.std.proofs.lemmas.List.Elements.{All-append}
+use Rattle.reg_model.specs.SpanData.{Overlaps}
+use Rattle.reg_model.specs.State.{IsFree, IsLowestOverlap}
+use Rattle.reg_model.specs.declared.span.Member.{Member}
+use Rattle.reg_model.specs.declared.answer.Update.TheVariants as update
+use Rattle.word_rule.specs.CallerData.{CallerData, WordsData, due}
+use Rattle.word_rule.specs.Copies.{ListsMembers}
+use Rattle.array_publish.specs.Holders.{active_words, member_in, spare_words}
+use Rattle.array_publish.specs.Update.{KnowsCopy, Works}
+use Rattle.array_publish.specs.Writing.{AreKnown, EndsBelow, EndsFrom}
+use Rattle.array_publish.specs.declared.writing.ActiveCopy.{ActiveCopy}
+use Rattle.array_publish.proofs.Answering.{may_refuse, overlap_so, full_so, published_so, may_publish, free_listed, works_then, is_held, holds_of}
+use Rattle.array_publish.proofs.Knowing.{counted_so, known_at, knows_stays}
+use Rattle.array_publish.proofs.Works.{holder_stays, spare_wide, spells_active, spells_spare}
+use Rattle.array_publish.proofs.update.load_held.Goals as goal
+
+pub lowest_overlap-requires-clause-knows : goal.lowest_overlap-requires-clause-knows
+lowest_overlap-requires-clause-knows c =
+    let w : WordsData = c.args.words.now in let a : ActiveCopy = c.active_copy-active.result in let k1 : CallerData = c.active_copy-active.new.me in let one = c.active_copy-active.ensures.knows in
+    knows_stays w a (spare_words k1.log.loader) k1 c.ending_below-place.new.me one c.ending_below-place.ensures.same (spare_wide w a.copy k1 one.holder)
+
+pub returns-in-Some : goal.returns-in-Some
+returns-in-Some c =
+    let w : WordsData = c.args.words.now in let a : ActiveCopy = c.active_copy-active.result in let k1 : CallerData = c.active_copy-active.new.me in let one = c.active_copy-active.ensures.knows in
+    let k2 : CallerData = c.ending_below-place.new.me in let k3 : CallerData = c.lowest_overlap.new.me in
+    let two = knows_stays w a (spare_words k1.log.loader) k1 k2 one c.ending_below-place.ensures.same (spare_wide w a.copy k1 one.holder) in
+    let three = knows_stays w a (spare_words k2.log.loader) k2 k3 two c.lowest_overlap.ensures.same (spare_wide w a.copy k2 two.holder) in
+    let works = works_then (spare_words k2.log.loader) c.args.me.now k2 k3 (works_then (spare_words k1.log.loader) c.args.me.now k1 k2 c.active_copy-active.ensures.works c.ending_below-place.ensures.same) c.lowest_overlap.ensures.same in
+    overlap_so w.terms c.args.me.now k3 c.load_clock-clock.new.me c.load_clock-clock.result c.args.member.now works (is_held w.terms a.copy k3.log.loader three.holder.holds) c.load_clock-clock.ensures.log c.load_clock-clock.ensures.rest c.in-Some.other
+    (λ xs lists. c.in-Some.ensures.found xs (subst (λ ws. ListsMembers ws xs) (spells_active (spare_words k2.log.loader) k2 k3 c.lowest_overlap.ensures.same) lists))
+
+pub load_clock-clock-requires-then-active-loads-clause-ask : goal.load_clock-clock-requires-then-active-loads-clause-ask
+load_clock-clock-requires-then-active-loads-clause-ask c =
+    let w : WordsData = c.args.words.now in let a : ActiveCopy = c.active_copy-active.result in let k1 : CallerData = c.active_copy-active.new.me in let one = c.active_copy-active.ensures.knows in
+    let k2 : CallerData = c.ending_below-place.new.me in let k3 : CallerData = c.lowest_overlap.new.me in
+    let two = knows_stays w a (spare_words k1.log.loader) k1 k2 one c.ending_below-place.ensures.same (spare_wide w a.copy k1 one.holder) in
+    let three = knows_stays w a (spare_words k2.log.loader) k2 k3 two c.lowest_overlap.ensures.same (spare_wide w a.copy k2 two.holder) in
+    let none = c.in_default.ensures.none in
+    let below = subst (λ pc. EndsBelow (active_words k1.log.loader) pc c.ending_below-place.result) c.first.ensures.value c.ending_below-place.ensures.below in
+    let begin = subst (λ ws. (c.ending_below-place.result ≡ a.count) ⊎ (c.args.member.now.span.last < (member_in ws c.ending_below-place.result).span.first)) (spells_active (spare_words k1.log.loader) k1 k2 c.ending_below-place.ensures.same) none.1 in
+    let xs : List Member = three.listing.members in
+    let mine = subst (λ ws. ListsMembers ws xs) (spells_active (spare_words k2.log.loader) k2 k3 c.lowest_overlap.ensures.same ∙ spells_active (spare_words k1.log.loader) k1 k2 c.ending_below-place.ensures.same) three.listing.lists in
+    let free = free_listed (active_words k1.log.loader) xs a.count c.ending_below-place.result c.args.member.now.span c.args.member.now mine three.count c.ending_below-place.ensures.inside below begin in
+    let count = three.count in let full = c.if-active-loads.true in let loads = c.loads.ensures in
+    may_refuse w a k3 (update.Load c.args.member.now) three (inr (All-append (λ x. ¬ Overlaps x.span c.args.member.now.span) w.terms.fixed xs none.0 free, omega (arith, count, full, loads)))
+
+pub returns-then-active-loads : goal.returns-then-active-loads
+returns-then-active-loads c =
+    let w : WordsData = c.args.words.now in let a : ActiveCopy = c.active_copy-active.result in let k1 : CallerData = c.active_copy-active.new.me in let one = c.active_copy-active.ensures.knows in
+    let k2 : CallerData = c.ending_below-place.new.me in let k3 : CallerData = c.lowest_overlap.new.me in
+    let two = knows_stays w a (spare_words k1.log.loader) k1 k2 one c.ending_below-place.ensures.same (spare_wide w a.copy k1 one.holder) in
+    let three = knows_stays w a (spare_words k2.log.loader) k2 k3 two c.lowest_overlap.ensures.same (spare_wide w a.copy k2 two.holder) in
+    let works = works_then (spare_words k2.log.loader) c.args.me.now k2 k3 (works_then (spare_words k1.log.loader) c.args.me.now k1 k2 c.active_copy-active.ensures.works c.ending_below-place.ensures.same) c.lowest_overlap.ensures.same in
+    let none = c.in_default.ensures.none in
+    let below = subst (λ pc. EndsBelow (active_words k1.log.loader) pc c.ending_below-place.result) c.first.ensures.value c.ending_below-place.ensures.below in
+    let active2 = spells_active (spare_words k1.log.loader) k1 k2 c.ending_below-place.ensures.same in
+    let active3 = spells_active (spare_words k2.log.loader) k2 k3 c.lowest_overlap.ensures.same in
+    let begin = subst (λ ws. (c.ending_below-place.result ≡ a.count) ⊎ (c.args.member.now.span.last < (member_in ws c.ending_below-place.result).span.first)) active2 none.1 in
+    full_so w.terms c.args.me.now k3 c.load_clock-clock-then-active-loads.new.me c.load_clock-clock-then-active-loads.result c.args.member.now works (is_held w.terms a.copy k3.log.loader three.holder.holds) c.load_clock-clock-then-active-loads.ensures.log c.load_clock-clock-then-active-loads.ensures.rest
+    (λ xs lists.
+    let mine = subst (λ ws. ListsMembers ws xs) (active3 ∙ active2) lists in
+    All-append (λ x. ¬ Overlaps x.span c.args.member.now.span) w.terms.fixed xs none.0 (free_listed (active_words k1.log.loader) xs a.count c.ending_below-place.result c.args.member.now.span c.args.member.now mine (counted_so w a k1 xs one mine) c.ending_below-place.ensures.inside below begin))
+
+pub write_copy-requires-clause-known : goal.write_copy-requires-clause-known
+write_copy-requires-clause-known c =
+    let w : WordsData = c.args.words.now in let a : ActiveCopy = c.active_copy-active.result in let k1 : CallerData = c.active_copy-active.new.me in let one = c.active_copy-active.ensures.knows in
+    let k2 : CallerData = c.ending_below-place.new.me in let k3 : CallerData = c.lowest_overlap.new.me in
+    let two = knows_stays w a (spare_words k1.log.loader) k1 k2 one c.ending_below-place.ensures.same (spare_wide w a.copy k1 one.holder) in
+    let three = knows_stays w a (spare_words k2.log.loader) k2 k3 two c.lowest_overlap.ensures.same (spare_wide w a.copy k2 two.holder) in
+    record { each = λ i less. known_at w a k3 i three less; room = three.room }
+
+pub publish-number-requires-clause-may : goal.publish-number-requires-clause-may
+publish-number-requires-clause-may c =
+    let w : WordsData = c.args.words.now in let a : ActiveCopy = c.active_copy-active.result in let k1 : CallerData = c.active_copy-active.new.me in let one = c.active_copy-active.ensures.knows in
+    let k2 : CallerData = c.ending_below-place.new.me in let k3 : CallerData = c.lowest_overlap.new.me in let k4 : CallerData = c.write_copy.new.me in
+    let two = knows_stays w a (spare_words k1.log.loader) k1 k2 one c.ending_below-place.ensures.same (spare_wide w a.copy k1 one.holder) in
+    let three = knows_stays w a (spare_words k2.log.loader) k2 k3 two c.lowest_overlap.ensures.same (spare_wide w a.copy k2 two.holder) in
+    let works = works_then (spare_words k4.log.loader) c.args.me.now k3 k4 (works_then (spare_words k2.log.loader) c.args.me.now k2 k3 (works_then (spare_words k1.log.loader) c.args.me.now k1 k2 c.active_copy-active.ensures.works c.ending_below-place.ensures.same) c.lowest_overlap.ensures.same) c.write_copy.ensures.same in
+    let none = c.in_default.ensures.none in
+    let active2 = spells_active (spare_words k1.log.loader) k1 k2 c.ending_below-place.ensures.same in
+    let active3 = spells_active (spare_words k2.log.loader) k2 k3 c.lowest_overlap.ensures.same in
+    let below = subst (λ ws. EndsBelow ws c.args.member.now.span.first c.ending_below-place.result) (sym (active3 ∙ active2)) (subst (λ pc. EndsBelow (active_words k1.log.loader) pc c.ending_below-place.result) c.first.ensures.value c.ending_below-place.ensures.below) in
+    let begin = subst (λ ws. (c.ending_below-place.result ≡ a.count) ⊎ (c.args.member.now.span.last < (member_in ws c.ending_below-place.result).span.first)) (sym active3) none.1 in
+    let allowance : k4.log.budget.allowance ≡ c.args.me.now.log.budget.allowance = ap (λ (k : CallerData). k.log.budget.allowance) works.6.1 in
+    let due_now = c.requires.due in let room = three.room in let loads = c.loads.ensures in let less = c.if-active-loads.false in
+    may_publish w a k3 k4 c.ending_below-place.result c.args.member.now three c.write_copy.ensures.same (holds_of w.terms a.copy (spare_words k4.log.loader) k3 k4 three.holder.holds c.write_copy.ensures.same c.write_copy.ensures.wide) (omega (arith, allowance, due_now)) (c.first.ensures.span, c.requires.payload) (omega (arith, room, loads, less)) c.ending_below-place.ensures.inside below none.0 begin c.write_copy.ensures.written
+
+pub returns : goal.returns
+returns c =
+    let w : WordsData = c.args.words.now in let a : ActiveCopy = c.active_copy-active.result in let k1 : CallerData = c.active_copy-active.new.me in let one = c.active_copy-active.ensures.knows in
+    let k2 : CallerData = c.ending_below-place.new.me in let k3 : CallerData = c.lowest_overlap.new.me in let k4 : CallerData = c.write_copy.new.me in
+    let two = knows_stays w a (spare_words k1.log.loader) k1 k2 one c.ending_below-place.ensures.same (spare_wide w a.copy k1 one.holder) in
+    let three = knows_stays w a (spare_words k2.log.loader) k2 k3 two c.lowest_overlap.ensures.same (spare_wide w a.copy k2 two.holder) in
+    let works = works_then (spare_words k4.log.loader) c.args.me.now k3 k4 (works_then (spare_words k2.log.loader) c.args.me.now k2 k3 (works_then (spare_words k1.log.loader) c.args.me.now k1 k2 c.active_copy-active.ensures.works c.ending_below-place.ensures.same) c.lowest_overlap.ensures.same) c.write_copy.ensures.same in
+    let holds = holds_of w.terms a.copy (spare_words k4.log.loader) k3 k4 three.holder.holds c.write_copy.ensures.same c.write_copy.ensures.wide in
+    published_so w.terms c.args.me.now k4 c.publish-number.new.me c.publish-number.ensures.log.0 c.publish-number.result c.args.member.now works (is_held w.terms a.copy k4.log.loader holds) c.publish-number.ensures.log.1 c.publish-number.ensures.rest c.publish-number.ensures.number
