@@ -1,13 +1,12 @@
 -- How an update is answered under the lock: refused, or published.
-use Rattle.std.proofs.Common.{◌≡◌, ◌≢◌, ℕ, zero, suc, ◌+◌, ◌-◌, ◌<◌, ◌≤◌, ◌⊎◌, ◌↔◌, inl, inr, ⊎_elim, List, [], ◌∷◌, ◌++◌, length, length-append, get_or, Contains, sym, refl, ap, ◌∙◌, subst, arith, Bool, true, false, true≢false, Option, Some, None, IfSome, IsSome, IsSomeAnd, IsTrue, option_map, append_assoc, append-nil, add_assoc}
-use Rattle.std.specs.List.{All, AllByRecursion}
-use Rattle.std.proofs.lemmas.Option.{none-some, same_Some}
+use Rattle.std.proofs.Common.{◌≡◌, ℕ, zero, suc, ◌+◌, ◌-◌, ◌<◌, ◌≤◌, ◌⊎◌, ◌↔◌, inl, inr, ⊎_elim, List, [], ◌∷◌, ◌++◌, length, length-append, get_or, Contains, sym, refl, ap, ◌∙◌, subst, arith, Bool, true, false, true≢false, Option, Some, None, IfSome, IsSome, IsSomeAnd, IsTrue, option_map, append_assoc, add_assoc}
+use Rattle.std.proofs.lemmas.Option.{none-some}
 use Rattle.std.proofs.lemmas.List.Elements.{All-contains, Contains-get_or, Contains-append_left, Contains-append_right, Contains-append_cases}
 use mathlib.Core.List.{IsPrefix}
 use Rattle.reg_model.specs.SpanData.{SpanData, Overlaps, contains}
 use Rattle.reg_model.specs.State.{State, AreDisjoint, IsFree, IsLowestOverlap, objects}
 use Rattle.reg_model.specs.History.{state_after}
-use Rattle.reg_model.specs.Receipt.{accepted, moment, IsRight}
+use Rattle.reg_model.specs.Receipt.{IsRight}
 use Rattle.reg_model.specs.declared.span.Member.{Member}
 use Rattle.reg_model.specs.declared.answer.Loading.{Loading}
 use Rattle.reg_model.specs.declared.answer.Loading.TheVariants as loading
@@ -19,7 +18,6 @@ use Rattle.reg_model.proofs.Spans.{contains_from, contains_bounds}
 use Rattle.word_rule.specs.declared.log.Ask.TheVariants as ask
 use Rattle.word_rule.specs.declared.log.LoadEvent.{LoadEvent}
 use Rattle.word_rule.specs.declared.log.LoaderHolding.{LoaderHolding}
-use Rattle.word_rule.specs.declared.log.Log.{Log}
 use Rattle.word_rule.specs.declared.log.Sights.{Sights}
 use Rattle.word_rule.specs.declared.log.Terms.{Terms}
 use Rattle.word_rule.specs.CallerData.{CallerData, WordsData}
@@ -31,7 +29,7 @@ use Rattle.word_rule.specs.Places.{copy_words, lower}
 use Rattle.word_rule.specs.Steps.{IsRefusalOf, MayRefuse, Refuses, AfterPublish, MayPublish, after_publish, exchange_copies}
 use Rattle.word_rule.proofs.Listings.{free_of, state_fixed}
 use Rattle.array_publish.specs.Holders.{Spells, active_words, after_work, spare_words, with_spare}
-use Rattle.array_publish.specs.Update.{AnswersLoad, HoldsCopies, LoadsMember, after_call, IsRightLoad, KnowsCopy, Works, accepted_load, after_answer, after_seeing}
+use Rattle.array_publish.specs.Update.{AnswersLoad, HoldsCopies, IsFreeAgain, LoadsMember, after_call, IsRightLoad, KnowsCopy, Works, accepted_load, after_answer, after_seeing}
 use Rattle.array_publish.specs.declared.writing.ActiveCopy.{ActiveCopy}
 use Rattle.array_publish.specs.Holders.{member_in}
 use Rattle.array_publish.specs.Writing.{EndsBelow, IsWritten}
@@ -116,8 +114,11 @@ works_then spare a b d p q = (
   q.2,
   spare,
   q.3,
-  (p.6.0, q.4 ∙ (ap (λ (k : CallerData). record k { log = after_work q.0 q.1 q.2 spare q.3 k.log }) p.6.1
-  ∙ (λ i. record a { log = record a.log { past = p.0; trace = record a.log.trace { loads = append_assoc a.log.trace.loads p.1 q.0 i; writes = add_assoc a.log.trace.writes p.2 q.1 i }; sights = q.2; loader = twice a.log.loader i } }))),
+  (
+    p.6.0,
+    q.4 ∙ (ap (λ (k : CallerData). record k { log = after_work q.0 q.1 q.2 spare q.3 k.log }) p.6.1
+        ∙ (λ i. record a { log = record a.log { past = p.0; trace = record a.log.trace { loads = append_assoc a.log.trace.loads p.1 q.0 i; writes = add_assoc a.log.trace.writes p.2 q.1 i }; sights = q.2; loader = twice a.log.loader i } })),
+  ),
 )
   where
     twice : (o : Option LoaderHolding) → option_map (with_spare spare q.3) (option_map (with_spare p.4 p.5) o) ≡ option_map (with_spare spare q.3) o
@@ -224,8 +225,7 @@ published_so t k0 k4 k5 found number m works held after rest is =
     let same : length after.0 + 1 ≡ number = omega (arith, len, sum) in
     let r : after.1 ≡ receipt.Load m (loading.Done number) = after.2.1 ∙ ap (λ n. receipt.Load m (loading.Done n)) same in
     let begins = prefix_both k0.log.past works.0 after.0 works.6.0 (subst (λ (k : CallerData). IsPrefix k.log.past after.0) works.6.1 after.2.0.begins) in
-    let loader : option_map (with_spare works.4 works.5) k0.log.loader ≡ Some lock.0 = sym (ap (λ (k : CallerData). k.log.loader) works.6.1) ∙ lock.1 in
-    (
+    let loader : option_map (with_spare works.4 works.5) k0.log.loader ≡ Some lock.0 = sym (ap (λ (k : CallerData). k.log.loader) works.6.1) ∙ lock.1 in (
       after.0 ++ update.Load m ∷ [],
       works.1,
       works.2 + 1,
@@ -234,16 +234,16 @@ published_so t k0 k4 k5 found number m works held after rest is =
       (
         (after.0, (begins, refl, len)),
         rest ∙ ((λ i. record k4 { log = after.2.2 i }) ∙ (ap (λ (k : CallerData). record k { log = after_publish (update.Load m) after.0 after.1 k.log }) works.6.1
-        ∙ (λ i. record k0 {
-          log = record k0.log {
-            past = after.0 ++ update.Load m ∷ [];
-            budget = record k0.log.budget { allowance = k0.log.budget.allowance - 1 };
-            receipts = record k0.log.receipts { own = k0.log.receipts.own ++ r i ∷ [] };
-            trace = record k0.log.trace { loads = k0.log.trace.loads ++ works.1; writes = add_assoc k0.log.trace.writes works.2 1 i };
-            sights = works.3;
-            loader = option_map exchange_copies (loader i);
-          };
-        }))),
+            ∙ (λ i. record k0 {
+              log = record k0.log {
+                past = after.0 ++ update.Load m ∷ [];
+                budget = record k0.log.budget { allowance = k0.log.budget.allowance - 1 };
+                receipts = record k0.log.receipts { own = k0.log.receipts.own ++ r i ∷ [] };
+                trace = record k0.log.trace { loads = k0.log.trace.loads ++ works.1; writes = add_assoc k0.log.trace.writes works.2 1 i };
+                sights = works.3;
+                loader = option_map exchange_copies (loader i);
+              };
+            }))),
       ),
     )
 
@@ -292,17 +292,17 @@ loads_whole t m k0 k1 k2 k3 k4 answer some_left begun locked told gone = go answ
           (
             subst (λ (k : CallerData). IsRightLoad t m k.log.past p.0 a) locks_is p.5.0,
             gone ∙ (ap (λ (k : CallerData). record k { log = after_loader_release k.log }) (p.5.1 ∙ ap (λ (k : CallerData). record k { log = after_answer p.0 p.1 p.2 p.3 (Some p.4) (receipt.Load m a) (accepted_load a) k.log }) locks_is)
-            ∙ (λ i. record k0 {
-              left = k0.left - 1;
-              log = record k0.log {
-                past = p.0;
-                budget = record { allowance = k0.log.budget.allowance - accepted_load a; credit = k0.log.budget.credit - 1 };
-                receipts = record k0.log.receipts { own = k0.log.receipts.own ++ receipt.Load m a ∷ [] };
-                trace = record k0.log.trace { loads = append_assoc k0.log.trace.loads locked.0 p.1 i; writes = writes i };
-                sights = p.3;
-                loader = None;
-              };
-            })),
+                ∙ (λ i. record k0 {
+                  left = k0.left - 1;
+                  log = record k0.log {
+                    past = p.0;
+                    budget = record { allowance = k0.log.budget.allowance - accepted_load a; credit = k0.log.budget.credit - 1 };
+                    receipts = record k0.log.receipts { own = k0.log.receipts.own ++ receipt.Load m a ∷ [] };
+                    trace = record k0.log.trace { loads = append_assoc k0.log.trace.loads locked.0 p.1 i; writes = writes i };
+                    sights = p.3;
+                    loader = None;
+                  };
+                })),
           ),
         )
 
@@ -322,3 +322,9 @@ locked_budget k k' p = (ap (λ z. z.left) p.3.2, ap (λ z. z.log.budget) p.3.2, 
 
 pub answered_budget : (t : Terms) (m : Member) (k k' : CallerData) (a : Loading) → AnswersLoad t m k k' a → (k'.left ≡ k.left) × (k'.log.budget.credit ≡ k.log.budget.credit) × (k'.table ≡ k.table) × IsSome k'.log.loader
 answered_budget t m k k' a p = (ap (λ z. z.left) p.5.1, ap (λ z. z.log.budget.credit) p.5.1, ap (λ z. z.table) p.5.1, subst (λ (z : CallerData). IsSome z.log.loader) (sym p.5.1) refl)
+
+pub free_again : (t : Terms) (m : Member) (k k' : CallerData) (a : Loading) → k.log.loader ≡ None → LoadsMember t m k k' a → IsFreeAgain k k'
+free_again t m k k' (loading.Done n) free p = record { table = ap (λ z. z.table) p.1.4.1; loader = ap (λ z. z.log.loader) p.1.4.1; holdings = ap (λ z. z.log.holdings) p.1.4.1; lineage = ap (λ z. z.log.lineage) p.1.4.1 }
+free_again t m k k' (loading.Overlap o s) free p = record { table = ap (λ z. z.table) p.1.4.1; loader = ap (λ z. z.log.loader) p.1.4.1; holdings = ap (λ z. z.log.holdings) p.1.4.1; lineage = ap (λ z. z.log.lineage) p.1.4.1 }
+free_again t m k k' (loading.LoadFull s) free p = record { table = ap (λ z. z.table) p.1.4.1; loader = ap (λ z. z.log.loader) p.1.4.1; holdings = ap (λ z. z.log.holdings) p.1.4.1; lineage = ap (λ z. z.log.lineage) p.1.4.1 }
+free_again t m k k' loading.Spent free p = record { table = ap (λ z. z.table) p.1; loader = ap (λ z. z.log.loader) p.1 ∙ free; holdings = ap (λ z. z.log.holdings) p.1; lineage = ap (λ z. z.log.lineage) p.1 }

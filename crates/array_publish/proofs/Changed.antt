@@ -1,5 +1,5 @@
 -- A list with one member more, or one less: where its members stand, and what it has.
-use Rattle.std.proofs.Common.{◌≡◌, ◌≢◌, ℕ, zero, suc, ◌+◌, ◌-◌, ◌<◌, ◌≤◌, ◌⊎◌, ◌↔◌, inl, inr, ⊎_elim, List, [], ◌∷◌, ◌++◌, length, length-append, take, drop, get_or, Contains, sym, refl, ap, ◌∙◌, subst, arith, ◌==◌, true, false, Option, Some, None, IfSome, slice_get, eq-eqb, ne_eqb, nat_lt, lt_of_not-le}
+use Rattle.std.proofs.Common.{◌≡◌, ℕ, zero, suc, ◌+◌, ◌-◌, ◌<◌, ◌≤◌, ◌⊎◌, inl, inr, ⊎_elim, List, [], ◌∷◌, ◌++◌, length, length-append, take, drop, get_or, sym, refl, ap, ◌∙◌, subst, arith, IfSome, slice_get, eq-eqb, ne_eqb, lt_of_not-le}
 use Rattle.std.specs.List.{All, AllByRecursion}
 use Rattle.std.proofs.lemmas.List.{length-drop, length-take, take-append-drop}
 use Rattle.std.proofs.lemmas.List.Elements.{All-append}
@@ -10,9 +10,9 @@ use Rattle.reg_model.specs.State.{IsFree}
 use Rattle.reg_model.specs.declared.span.Member.{Member}
 use Rattle.reg_model.proofs.Spans.{overlap_bounds}
 use Rattle.segment_array.specs.Ascending.{AscendFrom}
-use Rattle.segment_array.specs.Placing.{IsPlaceOf, IsWithMember}
+use Rattle.segment_array.specs.Placing.{IsPlaceOf}
 use Rattle.segment_array.proofs.Places.{with_member}
-use Rattle.word_rule.specs.Places.{member_place, segments}
+use Rattle.word_rule.specs.Places.{segments}
 use Rattle.word_rule.specs.Copies.{ListsMembers, StandFrom, count_in}
 use Rattle.word_rule.specs.Callers.{IsMemberOf}
 use Rattle.word_rule.specs.Steps.{MayPublish}
@@ -21,7 +21,7 @@ use Rattle.word_rule.specs.declared.log.Terms.{Terms}
 use Rattle.reg_model.specs.declared.answer.Update.TheVariants as update
 use Rattle.array_publish.specs.Holders.{member_in}
 use Rattle.array_publish.specs.Writing.{IsWritten, wanted}
-use Rattle.array_publish.specs.declared.writing.Change.TheVariants.{Put, Take}
+use Rattle.array_publish.specs.declared.writing.Change.TheVariants.{Put}
 
 -- ---- members by their index
 
@@ -134,8 +134,7 @@ fits_at xs k m d h span le end begin =
     let front = all_below 0 k m.span.first xs d h le end in
     let back = all_above 0 k m.span.last xs d h begin in
     let apart_front = all_to (λ x. (x.span.first ≤ x.span.last) × (x.span.last < m.span.first)) (λ x. ¬ Overlaps x.span m.span) (λ x l over. let b = overlap_bounds x.span m.span over in let c = b.1 in let e = l.1 in omega (arith, c, e)) (take k xs) front in
-    let apart_back = all_to (λ x. m.span.last < x.span.first) (λ x. ¬ Overlaps x.span m.span) (λ x l over. let b = overlap_bounds x.span m.span over in let c = b.0 in omega (arith, c, l)) (drop k xs) back in
-    (
+    let apart_back = all_to (λ x. m.span.last < x.span.first) (λ x. ¬ Overlaps x.span m.span) (λ x l over. let b = overlap_bounds x.span m.span over in let c = b.0 in omega (arith, c, l)) (drop k xs) back in (
       subst (IsFree m.span) (take-append-drop k xs) (All-append (λ x. ¬ Overlaps x.span m.span) (take k xs) (drop k xs) (by_index (λ x. ¬ Overlaps x.span m.span) (take k xs) apart_front) (by_index (λ x. ¬ Overlaps x.span m.span) (drop k xs) apart_back)),
       record {
         inside = le;

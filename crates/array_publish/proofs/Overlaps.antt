@@ -8,7 +8,7 @@ use Rattle.reg_model.specs.SpanData.{SpanData, Overlaps}
 use Rattle.reg_model.specs.State.{IsFree, IsLowestOverlap}
 use Rattle.reg_model.specs.declared.span.Member.{Member}
 use Rattle.reg_model.proofs.Spans.{contains_from, overlap_bounds}
-use Rattle.reg_model.proofs.Members.{IsLowest, taken_from, passed_over_all}
+use Rattle.reg_model.proofs.Members.{taken_from, passed_over_all}
 use Rattle.segment_array.specs.Ascending.{AscendFrom}
 use Rattle.array_publish.proofs.Changed.{all_above, all_below, all_from, all_to, by_index, stands_at}
 use Rattle.word_rule.specs.Copies.{ListsMembers, StandFrom}

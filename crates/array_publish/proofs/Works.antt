@@ -1,5 +1,5 @@
 -- Loads and stores of the holder of the loader's lock, one after another.
-use Rattle.std.proofs.Common.{◌≡◌, ℕ, zero, suc, ◌+◌, ◌-◌, ◌*◌, ◌/◌, ◌<◌, ◌≤◌, ◌%◌, List, [], ◌∷◌, ◌++◌, length, get_or, set, length-set, sym, refl, ap, ◌∙◌, subst, arith, IsTrue, nat_le, nat_lt, Bool, true, false, Option, Some, None, option_map, IsSomeAnd, IfSome, append-nil, append_assoc, add_assoc, add-zero}
+use Rattle.std.proofs.Common.{◌≡◌, ℕ, ◌+◌, ◌-◌, ◌<◌, ◌%◌, List, [], ◌∷◌, ◌++◌, length, get_or, set, sym, refl, ap, ◌∙◌, subst, arith, IsTrue, Bool, false, Option, Some, None, option_map, IsSomeAnd, IfSome, append-nil, append_assoc, add_assoc, add-zero}
 use Rattle.std.proofs.lemmas.Bool.{and_from, le-leb, lt-ltb}
 use Rattle.word_rule.specs.declared.log.LoadEvent.{LoadEvent}
 use Rattle.word_rule.specs.declared.log.LoaderHolding.{LoaderHolding}
@@ -10,7 +10,7 @@ use Rattle.word_rule.specs.CallerData.{CallerData, WordsData}
 use Rattle.word_rule.specs.Logs.{load_of}
 use Rattle.word_rule.specs.Places.{copy_place, copy_words, is_of_copy}
 use Rattle.word_rule.specs.Sights.{with_copy_word, after_copy_load}
-use Rattle.word_rule.specs.Steps.{IsHeldWord, spare_place, store_in_copy, after_copy_store}
+use Rattle.word_rule.specs.Steps.{IsHeldWord}
 use Rattle.word_rule.proofs.Memories.{set_same}
 use Rattle.array_publish.specs.Holders.{active_words, spare_words, with_spare, after_work, Spells, IsHolder}
 

@@ -3,7 +3,6 @@ use Rattle.std.specs.Prelude.{◌≡◌, ℕ, ◌+◌, ◌-◌, ◌<◌, ◌≤�
 use Rattle.std.specs.Prelude.{None, IsSomeAnd}
 use Rattle.std.specs.List.{AllByRecursion}
 use mathlib.Core.List.{IsPrefix}
-use Rattle.reg_model.specs.SpanData.{SpanData}
 use Rattle.reg_model.specs.State.{IsFree, IsLowestOverlap, objects}
 use Rattle.reg_model.specs.History.{state_after}
 use Rattle.reg_model.specs.declared.answer.Loading.{Loading}
@@ -87,14 +86,23 @@ accepted_load _ = 0
 abbrev pub AnswersLoad : Terms → Member → CallerData → CallerData → Loading → Type 0
 AnswersLoad t m k k' answer = (past : List Update) × (more : List LoadEvent) × (stores : ℕ)
     × (sights : Sights) × (h : LoaderHolding) × (IsRightLoad t m k.log.past past answer
-    × (k' ≡ record k { log = after_answer past more stores sights (Some h)
-        (receipt.Load m answer) (accepted_load answer) k.log }))
+    × (k' ≡ record k {
+      log = after_answer past more stores sights (Some h)
+          (receipt.Load m answer) (accepted_load answer) k.log;
+    }))
 
 -- A log after an update call: answered with this receipt, so many accepted, the lock let go.
 abbrev pub after_call : List Update → List LoadEvent → ℕ → Sights → Receipt → ℕ → Log → Log
 after_call past more stores sights r accepted v =
     let answered = after_answer past more stores sights None r accepted v in
     record answered { budget = record answered.budget { credit = v.budget.credit - 1 } }
+
+-- what an update call leaves of its caller: it holds no lock, as before
+pub record IsFreeAgain (k k' : CallerData) : Type 0 where
+  pub table : k'.table ≡ k.table
+  pub loader : k'.log.loader ≡ None
+  pub holdings : k'.log.holdings ≡ k.log.holdings
+  pub lineage : k'.log.lineage ≡ k.log.lineage
 
 -- A load, made by one of the update calls: it is answered as the state is after all of the history
 -- that is seen then, and nothing else of the caller changes. Or there is no such call left.

@@ -1,49 +1,98 @@
-use crate::try_object;
-use reg_model::{Found, Member, Span};
+ghost use Rattle.std.specs.Prelude.{◌≡◌, IfSome};
+
+use crate::{load, try_object};
+use reg_model::{Again, Found, Loading, Member, Span};
 use std::test::Fail;
 use word_rule::Words;
+
+// So many addresses from a base on, with a payload.
+fn member(base: u64, size: u64, payload: u32) -> Option<Member>
+    ensures { IfSome result (λ m. m.payload ≡ payload) }
+{
+    let span = Span::new(base, size)?;
+    Some(Member { span, payload })
+}
+
+// The payload and the stamp of a hit.
+fn hit(answer: Result<Found, Again>) -> Option<(u32, u32)> {
+    match answer {
+        Ok(Found::Hit { member, stamp }) => Some((member.payload, stamp)),
+        _ => None,
+    }
+}
+
+// The stamp of a miss.
+fn miss(answer: Result<Found, Again>) -> Option<u32> {
+    match answer {
+        Ok(Found::Miss { stamp }) => Some(stamp),
+        _ => None,
+    }
+}
 
 #[test]
 fn fixed_members_are_found_at_the_stamp_of_the_clock(rt: HostRuntime) -> Result<(), Fail> {
     let alloc = rt.alloc();
     let mut fixed = Vec::new(alloc);
-    let (Some(low), Some(high)) = (Span::new(0x1000, 0x20), Span::new(0x1020, 0x10)) else {
+    let (Some(low), Some(high)) = (member(0x1000, 0x20, 0), member(0x1020, 0x10, 1)) else {
         panic!(rt; "spans")
     };
-    let low = Member {
-        span: low,
-        payload: 0,
-    };
-    let high = Member {
-        span: high,
-        payload: 1,
-    };
+    assert!(rt; low.span.first() == 0x1000 && low.span.last() == 0x101f && low.payload == 0);
+    assert!(rt; high.span.first() == 0x1020 && high.span.last() == 0x102f && high.payload == 1);
     fixed.push(low)?;
     fixed.push(high)?;
     let (words, mut a) = Words::new(alloc, 4, 17, 2, fixed)?;
-    let stamp = 0;
-    assert_eq!(rt;
-        try_object(&words, &mut a, 0x1000),
-        Ok(Found::Hit { member: low, stamp })
-    );
-    assert_eq!(rt;
-        try_object(&words, &mut a, 0x101f),
-        Ok(Found::Hit { member: low, stamp })
-    );
-    assert_eq!(rt;
-        try_object(&words, &mut a, 0x1020),
-        Ok(Found::Hit {
-            member: high,
-            stamp
-        })
-    );
-    assert_eq!(rt;
-        try_object(&words, &mut a, 0xfff),
-        Ok(Found::Miss { stamp })
-    );
-    assert_eq!(rt;
-        try_object(&words, &mut a, 0x1030),
-        Ok(Found::Miss { stamp })
-    );
+    assert!(rt; hit(try_object(&words, &mut a, 0x1000)) == Some((0, 0)));
+    assert!(rt; hit(try_object(&words, &mut a, 0x101f)) == Some((0, 0)));
+    assert!(rt; hit(try_object(&words, &mut a, 0x1020)) == Some((1, 0)));
+    assert!(rt; miss(try_object(&words, &mut a, 0xfff)) == Some(0));
+    assert!(rt; miss(try_object(&words, &mut a, 0x1030)) == Some(0));
+    Ok(())
+}
+
+// What a load answered: its number, the stamp of an overlap, or none.
+fn number(answer: Loading) -> Option<u32> {
+    match answer {
+        Loading::Done { number } => Some(number),
+        _ => None,
+    }
+}
+
+fn overlap(answer: Loading) -> Option<(u32, u32)> {
+    match answer {
+        Loading::Overlap { member, stamp } => Some((member.payload, stamp)),
+        _ => None,
+    }
+}
+
+#[test]
+fn a_member_that_another_loaded_is_found_and_overlaps(rt: HostRuntime) -> Result<(), Fail> {
+    let alloc = rt.alloc();
+    let (words, mut a) = Words::new(alloc, 4, 1, 1, Vec::new(alloc))?;
+    let mut b = words.split(alloc, &mut a, 1)?;
+    let (Some(one), Some(same), Some(last)) = (
+        member(0x1000, 0x20, 0),
+        member(0x1000, 0x20, 0),
+        member(0x1000, 0x20, 0),
+    ) else {
+        panic!(rt; "spans")
+    };
+    assert!(rt; number(load(&rt, &words, &mut a, one)) == Some(1));
+    let note = words.note(alloc, &mut a)?;
+    assert!(rt; note.seen() == 1);
+    let Ok(()) = words.learn(alloc, &mut b, note) else {
+        panic!(rt; "no memory")
+    };
+    assert!(rt; b.seen() == 1);
+    assert!(rt; hit(try_object(&words, &mut b, 0x1010)) == Some((0, 1)));
+    assert!(rt; overlap(load(&rt, &words, &mut b, same)) == Some((0, 1)));
+    let spent = load(&rt, &words, &mut b, last);
+    assert!(rt; spent == Loading::Spent);
+    let Ok(()) = words.join(alloc, &mut a, b) else {
+        panic!(rt; "no memory")
+    };
+    let alone = a.alone();
+    assert!(rt; alone);
+    let accepted = words.close(a);
+    assert!(rt; accepted == 1);
     Ok(())
 }

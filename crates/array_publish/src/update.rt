@@ -9,13 +9,13 @@ ghost use Rattle.word_rule.specs.Copies.{ListsMembers};
 ghost use Rattle.array_publish.specs.Holders.{IsHolder, Spells, active_words, member_in};
 ghost use Rattle.array_publish.specs.Holders.{spare_words};
 ghost use Rattle.array_publish.specs.Writing.{EndsBelow, EndsFrom};
-ghost use Rattle.array_publish.specs.Update.{AnswersLoad, HoldsCopies, KnowsCopy, LoadsMember};
-ghost use Rattle.array_publish.specs.Update.{Works};
+ghost use Rattle.array_publish.specs.Update.{AnswersLoad, HoldsCopies, IsFreeAgain, KnowsCopy};
+ghost use Rattle.array_publish.specs.Update.{LoadsMember, Works};
 
 use crate::walk::COUNT;
 use crate::writing::{ActiveCopy, Change, active_member, active_word, ending_below, write_copy};
-use reg_model::{Loading, Member, Span, Update};
 use node_store::{lock, unlock};
+use reg_model::{Loading, Member, Span, Update};
 use std::sync::Wait;
 use word_rule::{Ask, Caller, LockId, Words};
 
@@ -129,7 +129,8 @@ pub fn load<R: Wait>(rt: &R, words: &Words, me: &mut Caller, member: Member) -> 
     requires table { me.old.table ≡ words.now.table }
     requires free { me.old.log.loader ≡ None }
     requires payload { member.payload < words.now.terms.payloads }
-    ensures { LoadsMember words.now.terms member me.old me.new result }
+    ensures answer { LoadsMember words.now.terms member me.old me.new result }
+    ensures free { IsFreeAgain me.old me.new }
 {
     if !me.use_one() {
         return Loading::Spent;

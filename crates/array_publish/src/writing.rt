@@ -148,13 +148,7 @@ fn changed_member(
 }
 
 /// Writes so many members as they are after a change.
-fn write_members(
-    words: &Words,
-    me: &mut Caller,
-    active: &ActiveCopy,
-    change: &Change,
-    count: u32,
-)
+fn write_members(words: &Words, me: &mut Caller, active: &ActiveCopy, change: &Change, count: u32)
     requires holder { IsHolder words.now active.now.copy me.old }
     requires known { AreKnown words.now.terms (active_words me.old.log.loader) active.now.count }
     requires place { HasPlace change.now active.now.count }

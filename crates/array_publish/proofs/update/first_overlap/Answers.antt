@@ -1,4 +1,4 @@
-use Rattle.std.proofs.Common.{◌≡◌, get_or, length, take, take_all, subst, arith}
+use Rattle.std.proofs.Common.{take_all, subst, arith}
 use Rattle.std.proofs.lemmas.Bool.{both_ways}
 use Rattle.std.proofs.lemmas.List.Elements.{All-more}
 use Rattle.reg_model.specs.SpanData.{Overlaps}

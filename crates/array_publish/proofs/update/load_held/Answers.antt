@@ -1,18 +1,16 @@
-use Rattle.std.proofs.Common.{◌≡◌, ◌+◌, ◌-◌, ◌<◌, ◌≤◌, ◌⊎◌, ◌++◌, inl, inr, ℕ, List, length, sym, refl, ap, ◌∙◌, subst, arith, Option, None, IfNone, IfSome, IsSome}
+use Rattle.std.proofs.Common.{◌≡◌, ◌<◌, ◌⊎◌, inr, List, sym, ap, ◌∙◌, subst, arith}
 use Rattle.std.proofs.lemmas.List.Elements.{All-append}
 use Rattle.reg_model.specs.SpanData.{Overlaps}
-use Rattle.reg_model.specs.State.{IsFree, IsLowestOverlap}
 use Rattle.reg_model.specs.declared.span.Member.{Member}
 use Rattle.reg_model.specs.declared.answer.Update.TheVariants as update
-use Rattle.word_rule.specs.CallerData.{CallerData, WordsData, due}
+use Rattle.word_rule.specs.CallerData.{CallerData, WordsData}
 use Rattle.word_rule.specs.Copies.{ListsMembers}
 use Rattle.array_publish.specs.Holders.{active_words, member_in, spare_words}
-use Rattle.array_publish.specs.Update.{KnowsCopy, Works}
-use Rattle.array_publish.specs.Writing.{AreKnown, EndsBelow, EndsFrom}
+use Rattle.array_publish.specs.Writing.{EndsBelow}
 use Rattle.array_publish.specs.declared.writing.ActiveCopy.{ActiveCopy}
 use Rattle.array_publish.proofs.Answering.{may_refuse, overlap_so, full_so, published_so, may_publish, free_listed, works_then, is_held, holds_of}
 use Rattle.array_publish.proofs.Knowing.{counted_so, known_at, knows_stays}
-use Rattle.array_publish.proofs.Works.{holder_stays, spare_wide, spells_active, spells_spare}
+use Rattle.array_publish.proofs.Works.{spare_wide, spells_active}
 use Rattle.array_publish.proofs.update.load_held.Goals as goal
 
 pub lowest_overlap-requires-clause-knows : goal.lowest_overlap-requires-clause-knows

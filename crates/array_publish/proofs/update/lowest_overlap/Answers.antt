@@ -1,9 +1,8 @@
-use Rattle.std.proofs.Common.{◌≡◌, ◌<◌, ◌≤◌, ◌⊎◌, ℕ, List, length, get_or, inl, inr, sym, ap, ◌∙◌, subst, arith, Option, Some, None, IfSome, IfNone}
+use Rattle.std.proofs.Common.{◌≡◌, ◌<◌, ◌⊎◌, inl, inr, ap, ◌∙◌, subst, arith, Option, Some, None, IfSome, IfNone}
 use Rattle.reg_model.specs.State.{IsFree, IsLowestOverlap}
 use Rattle.reg_model.specs.declared.span.Member.{Member}
-use Rattle.word_rule.specs.CallerData.{CallerData, WordsData}
+use Rattle.word_rule.specs.CallerData.{CallerData}
 use Rattle.array_publish.specs.Holders.{active_words, member_in}
-use Rattle.array_publish.specs.Writing.{EndsBelow}
 use Rattle.array_publish.proofs.Knowing.{counted_so, known_at}
 use Rattle.array_publish.proofs.Overlaps.{both_lowest, ends_listed, fixed_lower, fixed_or_none, free_split, listed_is, listed_lowest, only_listed}
 use Rattle.array_publish.proofs.Works.{spells_none}

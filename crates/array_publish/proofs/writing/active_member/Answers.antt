@@ -1,6 +1,6 @@
 use Rattle.word_rule.specs.CallerData.{CallerData, WordsData}
 use Rattle.array_publish.specs.Holders.{spare_words}
-use Rattle.array_publish.proofs.Works.{holder_stays, loads_then, spare_wide}
+use Rattle.array_publish.proofs.Works.{loads_then}
 use Rattle.array_publish.proofs.writing.active_member.Goals as goal
 
 pub returns-clause-same : goal.returns-clause-same

@@ -1,7 +1,7 @@
-use Rattle.std.proofs.Common.{◌≡◌, ◌+◌, ◌-◌, ◌/◌, ◌<◌, ◌≤◌, List, ℕ, get_or, inl, inr, refl, sym, ap, ◌∙◌, subst, arith}
+use Rattle.std.proofs.Common.{◌≡◌, ◌+◌, ◌-◌, ◌/◌, ◌<◌, ℕ, get_or, inl, inr, refl, ◌∙◌, subst, arith}
 use Rattle.word_rule.specs.CallerData.{CallerData, WordsData}
 use Rattle.array_publish.specs.Holders.{Spells, active_words, member_in, spare_words}
-use Rattle.array_publish.proofs.Works.{Written, written_next, written_none, spare_wide}
+use Rattle.array_publish.proofs.Works.{written_next, written_none, spare_wide}
 use Rattle.array_publish.proofs.writing.ending_below.Goals as goal
 
 pub loop-low-init : goal.loop-low-init

@@ -9,7 +9,7 @@ invariant-loop-low l = record {
   work : Written l.words l.active.copy (spare_words l.fn.me.log.loader) l.fn.me l.me;
   order : (l.low ≤ l.high) × (l.high ≤ l.active.count);
   below : EndsBelow (active_words l.fn.me.log.loader) l.address l.low;
-  above : EndsFrom (active_words l.fn.me.log.loader) l.address l.active.count l.high
+  above : EndsFrom (active_words l.fn.me.log.loader) l.address l.active.count l.high;
 }
 
 abbrev pub decreases-loop-low : goal.decreases-loop-low

@@ -1,4 +1,4 @@
-use Rattle.std.proofs.Common.{◌≡◌, ◌+◌, List, ℕ, set, sym, ap, ◌∙◌, subst, arith}
+use Rattle.std.proofs.Common.{◌≡◌, ◌+◌, ℕ, set, subst}
 use Rattle.word_rule.specs.CallerData.{CallerData}
 use Rattle.word_rule.specs.Copies.{count_in}
 use Rattle.array_publish.specs.Holders.{Spells, spare_words}

@@ -1,4 +1,4 @@
-use Rattle.std.proofs.Common.{◌≡◌, ◌+◌, ℕ, List, set, length-set, sym, ap, ◌∙◌, subst}
+use Rattle.std.proofs.Common.{◌≡◌, ◌+◌, ℕ, set, length-set, ◌∙◌, subst}
 use Rattle.word_rule.specs.CallerData.{CallerData, WordsData}
 use Rattle.array_publish.specs.Holders.{Spells, spare_words}
 use Rattle.array_publish.proofs.Works.{holder_stays, spare_wide, three_words}

@@ -1,4 +1,4 @@
-use Rattle.std.proofs.Common.{◌+◌, set, sym, ap, ◌∙◌, subst, IfSome}
+use Rattle.std.proofs.Common.{◌+◌, set, sym, subst, IfSome}
 use Rattle.word_rule.specs.CallerData.{CallerData}
 use Rattle.word_rule.specs.Steps.{IsHeldWord}
 use Rattle.array_publish.specs.Holders.{Spells, spare_words}

@@ -1,10 +1,10 @@
-use Rattle.std.proofs.Common.{◌≡◌, ◌+◌, ◌<◌, ℕ, List, length, length-set, set, sym, refl, ap, ◌∙◌, subst, arith}
+use Rattle.std.proofs.Common.{◌+◌, ◌<◌, ℕ, List, length, length-set, set, sym, refl, ap, ◌∙◌, subst, arith}
 use Rattle.word_rule.specs.CallerData.{CallerData, WordsData}
 use Rattle.word_rule.specs.Copies.{count_in}
 use Rattle.word_rule.specs.Places.{segment_place}
-use Rattle.array_publish.specs.Holders.{Spells, member_in, spare_words}
+use Rattle.array_publish.specs.Holders.{member_in, spare_words}
 use Rattle.array_publish.specs.Writing.{HaveHeaders, with_header}
-use Rattle.array_publish.proofs.Works.{Written, written_next, written_none, spare_wide}
+use Rattle.array_publish.proofs.Works.{written_next, written_none, spare_wide}
 use Rattle.array_publish.proofs.Written.{header_apart, one_header}
 use Rattle.array_publish.proofs.writing.write_headers.Goals as goal
 

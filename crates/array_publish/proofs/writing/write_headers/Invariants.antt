@@ -7,5 +7,5 @@ abbrev pub invariant-loop-segment : goal.invariant-loop-segment
 invariant-loop-segment l = record {
   work : Written l.words l.copy (spare_words l.me.log.loader) l.fn.me l.me;
   headers : HaveHeaders (spare_words l.me.log.loader) l.count l.segment;
-  members : SameMembers (spare_words l.fn.me.log.loader) (spare_words l.me.log.loader)
+  members : SameMembers (spare_words l.fn.me.log.loader) (spare_words l.me.log.loader);
 }

@@ -1,10 +1,10 @@
-use Rattle.std.proofs.Common.{◌≡◌, ◌+◌, ◌<◌, ℕ, List, length, sym, refl, ap, ◌∙◌, subst, arith}
+use Rattle.std.proofs.Common.{◌≡◌, ◌+◌, ◌<◌, ℕ, length, sym, refl, ap, ◌∙◌, subst, arith}
 use Rattle.word_rule.specs.CallerData.{CallerData, WordsData}
 use Rattle.word_rule.specs.Places.{member_place}
 use Rattle.reg_model.specs.declared.span.Member.{Member}
 use Rattle.array_publish.specs.Holders.{Spells, active_words, spare_words}
 use Rattle.array_publish.specs.Writing.{HasMembers, wanted, with_member}
-use Rattle.array_publish.proofs.Works.{Written, written_next, written_none, spare_wide}
+use Rattle.array_publish.proofs.Works.{written_next, written_none, spare_wide}
 use Rattle.array_publish.proofs.Written.{one_more, member_length}
 use Rattle.array_publish.proofs.writing.write_members.Goals as goal
 
