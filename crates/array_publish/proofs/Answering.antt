@@ -1,15 +1,18 @@
 -- How an update is answered under the lock: refused, or published.
-use Rattle.std.proofs.Common.{◌≡◌, ℕ, zero, suc, ◌+◌, ◌-◌, ◌<◌, ◌≤◌, ◌⊎◌, ◌↔◌, inl, inr, ⊎_elim, List, [], ◌∷◌, ◌++◌, length, length-append, get_or, Contains, sym, refl, ap, ◌∙◌, subst, arith, Bool, true, false, true≢false, Option, Some, None, IfSome, IsSome, IsSomeAnd, IsTrue, option_map, append_assoc, add_assoc}
-use Rattle.std.proofs.lemmas.Option.{none-some}
+use Rattle.std.proofs.Common.{◌≡◌, ℕ, zero, suc, ◌+◌, ◌-◌, ◌<◌, ◌≤◌, ◌⊎◌, ◌↔◌, eq-eqb, ne_eqb, inl, inr, ⊎_elim, List, [], ◌∷◌, ◌++◌, length, length-append, get_or, Contains, sym, refl, ap, ◌∙◌, subst, arith, Bool, true, false, true≢false, Option, Some, None, IfSome, IsSome, IsSomeAnd, IsTrue, option_map, append_assoc, add_assoc}
+use Rattle.std.proofs.lemmas.Option.{none-some, same_Some}
 use Rattle.std.proofs.lemmas.List.Elements.{All-contains, Contains-get_or, Contains-append_left, Contains-append_right, Contains-append_cases}
 use mathlib.Core.List.{IsPrefix}
 use Rattle.reg_model.specs.SpanData.{SpanData, Overlaps, contains}
-use Rattle.reg_model.specs.State.{State, AreDisjoint, IsFree, IsLowestOverlap, objects}
+use Rattle.reg_model.specs.State.{State, AreDisjoint, IsFree, IsLowestOverlap, at_base, objects}
 use Rattle.reg_model.specs.History.{state_after}
 use Rattle.reg_model.specs.Receipt.{IsRight}
 use Rattle.reg_model.specs.declared.span.Member.{Member}
 use Rattle.reg_model.specs.declared.answer.Loading.{Loading}
 use Rattle.reg_model.specs.declared.answer.Loading.TheVariants as loading
+use Rattle.reg_model.specs.declared.answer.Removed.{Removed}
+use Rattle.reg_model.specs.declared.answer.Removed.TheVariants as removed
+use Rattle.segment_array.specs.Ascending.{AscendFrom}
 use Rattle.reg_model.specs.declared.answer.Receipt.{Receipt}
 use Rattle.reg_model.specs.declared.answer.Receipt.TheVariants as receipt
 use Rattle.reg_model.specs.declared.answer.Update.{Update}
@@ -18,7 +21,6 @@ use Rattle.reg_model.proofs.Spans.{contains_from, contains_bounds}
 use Rattle.word_rule.specs.declared.log.Ask.TheVariants as ask
 use Rattle.word_rule.specs.declared.log.LoadEvent.{LoadEvent}
 use Rattle.word_rule.specs.declared.log.LoaderHolding.{LoaderHolding}
-use Rattle.word_rule.specs.declared.log.Sights.{Sights}
 use Rattle.word_rule.specs.declared.log.Terms.{Terms}
 use Rattle.word_rule.specs.CallerData.{CallerData, WordsData}
 use Rattle.word_rule.specs.Callers.{IsMemberOf, start}
@@ -27,9 +29,9 @@ use Rattle.word_rule.specs.Copies.{ListsAll, ListsMembers}
 use Rattle.word_rule.specs.Logs.{after_loader_lock, after_loader_release, load_of}
 use Rattle.word_rule.specs.Places.{copy_words, lower}
 use Rattle.word_rule.specs.Steps.{IsRefusalOf, MayRefuse, Refuses, AfterPublish, MayPublish, after_publish, exchange_copies}
-use Rattle.word_rule.proofs.Listings.{free_of, state_fixed}
+use Rattle.word_rule.proofs.Listings.{ascending_disjoint, free_of, lists_same, state_fixed}
 use Rattle.array_publish.specs.Holders.{Spells, active_words, after_work, spare_words, with_spare}
-use Rattle.array_publish.specs.Update.{AnswersLoad, HoldsCopies, IsFreeAgain, LoadsMember, after_call, IsRightLoad, KnowsCopy, Works, accepted_load, after_answer, after_seeing}
+use Rattle.array_publish.specs.Update.{AnswersLoad, AnswersUnload, AnswersWith, CallsWith, IsRightUnload, UnloadsMember, accepted_unload, HoldsCopies, IsFreeAgain, LoadsMember, IsRightLoad, KnowsCopy, Works, accepted_load, after_answer, after_seeing}
 use Rattle.array_publish.specs.declared.writing.ActiveCopy.{ActiveCopy}
 use Rattle.array_publish.specs.Holders.{member_in}
 use Rattle.array_publish.specs.Writing.{EndsBelow, IsWritten}
@@ -38,7 +40,7 @@ use Rattle.array_publish.proofs.Changed.{may_load}
 use Rattle.array_publish.proofs.Lookups.{prefix_both}
 use Rattle.array_publish.proofs.Overlaps.{ends_listed, free_split, listed_is}
 use Rattle.array_publish.proofs.Works.{Holds, spells_active}
-use Rattle.word_rule.proofs.Each.{some_of}
+use Rattle.word_rule.proofs.Each.{some_of, some_with}
 use Rattle.node_store.specs.Locking.{Locks, tried}
 use Rattle.word_rule.specs.Sights.{after_clock}
 use native.Mathlib.Decide.{ℕ_discrete}
@@ -163,16 +165,54 @@ lists_of : (t : Terms) (loaded : List Member) (o : Option LoaderHolding) → IsS
 lists_of t loaded None some_lock p h = absurd (true≢false (sym some_lock))
 lists_of t loaded (Some g) some_lock p h = h.1
 
+abbrev is_unload : Update → Bool
+is_unload (update.Unload base) = true
+is_unload (update.Load m) = false
+is_unload (update.Register m) = false
+is_unload (update.Deregister base) = false
+
+abbrev base_of : Update → ℕ
+base_of (update.Unload base) = base
+base_of (update.Load m) = 0
+base_of (update.Register m) = 0
+base_of (update.Deregister base) = 0
+
+not_found_told : (base : ℕ) (s : State) (stamp : ℕ) (r : Receipt) → IsRefusalOf (update.Unload base) s stamp r → r ≡ receipt.Unload base (removed.NotFound stamp)
+not_found_told base s stamp (receipt.Register n a) r = absurd (true≢false (ap is_unload r.0))
+not_found_told base s stamp (receipt.Deregister b a) r = absurd (true≢false (ap is_unload r.0))
+not_found_told base s stamp (receipt.Load n a) r = absurd (true≢false (ap is_unload r.0))
+not_found_told base s stamp (receipt.Query w pc f) r = absurd r.0
+not_found_told base s stamp (receipt.Unload b (removed.Done k m)) r = absurd (none-some _ (sym r.1))
+not_found_told base s stamp (receipt.Unload b removed.Spent) r = absurd r.3
+not_found_told base s stamp (receipt.Unload b (removed.NotFound k)) r = let same : base ≡ b = ap base_of r.0 in (λ i. receipt.Unload (sym same i) (removed.NotFound (r.2 i)))
+
+ordered_in : (low : ℕ) (xs : List Member) (m : Member) → AscendFrom low xs → Contains xs m → m.span.first ≤ m.span.last
+ordered_in low [] m h (k, l, e) = absurd (omega (arith, l))
+ordered_in low (x ∷ xs) m h (zero, l, e) = subst (λ (z : Member). z.span.first ≤ z.span.last) e h.1
+ordered_in low (x ∷ xs) m h (suc k, l, e) = ordered_in (x.span.last + 1) xs m h.2 (k, omega (arith, l), e)
+
+find_there : (base : ℕ) (xs : List Member) (x : Member) → at_base base xs ≡ Some x → Contains xs x × (x.span.first ≡ base)
+find_there base [] x e = absurd (none-some x e)
+find_there base (y ∷ xs) x e = go (ℕ_discrete y.span.first base) (find_there base xs x)
+  where
+    go : Dec (y.span.first ≡ base) → (at_base base xs ≡ Some x → Contains xs x × (x.span.first ≡ base)) → Contains (y ∷ xs) x × (x.span.first ≡ base)
+    go (yes same) rest = let is : y ≡ x = same_Some _ _ (rw (eq-eqb y.span.first base same) at e) in ((0, omega arith, is), ap (λ (z : Member). z.span.first) (sym is) ∙ same)
+    go (no ne) rest = let r = rest (rw (ne_eqb y.span.first base ne) at e) in ((suc r.0.0, (let l = r.0.1 in omega (arith, l)), r.0.2), r.1)
+
+active_lists : {loaded : List Member} → (o : Option LoaderHolding) → IsSome o → IfSome o (λ h. ListsAll h.active loaded) → ListsAll (active_words o) loaded
+active_lists None some_lock h = absurd (true≢false (sym some_lock))
+active_lists (Some g) some_lock h = h
+
 -- a refusal, at a load of the clock
-module _ (t : Terms) (k0 k3 k4 : CallerData) (found : ℕ) (m : Member) (works : Works k0 k3) (held : IsSome k3.log.loader) (after : AfterClock t (ask.Refused (update.Load m)) found k3.log k4.log) (rest : k4 ≡ record k3 { log = k4.log }) where
+module _ (t : Terms) (k0 k3 k4 : CallerData) (found : ℕ) (u : Update) (works : Works k0 k3) (held : IsSome k3.log.loader) (after : AfterClock t (ask.Refused u) found k3.log k4.log) (rest : k4 ≡ record k3 { log = k4.log }) where
   abbrev now : State
   now = state_after (start t) after.0
 
   lock : (h : LoaderHolding) × (k3.log.loader ≡ Some h)
   lock = some_of k3.log.loader held
 
-  told : IsRefusalOf (update.Load m) (state_after (start t) after.0) (lower found) after.2.1.0
-  told = subst (λ u. IsRefusalOf (update.Load m) (state_after (start u) after.0) (lower found) after.2.1.0) after.2.0.terms after.2.1.1.1
+  told : IsRefusalOf u (state_after (start t) after.0) (lower found) after.2.1.0
+  told = subst (λ z. IsRefusalOf u (state_after (start z) after.0) (lower found) after.2.1.0) after.2.0.terms after.2.1.1.1
 
   begins : IsPrefix k0.log.past after.0
   begins = prefix_both k0.log.past works.0 after.0 works.6.0 (subst (λ (k : CallerData). IsPrefix k.log.past after.0) works.6.1 after.2.0.begins)
@@ -186,59 +226,80 @@ module _ (t : Terms) (k0 k3 k4 : CallerData) (found : ℕ) (m : Member) (works :
   abbrev event : LoadEvent
   event = load_of worked.log 0 found
 
-  answered : (r : Receipt) → after.2.1.0 ≡ r → k4 ≡ record k0 { log = after_answer after.0 (works.1 ++ event ∷ []) works.2 (after_clock found after.0 [] worked.log).sights (Some lock.0) r 0 k0.log }
-  answered r is =
+  answered : (right : List Update → Type 0) (r : Receipt) → right after.0 → after.2.1.0 ≡ r → AnswersWith right r 0 k0 k4
+  answered right r ok is =
       let receipts : after.1 ≡ r ∷ [] = after.2.1.1.0 ∙ ap (λ x. x ∷ []) is in
       let loader : option_map (with_spare works.4 works.5) k0.log.loader ≡ Some lock.0 = sym (ap (λ (k : CallerData). k.log.loader) works.6.1) ∙ lock.1 in
-      let kept : k0.log.budget.allowance ≡ k0.log.budget.allowance - 0 = omega arith in
-      rest ∙ ((λ i. record k3 { log = after.2.2 i }) ∙ (ap (λ (k : CallerData). record k { log = after_clock found after.0 after.1 k.log }) works.6.1
-      ∙ (λ i. record k0 {
-        log = record k0.log {
-          past = after.0;
-          budget = record k0.log.budget { allowance = kept i };
-          receipts = record k0.log.receipts { own = k0.log.receipts.own ++ receipts i };
-          trace = record k0.log.trace { loads = append_assoc k0.log.trace.loads works.1 (event ∷ []) i; writes = k0.log.trace.writes + works.2 };
-          sights = (after_clock found after.0 [] worked.log).sights;
-          loader = loader i;
-        };
-      })))
+      let kept : k0.log.budget.allowance ≡ k0.log.budget.allowance - 0 = omega arith in (
+        after.0,
+        works.1 ++ event ∷ [],
+        works.2,
+        (after_clock found after.0 [] worked.log).sights,
+        lock.0,
+        (
+          ok,
+          rest ∙ ((λ i. record k3 { log = after.2.2 i }) ∙ (ap (λ (k : CallerData). record k { log = after_clock found after.0 after.1 k.log }) works.6.1
+              ∙ (λ i. record k0 {
+                log = record k0.log {
+                  past = after.0;
+                  budget = record k0.log.budget { allowance = kept i };
+                  receipts = record k0.log.receipts { own = k0.log.receipts.own ++ receipts i };
+                  trace = record k0.log.trace { loads = append_assoc k0.log.trace.loads works.1 (event ∷ []) i; writes = k0.log.trace.writes + works.2 };
+                  sights = (after_clock found after.0 [] worked.log).sights;
+                  loader = loader i;
+                };
+              }))),
+        ),
+      )
+
+module _ (t : Terms) (k0 k3 k4 : CallerData) (found : ℕ) (m : Member) (works : Works k0 k3) (held : IsSome k3.log.loader) (after : AfterClock t (ask.Refused (update.Load m)) found k3.log k4.log) (rest : k4 ≡ record k3 { log = k4.log }) where
+  abbrev here : State
+  here = state_after (start t) after.0
+
+  mine : ListsAll (active_words k3.log.loader) (state_after (start t) after.0).loaded
+  mine = listed t k0 k3 k4 found (update.Load m) works held after rest
 
   pub overlap_so : (other : Member) → ((xs : List Member) → ListsMembers (active_words k3.log.loader) xs → IsLowestOverlap m.span (t.fixed ++ xs) other) → AnswersLoad t m k0 k4 (loading.Overlap other (lower found))
   overlap_so other lowest =
-      let low = lowest_objects (state_after (start t) after.0) t.fixed listed.members m.span other (state_fixed (start t) after.0).0 listed.same (lowest listed.members listed.lists) in
-      (after.0, works.1 ++ event ∷ [], works.2, (after_clock found after.0 [] worked.log).sights, lock.0, ((begins, after.2.0.updates, low), answered (receipt.Load m (loading.Overlap other (lower found))) (overlap_told m other (state_after (start t) after.0) (lower found) after.2.1.0 after.2.0.lawful.objects low told)))
+      let low = lowest_objects (state_after (start t) after.0) t.fixed mine.members m.span other (state_fixed (start t) after.0).0 mine.same (lowest mine.members mine.lists) in
+      answered t k0 k3 k4 found (update.Load m) works held after rest (λ past. IsRightLoad t m k0.log.past past (loading.Overlap other (lower found))) (receipt.Load m (loading.Overlap other (lower found)))
+      (begins t k0 k3 k4 found (update.Load m) works held after rest, after.2.0.updates, low) (overlap_told m other (state_after (start t) after.0) (lower found) after.2.1.0 after.2.0.lawful.objects low (told t k0 k3 k4 found (update.Load m) works held after rest))
 
   pub full_so : ((xs : List Member) → ListsMembers (active_words k3.log.loader) xs → IsFree m.span (t.fixed ++ xs)) → AnswersLoad t m k0 k4 (loading.LoadFull (lower found))
   full_so free =
-      let all = free_of m (t.fixed ++ listed.members) (objects (state_after (start t) after.0)) (back (state_after (start t) after.0) t.fixed listed.members (state_fixed (start t) after.0).0 listed.same) (free listed.members listed.lists) in
-      let is = full_told m (state_after (start t) after.0) (lower found) after.2.1.0 all told in
-      let right : IsRight (state_after (start t) after.0) (receipt.Load m (loading.LoadFull (lower found))) = subst (IsRight (state_after (start t) after.0)) is told.3 in
-      (after.0, works.1 ++ event ∷ [], works.2, (after_clock found after.0 [] worked.log).sights, lock.0, ((begins, after.2.0.updates, all, right.1 ∙ (state_fixed (start t) after.0).1), answered (receipt.Load m (loading.LoadFull (lower found))) is))
+      let all = free_of m (t.fixed ++ mine.members) (objects (state_after (start t) after.0)) (back (state_after (start t) after.0) t.fixed mine.members (state_fixed (start t) after.0).0 mine.same) (free mine.members mine.lists) in
+      let is_told = told t k0 k3 k4 found (update.Load m) works held after rest in
+      let is = full_told m (state_after (start t) after.0) (lower found) after.2.1.0 all is_told in
+      let right : IsRight (state_after (start t) after.0) (receipt.Load m (loading.LoadFull (lower found))) = subst (IsRight (state_after (start t) after.0)) is is_told.3 in
+      answered t k0 k3 k4 found (update.Load m) works held after rest (λ past. IsRightLoad t m k0.log.past past (loading.LoadFull (lower found))) (receipt.Load m (loading.LoadFull (lower found)))
+      (begins t k0 k3 k4 found (update.Load m) works held after rest, after.2.0.updates, all, right.1 ∙ (state_fixed (start t) after.0).1) is
+
+pub not_found_so : (t : Terms) (k0 k3 k4 : CallerData) (found base : ℕ) (works : Works k0 k3) (held : IsSome k3.log.loader) (after : AfterClock t (ask.Refused (update.Unload base)) found k3.log k4.log) (rest : k4 ≡ record k3 { log = k4.log }) → AnswersUnload t base k0 k4 (removed.NotFound (lower found))
+not_found_so t k0 k3 k4 found base works held after rest =
+    let is_told = told t k0 k3 k4 found (update.Unload base) works held after rest in
+    let is = not_found_told base (state_after (start t) after.0) (lower found) after.2.1.0 is_told in
+    let right : IsRight (state_after (start t) after.0) (receipt.Unload base (removed.NotFound (lower found))) = subst (IsRight (state_after (start t) after.0)) is is_told.3 in
+    answered t k0 k3 k4 found (update.Unload base) works held after rest (λ past. IsRightUnload t base k0.log.past past (removed.NotFound (lower found))) (receipt.Unload base (removed.NotFound (lower found)))
+    (begins t k0 k3 k4 found (update.Unload base) works held after rest, after.2.0.updates, right) is
 
 -- a publication
-pub published_so : (t : Terms) (k0 k4 k5 : CallerData) (found number : ℕ) (m : Member) → Works k0 k4 → IsSome k4.log.loader → AfterPublish (update.Load m) found k4.log k5.log → k5 ≡ record k4 { log = k5.log } → number ≡ length k5.log.past → AnswersLoad t m k0 k5 (loading.Done number)
-published_so t k0 k4 k5 found number m works held after rest is =
+pub published_with : (u : Update) (k0 k4 k5 : CallerData) (found number : ℕ) (right : List Update → Type 0) (r : Receipt) (works : Works k0 k4) → IsSome k4.log.loader → (after : AfterPublish u found k4.log k5.log) → k5 ≡ record k4 { log = k5.log } → after.1 ≡ r → right (after.0 ++ u ∷ []) → AnswersWith right r 1 k0 k5
+published_with u k0 k4 k5 found number right r works held after rest is ok =
     let lock = some_of k4.log.loader held in
-    let past : k5.log.past ≡ after.0 ++ update.Load m ∷ [] = ap (λ v. v.past) after.2.2 in
-    let len : number ≡ length (after.0 ++ update.Load m ∷ []) = is ∙ ap length past in
-    let sum = length-append after.0 (update.Load m ∷ []) in
-    let same : length after.0 + 1 ≡ number = omega (arith, len, sum) in
-    let r : after.1 ≡ receipt.Load m (loading.Done number) = after.2.1 ∙ ap (λ n. receipt.Load m (loading.Done n)) same in
-    let begins = prefix_both k0.log.past works.0 after.0 works.6.0 (subst (λ (k : CallerData). IsPrefix k.log.past after.0) works.6.1 after.2.0.begins) in
     let loader : option_map (with_spare works.4 works.5) k0.log.loader ≡ Some lock.0 = sym (ap (λ (k : CallerData). k.log.loader) works.6.1) ∙ lock.1 in (
-      after.0 ++ update.Load m ∷ [],
+      after.0 ++ u ∷ [],
       works.1,
       works.2 + 1,
       works.3,
       exchange_copies lock.0,
       (
-        (after.0, (begins, refl, len)),
-        rest ∙ ((λ i. record k4 { log = after.2.2 i }) ∙ (ap (λ (k : CallerData). record k { log = after_publish (update.Load m) after.0 after.1 k.log }) works.6.1
+        ok,
+        rest ∙ ((λ i. record k4 { log = after.2.2 i }) ∙ (ap (λ (k : CallerData). record k { log = after_publish u after.0 after.1 k.log }) works.6.1
             ∙ (λ i. record k0 {
               log = record k0.log {
-                past = after.0 ++ update.Load m ∷ [];
+                past = after.0 ++ u ∷ [];
                 budget = record k0.log.budget { allowance = k0.log.budget.allowance - 1 };
-                receipts = record k0.log.receipts { own = k0.log.receipts.own ++ r i ∷ [] };
+                receipts = record k0.log.receipts { own = k0.log.receipts.own ++ is i ∷ [] };
                 trace = record k0.log.trace { loads = k0.log.trace.loads ++ works.1; writes = add_assoc k0.log.trace.writes works.2 1 i };
                 sights = works.3;
                 loader = option_map exchange_copies (loader i);
@@ -246,6 +307,36 @@ published_so t k0 k4 k5 found number m works held after rest is =
             }))),
       ),
     )
+
+numbered : (u : Update) (k0 k4 k5 : CallerData) (found number : ℕ) (works : Works k0 k4) (after : AfterPublish u found k4.log k5.log) → number ≡ length k5.log.past → IsPrefix k0.log.past after.0 × (number ≡ length (after.0 ++ u ∷ [])) × (length after.0 + 1 ≡ number)
+numbered u k0 k4 k5 found number works after is =
+    let past : k5.log.past ≡ after.0 ++ u ∷ [] = ap (λ v. v.past) after.2.2 in
+    let len : number ≡ length (after.0 ++ u ∷ []) = is ∙ ap length past in
+    let sum = length-append after.0 (u ∷ []) in
+    (prefix_both k0.log.past works.0 after.0 works.6.0 (subst (λ (k : CallerData). IsPrefix k.log.past after.0) works.6.1 after.2.0.begins), len, omega (arith, len, sum))
+
+pub published_so : (t : Terms) (k0 k4 k5 : CallerData) (found number : ℕ) (m : Member) → Works k0 k4 → IsSome k4.log.loader → AfterPublish (update.Load m) found k4.log k5.log → k5 ≡ record k4 { log = k5.log } → number ≡ length k5.log.past → AnswersLoad t m k0 k5 (loading.Done number)
+published_so t k0 k4 k5 found number m works held after rest is =
+    let n = numbered (update.Load m) k0 k4 k5 found number works after is in
+    published_with (update.Load m) k0 k4 k5 found number (λ past. IsRightLoad t m k0.log.past past (loading.Done number)) (receipt.Load m (loading.Done number)) works held after rest
+    (after.2.1 ∙ ap (λ z. receipt.Load m (loading.Done z)) n.2) (after.0, (n.0, refl, n.1))
+
+-- the member that an unload takes is the one of the copy with its base
+taken_from : (base : ℕ) (xs loaded : List Member) (m x : Member) → AscendFrom 0 xs → ((z : Member) → Contains xs z ↔ Contains loaded z) → Contains xs m → m.span.first ≡ base → at_base base loaded ≡ Some x → x ≡ m
+taken_from base xs loaded m x h same inside is found =
+    let d = find_there base loaded x found in
+    disjoint_one xs x m (ascending_disjoint 0 xs h) ((same x).1 d.0) inside
+    (base, (contains_from x.span base (let e = d.1 in omega (arith, e)) (let e = d.1 in let o = ordered_in 0 xs x h ((same x).1 d.0) in omega (arith, e, o)), contains_from m.span base (omega (arith, is)) (let o = ordered_in 0 xs m h inside in omega (arith, is, o))))
+
+pub unpublished_so : (t : Terms) (k0 k4 k5 : CallerData) (found number base : ℕ) (m : Member) (xs : List Member) → k4.log.terms ≡ t → ListsMembers (active_words k4.log.loader) xs → Contains xs m → m.span.first ≡ base → Works k0 k4 → IsSome k4.log.loader → AfterPublish (update.Unload base) found k4.log k5.log → k5 ≡ record k4 { log = k5.log } → number ≡ length k5.log.past → AnswersUnload t base k0 k5 (removed.Done number m)
+unpublished_so t k0 k4 k5 found number base m xs terms lists inside first works held after rest is =
+    let n = numbered (update.Unload base) k0 k4 k5 found number works after is in
+    let mine = active_lists k4.log.loader held after.2.0.active in
+    let same_list = lists_same (active_words k4.log.loader) mine.members xs mine.lists lists in
+    let done = some_with (at_base base (state_after (start k4.log.terms) after.0).loaded) (λ z. after.1 ≡ receipt.Unload base (removed.Done (length after.0 + 1) z)) after.2.1 in
+    let one : done.0 ≡ m = taken_from base xs (state_after (start k4.log.terms) after.0).loaded m done.0 lists.ascending (λ z. subst (λ ys. Contains ys z ↔ Contains (state_after (start k4.log.terms) after.0).loaded z) same_list (mine.same z)) inside first done.1.0 in
+    published_with (update.Unload base) k0 k4 k5 found number (λ past. IsRightUnload t base k0.log.past past (removed.Done number m)) (receipt.Unload base (removed.Done number m)) works held after rest
+    (done.1.1 ∙ (λ i. receipt.Unload base (removed.Done (n.2 i) (one i)))) (after.0, (n.0, refl, n.1, subst (λ u. at_base base (state_after (start u) after.0).loaded ≡ Some m) terms (done.1.0 ∙ ap Some one)))
 
 -- the holder may publish what it wrote
 written_held : (t : Terms) (c allowance k n : ℕ) (m d : Member) (xs : List Member) (o : Option LoaderHolding) → IsSomeAnd o (Holds t c) → 0 < allowance → IsMemberOf t m → ListsMembers (active_words o) xs → n ≡ length xs → n < t.loads → k ≤ n → IsFree m.span t.fixed → (k ≡ 0) ⊎ ((get_or xs (k - 1) d).span.last < m.span.first) → (k ≡ length xs) ⊎ (m.span.last < (get_or xs k d).span.first)
@@ -276,41 +367,56 @@ holds_of t c spare a b h p wide = subst (λ o. IsSomeAnd o (Holds t c)) (sym (ap
     go (Some g) e = (e.0, e.1, wide)
 
 -- the whole call: begun, locked, answered, let go
-pub loads_whole : (t : Terms) (m : Member) (k0 k1 k2 k3 k4 : CallerData) (answer : Loading) → 0 < k0.left → k1 ≡ record k0 { left = k0.left - 1 } → Locks k1 k2 → AnswersLoad t m k2 k3 answer → k4 ≡ record k3 { log = after_loader_release k3.log } → LoadsMember t m k0 k4 answer
-loads_whole t m k0 k1 k2 k3 k4 answer some_left begun locked told gone = go answer told
-  where
-    locks_is : k2 ≡ record k0 { left = k0.left - 1; log = after_loader_lock locked.2 (tried locked.0 locked.1 k0.log) }
-    locks_is = locked.3.2 ∙ ap (λ (k : CallerData). record k { log = after_loader_lock locked.2 (tried locked.0 locked.1 k.log) }) begun
+pub whole_call : (right : List Update → Type 0) (r : Receipt) (accepted : ℕ) (k0 k1 k2 k3 k4 : CallerData) → k1 ≡ record k0 { left = k0.left - 1 } → Locks k1 k2 → AnswersWith right r accepted k2 k3 → k4 ≡ record k3 { log = after_loader_release k3.log } → CallsWith right r accepted k0 k4
+whole_call right r accepted k0 k1 k2 k3 k4 begun locked p gone =
+    let locks_is : k2 ≡ record k0 { left = k0.left - 1; log = after_loader_lock locked.2 (tried locked.0 locked.1 k0.log) } = locked.3.2 ∙ ap (λ (k : CallerData). record k { log = after_loader_lock locked.2 (tried locked.0 locked.1 k.log) }) begun in
+    let writes : k0.log.trace.writes + locked.1 + 1 + p.2 + 1 ≡ k0.log.trace.writes + (locked.1 + 1 + p.2 + 1) = omega arith in (
+      p.0,
+      locked.0 ++ p.1,
+      locked.1 + 1 + p.2 + 1,
+      p.3,
+      (
+        p.5.0,
+        gone ∙ (ap (λ (k : CallerData). record k { log = after_loader_release k.log }) (p.5.1 ∙ ap (λ (k : CallerData). record k { log = after_answer p.0 p.1 p.2 p.3 (Some p.4) r accepted k.log }) locks_is)
+            ∙ (λ i. record k0 {
+              left = k0.left - 1;
+              log = record k0.log {
+                past = p.0;
+                budget = record { allowance = k0.log.budget.allowance - accepted; credit = k0.log.budget.credit - 1 };
+                receipts = record k0.log.receipts { own = k0.log.receipts.own ++ r ∷ [] };
+                trace = record k0.log.trace { loads = append_assoc k0.log.trace.loads locked.0 p.1 i; writes = writes i };
+                sights = p.3;
+                loader = None;
+              };
+            })),
+      ),
+    )
 
-    ends : (a : Loading) (p : AnswersLoad t m k2 k3 a) → (past : List Update) × (more : List LoadEvent) × (stores : ℕ) × (sights : Sights) × (IsRightLoad t m k0.log.past past a × (k4 ≡ record k0 { left = k0.left - 1; log = after_call past more stores sights (receipt.Load m a) (accepted_load a) k0.log }))
-    ends a p =
-        let writes : k0.log.trace.writes + locked.1 + 1 + p.2 + 1 ≡ k0.log.trace.writes + (locked.1 + 1 + p.2 + 1) = omega arith in (
-          p.0,
-          locked.0 ++ p.1,
-          locked.1 + 1 + p.2 + 1,
-          p.3,
-          (
-            subst (λ (k : CallerData). IsRightLoad t m k.log.past p.0 a) locks_is p.5.0,
-            gone ∙ (ap (λ (k : CallerData). record k { log = after_loader_release k.log }) (p.5.1 ∙ ap (λ (k : CallerData). record k { log = after_answer p.0 p.1 p.2 p.3 (Some p.4) (receipt.Load m a) (accepted_load a) k.log }) locks_is)
-                ∙ (λ i. record k0 {
-                  left = k0.left - 1;
-                  log = record k0.log {
-                    past = p.0;
-                    budget = record { allowance = k0.log.budget.allowance - accepted_load a; credit = k0.log.budget.credit - 1 };
-                    receipts = record k0.log.receipts { own = k0.log.receipts.own ++ receipt.Load m a ∷ [] };
-                    trace = record k0.log.trace { loads = append_assoc k0.log.trace.loads locked.0 p.1 i; writes = writes i };
-                    sights = p.3;
-                    loader = None;
-                  };
-                })),
-          ),
-        )
+past_kept : (k0 k1 k2 : CallerData) → k1 ≡ record k0 { left = k0.left - 1 } → Locks k1 k2 → k2.log.past ≡ k0.log.past
+past_kept k0 k1 k2 begun locked = ap (λ (k : CallerData). k.log.past) locked.3.2 ∙ ap (λ (k : CallerData). k.log.past) begun
+
+pub loads_whole : (t : Terms) (m : Member) (k0 k1 k2 k3 k4 : CallerData) (answer : Loading) → 0 < k0.left → k1 ≡ record k0 { left = k0.left - 1 } → Locks k1 k2 → AnswersLoad t m k2 k3 answer → k4 ≡ record k3 { log = after_loader_release k3.log } → LoadsMember t m k0 k4 answer
+loads_whole t m k0 k1 k2 k3 k4 answer some_left begun locked p gone = go answer p
+  where
+    ends : (a : Loading) → AnswersLoad t m k2 k3 a → CallsWith (λ past. IsRightLoad t m k0.log.past past a) (receipt.Load m a) (accepted_load a) k0 k4
+    ends a q = whole_call (λ past. IsRightLoad t m k0.log.past past a) (receipt.Load m a) (accepted_load a) k0 k1 k2 k3 k4 begun locked (q.0, q.1, q.2, q.3, q.4, (subst (λ z. IsRightLoad t m z q.0 a) (past_kept k0 k1 k2 begun locked) q.5.0, q.5.1)) gone
 
     go : (a : Loading) → AnswersLoad t m k2 k3 a → LoadsMember t m k0 k4 a
-    go (loading.Done n) p = (some_left, ends (loading.Done n) p)
-    go (loading.Overlap o s) p = (some_left, ends (loading.Overlap o s) p)
-    go (loading.LoadFull s) p = (some_left, ends (loading.LoadFull s) p)
-    go loading.Spent p = absurd p.5.0
+    go (loading.Done n) q = (some_left, ends (loading.Done n) q)
+    go (loading.Overlap o s) q = (some_left, ends (loading.Overlap o s) q)
+    go (loading.LoadFull s) q = (some_left, ends (loading.LoadFull s) q)
+    go loading.Spent q = absurd q.5.0
+
+pub unloads_whole : (t : Terms) (base : ℕ) (k0 k1 k2 k3 k4 : CallerData) (answer : Removed) → 0 < k0.left → k1 ≡ record k0 { left = k0.left - 1 } → Locks k1 k2 → AnswersUnload t base k2 k3 answer → k4 ≡ record k3 { log = after_loader_release k3.log } → UnloadsMember t base k0 k4 answer
+unloads_whole t base k0 k1 k2 k3 k4 answer some_left begun locked p gone = go answer p
+  where
+    ends : (a : Removed) → AnswersUnload t base k2 k3 a → CallsWith (λ past. IsRightUnload t base k0.log.past past a) (receipt.Unload base a) (accepted_unload a) k0 k4
+    ends a q = whole_call (λ past. IsRightUnload t base k0.log.past past a) (receipt.Unload base a) (accepted_unload a) k0 k1 k2 k3 k4 begun locked (q.0, q.1, q.2, q.3, q.4, (subst (λ z. IsRightUnload t base z q.0 a) (past_kept k0 k1 k2 begun locked) q.5.0, q.5.1)) gone
+
+    go : (a : Removed) → AnswersUnload t base k2 k3 a → UnloadsMember t base k0 k4 a
+    go (removed.Done n m) q = (some_left, ends (removed.Done n m) q)
+    go (removed.NotFound s) q = (some_left, ends (removed.NotFound s) q)
+    go removed.Spent q = absurd q.5.0
 
 -- a lock just taken has all words of both copies
 pub taken_copies : (k k' : CallerData) → Locks k k' → HoldsCopies k'.log.terms k'

@@ -8,3 +8,4 @@ pub mod Changed
 pub mod Overlaps
 pub mod Knowing
 pub mod Answering
+pub mod Bases

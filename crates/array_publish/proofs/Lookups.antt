@@ -41,7 +41,7 @@ use Rattle.array_publish.proofs.Searches.{unheld_below}
 
 -- ---- members that ascend, and another list of the same ones
 
-begins_above : (low : ℕ) (members : List Member) (m : Member) → AscendFrom low members → Contains members m → low ≤ m.span.first
+pub begins_above : (low : ℕ) (members : List Member) (m : Member) → AscendFrom low members → Contains members m → low ≤ m.span.first
 begins_above low [] m h (k, l, e) = absurd (omega (arith, l))
 begins_above low (x ∷ members) m h (zero, l, e) = let a = h.0 in subst (λ (z : Member). low ≤ z.span.first) e a
 begins_above low (x ∷ members) m h (suc k, l, e) = let r = begins_above (x.span.last + 1) members m h.2 (k, omega (arith, l), e) in let a = h.0 in let b = h.1 in omega (arith, r, a, b)

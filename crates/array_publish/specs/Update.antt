@@ -1,12 +1,14 @@
 -- What an update of the loader makes of its caller.
 use Rattle.std.specs.Prelude.{◌≡◌, ℕ, ◌+◌, ◌-◌, ◌<◌, ◌≤◌, Bool, List, [], ◌∷◌, ◌++◌, length, Option, Some}
-use Rattle.std.specs.Prelude.{None, IsSomeAnd}
+use Rattle.std.specs.Prelude.{None, IsNone, IsSomeAnd}
 use Rattle.std.specs.List.{AllByRecursion}
 use mathlib.Core.List.{IsPrefix}
-use Rattle.reg_model.specs.State.{IsFree, IsLowestOverlap, objects}
+use Rattle.reg_model.specs.State.{IsFree, IsLowestOverlap, at_base, objects}
 use Rattle.reg_model.specs.History.{state_after}
 use Rattle.reg_model.specs.declared.answer.Loading.{Loading}
 use Rattle.reg_model.specs.declared.answer.Loading.TheVariants as loading
+use Rattle.reg_model.specs.declared.answer.Removed.{Removed}
+use Rattle.reg_model.specs.declared.answer.Removed.TheVariants as removed
 use Rattle.reg_model.specs.declared.answer.Receipt.{Receipt}
 use Rattle.reg_model.specs.declared.answer.Receipt.TheVariants as receipt
 use Rattle.reg_model.specs.declared.answer.Update.{Update}
@@ -82,14 +84,33 @@ abbrev pub accepted_load : Loading → ℕ
 accepted_load (loading.Done number) = 1
 accepted_load _ = 0
 
--- A load was answered under the lock, which is still held.
+-- The answer to an unload is right.
+abbrev pub IsRightUnload : Terms → ℕ → List Update → List Update → Removed → Type 0
+IsRightUnload t base seen past (removed.Done number m) = (before : List Update)
+    × (IsPrefix seen before × (past ≡ before ++ update.Unload base ∷ []) × (number ≡ length past)
+    × (at_base base (state_after (start t) before).loaded ≡ Some m))
+IsRightUnload t base seen past (removed.NotFound stamp) = IsPrefix seen past
+    × (stamp ≡ length past) × IsNone (at_base base (state_after (start t) past).loaded)
+IsRightUnload t base seen past removed.Spent = ⊥
+
+abbrev pub accepted_unload : Removed → ℕ
+accepted_unload (removed.Done number m) = 1
+accepted_unload _ = 0
+
+-- An update was answered under the lock, which is still held.
+abbrev pub AnswersWith : (List Update → Type 0) → Receipt → ℕ → CallerData → CallerData → Type 0
+AnswersWith right r accepted k k' = (past : List Update) × (more : List LoadEvent) × (stores : ℕ)
+    × (sights : Sights) × (h : LoaderHolding) × (right past
+    × (k' ≡ record k { log = after_answer past more stores sights (Some h) r accepted k.log }))
+
 abbrev pub AnswersLoad : Terms → Member → CallerData → CallerData → Loading → Type 0
-AnswersLoad t m k k' answer = (past : List Update) × (more : List LoadEvent) × (stores : ℕ)
-    × (sights : Sights) × (h : LoaderHolding) × (IsRightLoad t m k.log.past past answer
-    × (k' ≡ record k {
-      log = after_answer past more stores sights (Some h)
-          (receipt.Load m answer) (accepted_load answer) k.log;
-    }))
+AnswersLoad t m k k' answer = AnswersWith (λ past. IsRightLoad t m k.log.past past answer)
+    (receipt.Load m answer) (accepted_load answer) k k'
+
+abbrev pub AnswersUnload : Terms → ℕ → CallerData → CallerData → Removed → Type 0
+AnswersUnload t base k k' answer = AnswersWith
+    (λ past. IsRightUnload t base k.log.past past answer) (receipt.Unload base answer)
+    (accepted_unload answer) k k'
 
 -- A log after an update call: answered with this receipt, so many accepted, the lock let go.
 abbrev pub after_call : List Update → List LoadEvent → ℕ → Sights → Receipt → ℕ → Log → Log
@@ -104,13 +125,25 @@ pub record IsFreeAgain (k k' : CallerData) : Type 0 where
   pub holdings : k'.log.holdings ≡ k.log.holdings
   pub lineage : k'.log.lineage ≡ k.log.lineage
 
--- A load, made by one of the update calls: it is answered as the state is after all of the history
--- that is seen then, and nothing else of the caller changes. Or there is no such call left.
+-- One of the update calls was made and answered so, and nothing else of the caller changed.
+abbrev pub CallsWith : (List Update → Type 0) → Receipt → ℕ → CallerData → CallerData → Type 0
+CallsWith right r accepted k k' = (past : List Update) × (more : List LoadEvent) × (stores : ℕ)
+    × (sights : Sights) × (right past × (k' ≡ record k {
+      left = k.left - 1;
+      log = after_call past more stores sights r accepted k.log;
+    }))
+
+-- A load: it is answered as the state is after all of the history that is seen then. Or no update
+-- call is left.
 abbrev pub LoadsMember : Terms → Member → CallerData → CallerData → Loading → Type 0
 LoadsMember t m k k' loading.Spent = (k.left ≡ 0) × (k' ≡ k)
-LoadsMember t m k k' answer = (0 < k.left) × ((past : List Update) × (more : List LoadEvent)
-    × (stores : ℕ) × (sights : Sights) × (IsRightLoad t m k.log.past past answer
-    × (k' ≡ record k {
-      left = k.left - 1;
-      log = after_call past more stores sights (receipt.Load m answer) (accepted_load answer) k.log;
-    })))
+LoadsMember t m k k' answer = (0 < k.left)
+    × CallsWith (λ past. IsRightLoad t m k.log.past past answer) (receipt.Load m answer)
+    (accepted_load answer) k k'
+
+-- The same of an unload.
+abbrev pub UnloadsMember : Terms → ℕ → CallerData → CallerData → Removed → Type 0
+UnloadsMember t base k k' removed.Spent = (k.left ≡ 0) × (k' ≡ k)
+UnloadsMember t base k k' answer = (0 < k.left)
+    × CallsWith (λ past. IsRightUnload t base k.log.past past answer) (receipt.Unload base answer)
+    (accepted_unload answer) k k'

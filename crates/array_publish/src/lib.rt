@@ -17,4 +17,4 @@ mod walk;
 mod writing;
 
 pub use lookup::try_object;
-pub use update::load;
+pub use update::{load, unload};

@@ -1,7 +1,7 @@
 ghost use Rattle.std.specs.Prelude.{◌≡◌, IfSome};
 
-use crate::{load, try_object};
-use reg_model::{Again, Found, Loading, Member, Span};
+use crate::{load, try_object, unload};
+use reg_model::{Again, Found, Loading, Member, Removed, Span};
 use std::test::Fail;
 use word_rule::Words;
 
@@ -87,6 +87,7 @@ fn a_member_that_another_loaded_is_found_and_overlaps(rt: HostRuntime) -> Result
     assert!(rt; overlap(load(&rt, &words, &mut b, same)) == Some((0, 1)));
     let spent = load(&rt, &words, &mut b, last);
     assert!(rt; spent == Loading::Spent);
+    assert!(rt; unload(&rt, &words, &mut b, 0x1000) == Removed::Spent);
     let Ok(()) = words.join(alloc, &mut a, b) else {
         panic!(rt; "no memory")
     };
@@ -94,5 +95,56 @@ fn a_member_that_another_loaded_is_found_and_overlaps(rt: HostRuntime) -> Result
     assert!(rt; alone);
     let accepted = words.close(a);
     assert!(rt; accepted == 1);
+    Ok(())
+}
+
+// What an unload answered: its number and the member's payload.
+fn removed(answer: Removed) -> Option<(u32, u32)> {
+    match answer {
+        Removed::Done { number, member } => Some((number, member.payload)),
+        _ => None,
+    }
+}
+
+// The stamp of an unload that found nothing.
+fn not_found(answer: Removed) -> Option<u32> {
+    match answer {
+        Removed::NotFound { stamp } => Some(stamp),
+        _ => None,
+    }
+}
+
+#[test]
+fn a_member_is_unloaded_by_its_first_address_alone(rt: HostRuntime) -> Result<(), Fail> {
+    let alloc = rt.alloc();
+    let mut fixed = Vec::new(alloc);
+    let Some(program) = member(0x9000, 0x100, 3) else {
+        panic!(rt; "span")
+    };
+    fixed.push(program)?;
+    let (words, mut a) = Words::new(alloc, 4, 2, 4, fixed)?;
+    let (Some(low), Some(high), Some(more)) = (
+        member(0x1000, 0x20, 0),
+        member(0x2000, 0x20, 1),
+        member(0x3000, 0x20, 2),
+    ) else {
+        panic!(rt; "spans")
+    };
+    assert!(rt; not_found(unload(&rt, &words, &mut a, 0x1000)) == Some(0));
+    assert!(rt; number(load(&rt, &words, &mut a, high)) == Some(1));
+    assert!(rt; number(load(&rt, &words, &mut a, low)) == Some(2));
+    assert!(rt; load(&rt, &words, &mut a, more) == Loading::LoadFull { stamp: 2 });
+    assert!(rt; not_found(unload(&rt, &words, &mut a, 0x1001)) == Some(2));
+    assert!(rt; not_found(unload(&rt, &words, &mut a, 0x9000)) == Some(2));
+    assert!(rt; removed(unload(&rt, &words, &mut a, 0x1000)) == Some((3, 0)));
+    assert!(rt; miss(try_object(&words, &mut a, 0x1000)) == Some(3));
+    assert!(rt; hit(try_object(&words, &mut a, 0x201f)) == Some((1, 3)));
+    assert!(rt; hit(try_object(&words, &mut a, 0x9000)) == Some((3, 3)));
+    assert!(rt; removed(unload(&rt, &words, &mut a, 0x2000)) == Some((4, 1)));
+    assert!(rt; not_found(unload(&rt, &words, &mut a, 0x2000)) == Some(4));
+    let alone = a.alone();
+    assert!(rt; alone);
+    let accepted = words.close(a);
+    assert!(rt; accepted == 4);
     Ok(())
 }

@@ -1,5 +1,6 @@
 //! Updates of the loader. Each takes the loader's lock, so one is made at a time; lookups go on.
-ghost use Rattle.std.specs.Prelude.{◌≡◌, ◌<◌, ◌≤◌, ◌⊎◌, ◌++◌, List, length, None, IfSome, IfNone};
+ghost use Rattle.std.specs.Prelude.{◌≡◌, ◌≢◌, ◌<◌, ◌≤◌, ◌⊎◌, ◌++◌, List, length, None, IfSome};
+ghost use Rattle.std.specs.Prelude.{IfNone};
 ghost use Rattle.reg_model.specs.State.{IsFree, IsLowestOverlap};
 ghost use Rattle.reg_model.specs.declared.span.Member.{Member};
 ghost use Rattle.segment_array.specs.Ascending.{AscendFrom};
@@ -9,13 +10,14 @@ ghost use Rattle.word_rule.specs.Copies.{ListsMembers};
 ghost use Rattle.array_publish.specs.Holders.{IsHolder, Spells, active_words, member_in};
 ghost use Rattle.array_publish.specs.Holders.{spare_words};
 ghost use Rattle.array_publish.specs.Writing.{EndsBelow, EndsFrom};
-ghost use Rattle.array_publish.specs.Update.{AnswersLoad, HoldsCopies, IsFreeAgain, KnowsCopy};
-ghost use Rattle.array_publish.specs.Update.{LoadsMember, Works};
+ghost use Rattle.array_publish.specs.Update.{AnswersLoad, AnswersUnload, HoldsCopies};
+ghost use Rattle.array_publish.specs.Update.{IsFreeAgain, KnowsCopy, LoadsMember, UnloadsMember};
+ghost use Rattle.array_publish.specs.Update.{Works};
 
 use crate::walk::COUNT;
 use crate::writing::{ActiveCopy, Change, active_member, active_word, ending_below, write_copy};
 use node_store::{lock, unlock};
-use reg_model::{Loading, Member, Span, Update};
+use reg_model::{Loading, Member, Removed, Span, Update};
 use std::sync::Wait;
 use word_rule::{Ask, Caller, LockId, Words};
 
@@ -89,6 +91,33 @@ fn lowest_overlap(
     }
 }
 
+/// The member of the active copy at a place, where it begins at the address.
+fn beginning_at(
+    words: &Words,
+    me: &mut Caller,
+    active: &ActiveCopy,
+    place: u32,
+    base: u64,
+) -> Option<Member>
+    requires knows { KnowsCopy words.now active.now me.old }
+    requires inside { place ≤ active.now.count }
+    ensures same { Spells (spare_words me.old.log.loader) me.old me.new }
+    ensures found { IfSome result (λ m. (place < active.now.count)
+        × (m ≡ member_in (active_words me.old.log.loader) place) × (m.span.first ≡ base)) }
+    ensures none { IfNone result ((place ≡ active.now.count)
+        ⊎ ((member_in (active_words me.old.log.loader) place).span.first ≢ base)) }
+{
+    if place == active.count {
+        return None;
+    }
+    let member = active_member(words, me, active.copy, place);
+    if member.span.first() == base {
+        Some(member)
+    } else {
+        None
+    }
+}
+
 /// Loads a member, by the holder of the loader's lock.
 fn load_held(words: &Words, me: &mut Caller, member: &Member) -> Loading
     requires table { me.old.table ≡ words.now.table }
@@ -137,6 +166,45 @@ pub fn load<R: Wait>(rt: &R, words: &Words, me: &mut Caller, member: Member) -> 
     }
     lock(rt, words, me, LockId::Loader);
     let answer = load_held(words, me, &member);
+    unlock(rt, words, me, LockId::Loader);
+    answer
+}
+
+/// Unloads the loaded member that begins at an address, by the holder of the loader's lock.
+fn unload_held(words: &Words, me: &mut Caller, base: u64) -> Removed
+    requires table { me.old.table ≡ words.now.table }
+    requires held { HoldsCopies me.old.log.terms me.old }
+    requires due { 0 < due me.old }
+    ensures { AnswersUnload words.now.terms base me.old me.new result }
+{
+    let active = active_copy(words, me);
+    let place = ending_below(words, me, &active, base);
+    let update = Update::Unload { base };
+    let Some(member) = beginning_at(words, me, &active, place, base) else {
+        let clock = words.load_clock(me, Ask::Refused { update });
+        return Removed::NotFound {
+            stamp: (clock % LOWER) as u32,
+        };
+    };
+    let change = Change::Take { place };
+    write_copy(words, me, &active, &change, active.count - 1);
+    let number = words.publish(me, update);
+    Removed::Done { number, member }
+}
+
+/// Unloads the loaded member that begins at an address, and names it. A fixed member can't be
+/// unloaded. Spent where the caller may begin no more update calls. It waits for the loader's lock.
+pub fn unload<R: Wait>(rt: &R, words: &Words, me: &mut Caller, base: u64) -> Removed
+    requires table { me.old.table ≡ words.now.table }
+    requires free { me.old.log.loader ≡ None }
+    ensures answer { UnloadsMember words.now.terms base me.old me.new result }
+    ensures free { IsFreeAgain me.old me.new }
+{
+    if !me.use_one() {
+        return Removed::Spent;
+    }
+    lock(rt, words, me, LockId::Loader);
+    let answer = unload_held(words, me, base);
     unlock(rt, words, me, LockId::Loader);
     answer
 }

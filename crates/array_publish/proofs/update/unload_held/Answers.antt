@@ -1,0 +1,78 @@
+use Rattle.std.proofs.Common.{◌≡◌, ap, ◌∙◌, sym, subst, arith}
+use Rattle.reg_model.specs.declared.answer.Update.TheVariants as update
+use Rattle.reg_model.specs.declared.span.Member.{Member}
+use Rattle.word_rule.specs.CallerData.{CallerData, WordsData}
+use Rattle.word_rule.specs.Copies.{ListsMembers}
+use Rattle.array_publish.specs.Holders.{active_words, member_in, spare_words}
+use Rattle.array_publish.specs.Writing.{EndsBelow, EndsFrom}
+use Rattle.array_publish.specs.declared.writing.ActiveCopy.{ActiveCopy}
+use Rattle.array_publish.proofs.Answering.{may_refuse, not_found_so, unpublished_so, works_then, is_held, holds_of}
+use Rattle.array_publish.proofs.Bases.{holder_terms, may_publish, member_listed, none_listed}
+use Rattle.array_publish.proofs.Knowing.{known_at, knows_stays}
+use Rattle.array_publish.proofs.Works.{spare_wide, spells_active}
+use Rattle.array_publish.proofs.update.unload_held.Goals as goal
+
+pub beginning_at-requires-clause-knows : goal.beginning_at-requires-clause-knows
+beginning_at-requires-clause-knows c =
+    let w : WordsData = c.args.words.now in let a : ActiveCopy = c.active_copy-active.result in let k1 : CallerData = c.active_copy-active.new.me in let one = c.active_copy-active.ensures.knows in
+    knows_stays w a (spare_words k1.log.loader) k1 c.ending_below-place.new.me one c.ending_below-place.ensures.same (spare_wide w a.copy k1 one.holder)
+
+pub load_clock-clock-requires-clause-ask : goal.load_clock-clock-requires-clause-ask
+load_clock-clock-requires-clause-ask c =
+    let w : WordsData = c.args.words.now in let a : ActiveCopy = c.active_copy-active.result in let k1 : CallerData = c.active_copy-active.new.me in let one = c.active_copy-active.ensures.knows in
+    let k2 : CallerData = c.ending_below-place.new.me in let k3 : CallerData = c.beginning_at.new.me in
+    let two = knows_stays w a (spare_words k1.log.loader) k1 k2 one c.ending_below-place.ensures.same (spare_wide w a.copy k1 one.holder) in
+    let three = knows_stays w a (spare_words k2.log.loader) k2 k3 two c.in_default.ensures.same (spare_wide w a.copy k2 two.holder) in
+    let active2 = spells_active (spare_words k1.log.loader) k1 k2 c.ending_below-place.ensures.same in
+    let active3 = spells_active (spare_words k2.log.loader) k2 k3 c.in_default.ensures.same in
+    let below = subst (λ ws. EndsBelow ws c.args.base c.ending_below-place.result) (sym active2) c.ending_below-place.ensures.below in
+    let above = subst (λ ws. EndsFrom ws c.args.base a.count c.ending_below-place.result) (sym active2) c.ending_below-place.ensures.above in
+    may_refuse w a k3 (update.Unload c.args.base) three
+    (none_listed (active_words k2.log.loader) three.listing.members a.count c.ending_below-place.result c.args.base (member_in (active_words k2.log.loader) 0) (subst (λ ws. ListsMembers ws three.listing.members) active3 three.listing.lists) three.count c.ending_below-place.ensures.inside below above c.in_default.ensures.none)
+
+pub returns-in_default : goal.returns-in_default
+returns-in_default c =
+    let w : WordsData = c.args.words.now in let a : ActiveCopy = c.active_copy-active.result in let k1 : CallerData = c.active_copy-active.new.me in let one = c.active_copy-active.ensures.knows in
+    let k2 : CallerData = c.ending_below-place.new.me in let k3 : CallerData = c.beginning_at.new.me in
+    let two = knows_stays w a (spare_words k1.log.loader) k1 k2 one c.ending_below-place.ensures.same (spare_wide w a.copy k1 one.holder) in
+    let three = knows_stays w a (spare_words k2.log.loader) k2 k3 two c.in_default.ensures.same (spare_wide w a.copy k2 two.holder) in
+    let works = works_then (spare_words k2.log.loader) c.args.me.now k2 k3 (works_then (spare_words k1.log.loader) c.args.me.now k1 k2 c.active_copy-active.ensures.works c.ending_below-place.ensures.same) c.in_default.ensures.same in
+    not_found_so w.terms c.args.me.now k3 c.load_clock-clock.new.me c.load_clock-clock.result c.args.base works (is_held w.terms a.copy k3.log.loader three.holder.holds) c.load_clock-clock.ensures.log c.load_clock-clock.ensures.rest
+
+pub write_copy-requires-clause-known : goal.write_copy-requires-clause-known
+write_copy-requires-clause-known c =
+    let w : WordsData = c.args.words.now in let a : ActiveCopy = c.active_copy-active.result in let k1 : CallerData = c.active_copy-active.new.me in let one = c.active_copy-active.ensures.knows in
+    let k2 : CallerData = c.ending_below-place.new.me in let k3 : CallerData = c.beginning_at.new.me in
+    let two = knows_stays w a (spare_words k1.log.loader) k1 k2 one c.ending_below-place.ensures.same (spare_wide w a.copy k1 one.holder) in
+    let three = knows_stays w a (spare_words k2.log.loader) k2 k3 two c.in-Some.ensures.same (spare_wide w a.copy k2 two.holder) in
+    record { each = λ i less. known_at w a k3 i three less; room = three.room }
+
+pub publish-number-requires-clause-may : goal.publish-number-requires-clause-may
+publish-number-requires-clause-may c =
+    let w : WordsData = c.args.words.now in let a : ActiveCopy = c.active_copy-active.result in let k1 : CallerData = c.active_copy-active.new.me in let one = c.active_copy-active.ensures.knows in
+    let k2 : CallerData = c.ending_below-place.new.me in let k3 : CallerData = c.beginning_at.new.me in let k4 : CallerData = c.write_copy.new.me in
+    let two = knows_stays w a (spare_words k1.log.loader) k1 k2 one c.ending_below-place.ensures.same (spare_wide w a.copy k1 one.holder) in
+    let three = knows_stays w a (spare_words k2.log.loader) k2 k3 two c.in-Some.ensures.same (spare_wide w a.copy k2 two.holder) in
+    let works = works_then (spare_words k4.log.loader) c.args.me.now k3 k4 (works_then (spare_words k2.log.loader) c.args.me.now k2 k3 (works_then (spare_words k1.log.loader) c.args.me.now k1 k2 c.active_copy-active.ensures.works c.ending_below-place.ensures.same) c.in-Some.ensures.same) c.write_copy.ensures.same in
+    let active3 = spells_active (spare_words k2.log.loader) k2 k3 c.in-Some.ensures.same in
+    let found = c.in-Some.ensures.found in
+    let allowance : k4.log.budget.allowance ≡ c.args.me.now.log.budget.allowance = ap (λ (k : CallerData). k.log.budget.allowance) works.6.1 in
+    let due_now = c.requires.due in
+    may_publish w a k3 k4 c.ending_below-place.result c.args.base three c.write_copy.ensures.same (holds_of w.terms a.copy (spare_words k4.log.loader) k3 k4 three.holder.holds c.write_copy.ensures.same c.write_copy.ensures.wide) (omega (arith, allowance, due_now)) found.0
+    (ap (λ ws. (member_in ws c.ending_below-place.result).span.first) active3 ∙ (ap (λ (m : Member). m.span.first) (sym found.1) ∙ found.2)) c.write_copy.ensures.written
+
+pub returns : goal.returns
+returns c =
+    let w : WordsData = c.args.words.now in let a : ActiveCopy = c.active_copy-active.result in let k1 : CallerData = c.active_copy-active.new.me in let one = c.active_copy-active.ensures.knows in
+    let k2 : CallerData = c.ending_below-place.new.me in let k3 : CallerData = c.beginning_at.new.me in let k4 : CallerData = c.write_copy.new.me in
+    let two = knows_stays w a (spare_words k1.log.loader) k1 k2 one c.ending_below-place.ensures.same (spare_wide w a.copy k1 one.holder) in
+    let three = knows_stays w a (spare_words k2.log.loader) k2 k3 two c.in-Some.ensures.same (spare_wide w a.copy k2 two.holder) in
+    let works = works_then (spare_words k4.log.loader) c.args.me.now k3 k4 (works_then (spare_words k2.log.loader) c.args.me.now k2 k3 (works_then (spare_words k1.log.loader) c.args.me.now k1 k2 c.active_copy-active.ensures.works c.ending_below-place.ensures.same) c.in-Some.ensures.same) c.write_copy.ensures.same in
+    let holds = holds_of w.terms a.copy (spare_words k4.log.loader) k3 k4 three.holder.holds c.write_copy.ensures.same c.write_copy.ensures.wide in
+    let active3 = spells_active (spare_words k2.log.loader) k2 k3 c.in-Some.ensures.same in
+    let active4 = spells_active (spare_words k4.log.loader) k3 k4 c.write_copy.ensures.same in
+    let found = c.in-Some.ensures.found in
+    unpublished_so w.terms c.args.me.now k4 c.publish-number.new.me c.publish-number.ensures.log.0 c.publish-number.result c.args.base c.in-Some.member three.listing.members
+    (holder_terms w a k3 k4 three c.write_copy.ensures.same) (subst (λ ws. ListsMembers ws three.listing.members) (sym active4) three.listing.lists)
+    (member_listed w a k3 three c.ending_below-place.result c.in-Some.member found.0 (found.1 ∙ sym (ap (λ ws. member_in ws c.ending_below-place.result) active3))) found.2
+    works (is_held w.terms a.copy k4.log.loader holds) c.publish-number.ensures.log.1 c.publish-number.ensures.rest c.publish-number.ensures.number
