@@ -1,13 +1,15 @@
 -- One that is alone has all that was ever done.
-use Rattle.std.proofs.Common.{◌≡◌, ◌≢◌, ℕ, ◌+◌, ◌%◌, ◌<◌, ◌≤◌, List, [], ◌∷◌, length, length-append, set, get_or, ne_eqb, sym, refl, ap, ◌∙◌, subst, arith, Option, Some, None, false, true, max, is_some, ◌&&◌, ◌==◌, lt_of_not-le}
+use Rattle.std.proofs.Common.{◌≡◌, ◌≢◌, ℕ, ◌+◌, ◌%◌, ◌<◌, ◌≤◌, List, [], ◌∷◌, ◌++◌, length, length-append, set, get_or, ne_eqb, sym, refl, ap, ◌∙◌, subst, arith, Option, Some, None, false, true, max, is_some, ◌&&◌, ◌==◌, lt_of_not-le}
 use Rattle.std.specs.List.{AllByRecursion, count_by}
 use Rattle.std.proofs.lemmas.List.Sums.{sum_by-cons}
 use mathlib.Core.Option.{none, some, some-injective, some-ne-none}
 use native.Mathlib.Decide.{dec_le}
 use lib.ListN.{get_elem?}
 use borrow.Author.Tests.{le-leb}
-use Rattle.atomic_table.specs.Table.{State, Me, step, keeps, Allows, Final, Seen}
+use Rattle.atomic_table.specs.Table.{State as TableState, Me, step, keeps, Allows, Final, Seen}
 use Rattle.atomic_table.proofs.Lists.{set_again}
+use Rattle.reg_model.specs.State.{State}
+use Rattle.reg_model.specs.History.{IsHistory, after}
 use Rattle.reg_model.specs.Receipt.{moment, accepted, AllHold}
 use Rattle.reg_model.specs.Numbers.{has_number}
 use Rattle.reg_model.specs.declared.answer.Update.{Update}
@@ -39,6 +41,11 @@ dones_all_within : (t : Terms) (past : List Update) (callers n : ℕ) (lists : L
 dones_all_within t past callers n [] above h = refl
 dones_all_within t past callers n (rs ∷ lists) above h =
     let c = sum_by-cons (λ receipts. count_by (has_number n) receipts) rs lists in let a = dones_within t past callers 0 n rs above h.0.0 in let b = dones_all_within t past callers n lists above h.1 in omega (arith, c, a, b)
+
+-- a history begins with a history
+history_front : (s : State) (front rest : List Update) → IsHistory s (front ++ rest) → IsHistory s front
+history_front s [] rest h = tt
+history_front s (u ∷ front) rest h = (h.0, history_front (after u s) front rest h.1)
 
 last_number : (n : ℕ) → 0 < n → number_of n n ≡ 1
 last_number n h = rw (le-leb 1 n h, le-leb n n (omega arith)) refl
@@ -74,11 +81,12 @@ module _ (t : Terms) (m : Memory) (views : List Log) (history : List Update) (r 
 
   pub whole : is_spent v.role ≡ false → IsWhole v
   whole stands = record {
+    lawful = subst (λ s. IsHistory (start s) v.past) (sym (own_log.terms stands)) (history_front (start t) v.past own_log.begins.0 (subst (IsHistory (start t)) (sym own_log.begins.1) r.lawful));
     numbers = λ n. sym (dones_all n) ∙ (r.numbers n ∙ ap (λ k. number_of k n) (sym seen_all));
     receipts = subst (λ s. ReceiptsHold s v.past (v.made + 1) v.receipts) (sym (own_log.terms stands)) own_log.receipts;
   }
 
-pub settles_loads : (t : Terms) (slots id : ℕ) (me : Me (Unit {0}) Log) → Allows (λ (s : State (Unit {0}) Log). TableInvariant t s.words s.views) slots id me 0 (λ n. n) (confirms (step slots 0 0 0 none) me)
+pub settles_loads : (t : Terms) (slots id : ℕ) (me : Me (Unit {0}) Log) → Allows (λ (s : TableState (Unit {0}) Log). TableInvariant t s.words s.views) slots id me 0 (λ n. n) (confirms (step slots 0 0 0 none) me)
 settles_loads t slots id me s r deep at small =
     let same_views : set s.views id me.0 ≡ s.views = set_again s.views id me.0 at in
     let same_words : set s.words 0 (get_or s.words 0 0) ≡ s.words = set_same s.words 0 in (
@@ -94,7 +102,7 @@ first_word [] n e = absurd (some-ne-none n (sym e))
 first_word (x ∷ words) n e = some-injective x n e
 
 -- what is found where one that is alone takes the words apart
-pub closes : (t : Terms) (words : List ℕ) (slots : List (Unit {0})) (id : ℕ) (v : Log) (n : ℕ) → is_spent v.role ≡ false → IsAlone v.lineage → Final (Seen (λ (s : State (Unit {0}) Log). TableInvariant t s.words s.views) id v) words slots → get_elem? words 0 ≡ some n
+pub closes : (t : Terms) (words : List ℕ) (slots : List (Unit {0})) (id : ℕ) (v : Log) (n : ℕ) → is_spent v.role ≡ false → IsAlone v.lineage → Final (Seen (λ (s : TableState (Unit {0}) Log). TableInvariant t s.words s.views) id v) words slots → get_elem? words 0 ≡ some n
     → (n % 4294967296 ≡ length v.past) × IsWhole v
 closes t words slots id v n stands alone final found =
     let s = final.0 in let r = final.1.0.memory.callers in let history = final.1.0.memory.history in

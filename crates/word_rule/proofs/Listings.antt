@@ -102,6 +102,14 @@ loaded_members t s (update.Unload base ∷ history) h all = loaded_members t (af
         go true rest = (every.0, rest)
         go false rest = rest
 
+-- nothing is registered
+pub none_registered : (t : Terms) (s : State) (history : List Update) → AllByRecursion (IsOfTerms t) history → s.registered ≡ [] → (state_after s history).registered ≡ []
+none_registered t s [] h none = none
+none_registered t s (update.Register m ∷ history) h none = absurd h.0
+none_registered t s (update.Deregister base ∷ history) h none = absurd h.0
+none_registered t s (update.Load m ∷ history) h none = none_registered t (after (update.Load m) s) history h.1 none
+none_registered t s (update.Unload base ∷ history) h none = none_registered t (after (update.Unload base) s) history h.1 none
+
 -- members that ascend are disjoint
 above_free : (x : Member) (low : ℕ) (xs : List Member) → x.span.last < low → AscendFrom low xs → AllByRecursion (λ m. ¬ Overlaps m.span x.span) xs
 above_free x low [] less h = tt

@@ -51,10 +51,12 @@ publications updates = count_by is_of_loader updates
 abbrev pub IsMemberOf : Terms → Member → Type 0
 IsMemberOf t m = IsSpan m.span × (m.payload < t.payloads)
 
+-- an update that a step on these words accepts: one of the loader's, of a member that may be made
+-- known
 abbrev pub IsOfTerms : Terms → Update → Type 0
-IsOfTerms t (Register m) = IsMemberOf t m
+IsOfTerms t (Register m) = ⊥
+IsOfTerms t (Deregister base) = ⊥
 IsOfTerms t (Load m) = IsMemberOf t m
-IsOfTerms t (Deregister base) = Unit {0}
 IsOfTerms t (Unload base) = Unit {0}
 
 -- With what words may be made.
@@ -122,9 +124,10 @@ pub record LogHolds (t : Terms) (history : List Update) (callers : ℕ) (v : Log
   -- one that is no caller's holds no lock and has no node out
   pub idle : weight v.role ≡ 0 → IsIdle v
 
--- The log has each number of what it has seen, once, and each of its receipts holds in it, the
--- callers being those that it made, directly or through others, and the first.
+-- What the log has seen is a history. The log has each of its numbers, once, and each receipt holds
+-- in it, the callers being those that it made, directly or through others, and the first.
 pub record IsWhole (v : Log) : Type 0 where
+  pub lawful : IsHistory (start v.terms) v.past
   pub numbers : (n : ℕ) → dones_in n v ≡ number_of (length v.past) n
   pub receipts : ReceiptsHold v.terms v.past (v.made + 1) v.receipts
 
