@@ -3,11 +3,13 @@
 //!
 //! The layer between single steps and whole operations. From word_rule it takes the steps and what
 //! each makes of a caller's log; from crossbeam_utils the pause between two tries. A lock is tried
-//! a little, and then slept on.
+//! a little, and then slept on; or, by a caller that gives up, tried once.
 #![tactic(auto)]
 
+mod locking;
 mod locks;
 #[cfg(test)]
 mod tests;
 
-pub use locks::{lock, unlock};
+pub use locking::{Busy, Locking, Once, Trying, Waiting};
+pub use locks::{lock, unlock, unlock_same};

@@ -4,8 +4,8 @@
 //! tries again for a while, then sets bit 1 and sleeps while the word stays as it was. Who lets go
 //! clears both bits and wakes one sleeper where bit 1 was set; others may sleep on, so one that has
 //! slept sets bit 1 again once it has the lock.
-ghost use Rattle.std.specs.Prelude.{◌≡◌, ◌*◌, ◌<◌, ◌%◌, None, IsSome};
-ghost use Rattle.word_rule.specs.Logs.{after_loader_release};
+ghost use Rattle.std.specs.Prelude.{◌≡◌, ◌*◌, ◌<◌, ◌%◌, None, IsSome, IsSomeAnd, false};
+ghost use Rattle.word_rule.specs.Logs.{after_loader_release, after_loader_release_same};
 ghost use Rattle.word_rule.specs.CallerData.{surplus};
 ghost use Rattle.node_store.specs.Locking.{Tries, Locks};
 
@@ -79,6 +79,15 @@ pub fn lock<R: Wait>(rt: &R, words: &Words, me: &mut Caller, lock: LockId)
     unreachable!()
 }
 
+// Wakes one that sleeps on a lock, where its word said so before it was let go.
+pub(crate) fn wake_after(words: &Words, lock: LockId, before: u64)
+    requires { lock ≡ LockId.Loader }
+{
+    if before % BITS == LOCKED_WITH_SLEEPERS {
+        words.wake(lock);
+    }
+}
+
 /// Lets go of a lock with the next version, and wakes one that sleeps on it.
 pub fn unlock<R: Wait>(rt: &R, words: &Words, me: &mut Caller, lock: LockId)
     requires table { me.old.table ≡ words.now.table }
@@ -89,7 +98,17 @@ pub fn unlock<R: Wait>(rt: &R, words: &Words, me: &mut Caller, lock: LockId)
 {
     let _ = rt;
     let before = words.release(me, lock);
-    if before % BITS == LOCKED_WITH_SLEEPERS {
-        words.wake(lock);
-    }
+    wake_after(words, lock, before);
+}
+
+/// Lets go of a lock under which nothing was stored, with the version at which it was taken, and
+/// wakes one that sleeps on it.
+pub fn unlock_same<R: Wait>(rt: &R, words: &Words, me: &mut Caller, lock: LockId)
+    requires table { me.old.table ≡ words.now.table }
+    requires lock { lock ≡ LockId.Loader }
+    requires clean { IsSomeAnd me.old.log.loader (λ h. h.stored ≡ false) }
+    ensures { me.new ≡ record me.old { log = after_loader_release_same me.old.log } }
+{
+    let _ = rt;
+    wake_after(words, lock, words.release_same(me, lock));
 }

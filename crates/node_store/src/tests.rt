@@ -2,7 +2,7 @@ ghost use Rattle.std.specs.Prelude.{◌≡◌, ◌+◌, ◌*◌, ◌≤◌, ◌<
 ghost use Rattle.word_rule.specs.CallerData.{surplus};
 ghost use Rattle.node_store.specs.Locking.{Turns};
 
-use crate::{lock, unlock};
+use crate::{Locking, Once, Trying, Waiting, lock, unlock};
 use std::sync::Wait;
 use std::test::Fail;
 use std::thread::{self, Threads, join};
@@ -192,5 +192,25 @@ fn a_sleep_goes_on_until_the_word_changes(rt: HostRuntime) -> Result<(), Fail> {
     lock(&rt, &words, &mut a, LockId::Loader);
     let (slept, woken) = one_sleeps(&rt, &words, a, b);
     assert!(rt; slept && woken);
+    Ok(())
+}
+
+#[test]
+fn a_lock_that_is_taken_is_busy(rt: HostRuntime) -> Result<(), Fail> {
+    let alloc = rt.alloc();
+    let (words, mut a) = Words::new(alloc, 4, 1, 1, Vec::new(alloc))?;
+    let mut b = words.split(alloc, &mut a, 1)?;
+    let id = LockId::Loader;
+    assert!(rt; Once.take(&words, &mut a, id));
+    assert!(rt; !Once.take(&words, &mut b, id) && !Trying.take(&words, &mut b, id));
+    Once.let_go_same(&words, &mut a, id);
+    assert!(rt; words.load_version(&mut a, id, Ask::Nothing) == 0);
+    assert!(rt; Trying.take(&words, &mut b, id) && !Once.take(&words, &mut a, id));
+    Trying.let_go(&words, &mut b, id);
+    assert!(rt; words.load_version(&mut a, id, Ask::Nothing) == 4);
+    let waiting = Waiting { rt: &rt };
+    assert!(rt; waiting.take(&words, &mut a, id));
+    waiting.let_go_same(&words, &mut a, id);
+    assert!(rt; words.load_version(&mut b, id, Ask::Nothing) == 4);
     Ok(())
 }

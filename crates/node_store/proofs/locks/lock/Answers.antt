@@ -1,7 +1,7 @@
 use Rattle.std.proofs.Common.{◌∙◌, sym, subst}
 use Rattle.word_rule.specs.CallerData.{CallerData}
 use Rattle.node_store.specs.Locking.{Locks}
-use Rattle.node_store.proofs.Trying.{tries_both, tries_table, takes, takes_then}
+use Rattle.node_store.proofs.Tries.{tries_both, tries_table, takes, takes_then}
 use Rattle.node_store.proofs.locks.lock.Goals as goal
 use Rattle.node_store.proofs.locks.lock.Goals.{then-slept, else-slept}
 

@@ -1,4 +1,4 @@
-use Rattle.node_store.proofs.Trying.{tries_marked}
+use Rattle.node_store.proofs.Tries.{tries_marked}
 use Rattle.node_store.proofs.locks.mark_again.Goals as goal
 
 pub returns : goal.returns

@@ -1,0 +1,122 @@
+//! How an update gets its locks, and lets go of them: it waits for each, or it tries each once and
+//! gives up. An update has one body for all of these ways.
+ghost use Rattle.std.specs.Prelude.{◌≡◌, ◌*◌, ◌<◌, ◌%◌, Bool, true, false, MatchBool, None, IsSome};
+ghost use Rattle.std.specs.Prelude.{IsSomeAnd};
+ghost use Rattle.word_rule.specs.Logs.{after_loader_release, after_loader_release_same};
+ghost use Rattle.word_rule.specs.CallerData.{surplus};
+ghost use Rattle.node_store.specs.Locking.{IsBusy, Locks};
+
+use crate::locks::{lock, unlock, unlock_same, wake_after};
+use std::sync::Wait;
+use word_rule::{Caller, LockId, Words};
+
+/// A lock was taken, so an update gave up.
+#[derive(Clone, Copy, Debug, PartialEq, Eq)]
+pub struct Busy {
+    pub lock: LockId,
+}
+
+/// How locks are taken and let go.
+pub trait Locking {
+    /// Whether it may say no.
+    ghost gives_up: { Bool };
+
+    /// Takes a lock, and says whether it did. It says no only where it found the lock's word
+    /// locked.
+    fn take(&self, words: &Words, me: &mut Caller, id: LockId) -> bool
+        requires table { me.old.table ≡ words.now.table }
+        requires lock { id ≡ LockId.Loader }
+        requires free { me.old.log.loader ≡ None }
+        ensures { MatchBool result (Locks me.old me.new)
+            (IsBusy id me.old me.new × (gives_up ≡ true)) };
+
+    /// Lets go of it with the next version.
+    fn let_go(&self, words: &Words, me: &mut Caller, id: LockId)
+        requires table { me.old.table ≡ words.now.table }
+        requires lock { id ≡ LockId.Loader }
+        requires held { IsSome me.old.log.loader }
+        requires surplus { 0 < surplus me.old }
+        ensures { me.new ≡ record me.old { log = after_loader_release me.old.log } };
+
+    /// Lets go of it with the version as it was, where nothing was stored.
+    fn let_go_same(&self, words: &Words, me: &mut Caller, id: LockId)
+        requires table { me.old.table ≡ words.now.table }
+        requires lock { id ≡ LockId.Loader }
+        requires clean { IsSomeAnd me.old.log.loader (λ h. h.stored ≡ false) }
+        ensures { me.new ≡ record me.old { log = after_loader_release_same me.old.log } };
+}
+
+/// Waits for each lock, and wakes one that sleeps on it.
+#[derive(Drop)]
+pub struct Waiting<'a, R> {
+    pub rt: &'a R,
+}
+
+impl<'a, R: Wait> Locking for Waiting<'a, R> {
+    ghost gives_up = { false };
+
+    fn take(&self, words: &Words, me: &mut Caller, id: LockId) -> bool {
+        lock(self.rt, words, me, id);
+        true
+    }
+
+    fn let_go(&self, words: &Words, me: &mut Caller, id: LockId) {
+        unlock(self.rt, words, me, id);
+    }
+
+    fn let_go_same(&self, words: &Words, me: &mut Caller, id: LockId) {
+        unlock_same(self.rt, words, me, id);
+    }
+}
+
+// Takes a lock in one step, or finds it taken.
+fn take_once(words: &Words, me: &mut Caller, id: LockId) -> bool
+    requires table { me.old.table ≡ words.now.table }
+    requires lock { id ≡ LockId.Loader }
+    ensures { MatchBool result (Locks me.old me.new) (IsBusy id me.old me.new) }
+{
+    match words.take(me, id) {
+        Ok(_) => true,
+        Err(_) => false,
+    }
+}
+
+/// Tries each lock once, and wakes one that sleeps on it.
+#[derive(Drop)]
+pub struct Trying;
+
+impl Locking for Trying {
+    ghost gives_up = { true };
+
+    fn take(&self, words: &Words, me: &mut Caller, id: LockId) -> bool {
+        take_once(words, me, id)
+    }
+
+    fn let_go(&self, words: &Words, me: &mut Caller, id: LockId) {
+        wake_after(words, id, words.release(me, id));
+    }
+
+    fn let_go_same(&self, words: &Words, me: &mut Caller, id: LockId) {
+        wake_after(words, id, words.release_same(me, id));
+    }
+}
+
+/// Tries each lock once, and wakes nobody: for words on which no caller ever waits.
+#[derive(Drop)]
+pub struct Once;
+
+impl Locking for Once {
+    ghost gives_up = { true };
+
+    fn take(&self, words: &Words, me: &mut Caller, id: LockId) -> bool {
+        take_once(words, me, id)
+    }
+
+    fn let_go(&self, words: &Words, me: &mut Caller, id: LockId) {
+        words.release(me, id);
+    }
+
+    fn let_go_same(&self, words: &Words, me: &mut Caller, id: LockId) {
+        words.release_same(me, id);
+    }
+}
