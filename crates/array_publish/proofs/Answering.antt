@@ -1,5 +1,5 @@
 -- How an update is answered under the lock: refused, or published.
-use Rattle.std.proofs.Common.{◌≡◌, ℕ, zero, suc, ◌+◌, ◌-◌, ◌<◌, ◌≤◌, ◌⊎◌, ◌↔◌, eq-eqb, ne_eqb, inl, inr, ⊎_elim, List, [], ◌∷◌, ◌++◌, length, length-append, get_or, Contains, sym, refl, ap, ◌∙◌, subst, arith, Bool, true, false, true≢false, Option, Some, None, IfSome, IsSome, IsSomeAnd, IsTrue, option_map, append_assoc, add_assoc}
+use Rattle.std.proofs.Common.{◌≡◌, ℕ, zero, suc, ◌+◌, ◌-◌, ◌<◌, ◌≤◌, ◌⊎◌, ◌↔◌, eq-eqb, ne_eqb, inl, inr, ⊎_elim, List, [], ◌∷◌, ◌++◌, length, length-append, get_or, Contains, sym, refl, ap, ◌∙◌, subst, arith, Bool, true, false, true≢false, Option, Some, None, IfSome, is_some, IsSome, IsSomeAnd, IsTrue, option_map, append_assoc, add_assoc}
 use Rattle.std.proofs.lemmas.Option.{none-some, same_Some}
 use Rattle.std.proofs.lemmas.List.Elements.{All-contains, Contains-get_or, Contains-append_left, Contains-append_right, Contains-append_cases}
 use mathlib.Core.List.{IsPrefix}
@@ -8,9 +8,7 @@ use Rattle.reg_model.specs.State.{State, AreDisjoint, IsFree, IsLowestOverlap, a
 use Rattle.reg_model.specs.History.{state_after}
 use Rattle.reg_model.specs.Receipt.{IsRight}
 use Rattle.reg_model.specs.declared.span.Member.{Member}
-use Rattle.reg_model.specs.declared.answer.Loading.{Loading}
 use Rattle.reg_model.specs.declared.answer.Loading.TheVariants as loading
-use Rattle.reg_model.specs.declared.answer.Removed.{Removed}
 use Rattle.reg_model.specs.declared.answer.Removed.TheVariants as removed
 use Rattle.segment_array.specs.Ascending.{AscendFrom}
 use Rattle.reg_model.specs.declared.answer.Receipt.{Receipt}
@@ -26,22 +24,21 @@ use Rattle.word_rule.specs.CallerData.{CallerData, WordsData}
 use Rattle.word_rule.specs.Callers.{IsMemberOf, start}
 use Rattle.word_rule.specs.Clock.{AfterClock}
 use Rattle.word_rule.specs.Copies.{ListsAll, ListsMembers}
-use Rattle.word_rule.specs.Logs.{after_loader_lock, after_loader_release, load_of}
+use Rattle.word_rule.specs.Logs.{load_of}
 use Rattle.word_rule.specs.Places.{copy_words, lower}
 use Rattle.word_rule.specs.Steps.{IsRefusalOf, MayRefuse, Refuses, AfterPublish, MayPublish, after_publish, exchange_copies}
 use Rattle.word_rule.proofs.Listings.{ascending_disjoint, free_of, lists_same, state_fixed}
 use Rattle.array_publish.specs.Holders.{Spells, active_words, after_work, spare_words, with_spare}
-use Rattle.array_publish.specs.Update.{AnswersLoad, AnswersUnload, AnswersWith, CallsWith, IsRightUnload, UnloadsMember, accepted_unload, HoldsCopies, IsFreeAgain, LoadsMember, IsRightLoad, KnowsCopy, Works, accepted_load, after_answer, after_seeing}
+use Rattle.array_publish.specs.Update.{AnswersLoad, AnswersUnload, AnswersWith, IsClean, IsRightUnload, IsRightLoad, KnowsCopy, Works, after_seeing}
 use Rattle.array_publish.specs.declared.writing.ActiveCopy.{ActiveCopy}
 use Rattle.array_publish.specs.Holders.{member_in}
 use Rattle.array_publish.specs.Writing.{EndsBelow, IsWritten}
 use Rattle.array_publish.specs.declared.writing.Change.TheVariants.{Put}
 use Rattle.array_publish.proofs.Changed.{may_load}
-use Rattle.array_publish.proofs.Lookups.{prefix_both}
+use Rattle.array_publish.proofs.Lookups.{all_contains, prefix_both}
 use Rattle.array_publish.proofs.Overlaps.{ends_listed, free_split, listed_is}
 use Rattle.array_publish.proofs.Works.{Holds, spells_active}
 use Rattle.word_rule.proofs.Each.{some_of, some_with}
-use Rattle.node_store.specs.Locking.{Locks, tried}
 use Rattle.word_rule.specs.Sights.{after_clock}
 use native.Mathlib.Decide.{ℕ_discrete}
 
@@ -204,12 +201,15 @@ active_lists None some_lock h = absurd (true≢false (sym some_lock))
 active_lists (Some g) some_lock h = h
 
 -- a refusal, at a load of the clock
-module _ (t : Terms) (k0 k3 k4 : CallerData) (found : ℕ) (u : Update) (works : Works k0 k3) (held : IsSome k3.log.loader) (after : AfterClock t (ask.Refused u) found k3.log k4.log) (rest : k4 ≡ record k3 { log = k4.log }) where
+module _ (t : Terms) (k0 k3 k4 : CallerData) (found : ℕ) (u : Update) (works : Works k0 k3) (held : IsClean k3) (after : AfterClock t (ask.Refused u) found k3.log k4.log) (rest : k4 ≡ record k3 { log = k4.log }) where
   abbrev now : State
   now = state_after (start t) after.0
 
-  lock : (h : LoaderHolding) × (k3.log.loader ≡ Some h)
-  lock = some_of k3.log.loader held
+  lock : (h : LoaderHolding) × ((k3.log.loader ≡ Some h) × (h.stored ≡ false))
+  lock = some_with k3.log.loader (λ (h : LoaderHolding). h.stored ≡ false) held
+
+  some_lock : IsSome k3.log.loader
+  some_lock = ap is_some lock.1.0
 
   told : IsRefusalOf u (state_after (start t) after.0) (lower found) after.2.1.0
   told = subst (λ z. IsRefusalOf u (state_after (start z) after.0) (lower found) after.2.1.0) after.2.0.terms after.2.1.1.1
@@ -218,7 +218,7 @@ module _ (t : Terms) (k0 k3 k4 : CallerData) (found : ℕ) (u : Update) (works :
   begins = prefix_both k0.log.past works.0 after.0 works.6.0 (subst (λ (k : CallerData). IsPrefix k.log.past after.0) works.6.1 after.2.0.begins)
 
   listed : ListsAll (active_words k3.log.loader) (state_after (start t) after.0).loaded
-  listed = lists_of t (state_after (start t) after.0).loaded k3.log.loader held _ after.2.0.holder
+  listed = lists_of t (state_after (start t) after.0).loaded k3.log.loader some_lock _ after.2.0.holder
 
   abbrev worked : CallerData
   worked = record k0 { log = after_seeing works.0 works.1 works.2 works.3 works.4 works.5 k0.log }
@@ -226,10 +226,10 @@ module _ (t : Terms) (k0 k3 k4 : CallerData) (found : ℕ) (u : Update) (works :
   abbrev event : LoadEvent
   event = load_of worked.log 0 found
 
-  answered : (right : List Update → Type 0) (r : Receipt) → right after.0 → after.2.1.0 ≡ r → AnswersWith right r 0 k0 k4
+  answered : (right : List Update → Type 0) (r : Receipt) → right after.0 → after.2.1.0 ≡ r → AnswersWith right r false k0 k4
   answered right r ok is =
       let receipts : after.1 ≡ r ∷ [] = after.2.1.1.0 ∙ ap (λ x. x ∷ []) is in
-      let loader : option_map (with_spare works.4 works.5) k0.log.loader ≡ Some lock.0 = sym (ap (λ (k : CallerData). k.log.loader) works.6.1) ∙ lock.1 in
+      let loader : option_map (with_spare works.4 works.5) k0.log.loader ≡ Some lock.0 = sym (ap (λ (k : CallerData). k.log.loader) works.6.1) ∙ lock.1.0 in
       let kept : k0.log.budget.allowance ≡ k0.log.budget.allowance - 0 = omega arith in (
         after.0,
         works.1 ++ event ∷ [],
@@ -249,10 +249,11 @@ module _ (t : Terms) (k0 k3 k4 : CallerData) (found : ℕ) (u : Update) (works :
                   loader = loader i;
                 };
               }))),
+          λ _. lock.1.1,
         ),
       )
 
-module _ (t : Terms) (k0 k3 k4 : CallerData) (found : ℕ) (m : Member) (works : Works k0 k3) (held : IsSome k3.log.loader) (after : AfterClock t (ask.Refused (update.Load m)) found k3.log k4.log) (rest : k4 ≡ record k3 { log = k4.log }) where
+module _ (t : Terms) (k0 k3 k4 : CallerData) (found : ℕ) (m : Member) (works : Works k0 k3) (held : IsClean k3) (after : AfterClock t (ask.Refused (update.Load m)) found k3.log k4.log) (rest : k4 ≡ record k3 { log = k4.log }) where
   abbrev here : State
   here = state_after (start t) after.0
 
@@ -263,7 +264,7 @@ module _ (t : Terms) (k0 k3 k4 : CallerData) (found : ℕ) (m : Member) (works :
   overlap_so other lowest =
       let low = lowest_objects (state_after (start t) after.0) t.fixed mine.members m.span other (state_fixed (start t) after.0).0 mine.same (lowest mine.members mine.lists) in
       answered t k0 k3 k4 found (update.Load m) works held after rest (λ past. IsRightLoad t m k0.log.past past (loading.Overlap other (lower found))) (receipt.Load m (loading.Overlap other (lower found)))
-      (begins t k0 k3 k4 found (update.Load m) works held after rest, after.2.0.updates, low) (overlap_told m other (state_after (start t) after.0) (lower found) after.2.1.0 after.2.0.lawful.objects low (told t k0 k3 k4 found (update.Load m) works held after rest))
+      (begins t k0 k3 k4 found (update.Load m) works held after rest, after.2.0.updates, low, all_contains (IsMemberOf t) (objects (state_after (start t) after.0)) other after.2.0.members low.listed) (overlap_told m other (state_after (start t) after.0) (lower found) after.2.1.0 after.2.0.lawful.objects low (told t k0 k3 k4 found (update.Load m) works held after rest))
 
   pub full_so : ((xs : List Member) → ListsMembers (active_words k3.log.loader) xs → IsFree m.span (t.fixed ++ xs)) → AnswersLoad t m k0 k4 (loading.LoadFull (lower found))
   full_so free =
@@ -274,7 +275,7 @@ module _ (t : Terms) (k0 k3 k4 : CallerData) (found : ℕ) (m : Member) (works :
       answered t k0 k3 k4 found (update.Load m) works held after rest (λ past. IsRightLoad t m k0.log.past past (loading.LoadFull (lower found))) (receipt.Load m (loading.LoadFull (lower found)))
       (begins t k0 k3 k4 found (update.Load m) works held after rest, after.2.0.updates, all, right.1 ∙ (state_fixed (start t) after.0).1) is
 
-pub not_found_so : (t : Terms) (k0 k3 k4 : CallerData) (found base : ℕ) (works : Works k0 k3) (held : IsSome k3.log.loader) (after : AfterClock t (ask.Refused (update.Unload base)) found k3.log k4.log) (rest : k4 ≡ record k3 { log = k4.log }) → AnswersUnload t base k0 k4 (removed.NotFound (lower found))
+pub not_found_so : (t : Terms) (k0 k3 k4 : CallerData) (found base : ℕ) (works : Works k0 k3) (held : IsClean k3) (after : AfterClock t (ask.Refused (update.Unload base)) found k3.log k4.log) (rest : k4 ≡ record k3 { log = k4.log }) → AnswersUnload t base k0 k4 (removed.NotFound (lower found))
 not_found_so t k0 k3 k4 found base works held after rest =
     let is_told = told t k0 k3 k4 found (update.Unload base) works held after rest in
     let is = not_found_told base (state_after (start t) after.0) (lower found) after.2.1.0 is_told in
@@ -283,7 +284,7 @@ not_found_so t k0 k3 k4 found base works held after rest =
     (begins t k0 k3 k4 found (update.Unload base) works held after rest, after.2.0.updates, right) is
 
 -- a publication
-pub published_with : (u : Update) (k0 k4 k5 : CallerData) (found number : ℕ) (right : List Update → Type 0) (r : Receipt) (works : Works k0 k4) → IsSome k4.log.loader → (after : AfterPublish u found k4.log k5.log) → k5 ≡ record k4 { log = k5.log } → after.1 ≡ r → right (after.0 ++ u ∷ []) → AnswersWith right r 1 k0 k5
+pub published_with : (u : Update) (k0 k4 k5 : CallerData) (found number : ℕ) (right : List Update → Type 0) (r : Receipt) (works : Works k0 k4) → IsSome k4.log.loader → (after : AfterPublish u found k4.log k5.log) → k5 ≡ record k4 { log = k5.log } → after.1 ≡ r → right (after.0 ++ u ∷ []) → AnswersWith right r true k0 k5
 published_with u k0 k4 k5 found number right r works held after rest is ok =
     let lock = some_of k4.log.loader held in
     let loader : option_map (with_spare works.4 works.5) k0.log.loader ≡ Some lock.0 = sym (ap (λ (k : CallerData). k.log.loader) works.6.1) ∙ lock.1 in (
@@ -305,6 +306,7 @@ published_with u k0 k4 k5 found number right r works held after rest is ok =
                 loader = option_map exchange_copies (loader i);
               };
             }))),
+        λ no. absurd (true≢false no),
       ),
     )
 
@@ -328,15 +330,15 @@ taken_from base xs loaded m x h same inside is found =
     disjoint_one xs x m (ascending_disjoint 0 xs h) ((same x).1 d.0) inside
     (base, (contains_from x.span base (let e = d.1 in omega (arith, e)) (let e = d.1 in let o = ordered_in 0 xs x h ((same x).1 d.0) in omega (arith, e, o)), contains_from m.span base (omega (arith, is)) (let o = ordered_in 0 xs m h inside in omega (arith, is, o))))
 
-pub unpublished_so : (t : Terms) (k0 k4 k5 : CallerData) (found number base : ℕ) (m : Member) (xs : List Member) → k4.log.terms ≡ t → ListsMembers (active_words k4.log.loader) xs → Contains xs m → m.span.first ≡ base → Works k0 k4 → IsSome k4.log.loader → AfterPublish (update.Unload base) found k4.log k5.log → k5 ≡ record k4 { log = k5.log } → number ≡ length k5.log.past → AnswersUnload t base k0 k5 (removed.Done number m)
-unpublished_so t k0 k4 k5 found number base m xs terms lists inside first works held after rest is =
+pub unpublished_so : (t : Terms) (k0 k4 k5 : CallerData) (found number base : ℕ) (m : Member) (xs : List Member) → k4.log.terms ≡ t → IsMemberOf t m → ListsMembers (active_words k4.log.loader) xs → Contains xs m → m.span.first ≡ base → Works k0 k4 → IsSome k4.log.loader → AfterPublish (update.Unload base) found k4.log k5.log → k5 ≡ record k4 { log = k5.log } → number ≡ length k5.log.past → AnswersUnload t base k0 k5 (removed.Done number m)
+unpublished_so t k0 k4 k5 found number base m xs terms known lists inside first works held after rest is =
     let n = numbered (update.Unload base) k0 k4 k5 found number works after is in
     let mine = active_lists k4.log.loader held after.2.0.active in
     let same_list = lists_same (active_words k4.log.loader) mine.members xs mine.lists lists in
     let done = some_with (at_base base (state_after (start k4.log.terms) after.0).loaded) (λ z. after.1 ≡ receipt.Unload base (removed.Done (length after.0 + 1) z)) after.2.1 in
     let one : done.0 ≡ m = taken_from base xs (state_after (start k4.log.terms) after.0).loaded m done.0 lists.ascending (λ z. subst (λ ys. Contains ys z ↔ Contains (state_after (start k4.log.terms) after.0).loaded z) same_list (mine.same z)) inside first done.1.0 in
     published_with (update.Unload base) k0 k4 k5 found number (λ past. IsRightUnload t base k0.log.past past (removed.Done number m)) (receipt.Unload base (removed.Done number m)) works held after rest
-    (done.1.1 ∙ (λ i. receipt.Unload base (removed.Done (n.2 i) (one i)))) (after.0, (n.0, refl, n.1, subst (λ u. at_base base (state_after (start u) after.0).loaded ≡ Some m) terms (done.1.0 ∙ ap Some one)))
+    (done.1.1 ∙ (λ i. receipt.Unload base (removed.Done (n.2 i) (one i)))) (after.0, (n.0, refl, n.1, subst (λ u. at_base base (state_after (start u) after.0).loaded ≡ Some m) terms (done.1.0 ∙ ap Some one), known))
 
 -- the holder may publish what it wrote
 written_held : (t : Terms) (c allowance k n : ℕ) (m d : Member) (xs : List Member) (o : Option LoaderHolding) → IsSomeAnd o (Holds t c) → 0 < allowance → IsMemberOf t m → ListsMembers (active_words o) xs → n ≡ length xs → n < t.loads → k ≤ n → IsFree m.span t.fixed → (k ≡ 0) ⊎ ((get_or xs (k - 1) d).span.last < m.span.first) → (k ≡ length xs) ⊎ (m.span.last < (get_or xs k d).span.first)
@@ -366,71 +368,6 @@ holds_of t c spare a b h p wide = subst (λ o. IsSomeAnd o (Holds t c)) (sym (ap
     go None e = absurd e
     go (Some g) e = (e.0, e.1, wide)
 
--- the whole call: begun, locked, answered, let go
-pub whole_call : (right : List Update → Type 0) (r : Receipt) (accepted : ℕ) (k0 k1 k2 k3 k4 : CallerData) → k1 ≡ record k0 { left = k0.left - 1 } → Locks k1 k2 → AnswersWith right r accepted k2 k3 → k4 ≡ record k3 { log = after_loader_release k3.log } → CallsWith right r accepted k0 k4
-whole_call right r accepted k0 k1 k2 k3 k4 begun locked p gone =
-    let locks_is : k2 ≡ record k0 { left = k0.left - 1; log = after_loader_lock locked.2 (tried locked.0 locked.1 k0.log) } = locked.3.2 ∙ ap (λ (k : CallerData). record k { log = after_loader_lock locked.2 (tried locked.0 locked.1 k.log) }) begun in
-    let writes : k0.log.trace.writes + locked.1 + 1 + p.2 + 1 ≡ k0.log.trace.writes + (locked.1 + 1 + p.2 + 1) = omega arith in (
-      p.0,
-      locked.0 ++ p.1,
-      locked.1 + 1 + p.2 + 1,
-      p.3,
-      (
-        p.5.0,
-        gone ∙ (ap (λ (k : CallerData). record k { log = after_loader_release k.log }) (p.5.1 ∙ ap (λ (k : CallerData). record k { log = after_answer p.0 p.1 p.2 p.3 (Some p.4) r accepted k.log }) locks_is)
-            ∙ (λ i. record k0 {
-              left = k0.left - 1;
-              log = record k0.log {
-                past = p.0;
-                budget = record { allowance = k0.log.budget.allowance - accepted; credit = k0.log.budget.credit - 1 };
-                receipts = record k0.log.receipts { own = k0.log.receipts.own ++ r ∷ [] };
-                trace = record k0.log.trace { loads = append_assoc k0.log.trace.loads locked.0 p.1 i; writes = writes i };
-                sights = p.3;
-                loader = None;
-              };
-            })),
-      ),
-    )
-
-past_kept : (k0 k1 k2 : CallerData) → k1 ≡ record k0 { left = k0.left - 1 } → Locks k1 k2 → k2.log.past ≡ k0.log.past
-past_kept k0 k1 k2 begun locked = ap (λ (k : CallerData). k.log.past) locked.3.2 ∙ ap (λ (k : CallerData). k.log.past) begun
-
-pub loads_whole : (t : Terms) (m : Member) (k0 k1 k2 k3 k4 : CallerData) (answer : Loading) → 0 < k0.left → k1 ≡ record k0 { left = k0.left - 1 } → Locks k1 k2 → AnswersLoad t m k2 k3 answer → k4 ≡ record k3 { log = after_loader_release k3.log } → LoadsMember t m k0 k4 answer
-loads_whole t m k0 k1 k2 k3 k4 answer some_left begun locked p gone = go answer p
-  where
-    ends : (a : Loading) → AnswersLoad t m k2 k3 a → CallsWith (λ past. IsRightLoad t m k0.log.past past a) (receipt.Load m a) (accepted_load a) k0 k4
-    ends a q = whole_call (λ past. IsRightLoad t m k0.log.past past a) (receipt.Load m a) (accepted_load a) k0 k1 k2 k3 k4 begun locked (q.0, q.1, q.2, q.3, q.4, (subst (λ z. IsRightLoad t m z q.0 a) (past_kept k0 k1 k2 begun locked) q.5.0, q.5.1)) gone
-
-    go : (a : Loading) → AnswersLoad t m k2 k3 a → LoadsMember t m k0 k4 a
-    go (loading.Done n) q = (some_left, ends (loading.Done n) q)
-    go (loading.Overlap o s) q = (some_left, ends (loading.Overlap o s) q)
-    go (loading.LoadFull s) q = (some_left, ends (loading.LoadFull s) q)
-    go loading.Spent q = absurd q.5.0
-
-pub unloads_whole : (t : Terms) (base : ℕ) (k0 k1 k2 k3 k4 : CallerData) (answer : Removed) → 0 < k0.left → k1 ≡ record k0 { left = k0.left - 1 } → Locks k1 k2 → AnswersUnload t base k2 k3 answer → k4 ≡ record k3 { log = after_loader_release k3.log } → UnloadsMember t base k0 k4 answer
-unloads_whole t base k0 k1 k2 k3 k4 answer some_left begun locked p gone = go answer p
-  where
-    ends : (a : Removed) → AnswersUnload t base k2 k3 a → CallsWith (λ past. IsRightUnload t base k0.log.past past a) (receipt.Unload base a) (accepted_unload a) k0 k4
-    ends a q = whole_call (λ past. IsRightUnload t base k0.log.past past a) (receipt.Unload base a) (accepted_unload a) k0 k1 k2 k3 k4 begun locked (q.0, q.1, q.2, q.3, q.4, (subst (λ z. IsRightUnload t base z q.0 a) (past_kept k0 k1 k2 begun locked) q.5.0, q.5.1)) gone
-
-    go : (a : Removed) → AnswersUnload t base k2 k3 a → UnloadsMember t base k0 k4 a
-    go (removed.Done n m) q = (some_left, ends (removed.Done n m) q)
-    go (removed.NotFound s) q = (some_left, ends (removed.NotFound s) q)
-    go removed.Spent q = absurd q.5.0
-
--- a lock just taken has all words of both copies
-pub taken_copies : (k k' : CallerData) → Locks k k' → HoldsCopies k'.log.terms k'
-taken_copies k k' p = subst (λ (z : CallerData). HoldsCopies z.log.terms z) (sym p.3.2) (p.3.1.active, p.3.1.spare)
-
--- what the call may still do, while the lock is held
-pub locked_budget : (k k' : CallerData) → Locks k k' → (k'.left ≡ k.left) × (k'.log.budget ≡ k.log.budget) × (k'.table ≡ k.table)
-locked_budget k k' p = (ap (λ z. z.left) p.3.2, ap (λ z. z.log.budget) p.3.2, ap (λ z. z.table) p.3.2)
-
-pub answered_budget : (t : Terms) (m : Member) (k k' : CallerData) (a : Loading) → AnswersLoad t m k k' a → (k'.left ≡ k.left) × (k'.log.budget.credit ≡ k.log.budget.credit) × (k'.table ≡ k.table) × IsSome k'.log.loader
-answered_budget t m k k' a p = (ap (λ z. z.left) p.5.1, ap (λ z. z.log.budget.credit) p.5.1, ap (λ z. z.table) p.5.1, subst (λ (z : CallerData). IsSome z.log.loader) (sym p.5.1) refl)
-
-pub free_again : (t : Terms) (m : Member) (k k' : CallerData) (a : Loading) → k.log.loader ≡ None → LoadsMember t m k k' a → IsFreeAgain k k'
-free_again t m k k' (loading.Done n) free p = record { table = ap (λ z. z.table) p.1.4.1; loader = ap (λ z. z.log.loader) p.1.4.1; holdings = ap (λ z. z.log.holdings) p.1.4.1; lineage = ap (λ z. z.log.lineage) p.1.4.1 }
-free_again t m k k' (loading.Overlap o s) free p = record { table = ap (λ z. z.table) p.1.4.1; loader = ap (λ z. z.log.loader) p.1.4.1; holdings = ap (λ z. z.log.holdings) p.1.4.1; lineage = ap (λ z. z.log.lineage) p.1.4.1 }
-free_again t m k k' (loading.LoadFull s) free p = record { table = ap (λ z. z.table) p.1.4.1; loader = ap (λ z. z.log.loader) p.1.4.1; holdings = ap (λ z. z.log.holdings) p.1.4.1; lineage = ap (λ z. z.log.lineage) p.1.4.1 }
-free_again t m k k' loading.Spent free p = record { table = ap (λ z. z.table) p.1; loader = ap (λ z. z.log.loader) p.1 ∙ free; holdings = ap (λ z. z.log.holdings) p.1; lineage = ap (λ z. z.log.lineage) p.1 }
+-- nothing was stored by three that only loaded
+pub stays_clean : (k0 k1 k2 k3 : CallerData) → k1.log.loader ≡ k0.log.loader → k2.log.loader ≡ k1.log.loader → k3.log.loader ≡ k2.log.loader → IsClean k0 → IsClean k3
+stays_clean k0 k1 k2 k3 one two three h = subst (λ o. IsSomeAnd o (λ (h : LoaderHolding). h.stored ≡ false)) (sym (three ∙ (two ∙ one))) h

@@ -2,10 +2,12 @@ pub mod CopyWalks
 pub mod Searches
 pub mod Halves
 pub mod Lookups
+pub mod LoadCounts
 pub mod Works
 pub mod Written
 pub mod Changed
 pub mod Overlaps
 pub mod Knowing
 pub mod Answering
+pub mod WholeCalls
 pub mod Bases

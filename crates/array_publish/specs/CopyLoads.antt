@@ -1,5 +1,5 @@
 -- Loads of words of one copy, and what they tell.
-use Rattle.std.specs.Prelude.{◌≡◌, ℕ, ◌<◌, ◌%◌, List, [], ◌++◌, Option, Some, None, option_map}
+use Rattle.std.specs.Prelude.{◌≡◌, ℕ, ◌<◌, ◌%◌, List, [], ◌++◌, length, Option, Some, None, option_map}
 use Rattle.std.specs.Prelude.{IsSomeAnd, IsTrue, slice_index}
 use Rattle.std.specs.List.{AllByRecursion}
 use Rattle.word_rule.specs.declared.log.CopySight.{CopySight}
@@ -26,6 +26,10 @@ after_copy_loads more words v = record v {
   trace = record v.trace { loads = v.trace.loads ++ more };
   sights = record v.sights { copies = option_map (with_words words) v.sights.copies };
 }
+
+-- how many loads a caller has made, refused exchanges among them
+abbrev pub load_count : CallerData → ℕ
+load_count k = length k.log.trace.loads
 
 -- Words of copy c were loaded, and nothing else was done.
 abbrev pub LoadsCopy : Terms → ℕ → CallerData → CallerData → Type 0

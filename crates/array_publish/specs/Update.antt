@@ -1,6 +1,6 @@
 -- What an update of the loader makes of its caller.
-use Rattle.std.specs.Prelude.{◌≡◌, ℕ, ◌+◌, ◌-◌, ◌<◌, ◌≤◌, Bool, List, [], ◌∷◌, ◌++◌, length, Option, Some}
-use Rattle.std.specs.Prelude.{None, IsNone, IsSomeAnd}
+use Rattle.std.specs.Prelude.{◌≡◌, ℕ, ◌+◌, ◌-◌, ◌<◌, ◌≤◌, Bool, true, false, if◌then◌else◌, List}
+use Rattle.std.specs.Prelude.{[], ◌∷◌, ◌++◌, length, Option, Some, None, IsNone, IsSomeAnd}
 use Rattle.std.specs.List.{AllByRecursion}
 use mathlib.Core.List.{IsPrefix}
 use Rattle.reg_model.specs.State.{IsFree, IsLowestOverlap, at_base, objects}
@@ -23,6 +23,7 @@ use Rattle.word_rule.specs.declared.log.Terms.{Terms}
 use Rattle.word_rule.specs.CallerData.{CallerData, WordsData}
 use Rattle.word_rule.specs.Callers.{IsMemberOf, start}
 use Rattle.word_rule.specs.Copies.{ListsAll}
+use Rattle.word_rule.specs.Logs.{after_loader_release, after_loader_release_same}
 use Rattle.word_rule.specs.Places.{copy_words}
 use Rattle.array_publish.specs.Holders.{IsHolder, active_words, after_work}
 
@@ -30,6 +31,10 @@ use Rattle.array_publish.specs.Holders.{IsHolder, active_words, after_work}
 abbrev pub HoldsCopies : Terms → CallerData → Type 0
 HoldsCopies t k = IsSomeAnd k.log.loader
     (λ h. (length h.active ≡ copy_words t) × (length h.spare ≡ copy_words t))
+
+-- nothing was stored under the lock
+abbrev pub IsClean : CallerData → Type 0
+IsClean k = IsSomeAnd k.log.loader (λ h. h.stored ≡ false)
 
 -- What the holder knows of the active copy: it lists the loaded members of the history that was
 -- seen, so many.
@@ -52,12 +57,16 @@ Works k k' = (past : List Update) × (more : List LoadEvent) × (stores : ℕ) �
     × (spare : List ℕ) × (stored : Bool) × (IsPrefix k.log.past past
     × (k' ≡ record k { log = after_seeing past more stores sights spare stored k.log }))
 
--- a log after an update was answered with this receipt, and so many accepted
+-- what an accepted update takes of an allowance, and its release of a credit
+abbrev pub one_if : Bool → ℕ
+one_if accepted = if accepted then 1 else 0
+
+-- a log after an update was answered with this receipt, accepted or not
 abbrev pub after_answer : List Update → List LoadEvent → ℕ → Sights → Option LoaderHolding
-    → Receipt → ℕ → Log → Log
+    → Receipt → Bool → Log → Log
 after_answer past more stores sights loader r accepted v = record v {
   past = past;
-  budget = record v.budget { allowance = v.budget.allowance - accepted };
+  budget = record v.budget { allowance = v.budget.allowance - one_if accepted };
   receipts = record v.receipts { own = v.receipts.own ++ r ∷ [] };
   trace = record v.trace {
     loads = v.trace.loads ++ more;
@@ -73,50 +82,60 @@ IsRightLoad t m seen past (loading.Done number) = (before : List Update) × (IsP
     × (past ≡ before ++ update.Load m ∷ []) × (number ≡ length past))
 IsRightLoad t m seen past (loading.Overlap other stamp) = IsPrefix seen past
     × (stamp ≡ length past)
-    × IsLowestOverlap m.span (objects (state_after (start t) past)) other
+    × IsLowestOverlap m.span (objects (state_after (start t) past)) other × IsMemberOf t other
 IsRightLoad t m seen past (loading.LoadFull stamp) = IsPrefix seen past
     × (stamp ≡ length past)
     × IsFree m.span (objects (state_after (start t) past))
     × (length (state_after (start t) past).loaded ≡ t.loads)
 IsRightLoad t m seen past loading.Spent = ⊥
 
-abbrev pub accepted_load : Loading → ℕ
-accepted_load (loading.Done number) = 1
-accepted_load _ = 0
+abbrev pub is_loaded : Loading → Bool
+is_loaded (loading.Done number) = true
+is_loaded _ = false
 
 -- The answer to an unload is right.
 abbrev pub IsRightUnload : Terms → ℕ → List Update → List Update → Removed → Type 0
 IsRightUnload t base seen past (removed.Done number m) = (before : List Update)
     × (IsPrefix seen before × (past ≡ before ++ update.Unload base ∷ []) × (number ≡ length past)
-    × (at_base base (state_after (start t) before).loaded ≡ Some m))
+    × (at_base base (state_after (start t) before).loaded ≡ Some m) × IsMemberOf t m)
 IsRightUnload t base seen past (removed.NotFound stamp) = IsPrefix seen past
     × (stamp ≡ length past) × IsNone (at_base base (state_after (start t) past).loaded)
 IsRightUnload t base seen past removed.Spent = ⊥
 
-abbrev pub accepted_unload : Removed → ℕ
-accepted_unload (removed.Done number m) = 1
-accepted_unload _ = 0
+abbrev pub is_unloaded : Removed → Bool
+is_unloaded (removed.Done number m) = true
+is_unloaded _ = false
 
--- An update was answered under the lock, which is still held.
-abbrev pub AnswersWith : (List Update → Type 0) → Receipt → ℕ → CallerData → CallerData → Type 0
+-- An update was answered under the lock, which is still held. Where it was refused, nothing was
+-- stored.
+abbrev pub AnswersWith : (List Update → Type 0) → Receipt → Bool → CallerData → CallerData
+    → Type 0
 AnswersWith right r accepted k k' = (past : List Update) × (more : List LoadEvent) × (stores : ℕ)
     × (sights : Sights) × (h : LoaderHolding) × (right past
-    × (k' ≡ record k { log = after_answer past more stores sights (Some h) r accepted k.log }))
+    × (k' ≡ record k { log = after_answer past more stores sights (Some h) r accepted k.log })
+    × (accepted ≡ false → h.stored ≡ false))
 
 abbrev pub AnswersLoad : Terms → Member → CallerData → CallerData → Loading → Type 0
 AnswersLoad t m k k' answer = AnswersWith (λ past. IsRightLoad t m k.log.past past answer)
-    (receipt.Load m answer) (accepted_load answer) k k'
+    (receipt.Load m answer) (is_loaded answer) k k'
 
 abbrev pub AnswersUnload : Terms → ℕ → CallerData → CallerData → Removed → Type 0
 AnswersUnload t base k k' answer = AnswersWith
     (λ past. IsRightUnload t base k.log.past past answer) (receipt.Unload base answer)
-    (accepted_unload answer) k k'
+    (is_unloaded answer) k k'
 
--- A log after an update call: answered with this receipt, so many accepted, the lock let go.
-abbrev pub after_call : List Update → List LoadEvent → ℕ → Sights → Receipt → ℕ → Log → Log
+-- the loader's lock is let go: with the next version after a publication, else with the same one
+abbrev pub after_letting_go : Bool → Log → Log
+after_letting_go true v = after_loader_release v
+after_letting_go false v = after_loader_release_same v
+
+-- A log after an update call: answered with this receipt, accepted or not, the lock let go.
+abbrev pub after_call : List Update → List LoadEvent → ℕ → Sights → Receipt → Bool → Log → Log
 after_call past more stores sights r accepted v =
     let answered = after_answer past more stores sights None r accepted v in
-    record answered { budget = record answered.budget { credit = v.budget.credit - 1 } }
+    record answered {
+      budget = record answered.budget { credit = v.budget.credit - one_if accepted };
+    }
 
 -- what an update call leaves of its caller: it holds no lock, as before
 pub record IsFreeAgain (k k' : CallerData) : Type 0 where
@@ -125,25 +144,33 @@ pub record IsFreeAgain (k k' : CallerData) : Type 0 where
   pub holdings : k'.log.holdings ≡ k.log.holdings
   pub lineage : k'.log.lineage ≡ k.log.lineage
 
--- One of the update calls was made and answered so, and nothing else of the caller changed.
-abbrev pub CallsWith : (List Update → Type 0) → Receipt → ℕ → CallerData → CallerData → Type 0
+-- An update call that was begun was answered so, and nothing else of the caller changed.
+abbrev pub CallsWith : (List Update → Type 0) → Receipt → Bool → CallerData → CallerData → Type 0
 CallsWith right r accepted k k' = (past : List Update) × (more : List LoadEvent) × (stores : ℕ)
     × (sights : Sights) × (right past × (k' ≡ record k {
-      left = k.left - 1;
       log = after_call past more stores sights r accepted k.log;
     }))
 
--- A load: it is answered as the state is after all of the history that is seen then. Or no update
--- call is left.
+-- A load that was begun: it is answered as the state is after all of the history that is seen then.
+abbrev pub TellsLoad : Terms → Member → CallerData → CallerData → Loading → Type 0
+TellsLoad t m k k' answer = CallsWith (λ past. IsRightLoad t m k.log.past past answer)
+    (receipt.Load m answer) (is_loaded answer) k k'
+
+-- The same of an unload.
+abbrev pub TellsUnload : Terms → ℕ → CallerData → CallerData → Removed → Type 0
+TellsUnload t base k k' answer = CallsWith (λ past. IsRightUnload t base k.log.past past answer)
+    (receipt.Unload base answer) (is_unloaded answer) k k'
+
+-- a caller that began an update call
+abbrev pub begun : CallerData → CallerData
+begun k = record k { left = k.left - 1 }
+
+-- A load, begun and answered. Or no update call is left, and nothing was done.
 abbrev pub LoadsMember : Terms → Member → CallerData → CallerData → Loading → Type 0
 LoadsMember t m k k' loading.Spent = (k.left ≡ 0) × (k' ≡ k)
-LoadsMember t m k k' answer = (0 < k.left)
-    × CallsWith (λ past. IsRightLoad t m k.log.past past answer) (receipt.Load m answer)
-    (accepted_load answer) k k'
+LoadsMember t m k k' answer = (0 < k.left) × TellsLoad t m (begun k) k' answer
 
 -- The same of an unload.
 abbrev pub UnloadsMember : Terms → ℕ → CallerData → CallerData → Removed → Type 0
 UnloadsMember t base k k' removed.Spent = (k.left ≡ 0) × (k' ≡ k)
-UnloadsMember t base k k' answer = (0 < k.left)
-    × CallsWith (λ past. IsRightUnload t base k.log.past past answer) (receipt.Unload base answer)
-    (accepted_unload answer) k k'
+UnloadsMember t base k k' answer = (0 < k.left) × TellsUnload t base (begun k) k' answer

@@ -1,8 +1,8 @@
 //! A lookup of the loader's half.
-ghost use Rattle.std.specs.Prelude.{◌≡◌, IfSome, IsOk, option_map};
+ghost use Rattle.std.specs.Prelude.{◌≡◌, ℕ, ◌+◌, ◌^◌, ◌<◌, ◌≤◌, IfSome, IsOk, option_map};
 ghost use Rattle.reg_model.specs.Receipt.{member_of, stamp_of};
 ghost use Rattle.word_rule.specs.Callers.{IsAlone};
-ghost use Rattle.array_publish.specs.CopyLoads.{IsAtCopy, LoadsCopy};
+ghost use Rattle.array_publish.specs.CopyLoads.{IsAtCopy, LoadsCopy, load_count};
 ghost use Rattle.array_publish.specs.Search.{IsMember, IsObjectAt, listed_member};
 ghost use Rattle.array_publish.specs.Lookup.{LooksUp};
 
@@ -21,6 +21,8 @@ fn object_at(words: &Words, me: &mut Caller, copy: u32, pc: u64) -> Option<Liste
     requires copy { IsAtCopy words.now copy me.old }
     ensures loads { LoadsCopy words.now.terms copy me.old me.new }
     ensures found { IsObjectAt words.now.terms copy me.new words.now.terms.fixed pc result }
+    ensures few { (n : ℕ) → words.now.terms.loads < 2 ^ n
+        → load_count me.new ≤ load_count me.old + n + 3 }
 {
     match fixed::containing(words.fixed(), pc) {
         Some(member) => Some(Listed {
@@ -55,6 +57,8 @@ pub fn try_object(words: &Words, me: &mut Caller, pc: u64) -> Result<Found, Agai
     ensures looks { LooksUp words.now.terms pc me.old me.new result }
     ensures alone { IsAlone me.old.log.lineage → IsOk result }
     ensures writes { me.new.log.trace.writes ≡ me.old.log.trace.writes }
+    ensures few { (n : ℕ) → words.now.terms.loads < 2 ^ n
+        → load_count me.new ≤ load_count me.old + n + 5 }
 {
     let first = words.load_clock(me, Ask::Nothing);
     let published = first / LOWER;

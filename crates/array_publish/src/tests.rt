@@ -1,12 +1,15 @@
-ghost use Rattle.std.specs.Prelude.{◌≡◌, IfSome};
+ghost use Rattle.std.specs.Prelude.{◌≡◌, ◌≤◌, None, IfSome};
+ghost use Rattle.array_publish.specs.Update.{IsFreeAgain};
 
-use crate::{load, try_object, unload};
+use crate::{load, try_load, try_object, try_unload, unload};
+use node_store::{Busy, lock, unlock_same};
 use reg_model::{Again, Found, Loading, Member, Removed, Span};
+use std::sync::Wait;
 use std::test::Fail;
-use word_rule::Words;
+use word_rule::{Caller, LockId, Words};
 
 // So many addresses from a base on, with a payload.
-fn member(base: u64, size: u64, payload: u32) -> Option<Member>
+pub(crate) fn member(base: u64, size: u64, payload: u32) -> Option<Member>
     ensures { IfSome result (λ m. m.payload ≡ payload) }
 {
     let span = Span::new(base, size)?;
@@ -146,5 +149,74 @@ fn a_member_is_unloaded_by_its_first_address_alone(rt: HostRuntime) -> Result<()
     assert!(rt; alone);
     let accepted = words.close(a);
     assert!(rt; accepted == 4);
+    Ok(())
+}
+
+// Loads images 0 to 16, sixteen addresses each, and says whether each was the next update.
+fn load_images<R: Wait>(rt: &R, words: &Words, me: &mut Caller) -> bool
+    requires table { me.old.table ≡ words.now.table }
+    requires free { me.old.log.loader ≡ None }
+    requires payloads { 17 ≤ words.now.terms.payloads }
+    ensures { IsFreeAgain me.old me.new }
+{
+    for image in 0..17 {
+        let Some(one) = member(0x1000 + 0x100 * image as u64, 16, image) else {
+            return false;
+        };
+        if number(load(rt, words, me, one)) != Some(image + 1) {
+            return false;
+        }
+    }
+    true
+}
+
+#[test]
+fn seventeen_members_stand_in_two_segments(rt: HostRuntime) -> Result<(), Fail> {
+    let alloc = rt.alloc();
+    let (words, mut a) = Words::new(alloc, 16, 40, 17, Vec::new(alloc))?;
+    let loaded = load_images(&rt, &words, &mut a);
+    assert!(rt; loaded);
+    assert!(rt; hit(try_object(&words, &mut a, 0x2008)) == Some((16, 17)));
+    // After seventeen publications the second copy is active: two segments, seventeen members.
+    assert!(rt; words.load_copy(&mut a, 732) == 2 && words.load_copy(&mut a, 733) == 17);
+    assert!(rt; removed(unload(&rt, &words, &mut a, 0x1000)) == Some((18, 0)));
+    assert!(rt; words.load_copy(&mut a, 580) == 1 && words.load_copy(&mut a, 581) == 16);
+    assert!(rt; hit(try_object(&words, &mut a, 0x2008)) == Some((16, 18)));
+    assert!(rt; miss(try_object(&words, &mut a, 0x1008)) == Some(18));
+    let Some(first) = member(0x1000, 16, 0) else {
+        panic!(rt; "span")
+    };
+    assert!(rt; number(load(&rt, &words, &mut a, first)) == Some(19));
+    assert!(rt; hit(try_object(&words, &mut a, 0x1008)) == Some((0, 19)));
+    assert!(rt; hit(try_object(&words, &mut a, 0x2008)) == Some((16, 19)));
+    Ok(())
+}
+
+#[test]
+fn an_update_that_gives_up_is_busy_and_can_be_tried_again(rt: HostRuntime) -> Result<(), Fail> {
+    let alloc = rt.alloc();
+    let (words, mut a) = Words::new(alloc, 4, 1, 1, Vec::new(alloc))?;
+    let mut b = words.split(alloc, &mut a, 2)?;
+    let Some(one) = member(0x1000, 0x20, 0) else {
+        panic!(rt; "span")
+    };
+    let busy = Busy {
+        lock: LockId::Loader,
+    };
+    assert!(rt; b.use_one() && b.left() == 1);
+    lock(&rt, &words, &mut a, LockId::Loader);
+    assert!(rt; try_load(&words, &mut b, one) == Err(busy));
+    unlock_same(&rt, &words, &mut a, LockId::Loader);
+    assert!(rt; try_load(&words, &mut b, one) == Ok(Loading::Done { number: 1 }));
+    assert!(rt; b.left() == 1 && b.use_one() && b.left() == 0);
+    lock(&rt, &words, &mut a, LockId::Loader);
+    assert!(rt; try_unload(&words, &mut b, 0x1000) == Err(busy));
+    unlock_same(&rt, &words, &mut a, LockId::Loader);
+    let done = Removed::Done {
+        number: 2,
+        member: one,
+    };
+    assert!(rt; try_unload(&words, &mut b, 0x1000) == Ok(done));
+    assert!(rt; miss(try_object(&words, &mut a, 0x1000)) == Some(2));
     Ok(())
 }

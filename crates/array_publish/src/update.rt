@@ -1,5 +1,5 @@
-//! Updates of the loader. Each takes the loader's lock, so one is made at a time; lookups go on.
-ghost use Rattle.std.specs.Prelude.{◌≡◌, ◌≢◌, ◌<◌, ◌≤◌, ◌⊎◌, ◌++◌, List, length, None, IfSome};
+//! Updates of the loader by who holds its lock, so one is made at a time; lookups go on.
+ghost use Rattle.std.specs.Prelude.{◌≡◌, ◌≢◌, ◌<◌, ◌≤◌, ◌⊎◌, ◌++◌, List, length, IfSome};
 ghost use Rattle.std.specs.Prelude.{IfNone};
 ghost use Rattle.reg_model.specs.State.{IsFree, IsLowestOverlap};
 ghost use Rattle.reg_model.specs.declared.span.Member.{Member};
@@ -10,16 +10,13 @@ ghost use Rattle.word_rule.specs.Copies.{ListsMembers};
 ghost use Rattle.array_publish.specs.Holders.{IsHolder, Spells, active_words, member_in};
 ghost use Rattle.array_publish.specs.Holders.{spare_words};
 ghost use Rattle.array_publish.specs.Writing.{EndsBelow, EndsFrom};
-ghost use Rattle.array_publish.specs.Update.{AnswersLoad, AnswersUnload, HoldsCopies};
-ghost use Rattle.array_publish.specs.Update.{IsFreeAgain, KnowsCopy, LoadsMember, UnloadsMember};
-ghost use Rattle.array_publish.specs.Update.{Works};
+ghost use Rattle.array_publish.specs.Update.{AnswersLoad, AnswersUnload, HoldsCopies, IsClean};
+ghost use Rattle.array_publish.specs.Update.{KnowsCopy, Works};
 
 use crate::walk::COUNT;
 use crate::writing::{ActiveCopy, Change, active_member, active_word, ending_below, write_copy};
-use node_store::{lock, unlock};
 use reg_model::{Loading, Member, Removed, Span, Update};
-use std::sync::Wait;
-use word_rule::{Ask, Caller, LockId, Words};
+use word_rule::{Ask, Caller, Words};
 
 /// What the lower half of the clock counts up to.
 const LOWER: u64 = 1 << 32;
@@ -29,6 +26,7 @@ fn active_copy(words: &Words, me: &mut Caller) -> ActiveCopy
     requires table { me.old.table ≡ words.now.table }
     requires held { HoldsCopies me.old.log.terms me.old }
     ensures works { Works me.old me.new }
+    ensures kept { me.new.log.loader ≡ me.old.log.loader }
     ensures knows { KnowsCopy words.now result me.new }
 {
     let clock = words.load_clock(me, Ask::Nothing);
@@ -65,6 +63,7 @@ fn lowest_overlap(
     requires below { EndsBelow (active_words me.old.log.loader) span.now.first place }
     requires above { EndsFrom (active_words me.old.log.loader) span.now.first active.now.count place }
     ensures same { Spells (spare_words me.old.log.loader) me.old me.new }
+    ensures kept { me.new.log.loader ≡ me.old.log.loader }
     ensures found { (xs : List Member) → ListsMembers (active_words me.old.log.loader) xs
         → IfSome result (IsLowestOverlap span.now (words.now.terms.fixed ++ xs)) }
     ensures none { IfNone result (IsFree span.now words.now.terms.fixed
@@ -102,6 +101,7 @@ fn beginning_at(
     requires knows { KnowsCopy words.now active.now me.old }
     requires inside { place ≤ active.now.count }
     ensures same { Spells (spare_words me.old.log.loader) me.old me.new }
+    ensures kept { me.new.log.loader ≡ me.old.log.loader }
     ensures found { IfSome result (λ m. (place < active.now.count)
         × (m ≡ member_in (active_words me.old.log.loader) place) × (m.span.first ≡ base)) }
     ensures none { IfNone result ((place ≡ active.now.count)
@@ -119,9 +119,10 @@ fn beginning_at(
 }
 
 /// Loads a member, by the holder of the loader's lock.
-fn load_held(words: &Words, me: &mut Caller, member: &Member) -> Loading
+pub fn load_held(words: &Words, me: &mut Caller, member: &Member) -> Loading
     requires table { me.old.table ≡ words.now.table }
     requires held { HoldsCopies me.old.log.terms me.old }
+    requires clean { IsClean me.old }
     requires due { 0 < due me.old }
     requires payload { member.now.payload < words.now.terms.payloads }
     ensures { AnswersLoad words.now.terms member.now me.old me.new result }
@@ -151,29 +152,11 @@ fn load_held(words: &Words, me: &mut Caller, member: &Member) -> Loading
     Loading::Done { number }
 }
 
-/// Loads a member where no fixed or loaded one overlaps it, and fewer are loaded than may be. The
-/// overlapping member with the least first address is named, also where no more may be loaded.
-/// Spent where the caller may begin no more update calls. It waits for the loader's lock.
-pub fn load<R: Wait>(rt: &R, words: &Words, me: &mut Caller, member: Member) -> Loading
-    requires table { me.old.table ≡ words.now.table }
-    requires free { me.old.log.loader ≡ None }
-    requires payload { member.payload < words.now.terms.payloads }
-    ensures answer { LoadsMember words.now.terms member me.old me.new result }
-    ensures free { IsFreeAgain me.old me.new }
-{
-    if !me.use_one() {
-        return Loading::Spent;
-    }
-    lock(rt, words, me, LockId::Loader);
-    let answer = load_held(words, me, &member);
-    unlock(rt, words, me, LockId::Loader);
-    answer
-}
-
 /// Unloads the loaded member that begins at an address, by the holder of the loader's lock.
-fn unload_held(words: &Words, me: &mut Caller, base: u64) -> Removed
+pub fn unload_held(words: &Words, me: &mut Caller, base: u64) -> Removed
     requires table { me.old.table ≡ words.now.table }
     requires held { HoldsCopies me.old.log.terms me.old }
+    requires clean { IsClean me.old }
     requires due { 0 < due me.old }
     ensures { AnswersUnload words.now.terms base me.old me.new result }
 {
@@ -190,21 +173,4 @@ fn unload_held(words: &Words, me: &mut Caller, base: u64) -> Removed
     write_copy(words, me, &active, &change, active.count - 1);
     let number = words.publish(me, update);
     Removed::Done { number, member }
-}
-
-/// Unloads the loaded member that begins at an address, and names it. A fixed member can't be
-/// unloaded. Spent where the caller may begin no more update calls. It waits for the loader's lock.
-pub fn unload<R: Wait>(rt: &R, words: &Words, me: &mut Caller, base: u64) -> Removed
-    requires table { me.old.table ≡ words.now.table }
-    requires free { me.old.log.loader ≡ None }
-    ensures answer { UnloadsMember words.now.terms base me.old me.new result }
-    ensures free { IsFreeAgain me.old me.new }
-{
-    if !me.use_one() {
-        return Removed::Spent;
-    }
-    lock(rt, words, me, LockId::Loader);
-    let answer = unload_held(words, me, base);
-    unlock(rt, words, me, LockId::Loader);
-    answer
 }

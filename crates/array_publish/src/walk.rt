@@ -2,10 +2,10 @@
 //!
 //! Nothing that is loaded is trusted: a copy may be stored into meanwhile. What a search found is
 //! said of every copy that agrees with the words that were loaded.
-ghost use Rattle.std.specs.Prelude.{◌≡◌, ◌+◌, ◌*◌, ◌<◌, ◌≤◌, []};
+ghost use Rattle.std.specs.Prelude.{◌≡◌, ℕ, ◌+◌, ◌*◌, ◌^◌, ◌<◌, ◌≤◌, []};
 ghost use Rattle.word_rule.specs.Callers.{AreTerms};
 ghost use Rattle.word_rule.specs.Places.{copy_place, copy_words, member_place, segment_place};
-ghost use Rattle.array_publish.specs.CopyLoads.{IsAtCopy, IsTold, LoadsCopy};
+ghost use Rattle.array_publish.specs.CopyLoads.{IsAtCopy, IsTold, LoadsCopy, load_count};
 ghost use Rattle.array_publish.specs.Search.{IsLastBegun, IsMember, IsObjectAt, listed_member};
 
 use reg_model::{Member, Span};
@@ -79,6 +79,7 @@ fn load_word(words: &Words, me: &mut Caller, copy: u32, at: u32) -> u64
     requires inside { at < copy_words words.now.terms }
     ensures loads { LoadsCopy words.now.terms copy me.old me.new }
     ensures told { IsTold words.now.terms copy me.new at result }
+    ensures one { load_count me.new ≡ load_count me.old + 1 }
 {
     let place = place_of_copy(words, copy);
     words.load_copy(me, place + at)
@@ -91,6 +92,8 @@ fn last_begun(words: &Words, me: &mut Caller, copy: u32, pc: u64, count: u32) ->
     requires count { count ≤ words.now.terms.loads }
     ensures loads { LoadsCopy words.now.terms copy me.old me.new }
     ensures last { IsLastBegun words.now.terms copy me.new pc count result }
+    ensures few { (n : ℕ) → words.now.terms.loads < 2 ^ n
+        → load_count me.new ≤ load_count me.old + n }
 {
     let mut begun = None;
     let mut low = 0;
@@ -113,6 +116,8 @@ pub fn listed_at(words: &Words, me: &mut Caller, copy: u32, pc: u64) -> Option<L
     requires copy { IsAtCopy words.now copy me.old }
     ensures loads { LoadsCopy words.now.terms copy me.old me.new }
     ensures found { IsObjectAt words.now.terms copy me.new [] pc result }
+    ensures few { (n : ℕ) → words.now.terms.loads < 2 ^ n
+        → load_count me.new ≤ load_count me.old + n + 3 }
 {
     let loads = words.loads();
     let count = load_word(words, me, copy, COUNT).min(loads as u64) as u32;

@@ -38,6 +38,7 @@ pub fn active_word(words: &Words, me: &mut Caller, active: u32, at: u32) -> u64
     requires holder { IsHolder words.now active me.old }
     requires inside { at < copy_words words.now.terms }
     ensures same { Spells (spare_words me.old.log.loader) me.old me.new }
+    ensures kept { me.new.log.loader ≡ me.old.log.loader }
     ensures value { result ≡ slice_index (active_words me.old.log.loader) at }
 {
     let place = place_of_copy(words, active);
@@ -48,7 +49,9 @@ pub fn active_word(words: &Words, me: &mut Caller, active: u32, at: u32) -> u64
 fn store_word(words: &Words, me: &mut Caller, active: u32, at: u32, value: u64)
     requires holder { IsHolder words.now active me.old }
     requires inside { at < copy_words words.now.terms }
-    ensures { Spells (slice_set (spare_words me.old.log.loader) at value) me.old me.new }
+    ensures spells { Spells (slice_set (spare_words me.old.log.loader) at value) me.old me.new }
+    ensures kept { slice_index (spare_words me.old.log.loader) at ≡ value
+        → me.new.log.trace.writes ≡ me.old.log.trace.writes }
 {
     let place = place_of_copy(words, 1 - active) + at;
     if words.load_copy(me, place) != value {
@@ -74,6 +77,7 @@ pub fn active_member(words: &Words, me: &mut Caller, active: u32, index: u32) ->
     requires inside { index < words.now.terms.loads }
     requires known { IsMemberOf words.now.terms (member_in (active_words me.old.log.loader) index) }
     ensures same { Spells (spare_words me.old.log.loader) me.old me.new }
+    ensures kept { me.new.log.loader ≡ me.old.log.loader }
     ensures value { result ≡ member_in (active_words me.old.log.loader) index }
 {
     let place = place_of_member(index);
@@ -94,6 +98,7 @@ pub fn ending_below(words: &Words, me: &mut Caller, active: &ActiveCopy, address
     requires holder { IsHolder words.now active.now.copy me.old }
     requires room { active.now.count ≤ words.now.terms.loads }
     ensures same { Spells (spare_words me.old.log.loader) me.old me.new }
+    ensures kept { me.new.log.loader ≡ me.old.log.loader }
     ensures inside { result ≤ active.now.count }
     ensures below { EndsBelow (active_words me.old.log.loader) address result }
     ensures above { EndsFrom (active_words me.old.log.loader) address active.now.count result }

@@ -1,4 +1,4 @@
-use Rattle.std.proofs.Common.{◌≡◌, ◌∙◌, Some, sym, ap}
+use Rattle.std.proofs.Common.{◌≡◌, ◌∙◌, Some, sym, ap, arith}
 use Rattle.reg_model.specs.Query.{member_at}
 use Rattle.word_rule.specs.declared.log.Terms.{Terms}
 use Rattle.array_publish.proofs.CopyWalks.{loads_none}
@@ -19,3 +19,9 @@ pub returns-in-None-clause-found : goal.returns-in-None-clause-found
 returns-in-None-clause-found c =
     let t : Terms = c.args.words.now.terms in
     then_listed t c.args.copy c.listed_at.new.me t.fixed c.args.pc c.listed_at.result (sym c.in-None.is ∙ (c.containing.ensures ∙ ap (member_at c.args.pc) c.fixed.ensures)) c.listed_at.ensures.found
+
+pub returns-in-Some-clause-few : goal.returns-in-Some-clause-few
+returns-in-Some-clause-few c n small = omega arith
+
+pub returns-in-None-clause-few : goal.returns-in-None-clause-few
+returns-in-None-clause-few c n small = c.listed_at.ensures.few n small

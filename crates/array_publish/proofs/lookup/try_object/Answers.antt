@@ -1,3 +1,6 @@
+use Rattle.std.proofs.Common.{arith}
+use Rattle.word_rule.specs.declared.log.Ask.TheVariants as ask
+use Rattle.array_publish.proofs.LoadCounts.{clock_counted}
 use Rattle.array_publish.proofs.Lookups.{again, is_member, found_so}
 use Rattle.array_publish.proofs.lookup.try_object.Goals as goal
 
@@ -18,3 +21,15 @@ returns-then-second-published-clause-looks c =
     let one = c.load_clock-first.ensures in let two = c.load_clock-second.ensures in let o = c.object_at-object.ensures in
     again c.args.words.now.terms c.args.pc c.load_clock-first.result c.load_clock-second.result c.args.me.now c.load_clock-first.new.me c.object_at-object.new.me c.load_clock-second.new.me c.object_at-object.result
     one.log one.rest o.loads o.found two.log two.rest c.if-second-published.true
+
+pub returns-clause-few : goal.returns-clause-few
+returns-clause-few c n small =
+    let one = clock_counted c.args.words.now.terms ask.Nothing c.load_clock-first.result c.args.me.now c.load_clock-first.new.me c.load_clock-first.ensures.log in let two = c.object_at-object.ensures.few n small in
+    let three = clock_counted c.args.words.now.terms (ask.Loaded c.args.pc) c.load_clock-second.result c.object_at-object.new.me c.load_clock-second.new.me c.load_clock-second.ensures.log in
+    omega (arith, one, two, three)
+
+pub returns-then-second-published-clause-few : goal.returns-then-second-published-clause-few
+returns-then-second-published-clause-few c n small =
+    let one = clock_counted c.args.words.now.terms ask.Nothing c.load_clock-first.result c.args.me.now c.load_clock-first.new.me c.load_clock-first.ensures.log in let two = c.object_at-object.ensures.few n small in
+    let three = clock_counted c.args.words.now.terms (ask.Loaded c.args.pc) c.load_clock-second.result c.object_at-object.new.me c.load_clock-second.new.me c.load_clock-second.ensures.log in
+    omega (arith, one, two, three)

@@ -8,7 +8,7 @@ use Rattle.word_rule.specs.Copies.{ListsMembers}
 use Rattle.array_publish.specs.Holders.{active_words, member_in, spare_words}
 use Rattle.array_publish.specs.Writing.{EndsBelow}
 use Rattle.array_publish.specs.declared.writing.ActiveCopy.{ActiveCopy}
-use Rattle.array_publish.proofs.Answering.{may_refuse, overlap_so, full_so, published_so, may_publish, free_listed, works_then, is_held, holds_of}
+use Rattle.array_publish.proofs.Answering.{may_refuse, overlap_so, full_so, published_so, may_publish, free_listed, works_then, is_held, holds_of, stays_clean}
 use Rattle.array_publish.proofs.Knowing.{counted_so, known_at, knows_stays}
 use Rattle.array_publish.proofs.Works.{spare_wide, spells_active}
 use Rattle.array_publish.proofs.update.load_held.Goals as goal
@@ -25,7 +25,7 @@ returns-in-Some c =
     let two = knows_stays w a (spare_words k1.log.loader) k1 k2 one c.ending_below-place.ensures.same (spare_wide w a.copy k1 one.holder) in
     let three = knows_stays w a (spare_words k2.log.loader) k2 k3 two c.lowest_overlap.ensures.same (spare_wide w a.copy k2 two.holder) in
     let works = works_then (spare_words k2.log.loader) c.args.me.now k2 k3 (works_then (spare_words k1.log.loader) c.args.me.now k1 k2 c.active_copy-active.ensures.works c.ending_below-place.ensures.same) c.lowest_overlap.ensures.same in
-    overlap_so w.terms c.args.me.now k3 c.load_clock-clock.new.me c.load_clock-clock.result c.args.member.now works (is_held w.terms a.copy k3.log.loader three.holder.holds) c.load_clock-clock.ensures.log c.load_clock-clock.ensures.rest c.in-Some.other
+    overlap_so w.terms c.args.me.now k3 c.load_clock-clock.new.me c.load_clock-clock.result c.args.member.now works (stays_clean c.args.me.now k1 k2 k3 c.active_copy-active.ensures.kept c.ending_below-place.ensures.kept c.lowest_overlap.ensures.kept c.requires.clean) c.load_clock-clock.ensures.log c.load_clock-clock.ensures.rest c.in-Some.other
     (λ xs lists. c.in-Some.ensures.found xs (subst (λ ws. ListsMembers ws xs) (spells_active (spare_words k2.log.loader) k2 k3 c.lowest_overlap.ensures.same) lists))
 
 pub load_clock-clock-requires-then-active-loads-clause-ask : goal.load_clock-clock-requires-then-active-loads-clause-ask
@@ -55,7 +55,7 @@ returns-then-active-loads c =
     let active2 = spells_active (spare_words k1.log.loader) k1 k2 c.ending_below-place.ensures.same in
     let active3 = spells_active (spare_words k2.log.loader) k2 k3 c.lowest_overlap.ensures.same in
     let begin = subst (λ ws. (c.ending_below-place.result ≡ a.count) ⊎ (c.args.member.now.span.last < (member_in ws c.ending_below-place.result).span.first)) active2 none.1 in
-    full_so w.terms c.args.me.now k3 c.load_clock-clock-then-active-loads.new.me c.load_clock-clock-then-active-loads.result c.args.member.now works (is_held w.terms a.copy k3.log.loader three.holder.holds) c.load_clock-clock-then-active-loads.ensures.log c.load_clock-clock-then-active-loads.ensures.rest
+    full_so w.terms c.args.me.now k3 c.load_clock-clock-then-active-loads.new.me c.load_clock-clock-then-active-loads.result c.args.member.now works (stays_clean c.args.me.now k1 k2 k3 c.active_copy-active.ensures.kept c.ending_below-place.ensures.kept c.lowest_overlap.ensures.kept c.requires.clean) c.load_clock-clock-then-active-loads.ensures.log c.load_clock-clock-then-active-loads.ensures.rest
     (λ xs lists.
     let mine = subst (λ ws. ListsMembers ws xs) (active3 ∙ active2) lists in
     All-append (λ x. ¬ Overlaps x.span c.args.member.now.span) w.terms.fixed xs none.0 (free_listed (active_words k1.log.loader) xs a.count c.ending_below-place.result c.args.member.now.span c.args.member.now mine (counted_so w a k1 xs one mine) c.ending_below-place.ensures.inside below begin))

@@ -2,11 +2,12 @@ use Rattle.std.proofs.Common.{◌≡◌, ap, ◌∙◌, sym, subst, arith}
 use Rattle.reg_model.specs.declared.answer.Update.TheVariants as update
 use Rattle.reg_model.specs.declared.span.Member.{Member}
 use Rattle.word_rule.specs.CallerData.{CallerData, WordsData}
+use Rattle.word_rule.specs.Callers.{IsMemberOf}
 use Rattle.word_rule.specs.Copies.{ListsMembers}
 use Rattle.array_publish.specs.Holders.{active_words, member_in, spare_words}
 use Rattle.array_publish.specs.Writing.{EndsBelow, EndsFrom}
 use Rattle.array_publish.specs.declared.writing.ActiveCopy.{ActiveCopy}
-use Rattle.array_publish.proofs.Answering.{may_refuse, not_found_so, unpublished_so, works_then, is_held, holds_of}
+use Rattle.array_publish.proofs.Answering.{may_refuse, not_found_so, unpublished_so, works_then, is_held, holds_of, stays_clean}
 use Rattle.array_publish.proofs.Bases.{holder_terms, may_publish, member_listed, none_listed}
 use Rattle.array_publish.proofs.Knowing.{known_at, knows_stays}
 use Rattle.array_publish.proofs.Works.{spare_wide, spells_active}
@@ -37,7 +38,7 @@ returns-in_default c =
     let two = knows_stays w a (spare_words k1.log.loader) k1 k2 one c.ending_below-place.ensures.same (spare_wide w a.copy k1 one.holder) in
     let three = knows_stays w a (spare_words k2.log.loader) k2 k3 two c.in_default.ensures.same (spare_wide w a.copy k2 two.holder) in
     let works = works_then (spare_words k2.log.loader) c.args.me.now k2 k3 (works_then (spare_words k1.log.loader) c.args.me.now k1 k2 c.active_copy-active.ensures.works c.ending_below-place.ensures.same) c.in_default.ensures.same in
-    not_found_so w.terms c.args.me.now k3 c.load_clock-clock.new.me c.load_clock-clock.result c.args.base works (is_held w.terms a.copy k3.log.loader three.holder.holds) c.load_clock-clock.ensures.log c.load_clock-clock.ensures.rest
+    not_found_so w.terms c.args.me.now k3 c.load_clock-clock.new.me c.load_clock-clock.result c.args.base works (stays_clean c.args.me.now k1 k2 k3 c.active_copy-active.ensures.kept c.ending_below-place.ensures.kept c.in_default.ensures.kept c.requires.clean) c.load_clock-clock.ensures.log c.load_clock-clock.ensures.rest
 
 pub write_copy-requires-clause-known : goal.write_copy-requires-clause-known
 write_copy-requires-clause-known c =
@@ -73,6 +74,6 @@ returns c =
     let active4 = spells_active (spare_words k4.log.loader) k3 k4 c.write_copy.ensures.same in
     let found = c.in-Some.ensures.found in
     unpublished_so w.terms c.args.me.now k4 c.publish-number.new.me c.publish-number.ensures.log.0 c.publish-number.result c.args.base c.in-Some.member three.listing.members
-    (holder_terms w a k3 k4 three c.write_copy.ensures.same) (subst (λ ws. ListsMembers ws three.listing.members) (sym active4) three.listing.lists)
+    (holder_terms w a k3 k4 three c.write_copy.ensures.same) (subst (IsMemberOf w.terms) (sym (found.1 ∙ sym (ap (λ ws. member_in ws c.ending_below-place.result) active3))) (known_at w a k3 c.ending_below-place.result three found.0)) (subst (λ ws. ListsMembers ws three.listing.members) (sym active4) three.listing.lists)
     (member_listed w a k3 three c.ending_below-place.result c.in-Some.member found.0 (found.1 ∙ sym (ap (λ ws. member_in ws c.ending_below-place.result) active3))) found.2
     works (is_held w.terms a.copy k4.log.loader holds) c.publish-number.ensures.log.1 c.publish-number.ensures.rest c.publish-number.ensures.number

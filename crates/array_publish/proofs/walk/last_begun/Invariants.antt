@@ -1,5 +1,5 @@
-use Rattle.std.proofs.Common.{◌-◌, ◌≤◌}
-use Rattle.array_publish.specs.CopyLoads.{IsAtCopy, LoadsCopy}
+use Rattle.std.proofs.Common.{ℕ, ◌+◌, ◌-◌, ◌^◌, ◌<◌, ◌≤◌}
+use Rattle.array_publish.specs.CopyLoads.{IsAtCopy, LoadsCopy, load_count}
 use Rattle.array_publish.specs.Search.{BeginsAbove}
 use Rattle.array_publish.proofs.Searches.{IsBelow}
 use Rattle.array_publish.proofs.walk.last_begun.Given as goal
@@ -10,6 +10,7 @@ invariant-loop-low l = record {
   loads : LoadsCopy l.words.terms l.copy l.fn.me l.me;
   copy : IsAtCopy l.words l.copy l.me;
   above : BeginsAbove l.words.terms l.copy l.me l.pc l.count l.high;
+  few : (n : ℕ) → l.words.terms.loads < 2 ^ n → (left : ℕ) × ((l.high - l.low < 2 ^ left) × (load_count l.me + left ≤ load_count l.fn.me + n));
   below : IsBelow l.words.terms l.copy l.me l.pc l.low l.begun;
 }
 

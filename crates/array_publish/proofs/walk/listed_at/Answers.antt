@@ -57,3 +57,14 @@ returns-clause-found c =
     let last_at = subst (λ p. IsTold t c.args.copy k (p + 1) c.load_word-last.result) c.place_of_member-place.ensures told_last in
     let payload_at = subst (λ p. IsTold t c.args.copy k (p + 2) c.load_word-payload.result) c.place_of_member-place.ensures c.load_word-payload.ensures.told in
     is_listed t c.args.copy k c.args.pc c.min-count.result c.load_word.result told (omega (arith, c.min-count.ensures, c.loads-loads.ensures)) c.in-Some.field-0 begun c.load_word-last.result last_at (omega (arith, c.if-pc-last.false)) c.load_word-payload.result payload_at
+
+pub returns-in_default-clause-few : goal.returns-in_default-clause-few
+returns-in_default-clause-few c n small = let one = c.load_word.ensures.one in let two = c.last_begun.ensures.few n small in omega (arith, one, two)
+
+pub returns-then-pc-last-clause-few : goal.returns-then-pc-last-clause-few
+returns-then-pc-last-clause-few c n small = let one = c.load_word.ensures.one in let two = c.last_begun.ensures.few n small in let three = c.load_word-last.ensures.one in omega (arith, one, two, three)
+
+pub returns-clause-few : goal.returns-clause-few
+returns-clause-few c n small =
+    let one = c.load_word.ensures.one in let two = c.last_begun.ensures.few n small in let three = c.load_word-last.ensures.one in let four = c.load_word-payload.ensures.one in
+    omega (arith, one, two, three, four)

@@ -2,6 +2,7 @@ use Rattle.std.proofs.Common.{◌+◌, sym, ap, ◌∙◌, subst}
 use Rattle.word_rule.specs.Sights.{after_copy_load}
 use Rattle.array_publish.specs.CopyLoads.{LoadsCopy, IsTold}
 use Rattle.array_publish.proofs.CopyWalks.{one_load, one_told}
+use Rattle.array_publish.proofs.LoadCounts.{word_counted}
 use Rattle.array_publish.proofs.walk.load_word.Goals as goal
 
 pub returns-clause-loads : goal.returns-clause-loads
@@ -15,3 +16,6 @@ returns-clause-told c =
     let h = c.requires.copy in
     subst (λ k. IsTold c.args.words.now.terms c.args.copy k c.args.at c.load_copy.result) (sym (c.load_copy.ensures.log ∙ ap (λ p. record c.args.me.now { log = after_copy_load (p + c.args.at) c.load_copy.result c.args.me.now.log }) c.place_of_copy-place.ensures))
     (one_told c.args.words.now.terms c.args.copy c.args.me.now c.args.at c.load_copy.result h.terms h.sight c.requires.inside)
+
+pub returns-clause-one : goal.returns-clause-one
+returns-clause-one c = word_counted c.args.me.now c.load_copy.new.me _ c.load_copy.result c.load_copy.ensures.log

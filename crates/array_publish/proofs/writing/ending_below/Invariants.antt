@@ -1,4 +1,4 @@
-use Rattle.std.proofs.Common.{◌-◌, ◌≤◌}
+use Rattle.std.proofs.Common.{◌≡◌, ◌-◌, ◌≤◌}
 use Rattle.array_publish.specs.Holders.{active_words, spare_words}
 use Rattle.array_publish.specs.Writing.{EndsBelow, EndsFrom}
 use Rattle.array_publish.proofs.Works.{Written}
@@ -7,6 +7,7 @@ use Rattle.array_publish.proofs.writing.ending_below.Given as goal
 abbrev pub invariant-loop-low : goal.invariant-loop-low
 invariant-loop-low l = record {
   work : Written l.words l.active.copy (spare_words l.fn.me.log.loader) l.fn.me l.me;
+  kept : l.me.log.loader ≡ l.fn.me.log.loader;
   order : (l.low ≤ l.high) × (l.high ≤ l.active.count);
   below : EndsBelow (active_words l.fn.me.log.loader) l.address l.low;
   above : EndsFrom (active_words l.fn.me.log.loader) l.address l.active.count l.high;

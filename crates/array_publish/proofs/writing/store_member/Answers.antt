@@ -13,9 +13,9 @@ returns c =
     let k3 : CallerData = c.store_word-3.new.me in
     let place : ℕ = c.place_of_member-place.result in
     let h0 = c.requires.holder in
-    let h1 = holder_stays w c.args.active (set (spare_words k0.log.loader) place c.first.result) k0 k1 h0 c.store_word.ensures (length-set (spare_words k0.log.loader) place c.first.result ∙ spare_wide w c.args.active k0 h0) in
-    let h2 = holder_stays w c.args.active (set (spare_words k1.log.loader) (place + 1) c.last.result) k1 k2 h1 c.store_word-2.ensures (length-set (spare_words k1.log.loader) (place + 1) c.last.result ∙ spare_wide w c.args.active k1 h1) in
-    let all = three_words w.terms c.args.active place (place + 1) (place + 2) c.first.result c.last.result c.args.member.now.payload k0 k1 k2 k3 h0.holds h1.holds c.store_word.ensures c.store_word-2.ensures h2.holds c.store_word-3.ensures in
+    let h1 = holder_stays w c.args.active (set (spare_words k0.log.loader) place c.first.result) k0 k1 h0 c.store_word.ensures.spells (length-set (spare_words k0.log.loader) place c.first.result ∙ spare_wide w c.args.active k0 h0) in
+    let h2 = holder_stays w c.args.active (set (spare_words k1.log.loader) (place + 1) c.last.result) k1 k2 h1 c.store_word-2.ensures.spells (length-set (spare_words k1.log.loader) (place + 1) c.last.result ∙ spare_wide w c.args.active k1 h1) in
+    let all = three_words w.terms c.args.active place (place + 1) (place + 2) c.first.result c.last.result c.args.member.now.payload k0 k1 k2 k3 h0.holds h1.holds c.store_word.ensures.spells c.store_word-2.ensures.spells h2.holds c.store_word-3.ensures.spells in
     let spelled : set (set (set (spare_words k0.log.loader) place c.first.result) (place + 1) c.last.result) (place + 2) c.args.member.now.payload ≡ _ =
     (λ i. set (set (set (spare_words k0.log.loader) (c.place_of_member-place.ensures i) (c.first.ensures.value i)) (c.place_of_member-place.ensures i + 1) (c.last.ensures.value i)) (c.place_of_member-place.ensures i + 2) c.args.member.now.payload) in
     subst (λ ws. Spells ws k0 k3) spelled all

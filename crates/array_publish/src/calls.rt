@@ -1,0 +1,178 @@
+//! The update calls of the loader. Each takes the loader's lock, waits for it or gives up where it
+//! is taken, and lets go of it again.
+ghost use Rattle.std.specs.Prelude.{◌≡◌, ◌*◌, ◌<◌, false, true, None, OnOk, IfOk, IfErr};
+ghost use Rattle.std.specs.Prelude.{IsSomeAnd};
+ghost use Rattle.word_rule.specs.CallerData.{due, surplus};
+ghost use Rattle.node_store.specs.Locking.{IsBusy, Locks};
+ghost use Rattle.array_publish.specs.Update.{IsFreeAgain, LoadsMember, TellsLoad, TellsUnload};
+ghost use Rattle.array_publish.specs.Update.{UnloadsMember, after_letting_go, is_loaded};
+ghost use Rattle.array_publish.specs.Update.{is_unloaded};
+
+use crate::update::{load_held, unload_held};
+use node_store::{Busy, Locking, Trying, Waiting};
+use reg_model::{Loading, Member, Removed};
+use std::sync::Wait;
+use word_rule::{Caller, LockId, Words};
+
+/// Takes the loader's lock, or answers that it is taken.
+fn take<L: Locking>(locking: &L, words: &Words, me: &mut Caller) -> Result<(), Busy>
+    requires table { me.old.table ≡ words.now.table }
+    requires free { me.old.log.loader ≡ None }
+    ensures ok { OnOk result (Locks me.old me.new) }
+    ensures busy { IfErr result (λ e. IsBusy e.lock me.old me.new × (L.gives_up ≡ true)) }
+{
+    let lock = LockId::Loader;
+    if locking.take(words, me, lock) {
+        Ok(())
+    } else {
+        Err(Busy { lock })
+    }
+}
+
+/// Lets go of the loader's lock: with the next version where an update was published, and with the
+/// same one where nothing was stored.
+fn let_go<L: Locking>(locking: &L, words: &Words, me: &mut Caller, published: bool)
+    requires table { me.old.table ≡ words.now.table }
+    requires held { IsSomeAnd me.old.log.loader (λ h. published ≡ false → h.stored ≡ false) }
+    requires surplus { 0 < surplus me.old }
+    ensures { me.new ≡ record me.old { log = after_letting_go published me.old.log } }
+{
+    if published {
+        locking.let_go(words, me, LockId::Loader);
+    } else {
+        locking.let_go_same(words, me, LockId::Loader);
+    }
+}
+
+/// Whether a load was accepted.
+fn loaded(answer: &Loading) -> bool
+    ensures { result ≡ is_loaded answer.now }
+{
+    match answer {
+        Loading::Done { .. } => true,
+        Loading::Overlap { .. } => false,
+        Loading::LoadFull { .. } => false,
+        Loading::Spent => false,
+    }
+}
+
+/// Whether an unload was accepted.
+fn unloaded(answer: &Removed) -> bool
+    ensures { result ≡ is_unloaded answer.now }
+{
+    match answer {
+        Removed::Done { .. } => true,
+        Removed::NotFound { .. } => false,
+        Removed::Spent => false,
+    }
+}
+
+/// Loads a member as `load` does, for an update call that was begun. Busy where the loader's lock
+/// was found taken and `locking` gives up: the call is still begun, and nothing was done.
+pub fn load_by<L: Locking>(
+    locking: &L,
+    words: &Words,
+    me: &mut Caller,
+    member: Member,
+) -> Result<Loading, Busy>
+    requires table { me.old.table ≡ words.now.table }
+    requires free { me.old.log.loader ≡ None }
+    requires begun { 0 < due me.old }
+    requires surplus { 0 < surplus me.old }
+    requires payload { member.payload < words.now.terms.payloads }
+    ensures answer { IfOk result (TellsLoad words.now.terms member me.old me.new) }
+    ensures busy { IfErr result (λ e. IsBusy e.lock me.old me.new × (L.gives_up ≡ true)) }
+    ensures free { IsFreeAgain me.old me.new }
+{
+    take(locking, words, me)?;
+    let answer = load_held(words, me, &member);
+    let_go(locking, words, me, loaded(&answer));
+    Ok(answer)
+}
+
+/// Loads a member where no fixed or loaded one overlaps it, and fewer are loaded than may be. The
+/// overlapping member with the least first address is named, also where no more may be loaded.
+/// Spent where the caller may begin no more update calls. It waits for the loader's lock.
+pub fn load<R: Wait>(rt: &R, words: &Words, me: &mut Caller, member: Member) -> Loading
+    requires table { me.old.table ≡ words.now.table }
+    requires free { me.old.log.loader ≡ None }
+    requires payload { member.payload < words.now.terms.payloads }
+    ensures answer { LoadsMember words.now.terms member me.old me.new result }
+    ensures free { IsFreeAgain me.old me.new }
+{
+    if !me.use_one() {
+        return Loading::Spent;
+    }
+    match load_by(&Waiting { rt }, words, me, member) {
+        Ok(answer) => answer,
+        Err(_) => unreachable!(),
+    }
+}
+
+/// Loads a member as `load` does, for an update call that was begun, or answers Busy where another
+/// has the loader's lock: then nothing was done, and the call may be tried again.
+pub fn try_load(words: &Words, me: &mut Caller, member: Member) -> Result<Loading, Busy>
+    requires table { me.old.table ≡ words.now.table }
+    requires free { me.old.log.loader ≡ None }
+    requires begun { 0 < due me.old }
+    requires surplus { 0 < surplus me.old }
+    requires payload { member.payload < words.now.terms.payloads }
+    ensures answer { IfOk result (TellsLoad words.now.terms member me.old me.new) }
+    ensures busy { IfErr result (λ e. IsBusy e.lock me.old me.new) }
+    ensures free { IsFreeAgain me.old me.new }
+{
+    load_by(&Trying, words, me, member)
+}
+
+/// Unloads a member as `unload` does, for an update call that was begun. Busy where the loader's
+/// lock was found taken and `locking` gives up: the call is still begun, and nothing was done.
+pub fn unload_by<L: Locking>(
+    locking: &L,
+    words: &Words,
+    me: &mut Caller,
+    base: u64,
+) -> Result<Removed, Busy>
+    requires table { me.old.table ≡ words.now.table }
+    requires free { me.old.log.loader ≡ None }
+    requires begun { 0 < due me.old }
+    requires surplus { 0 < surplus me.old }
+    ensures answer { IfOk result (TellsUnload words.now.terms base me.old me.new) }
+    ensures busy { IfErr result (λ e. IsBusy e.lock me.old me.new × (L.gives_up ≡ true)) }
+    ensures free { IsFreeAgain me.old me.new }
+{
+    take(locking, words, me)?;
+    let answer = unload_held(words, me, base);
+    let_go(locking, words, me, unloaded(&answer));
+    Ok(answer)
+}
+
+/// Unloads the loaded member that begins at an address, and names it. A fixed member can't be
+/// unloaded. Spent where the caller may begin no more update calls. It waits for the loader's lock.
+pub fn unload<R: Wait>(rt: &R, words: &Words, me: &mut Caller, base: u64) -> Removed
+    requires table { me.old.table ≡ words.now.table }
+    requires free { me.old.log.loader ≡ None }
+    ensures answer { UnloadsMember words.now.terms base me.old me.new result }
+    ensures free { IsFreeAgain me.old me.new }
+{
+    if !me.use_one() {
+        return Removed::Spent;
+    }
+    match unload_by(&Waiting { rt }, words, me, base) {
+        Ok(answer) => answer,
+        Err(_) => unreachable!(),
+    }
+}
+
+/// Unloads a member as `unload` does, for an update call that was begun, or answers Busy where
+/// another has the loader's lock: then nothing was done, and the call may be tried again.
+pub fn try_unload(words: &Words, me: &mut Caller, base: u64) -> Result<Removed, Busy>
+    requires table { me.old.table ≡ words.now.table }
+    requires free { me.old.log.loader ≡ None }
+    requires begun { 0 < due me.old }
+    requires surplus { 0 < surplus me.old }
+    ensures answer { IfOk result (TellsUnload words.now.terms base me.old me.new) }
+    ensures busy { IfErr result (λ e. IsBusy e.lock me.old me.new) }
+    ensures free { IsFreeAgain me.old me.new }
+{
+    unload_by(&Trying, words, me, base)
+}
