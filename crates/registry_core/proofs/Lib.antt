@@ -1,0 +1,5 @@
+pub mod Asking
+pub mod Meetings
+pub mod Counting
+pub mod Following
+pub mod Rounding

@@ -1,0 +1,21 @@
+//! The registry over the shared words: both halves under one clock.
+//!
+//! A `Registry` has the words, on which threads step side by side, each with a caller of its own. A
+//! lookup asks the registered half, and where that misses the loader's, and takes no lock. What a
+//! call makes of its caller is said by its receipts, and each of them holds in the one history that
+//! all callers share (`specs/Calls`, `specs/Queries`). A caller splits off others, one for each
+//! thread of a round, and joins them in order; then it is alone, and has each number of the history
+//! once (`specs/Rounds`, `laws`).
+//!
+//! The layer above array_publish, which has the loader's half, and word_rule, which has the words
+//! and the callers. Nothing registers: the registered half is a miss at one load of the clock.
+#![tactic(auto)]
+
+pub mod laws;
+mod lookup;
+mod registry;
+mod rounds;
+#[cfg(test)]
+mod tests;
+
+pub use registry::Registry;

@@ -1,0 +1,155 @@
+//! The registry, and its calls.
+ghost use Rattle.std.specs.Prelude.{◌≡◌, ◌^◌, ◌<◌, ◌≤◌, ◌↔◌, [], length, None, IfOk, IsOk};
+ghost use Rattle.std.specs.List.{AllByRecursion};
+ghost use Rattle.array_publish.specs.Lookup.{LooksUp};
+ghost use Rattle.array_publish.specs.Update.{IsFreeAgain, LoadsMember, UnloadsMember};
+ghost use Rattle.reg_model.specs.Chain.{Chain};
+ghost use Rattle.reg_model.specs.Receipt.{IsPlace, receipts_of_place};
+ghost use Rattle.reg_model.specs.SpanData.{IsSpan};
+ghost use Rattle.reg_model.specs.declared.answer.Loading.TheVariants as loading;
+ghost use Rattle.reg_model.specs.declared.answer.Removed.TheVariants as removed;
+ghost use Rattle.segment_array.specs.Ascending.{AscendFrom};
+ghost use Rattle.word_rule.specs.Callers.{IsAlone, IsIdle, IsWhole};
+ghost use Rattle.word_rule.specs.Logs.{first_log};
+ghost use Rattle.word_rule.specs.Places.{ALLOWANCE};
+ghost use Rattle.registry_core.specs.Calls.{Answered, Receives, receipts_of_load};
+ghost use Rattle.registry_core.specs.Calls.{receipts_of_unload};
+ghost use Rattle.registry_core.specs.Queries.{IsKnownPlace, Queries};
+ghost use Rattle.registry_core.specs.Rounds.{IsBetweenRounds};
+
+use crate::lookup::{loaded_at, registered_at};
+use array_publish::try_object;
+use reg_model::laws::receipts_stay;
+use reg_model::{Again, Found, Loading, Member, NoMemory, Place, Removed};
+use std::alloc::Global;
+use std::marker::Model;
+use std::sync::Wait;
+use word_rule::{Caller, Words};
+
+/// The registry that threads share by `&`. Each has a caller of its own.
+#[derive(Drop)]
+pub struct Registry {
+    words: Words,
+}
+
+impl Model for Registry {
+    ghost use Rattle.word_rule.specs.CallerData.{WordsData};
+
+    ghost Value = { WordsData };
+
+    ghost view = { λ r. r.words };
+}
+
+impl Registry {
+    /// An empty registry with so many nodes, so many members that may be loaded at a time, payloads
+    /// below a number, and members that are there for good; and its first caller, which has all
+    /// update calls.
+    pub fn new(
+        alloc: Global,
+        nodes: u32,
+        loads: u32,
+        payloads: u32,
+        fixed: Vec<Member>,
+    ) -> Result<(Registry, Caller), NoMemory>
+        requires nodes { (4 ≤ nodes) × (nodes ≤ 16384) }
+        requires loads { (1 ≤ loads) × (loads ≤ 1024) }
+        requires ascending { AscendFrom 0 fixed.items }
+        requires members { AllByRecursion (λ m. IsSpan m.span × (m.payload < payloads))
+            fixed.items }
+        ensures terms { IfOk result
+            (λ made. made.0.terms
+            ≡ record { nodes = nodes; loads = loads; payloads = payloads; fixed = fixed.items }) }
+        ensures caller { IfOk result
+            (λ made. made.1
+            ≡ record {
+              table = made.0.table;
+              left = ALLOWANCE;
+              log = first_log made.0.terms;
+            }) }
+        ensures between { IfOk result (λ made. IsBetweenRounds made.1) }
+    {
+        let (words, me) = Words::new(alloc, nodes, loads, payloads, fixed)?;
+        Ok((Registry { words }, me))
+    }
+
+    /// The words, on which callers take single steps.
+    pub fn words(&self) -> &Words
+        ensures { result.now ≡ self.now }
+    {
+        &self.words
+    }
+
+    /// Loads a member. Spent where the caller may begin no more update calls. It waits for the
+    /// loader's lock.
+    pub fn load<R: Wait>(&self, rt: &R, me: &mut Caller, member: Member) -> Loading
+        requires table { me.old.table ≡ self.now.table }
+        requires free { me.old.log.loader ≡ None }
+        requires payload { member.payload < self.now.terms.payloads }
+        ensures answer { LoadsMember self.now.terms member me.old me.new result }
+        ensures answered { Answered (receipts_of_load member result) me.old me.new }
+        ensures spent { (result ≡ loading.Spent) ↔ (me.old.left ≡ 0) }
+    {
+        array_publish::load(rt, &self.words, me, member)
+    }
+
+    /// Unloads the loaded member that begins at an address, and names it. A fixed member can't be
+    /// unloaded. Spent where the caller may begin no more update calls. It waits for the loader's
+    /// lock.
+    pub fn unload<R: Wait>(&self, rt: &R, me: &mut Caller, base: u64) -> Removed
+        requires table { me.old.table ≡ self.now.table }
+        requires free { me.old.log.loader ≡ None }
+        ensures answer { UnloadsMember self.now.terms base me.old me.new result }
+        ensures answered { Answered (receipts_of_unload base result) me.old me.new }
+        ensures spent { (result ≡ removed.Spent) ↔ (me.old.left ≡ 0) }
+    {
+        array_publish::unload(rt, &self.words, me, base)
+    }
+
+    /// Looks an address up once among the fixed and the loaded members. Again where the loader
+    /// published meanwhile. It takes no lock, stores nothing and waits for nobody.
+    pub fn try_loaded(&self, me: &mut Caller, pc: u64) -> Result<Found, Again>
+        requires table { me.old.table ≡ self.now.table }
+        ensures looks { LooksUp self.now.terms pc me.old me.new result }
+        ensures alone { IsAlone me.old.log.lineage → IsOk result }
+    {
+        try_object(&self.words, me, pc)
+    }
+
+    /// Where an address is found: the registered half is asked first, and the loader's where that
+    /// misses. Each half is asked until it is answered. It takes no lock and stores nothing.
+    pub fn find<R: Wait>(&self, rt: &R, me: &mut Caller, pc: u64) -> Place
+        requires table { me.old.table ≡ self.now.table }
+        ensures queries { Queries self.now.terms (receipts_of_place pc result) me.old me.new }
+        ensures halves { IsPlace result }
+        ensures known { IsKnownPlace self.now.terms result }
+        ensures terms { me.old.log.terms ≡ self.now.terms }
+        ensures calls { Chain Receives me.old (receipts_of_place pc result) me.new }
+    {
+        // What the registered half answered goes on to hold; a law that takes no step.
+        receipts_stay();
+        let registered = registered_at(&self.words, me, pc);
+        match registered {
+            Found::Hit { .. } => Place {
+                registered,
+                loaded: None,
+            },
+            Found::Miss { .. } => Place {
+                registered,
+                loaded: Some(loaded_at(rt, &self.words, me, pc)),
+            },
+        }
+    }
+
+    /// Takes the registry apart, by the first caller alone, and answers how many updates were
+    /// accepted. They are a history, and the caller's log has each of its numbers once.
+    pub fn close(self, me: Caller) -> u32
+        requires table { me.table ≡ self.table }
+        requires first { me.log.lineage.name ≡ [] }
+        requires alone { IsAlone me.log.lineage }
+        requires idle { IsIdle me.log }
+        ensures number { result ≡ length me.log.past }
+        ensures whole { IsWhole me.log }
+    {
+        self.words.close(me)
+    }
+}
