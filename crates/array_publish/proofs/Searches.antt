@@ -1,5 +1,5 @@
 -- The search of a copy: what the words that were loaded say of its members.
-use Rattle.std.proofs.Common.{◌≡◌, ℕ, ◌+◌, ◌<◌, ◌≤◌, ◌⊎◌, inl, inr, ⊎_elim, List, [], ◌∷◌, length, get_or, min, sym, refl, ap, ◌∙◌, subst, arith, nat_le, Bool, ◌&&◌, true, false, Option, Some, None, if◌then◌else◌}
+use Rattle.std.proofs.Common.{◌≡◌, ℕ, ◌+◌, ◌-◌, ◌<◌, ◌≤◌, ◌⊎◌, inl, inr, ⊎_elim, List, [], ◌∷◌, length, get_or, min, sym, refl, ap, ◌∙◌, subst, arith, nat_le, Bool, ◌&&◌, true, false, Option, Some, None, if◌then◌else◌, leb-true, leb-false}
 use Rattle.std.specs.Option.{option_or}
 use Rattle.std.proofs.lemmas.List.Folds.{find-append}
 use Rattle.std.proofs.lemmas.Bool.{le-leb}
@@ -21,19 +21,53 @@ use Rattle.array_publish.proofs.CopyWalks.{told_later, above_later}
 
 -- ---- the halves
 
--- all members below this one begin at or below the address, and the last of them is known
-abbrev pub IsBelow : Terms → ℕ → CallerData → ℕ → ℕ → Option Begun → Type 0
-IsBelow t c k pc low None = low ≡ 0
-IsBelow t c k pc low (Some b) = (b.index + 1 ≡ low) × (b.first ≤ pc) × IsTold t c k (member_place b.index) b.first
+-- so many members begin at or below the address, the last of them with this word
+abbrev pub IsBelow : Terms → ℕ → CallerData → ℕ → ℕ → ℕ → Type 0
+IsBelow t c k pc begun first = (begun ≡ 0) ⊎ ((b : ℕ) × ((begun ≡ b + 1) × (first ≤ pc) × IsTold t c k (member_place b) first))
 
-pub below_later : (t : Terms) (c : ℕ) (k k' : CallerData) (pc low : ℕ) (o : Option Begun) → LoadsCopy t c k k' → IsBelow t c k pc low o → IsBelow t c k' pc low o
-below_later t c k k' pc low None p h = h
-below_later t c k k' pc low (Some b) p h = (h.0, h.1, told_later t c k k' (member_place b.index) b.first p h.2)
+below_later : (t : Terms) (c : ℕ) (k k' : CallerData) (pc begun first : ℕ) → LoadsCopy t c k k' → IsBelow t c k pc begun first → IsBelow t c k' pc begun first
+below_later t c k k' pc begun first p h = ⊎_elim (λ (e : begun ≡ 0). inl e) (λ (one : (b : ℕ) × ((begun ≡ b + 1) × (first ≤ pc) × IsTold t c k (member_place b) first)). inr (one.0, (one.1.0, one.1.1, told_later t c k k' (member_place one.0) first p one.1.2))) h
 
-pub met : (t : Terms) (c : ℕ) (k : CallerData) (pc count low high : ℕ) (o : Option Begun) → low ≤ high → high ≤ count → high ≤ low → BeginsAbove t c k pc count high → IsBelow t c k pc low o → IsLastBegun t c k pc count o
-met t c k pc count low high None le few ge h below = let e : high ≡ 0 = omega (arith, le, ge, below) in subst (λ i. BeginsAbove t c k pc count i) e h
-met t c k pc count low high (Some b) le few ge h below =
-    let at = below.0 in let e : high ≡ b.index + 1 = omega (arith, le, ge, at) in (omega (arith, e, few), below.1, below.2, subst (λ i. BeginsAbove t c k pc count i) e h)
+-- of so many members it is known of so many that they begin at or below the address, and there are
+-- `size` ways left in which it can be of more
+pub record AreLeft (t : Terms) (c : ℕ) (k : CallerData) (pc count begun first size : ℕ) : Type 0 where
+  pub some : 0 < size
+  pub within : begun + size ≤ count + 1
+  pub below : IsBelow t c k pc begun first
+  pub above : BeginsAbove t c k pc count (begun + size - 1)
+
+pub all_left : (t : Terms) (c : ℕ) (k : CallerData) (pc count : ℕ) → AreLeft t c k pc count 0 0 (count + 1)
+all_left t c k pc count = record { some = omega arith; within = omega arith; below = inl refl; above = inl (omega arith) }
+
+-- the member in the middle leaves the upper half, or the lower
+pub halved : (t : Terms) (c : ℕ) (k k' : CallerData) (pc count begun first size half odd next : ℕ) → LoadsCopy t c k k' → AreLeft t c k pc count begun first size → size ≡ half + half + odd → 0 < half → IsTold t c k' (member_place (begun + half - 1)) next
+    → (below : Bool) → nat_le next pc ≡ below → AreLeft t c k' pc count (begun + (if below then half else 0)) (if below then next else first) (half + (if below then odd else 0))
+halved t c k k' pc count begun first size half odd next p left is pos told true e =
+    let w = left.within in record {
+      some = omega (arith, pos);
+      within = omega (arith, w, is);
+      below = inr (begun + half - 1, (omega (arith, pos), leb-true _ _ e, told));
+      above = subst (λ i. BeginsAbove t c k' pc count i) (omega (arith, is, pos)) (above_later t c k k' pc count _ p left.above);
+    }
+halved t c k k' pc count begun first size half odd next p left is pos told false e =
+    let w = left.within in let none : begun + 0 ≡ begun = omega arith in record {
+      some = omega (arith, pos);
+      within = omega (arith, w, is);
+      below = subst (λ b. IsBelow t c k' pc b first) (sym none) (below_later t c k k' pc begun first p left.below);
+      above = inr (next, (subst (λ i. IsTold t c k' (member_place i) next) (omega (arith, pos)) told, leb-false _ _ e));
+    }
+
+-- where one way is left, that many it is
+pub none_begun : (t : Terms) (c : ℕ) (k : CallerData) (pc count begun first size : ℕ) → AreLeft t c k pc count begun first size → size ≤ 1 → begun ≡ 0 → IsLastBegun t c k pc count None
+none_begun t c k pc count begun first size left one is = let some = left.some in subst (λ i. BeginsAbove t c k pc count i) (omega (arith, some, one, is)) left.above
+
+pub one_begun : (t : Terms) (c : ℕ) (k : CallerData) (pc count begun first size : ℕ) → AreLeft t c k pc count begun first size → size ≤ 1 → 0 < begun → IsLastBegun t c k pc count (Some (record { index = begun - 1; first = first }))
+one_begun t c k pc count begun first size left one pos =
+    let some = left.some in let w = left.within in
+    ⊎_elim (λ (e : begun ≡ 0). absurd (omega (arith, pos, e)))
+    (λ (h : (b : ℕ) × ((begun ≡ b + 1) × (first ≤ pc) × IsTold t c k (member_place b) first)). let is = h.1.0 in
+    (omega (arith, w, some, pos), h.1.1, subst (λ i. IsTold t c k (member_place i) first) (omega (arith, is)) h.1.2, subst (λ i. BeginsAbove t c k pc count i) (omega (arith, some, one, pos)) left.above))
+    left.below
 
 -- ---- what a copy lists
 

@@ -2,7 +2,7 @@
 //!
 //! Nothing that is loaded is trusted: a copy may be stored into meanwhile. What a search found is
 //! said of every copy that agrees with the words that were loaded.
-ghost use Rattle.std.specs.Prelude.{◌≡◌, ℕ, ◌+◌, ◌*◌, ◌^◌, ◌<◌, ◌≤◌, []};
+ghost use Rattle.std.specs.Prelude.{◌≡◌, ℕ, ◌+◌, ◌*◌, ◌^◌, ◌<◌, ◌≤◌, [], if◌then◌else◌};
 ghost use Rattle.word_rule.specs.Callers.{AreTerms};
 ghost use Rattle.word_rule.specs.Places.{copy_place, copy_words, member_place, segment_place};
 ghost use Rattle.array_publish.specs.CopyLoads.{IsAtCopy, IsTold, LoadsCopy, load_count};
@@ -30,6 +30,13 @@ pub const HEAD: u32 = 0;
 
 /// Where a copy says how many members it lists.
 pub const COUNT: u32 = 1;
+
+/// Copy 0 or 1, and where it begins in the table.
+#[derive(Clone, Copy)]
+pub struct CopyStart {
+    pub copy: u32,
+    pub start: u32,
+}
 
 /// The last member that begins at or below an address: which it is, and where it begins.
 #[derive(Clone, Copy)]
@@ -64,51 +71,76 @@ pub fn place_of_segment(segment: u32) -> u32
     HEADER_WORDS + SEGMENT_WORDS * segment
 }
 
-/// Where a member stands in a copy.
+/// Where a member stands in a copy: after the copy's header, and those of the segments up to its
+/// own.
 pub fn place_of_member(index: u32) -> u32
     requires { index ≤ 1024 }
     ensures { result ≡ member_place index }
 {
-    let spot = spot(index);
-    HEADER_WORDS + SEGMENT_WORDS * spot.segment + HEADER_WORDS + MEMBER_WORDS * spot.place
+    let headers = 2 + spot(index).segment;
+    HEADER_WORDS * headers + MEMBER_WORDS * index
 }
 
 /// Loads a word of a copy, counted from the copy's first.
-fn load_word(words: &Words, me: &mut Caller, copy: u32, at: u32) -> u64
-    requires copy { IsAtCopy words.now copy me.old }
-    requires inside { at < copy_words words.now.terms }
-    ensures loads { LoadsCopy words.now.terms copy me.old me.new }
-    ensures told { IsTold words.now.terms copy me.new at result }
+fn load_word(words: &Words, me: &mut Caller, at: CopyStart, word: u32) -> u64
+    requires copy { IsAtCopy words.now at.copy me.old }
+    requires start { at.start ≡ copy_place words.now.terms at.copy }
+    requires inside { word < copy_words words.now.terms }
+    ensures loads { LoadsCopy words.now.terms at.copy me.old me.new }
+    ensures told { IsTold words.now.terms at.copy me.new word result }
     ensures one { load_count me.new ≡ load_count me.old + 1 }
 {
-    let place = place_of_copy(words, copy);
-    words.load_copy(me, place + at)
+    words.load_copy(me, at.start + word)
 }
 
-/// Of so many members, the last one that begins at or below the address. Half of those that are
-/// left are passed by at a time.
-fn last_begun(words: &Words, me: &mut Caller, copy: u32, pc: u64, count: u32) -> Option<Begun>
-    requires copy { IsAtCopy words.now copy me.old }
+/// All of a number where something holds, else 0. There is no branch, since the processor would
+/// guess half of them wrong.
+#[inline(always)]
+fn where_holds(number: u32, holds: bool) -> u32
+    requires { number < 2 ^ 31 }
+    ensures { result ≡ (if holds then number else 0) }
+{
+    (number << u32::from(holds)) - number
+}
+
+/// The one where something holds, else the other.
+#[inline(always)]
+fn one_of(holds: bool, one: u64, other: u64) -> u64
+    ensures { result ≡ (if holds then one else other) }
+{
+    if holds { one } else { other }
+}
+
+/// Of so many members, the last one that begins at or below the address. `begun` of them are known
+/// to, the last of these at `first`; `size` is in how many ways it can go on, and each turn leaves
+/// half of these.
+fn last_begun(words: &Words, me: &mut Caller, at: CopyStart, pc: u64, count: u32) -> Option<Begun>
+    requires copy { IsAtCopy words.now at.copy me.old }
+    requires start { at.start ≡ copy_place words.now.terms at.copy }
     requires count { count ≤ words.now.terms.loads }
-    ensures loads { LoadsCopy words.now.terms copy me.old me.new }
-    ensures last { IsLastBegun words.now.terms copy me.new pc count result }
+    ensures loads { LoadsCopy words.now.terms at.copy me.old me.new }
+    ensures last { IsLastBegun words.now.terms at.copy me.new pc count result }
     ensures few { (n : ℕ) → words.now.terms.loads < 2 ^ n
         → load_count me.new ≤ load_count me.old + n }
 {
-    let mut begun = None;
-    let mut low = 0;
-    let mut high = count;
-    while low < high {
-        let index = low + (high - low) / 2;
-        let first = load_word(words, me, copy, place_of_member(index));
-        if first <= pc {
-            begun = Some(Begun { index, first });
-            low = index + 1;
-        } else {
-            high = index;
-        }
+    let mut begun = 0;
+    let mut first = 0;
+    let mut size = count + 1;
+    while size > 1 {
+        let half = size / 2;
+        let next = load_word(words, me, at, place_of_member(begun + half - 1));
+        let below = next <= pc;
+        first = one_of(below, next, first);
+        begun += where_holds(half, below);
+        size = half + where_holds(size % 2, below);
     }
-    begun
+    if begun == 0 {
+        return None;
+    }
+    Some(Begun {
+        index: begun - 1,
+        first,
+    })
 }
 
 /// The member of a copy that contains the address.
@@ -119,17 +151,19 @@ pub fn listed_at(words: &Words, me: &mut Caller, copy: u32, pc: u64) -> Option<L
     ensures few { (n : ℕ) → words.now.terms.loads < 2 ^ n
         → load_count me.new ≤ load_count me.old + n + 3 }
 {
+    let start = place_of_copy(words, copy);
+    let at = CopyStart { copy, start };
     let loads = words.loads();
-    let count = load_word(words, me, copy, COUNT).min(loads as u64) as u32;
-    let Some(Begun { index, first }) = last_begun(words, me, copy, pc, count) else {
+    let count = load_word(words, me, at, COUNT).min(loads as u64) as u32;
+    let Some(Begun { index, first }) = last_begun(words, me, at, pc, count) else {
         return None;
     };
     let place = place_of_member(index);
-    let last = load_word(words, me, copy, place + 1);
+    let last = load_word(words, me, at, place + 1);
     if pc > last {
         return None;
     }
-    let payload = load_word(words, me, copy, place + 2);
+    let payload = load_word(words, me, at, place + 2);
     Some(Listed {
         first,
         last,
