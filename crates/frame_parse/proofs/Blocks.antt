@@ -16,18 +16,16 @@ use Rattle.frame_expr.proofs.Parts.{spelled_by}
 use Rattle.frame_parse.specs.declared.fault.RecordFault.{RecordFault}
 use Rattle.frame_parse.specs.declared.fault.RecordFault.TheVariants as faults
 use Rattle.frame_parse.specs.declared.instructions.context.Context.{Context}
-use Rattle.frame_parse.specs.declared.instructions.ReadRule.{ReadRule}
-use Rattle.frame_parse.specs.declared.instructions.ReadRule.TheVariants as rules
-use Rattle.frame_parse.specs.declared.instructions.Instruction.{Instruction}
-use Rattle.frame_parse.specs.declared.instructions.Instruction.TheVariants.{Nop, Set, Restore, CfaExpression}
+use Rattle.frame_parse.specs.Instructions.{PlacedInstruction, PlacedReadRule, PlacedStep}
+use Rattle.frame_parse.specs.declared.instructions.ReadRuleWith.TheVariants as rules
+use Rattle.frame_parse.specs.declared.instructions.InstructionWith.TheVariants.{Nop, Set, Restore, CfaExpression}
 use Rattle.frame_parse.specs.declared.instructions.Operation.{Operation}
 use Rattle.frame_parse.specs.declared.instructions.Operation.TheVariants as operations
-use Rattle.frame_parse.specs.declared.instructions.Step.{Step}
 use Rattle.frame_parse.specs.declared.program_state.State.{State}
 use Rattle.frame_parse.specs.declared.records.Extent.{Extent}
 use Rattle.frame_parse.specs.Fields.{field, pointer}
 use Rattle.std.specs.Int.{w64, cast_unsigned}
-use Rattle.frame_parse.specs.Programs.{other, factored, set, restore, cfa_column, second_column, expression_block, column_block, extended_operation, operation, instruction_of, step, text_in, IsExtent, HasSteps, HasPrograms, ProgramData, context_of, initial_of, program_of, initial_state, first_state}
+use Rattle.frame_parse.specs.Programs.{other, factored, set, restore, cfa_column, second_column, expression_block, column_block, extended_operation, operation, instruction_of, step, text_in, IsExtent, HasPlacedSteps, HasPrograms, PlacedProgramData, context_of, initial_of, program_of, initial_state, first_state}
 use Rattle.frame_parse.specs.declared.instructions.context.ProgramKind.TheVariants.{Initial, Own}
 use Rattle.frame_parse.specs.Sections.{FdeData}
 use Rattle.frame_parse.specs.Blocks.{counted, block_in, HasExpression, HasRuleExpression, HasItsExpression, HaveExpressions}
@@ -134,11 +132,11 @@ HasOperationExpression bytes (operations.Advance d) = Unit {0}
 HasOperationExpression bytes (operations.SetLocation a) = Unit {0}
 HasOperationExpression bytes (operations.Other i) = HasItsExpression bytes i
 
-set_by : (bytes : List ℕ) (r : ℕ) (rule : ReadRule) (b : Bool) → (b ≡ false → HasRuleExpression bytes rule) → HasItsExpression bytes (cond b Nop (Set r rule))
+set_by : (bytes : List ℕ) (r : ℕ) (rule : PlacedReadRule) (b : Bool) → (b ≡ false → HasRuleExpression bytes rule) → HasItsExpression bytes (cond b Nop (Set r rule))
 set_by bytes r rule true has = tt
 set_by bytes r rule false has = has refl
 
-set_has : (bytes : List ℕ) (r : ℕ) (rule : ReadRule) → (nat_lt 16 r ≡ false → HasRuleExpression bytes rule) → HasOperationExpression bytes (other (set r rule))
+set_has : (bytes : List ℕ) (r : ℕ) (rule : PlacedReadRule) → (nat_lt 16 r ≡ false → HasRuleExpression bytes rule) → HasOperationExpression bytes (other (set r rule))
 set_has bytes r rule has = set_by bytes r rule (nat_lt 16 r) has
 
 restore_by : (bytes : List ℕ) (r : ℕ) (b : Bool) → HasItsExpression bytes (cond b Nop (Restore r))
@@ -152,7 +150,7 @@ abbrev Q : List ℕ → Operation → Type 0
 Q = HasOperationExpression
 
 -- a rule without an expression
-plain_set : (r : ℕ) (rule : ReadRule) → ((bytes : List ℕ) → HasRuleExpression bytes rule) → Keeps Q (give (other (set r rule)))
+plain_set : (r : ℕ) (rule : PlacedReadRule) → ((bytes : List ℕ) → HasRuleExpression bytes rule) → Keeps Q (give (other (set r rule)))
 plain_set r rule none = give_keeps Q (other (set r rule)) (λ bytes. set_has bytes r rule (λ _. none bytes))
 
 abbrev number : Part RecordFault ℕ
@@ -207,16 +205,16 @@ instruction_has bytes (operations.Other i) has = has
 
 -- ---- steps
 
-step_has : (c : Context) (s m : State) (bytes : List ℕ) (p : ℕ) (front : List ℕ) (x : Step) → StandsAt bytes p front → (step c s).Spells p front (x, m) → HasItsExpression bytes x.instruction
+step_has : (c : Context) (s m : State) (bytes : List ℕ) (p : ℕ) (front : List ℕ) (x : PlacedStep) → StandsAt bytes p front → (step c s).Spells p front (x, m) → HasItsExpression bytes x.instruction
 unfolding step
 step_has c s m bytes p front x a t =
     let b = t.5 in
     let d = b.5 in
     let there = front_at bytes (p + length t.1) t.2 b.1 b.2 b.3 (back_at bytes p front t.1 t.2 t.3 a) in
     let own = instruction_has bytes b.0 ((operation_keeps c).keeps bytes (p + length t.1) b.1 b.0 there b.4) in
-    subst (λ (i : Instruction). HasItsExpression bytes i) (ap (λ (z : Step × State). z.0.instruction) d.5.1) own
+    subst (λ (i : PlacedInstruction). HasItsExpression bytes i) (ap (λ (z : PlacedStep × State). z.0.instruction) d.5.1) own
 
-steps_have : (c : Context) (bytes : List ℕ) (p : ℕ) (s : State) (text : List ℕ) (steps : List Step) (t : State) → StandsAt bytes p text → AreSteps (step c) p s text steps t → HaveExpressions bytes steps
+steps_have : (c : Context) (bytes : List ℕ) (p : ℕ) (s : State) (text : List ℕ) (steps : List PlacedStep) (t : State) → StandsAt bytes p text → AreSteps (step c) p s text steps t → HaveExpressions bytes steps
 steps_have c bytes p s text [] t a spelled = tt
 steps_have c bytes p s text (x ∷ xs) t a spelled = (
   step_has c s spelled.0 bytes p spelled.1 x (front_at bytes p text spelled.1 spelled.2 spelled.3 a) spelled.4,
@@ -224,18 +222,18 @@ steps_have c bytes p s text (x ∷ xs) t a spelled = (
 )
 
 -- the expressions of a program that stands at an extent of the bytes
-pub program_has : (c : Context) (s : State) (bytes : List ℕ) (e : Extent) (text : List ℕ) (steps : List Step) → IsExtent bytes e text
-    → (let p : ProgramData = record { context = c; state = s; rest = record { bytes = text_in bytes e; at = e.at } } in HasSteps p steps) → HaveExpressions bytes steps
-unfolding HasSteps
+pub program_has : (c : Context) (s : State) (bytes : List ℕ) (e : Extent) (text : List ℕ) (steps : List PlacedStep) → IsExtent bytes e text
+    → (let p : PlacedProgramData = record { context = c; state = s; rest = record { bytes = text_in bytes e; at = e.at } } in HasPlacedSteps p steps) → HaveExpressions bytes steps
+unfolding HasPlacedSteps
 program_has c s bytes e text steps is has =
     let spelled = subst (λ (l : List ℕ). AreSteps (step c) e.at s l steps has.0) (text_is bytes e text is) has.1 in
     steps_have c bytes e.at s text steps has.0 (is.0, is.1, is.2, is.3) spelled
 
 -- those of an FDE, whose programs stand in the bytes
-pub initial_has : (f : FdeData) (steps : List Step) → HasPrograms f.section f.bytes f.entry → HasSteps (initial_of f.section f.entry (text_in f.bytes f.entry.cie.initial)) steps → HaveExpressions f.bytes steps
+pub initial_has : (f : FdeData) (steps : List PlacedStep) → HasPrograms f.section f.bytes f.entry → HasPlacedSteps (initial_of f.section f.entry (text_in f.bytes f.entry.cie.initial)) steps → HaveExpressions f.bytes steps
 initial_has f steps kept has = program_has (context_of f.section f.entry.cie Initial) (record initial_state { location = f.entry.first }) f.bytes f.entry.cie.initial kept.initial_text steps kept.initial_inside has
 
-pub own_has : (f : FdeData) (steps : List Step) → HasPrograms f.section f.bytes f.entry → HasSteps (program_of f.section f.entry (text_in f.bytes f.entry.program)) steps → HaveExpressions f.bytes steps
+pub own_has : (f : FdeData) (steps : List PlacedStep) → HasPrograms f.section f.bytes f.entry → HasPlacedSteps (program_of f.section f.entry (text_in f.bytes f.entry.program)) steps → HaveExpressions f.bytes steps
 own_has f steps kept has = program_has (context_of f.section f.entry.cie Own) (first_state f.entry.cie f.entry.first) f.bytes f.entry.program kept.text steps kept.inside has
 
 -- ---- the bytes of a block

@@ -7,15 +7,14 @@ use Rattle.frame_parse.specs.declared.fault.RecordFault.TheVariants as faults
 use Rattle.frame_parse.specs.declared.records.Extent.{Extent}
 use Rattle.frame_parse.specs.declared.records.CieRecord.{CieRecord}
 use Rattle.frame_parse.specs.Entries.{FdeRecord, Record, Cie, Fde}
-use Rattle.frame_parse.specs.declared.instructions.Instruction.{Instruction}
-use Rattle.frame_parse.specs.declared.instructions.Instruction.TheVariants.{Nop, Advance, Set, Restore, Remember, RestoreState, Cfa, CfaColumn, CfaOffset, CfaExpression}
+use Rattle.frame_parse.specs.Instructions.{PlacedInstruction, PlacedStep}
+use Rattle.frame_parse.specs.declared.instructions.InstructionWith.TheVariants.{Nop, Advance, Set, Restore, Remember, RestoreState, Cfa, CfaColumn, CfaOffset, CfaExpression}
 use Rattle.frame_parse.specs.declared.instructions.Operation.{Operation}
 use Rattle.frame_parse.specs.declared.instructions.Operation.TheVariants as operations
-use Rattle.frame_parse.specs.declared.instructions.Step.{Step}
 use Rattle.frame_parse.specs.declared.program_state.State.{State}
 use Rattle.frame_parse.specs.declared.instructions.context.ProgramKind.TheVariants.{Initial, Own}
 use Rattle.eh_bytes.specs.Grammar.{given, found}
-use Rattle.frame_parse.specs.Programs.{context_of, effect_of, effect, step, top, below_top, initial_state, first_state, HasSteps, IsExtent, HasPrograms}
+use Rattle.frame_parse.specs.Programs.{context_of, effect_of, effect, step, top, below_top, initial_state, first_state, HasPlacedSteps, IsExtent, HasPrograms}
 use Rattle.eh_bytes.specs.Steps.{AreSteps}
 use Rattle.frame_parse.specs.Sections.{AreRecords, fdes_of, IsSection, HasFdes, covers, first_cover}
 use Rattle.frame_parse.specs.Records.{cie, fde, cie_from, cie_after, content, record_at, whole_record}
@@ -30,7 +29,7 @@ given_lift false x m f p text k a = absurd a
 abbrev moved : ℕ → State → State
 moved l s = record s { location = l }
 
-given_at : (at l p : ℕ) (s m : State) (i : Instruction) (text : List ℕ) → (given (effect_of at s i)).Spells p text m → (given (effect_of at (moved l s) i)).Spells p text (moved l m)
+given_at : (at l p : ℕ) (s m : State) (i : PlacedInstruction) (text : List ℕ) → (given (effect_of at s i)).Spells p text m → (given (effect_of at (moved l s) i)).Spells p text (moved l m)
 given_at at l p s m Nop text a = (a.0, ap (moved l) a.1)
 given_at at l p s m Advance text a = (a.0, ap (moved l) a.1)
 given_at at l p s m (Set r rule) text a = (a.0, ap (moved l) a.1)
@@ -47,17 +46,17 @@ effect_at section at l p c s m (operations.Advance d) text a = absurd a
 effect_at section at l p c s m (operations.SetLocation d) text a = absurd a
 effect_at section at l p c s m (operations.Other i) text a = given_at at l p s m i text a
 
-step_at : (section l p : ℕ) (c : CieRecord) (s m : State) (front : List ℕ) (x : Step) → (step (context_of section c Initial) s).Spells p front (x, m)
+step_at : (section l p : ℕ) (c : CieRecord) (s m : State) (front : List ℕ) (x : PlacedStep) → (step (context_of section c Initial) s).Spells p front (x, m)
     → (step (context_of section c Initial) (moved l s)).Spells p front (record x { location = l }, moved l m)
 unfolding step
 step_at section l p c s m front x a =
     let b = a.5 in
     let d = b.5 in
-    let both : Step × State → Step × State = λ z. (record z.0 { location = l }, moved l z.1) in
+    let both : PlacedStep × State → PlacedStep × State = λ z. (record z.0 { location = l }, moved l z.1) in
     (a.0, a.1, a.2, a.3, a.4, (b.0, b.1, b.2, b.3, b.4, (moved l d.0, d.1, d.2, d.3, effect_at section a.0 l _ c s d.0 b.0 d.1 d.4, (d.5.0, ap both d.5.1))))
 
-AreSteps_at : (section l : ℕ) (c : CieRecord) (p : ℕ) (s : State) (text : List ℕ) (steps : List Step) (t : State) → AreSteps (step (context_of section c Initial)) p s text steps t
-    → (others : List Step) × AreSteps (step (context_of section c Initial)) p (moved l s) text others (moved l t)
+AreSteps_at : (section l : ℕ) (c : CieRecord) (p : ℕ) (s : State) (text : List ℕ) (steps : List PlacedStep) (t : State) → AreSteps (step (context_of section c Initial)) p s text steps t
+    → (others : List PlacedStep) × AreSteps (step (context_of section c Initial)) p (moved l s) text others (moved l t)
 AreSteps_at section l c p s text [] t a = ([], (a.0, ap (moved l) a.1))
 AreSteps_at section l c p s text (x ∷ xs) t a =
     let later = AreSteps_at section l c (p + length a.1) a.0 a.2 xs t a.5 in
@@ -123,7 +122,7 @@ fde_place section end p c front f s =
 pub record CieKept (section : ℕ) (bytes : List ℕ) (c : CieRecord) : Type 0 where
   pub text : List ℕ
   pub inside : IsExtent bytes c.initial text
-  pub steps : List Step
+  pub steps : List PlacedStep
   pub last : State
   pub spelled : AreSteps (step (context_of section c Initial)) c.initial.at initial_state text steps last
 
@@ -185,9 +184,9 @@ kept_after section bytes true cs place c all e = absurd cc
 kept_after section bytes false cs place c all e = cie_from-kept section bytes cs place c all e
 
 -- the programs of an FDE, whose CIE was kept
-programs_of : (section : ℕ) (bytes text : List ℕ) (f : FdeRecord) (steps : List Step) (t : State) → CieKept section bytes f.cie → IsExtent bytes f.program text
+programs_of : (section : ℕ) (bytes text : List ℕ) (f : FdeRecord) (steps : List PlacedStep) (t : State) → CieKept section bytes f.cie → IsExtent bytes f.program text
     → AreSteps (step (context_of section f.cie Own)) f.program.at (first_state f.cie f.first) text steps t → HasPrograms section bytes f
-unfolding HasSteps
+unfolding HasPlacedSteps
 programs_of section bytes text f steps t kept inside a =
     let moved_steps = AreSteps_at section f.first f.cie f.cie.initial.at initial_state kept.text kept.steps kept.last kept.spelled in
     record {

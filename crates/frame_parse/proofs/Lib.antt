@@ -9,3 +9,4 @@ pub mod Kept
 pub mod Orders
 pub mod Blocks
 pub mod Lookups
+pub mod LentSteps

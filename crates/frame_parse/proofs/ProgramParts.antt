@@ -11,7 +11,7 @@ use Rattle.frame_expr.proofs.Parts.{expression_whole}
 use Rattle.eh_bytes.proofs.Wholes.{lift_whole, filled_exact}
 use Rattle.eh_bytes.proofs.Exact.{IsExact, then_exact, give_exact, here_exact, refuse_exact, when_exact, check_exact, given_exact, block_exact}
 use Rattle.eh_bytes.proofs.Steps.{AreSound}
-use Rattle.frame_parse.specs.declared.instructions.Step.{Step}
+use Rattle.frame_parse.specs.Instructions.{PlacedStep}
 use Rattle.eh_bytes.proofs.Fields.{fixed_exact, uleb_exact, sleb_exact}
 use Rattle.frame_parse.proofs.RecordParts.{field_exact, pointer_exact}
 
@@ -95,7 +95,7 @@ step_exact c s =
     then_exact _ _ (given_exact (effect at c s o)) (λ t. give_exact _)))
 
 -- a step takes its first byte at least
-step_grows : (c : Context) (s : State) (p : ℕ) (front : List ℕ) (x : Step × State) → (step c s).Spells p front x → 1 ≤ length front
+step_grows : (c : Context) (s : State) (p : ℕ) (front : List ℕ) (x : PlacedStep × State) → (step c s).Spells p front x → 1 ≤ length front
 unfolding step operation
 step_grows c s p front x a =
     let spelled = a.5.4 in

@@ -6,11 +6,9 @@ use Rattle.eh_bytes.specs.CursorData.{CursorData}
 use Rattle.eh_bytes.specs.Fields.{uleb}
 use Rattle.eh_bytes.specs.Leb.{uleb_at}
 use Rattle.frame_expr.specs.Expressions.{expression}
-use Rattle.frame_parse.specs.declared.instructions.ReadRule.{ReadRule}
-use Rattle.frame_parse.specs.declared.instructions.ReadRule.TheVariants.{Expression, ValExpression}
-use Rattle.frame_parse.specs.declared.instructions.Instruction.{Instruction}
-use Rattle.frame_parse.specs.declared.instructions.Instruction.TheVariants.{Set, CfaExpression}
-use Rattle.frame_parse.specs.declared.instructions.Step.{Step}
+use Rattle.frame_parse.specs.Instructions.{PlacedInstruction, PlacedReadRule, PlacedStep}
+use Rattle.frame_parse.specs.declared.instructions.ReadRuleWith.TheVariants.{Expression, ValExpression}
+use Rattle.frame_parse.specs.declared.instructions.InstructionWith.TheVariants.{Set, CfaExpression}
 
 -- as many of the next bytes as the number says that was read before them
 abbrev pub counted : Result (ℕ × CursorData) ByteFault → List ℕ
@@ -34,19 +32,19 @@ pub record HasExpression (depth : ℕ) (bytes : List ℕ) (place : ℕ) : Type 0
   pub spelled : (expression depth).Spells (place + length size) text text
 
 -- the expression of a column's rule, where it has one, stands in the bytes; it starts with the CFA
-abbrev pub HasRuleExpression : List ℕ → ReadRule → Type 0
+abbrev pub HasRuleExpression : List ℕ → PlacedReadRule → Type 0
 HasRuleExpression bytes (Expression e) = HasExpression 1 bytes e
 HasRuleExpression bytes (ValExpression e) = HasExpression 1 bytes e
 HasRuleExpression bytes _ = Unit {0}
 
 -- the same of an instruction; the CFA's expression starts with nothing
-abbrev pub HasItsExpression : List ℕ → Instruction → Type 0
+abbrev pub HasItsExpression : List ℕ → PlacedInstruction → Type 0
 HasItsExpression bytes (CfaExpression e) = HasExpression 0 bytes e
 HasItsExpression bytes (Set r rule) = HasRuleExpression bytes rule
 HasItsExpression bytes _ = Unit {0}
 
 -- the same of all steps
-abbrev pub HaveExpressions : List ℕ → List Step → Type 0
+abbrev pub HaveExpressions : List ℕ → List PlacedStep → Type 0
 HaveExpressions bytes [] = Unit {0}
 HaveExpressions bytes (x ∷ xs) =
     HasItsExpression bytes x.instruction × HaveExpressions bytes xs

@@ -7,3 +7,5 @@ pub mod Reading
 pub mod Programs
 pub mod Order
 pub mod Blocks
+pub mod Instructions
+pub mod Steps

@@ -12,15 +12,13 @@ use Rattle.frame_parse.specs.declared.instructions.context.ProgramKind.{ProgramK
 use Rattle.frame_parse.specs.declared.instructions.context.ProgramKind.TheVariants.{Initial, Own}
 use Rattle.frame_parse.specs.declared.records.CieRecord.{CieRecord}
 use Rattle.frame_parse.specs.declared.records.Extent.{Extent}
-use Rattle.frame_parse.specs.declared.instructions.ReadRule.{ReadRule}
-use Rattle.frame_parse.specs.declared.instructions.ReadRule.TheVariants as rules
-use Rattle.frame_parse.specs.declared.instructions.Instruction.{Instruction}
-use Rattle.frame_parse.specs.declared.instructions.Instruction.TheVariants.{Nop, Advance, Set}
-use Rattle.frame_parse.specs.declared.instructions.Instruction.TheVariants.{Restore, Remember}
-use Rattle.frame_parse.specs.declared.instructions.Instruction.TheVariants.{RestoreState, Cfa}
-use Rattle.frame_parse.specs.declared.instructions.Instruction.TheVariants.{CfaColumn, CfaOffset}
-use Rattle.frame_parse.specs.declared.instructions.Instruction.TheVariants.{CfaExpression}
-use Rattle.frame_parse.specs.declared.instructions.Step.{Step}
+use Rattle.frame_parse.specs.Instructions.{PlacedInstruction, PlacedReadRule, PlacedStep}
+use Rattle.frame_parse.specs.declared.instructions.ReadRuleWith.TheVariants as rules
+use Rattle.frame_parse.specs.declared.instructions.InstructionWith.TheVariants.{Nop, Advance, Set}
+use Rattle.frame_parse.specs.declared.instructions.InstructionWith.TheVariants.{Restore, Remember}
+use Rattle.frame_parse.specs.declared.instructions.InstructionWith.TheVariants.{RestoreState, Cfa}
+use Rattle.frame_parse.specs.declared.instructions.InstructionWith.TheVariants.{CfaColumn, CfaOffset}
+use Rattle.frame_parse.specs.declared.instructions.InstructionWith.TheVariants.{CfaExpression}
 use Rattle.frame_parse.specs.declared.instructions.Operation.{Operation}
 use Rattle.frame_parse.specs.declared.instructions.Operation.TheVariants as operations
 use Rattle.frame_parse.specs.declared.program_state.State.{State}
@@ -82,14 +80,14 @@ moves Own = true
 abbrev pub factored : Context → ℕ → ℕ
 factored c n = (n * cast_unsigned w64 c.data_alignment) % 2 ^ 64
 
-abbrev pub other : Instruction → Operation
+abbrev pub other : PlacedInstruction → Operation
 other i = operations.Other i
 
 -- rules for columns above 16 are read and not applied
-abbrev pub set : ℕ → ReadRule → Instruction
+abbrev pub set : ℕ → PlacedReadRule → PlacedInstruction
 set r rule = if nat_lt 16 r then Nop else Set r rule
 
-abbrev pub restore : ℕ → Instruction
+abbrev pub restore : ℕ → PlacedInstruction
 restore r = if nat_lt 16 r then Nop else Restore r
 
 -- a column of the CFA is at most 16
@@ -203,7 +201,7 @@ abbrev pub change_cfa : ℕ → State → Result State RecordFault
 change_cfa at s = if s.offset then Ok s else Err (faults.CfaRule at)
 
 -- remembering and restoring states, and changing a part of the CFA rule
-abbrev pub effect_of : ℕ → State → Instruction → Result State RecordFault
+abbrev pub effect_of : ℕ → State → PlacedInstruction → Result State RecordFault
 effect_of at s Remember =
     if nat_lt (length s.remembered) 8
     then Ok (record s { remembered = s.remembered ++ s.offset ∷ [] }) else Err (faults.Remember at)
@@ -231,22 +229,22 @@ effect at c s (operations.SetLocation a) =
     then Ok (record s { location = a }) else Err (faults.Location at)
 effect at c s (operations.Other i) = effect_of at s i
 
-abbrev pub instruction_of : Operation → Instruction
+abbrev pub instruction_of : Operation → PlacedInstruction
 instruction_of (operations.Advance d) = Advance
 instruction_of (operations.SetLocation a) = Advance
 instruction_of (operations.Other i) = i
 
 -- the step of an operation, with the location that holds after it, and the state after it
-abbrev pub finished : ℕ → Context → State → Operation → Part RecordFault (Step × State)
+abbrev pub finished : ℕ → Context → State → Operation → Part RecordFault (PlacedStep × State)
 finished at c s o = given (effect at c s o) >>=
     λ t. give (record { location = t.location; instruction = instruction_of o }, t)
 
 -- the step of an instruction whose byte is an extended opcode
-abbrev pub extended_step : Context → State → ℕ → ℕ → Part RecordFault (Step × State)
+abbrev pub extended_step : Context → State → ℕ → ℕ → Part RecordFault (PlacedStep × State)
 extended_step c s at b = extended_operation c at b >>= λ o. finished at c s o
 
 -- an instruction with the location that holds when it is met, and the state after it
-unfoldable pub step : Context → State → Part RecordFault (Step × State)
+unfoldable pub step : Context → State → Part RecordFault (PlacedStep × State)
 step c s = do
   at ← here
   o ← operation c
@@ -263,14 +261,14 @@ abbrev pub first_state : CieRecord → ℕ → State
 first_state c first = record { location = first; offset = c.offset; remembered = [] }
 
 -- what contracts see of a program: where it goes on, and what its instructions refer to
-pub record ProgramData : Type 0 where
+pub record PlacedProgramData : Type 0 where
   pub context : Context
   pub state : State
   pub rest : CursorData
 
 -- the steps that a program goes on with: the pairs of location and instruction that its bytes spell
-unfoldable pub HasSteps : ProgramData → List Step → Type 0
-HasSteps p steps = (t : State) × AreSteps (step p.context) p.rest.at p.state p.rest.bytes steps t
+unfoldable pub HasPlacedSteps : PlacedProgramData → List PlacedStep → Type 0
+HasPlacedSteps p steps = (t : State) × AreSteps (step p.context) p.rest.at p.state p.rest.bytes steps t
 
 -- the text that stands at an extent of the bytes
 abbrev pub IsExtent : List ℕ → Extent → List ℕ → Type 0
@@ -283,7 +281,7 @@ abbrev pub text_in : List ℕ → Extent → List ℕ
 text_in bytes e = slice_range bytes e.at e.end
 
 -- the instructions of an FDE, which start at its first address
-abbrev pub program_of : ℕ → FdeRecord → List ℕ → ProgramData
+abbrev pub program_of : ℕ → FdeRecord → List ℕ → PlacedProgramData
 program_of section f text =
     record {
       context = context_of section f.cie Own;
@@ -292,7 +290,7 @@ program_of section f text =
     }
 
 -- the initial instructions of its CIE, at that address
-abbrev pub initial_of : ℕ → FdeRecord → List ℕ → ProgramData
+abbrev pub initial_of : ℕ → FdeRecord → List ℕ → PlacedProgramData
 initial_of section f text =
     record {
       context = context_of section f.cie Initial;
@@ -304,9 +302,9 @@ initial_of section f text =
 pub record HasPrograms (section : ℕ) (bytes : List ℕ) (f : FdeRecord) : Type 0 where
   pub text : List ℕ
   pub inside : IsExtent bytes f.program text
-  pub steps : List Step
-  pub spelled : HasSteps (program_of section f text) steps
+  pub steps : List PlacedStep
+  pub spelled : HasPlacedSteps (program_of section f text) steps
   pub initial_text : List ℕ
   pub initial_inside : IsExtent bytes f.cie.initial initial_text
-  pub initial_steps : List Step
-  pub initial_spelled : HasSteps (initial_of section f initial_text) initial_steps
+  pub initial_steps : List PlacedStep
+  pub initial_spelled : HasPlacedSteps (initial_of section f initial_text) initial_steps

@@ -1,18 +1,19 @@
 //! An FDE as a part of its section.
 
-ghost use Rattle.std.specs.Prelude.{◌≡◌, ◌≤◌, List};
-ghost use Rattle.frame_parse.specs.declared.instructions.Step.{Step};
-ghost use Rattle.frame_parse.specs.Blocks.{block_in, HasExpression, HaveExpressions};
+ghost use Rattle.std.specs.Prelude.{◌≡◌, List};
+ghost use Rattle.frame_parse.specs.Blocks.{HaveExpressions};
 ghost use Rattle.frame_parse.specs.Entries.{with_cie};
-ghost use Rattle.frame_parse.specs.Programs.{HasPrograms, HasSteps, initial_of, program_of};
-ghost use Rattle.frame_parse.specs.Programs.{text_in};
+ghost use Rattle.frame_parse.specs.Instructions.{PlacedStep, StepData};
+ghost use Rattle.frame_parse.specs.Programs.{HasPrograms, HasPlacedSteps};
+ghost use Rattle.frame_parse.specs.Steps.{HasSteps, initial_in, program_in};
+ghost use Rattle.frame_parse.specs.Steps.{left_of_initial, left_of_program};
 
 use crate::instructions::{Context, ProgramKind, first_state};
+use crate::placed_program::PlacedProgram;
 use crate::program::Program;
 use crate::program_state::{Remembered, State};
 use crate::records::{CieRecord, FdeEntry};
 use eh_bytes::Cursor;
-use frame_expr::Expr;
 use std::marker::Model;
 
 /// An FDE of a section, lent from it.
@@ -95,11 +96,35 @@ impl<'a> Fde<'a> {
         self.cie.augmentation.personality
     }
 
+    /// The bytes of its section.
+    pub fn bytes(&self) -> &'a [u8]
+        ensures { result.now ≡ self.now.bytes }
+    {
+        self.bytes
+    }
+
     /// The initial instructions of its CIE, at its first address.
     pub fn initial(&self) -> Program<'a>
-        ensures program { result ≡ initial_of self.now.section self.now.entry
-            (text_in self.now.bytes self.now.entry.cie.initial) }
-        ensures known { (steps : List Step) × HasSteps result steps }
+        ensures program { result ≡ initial_in self.now }
+        ensures known { (steps : List StepData) × HasSteps result steps }
+    {
+        self.expressions_stand();
+        Program::new(self.bytes, self.placed_initial())
+    }
+
+    /// Its instructions.
+    pub fn program(&self) -> Program<'a>
+        ensures program { result ≡ program_in self.now }
+        ensures known { (steps : List StepData) × HasSteps result steps }
+    {
+        self.expressions_stand();
+        Program::new(self.bytes, self.placed_program())
+    }
+
+    /// The initial instructions of its CIE, with the places of their expressions.
+    pub fn placed_initial(&self) -> PlacedProgram<'a>
+        ensures program { result ≡ left_of_initial self.now }
+        ensures known { (steps : List PlacedStep) × HasPlacedSteps result steps }
     {
         let entry = self.entry;
         let cie = self.cie;
@@ -110,46 +135,30 @@ impl<'a> Fde<'a> {
             remembered: Remembered::new(),
         };
         let context = Context::new(self.section, cie, ProgramKind::Initial);
-        Program::new(context, state, cursor)
+        PlacedProgram::new(context, state, cursor)
     }
 
-    /// Its instructions.
-    pub fn program(&self) -> Program<'a>
-        ensures program { result ≡ program_of self.now.section self.now.entry
-            (text_in self.now.bytes self.now.entry.program) }
-        ensures known { (steps : List Step) × HasSteps result steps }
+    /// Its instructions, with the places of their expressions.
+    pub fn placed_program(&self) -> PlacedProgram<'a>
+        ensures program { result ≡ left_of_program self.now }
+        ensures known { (steps : List PlacedStep) × HasPlacedSteps result steps }
     {
         let entry = self.entry;
         let cursor = Cursor::new(self.bytes, entry.program.at, entry.program.end);
         let state = first_state(self.cie, entry.first);
         let context = Context::new(self.section, self.cie, ProgramKind::Own);
-        Program::new(context, state, cursor)
+        PlacedProgram::new(context, state, cursor)
     }
 
     /// The expressions of its instructions stand in the section's bytes, where their blocks say.
     pub fn expressions_stand(&self)
-        ensures initial { (steps : List Step)
-            → HasSteps (initial_of self.now.section self.now.entry
-            (text_in self.now.bytes self.now.entry.cie.initial)) steps
+        ensures initial { (steps : List PlacedStep)
+            → HasPlacedSteps (left_of_initial self.now) steps
             → HaveExpressions self.now.bytes steps }
-        ensures program { (steps : List Step)
-            → HasSteps (program_of self.now.section self.now.entry
-            (text_in self.now.bytes self.now.entry.program)) steps
+        ensures program { (steps : List PlacedStep)
+            → HasPlacedSteps (left_of_program self.now) steps
             → HaveExpressions self.now.bytes steps }
     {
         let _ = &self.bytes;
-    }
-
-    /// The expression in the block of an instruction, lent from the section. It was read with the
-    /// section and isn't read again: only the block's length is.
-    pub fn expr<const DEPTH: u32>(&self, block: usize) -> Expr<'a, DEPTH>
-        requires { HasExpression DEPTH self.now.bytes block }
-        ensures { result.bytes.now ≡ block_in self.now.bytes block }
-    {
-        let mut cursor = Cursor::new(self.bytes, block, self.bytes.len());
-        match cursor.uleb() {
-            Ok(length) => Expr::of_read(&cursor.rest()[..length as usize]),
-            Err(_) => unreachable!(),
-        }
     }
 }

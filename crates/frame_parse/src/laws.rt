@@ -1,13 +1,17 @@
 //! What holds along the steps of every program.
 
 ghost use Rattle.std.specs.Prelude.{List};
-ghost use Rattle.frame_parse.specs.declared.instructions.Step.{Step};
-ghost use Rattle.frame_parse.specs.Programs.{ProgramData, HasSteps};
+ghost use Rattle.frame_parse.specs.Instructions.{PlacedStep, StepData};
+ghost use Rattle.frame_parse.specs.Programs.{PlacedProgramData, HasPlacedSteps};
+ghost use Rattle.frame_parse.specs.Steps.{ProgramData, HasSteps};
 ghost use Rattle.frame_parse.specs.Order.{AreOrdered};
 
 /// Along the steps of a program the locations never fall, and only an `Advance` moves them; in a
 /// CIE they stay. At most eight states are remembered at once, and none is restored that wasn't
 /// remembered.
 pub fn steps_are_ordered()
-    ensures { (p : ProgramData) (steps : List Step) → HasSteps p steps → AreOrdered p steps }
+    ensures lent { (p : ProgramData) (steps : List StepData) → HasSteps p steps
+        → AreOrdered p.left steps }
+    ensures placed { (p : PlacedProgramData) (steps : List PlacedStep) → HasPlacedSteps p steps
+        → AreOrdered p steps }
 {}

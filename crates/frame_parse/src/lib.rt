@@ -12,6 +12,7 @@ mod fde;
 mod fde_lookup;
 mod instructions;
 mod laws;
+mod placed_program;
 mod program;
 mod program_state;
 mod records;
@@ -19,8 +20,12 @@ mod section;
 
 pub use fault::{FrameFault, RecordFault};
 pub use fde::Fde;
-pub use instructions::{Context, Instruction, Operation, ProgramKind, ReadRule, Step};
+pub use instructions::{
+    Context, Instruction, InstructionWith, Operation, PlacedInstruction, PlacedReadRule,
+    PlacedStep, ProgramKind, ReadRule, ReadRuleWith, Step, StepWith, lent_expr,
+};
 pub use laws::steps_are_ordered;
+pub use placed_program::PlacedProgram;
 pub use program::Program;
 pub use program_state::{Remembered, State};
 pub use records::{Augmentation, CieRecord, Entry, Extent, FdeEntry};

@@ -4,6 +4,7 @@
 ghost use Rattle.std.specs.Prelude.{◌≤◌, ◌<◌, length};
 
 use super::*;
+use frame_expr::{CfaExpr, ColumnExpr};
 use std::alloc::Global;
 use std::test::*;
 
@@ -202,7 +203,7 @@ fn damaged_sections(rt: HostRuntime) {
 }
 
 /// All steps of a program.
-fn steps_of(alloc: Global, mut program: Program) -> Result<Vec<Step>, Fail> {
+fn steps_of<'a>(alloc: Global, mut program: Program<'a>) -> Result<Vec<Step<'a>>, Fail> {
     let mut steps = Vec::new(alloc);
     for _ in 0..64 {
         match program.next() {
@@ -213,7 +214,7 @@ fn steps_of(alloc: Global, mut program: Program) -> Result<Vec<Step>, Fail> {
     Err(Fail::from("the program has no end"))
 }
 
-fn at(location: u64, instruction: Instruction) -> Step {
+fn at<'a>(location: u64, instruction: Instruction<'a>) -> Step<'a> {
     Step {
         location,
         instruction,
@@ -281,33 +282,47 @@ fn expressions(rt: HostRuntime) {
     }
 }
 
-/// The steps of S2 and S3, which name the places of their expressions.
+/// The expression of a linkage table: column 7 plus 8, and 8 more where column 16 is inside an
+/// entry, behind its push.
+const LINKAGE: [u8; 11] = [
+    0x77, 0x08, 0x80, 0x00, 0x3f, 0x1a, 0x3b, 0x2a, 0x33, 0x24, 0x22,
+];
+
 #[test]
-fn steps_with_expressions(rt: HostRuntime) -> Result<(), Fail> {
+fn steps_with_an_expression_of_the_cfa(rt: HostRuntime) -> Result<(), Fail> {
+    let expr = CfaExpr::read(&LINKAGE).ok().ok_or("an expression")?;
     let s2 = read(rt.alloc(), 0x3000, &S2)?;
     let fde = s2.fde_at(0x1000).ok_or("an FDE covers the address")?;
     assert_eq!(rt; fde.range(), 0x30);
     let program = steps_of(rt.alloc(), fde.program())?;
-    let block = 48;
     let shown = [
         at(0x1000, Instruction::CfaOffset { by: 16 }),
         at(0x1006, Instruction::Advance),
         at(0x1006, Instruction::CfaOffset { by: 24 }),
         at(0x1010, Instruction::Advance),
-        at(0x1010, Instruction::CfaExpression { block }),
+        at(0x1010, Instruction::CfaExpression { expr }),
         at(0x1010, Instruction::Nop),
         at(0x1010, Instruction::Nop),
         at(0x1010, Instruction::Nop),
         at(0x1010, Instruction::Nop),
     ];
     assert_eq!(rt; program.as_slice(), shown.as_slice());
+    Ok(())
+}
+
+#[test]
+fn steps_with_an_expression_of_a_column(rt: HostRuntime) -> Result<(), Fail> {
+    let cfa = CfaExpr::read(&[0x77, 0x10, 0x06])
+        .ok()
+        .ok_or("an expression")?;
+    let column = ColumnExpr::read(&[0x77, 0x18]).ok().ok_or("an expression")?;
     let s3 = read(rt.alloc(), 0x6000, &S3)?;
     let fde = s3.fde_at(0x5000).ok_or("an FDE covers the address")?;
     assert_eq!(rt; fde.range(), 0x10);
     let program = steps_of(rt.alloc(), fde.program())?;
-    let rule = ReadRule::Expression { block: 48 };
+    let rule = ReadRule::Expression { expr: column };
     let shown = [
-        at(0x5000, Instruction::CfaExpression { block: 42 }),
+        at(0x5000, Instruction::CfaExpression { expr: cfa }),
         at(0x5000, Instruction::Set { column: 16, rule }),
         at(0x5000, Instruction::Nop),
     ];

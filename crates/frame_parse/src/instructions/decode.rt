@@ -2,14 +2,14 @@
 
 ghost use Rattle.std.specs.Prelude.{◌≡◌, ◌<◌, ◌≤◌, ◌*◌, ◌%◌, ◌^◌, ◌⊎◌, nat_lt, if◌then◌else◌, IfOk};
 ghost use Rattle.eh_bytes.specs.CursorData.{Gives};
-ghost use Rattle.frame_parse.specs.declared.instructions.ReadRule.TheVariants as rules;
+ghost use Rattle.frame_parse.specs.declared.instructions.ReadRuleWith.TheVariants as rules;
 ghost use Rattle.frame_parse.specs.Programs.{other, factored, set, restore, cfa_column};
 ghost use Rattle.frame_parse.specs.Programs.{second_column, extended_operation};
 
 use super::blocks::{column_block, expression_block};
 use super::context::Context;
 use super::opcodes::*;
-use super::{Instruction, Operation, ReadRule};
+use super::{Operation, PlacedInstruction, PlacedReadRule};
 use crate::fault::RecordFault;
 use crate::records::fields::{self, four_bytes, pointer, sleb, two_bytes, uleb};
 use eh_bytes::Cursor;
@@ -24,13 +24,13 @@ pub(super) fn factored(context: &Context, number: u64) -> u64
 
 /// A rule for a column, which is applied up to column 16.
 #[inline(always)]
-pub(super) fn set(column: u64, rule: ReadRule) -> Instruction
+pub(super) fn set(column: u64, rule: PlacedReadRule) -> PlacedInstruction
     ensures { result ≡ set column rule }
 {
     if column > 16 {
-        Instruction::Nop
+        PlacedInstruction::Nop
     } else {
-        Instruction::Set {
+        PlacedInstruction::Set {
             column: column as u8,
             rule,
         }
@@ -39,13 +39,13 @@ pub(super) fn set(column: u64, rule: ReadRule) -> Instruction
 
 /// The initial rule of a column, which is applied up to column 16.
 #[inline(always)]
-pub(super) fn restore(column: u64) -> Instruction
+pub(super) fn restore(column: u64) -> PlacedInstruction
     ensures { result ≡ restore column }
 {
     if column > 16 {
-        Instruction::Nop
+        PlacedInstruction::Nop
     } else {
-        Instruction::Restore {
+        PlacedInstruction::Restore {
             column: column as u8,
         }
     }
@@ -83,16 +83,16 @@ fn second_column(cursor: &mut Cursor, first: u64) -> Result<u64, RecordFault>
 
 /// A rule that takes a column from another.
 #[inline(always)]
-fn register(first: u64, second: u64) -> Instruction
+fn register(first: u64, second: u64) -> PlacedInstruction
     requires { 16 < first ⊎ second < 17 }
     ensures { result ≡ set first (rules.Register second) }
 {
     if first > 16 {
-        Instruction::Nop
+        PlacedInstruction::Nop
     } else {
         set(
             first,
-            ReadRule::Register {
+            PlacedReadRule::Register {
                 column: second as u8,
             },
         )
@@ -100,7 +100,7 @@ fn register(first: u64, second: u64) -> Instruction
 }
 
 #[inline(always)]
-fn other(instruction: Instruction) -> Operation
+fn other(instruction: PlacedInstruction) -> Operation
     ensures { result ≡ other instruction }
 {
     Operation::Other { instruction }
@@ -119,7 +119,7 @@ pub(super) fn extended_operation(
         cursor.new }
 {
     match byte {
-        DW_CFA_nop => Ok(other(Instruction::Nop)),
+        DW_CFA_nop => Ok(other(PlacedInstruction::Nop)),
         DW_CFA_set_loc => {
             let address = pointer(cursor, context.section, context.pointers)?;
             Ok(Operation::SetLocation { address })
@@ -136,67 +136,67 @@ pub(super) fn extended_operation(
         DW_CFA_offset_extended => {
             let column = uleb(cursor)?;
             let by = factored(context, uleb(cursor)?);
-            Ok(other(set(column, ReadRule::Offset { by })))
+            Ok(other(set(column, PlacedReadRule::Offset { by })))
         }
         DW_CFA_restore_extended => Ok(other(restore(uleb(cursor)?))),
-        DW_CFA_undefined => Ok(other(set(uleb(cursor)?, ReadRule::Undefined))),
-        DW_CFA_same_value => Ok(other(set(uleb(cursor)?, ReadRule::Same))),
+        DW_CFA_undefined => Ok(other(set(uleb(cursor)?, PlacedReadRule::Undefined))),
+        DW_CFA_same_value => Ok(other(set(uleb(cursor)?, PlacedReadRule::Same))),
         DW_CFA_register => {
             let first = uleb(cursor)?;
             let second = second_column(cursor, first)?;
             Ok(other(register(first, second)))
         }
-        DW_CFA_remember_state => Ok(other(Instruction::Remember)),
-        DW_CFA_restore_state => Ok(other(Instruction::RestoreState)),
+        DW_CFA_remember_state => Ok(other(PlacedInstruction::Remember)),
+        DW_CFA_restore_state => Ok(other(PlacedInstruction::RestoreState)),
         DW_CFA_def_cfa => {
             let column = cfa_column(cursor)?;
             let by = uleb(cursor)?;
-            Ok(other(Instruction::Cfa { column, by }))
+            Ok(other(PlacedInstruction::Cfa { column, by }))
         }
-        DW_CFA_def_cfa_register => Ok(other(Instruction::CfaColumn {
+        DW_CFA_def_cfa_register => Ok(other(PlacedInstruction::CfaColumn {
             column: cfa_column(cursor)?,
         })),
-        DW_CFA_def_cfa_offset => Ok(other(Instruction::CfaOffset { by: uleb(cursor)? })),
-        DW_CFA_def_cfa_expression => Ok(other(Instruction::CfaExpression {
-            block: expression_block::<0>(cursor)?,
+        DW_CFA_def_cfa_offset => Ok(other(PlacedInstruction::CfaOffset { by: uleb(cursor)? })),
+        DW_CFA_def_cfa_expression => Ok(other(PlacedInstruction::CfaExpression {
+            expr: expression_block::<0>(cursor)?,
         })),
         DW_CFA_expression => {
             let column = uleb(cursor)?;
             let block = column_block(cursor, column)?;
-            Ok(other(set(column, ReadRule::Expression { block })))
+            Ok(other(set(column, PlacedReadRule::Expression { expr: block })))
         }
         DW_CFA_offset_extended_sf => {
             let column = uleb(cursor)?;
             let by = factored(context, sleb(cursor)?.cast_unsigned());
-            Ok(other(set(column, ReadRule::Offset { by })))
+            Ok(other(set(column, PlacedReadRule::Offset { by })))
         }
         DW_CFA_def_cfa_sf => {
             let column = cfa_column(cursor)?;
             let by = factored(context, sleb(cursor)?.cast_unsigned());
-            Ok(other(Instruction::Cfa { column, by }))
+            Ok(other(PlacedInstruction::Cfa { column, by }))
         }
         DW_CFA_def_cfa_offset_sf => {
             let by = factored(context, sleb(cursor)?.cast_unsigned());
-            Ok(other(Instruction::CfaOffset { by }))
+            Ok(other(PlacedInstruction::CfaOffset { by }))
         }
         DW_CFA_val_offset => {
             let column = uleb(cursor)?;
             let by = factored(context, uleb(cursor)?);
-            Ok(other(set(column, ReadRule::ValOffset { by })))
+            Ok(other(set(column, PlacedReadRule::ValOffset { by })))
         }
         DW_CFA_val_offset_sf => {
             let column = uleb(cursor)?;
             let by = factored(context, sleb(cursor)?.cast_unsigned());
-            Ok(other(set(column, ReadRule::ValOffset { by })))
+            Ok(other(set(column, PlacedReadRule::ValOffset { by })))
         }
         DW_CFA_val_expression => {
             let column = uleb(cursor)?;
             let block = column_block(cursor, column)?;
-            Ok(other(set(column, ReadRule::ValExpression { block })))
+            Ok(other(set(column, PlacedReadRule::ValExpression { expr: block })))
         }
         DW_CFA_GNU_args_size => {
             let _size = uleb(cursor)?;
-            Ok(other(Instruction::Nop))
+            Ok(other(PlacedInstruction::Nop))
         }
         _ => Err(RecordFault::Opcode { at, byte }),
     }

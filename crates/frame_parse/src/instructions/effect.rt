@@ -2,17 +2,19 @@
 
 ghost use Rattle.std.specs.Prelude.{◌≡◌, ◌<◌, ◌+◌, ◌*◌, ◌^◌, nat_lt, if◌then◌else◌, Some, None};
 ghost use Rattle.eh_bytes.specs.Results.{Leaves};
+ghost use Rattle.frame_parse.specs.declared.instructions.InstructionWith.TheVariants.{Remember};
+ghost use Rattle.frame_parse.specs.declared.instructions.InstructionWith.TheVariants.{RestoreState};
 ghost use Rattle.frame_parse.specs.Programs.{change_cfa, effect_of, effect};
 
 use super::context::Context;
-use super::{Instruction, Operation};
+use super::{Operation, PlacedInstruction};
 use crate::fault::RecordFault;
 use crate::program_state::State;
 
 /// Remembers whether the CFA rule is a column plus an offset.
 #[inline(always)]
 pub(super) fn remember(at: usize, state: &mut State) -> Result<(), RecordFault>
-    ensures { Leaves (effect_of at state.old Instruction.Remember) result state.new }
+    ensures { Leaves (effect_of at state.old Remember) result state.new }
 {
     if state.remembered.len() == 8 {
         return Err(RecordFault::Remember { at });
@@ -24,7 +26,7 @@ pub(super) fn remember(at: usize, state: &mut State) -> Result<(), RecordFault>
 /// Takes back what was remembered last.
 #[inline(always)]
 pub(super) fn restore_state(at: usize, state: &mut State) -> Result<(), RecordFault>
-    ensures { Leaves (effect_of at state.old Instruction.RestoreState) result state.new }
+    ensures { Leaves (effect_of at state.old RestoreState) result state.new }
 {
     if state.remembered.len() == 0 {
         return Err(RecordFault::Remember { at });
@@ -47,25 +49,31 @@ pub(super) fn change_cfa(at: usize, state: &State) -> Result<(), RecordFault>
 
 /// What an instruction changes for those after it.
 #[inline(always)]
-fn effect_of(at: usize, state: &mut State, instruction: &Instruction) -> Result<(), RecordFault>
+fn effect_of(
+    at: usize,
+    state: &mut State,
+    instruction: &PlacedInstruction,
+) -> Result<(), RecordFault>
     ensures { Leaves (effect_of at state.old instruction.now) result state.new }
 {
     match instruction {
-        Instruction::Remember => remember(at, state),
-        Instruction::RestoreState => restore_state(at, state),
-        Instruction::Cfa { .. } => {
+        PlacedInstruction::Remember => remember(at, state),
+        PlacedInstruction::RestoreState => restore_state(at, state),
+        PlacedInstruction::Cfa { .. } => {
             state.offset = true;
             Ok(())
         }
-        Instruction::CfaExpression { .. } => {
+        PlacedInstruction::CfaExpression { .. } => {
             state.offset = false;
             Ok(())
         }
-        Instruction::CfaColumn { .. } | Instruction::CfaOffset { .. } => { change_cfa(at, state) }
-        Instruction::Nop
-        | Instruction::Advance
-        | Instruction::Set { .. }
-        | Instruction::Restore { .. } => Ok(()),
+        PlacedInstruction::CfaColumn { .. } | PlacedInstruction::CfaOffset { .. } => {
+            change_cfa(at, state)
+        }
+        PlacedInstruction::Nop
+        | PlacedInstruction::Advance
+        | PlacedInstruction::Set { .. }
+        | PlacedInstruction::Restore { .. } => Ok(()),
     }
 }
 

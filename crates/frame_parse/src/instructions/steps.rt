@@ -10,7 +10,7 @@ use super::context::Context;
 use super::decode::{cfa_column, extended_operation, factored, restore, set};
 use super::effect::{advance, change_cfa, effect, remember, restore_state};
 use super::opcodes::*;
-use super::{Instruction, Operation, ReadRule, Step};
+use super::{Operation, PlacedInstruction, PlacedReadRule, PlacedStep};
 use crate::fault::RecordFault;
 use crate::program_state::{Remembered, State};
 use crate::records::CieRecord;
@@ -18,21 +18,21 @@ use crate::records::fields::{self, uleb};
 use eh_bytes::Cursor;
 
 #[inline(always)]
-fn instruction_of(operation: &Operation) -> Instruction
+fn instruction_of(operation: &Operation) -> PlacedInstruction
     ensures { result ≡ instruction_of operation.now }
 {
     match operation {
-        Operation::Advance { .. } | Operation::SetLocation { .. } => Instruction::Advance,
+        Operation::Advance { .. } | Operation::SetLocation { .. } => PlacedInstruction::Advance,
         Operation::Other { instruction } => *instruction,
     }
 }
 
 /// An instruction where it is met.
 #[inline(always)]
-fn here(state: &State, instruction: Instruction) -> Step
+fn here(state: &State, instruction: PlacedInstruction) -> PlacedStep
     ensures { result ≡ record { location = state.now.location; instruction = instruction } }
 {
-    Step {
+    PlacedStep {
         location: state.location,
         instruction,
     }
@@ -46,7 +46,7 @@ fn decoded_step(
     state: &mut State,
     at: usize,
     byte: u8,
-) -> Result<Step, RecordFault>
+) -> Result<PlacedStep, RecordFault>
     ensures { Gives (λ x. (x, state.new)) (extended_step context.now state.old at byte).read
         cursor.old result cursor.new }
 {
@@ -64,7 +64,7 @@ fn step_by_operation(
     state: &mut State,
     at: usize,
     byte: u8,
-) -> Result<Step, RecordFault>
+) -> Result<PlacedStep, RecordFault>
     ensures { Gives (λ x. (x, state.new)) (extended_step context.now state.old at byte).read
         cursor.old result cursor.new }
 {
@@ -81,30 +81,30 @@ fn extended_step(
     state: &mut State,
     at: usize,
     byte: u8,
-) -> Result<Step, RecordFault>
+) -> Result<PlacedStep, RecordFault>
     ensures { Gives (λ x. (x, state.new)) (extended_step context.now state.old at byte).read
         cursor.old result cursor.new }
 {
     match byte {
-        DW_CFA_nop => Ok(here(state, Instruction::Nop)),
+        DW_CFA_nop => Ok(here(state, PlacedInstruction::Nop)),
         DW_CFA_advance_loc1 => {
             let delta = fields::byte(cursor)? as u64;
             advance(context, at, state, delta)?;
-            Ok(here(state, Instruction::Advance))
+            Ok(here(state, PlacedInstruction::Advance))
         }
         DW_CFA_remember_state => {
             remember(at, state)?;
-            Ok(here(state, Instruction::Remember))
+            Ok(here(state, PlacedInstruction::Remember))
         }
         DW_CFA_restore_state => {
             restore_state(at, state)?;
-            Ok(here(state, Instruction::RestoreState))
+            Ok(here(state, PlacedInstruction::RestoreState))
         }
         DW_CFA_def_cfa => {
             let column = cfa_column(cursor)?;
             let by = uleb(cursor)?;
             state.offset = true;
-            Ok(here(state, Instruction::Cfa { column, by }))
+            Ok(here(state, PlacedInstruction::Cfa { column, by }))
         }
         _ => step_by_operation(context, cursor, state, at, byte),
     }
@@ -120,7 +120,7 @@ pub(crate) fn step(
     context: &Context,
     cursor: &mut Cursor,
     state: &mut State,
-) -> Result<Step, RecordFault>
+) -> Result<PlacedStep, RecordFault>
     ensures { Gives (λ x. (x, state.new)) (step context.now state.old).read
         cursor.old result cursor.new }
 {
@@ -130,16 +130,16 @@ pub(crate) fn step(
     let high = byte / 64;
     if high == DW_CFA_advance_loc {
         advance(context, at, state, low as u64)?;
-        Ok(here(state, Instruction::Advance))
+        Ok(here(state, PlacedInstruction::Advance))
     } else if byte == DW_CFA_def_cfa_offset {
         let by = uleb(cursor)?;
         change_cfa(at, state)?;
-        Ok(here(state, Instruction::CfaOffset { by }))
+        Ok(here(state, PlacedInstruction::CfaOffset { by }))
     } else {
         match high {
             DW_CFA_offset => {
                 let by = factored(context, uleb(cursor)?);
-                Ok(here(state, set(low as u64, ReadRule::Offset { by })))
+                Ok(here(state, set(low as u64, PlacedReadRule::Offset { by })))
             }
             DW_CFA_restore => Ok(here(state, restore(low as u64))),
             _ => extended_step(context, cursor, state, at, byte),

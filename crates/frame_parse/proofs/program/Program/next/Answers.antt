@@ -1,54 +1,18 @@
-use Rattle.std.proofs.Common.{◌<◌, length, ap, arith}
-use Rattle.frame_parse.specs.Programs.{HasSteps, ProgramData, step}
-use Rattle.frame_parse.proofs.ProgramParts.{steps_sound}
-use Rattle.eh_bytes.proofs.Steps.{step_shrinks}
-use Rattle.frame_parse.proofs.StepsLeft.{nothing_left, next_left, none_refused, left_by}
+use Rattle.std.proofs.Common.{◌∷◌, ap, sym, ◌∙◌}
+use Rattle.frame_parse.specs.Instructions.{StepData}
+use Rattle.frame_parse.specs.Steps.{ProgramData, HasSteps}
+use Rattle.frame_parse.proofs.LentSteps.{next_lent, none_lent}
 use Rattle.frame_parse.proofs.program.Program.next.Goals as goal
-use Rattle.frame_parse.proofs.program.Program.next.Goals.{in-Ok, in-Err}
-
-pub returns-then-left-eq0-clause-steps : goal.returns-then-left-eq0-clause-steps
-returns-then-left-eq0-clause-steps c = λ steps has.
-    let p = c.self.inside in
-    let was : ProgramData = record { context = p.context; state = p.state; rest = p.cursor } in
-    let here : HasSteps was steps = rw (← c.self.view_is) at has in
-    nothing_left was steps (omega (arith, c.left.ensures, c.if-left-eq0.true)) here
-
-pub invariant_of-self : goal.invariant_of-self
-invariant_of-self c =
-    let p = c.self.inside in
-    let was : ProgramData = record { context = p.context; state = p.state; rest = p.cursor } in
-    let some : 0 < length p.cursor.bytes = omega (arith, c.left.ensures, c.if-left-eq0.false) in
-    left_by was c.self.invariant.0 c.step.result c.step.new.state c.step.new.cursor some c.self.invariant.1 c.step.ensures
+use Rattle.frame_parse.proofs.program.Program.next.Goals.{in-Some, in-None}
 
 pub returns-clause-steps : goal.returns-clause-steps
 returns-clause-steps c = λ steps has.
     let p = c.self.inside in
-    let was : ProgramData = record { context = p.context; state = p.state; rest = p.cursor } in
+    let was : ProgramData = record { bytes = p.bytes.now; left = p.left } in
     let here : HasSteps was steps = rw (← c.self.view_is) at has in
-    let some : 0 < length p.cursor.bytes = omega (arith, c.left.ensures, c.if-left-eq0.false) in
-    elim c.match-step.branch [
-      | in-Ok w ↦ rw w.result-is (next_left was steps w.in-Ok.step c.step.new.state c.step.new.cursor some here w.in-Ok.ensures)
-      | in-Err w ↦ absurd (none_refused was steps w.in-Err.field-0 some here w.in-Err.ensures)
-    ]
-
-pub returns-clause-shrinks : goal.returns-clause-shrinks
-returns-clause-shrinks c =
-    let p = c.self.inside in
-    let one = step p.context in
-    let sound = steps_sound p.context in
-    elim c.match-step.branch [
-      | in-Ok w ↦
-          let shorter = step_shrinks one p.state p.cursor (w.in-Ok.step, c.step.new.state) c.step.new.cursor sound w.in-Ok.ensures in
-          rw w.result-is (omega (arith, shorter, ap (λ (k : ProgramData). length k.rest.bytes) c.self.view_is))
-      | in-Err w ↦ rw w.result-is tt
-    ]
-
-pub returns-clause-end : goal.returns-clause-end
-returns-clause-end c =
-    let p = c.self.inside in
-    let was : ProgramData = record { context = p.context; state = p.state; rest = p.cursor } in
-    let some : 0 < length p.cursor.bytes = omega (arith, c.left.ensures, c.if-left-eq0.false) in
-    elim c.match-step.branch [
-      | in-Ok w ↦ rw w.result-is tt
-      | in-Err w ↦ absurd (none_refused was c.self.invariant.0 w.in-Err.field-0 some c.self.invariant.1 w.in-Err.ensures)
+    elim c.match-next.branch [
+      | in-Some w ↦
+          let n = next_lent p.bytes.now p.left c.next.new.self w.in-Some.step steps w.in-Some.ensures.steps here in
+          rw w.result-is (n.0, n.1 ∙ ap (λ (x : StepData). x ∷ n.0) (sym w.lent_step.ensures), n.2)
+      | in-None w ↦ rw w.result-is (none_lent p.bytes.now p.left steps w.in-None.ensures.steps here)
     ]
