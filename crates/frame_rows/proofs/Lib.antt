@@ -2,3 +2,5 @@ pub mod Onward
 pub mod Agreement
 pub mod BothPrograms
 pub mod Expressions
+pub mod Told
+pub mod LentRows

@@ -1,12 +1,11 @@
 -- Single steps of a walk, over plain rows and programs.
 use Rattle.std.proofs.Common.{◌≡◌, ℕ, ◌<◌, ◌≤◌, List, [], ◌∷◌, length, nat_le, true, false, refl, sym, ap, subst, ◌∙◌, arith}
 use Rattle.std.proofs.lemmas.Bool.{le-leb, lt-leb}
-use Rattle.frame_parse.specs.declared.instructions.Instruction.{Instruction}
-use Rattle.frame_parse.specs.declared.instructions.Instruction.TheVariants.{Nop, Advance, Set, Restore, Remember, RestoreState, Cfa, CfaColumn, CfaOffset, CfaExpression}
-use Rattle.frame_parse.specs.declared.instructions.Step.{Step}
-use Rattle.frame_parse.specs.Programs.{ProgramData, HasSteps}
+use Rattle.frame_parse.specs.Instructions.{PlacedInstruction, PlacedStep}
+use Rattle.frame_parse.specs.declared.instructions.InstructionWith.TheVariants.{Nop, Advance, Set, Restore, Remember, RestoreState, Cfa, CfaColumn, CfaOffset, CfaExpression}
+use Rattle.frame_parse.specs.Programs.{PlacedProgramData, HasPlacedSteps}
 use Rattle.frame_parse.specs.Order.{Moves, IsAscendingFrom, IsBalanced, MayStandAt, remembered_after}
-use Rattle.frame_rows.specs.declared.row.Row.{Row}
+use Rattle.frame_rows.specs.declared.placed_row.PlacedRow.{PlacedRow}
 use Rattle.frame_rows.specs.declared.walk.Stop.{Stop}
 use Rattle.frame_rows.specs.declared.walk.Stop.TheVariants.{End, Restored}
 use Rattle.frame_rows.specs.Columns.{up_to}
@@ -14,16 +13,16 @@ use Rattle.frame_rows.specs.Rows.{Rows, applied, beside, rows_step, rows_after}
 use Rattle.frame_rows.specs.Walk.{GoesOn, ComesTo, TakesBack, Walks}
 
 -- the next step of p is x, and q is what is left
-abbrev pub Gives : ProgramData → Step → ProgramData → Type 0
-Gives p x q = (steps : List Step) → HasSteps p steps → (more : List Step) × (steps ≡ x ∷ more) × HasSteps q more
+abbrev pub Gives : PlacedProgramData → PlacedStep → PlacedProgramData → Type 0
+Gives p x q = (steps : List PlacedStep) → HasPlacedSteps p steps → (more : List PlacedStep) × (steps ≡ x ∷ more) × HasPlacedSteps q more
 
 -- ---- the steps that are left
 
 -- a step that isn't above the address, as far as its instruction leaves that open
-abbrev pub IsReached : ℕ → Step → Type 0
+abbrev pub IsReached : ℕ → PlacedStep → Type 0
 IsReached pc x = x.instruction ≡ Advance → x.location ≤ pc
 
-upward : (i : Instruction) (k l : ℕ) → Moves i k l → k ≤ l
+upward : (i : PlacedInstruction) (k l : ℕ) → Moves i k l → k ≤ l
 upward Advance k l m = m
 upward Nop k l m = omega arith
 upward (Set q rule) k l m = omega arith
@@ -36,7 +35,7 @@ upward (CfaOffset n) k l m = omega arith
 upward (CfaExpression e) k l m = omega arith
 
 -- only an Advance leads past an address
-within : (i : Instruction) (pc k l : ℕ) → Moves i k l → k ≤ pc → (i ≡ Advance → l ≤ pc) → l ≤ pc
+within : (i : PlacedInstruction) (pc k l : ℕ) → Moves i k l → k ≤ pc → (i ≡ Advance → l ≤ pc) → l ≤ pc
 within Advance pc k l m le reached = reached refl
 within Nop pc k l m le reached = omega arith
 within (Set q rule) pc k l m le reached = omega arith
@@ -48,29 +47,29 @@ within (CfaColumn q) pc k l m le reached = omega arith
 within (CfaOffset n) pc k l m le reached = omega arith
 within (CfaExpression e) pc k l m le reached = omega arith
 
-pub none_up_to : (pc l : ℕ) (xs : List Step) → pc < l → IsAscendingFrom l xs → up_to pc xs ≡ []
+pub none_up_to : (pc l : ℕ) (xs : List PlacedStep) → pc < l → IsAscendingFrom l xs → up_to pc xs ≡ []
 none_up_to pc l [] lt a = refl
 none_up_to pc l (x ∷ xs) lt a =
     let up = upward x.instruction l x.location a.0 in
     let above : nat_le x.location pc ≡ false = lt-leb _ _ (omega (arith, up)) in
     rw above (none_up_to pc x.location xs (omega (arith, up)) a.1)
 
-not_advance : (pc : ℕ) (x : Step) (i : Instruction) → x.instruction ≡ i → (i ≡ Advance → ⊥) → IsReached pc x
+not_advance : (pc : ℕ) (x : PlacedStep) (i : PlacedInstruction) → x.instruction ≡ i → (i ≡ Advance → ⊥) → IsReached pc x
 not_advance pc x i is never = λ e. absurd (never (sym is ∙ e))
 
-record Next (x : Step) (q : ProgramData) (pc depth : ℕ) (steps : List Step) : Type 0 where
-  more : List Step
+record Next (x : PlacedStep) (q : PlacedProgramData) (pc depth : ℕ) (steps : List PlacedStep) : Type 0 where
+  more : List PlacedStep
   are : steps ≡ x ∷ more
   on : x.location ≤ pc → GoesOn q pc (remembered_after depth x.instruction) more
   may : MayStandAt depth x.instruction
   above : IsAscendingFrom x.location more
   stays : IsReached pc x → x.location ≤ pc
 
-next_of : (p q : ProgramData) (x : Step) (pc depth : ℕ) (steps : List Step) → Gives p x q → GoesOn p pc depth steps → Next x q pc depth steps
+next_of : (p q : PlacedProgramData) (x : PlacedStep) (pc depth : ℕ) (steps : List PlacedStep) → Gives p x q → GoesOn p pc depth steps → Next x q pc depth steps
 next_of p q x pc depth steps gives g =
     let n = gives steps g.has in
-    let ascending : IsAscendingFrom g.location (x ∷ n.0) = subst (λ (l : List Step). IsAscendingFrom g.location l) n.1 g.ascending in
-    let balanced : IsBalanced depth (x ∷ n.0) = subst (λ (l : List Step). IsBalanced depth l) n.1 g.balanced in
+    let ascending : IsAscendingFrom g.location (x ∷ n.0) = subst (λ (l : List PlacedStep). IsAscendingFrom g.location l) n.1 g.ascending in
+    let balanced : IsBalanced depth (x ∷ n.0) = subst (λ (l : List PlacedStep). IsBalanced depth l) n.1 g.balanced in
     record {
       more = n.0;
       are = n.1;
@@ -80,23 +79,23 @@ next_of p q x pc depth steps gives g =
       stays = within x.instruction pc g.location x.location ascending.0 g.reached;
     }
 
-rows_on : (base : Row) (pc : ℕ) (s : Rows) (x : Step) (more steps : List Step) → steps ≡ x ∷ more → x.location ≤ pc → rows_after base pc s steps ≡ rows_after base pc (rows_step base s x.instruction) more
+rows_on : (base : PlacedRow) (pc : ℕ) (s : Rows) (x : PlacedStep) (more steps : List PlacedStep) → steps ≡ x ∷ more → x.location ≤ pc → rows_after base pc s steps ≡ rows_after base pc (rows_step base s x.instruction) more
 rows_on base pc s x more steps are le =
     let here : nat_le x.location pc ≡ true = le-leb _ _ le in
-    ap (λ (l : List Step). rows_after base pc s l) are ∙ rw here refl
+    ap (λ (l : List PlacedStep). rows_after base pc s l) are ∙ rw here refl
 
 -- ---- how a walk goes on
 
-pub leads_here : (base : Row) (pc : ℕ) (p : ProgramData) (row : Row) → ComesTo base pc p row p row
+pub leads_here : (base : PlacedRow) (pc : ℕ) (p : PlacedProgramData) (row : PlacedRow) → ComesTo base pc p row p row
 leads_here base pc p row = λ steps below g. record { more = steps; on = g; same = refl }
 
-pub leads_on : (base : Row) (pc : ℕ) (p q r : ProgramData) (row other last : Row) → ComesTo base pc p row q other → ComesTo base pc q other r last → ComesTo base pc p row r last
+pub leads_on : (base : PlacedRow) (pc : ℕ) (p q r : PlacedProgramData) (row other last : PlacedRow) → ComesTo base pc p row q other → ComesTo base pc q other r last → ComesTo base pc p row r last
 leads_on base pc p q r row other last a b = λ steps below g.
     let one = a steps below g in
     let two = b one.more below one.on in
     record { more = two.more; on = two.on; same = one.same ∙ two.same }
 
-pub leads_stop : (base : Row) (pc : ℕ) (p q r : ProgramData) (row other last : Row) (stop : Stop) → ComesTo base pc p row q other → Walks base pc q other stop r last → Walks base pc p row stop r last
+pub leads_stop : (base : PlacedRow) (pc : ℕ) (p q r : PlacedProgramData) (row other last : PlacedRow) (stop : Stop) → ComesTo base pc p row q other → Walks base pc q other stop r last → Walks base pc p row stop r last
 leads_stop base pc p q r row other last End a b = λ steps below g.
     let one = a steps below g in
     ap (λ (s : Rows). s.row) one.same ∙ b one.more below one.on
@@ -106,11 +105,11 @@ leads_stop base pc p q r row other last Restored a b = λ steps below g.
     record { last = two.last; others = two.others; are = two.are; onward = record { more = two.onward.more; on = two.onward.on; same = one.same ∙ two.onward.same } }
 
 -- an instruction that changes the row alone
-record IsPlain (i : Instruction) : Type 0 where
+record IsPlain (i : PlacedInstruction) : Type 0 where
   flat : (depth : ℕ) → remembered_after depth i ≡ depth
-  stays : (base row : Row) (below : List Row) → rows_step base (beside row below) i ≡ beside (applied base row i) below
+  stays : (base row : PlacedRow) (below : List PlacedRow) → rows_step base (beside row below) i ≡ beside (applied base row i) below
 
-plain : (i : Instruction) → (i ≡ Remember → ⊥) → (i ≡ RestoreState → ⊥) → IsPlain i
+plain : (i : PlacedInstruction) → (i ≡ Remember → ⊥) → (i ≡ RestoreState → ⊥) → IsPlain i
 plain Nop a b = record { flat = λ d. refl; stays = λ base row below. refl }
 plain Advance a b = record { flat = λ d. refl; stays = λ base row below. refl }
 plain (Set q rule) a b = record { flat = λ d. refl; stays = λ base row below. refl }
@@ -122,7 +121,7 @@ plain (CfaColumn q) a b = record { flat = λ d. refl; stays = λ base row below.
 plain (CfaOffset n) a b = record { flat = λ d. refl; stays = λ base row below. refl }
 plain (CfaExpression e) a b = record { flat = λ d. refl; stays = λ base row below. refl }
 
-pub leads_plain : (base : Row) (pc : ℕ) (p q : ProgramData) (row : Row) (x : Step) → Gives p x q → IsReached pc x → (x.instruction ≡ Remember → ⊥) → (x.instruction ≡ RestoreState → ⊥)
+pub leads_plain : (base : PlacedRow) (pc : ℕ) (p q : PlacedProgramData) (row : PlacedRow) (x : PlacedStep) → Gives p x q → IsReached pc x → (x.instruction ≡ Remember → ⊥) → (x.instruction ≡ RestoreState → ⊥)
     → ComesTo base pc p row q (applied base row x.instruction)
 leads_plain base pc p q row x gives reached a b =
     let i = plain x.instruction a b in
@@ -136,13 +135,13 @@ leads_plain base pc p q row x gives reached a b =
     }
 
 -- after an Advance that doesn't lead past the address
-pub leads_advance : (base : Row) (pc : ℕ) (p q : ProgramData) (row : Row) (x : Step) → Gives p x q → x.location ≤ pc → x.instruction ≡ Advance → ComesTo base pc p row q row
+pub leads_advance : (base : PlacedRow) (pc : ℕ) (p q : PlacedProgramData) (row : PlacedRow) (x : PlacedStep) → Gives p x q → x.location ≤ pc → x.instruction ≡ Advance → ComesTo base pc p row q row
 leads_advance base pc p q row x gives le is =
     let plain = leads_plain base pc p q row x gives (λ e. le) (λ e. absurd (let two = sym is ∙ e in cc)) (λ e. absurd (let two = sym is ∙ e in cc)) in
-    subst (λ (k : Row). ComesTo base pc p row q k) (ap (applied base row) is) plain
+    subst (λ (k : PlacedRow). ComesTo base pc p row q k) (ap (applied base row) is) plain
 
 -- after remember_state, up to the step that takes the row back
-pub leads_back : (base : Row) (pc : ℕ) (p q r : ProgramData) (row other : Row) (x : Step) → Gives p x q → x.instruction ≡ Remember → Walks base pc q row Restored r other
+pub leads_back : (base : PlacedRow) (pc : ℕ) (p q r : PlacedProgramData) (row other : PlacedRow) (x : PlacedStep) → Gives p x q → x.instruction ≡ Remember → Walks base pc q row Restored r other
     → ComesTo base pc p row r row
 leads_back base pc p q r row other x gives is inner = λ steps below g.
     let n = next_of p q x pc (length below) steps gives g in
@@ -151,17 +150,17 @@ leads_back base pc p q r row other x gives is inner = λ steps below g.
     let back = inner n.more (row ∷ below) (subst (λ (d : ℕ). GoesOn q pc d n.more) deeper (n.on le)) in
     let first : row ≡ back.last = let e = back.are in cc in
     let rest : below ≡ back.others = let e = back.are in cc in
-    let there : beside back.last back.others ≡ beside row below = ap (λ (k : Row). beside k back.others) (sym first) ∙ ap (λ (l : List Row). beside row l) (sym rest) in
+    let there : beside back.last back.others ≡ beside row below = ap (λ (k : PlacedRow). beside k back.others) (sym first) ∙ ap (λ (l : List PlacedRow). beside row l) (sym rest) in
     let stepped : rows_step base (beside row below) x.instruction ≡ beside row (row ∷ below) = ap (rows_step base (beside row below)) is in
     record {
       more = back.onward.more;
-      on = subst (λ (l : List Row). GoesOn r pc (length l) back.onward.more) (sym rest) back.onward.on;
+      on = subst (λ (l : List PlacedRow). GoesOn r pc (length l) back.onward.more) (sym rest) back.onward.on;
       same = rows_on base pc (beside row below) x n.more steps n.are le ∙ ap (λ (s : Rows). rows_after base pc s n.more) stepped ∙ back.onward.same ∙ ap (λ (s : Rows). rows_after base pc s back.onward.more) there;
     }
 
 -- ---- how it stops
 
-pub stops_inside : (base : Row) (pc : ℕ) (p q r : ProgramData) (row other : Row) (x : Step) → Gives p x q → x.instruction ≡ Remember → Walks base pc q row End r other → Walks base pc p row End r other
+pub stops_inside : (base : PlacedRow) (pc : ℕ) (p q r : PlacedProgramData) (row other : PlacedRow) (x : PlacedStep) → Gives p x q → x.instruction ≡ Remember → Walks base pc q row End r other → Walks base pc p row End r other
 stops_inside base pc p q r row other x gives is inner = λ steps below g.
     let n = next_of p q x pc (length below) steps gives g in
     let le = n.stays (not_advance pc x _ is (λ e. cc)) in
@@ -170,17 +169,17 @@ stops_inside base pc p q r row other x gives is inner = λ steps below g.
     ap (λ (s : Rows). s.row) (rows_on base pc (beside row below) x n.more steps n.are le ∙ ap (λ (s : Rows). rows_after base pc s n.more) stepped)
     ∙ inner n.more (row ∷ below) (subst (λ (d : ℕ). GoesOn q pc d n.more) deeper (n.on le))
 
-pub stops_above : (base : Row) (pc : ℕ) (p q : ProgramData) (row : Row) (x : Step) → Gives p x q → pc < x.location → Walks base pc p row End q row
+pub stops_above : (base : PlacedRow) (pc : ℕ) (p q : PlacedProgramData) (row : PlacedRow) (x : PlacedStep) → Gives p x q → pc < x.location → Walks base pc p row End q row
 stops_above base pc p q row x gives lt = λ steps below g.
     let n = next_of p q x pc (length below) steps gives g in
     let above : nat_le x.location pc ≡ false = lt-leb _ _ lt in
     let none = none_up_to pc x.location n.more lt n.above in
-    ap (λ (l : List Step). (rows_after base pc (beside row below) l).row) n.are ∙ rw (above, none) refl
+    ap (λ (l : List PlacedStep). (rows_after base pc (beside row below) l).row) n.are ∙ rw (above, none) refl
 
-pub stops_after : (base : Row) (pc : ℕ) (p q : ProgramData) (row : Row) → ((steps : List Step) → HasSteps p steps → steps ≡ []) → Walks base pc p row End q row
-stops_after base pc p q row none = λ steps below g. ap (λ (l : List Step). (rows_after base pc (beside row below) l).row) (none steps g.has)
+pub stops_after : (base : PlacedRow) (pc : ℕ) (p q : PlacedProgramData) (row : PlacedRow) → ((steps : List PlacedStep) → HasPlacedSteps p steps → steps ≡ []) → Walks base pc p row End q row
+stops_after base pc p q row none = λ steps below g. ap (λ (l : List PlacedStep). (rows_after base pc (beside row below) l).row) (none steps g.has)
 
-taken_back : (base : Row) (pc : ℕ) (row : Row) (below : List Row) (steps : List Step) (q : ProgramData) (x : Step) → Next x q pc (length below) steps → x.instruction ≡ RestoreState → TakesBack base pc row below steps q
+taken_back : (base : PlacedRow) (pc : ℕ) (row : PlacedRow) (below : List PlacedRow) (steps : List PlacedStep) (q : PlacedProgramData) (x : PlacedStep) → Next x q pc (length below) steps → x.instruction ≡ RestoreState → TakesBack base pc row below steps q
 taken_back base pc row [] steps q x n is = absurd (let may : 0 < 0 = subst (MayStandAt 0) is n.may in omega (arith, may))
 taken_back base pc row (last ∷ others) steps q x n is =
     let le = n.stays (not_advance pc x _ is (λ e. cc)) in
@@ -197,14 +196,14 @@ taken_back base pc row (last ∷ others) steps q x n is =
       };
     }
 
-pub stops_restored : (base : Row) (pc : ℕ) (p q : ProgramData) (row other : Row) (x : Step) → Gives p x q → x.instruction ≡ RestoreState → Walks base pc p row Restored q other
+pub stops_restored : (base : PlacedRow) (pc : ℕ) (p q : PlacedProgramData) (row other : PlacedRow) (x : PlacedStep) → Gives p x q → x.instruction ≡ RestoreState → Walks base pc p row Restored q other
 stops_restored base pc p q row other x gives is = λ steps below g. taken_back base pc row below steps q x (next_of p q x pc (length below) steps gives g) is
 
 -- a walk on which nothing was remembered before goes to the end
-pub whole : (base : Row) (pc : ℕ) (p q : ProgramData) (row other : Row) (stop : Stop) → Walks base pc p row stop q other → (steps : List Step) → GoesOn p pc 0 steps → (rows_after base pc (beside row []) steps).row ≡ other
+pub whole : (base : PlacedRow) (pc : ℕ) (p q : PlacedProgramData) (row other : PlacedRow) (stop : Stop) → Walks base pc p row stop q other → (steps : List PlacedStep) → GoesOn p pc 0 steps → (rows_after base pc (beside row []) steps).row ≡ other
 whole base pc p q row other End w steps g = w steps [] g
 whole base pc p q row other Restored w steps g = absurd (let none = (w steps [] g).are in cc)
 
 -- the laws of a program's steps, at its start
-pub goes_on_from : (p : ProgramData) (pc location : ℕ) (steps : List Step) → location ≤ pc → HasSteps p steps → IsAscendingFrom location steps → IsBalanced 0 steps → GoesOn p pc 0 steps
+pub goes_on_from : (p : PlacedProgramData) (pc location : ℕ) (steps : List PlacedStep) → location ≤ pc → HasPlacedSteps p steps → IsAscendingFrom location steps → IsBalanced 0 steps → GoesOn p pc 0 steps
 goes_on_from p pc location steps reached has ascending balanced = record { has = has; location = location; reached = reached; ascending = ascending; balanced = balanced }

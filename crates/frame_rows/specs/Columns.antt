@@ -1,22 +1,24 @@
 -- The rule of one column, after DWARF 5, sections 6.4.1 to 6.4.3, seen apart from all other
--- columns.
+-- columns. All of it holds for expressions however they are told; C tells that of the CFA, E that
+-- of a column.
 use Rattle.std.specs.Prelude.{ℕ, List, [], ◌∷◌, map, ◌==◌, if◌then◌else◌, nat_le}
 use Rattle.std.specs.List.{filter, fold}
-use Rattle.frame_parse.specs.declared.instructions.ReadRule.{ReadRule}
-use Rattle.frame_parse.specs.declared.instructions.ReadRule.TheVariants as read
-use Rattle.frame_parse.specs.declared.instructions.Instruction.{Instruction}
-use Rattle.frame_parse.specs.declared.instructions.Instruction.TheVariants.{Nop, Advance, Set}
-use Rattle.frame_parse.specs.declared.instructions.Instruction.TheVariants.{Restore, Remember}
-use Rattle.frame_parse.specs.declared.instructions.Instruction.TheVariants.{RestoreState, Cfa}
-use Rattle.frame_parse.specs.declared.instructions.Instruction.TheVariants.{CfaColumn, CfaOffset}
-use Rattle.frame_parse.specs.declared.instructions.Instruction.TheVariants.{CfaExpression}
-use Rattle.frame_parse.specs.declared.instructions.Step.{Step}
-use Rattle.frame_parse.specs.Programs.{HasSteps, initial_of, program_of, text_in}
+use Rattle.frame_parse.specs.declared.instructions.ReadRuleWith.{ReadRuleWith}
+use Rattle.frame_parse.specs.declared.instructions.ReadRuleWith.TheVariants as read
+use Rattle.frame_parse.specs.declared.instructions.InstructionWith.{InstructionWith}
+use Rattle.frame_parse.specs.declared.instructions.InstructionWith.TheVariants.{Nop, Advance, Set}
+use Rattle.frame_parse.specs.declared.instructions.InstructionWith.TheVariants.{Restore, Remember}
+use Rattle.frame_parse.specs.declared.instructions.InstructionWith.TheVariants.{RestoreState, Cfa}
+use Rattle.frame_parse.specs.declared.instructions.InstructionWith.TheVariants.{CfaColumn, CfaOffset}
+use Rattle.frame_parse.specs.declared.instructions.InstructionWith.TheVariants.{CfaExpression}
+use Rattle.frame_parse.specs.declared.instructions.StepWith.{StepWith}
+use Rattle.frame_parse.specs.Instructions.{StepData}
+use Rattle.frame_parse.specs.Steps.{HasSteps, initial_in, program_in}
 use Rattle.frame_parse.specs.Sections.{FdeData}
-use Rattle.frame_rows.specs.declared.row.Rule.{Rule}
-use Rattle.frame_rows.specs.declared.row.Rule.TheVariants as rules
-use Rattle.frame_rows.specs.declared.row.CfaRule.{CfaRule}
-use Rattle.frame_rows.specs.declared.row.CfaRule.TheVariants as cfas
+use Rattle.frame_rows.specs.declared.rule.RuleWith.{RuleWith}
+use Rattle.frame_rows.specs.declared.rule.RuleWith.TheVariants as rules
+use Rattle.frame_rows.specs.declared.rule.CfaRuleWith.{CfaRuleWith}
+use Rattle.frame_rows.specs.declared.rule.CfaRuleWith.TheVariants as cfas
 
 -- a column's rule, and its rules in the remembered states, the last one first
 pub record Column (A : Type 0) : Type 0 where
@@ -42,7 +44,7 @@ restore_state c = restore_from c.rule c.remembered
 -- ---- a register's column
 
 -- the rule that an instruction sets
-abbrev pub rule_of : ReadRule → Rule
+abbrev pub rule_of : {E : Type 0} → ReadRuleWith E → RuleWith E
 rule_of read.Undefined = rules.Undefined
 rule_of read.Same = rules.Same
 rule_of (read.Offset n) = rules.Offset n
@@ -52,7 +54,8 @@ rule_of (read.Expression e) = rules.Expression e
 rule_of (read.ValExpression e) = rules.ValExpression e
 
 -- what an instruction does to column r: it may set it, or give it back the rule `base`
-abbrev pub register_step : ℕ → Rule → Column Rule → Instruction → Column Rule
+abbrev pub register_step : {C E : Type 0} → ℕ → RuleWith E → Column (RuleWith E) → InstructionWith C E
+    → Column (RuleWith E)
 register_step r base c (Set q rule) = if q == r then record c { rule = rule_of rule } else c
 register_step r base c (Restore q) = if q == r then record c { rule = base } else c
 register_step r base c Remember = remember c
@@ -68,17 +71,18 @@ register_step r base c (CfaExpression e) = c
 
 -- another column and the same offset, or the same column and another offset, of a rule that has
 -- both
-abbrev pub with_column : ℕ → CfaRule → CfaRule
+abbrev pub with_column : {C : Type 0} → ℕ → CfaRuleWith C → CfaRuleWith C
 with_column q cfas.Missing = cfas.Missing
 with_column q (cfas.Offset p n) = cfas.Offset q n
 with_column q (cfas.Expression e) = cfas.Expression e
 
-abbrev pub with_offset : ℕ → CfaRule → CfaRule
+abbrev pub with_offset : {C : Type 0} → ℕ → CfaRuleWith C → CfaRuleWith C
 with_offset n cfas.Missing = cfas.Missing
 with_offset n (cfas.Offset q m) = cfas.Offset q n
 with_offset n (cfas.Expression e) = cfas.Expression e
 
-abbrev pub cfa_step : Column CfaRule → Instruction → Column CfaRule
+abbrev pub cfa_step : {C E : Type 0} → Column (CfaRuleWith C) → InstructionWith C E
+    → Column (CfaRuleWith C)
 cfa_step c (Cfa q n) = record c { rule = cfas.Offset q n }
 cfa_step c (CfaColumn q) = record c { rule = with_column q c.rule }
 cfa_step c (CfaOffset n) = record c { rule = with_offset n c.rule }
@@ -93,35 +97,36 @@ cfa_step c (Restore q) = c
 -- ---- at an address
 
 -- the instructions of all steps, and of those whose location is at most an address
-abbrev pub instructions : List Step → List Instruction
-instructions steps = map (λ (x : Step). x.instruction) steps
+abbrev pub instructions : {C E : Type 0} → List (StepWith C E) → List (InstructionWith C E)
+instructions {C} {E} steps = map (λ (x : StepWith C E). x.instruction) steps
 
-abbrev pub up_to : ℕ → List Step → List Step
-up_to pc steps = filter (λ (x : Step). nat_le x.location pc) steps
+abbrev pub up_to : {C E : Type 0} → ℕ → List (StepWith C E) → List (StepWith C E)
+up_to {C} {E} pc steps = filter (λ (x : StepWith C E). nat_le x.location pc) steps
 
 -- The rule that the initial instructions leave. Inside them a restore leaves nothing set.
-unfoldable pub initial_rule : ℕ → List Step → Rule
+unfoldable pub initial_rule : {C E : Type 0} → ℕ → List (StepWith C E) → RuleWith E
 initial_rule r initial =
     (fold (register_step r rules.Unset) (new_column rules.Unset) (instructions initial)).rule
 
 -- The rule of column r at an address, where the FDE's programs are these steps.
-unfoldable pub rule_at : ℕ → List Step → List Step → ℕ → Rule
+unfoldable pub rule_at : {C E : Type 0} → ℕ → List (StepWith C E) → List (StepWith C E) → ℕ
+    → RuleWith E
 rule_at r initial steps pc =
     (fold (register_step r (initial_rule r initial)) (new_column (initial_rule r initial))
     (instructions (up_to pc steps))).rule
 
-unfoldable pub initial_cfa : List Step → CfaRule
+unfoldable pub initial_cfa : {C E : Type 0} → List (StepWith C E) → CfaRuleWith C
 initial_cfa initial = (fold cfa_step (new_column cfas.Missing) (instructions initial)).rule
 
 -- the rule of the CFA at an address
-unfoldable pub cfa_at : List Step → List Step → ℕ → CfaRule
+unfoldable pub cfa_at : {C E : Type 0} → List (StepWith C E) → List (StepWith C E) → ℕ
+    → CfaRuleWith C
 cfa_at initial steps pc =
     (fold cfa_step (new_column (initial_cfa initial)) (instructions (up_to pc steps))).rule
 
 -- the steps that an FDE's initial instructions spell, and those of its own
-abbrev pub HasInitial : FdeData → List Step → Type 0
-HasInitial f steps = HasSteps (initial_of f.section f.entry (text_in f.bytes f.entry.cie.initial))
-    steps
+abbrev pub HasInitial : FdeData → List StepData → Type 0
+HasInitial f steps = HasSteps (initial_in f) steps
 
-abbrev pub HasProgram : FdeData → List Step → Type 0
-HasProgram f steps = HasSteps (program_of f.section f.entry (text_in f.bytes f.entry.program)) steps
+abbrev pub HasProgram : FdeData → List StepData → Type 0
+HasProgram f steps = HasSteps (program_in f) steps

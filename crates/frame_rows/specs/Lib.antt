@@ -2,3 +2,4 @@ pub mod Columns
 pub mod Rows
 pub mod Walk
 pub mod Expressions
+pub mod Rules

@@ -1,26 +1,28 @@
--- Rows of all columns, and the remembered ones: how the code goes through a program.
+-- Rows of all columns, and the remembered ones: how the code goes through a program. Expressions
+-- are told by their places.
 use Rattle.std.specs.Prelude.{◌≡◌, ℕ, List, [], ◌∷◌, replicate, slice_set, slice_index_or}
 use Rattle.std.specs.List.{fold}
-use Rattle.frame_parse.specs.declared.instructions.Instruction.{Instruction}
-use Rattle.frame_parse.specs.declared.instructions.Instruction.TheVariants.{Nop, Advance, Set}
-use Rattle.frame_parse.specs.declared.instructions.Instruction.TheVariants.{Restore, Remember}
-use Rattle.frame_parse.specs.declared.instructions.Instruction.TheVariants.{RestoreState, Cfa}
-use Rattle.frame_parse.specs.declared.instructions.Instruction.TheVariants.{CfaColumn, CfaOffset}
-use Rattle.frame_parse.specs.declared.instructions.Instruction.TheVariants.{CfaExpression}
-use Rattle.frame_parse.specs.declared.instructions.Step.{Step}
+use Rattle.frame_parse.specs.Instructions.{PlacedInstruction, PlacedStep}
+use Rattle.frame_parse.specs.declared.instructions.InstructionWith.TheVariants.{Nop, Advance, Set}
+use Rattle.frame_parse.specs.declared.instructions.InstructionWith.TheVariants.{Restore, Remember}
+use Rattle.frame_parse.specs.declared.instructions.InstructionWith.TheVariants.{RestoreState, Cfa}
+use Rattle.frame_parse.specs.declared.instructions.InstructionWith.TheVariants.{CfaColumn, CfaOffset}
+use Rattle.frame_parse.specs.declared.instructions.InstructionWith.TheVariants.{CfaExpression}
+use Rattle.frame_parse.specs.Programs.{HasPlacedSteps}
 use Rattle.frame_parse.specs.Sections.{FdeData}
-use Rattle.frame_rows.specs.declared.row.Rule.TheVariants as rules
-use Rattle.frame_rows.specs.declared.row.CfaRule.TheVariants as cfas
-use Rattle.frame_rows.specs.declared.row.Row.{Row}
-use Rattle.frame_rows.specs.Columns.{HasInitial, rule_of, with_column, with_offset, instructions}
+use Rattle.frame_parse.specs.Steps.{left_of_initial, left_of_program}
+use Rattle.frame_rows.specs.declared.rule.RuleWith.TheVariants as rules
+use Rattle.frame_rows.specs.declared.rule.CfaRuleWith.TheVariants as cfas
+use Rattle.frame_rows.specs.declared.placed_row.PlacedRow.{PlacedRow}
+use Rattle.frame_rows.specs.Columns.{rule_of, with_column, with_offset, instructions}
 use Rattle.frame_rows.specs.Columns.{up_to}
 
 -- the row before any instruction
-abbrev pub unset : Row
+abbrev pub unset : PlacedRow
 unset = record { cfa = cfas.Missing; columns = replicate 17 rules.Unset }
 
 -- the row after an instruction that doesn't remember or restore a state
-abbrev pub applied : Row → Row → Instruction → Row
+abbrev pub applied : PlacedRow → PlacedRow → PlacedInstruction → PlacedRow
 applied base row (Set q rule) = record row { columns = slice_set row.columns q (rule_of rule) }
 applied base row (Restore q) =
     record row { columns = slice_set row.columns q (slice_index_or base.columns q rules.Unset) }
@@ -35,17 +37,17 @@ applied base row Advance = row
 
 -- a row, and the remembered ones, the last one first
 pub record Rows : Type 0 where
-  pub row : Row
-  pub remembered : List Row
+  pub row : PlacedRow
+  pub remembered : List PlacedRow
 
-abbrev pub beside : Row → List Row → Rows
+abbrev pub beside : PlacedRow → List PlacedRow → Rows
 beside row below = record { row = row; remembered = below }
 
-abbrev pub restored : Row → List Row → Rows
+abbrev pub restored : PlacedRow → List PlacedRow → Rows
 restored row [] = record { row = row; remembered = [] }
 restored row (last ∷ others) = record { row = last; remembered = others }
 
-abbrev pub rows_step : Row → Rows → Instruction → Rows
+abbrev pub rows_step : PlacedRow → Rows → PlacedInstruction → Rows
 rows_step base s Remember = record { row = s.row; remembered = s.row ∷ s.remembered }
 rows_step base s RestoreState = restored s.row s.remembered
 rows_step base s (Set q rule) = record s { row = applied base s.row (Set q rule) }
@@ -58,14 +60,21 @@ rows_step base s Nop = s
 rows_step base s Advance = s
 
 -- the rows after the steps up to an address
-abbrev pub rows_after : Row → ℕ → Rows → List Step → Rows
+abbrev pub rows_after : PlacedRow → ℕ → Rows → List PlacedStep → Rows
 rows_after base pc s steps = fold (rows_step base) s (instructions (up_to pc steps))
 
 -- the row that the initial instructions leave; inside them a restore leaves nothing set
-abbrev pub base_row : ℕ → List Step → Row
+abbrev pub base_row : ℕ → List PlacedStep → PlacedRow
 base_row first initial = (rows_after unset first (beside unset []) initial).row
 
+-- the steps of an FDE's initial instructions, and those of its own, with the places of expressions
+abbrev pub HasPlacedInitial : FdeData → List PlacedStep → Type 0
+HasPlacedInitial f steps = HasPlacedSteps (left_of_initial f) steps
+
+abbrev pub HasPlacedProgram : FdeData → List PlacedStep → Type 0
+HasPlacedProgram f steps = HasPlacedSteps (left_of_program f) steps
+
 -- the row whose rules a restore gives back among the instructions of an FDE itself
-abbrev pub IsBaseRow : FdeData → Row → Type 0
-IsBaseRow f row = (initial : List Step) × HasInitial f initial
+abbrev pub IsBaseRow : FdeData → PlacedRow → Type 0
+IsBaseRow f row = (initial : List PlacedStep) × HasPlacedInitial f initial
     × (row ≡ base_row f.entry.first initial)

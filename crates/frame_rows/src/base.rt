@@ -2,23 +2,25 @@
 //! a column.
 
 ghost use Rattle.std.specs.Prelude.{◌≡◌, slice_index_or, None, IfSome};
-ghost use Rattle.frame_rows.specs.declared.row.Row.{Row};
+ghost use Rattle.frame_rows.specs.declared.placed_row.PlacedRow.{PlacedRow};
+ghost use Rattle.frame_rows.specs.declared.rule.RuleWith.TheVariants.{Unset};
 ghost use Rattle.frame_rows.specs.Rows.{IsBaseRow, unset};
 
-use crate::row::{Row, Rule};
+use crate::placed_row::PlacedRow;
+use crate::rule::PlacedRule;
 use crate::walk::initial_row;
 use frame_parse::Fde;
 
 /// What tells the rule that a restore gives back to a column.
 pub(crate) trait Base {
     // The rows whose rules it tells.
-    ghost gives: { Self → Row → Type 0 };
+    ghost gives: { Self → PlacedRow → Type 0 };
 
-    fn rule(&mut self, column: u8) -> Rule
-        ensures rule { (given : Row) → gives self.old given
-            → result ≡ slice_index_or given.columns column Rule.Unset }
+    fn rule(&mut self, column: u8) -> PlacedRule
+        ensures rule { (given : PlacedRow) → gives self.old given
+            → result ≡ slice_index_or given.columns column Unset }
         // It goes on to tell the rules of the same rows.
-        ensures same { (given : Row) → gives self.old given → gives self.new given };
+        ensures same { (given : PlacedRow) → gives self.old given → gives self.new given };
 }
 
 /// Inside the initial instructions: nothing is set before them.
@@ -29,8 +31,8 @@ impl Base for NothingSet {
     ghost gives = { λ s given. given ≡ unset };
 
     #[inline(always)]
-    fn rule(&mut self, _column: u8) -> Rule {
-        Rule::Unset
+    fn rule(&mut self, _column: u8) -> PlacedRule {
+        PlacedRule::Unset
     }
 }
 
@@ -39,7 +41,7 @@ impl Base for NothingSet {
 #[derive(Drop)]
 pub(crate) struct InitialRow<'f, 'a> {
     fde: &'f Fde<'a>,
-    row: Option<Row>,
+    row: Option<PlacedRow>,
 }
 
 impl<'f, 'a> InitialRow<'f, 'a> {
@@ -53,16 +55,16 @@ impl<'f, 'a> InitialRow<'f, 'a> {
     /// The rule for the first restore, which is rare.
     #[cold]
     #[inline(never)]
-    fn first_rule(&mut self, column: u8) -> Rule
+    fn first_rule(&mut self, column: u8) -> PlacedRule
         ensures fde { self.new.fde.now ≡ self.old.fde.now }
-        ensures rule { (given : Row) → IsBaseRow self.old.fde.now given
-            → result ≡ slice_index_or given.columns column Rule.Unset }
-        ensures row { (given : Row) → IsBaseRow self.old.fde.now given
+        ensures rule { (given : PlacedRow) → IsBaseRow self.old.fde.now given
+            → result ≡ slice_index_or given.columns column Unset }
+        ensures row { (given : PlacedRow) → IsBaseRow self.old.fde.now given
             → IfSome self.new.row (λ row. row ≡ given) }
     {
         let row = initial_row(self.fde);
         self.row = Some(row);
-        row.rule(column)
+        row.rule(column as usize)
     }
 }
 
@@ -70,9 +72,9 @@ impl Base for InitialRow<'_, '_> {
     ghost gives = { λ s given. IsBaseRow s.fde.now given × IfSome s.row (λ row. row ≡ given) };
 
     #[inline(always)]
-    fn rule(&mut self, column: u8) -> Rule {
+    fn rule(&mut self, column: u8) -> PlacedRule {
         match &self.row {
-            Some(row) => row.rule(column),
+            Some(row) => row.rule(column as usize),
             None => self.first_rule(column),
         }
     }

@@ -6,10 +6,13 @@
 #![tactic(auto)]
 
 mod base;
+mod placed_row;
 mod row;
+mod rule;
 mod walk;
 
-pub use row::{CfaRule, Row, Rule};
+pub use row::Row;
+pub use rule::{CfaRule, CfaRuleWith, Rule, RuleWith};
 pub use walk::row_at;
 
 #[cfg(test)]

@@ -42,54 +42,89 @@ fn read(alloc: Global, address: u64, bytes: &[u8]) -> Result<Section, Fail>
     )
 }
 
-fn rule_shown(shown: Shown) -> Rule {
-    match shown {
-        Shown::At(by) => Rule::Offset {
-            by: by.cast_unsigned(),
-        },
-        Shown::Value(by) => Rule::ValOffset {
-            by: by.cast_unsigned(),
-        },
-        Shown::In(column) => Rule::Register { column },
-        Shown::Same => Rule::Same,
-        Shown::Undefined => Rule::Undefined,
+/// A rule with the bytes of its expression.
+pub(crate) type ToldRule<'a> = RuleWith<&'a [u8]>;
+
+pub(crate) type ToldCfaRule<'a> = CfaRuleWith<&'a [u8]>;
+
+/// The rules of a row.
+#[derive(Clone, Copy, Debug, PartialEq, Eq)]
+struct Rules<'a> {
+    cfa: ToldCfaRule<'a>,
+    columns: [ToldRule<'a>; 17],
+}
+
+fn told_cfa(rule: CfaRule<'_>) -> ToldCfaRule<'_> {
+    match rule {
+        CfaRule::Missing => ToldCfaRule::Missing,
+        CfaRule::Offset { column, by } => ToldCfaRule::Offset { column, by },
+        CfaRule::Expression { expr } => ToldCfaRule::Expression { expr: expr.bytes() },
     }
 }
 
-/// The row that is shown so.
-fn row_shown(column: u8, by: i64, rules: &[(u8, Shown)]) -> Row {
-    let mut row = Row {
-        cfa: CfaRule::Offset {
-            column,
+fn told(rule: Rule<'_>) -> ToldRule<'_> {
+    match rule {
+        Rule::Unset => ToldRule::Unset,
+        Rule::Undefined => ToldRule::Undefined,
+        Rule::Same => ToldRule::Same,
+        Rule::Offset { by } => ToldRule::Offset { by },
+        Rule::ValOffset { by } => ToldRule::ValOffset { by },
+        Rule::Register { column } => ToldRule::Register { column },
+        Rule::Expression { expr } => ToldRule::Expression { expr: expr.bytes() },
+        Rule::ValExpression { expr } => ToldRule::ValExpression { expr: expr.bytes() },
+    }
+}
+
+fn rule_shown(shown: Shown) -> ToldRule<'static> {
+    match shown {
+        Shown::At(by) => ToldRule::Offset {
             by: by.cast_unsigned(),
         },
-        columns: [Rule::Unset; 17],
-    };
+        Shown::Value(by) => ToldRule::ValOffset {
+            by: by.cast_unsigned(),
+        },
+        Shown::In(column) => ToldRule::Register { column },
+        Shown::Same => ToldRule::Same,
+        Shown::Undefined => ToldRule::Undefined,
+    }
+}
+
+/// The rules that are shown so.
+fn rules_shown(column: u8, by: i64, rules: &[(u8, Shown)]) -> Rules<'static> {
+    let mut columns = [ToldRule::Unset; 17];
     for (column, shown) in rules {
         let column = *column as usize;
-        if column < row.columns.len() {
-            row.columns[column] = rule_shown(*shown);
+        if column < columns.len() {
+            columns[column] = rule_shown(*shown);
         }
     }
-    row
+    let cfa = ToldCfaRule::Offset {
+        column,
+        by: by.cast_unsigned(),
+    };
+    Rules { cfa, columns }
 }
 
-/// The row at an address that an FDE covers.
-fn row_in(section: &Section, pc: u64) -> Option<Row> {
-    match section.fde_at(pc) {
-        None => None,
-        Some(fde) => Some(row_at(&fde, pc)),
+/// The rules at an address that an FDE covers.
+fn rules_in(section: &Section, pc: u64) -> Option<Rules<'_>> {
+    let fde = section.fde_at(pc)?;
+    let row = row_at(&fde, pc);
+    let mut columns = [ToldRule::Unset; 17];
+    for column in 0..17 {
+        columns[column] = told(row.rule(column));
     }
+    let cfa = told_cfa(row.cfa());
+    Some(Rules { cfa, columns })
 }
 
 /// Whether each of the rows is there at its first address, its last and one in the middle.
 fn are_there(section: &Section, rows: &[Seen]) -> bool {
     for (first, last, column, by, rules) in rows {
-        let row = Some(row_shown(*column, *by, rules));
+        let rules = Some(rules_shown(*column, *by, rules));
         let middle = *last - last.saturating_sub(*first) / 2;
-        if row_in(section, *first) != row
-            || row_in(section, middle) != row
-            || row_in(section, *last) != row
+        if rules_in(section, *first) != rules
+            || rules_in(section, middle) != rules
+            || rules_in(section, *last) != rules
         {
             return false;
         }
@@ -122,11 +157,11 @@ fn early_returns(rt: HostRuntime) -> Result<(), Fail> {
 #[test]
 fn remembered_state(rt: HostRuntime) -> Result<(), Fail> {
     let s4 = read(rt.alloc(), 0x2000, &S4)?;
-    let inside = row_shown(6, 16, &[(6, Shown::At(-16)), (16, Shown::At(-8))]);
-    let leaving = row_shown(7, 8, &[(16, Shown::At(-8))]);
-    assert_eq!(rt; row_in(&s4, 0x1004), Some(inside));
-    assert_eq!(rt; row_in(&s4, 0x1008), Some(leaving));
-    assert_eq!(rt; row_in(&s4, 0x1009), Some(inside));
+    let inside = rules_shown(6, 16, &[(6, Shown::At(-16)), (16, Shown::At(-8))]);
+    let leaving = rules_shown(7, 8, &[(16, Shown::At(-8))]);
+    assert_eq!(rt; rules_in(&s4, 0x1004), Some(inside));
+    assert_eq!(rt; rules_in(&s4, 0x1008), Some(leaving));
+    assert_eq!(rt; rules_in(&s4, 0x1009), Some(inside));
     Ok(())
 }
 
@@ -151,49 +186,68 @@ fn restores(rt: HostRuntime) -> Result<(), Fail> {
 /// Nothing says where the CFA is.
 #[test]
 fn missing_cfa(rt: HostRuntime) -> Result<(), Fail> {
-    let row = Row {
-        cfa: CfaRule::Missing,
-        columns: [Rule::Unset; 17],
+    let rules = Rules {
+        cfa: ToldCfaRule::Missing,
+        columns: [ToldRule::Unset; 17],
     };
     let section = read(rt.alloc(), 0x2000, &EMPTY)?;
-    assert_eq!(rt; row_in(&section, 0x1000), Some(row));
+    assert_eq!(rt; rules_in(&section, 0x1000), Some(rules));
     Ok(())
 }
 
-/// A row with these rules for the CFA and for columns 6 and 16.
-fn row_with(cfa: CfaRule, column_6: Rule, column_16: Rule) -> Row {
-    let mut columns = [Rule::Unset; 17];
+/// These rules for the CFA and for columns 6 and 16.
+fn rules_of<'a>(
+    cfa: ToldCfaRule<'a>,
+    column_6: ToldRule<'a>,
+    column_16: ToldRule<'a>,
+) -> Rules<'a> {
+    let mut columns = [ToldRule::Unset; 17];
     columns[6] = column_6;
     columns[16] = column_16;
-    Row { cfa, columns }
+    Rules { cfa, columns }
+}
+
+/// The expression of a linkage table: column 7 plus 8, and 8 more behind an entry's push.
+const LINKAGE: [u8; 11] = [
+    0x77, 0x08, 0x80, 0x00, 0x3f, 0x1a, 0x3b, 0x2a, 0x33, 0x24, 0x22,
+];
+
+/// Saved 8 below the CFA.
+const BELOW: ToldRule<'static> = ToldRule::Offset {
+    by: 0xffff_ffff_ffff_fff8,
+};
+
+#[test]
+fn expression_of_the_cfa(rt: HostRuntime) -> Result<(), Fail> {
+    let s2 = read(rt.alloc(), 0x3000, &S2)?;
+    let pushed = ToldCfaRule::Offset { column: 7, by: 24 };
+    let cfa = ToldCfaRule::Expression { expr: &LINKAGE };
+    let before = rules_of(pushed, ToldRule::Unset, BELOW);
+    let inside = rules_of(cfa, ToldRule::Unset, BELOW);
+    assert!(rt; rules_in(&s2, 0x100f) == Some(before));
+    assert!(rt; rules_in(&s2, 0x1010) == Some(inside));
+    Ok(())
 }
 
 #[test]
-fn rules_with_expressions(rt: HostRuntime) -> Result<(), Fail> {
-    let below = Rule::Offset {
-        by: (-8i64).cast_unsigned(),
-    };
-    let s2 = read(rt.alloc(), 0x3000, &S2)?;
-    let cfa = CfaRule::Expression { block: 48 };
-    let pushed = CfaRule::Offset { column: 7, by: 24 };
-    assert_eq!(rt;
-        row_in(&s2, 0x100f),
-        Some(row_with(pushed, Rule::Unset, below))
-    );
-    assert_eq!(rt;
-        row_in(&s2, 0x1010),
-        Some(row_with(cfa, Rule::Unset, below))
-    );
+fn expression_of_a_column(rt: HostRuntime) -> Result<(), Fail> {
     let s3 = read(rt.alloc(), 0x6000, &S3)?;
-    let cfa = CfaRule::Expression { block: 42 };
-    let saved = Rule::Expression { block: 48 };
-    assert_eq!(rt;
-        row_in(&s3, 0x5004),
-        Some(row_with(cfa, Rule::Unset, saved))
-    );
+    let cfa = ToldCfaRule::Expression {
+        expr: &[0x77, 0x10, 0x06],
+    };
+    let saved = ToldRule::Expression {
+        expr: &[0x77, 0x18],
+    };
+    let rules = rules_of(cfa, ToldRule::Unset, saved);
+    assert!(rt; rules_in(&s3, 0x5004) == Some(rules));
+    Ok(())
+}
+
+#[test]
+fn restored_expressions(rt: HostRuntime) -> Result<(), Fail> {
     let restored = read(rt.alloc(), 0x2000, &RESTORED)?;
     for (pc, cfa, rule) in RESTORED_ROWS {
-        assert_eq!(rt; row_in(&restored, pc), Some(row_with(cfa, rule, below)));
+        assert!(rt; rules_in(&restored, pc) == Some(rules_of(cfa, rule, BELOW)));
     }
     Ok(())
 }

@@ -2,7 +2,7 @@
 
 ghost use Rattle.std.specs.Prelude.{◌≡◌, ℕ, List, All};
 ghost use Rattle.frame_expr.specs.Regions.{RegionData};
-ghost use Rattle.frame_rows.specs.declared.row.Row.{Row};
+ghost use Rattle.frame_rows.specs.Rules.{RowData};
 ghost use Rattle.reg_model.specs.PlainRegistryData.{PlainRegistryData, Step};
 ghost use Rattle.reg_model.specs.declared.answer.Receipt.{Receipt};
 ghost use Rattle.unwind_step.specs.NextFrame.{IsStep};
@@ -18,10 +18,10 @@ pub fn payloads_stay_below()
         → HasPayloadsBelow bound old.state → HasPayloadsBelow bound new.state }
 {}
 
-/// A row makes one thing of the old registers, never two. Its expressions stand in the bytes.
+/// A row makes one thing of the old registers, never two.
 pub fn one_outcome()
-    ensures { (bytes : List ℕ) (row : Row) (old : List ℕ) (memory : List RegionData) (a b : Stepped)
-        → IsStep bytes row old memory a → IsStep bytes row old memory b → a ≡ b }
+    ensures { (row : RowData) (old : List ℕ) (memory : List RegionData) (a b : Stepped)
+        → IsStep row old memory a → IsStep row old memory b → a ≡ b }
 {
     frame_expr::one_answer();
 }

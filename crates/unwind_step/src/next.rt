@@ -1,16 +1,15 @@
 //! One frame from another.
 
-ghost use Rattle.std.specs.Prelude.{◌≡◌, ◌≢◌, ◌⊎◌, Some, Ok, Err, IfOk, IfErr, slice_index};
+ghost use Rattle.std.specs.Prelude.{◌≡◌, ◌≢◌, Some, Ok, Err, IfOk, IfErr, slice_index};
 ghost use Rattle.frame_expr.specs.Values.{IsValue};
-ghost use Rattle.frame_parse.specs.Blocks.{block_in, HasExpression};
-ghost use Rattle.frame_rows.specs.Expressions.{HasCfaExpression, HasColumnExpression};
-ghost use Rattle.frame_rows.specs.Expressions.{HasExpressions};
+ghost use Rattle.frame_rows.specs.declared.rule.CfaRuleWith.TheVariants.{Missing};
+ghost use Rattle.frame_rows.specs.Rules.{rule_told, cfa_rule_told};
 ghost use Rattle.unwind_step.specs.Rules.{saved_at, IsCfa, IsRestored, IsSavedThere};
 ghost use Rattle.unwind_step.specs.declared.next.Stepped.{Stepped};
 ghost use Rattle.unwind_step.specs.NextFrame.{Leads, AreRestored, FailsFirst, IsFrame, LacksBytes};
 ghost use Rattle.unwind_step.specs.NextFrame.{IsStep, IsNextFrame};
 
-use frame_expr::{CfaExpr, ColumnExpr, Memory, NoBytes, Regs, one_answer, value};
+use frame_expr::{ColumnExpr, Memory, NoBytes, Regs, one_answer, value};
 use frame_parse::Fde;
 use frame_rows::{CfaRule, Row, Rule, row_at};
 
@@ -47,19 +46,17 @@ fn column_of(regs: &Regs, column: usize) -> u64
     }
 }
 
-/// A frame whose caller is asked for: its FDE, its registers, and the recorded memory.
+/// A frame whose caller is asked for: its registers, and the recorded memory.
 #[derive(Clone, Copy)]
-struct Callee<'c, 'a> {
-    fde: &'c Fde<'a>,
+struct Callee<'c> {
     regs: &'c Regs,
     memory: &'c Memory,
 }
 
 /// The CFA, where a rule tells it.
-fn cfa_of(rule: &CfaRule, callee: &Callee<'_, '_>) -> Result<u64, NoBytes>
-    requires missing { rule.now ≢ CfaRule.Missing }
-    requires expression { HasCfaExpression callee.now.fde.now.bytes rule.now }
-    ensures { IsCfa callee.now.fde.now.bytes rule.now callee.now.regs.now.columns
+fn cfa_of(rule: &CfaRule<'_>, callee: &Callee<'_>) -> Result<u64, NoBytes>
+    requires { cfa_rule_told (λ e. e.bytes.now) rule.now ≢ Missing }
+    ensures { IsCfa (cfa_rule_told (λ e. e.bytes.now) rule.now) callee.now.regs.now.columns
         callee.now.memory.now result }
 {
     match rule {
@@ -67,40 +64,38 @@ fn cfa_of(rule: &CfaRule, callee: &Callee<'_, '_>) -> Result<u64, NoBytes>
         CfaRule::Offset { column, by } => {
             Ok(column_of(callee.regs, *column as usize).wrapping_add(*by))
         }
-        CfaRule::Expression { block } => {
-            let expr: CfaExpr<'_> = callee.fde.expr(*block);
-            value(&expr, callee.regs, callee.memory, None)
-        }
+        CfaRule::Expression { expr } => value(expr, callee.regs, callee.memory, None),
     }
 }
 
 /// The value of a column's expression, which starts with the CFA.
-fn value_in(block: usize, cfa: u64, callee: &Callee<'_, '_>) -> Result<u64, NoBytes>
-    requires { HasExpression 1 callee.now.fde.now.bytes block }
-    ensures { IsValue 1 (block_in callee.now.fde.now.bytes block) callee.now.regs.now.columns
-        callee.now.memory.now (Some cfa) result }
+fn column_value(expr: &ColumnExpr<'_>, cfa: u64, callee: &Callee<'_>) -> Result<u64, NoBytes>
+    ensures { IsValue 1 expr.now.bytes.now callee.now.regs.now.columns callee.now.memory.now
+        (Some cfa) result }
 {
-    let expr: ColumnExpr<'_> = callee.fde.expr(block);
-    value(&expr, callee.regs, callee.memory, Some(cfa))
+    value(expr, callee.regs, callee.memory, Some(cfa))
 }
 
 /// The eight bytes at the value of a column's expression.
-fn saved_there(block: usize, cfa: u64, callee: &Callee<'_, '_>) -> Result<u64, NoBytes>
-    requires { HasExpression 1 callee.now.fde.now.bytes block }
-    ensures { IsSavedThere callee.now.fde.now.bytes block cfa callee.now.regs.now.columns
+fn saved_there(expr: &ColumnExpr<'_>, cfa: u64, callee: &Callee<'_>) -> Result<u64, NoBytes>
+    ensures { IsSavedThere expr.now.bytes.now cfa callee.now.regs.now.columns
         callee.now.memory.now result }
 {
-    match value_in(block, cfa, callee) {
+    match column_value(expr, cfa, callee) {
         Ok(address) => saved_at(address, callee.memory),
         Err(fault) => Err(fault),
     }
 }
 
 /// The number that a column is restored to by its rule.
-fn restored(column: usize, rule: &Rule, cfa: u64, callee: &Callee<'_, '_>) -> Result<u64, NoBytes>
-    requires { HasColumnExpression callee.now.fde.now.bytes rule.now }
-    ensures { IsRestored callee.now.fde.now.bytes column rule.now cfa callee.now.regs.now.columns
-        callee.now.memory.now result }
+fn restored(
+    column: usize,
+    rule: &Rule<'_>,
+    cfa: u64,
+    callee: &Callee<'_>,
+) -> Result<u64, NoBytes>
+    ensures { IsRestored column (rule_told (λ e. e.bytes.now) rule.now) cfa
+        callee.now.regs.now.columns callee.now.memory.now result }
 {
     match rule {
         Rule::Unset if column == 7 => Ok(cfa),
@@ -108,52 +103,51 @@ fn restored(column: usize, rule: &Rule, cfa: u64, callee: &Callee<'_, '_>) -> Re
         Rule::Offset { by } => saved_at(cfa.wrapping_add(*by), callee.memory),
         Rule::ValOffset { by } => Ok(cfa.wrapping_add(*by)),
         Rule::Register { column } => Ok(column_of(callee.regs, *column as usize)),
-        Rule::Expression { block } => saved_there(*block, cfa, callee),
-        Rule::ValExpression { block } => value_in(*block, cfa, callee),
+        Rule::Expression { expr } => saved_there(expr, cfa, callee),
+        Rule::ValExpression { expr } => column_value(expr, cfa, callee),
     }
 }
 
 /// All columns, each restored by its rule from the old registers.
-fn restore_all(row: &Row, cfa: u64, callee: &Callee<'_, '_>) -> Result<Regs, NoBytes>
-    requires { HasExpressions callee.now.fde.now.bytes row.now }
-    ensures restored { IfOk result (λ new. AreRestored 17 callee.now.fde.now.bytes row.now cfa
+fn restore_all(row: &Row<'_>, cfa: u64, callee: &Callee<'_>) -> Result<Regs, NoBytes>
+    ensures restored { IfOk result (λ new. AreRestored 17 row.now cfa
         callee.now.regs.now.columns callee.now.memory.now new.columns) }
-    ensures fails { IfErr result (FailsFirst callee.now.fde.now.bytes row.now cfa
+    ensures fails { IfErr result (FailsFirst row.now cfa
         callee.now.regs.now.columns callee.now.memory.now) }
 {
     let mut columns = [0; 17];
-    for (column, rule) in row.columns.iter().enumerate() {
-        columns[column] = restored(column, rule, cfa, callee)?;
+    for column in 0..17usize {
+        let rule = row.rule(column);
+        columns[column] = restored(column, &rule, cfa, callee)?;
     }
     Ok(Regs { columns })
 }
 
 /// The registers of the frame before, where the row leads to one.
-fn frame_before(row: &Row, callee: &Callee<'_, '_>) -> Result<Regs, NoBytes>
+fn frame_before(row: &Row<'_>, rule: &CfaRule<'_>, callee: &Callee<'_>) -> Result<Regs, NoBytes>
     requires leads { Leads row.now }
-    requires expressions { HasExpressions callee.now.fde.now.bytes row.now }
-    ensures frame { IfOk result (λ new. IsFrame callee.now.fde.now.bytes row.now
+    requires cfa { cfa_rule_told (λ e. e.bytes.now) rule.now ≡ row.now.cfa }
+    ensures frame { IfOk result (λ new. IsFrame row.now
         callee.now.regs.now.columns callee.now.memory.now new.columns) }
-    ensures fails { IfErr result (LacksBytes callee.now.fde.now.bytes row.now
+    ensures fails { IfErr result (LacksBytes row.now
         callee.now.regs.now.columns callee.now.memory.now) }
 {
-    let cfa = cfa_of(&row.cfa, callee)?;
+    let cfa = cfa_of(rule, callee)?;
     restore_all(row, cfa, callee)
 }
 
 /// What a row makes of the old registers.
-fn follow(row: &Row, callee: &Callee<'_, '_>) -> Stepped
-    requires { HasExpressions callee.now.fde.now.bytes row.now }
-    ensures { IsStep callee.now.fde.now.bytes row.now callee.now.regs.now.columns
-        callee.now.memory.now result }
+fn follow(row: &Row<'_>, callee: &Callee<'_>) -> Stepped
+    ensures { IsStep row.now callee.now.regs.now.columns callee.now.memory.now result }
 {
-    if let CfaRule::Missing = row.cfa {
+    let cfa = row.cfa();
+    if let CfaRule::Missing = cfa {
         return Stepped::NoRow;
     }
-    match row.columns[16] {
+    match row.rule(16) {
         Rule::Undefined => Stepped::Undefined,
         Rule::Unset => Stepped::NoRow,
-        _ => match frame_before(row, callee) {
+        _ => match frame_before(row, &cfa, callee) {
             Ok(regs) => Stepped::Frame { regs },
             Err(NoBytes { address }) => Stepped::NoBytes { address },
         },
@@ -170,5 +164,5 @@ pub fn step(fde: &Fde<'_>, look: u64, regs: &Regs, memory: &Memory) -> Stepped
 {
     one_answer();
     let row = row_at(fde, look);
-    follow(&row, &Callee { fde, regs, memory })
+    follow(&row, &Callee { regs, memory })
 }

@@ -1,6 +1,6 @@
 //! Sections with expressions, and their rows, which `readelf` doesn't show whole: worked out by hand.
 
-use crate::{CfaRule, Rule};
+use super::{ToldCfaRule, ToldRule};
 
 /// A linkage table. At 0x3000.
 pub(crate) const S2: [u8; 68] = [
@@ -30,26 +30,42 @@ pub(crate) const RESTORED: [u8; 69] = [
 ];
 
 /// The rows of RESTORED: an address, the CFA and column 6. Column 16 is saved 8 below the CFA.
-pub(crate) const RESTORED_ROWS: [(u64, CfaRule, Rule); 5] = [
+pub(crate) const RESTORED_ROWS: [(u64, ToldCfaRule<'static>, ToldRule<'static>); 5] = [
     (
         0x1000,
-        CfaRule::Offset { column: 7, by: 8 },
-        Rule::ValExpression { block: 49 },
+        ToldCfaRule::Offset { column: 7, by: 8 },
+        ToldRule::ValExpression {
+            expr: &[0x40, 0x22],
+        },
     ),
-    (0x1001, CfaRule::Expression { block: 57 }, Rule::Same),
+    (
+        0x1001,
+        ToldCfaRule::Expression {
+            expr: &[0x77, 0x00],
+        },
+        ToldRule::Same,
+    ),
     (
         0x1002,
-        CfaRule::Expression { block: 57 },
-        Rule::Expression { block: 20 },
+        ToldCfaRule::Expression {
+            expr: &[0x77, 0x00],
+        },
+        ToldRule::Expression {
+            expr: &[0x40, 0x1c],
+        },
     ),
     (
         0x1003,
-        CfaRule::Offset { column: 7, by: 8 },
-        Rule::ValExpression { block: 49 },
+        ToldCfaRule::Offset { column: 7, by: 8 },
+        ToldRule::ValExpression {
+            expr: &[0x40, 0x22],
+        },
     ),
     (
         0x1004,
-        CfaRule::Offset { column: 7, by: 16 },
-        Rule::Expression { block: 20 },
+        ToldCfaRule::Offset { column: 7, by: 16 },
+        ToldRule::Expression {
+            expr: &[0x40, 0x1c],
+        },
     ),
 ];

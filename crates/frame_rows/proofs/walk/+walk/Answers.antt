@@ -1,5 +1,5 @@
 use Rattle.std.proofs.Common.{refl, subst, sym, arith}
-use Rattle.frame_rows.specs.declared.row.Row.{Row}
+use Rattle.frame_rows.specs.declared.placed_row.PlacedRow.{PlacedRow}
 use Rattle.frame_rows.specs.declared.walk.Stop.TheVariants.{End, Restored}
 use Rattle.frame_rows.specs.Walk.{ComesTo}
 use Rattle.frame_rows.proofs.Onward.{leads_on, leads_stop, leads_plain, leads_advance, leads_back, stops_inside, stops_above, stops_after, stops_restored}
@@ -35,7 +35,7 @@ walk-loop-step-preserved-in-Restored g t c =
           let on =
           leads_on base c.args.pc c.args.program.now was.program c.walk_back.new.program c.args.row.now was.row was.row (was.invariant.leads base gives)
           (leads_back base c.args.pc was.program c.next.new.self c.walk_back.new.program was.row c.walk_back.new.row c.in-Some.step c.in-Some.ensures.steps c.in-Remember.is (c.in-Restored.ensures.walks base (was.invariant.base base gives))) in
-          subst (λ (k : Row). ComesTo base c.args.pc c.args.program.now c.args.row.now c.walk_back.new.program k) (sym (c.in-Restored.ensures.kept refl)) on;
+          subst (λ (k : PlacedRow). ComesTo base c.args.pc c.args.program.now c.args.row.now c.walk_back.new.program k) (sym (c.in-Restored.ensures.kept refl)) on;
       base = λ base gives. c.in-Restored.ensures.base base (was.invariant.base base gives);
     }
 
@@ -52,7 +52,7 @@ walk-loop-step-preserved g t c =
       leads = λ base gives.
           let plain = leads_plain base c.args.pc was.program c.next.new.self was.row c.in-Some.step c.in-Some.ensures.steps (λ e. absurd (c.in_default-instruction.not-Advance e)) c.in_default-instruction.not-Remember c.in_default-instruction.not-RestoreState in
           leads_on base c.args.pc c.args.program.now was.program c.next.new.self c.args.row.now was.row c.apply.new.row (was.invariant.leads base gives)
-          (subst (λ (k : Row). ComesTo base c.args.pc was.program was.row c.next.new.self k) (sym (c.apply.ensures.row base (was.invariant.base base gives))) plain);
+          (subst (λ (k : PlacedRow). ComesTo base c.args.pc was.program was.row c.next.new.self k) (sym (c.apply.ensures.row base (was.invariant.base base gives))) plain);
       base = λ base gives. c.apply.ensures.base base (was.invariant.base base gives);
     }
 

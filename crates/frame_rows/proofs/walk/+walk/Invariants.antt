@@ -1,5 +1,5 @@
 use Rattle.std.proofs.Common.{◌+◌, ◌*◌, ◌≤◌, length}
-use Rattle.frame_rows.specs.declared.row.Row.{Row}
+use Rattle.frame_rows.specs.declared.placed_row.PlacedRow.{PlacedRow}
 use Rattle.frame_rows.specs.Walk.{ComesTo}
 use Rattle.frame_rows.proofs.walk.+walk.Given as goal
 
@@ -12,8 +12,8 @@ decreases-walk_back g l = 2 * length l.program.now.rest.bytes + 1
 abbrev pub invariant-walk-loop-step : goal.invariant-walk-loop-step
 invariant-walk-loop-step g l = record {
   shorter : length l.program.rest.bytes ≤ length l.fn.program.rest.bytes;
-  leads : (given : Row) → g.B.Base.gives l.fn.base given → ComesTo given l.pc l.fn.program l.fn.row l.program l.row;
-  base : (given : Row) → g.B.Base.gives l.fn.base given → g.B.Base.gives l.base given;
+  leads : (given : PlacedRow) → g.B.Base.gives l.fn.base given → ComesTo given l.pc l.fn.program l.fn.row l.program l.row;
+  base : (given : PlacedRow) → g.B.Base.gives l.fn.base given → g.B.Base.gives l.base given;
 }
 
 abbrev pub decreases-walk-loop-step : goal.decreases-walk-loop-step

@@ -5,5 +5,5 @@ use Rattle.frame_rows.proofs.walk.set_initial.Goals as goal
 
 pub returns-clause-row : goal.returns-clause-row
 returns-clause-row c = λ initial has.
-    initial_left c.args.fde.now c.initial.result c.first.result c.args.row.now c.go_through.new.row initial c.steps_are_ordered.ensures
-    c.initial.ensures.program c.first.ensures c.requires (c.go_through.ensures unset refl) has
+    initial_left c.args.fde.now c.placed_initial.result c.first.result c.args.row.now c.go_through.new.row initial c.steps_are_ordered.ensures.placed
+    c.placed_initial.ensures.program c.first.ensures c.requires (c.go_through.ensures unset refl) has

@@ -5,6 +5,6 @@ use Rattle.unwind_step.proofs.next.restore_all.Given as goal
 -- the columns so far are restored
 abbrev pub invariant-loop-column : goal.invariant-loop-column
 invariant-loop-column l = record {
-  restored : AreRestored l.column l.callee.fde.now.bytes l.row l.cfa l.callee.regs.now.columns l.callee.memory.now l.columns;
+  restored : AreRestored l.column l.row l.cfa l.callee.regs.now.columns l.callee.memory.now l.columns;
   all : length l.columns ≡ 17;
 }
