@@ -88,12 +88,7 @@ fn saved_there(expr: &ColumnExpr<'_>, cfa: u64, callee: &Callee<'_>) -> Result<u
 }
 
 /// The number that a column is restored to by its rule.
-fn restored(
-    column: usize,
-    rule: &Rule<'_>,
-    cfa: u64,
-    callee: &Callee<'_>,
-) -> Result<u64, NoBytes>
+fn restored(column: usize, rule: &Rule<'_>, cfa: u64, callee: &Callee<'_>) -> Result<u64, NoBytes>
     ensures { IsRestored column (rule_told (λ e. e.bytes.now) rule.now) cfa
         callee.now.regs.now.columns callee.now.memory.now result }
 {
