@@ -4,7 +4,6 @@
 ghost use Rattle.std.specs.Prelude.{◌≤◌, ◌<◌, length};
 
 use super::*;
-use frame_expr::{CfaExpr, ColumnExpr};
 use std::alloc::Global;
 use std::test::*;
 
@@ -203,7 +202,7 @@ fn damaged_sections(rt: HostRuntime) {
 }
 
 /// All steps of a program.
-fn steps_of<'a>(alloc: Global, mut program: Program<'a>) -> Result<Vec<Step<'a>>, Fail> {
+fn steps_of(alloc: Global, mut program: PlacedProgram) -> Result<Vec<PlacedStep>, Fail> {
     let mut steps = Vec::new(alloc);
     for _ in 0..64 {
         match program.next() {
@@ -214,8 +213,8 @@ fn steps_of<'a>(alloc: Global, mut program: Program<'a>) -> Result<Vec<Step<'a>>
     Err(Fail::from("the program has no end"))
 }
 
-fn at<'a>(location: u64, instruction: Instruction<'a>) -> Step<'a> {
-    Step {
+fn at(location: u64, instruction: PlacedInstruction) -> PlacedStep {
+    PlacedStep {
         location,
         instruction,
     }
@@ -227,42 +226,42 @@ fn steps(rt: HostRuntime) -> Result<(), Fail> {
     let fde = s4.fde_at(0x1000).ok_or("an FDE covers the address")?;
     let minus_8 = 0xffff_ffff_ffff_fff8;
     let minus_16 = 0xffff_ffff_ffff_fff0;
-    let initial = steps_of(rt.alloc(), fde.initial())?;
+    let initial = steps_of(rt.alloc(), fde.placed_initial())?;
     let shown = [
-        at(0x1000, Instruction::Cfa { column: 7, by: 8 }),
+        at(0x1000, PlacedInstruction::Cfa { column: 7, by: 8 }),
         at(
             0x1000,
-            Instruction::Set {
+            PlacedInstruction::Set {
                 column: 16,
-                rule: ReadRule::Offset { by: minus_8 },
+                rule: PlacedReadRule::Offset { by: minus_8 },
             },
         ),
-        at(0x1000, Instruction::Nop),
-        at(0x1000, Instruction::Nop),
+        at(0x1000, PlacedInstruction::Nop),
+        at(0x1000, PlacedInstruction::Nop),
     ];
     assert_eq!(rt; initial.as_slice(), shown.as_slice());
-    let program = steps_of(rt.alloc(), fde.program())?;
+    let program = steps_of(rt.alloc(), fde.placed_program())?;
     let shown = [
-        at(0x1001, Instruction::Advance),
-        at(0x1001, Instruction::CfaOffset { by: 16 }),
+        at(0x1001, PlacedInstruction::Advance),
+        at(0x1001, PlacedInstruction::CfaOffset { by: 16 }),
         at(
             0x1001,
-            Instruction::Set {
+            PlacedInstruction::Set {
                 column: 6,
-                rule: ReadRule::Offset { by: minus_16 },
+                rule: PlacedReadRule::Offset { by: minus_16 },
             },
         ),
-        at(0x1004, Instruction::Advance),
-        at(0x1004, Instruction::CfaColumn { column: 6 }),
-        at(0x1008, Instruction::Advance),
-        at(0x1008, Instruction::Remember),
-        at(0x1008, Instruction::Cfa { column: 7, by: 8 }),
-        at(0x1008, Instruction::Restore { column: 6 }),
-        at(0x1009, Instruction::Advance),
-        at(0x1009, Instruction::RestoreState),
-        at(0x1009, Instruction::Nop),
-        at(0x1009, Instruction::Nop),
-        at(0x1009, Instruction::Nop),
+        at(0x1004, PlacedInstruction::Advance),
+        at(0x1004, PlacedInstruction::CfaColumn { column: 6 }),
+        at(0x1008, PlacedInstruction::Advance),
+        at(0x1008, PlacedInstruction::Remember),
+        at(0x1008, PlacedInstruction::Cfa { column: 7, by: 8 }),
+        at(0x1008, PlacedInstruction::Restore { column: 6 }),
+        at(0x1009, PlacedInstruction::Advance),
+        at(0x1009, PlacedInstruction::RestoreState),
+        at(0x1009, PlacedInstruction::Nop),
+        at(0x1009, PlacedInstruction::Nop),
+        at(0x1009, PlacedInstruction::Nop),
     ];
     assert_eq!(rt; program.as_slice(), shown.as_slice());
     Ok(())
@@ -282,53 +281,96 @@ fn expressions(rt: HostRuntime) {
     }
 }
 
-/// The expression of a linkage table: column 7 plus 8, and 8 more where column 16 is inside an
-/// entry, behind its push.
-const LINKAGE: [u8; 11] = [
-    0x77, 0x08, 0x80, 0x00, 0x3f, 0x1a, 0x3b, 0x2a, 0x33, 0x24, 0x22,
-];
-
+/// The steps of S2 and S3, which tell the places of their expressions.
 #[test]
-fn steps_with_an_expression_of_the_cfa(rt: HostRuntime) -> Result<(), Fail> {
-    let expr = CfaExpr::read(&LINKAGE).ok().ok_or("an expression")?;
+fn steps_with_expressions(rt: HostRuntime) -> Result<(), Fail> {
     let s2 = read(rt.alloc(), 0x3000, &S2)?;
     let fde = s2.fde_at(0x1000).ok_or("an FDE covers the address")?;
     assert_eq!(rt; fde.range(), 0x30);
-    let program = steps_of(rt.alloc(), fde.program())?;
+    let program = steps_of(rt.alloc(), fde.placed_program())?;
+    let block = 48;
     let shown = [
-        at(0x1000, Instruction::CfaOffset { by: 16 }),
-        at(0x1006, Instruction::Advance),
-        at(0x1006, Instruction::CfaOffset { by: 24 }),
-        at(0x1010, Instruction::Advance),
-        at(0x1010, Instruction::CfaExpression { expr }),
-        at(0x1010, Instruction::Nop),
-        at(0x1010, Instruction::Nop),
-        at(0x1010, Instruction::Nop),
-        at(0x1010, Instruction::Nop),
+        at(0x1000, PlacedInstruction::CfaOffset { by: 16 }),
+        at(0x1006, PlacedInstruction::Advance),
+        at(0x1006, PlacedInstruction::CfaOffset { by: 24 }),
+        at(0x1010, PlacedInstruction::Advance),
+        at(0x1010, PlacedInstruction::CfaExpression { expr: block }),
+        at(0x1010, PlacedInstruction::Nop),
+        at(0x1010, PlacedInstruction::Nop),
+        at(0x1010, PlacedInstruction::Nop),
+        at(0x1010, PlacedInstruction::Nop),
+    ];
+    assert_eq!(rt; program.as_slice(), shown.as_slice());
+    let s3 = read(rt.alloc(), 0x6000, &S3)?;
+    let fde = s3.fde_at(0x5000).ok_or("an FDE covers the address")?;
+    assert_eq!(rt; fde.range(), 0x10);
+    let program = steps_of(rt.alloc(), fde.placed_program())?;
+    let rule = PlacedReadRule::Expression { expr: 48 };
+    let shown = [
+        at(0x5000, PlacedInstruction::CfaExpression { expr: 42 }),
+        at(0x5000, PlacedInstruction::Set { column: 16, rule }),
+        at(0x5000, PlacedInstruction::Nop),
     ];
     assert_eq!(rt; program.as_slice(), shown.as_slice());
     Ok(())
 }
 
+/// Whether a program gives this expression to the CFA, at this location, before any other.
+fn gives_the_cfa(mut program: Program<'_>, location: u64, bytes: &[u8]) -> bool {
+    for _ in 0..64 {
+        match program.next() {
+            Some(step) => {
+                if let Instruction::CfaExpression { expr } = step.instruction {
+                    return step.location == location && expr.bytes() == bytes;
+                }
+            }
+            None => return false,
+        }
+    }
+    false
+}
+
+/// The bytes of a rule's expression, where it is one by which a column is saved.
+fn saved_by<'a>(rule: ReadRule<'a>) -> Option<&'a [u8]> {
+    match rule {
+        ReadRule::Expression { expr } => Some(expr.bytes()),
+        _ => None,
+    }
+}
+
+/// Whether the first column that a program sets is saved at the value of this expression.
+fn saves_by(mut program: Program<'_>, bytes: &[u8]) -> bool {
+    for _ in 0..64 {
+        match program.next() {
+            Some(step) => {
+                if let Instruction::Set { rule, .. } = step.instruction {
+                    return saved_by(rule) == Some(bytes);
+                }
+            }
+            None => return false,
+        }
+    }
+    false
+}
+
+/// The expressions of S2 and S3, which are lent.
 #[test]
-fn steps_with_an_expression_of_a_column(rt: HostRuntime) -> Result<(), Fail> {
-    let cfa = CfaExpr::read(&[0x77, 0x10, 0x06])
-        .ok()
-        .ok_or("an expression")?;
-    let column = ColumnExpr::read(&[0x77, 0x18]).ok().ok_or("an expression")?;
+fn lent_expressions(rt: HostRuntime) -> Result<(), Fail> {
+    let s2 = read(rt.alloc(), 0x3000, &S2)?;
+    let fde = s2.fde_at(0x1000).ok_or("an FDE covers the address")?;
+    assert!(rt; !gives_the_cfa(fde.initial(), 0x1000, &[]));
+    assert!(rt; gives_the_cfa(fde.program(), 0x1010, &LINKAGE));
     let s3 = read(rt.alloc(), 0x6000, &S3)?;
     let fde = s3.fde_at(0x5000).ok_or("an FDE covers the address")?;
-    assert_eq!(rt; fde.range(), 0x10);
-    let program = steps_of(rt.alloc(), fde.program())?;
-    let rule = ReadRule::Expression { expr: column };
-    let shown = [
-        at(0x5000, Instruction::CfaExpression { expr: cfa }),
-        at(0x5000, Instruction::Set { column: 16, rule }),
-        at(0x5000, Instruction::Nop),
-    ];
-    assert_eq!(rt; program.as_slice(), shown.as_slice());
+    assert!(rt; gives_the_cfa(fde.program(), 0x5000, &[0x77, 0x10, 0x06]));
+    assert!(rt; saves_by(fde.program(), &[0x77, 0x18]));
     Ok(())
 }
+
+/// The expression of a linkage table: column 7 plus 8, and 8 more behind an entry's push.
+const LINKAGE: [u8; 11] = [
+    0x77, 0x08, 0x80, 0x00, 0x3f, 0x1a, 0x3b, 0x2a, 0x33, 0x24, 0x22,
+];
 
 #[test]
 fn real_sections(rt: HostRuntime) -> Result<(), Fail> {
