@@ -1,5 +1,5 @@
 -- Scripts and the lines before a bad one: some script begins with these, and none with the bad one too.
-use Rattle.std.proofs.Common.{◌≡◌, ◌≢◌, inr, ℕ, suc, ◌+◌, ◌-◌, ◌≤◌, zero, Bool, true, false, cond, eqb, List, [], ◌∷◌, ◌++◌, length, take, Result, Ok, Err, refl, sym, ap, subst, ◌∙◌, append_assoc, append-nil, length-append, arith}
+use Rattle.std.proofs.Common.{◌≡◌, ◌≢◌, inr, ℕ, suc, ◌+◌, ◌-◌, ◌≤◌, zero, Bool, true, false, true≢false, cond, eqb, List, [], ◌∷◌, ◌++◌, length, take, Result, Ok, Err, refl, sym, ap, subst, ◌∙◌, append_assoc, append-nil, length-append, arith}
 use Rattle.std.specs.List.{All, AllByRecursion}
 use Rattle.std.proofs.lemmas.Bool.{eqb-false}
 use Rattle.std.proofs.lemmas.Grind.{flat_map-append}
@@ -19,9 +19,10 @@ use Rattle.event_script.specs.declared.reader.statement.Statement.{Statement}
 use Rattle.event_script.specs.declared.reader.statement.Statement.TheVariants as statement
 use Rattle.event_script.proofs.Pieces.{some_pieces}
 use Rattle.event_script.proofs.Joined.{Without, pieces_first}
-use Rattle.event_script.proofs.SoFar.{AreRounds, Sound, statements_so_far, script_so_far, no_snapshots, no_fixed}
-use Rattle.event_script.proofs.LineLists.{rounds_of_one, rounds_of_none, no_rounds_at}
-use Rattle.event_script.proofs.Sound.{open_snapshots}
+use Rattle.event_script.specs.declared.reader.totals.Totals.{Totals}
+use Rattle.event_script.proofs.EventTotals.{Totalled}
+use Rattle.event_script.proofs.SoFar.{AreRounds, Sound, statements_so_far, early_rounds, no_rounds, no_snapshots, no_fixed}
+use Rattle.event_script.proofs.Sound.{open_snapshots, round_rounds, thread_rounds}
 use Rattle.event_script.proofs.LinesRead.{line_read, line_sound, text_so_far, text_step, at_first}
 use Rattle.event_script.proofs.Passed.{Judged}
 use Rattle.event_script.proofs.Judged.{judged_line}
@@ -133,52 +134,65 @@ least_runs nodes loads some_nodes some_loads = record {
   sections = (refl, at_first.sections);
   fixed = no_fixed [];
   snapshots = no_snapshots;
-  rounds = (omega arith, (no_rounds_at none_there [] refl).each);
+  rounds = (omega arith, no_rounds none_there);
+  unwinds = omega arith;
 }
 
 least_built : (nodes loads : ℕ) → IsBuilt (least nodes loads)
-least_built nodes loads = (let none = no_rounds_at none_there [] refl in record { rounds = none.few; threads = none.small })
+least_built nodes loads has = absurd (true≢false (sym has))
 
-module _ (script : ScriptData) (snapshot : SnapshotData) (threads : List (List Event)) (events : List Event) where
+module _ (script : ScriptData) (snapshot : SnapshotData) (threads : List (List Event)) (events : List Event) (totals : Totals) where
   abbrev so_far : Stage → DraftData
-  so_far stage = record { stage = stage; script = script; snapshot = snapshot; threads = threads; events = events }
+  so_far stage = record { stage = stage; script = script; snapshot = snapshot; threads = threads; events = events; totals = totals }
 
-  -- with these rounds it is a script
-  with_rounds : (known : DraftData) (snapshots : List SnapshotData) (rounds : List (List (List Event))) → known.script ≡ script → (length snapshots ≤ 4096) × All IsSnapshot snapshots → (4 ≤ script.nodes) × (script.nodes ≤ 16384) → (1 ≤ script.loads) × (script.loads ≤ 1024) → Sound known → AreRounds (record { images = length script.images; snapshots = length snapshots }) rounds → IsRunnable (record script { snapshots = snapshots; rounds = rounds })
-  with_rounds known snapshots rounds same some nodes loads s are =
-      subst (λ (x : ScriptData). (4 ≤ x.nodes) × (x.nodes ≤ 16384) → (1 ≤ x.loads) × (x.loads ≤ 1024) → AreRounds (record { images = length x.images; snapshots = length snapshots }) rounds → IsRunnable (record x { snapshots = snapshots; rounds = rounds })) same
-      (λ nodes loads are. record {
-        nodes = nodes;
-        loads = loads;
-        images = (s.count, s.spans);
-        sections = (s.each, s.sections);
-        fixed = s.fixed;
-        snapshots = some;
-        rounds = (omega (arith, are.few), are.each);
-      }) nodes loads are
+  abbrev with_all : List SnapshotData → List (List (List Event)) → ScriptData
+  with_all snapshots rounds = record script { snapshots = snapshots; rounds = rounds }
+
+  -- with these rounds it is a script that can be run
+  record CanRun (s : ScriptData) : Type 0 where
+    runnable : IsRunnable s
+    built : IsBuilt s
+
+  with_rounds : (at : Stage) (snapshots : List SnapshotData) (rounds : List (List (List Event))) → (length snapshots ≤ 4096) × All IsSnapshot snapshots → (4 ≤ script.nodes) × (script.nodes ≤ 16384) → (1 ≤ script.loads) × (script.loads ≤ 1024) → Sound (so_far at) → Totalled totals rounds
+      → AreRounds (record { images = length script.images; snapshots = length snapshots }) rounds → CanRun (with_all snapshots rounds)
+  with_rounds at snapshots rounds some nodes loads s t are = record {
+    runnable = record {
+      nodes = nodes;
+      loads = loads;
+      images = (s.count, s.spans);
+      sections = (s.each, s.sections);
+      fixed = s.fixed;
+      snapshots = some;
+      rounds = (are.few, are.each);
+      unwinds = (let few = t.few in omega (arith, ap (λ (x : Totals). x.unwinds) t.is));
+    };
+    built = λ has. t.serial (ap (λ (x : Totals). x.has_registration) t.is ∙ has);
+  }
+
+  -- the lines so far, and then the last one
+  ends_with : (at : Stage) (snapshots : List SnapshotData) (rounds : List (List (List Event))) → body_statements (with_all snapshots rounds) ≡ statements_so_far (so_far at) → CanRun (with_all snapshots rounds) → CanEnd (so_far at)
+  ends_with at snapshots rounds is can = record { script = with_all snapshots rounds; more = statement.End ∷ []; runnable = can.runnable; built = can.built; is = ap (λ (x : List Statement). x ++ statement.End ∷ []) is }
 
   can_end : (at : Stage) → Sound (so_far at) → CanEnd (so_far at)
   can_end stage.Version s = record { script = least 4 1; more = body_statements (least 4 1) ++ statement.End ∷ []; runnable = least_runs 4 1 (omega arith, omega arith) (omega arith, omega arith); built = least_built 4 1; is = refl }
   can_end stage.Nodes s = record { script = least 4 1; more = statement.Nodes 4 ∷ statement.Loads 1 ∷ statement.End ∷ []; runnable = least_runs 4 1 (omega arith, omega arith) (omega arith, omega arith); built = least_built 4 1; is = refl }
   can_end stage.Loads s = record { script = least script.nodes 1; more = statement.Loads 1 ∷ statement.End ∷ []; runnable = least_runs script.nodes 1 s.nodes (omega arith, omega arith); built = least_built script.nodes 1; is = refl }
-  can_end stage.Images s =
-      let are = no_rounds_at (counts_of script) script.rounds s.shape.0 in
-      record { script = script; more = statement.End ∷ []; runnable = with_rounds (so_far stage.Images) script.snapshots script.rounds refl s.snapshots s.nodes s.loads s are; built = record { rounds = are.few; threads = are.small }; is = refl }
-  can_end stage.Fixed s =
-      let are = no_rounds_at (counts_of script) script.rounds s.shape.0 in
-      record { script = script; more = statement.End ∷ []; runnable = with_rounds (so_far stage.Fixed) script.snapshots script.rounds refl s.snapshots s.nodes s.loads s are; built = record { rounds = are.few; threads = are.small }; is = refl }
+  can_end stage.Images s = ends_with stage.Images script.snapshots script.rounds refl (with_rounds stage.Images script.snapshots script.rounds s.snapshots s.nodes s.loads s s.totals (early_rounds (counts_of script) script.rounds s.shape.0))
+  can_end stage.Fixed s = ends_with stage.Fixed script.snapshots script.rounds refl (with_rounds stage.Fixed script.snapshots script.rounds s.snapshots s.nodes s.loads s s.totals (early_rounds (counts_of script) script.rounds s.shape.0))
   can_end stage.Snapshots s =
-      let are = no_rounds_at (record { images = length script.images; snapshots = length (script.snapshots ++ snapshot ∷ []) }) script.rounds s.shape.0 in
-      let some = open_snapshots script snapshot threads events (s.shape.2, s.shape.3) s.snapshots in
-      record { script = script_so_far (so_far stage.Snapshots); more = statement.End ∷ []; runnable = with_rounds (so_far stage.Snapshots) (script.snapshots ++ snapshot ∷ []) script.rounds refl some s.nodes s.loads s are; built = record { rounds = are.few; threads = are.small }; is = refl }
+      let stacks = script.snapshots ++ snapshot ∷ [] in
+      let some = open_snapshots script snapshot threads events totals (s.shape.2, s.shape.3) s.snapshots in
+      let are = early_rounds (record { images = length script.images; snapshots = length stacks }) script.rounds s.shape.0 in
+      ends_with stage.Snapshots stacks script.rounds refl (with_rounds stage.Snapshots stacks script.rounds some s.nodes s.loads s s.totals are)
   can_end stage.Round s =
-      let are = rounds_of_none (counts_of script) script.rounds threads s.shape.0 s.shape.1 in
-      record { script = script_so_far (so_far stage.Round); more = statement.End ∷ []; runnable = with_rounds (so_far stage.Round) script.snapshots (script.rounds ++ threads ∷ []) refl s.snapshots s.nodes s.loads s are; built = record { rounds = are.few; threads = are.small }; is = refl }
+      let rounds = script.rounds ++ threads ∷ [] in
+      ends_with stage.Round script.snapshots rounds refl (with_rounds stage.Round script.snapshots rounds s.snapshots s.nodes s.loads s s.totals (round_rounds script snapshot threads events totals s))
   can_end stage.Thread s =
-      let are = rounds_of_one (counts_of script) script.rounds threads events s.shape.0 s.shape.1 s.events in
-      record { script = script_so_far (so_far stage.Thread); more = statement.End ∷ []; runnable = with_rounds (so_far stage.Thread) script.snapshots (script.rounds ++ (threads ++ events ∷ []) ∷ []) refl s.snapshots s.nodes s.loads s are; built = record { rounds = are.few; threads = are.small }; is = refl }
+      let rounds = script.rounds ++ (threads ++ events ∷ []) ∷ [] in
+      ends_with stage.Thread script.snapshots rounds refl (with_rounds stage.Thread script.snapshots rounds s.snapshots s.nodes s.loads s s.totals (thread_rounds script snapshot threads events totals s))
   can_end stage.Ended s =
-      record { script = script; more = []; runnable = with_rounds (so_far stage.Ended) script.snapshots script.rounds refl s.snapshots s.nodes s.loads s s.shape; built = record { rounds = s.shape.few; threads = s.shape.small }; is = sym (append-nil (body_statements script ++ statement.End ∷ [])) }
+      let can = with_rounds stage.Ended script.snapshots script.rounds s.snapshots s.nodes s.loads s s.totals (record { few = s.shape; each = s.rounds }) in
+      record { script = script; more = []; runnable = can.runnable; built = can.built; is = sym (append-nil (body_statements script ++ statement.End ∷ [])) }
 
 -- good lines are the text of what they make known
 record HasText (known last : DraftData) (lines : List (List ℕ)) : Type 0 where
@@ -201,7 +215,7 @@ pub some_begins : (bytes : List ℕ) (number : ℕ) (why : Reason) → IsFirstBa
 unfolding script_text
 some_begins bytes number why bad =
     let made = made_text nothing_known bad.known bad.before at_first bad.good in
-    let ends = can_end bad.known.script bad.known.snapshot bad.known.threads bad.known.events bad.known.stage made.sound in
+    let ends = can_end bad.known.script bad.known.snapshot bad.known.threads bad.known.events bad.known.totals bad.known.stage made.sound in
     let count : number - 1 ≡ length bad.before = omega (arith, bad.counted) in
     let taken : take (number - 1) (pieces 10 bytes) ≡ bad.before = ap (take (number - 1)) bad.cut ∙ take_front bad.before (bad.line ∷ bad.others) (number - 1) count in (
       ends.script,

@@ -1,5 +1,5 @@
 -- What is spelled is read: each line of a script is good after those before it.
-use Rattle.std.proofs.Common.{ap₂, ◌≡◌, ℕ, ◌+◌, ◌-◌, ◌^◌, ◌<◌, ◌≤◌, true, false, cond, ◌&&◌, eqb, ltb, leb, List, [], ◌∷◌, ◌++◌, length, map, Option, Result, Ok, Err, refl, sym, ap, subst, ◌∙◌, append_assoc, append-nil, eq-eqb, lt-ltb, le-leb, arith, length-append}
+use Rattle.std.proofs.Common.{ap₂, ◌≡◌, ℕ, ◌+◌, ◌-◌, ◌^◌, ◌<◌, ◌≤◌, true, cond, ◌&&◌, eqb, ltb, leb, List, [], ◌∷◌, ◌++◌, length, map, Option, Result, Ok, Err, refl, sym, ap, subst, ◌∙◌, append_assoc, append-nil, eq-eqb, lt-ltb, le-leb, arith, length-append}
 use Rattle.std.specs.List.{All, AllByRecursion}
 use Rattle.std.specs.Option.{ok_or}
 use Rattle.std.proofs.lemmas.Bool.{and_from, cond-true}
@@ -14,9 +14,9 @@ use Rattle.frame_expr.specs.declared.regs.Regs.{Regs}
 use Rattle.event_script.specs.declared.reader.statement.SnapshotFields.{SnapshotFields}
 use Rattle.event_script.specs.ScriptData.{ScriptData, ImageData, SnapshotData, Counts, counts_of, IsSnapshot, recorded_bytes, IsSectionOf, span_of, AreFixed, IsEvent, IsThread, IsRound}
 use Rattle.event_script.specs.Statements.{kind_of_statement, HasForm}
-use Rattle.event_script.specs.Spelling.{statements_text, image_data, image_statements, snapshot_lines, snapshot_statements, round_statements, first_statements, body_statements, script_text, IsScript}
-use Rattle.event_script.specs.Draft.{DraftData, no_snapshot, nothing_known, may_come, has_round, is_unbuilt, snapshots_at, rounds_at, span_from, with_image, contents_or_none, with_statement}
-use Rattle.event_script.specs.Reading.{◌>=>◌, section_or, image_added, last_fixed, is_above, accepts, is_named, added, at_end, BadLine, after_lines, outcome}
+use Rattle.event_script.specs.Spelling.{statements_text, image_data, image_statements, snapshot_lines, snapshot_statements, thread_statements, round_statements, first_statements, body_statements, script_text, IsScript}
+use Rattle.event_script.specs.Draft.{DraftData, no_snapshot, no_totals, nothing_known, may_come, snapshots_at, rounds_at, threads_so_far, rounds_so_far, span_from, with_image, contents_or_none, after_round, with_statement}
+use Rattle.event_script.specs.Reading.{◌>=>◌, section_or, image_added, last_fixed, is_above, accepts, is_named, has_room, added, at_end, BadLine, after_lines, outcome}
 use Rattle.event_script.specs.declared.script.Event.{Event}
 use Rattle.event_script.specs.declared.script.Event.TheVariants as event
 use Rattle.event_script.specs.declared.reader.fault.Reason.{Reason}
@@ -29,6 +29,9 @@ use Rattle.event_script.specs.declared.reader.statement.Statement.TheVariants as
 use Rattle.event_script.proofs.Sections.{section_ok}
 use Rattle.event_script.proofs.Fixed.{found_span, rise_at}
 use Rattle.event_script.proofs.Recorded.{accepted_is, accepted_at, bytes_in_all, recorded_parts}
+use Rattle.event_script.specs.declared.reader.totals.Totals.{Totals}
+use Rattle.event_script.proofs.EventTotals.{totals_of, totals_round, totals_thread, totals_event}
+use Rattle.event_script.proofs.Standing.{CanStand, event_built, event_room, thread_built, round_built}
 use Rattle.event_script.proofs.Added.{Adds, CanAdd, adds_then, reads_all}
 
 -- ---- the lines of a script
@@ -37,16 +40,21 @@ abbrev good : DraftData → Result DraftData Reason
 good known = Ok known
 
 module _ (nodes loads : ℕ) where
-  abbrev at : Stage → List SpanData → List SectionData → List ℕ → List SnapshotData → SnapshotData → List (List (List Event)) → List (List Event) → List Event → DraftData
-  at stage images sections fixed snapshots snapshot rounds threads events = record {
+  abbrev at_totals : Stage → List SpanData → List SectionData → List ℕ → List SnapshotData → SnapshotData → List (List (List Event)) → List (List Event) → List Event → Totals → DraftData
+  at_totals stage images sections fixed snapshots snapshot rounds threads events totals = record {
     stage = stage;
     script = record { nodes = nodes; loads = loads; images = images; sections = sections; fixed = fixed; snapshots = snapshots; rounds = rounds };
     snapshot = snapshot;
     threads = threads;
     events = events;
+    totals = totals;
   }
 
-  adds_first : 4 ≤ nodes → nodes ≤ 16384 → 1 ≤ loads → loads ≤ 1024 → Adds nothing_known (first_statements nodes loads) (at stage.Images [] [] [] [] no_snapshot [] [] [])
+  -- before the first round
+  abbrev at : Stage → List SpanData → List SectionData → List ℕ → List SnapshotData → SnapshotData → DraftData
+  at stage images sections fixed snapshots snapshot = at_totals stage images sections fixed snapshots snapshot [] [] [] no_totals
+
+  adds_first : 4 ≤ nodes → nodes ≤ 16384 → 1 ≤ loads → loads ≤ 1024 → Adds nothing_known (first_statements nodes loads) (at stage.Images [] [] [] [] no_snapshot)
   unfolding added
   adds_first low high least most =
       let nodes_known : DraftData = with_statement nothing_known (statement.Version 1) in
@@ -65,10 +73,10 @@ module _ (nodes loads : ℕ) where
 
   module _ (front : List SpanData) (before : List SectionData) (number : ℕ) (span : SpanData) (section : SectionData) (same : number ≡ length front) (room : length front < 4096) (is : IsSpan span) (whole : IsSectionOf section) where
     abbrev image_known : DraftData
-    image_known = at stage.Images front before [] [] no_snapshot [] [] []
+    image_known = at stage.Images front before [] [] no_snapshot
 
     abbrev image_next : DraftData
-    image_next = at stage.Images (front ++ span ∷ []) (before ++ section ∷ []) [] [] no_snapshot [] [] []
+    image_next = at stage.Images (front ++ span ∷ []) (before ++ section ∷ []) [] [] no_snapshot
 
     abbrev this : ImageData
     this = image_data number span section
@@ -88,7 +96,7 @@ module _ (nodes loads : ℕ) where
     image_after : with_statement image_known (statement.Image this) ≡ image_next
     image_after =
         ap (λ (given : Result SectionData FrameFault). with_image image_known this (contents_or_none section.address section.bytes given)) section_known
-        ∙ ap (λ (s : SpanData). at stage.Images (front ++ s ∷ []) (before ++ section ∷ []) [] [] no_snapshot [] [] []) span_again
+        ∙ ap (λ (s : SpanData). at stage.Images (front ++ s ∷ []) (before ++ section ∷ []) [] [] no_snapshot) span_again
 
     image_good : image_added image_known this ≡ good (with_image image_known this section)
     image_good =
@@ -117,18 +125,18 @@ module _ (nodes loads : ℕ) where
         }
 
   adds_images : (front images : List SpanData) (number : ℕ) (before sections : List SectionData) → number ≡ length front → length sections ≡ length images → length front + length images ≤ 4096 → AllByRecursion IsSpan images → AllByRecursion IsSectionOf sections
-      → Adds (at stage.Images front before [] [] no_snapshot [] [] []) (image_statements number images sections) (at stage.Images (front ++ images) (before ++ sections) [] [] no_snapshot [] [] [])
-  adds_images front [] number before [] same each room spans whole = ap₂ (λ (x : List SpanData) (y : List SectionData). at stage.Images x y [] [] no_snapshot [] [] []) (sym (append-nil front)) (sym (append-nil before))
+      → Adds (at stage.Images front before [] [] no_snapshot) (image_statements number images sections) (at stage.Images (front ++ images) (before ++ sections) [] [] no_snapshot)
+  adds_images front [] number before [] same each room spans whole = ap₂ (λ (x : List SpanData) (y : List SectionData). at stage.Images x y [] [] no_snapshot) (sym (append-nil front)) (sym (append-nil before))
   adds_images front [] number before (section ∷ sections) same each room spans whole = absurd (omega arith)
   adds_images front (span ∷ images) number before [] same each room spans whole = absurd (omega arith)
   adds_images front (span ∷ images) number before (section ∷ sections) same each room spans whole =
       let rest = adds_images (front ++ span ∷ []) images (number + 1) (before ++ section ∷ []) sections (omega (arith, length-append front (span ∷ []))) (omega arith) (omega (arith, length-append front (span ∷ []))) spans.1 whole.1 in
       let few : length front < 4096 = omega arith in
-      let last : at stage.Images ((front ++ span ∷ []) ++ images) ((before ++ section ∷ []) ++ sections) [] [] no_snapshot [] [] [] ≡ at stage.Images (front ++ span ∷ images) (before ++ section ∷ sections) [] [] no_snapshot [] [] [] =
-      ap₂ (λ (x : List SpanData) (y : List SectionData). at stage.Images x y [] [] no_snapshot [] [] []) (append_assoc front (span ∷ []) images) (append_assoc before (section ∷ []) sections) in (
+      let last : at stage.Images ((front ++ span ∷ []) ++ images) ((before ++ section ∷ []) ++ sections) [] [] no_snapshot ≡ at stage.Images (front ++ span ∷ images) (before ++ section ∷ sections) [] [] no_snapshot =
+      ap₂ (λ (x : List SpanData) (y : List SectionData). at stage.Images x y [] [] no_snapshot) (append_assoc front (span ∷ []) images) (append_assoc before (section ∷ []) sections) in (
         image_can front before number span section same few spans.0 whole.0,
-        subst (λ (d : DraftData). Adds d (image_statements (number + 1) images sections) (at stage.Images (front ++ span ∷ images) (before ++ section ∷ sections) [] [] no_snapshot [] [] [])) (sym (image_after front before number span section same few spans.0 whole.0))
-            (subst (Adds (at stage.Images (front ++ span ∷ []) (before ++ section ∷ []) [] [] no_snapshot [] [] []) (image_statements (number + 1) images sections)) last rest),
+        subst (λ (d : DraftData). Adds d (image_statements (number + 1) images sections) (at stage.Images (front ++ span ∷ images) (before ++ section ∷ sections) [] [] no_snapshot)) (sym (image_after front before number span section same few spans.0 whole.0))
+            (subst (Adds (at stage.Images (front ++ span ∷ []) (before ++ section ∷ []) [] [] no_snapshot) (image_statements (number + 1) images sections)) last rest),
       )
 
   -- ---- fixed images
@@ -148,7 +156,7 @@ module _ (nodes loads : ℕ) where
 
   module _ (images : List SpanData) (sections : List SectionData) (few : length images ≤ 4096) where
     abbrev with_fixed : Stage → List ℕ → DraftData
-    with_fixed start fixed = at start images sections fixed [] no_snapshot [] [] []
+    with_fixed start fixed = at start images sections fixed [] no_snapshot
 
     abbrev IsThere : ℕ → Type 0
     IsThere image = image < length images
@@ -186,22 +194,21 @@ module _ (nodes loads : ℕ) where
       may_stack : may_come start kind.Snapshot ≡ true
       may_begin : may_come start kind.Round ≡ true
       may_end : may_come start kind.End ≡ true
-      no_round : has_round start ≡ false
       none : rounds_at start [] [] [] ≡ []
 
     early : (fixed : List ℕ) → IsEarly (after_fixed stage.Images fixed)
-    early [] = record { may_stack = refl; may_begin = refl; may_end = refl; no_round = refl; none = refl }
-    early (image ∷ fixed) = record { may_stack = refl; may_begin = refl; may_end = refl; no_round = refl; none = refl }
+    early [] = record { may_stack = refl; may_begin = refl; may_end = refl; none = refl }
+    early (image ∷ fixed) = record { may_stack = refl; may_begin = refl; may_end = refl; none = refl }
 
     snapshots_are_early : IsEarly stage.Snapshots
-    snapshots_are_early = record { may_stack = refl; may_begin = refl; may_end = refl; no_round = refl; none = refl }
+    snapshots_are_early = record { may_stack = refl; may_begin = refl; may_end = refl; none = refl }
 
     -- ---- snapshots, and their memory
 
     -- where the reader stands after these snapshots, and which one goes on
     module _ (fixed : List ℕ) where
       abbrev with_stacks : Stage → List SnapshotData → SnapshotData → DraftData
-      with_stacks start snapshots snapshot = at start images sections fixed snapshots snapshot [] [] []
+      with_stacks start snapshots snapshot = at start images sections fixed snapshots snapshot
 
       snapshot_can : (start : Stage) (front : List SnapshotData) (snapshot : SnapshotData) (fields : SnapshotFields) → may_come start kind.Snapshot ≡ true → fields.number ≡ length (snapshots_at start front snapshot) → length (snapshots_at start front snapshot) < 4096
           → length fields.regs.columns ≡ 17 → All (λ n. n < 2 ^ 64) fields.regs.columns → CanAdd (with_stacks start front snapshot) (statement.Snapshot fields)
@@ -282,35 +289,46 @@ module _ (nodes loads : ℕ) where
       abbrev counts : Counts
       counts = record { images = length images; snapshots = length snapshots }
 
-      -- a round has begun, or was over
-      abbrev after_all : Stage → List (List (List Event)) → List (List Event) → List Event → DraftData
-      after_all stage rounds threads events = at stage images sections fixed snapshots no_snapshot rounds threads events
+      -- where rounds stand, and what their events come to
+      abbrev after_all : Stage → List (List (List Event)) → List (List Event) → List Event → Totals → DraftData
+      after_all stage rounds threads events totals = at_totals stage images sections fixed snapshots no_snapshot rounds threads events totals
+
+      abbrev in_round : List (List (List Event)) → DraftData
+      in_round rounds = after_all stage.Round rounds [] [] (totals_of (rounds ++ [] ∷ []))
+
+      abbrev in_thread : List (List (List Event)) → List (List Event) → List Event → DraftData
+      in_thread rounds threads events = after_all stage.Thread rounds threads events (totals_of (rounds ++ (threads ++ events ∷ []) ∷ []))
 
       abbrev ended : List (List (List Event)) → DraftData
-      ended rounds = after_all stage.Ended rounds [] []
+      ended rounds = after_all stage.Ended rounds [] [] (totals_of rounds)
 
-      module _ (start : Stage) (so_far : List SnapshotData) (snapshot : SnapshotData) (is : IsEarly start) (all : snapshots_at start so_far snapshot ≡ snapshots) where
-        abbrev before_all : DraftData
-        before_all = at start images sections fixed so_far snapshot [] [] []
+      -- these rounds have begun, and another may begin, or the script end
+      record IsOpen (rounds : List (List (List Event))) (known : DraftData) : Type 0 where
+        may_begin : may_come known.stage kind.Round ≡ true
+        may_end : may_come known.stage kind.End ≡ true
+        after : (next : Stage) → after_round known next ≡ after_all next rounds [] [] (totals_of rounds)
 
-        end_early : Adds before_all (statement.End ∷ []) (ended [])
-        unfolding added
-        end_early = (
-          record { may = is.may_end; built = refl; form = tt; is = refl },
-          ap₂ (λ (r : List (List (List Event))) (x : List SnapshotData). at stage.Ended images sections fixed x no_snapshot r [] []) is.none all,
-        )
+      -- and these threads of a round after them
+      record IsOpenRound (rounds : List (List (List Event))) (threads : List (List Event)) (known : DraftData) : Type 0 where
+        may_begin : may_come known.stage kind.Thread ≡ true
+        so_far : threads_so_far known ≡ threads
+        after : with_statement known statement.Thread ≡ after_all stage.Thread rounds threads [] (totals_of (rounds ++ threads ∷ []))
+        opened : IsOpen (rounds ++ threads ∷ []) known
 
-        round_early : Adds before_all (statement.Round ∷ []) (after_all stage.Round [] [] [])
-        unfolding added
-        round_early =
-            let few_rounds : ltb (length (rounds_at start [] [] [])) 64 ≡ true = ap (λ (r : List (List (List Event))). ltb (length r) 64) is.none in (
-              record { may = is.may_begin; built = is.no_round; form = tt; is = cond-true (ltb (length (rounds_at start [] [] [])) 64) (good (with_statement before_all statement.Round)) (Err reason.Limit) few_rounds },
-              ap₂ (λ (r : List (List (List Event))) (x : List SnapshotData). at stage.Round images sections fixed x no_snapshot r [] []) is.none all,
-            )
+      early_open : (start : Stage) (so_far : List SnapshotData) (snapshot : SnapshotData) → IsEarly start → snapshots_at start so_far snapshot ≡ snapshots → IsOpen [] (at start images sections fixed so_far snapshot)
+      early_open start so_far snapshot is all = record {
+        may_begin = is.may_begin;
+        may_end = is.may_end;
+        after = λ next. ap₂ (λ (r : List (List (List Event))) (x : List SnapshotData). at_totals next images sections fixed x no_snapshot r [] [] no_totals) is.none all;
+      }
 
-      thread_can : CanAdd (after_all stage.Round [] [] []) statement.Thread
-      unfolding added
-      thread_can = record { may = refl; built = refl; form = tt; is = refl }
+      round_open : (rounds : List (List (List Event))) → IsOpenRound rounds [] (in_round rounds)
+      round_open rounds = record { may_begin = refl; so_far = refl; after = refl; opened = record { may_begin = refl; may_end = refl; after = λ next. refl } }
+
+      thread_open : (rounds : List (List (List Event))) (threads : List (List Event)) (events : List Event) → IsOpenRound rounds (threads ++ events ∷ []) (in_thread rounds threads events)
+      thread_open rounds threads events = record { may_begin = refl; so_far = refl; after = refl; opened = record { may_begin = refl; may_end = refl; after = λ next. refl } }
+
+      -- ---- events
 
       event_form : (e : Event) → IsEvent counts e → HasForm (statement.Event e)
       event_form (event.Register image) is = omega arith
@@ -336,63 +354,105 @@ module _ (nodes loads : ℕ) where
       event_may (event.Find pc) = refl
       event_may (event.Unwind stack) = refl
 
-      event_built : (known : DraftData) (e : Event) → is_unbuilt known (kind_of_statement (statement.Event e)) ≡ false
-      event_built known (event.Register image) = refl
-      event_built known (event.Deregister base) = refl
-      event_built known (event.Load image) = refl
-      event_built known (event.Unload base) = refl
-      event_built known (event.Find pc) = refl
-      event_built known (event.Unwind stack) = refl
+      module _ (rounds : List (List (List Event))) (threads : List (List Event)) (others : List (List Event)) (later : List (List (List Event))) where
+        -- all rounds of the script, where these events stand in one of its threads
+        abbrev with_events : List Event → List (List (List Event))
+        with_events events = rounds ++ (threads ++ events ∷ others) ∷ later
 
-      event_can : (front : List Event) (e : Event) → length front < 4096 → IsEvent counts e → CanAdd (after_all stage.Thread [] [] front) (statement.Event e)
+        event_can : (front : List Event) (e : Event) (events : List Event) → CanStand (with_events (front ++ e ∷ events)) → length front < 4096 → IsEvent counts e → CanAdd (in_thread rounds threads front) (statement.Event e)
+        unfolding added
+        event_can front e events can room is =
+            let known = in_thread rounds threads front in
+            let next = with_statement known (statement.Event e) in
+            let test = ltb (length front) 4096 && has_room known.totals e in
+            record {
+              may = event_may e;
+              built = event_built rounds threads front e events others later can known refl;
+              form = event_form e is;
+              is = cond-true test (cond (is_named counts e) (good next) (Err reason.Name)) (Err reason.Limit) (and_from _ _ (lt-ltb _ _ room) (event_room rounds threads front e events others later can))
+                  ∙ cond-true (is_named counts e) (good next) (Err reason.Name) (event_named e is);
+            }
+
+        adds_events : (front events : List Event) → CanStand (with_events (front ++ events)) → length front + length events ≤ 4096 → AllByRecursion (IsEvent counts) events → Adds (in_thread rounds threads front) (map statement.Event events) (in_thread rounds threads (front ++ events))
+        adds_events front [] can room are = ap (in_thread rounds threads) (sym (append-nil front))
+        adds_events front (e ∷ events) can room are =
+            let regrouped = append_assoc front (e ∷ []) events in
+            let rest = adds_events (front ++ e ∷ []) events (subst (λ (x : List Event). CanStand (with_events x)) (sym regrouped) can) (omega (arith, length-append front (e ∷ []))) are.1 in
+            let begun = subst (λ (x : List Event). Adds (in_thread rounds threads (front ++ e ∷ [])) (map statement.Event events) (in_thread rounds threads x)) regrouped rest in (
+              event_can front e events can (omega arith) are.0,
+              subst (λ (t : Totals). Adds (after_all stage.Thread rounds threads (front ++ e ∷ []) t) (map statement.Event events) (in_thread rounds threads (front ++ e ∷ events))) (totals_event rounds threads front e) begun,
+            )
+
+      -- ---- threads
+
+      -- a round with these threads is open
+      record Threaded (known : DraftData) (statements : List Statement) (rounds : List (List (List Event))) (threads : List (List Event)) : Type 0 where
+        last : DraftData
+        opened : IsOpen (rounds ++ threads ∷ []) last
+        adds : Adds known statements last
+
+      module _ (rounds : List (List (List Event))) (later : List (List (List Event))) where
+        thread_can : (known : DraftData) (threads : List (List Event)) (events : List Event) (others : List (List Event)) → IsOpenRound rounds threads known → CanStand (rounds ++ (threads ++ events ∷ others) ∷ later) → length threads < 16 → CanAdd known statement.Thread
+        unfolding added
+        thread_can known threads events others is can room =
+            let few : ltb (length (threads_so_far known)) 16 ≡ true = lt-ltb _ _ (omega (arith, ap length is.so_far)) in
+            record {
+              may = is.may_begin;
+              built = ap (λ (d : DraftData). d.totals.has_registration) is.after ∙ thread_built rounds threads events others later can;
+              form = tt;
+              is = cond-true (ltb (length (threads_so_far known)) 16) (good (with_statement known statement.Thread)) (Err reason.Limit) few;
+            }
+
+        adds_threads : (known : DraftData) (front threads : List (List Event)) → IsOpenRound rounds front known → CanStand (rounds ++ (front ++ threads) ∷ later) → length front + length threads ≤ 16 → AllByRecursion (IsThread counts) threads → Threaded known (thread_statements threads) rounds (front ++ threads)
+        adds_threads known front [] is can room are = record { last = known; opened = subst (λ (x : List (List Event)). IsOpen (rounds ++ x ∷ []) known) (sym (append-nil front)) is.opened; adds = refl }
+        adds_threads known front (events ∷ threads) is can room are =
+            let regrouped = append_assoc front (events ∷ []) threads in
+            let each = recursion_from_All (IsEvent counts) events are.0.1 in
+            let few = are.0.0 in
+            let begun : with_statement known statement.Thread ≡ in_thread rounds front [] = is.after ∙ ap (after_all stage.Thread rounds front []) (sym (totals_thread rounds front)) in
+            let happen = subst (λ (d : DraftData). Adds d (map statement.Event events) (in_thread rounds front events)) (sym begun) (adds_events rounds front threads later [] events can (omega arith) each) in
+            let rest = adds_threads (in_thread rounds front events) (front ++ events ∷ []) threads (thread_open rounds front events) (subst (λ (x : List (List Event)). CanStand (rounds ++ x ∷ later)) (sym regrouped) can) (omega (arith, length-append front (events ∷ []))) are.1 in
+            record {
+              last = rest.last;
+              opened = subst (λ (x : List (List Event)). IsOpen (rounds ++ x ∷ []) rest.last) regrouped rest.opened;
+              adds = adds_then known (in_thread rounds front events) rest.last (statement.Thread ∷ map statement.Event events) (thread_statements threads) (thread_can known front events threads is can (omega arith), happen) rest.adds;
+            }
+
+      -- ---- the rounds, and the last line
+
+      round_can : (known : DraftData) (rounds : List (List (List Event))) (threads : List (List Event)) (later : List (List (List Event))) → IsOpen rounds known → CanStand (rounds ++ threads ∷ later) → length rounds < 64 → CanAdd known statement.Round
       unfolding added
-      event_can front e room is =
-          let next = after_all stage.Thread [] [] (front ++ e ∷ []) in
+      round_can known rounds threads later is can room =
+          let after = is.after stage.Round in
+          let few : ltb (length (rounds_so_far known)) 64 ≡ true = lt-ltb _ _ (omega (arith, ap (λ (d : DraftData). length d.script.rounds) after)) in
           record {
-            may = event_may e;
-            built = event_built (after_all stage.Thread [] [] front) e;
-            form = event_form e is;
-            is = cond-true (ltb (length front) 4096) (cond (is_named counts e) (good next) (Err reason.Name)) (Err reason.Limit) (lt-ltb _ _ room)
-                ∙ cond-true (is_named counts e) (good next) (Err reason.Name) (event_named e is);
+            may = is.may_begin;
+            built = ap (λ (d : DraftData). d.totals.has_registration) after ∙ round_built rounds threads later can;
+            form = tt;
+            is = cond-true (ltb (length (rounds_so_far known)) 64) (good (with_statement known statement.Round)) (Err reason.Limit) few;
           }
 
-      adds_events : (front events : List Event) → length front + length events ≤ 4096 → AllByRecursion (IsEvent counts) events → Adds (after_all stage.Thread [] [] front) (map statement.Event events) (after_all stage.Thread [] [] (front ++ events))
-      adds_events front [] room are = ap (after_all stage.Thread [] []) (sym (append-nil front))
-      adds_events front (e ∷ events) room are =
-          let rest = adds_events (front ++ e ∷ []) events (omega (arith, length-append front (e ∷ []))) are.1 in (
-            event_can front e (omega arith) are.0,
-            subst (λ (x : List Event). Adds (after_all stage.Thread [] [] (front ++ e ∷ [])) (map statement.Event events) (after_all stage.Thread [] [] x)) (append_assoc front (e ∷ []) events) rest,
-          )
-
-      end_round : CanAdd (after_all stage.Round [] [] []) statement.End
+      end_can : (known : DraftData) (rounds : List (List (List Event))) → IsOpen rounds known → CanAdd known statement.End
       unfolding added
-      end_round = record { may = refl; built = refl; form = tt; is = refl }
+      end_can known rounds is = record { may = is.may_end; built = refl; form = tt; is = refl }
 
-      end_thread : (events : List Event) → CanAdd (after_all stage.Thread [] [] events) statement.End
-      unfolding added
-      end_thread events = record { may = refl; built = refl; form = tt; is = refl }
-
-      -- the rounds, and the last line
-      adds_rounds : (start : Stage) (so_far : List SnapshotData) (snapshot : SnapshotData) (rounds : List (List (List Event))) → IsEarly start → snapshots_at start so_far snapshot ≡ snapshots → length rounds ≤ 1 → AllByRecursion (λ threads. length threads ≤ 1) rounds → AllByRecursion (IsRound counts) rounds
-          → Adds (at start images sections fixed so_far snapshot [] [] []) (round_statements rounds ++ statement.End ∷ []) (ended rounds)
-      adds_rounds start so_far snapshot [] is all one small are = end_early start so_far snapshot is all
-      adds_rounds start so_far snapshot ([] ∷ []) is all one small are = adds_then (before_all start so_far snapshot is all) (after_all stage.Round [] [] []) (ended ([] ∷ [])) (statement.Round ∷ []) (statement.End ∷ []) (round_early start so_far snapshot is all) (end_round, refl)
-      adds_rounds start so_far snapshot ((events ∷ []) ∷ []) is all one small are =
-          let thread = recursion_from_All (IsThread counts) (events ∷ []) are.0.1 in
-          let each = recursion_from_All (IsEvent counts) events thread.0.1 in
-          let room = thread.0.0 in
-          let happen = adds_then (after_all stage.Thread [] [] []) (after_all stage.Thread [] [] events) (ended ((events ∷ []) ∷ [])) (map statement.Event events) (statement.End ∷ []) (adds_events [] events (omega arith) each) (end_thread events, refl) in
-          let lines = adds_then (before_all start so_far snapshot is all) (after_all stage.Round [] [] []) (ended ((events ∷ []) ∷ [])) (statement.Round ∷ []) (statement.Thread ∷ (map statement.Event events ++ statement.End ∷ [])) (round_early start so_far snapshot is all) (thread_can, happen) in
-          let same : round_statements ((events ∷ []) ∷ []) ≡ statement.Round ∷ statement.Thread ∷ map statement.Event events =
-          ap (λ (x : List Statement). statement.Round ∷ x) (append-nil (statement.Thread ∷ (map statement.Event events ++ [])))
-          ∙ ap (λ (x : List Statement). statement.Round ∷ statement.Thread ∷ x) (append-nil (map statement.Event events)) in
-          subst (λ (x : List Statement). Adds (before_all start so_far snapshot is all) (x ++ statement.End ∷ []) (ended ((events ∷ []) ∷ []))) (sym same) lines
-      adds_rounds start so_far snapshot ((events ∷ more ∷ threads) ∷ []) is all one small are = absurd (omega (arith, small.0))
-      adds_rounds start so_far snapshot (threads ∷ more ∷ rounds) is all one small are = absurd (omega arith)
+      adds_rounds : (known : DraftData) (front rounds : List (List (List Event))) → IsOpen front known → CanStand (front ++ rounds) → length front + length rounds ≤ 64 → AllByRecursion (IsRound counts) rounds → Adds known (round_statements rounds ++ statement.End ∷ []) (ended (front ++ rounds))
+      adds_rounds known front [] is can room are = (end_can known front is, is.after stage.Ended ∙ ap ended (sym (append-nil front)))
+      adds_rounds known front (threads ∷ rounds) is can room are =
+          let regrouped = append_assoc front (threads ∷ []) rounds in
+          let each = recursion_from_All (IsThread counts) threads are.0.1 in
+          let few = are.0.0 in
+          let begun : with_statement known statement.Round ≡ in_round front = is.after stage.Round ∙ ap (after_all stage.Round front [] []) (sym (totals_round front)) in
+          let run = adds_threads front rounds (in_round front) [] threads (round_open front) can (omega arith) each in
+          let first = subst (λ (d : DraftData). Adds d (thread_statements threads) run.last) (sym begun) run.adds in
+          let rest = adds_rounds run.last (front ++ threads ∷ []) rounds run.opened (subst CanStand (sym regrouped) can) (omega (arith, length-append front (threads ∷ []))) are.1 in
+          let lines = adds_then known run.last (ended ((front ++ threads ∷ []) ++ rounds)) (statement.Round ∷ thread_statements threads) (round_statements rounds ++ statement.End ∷ []) (round_can known front threads rounds is can (omega arith), first) rest in
+          let last = subst (λ (x : List (List (List Event))). Adds known ((statement.Round ∷ thread_statements threads) ++ (round_statements rounds ++ statement.End ∷ [])) (ended x)) regrouped lines in
+          subst (λ (x : List Statement). Adds known x (ended (front ++ threads ∷ rounds))) (sym (append_assoc (statement.Round ∷ thread_statements threads) (round_statements rounds) (statement.End ∷ []))) last
 
 -- a script's lines can be added one after another
 abbrev pub whole : ScriptData → DraftData
-whole s = record { stage = stage.Ended; script = s; snapshot = no_snapshot; threads = []; events = [] }
+whole s = record { stage = stage.Ended; script = s; snapshot = no_snapshot; threads = []; events = []; totals = totals_of s.rounds }
 
 script_adds : (bytes : List ℕ) (s : ScriptData) → IsScript bytes s → Adds nothing_known (body_statements s ++ statement.End ∷ []) (whole s)
 script_adds bytes s is =
@@ -400,12 +460,11 @@ script_adds bytes s is =
     let few = run.images.0 in
     let spans = recursion_from_All IsSpan s.images run.images.1 in
     let sections = recursion_from_All IsSectionOf s.sections run.sections.1 in
-    let small = recursion_from_All (λ threads. length threads ≤ 1) s.rounds is.built.threads in
     let are = recursion_from_All (IsRound (counts_of s)) s.rounds run.rounds.1 in
     let start = after_fixed s.nodes s.loads stage.Images s.fixed in
-    let at_first = at s.nodes s.loads stage.Images [] [] [] [] no_snapshot [] [] [] in
-    let at_images = at s.nodes s.loads stage.Images s.images s.sections [] [] no_snapshot [] [] [] in
-    let at_fixed = at s.nodes s.loads start s.images s.sections s.fixed [] no_snapshot [] [] [] in
+    let at_first = at s.nodes s.loads stage.Images [] [] [] [] no_snapshot in
+    let at_images = at s.nodes s.loads stage.Images s.images s.sections [] [] no_snapshot in
+    let at_fixed = at s.nodes s.loads start s.images s.sections s.fixed [] no_snapshot in
     let first = adds_first s.nodes s.loads run.nodes.0 run.nodes.1 run.loads.0 run.loads.1 in
     let images = adds_images s.nodes s.loads [] s.images 0 [] s.sections refl run.sections.0 (omega (arith, few)) spans sections in
     let fixed = adds_fixed s.nodes s.loads s.images s.sections few stage.Images [] s.fixed refl run.fixed in
@@ -415,8 +474,9 @@ script_adds bytes s is =
     let some = run.snapshots.0 in
     let stacks = adds_snapshots s.nodes s.loads s.images s.sections few s.fixed start [] no_snapshot 0 s.snapshots is_early (omega arith) (omega arith) (recursion_from_All IsSnapshot s.snapshots run.snapshots.1) in
     let all_stacks : snapshots_at stacks.last stacks.so_far stacks.snapshot ≡ s.snapshots = stacks.all ∙ ap (λ (x : List SnapshotData). x ++ s.snapshots) none in
-    let at_stacks = at s.nodes s.loads stacks.last s.images s.sections s.fixed stacks.so_far stacks.snapshot [] [] [] in
-    let rounds = adds_rounds s.nodes s.loads s.images s.sections few s.fixed s.snapshots some stacks.last stacks.so_far stacks.snapshot s.rounds stacks.early all_stacks is.built.rounds small are in
+    let at_stacks = at s.nodes s.loads stacks.last s.images s.sections s.fixed stacks.so_far stacks.snapshot in
+    let opened = early_open s.nodes s.loads s.images s.sections few s.fixed s.snapshots some stacks.last stacks.so_far stacks.snapshot stacks.early all_stacks in
+    let rounds = adds_rounds s.nodes s.loads s.images s.sections few s.fixed s.snapshots some at_stacks [] s.rounds opened (record { few = run.unwinds; serial = is.built }) (omega (arith, run.rounds.0)) are in
     let front = first_statements s.nodes s.loads ++ image_statements 0 s.images s.sections in
     let one = adds_then nothing_known at_first at_images (first_statements s.nodes s.loads) (image_statements 0 s.images s.sections) first images in
     let two = adds_then nothing_known at_images at_fixed front (map statement.Fixed s.fixed) one fixed in

@@ -11,7 +11,7 @@ use Rattle.event_script.specs.Spelling.{IsScript}
 use Rattle.event_script.specs.Draft.{DraftData, nothing_known, is_ended, snapshots_so_far, threads_so_far, rounds_so_far, with_image, contents_or_none, with_statement}
 use Rattle.event_script.specs.Reasons.{LineText, Says, SaysSome, HasBadSection, number_in_table, SpeaksAgainst, IsReason, IsGood}
 use Rattle.event_script.specs.Refusal.{whole_line, text_before, HasLineHere, MakeKnown, IsFirstBad, HasOneReading}
-use Rattle.event_script.specs.Reading.{◌>=>◌, section_or, image_added, last_fixed, is_above, accepts, region_added, is_named, added, after_line, at_end, BadLine, at_line, after_lines, outcome}
+use Rattle.event_script.specs.Reading.{◌>=>◌, section_or, image_added, last_fixed, is_above, accepts, region_added, is_named, has_room, added, after_line, at_end, BadLine, at_line, after_lines, outcome}
 use Rattle.event_script.specs.Fault.{Tells, FailsAt}
 use Rattle.event_script.specs.declared.reader.ScriptFault.{ScriptFault}
 use Rattle.event_script.specs.declared.reader.ScriptFault.TheVariants.{Bad, NoMemory}
@@ -63,7 +63,7 @@ added_makes known next (statement.Memory region) e =
 added_makes known next statement.Round e = (guard_last (ltb (length (rounds_so_far known)) 64) reason.Limit (with_statement known statement.Round) next e).1
 added_makes known next statement.Thread e = (guard_last (ltb (length (threads_so_far known)) 16) reason.Limit (with_statement known statement.Thread) next e).1
 added_makes known next (statement.Event happens) e =
-    let limit = guard_then (ltb (length known.events) 4096) reason.Limit _ next e in
+    let limit = guard_then (ltb (length known.events) 4096 && has_room known.totals happens) reason.Limit _ next e in
     (guard_last (is_named (counts_of known.script) happens) reason.Name (with_statement known (statement.Event happens)) next limit.1).1
 added_makes known next statement.End e = ok_is (with_statement known statement.End) next e
 

@@ -15,9 +15,9 @@ use Rattle.event_script.specs.Spelling.{Line}
 use Rattle.event_script.specs.Draft.{DraftData, may_come, is_ended, is_unbuilt, snapshots_so_far, threads_so_far, rounds_so_far, with_image, with_statement}
 use Rattle.frame_expr.specs.Regions.{RegionData}
 use Rattle.event_script.specs.declared.reader.statement.SnapshotFields.{SnapshotFields}
-use Rattle.event_script.specs.Reasons.{LineText, IsOfKind, Says, SaysSome, IsOutOfOrder, IsOutsideLimit, IsNoSpan, HasBadSection, IsNameless, IsNotAbove, IsNoRegion, IsReason, IsGood}
+use Rattle.event_script.specs.Reasons.{LineText, IsOfKind, Says, SaysSome, IsOutOfOrder, IsUnwindTooMany, IsOutsideLimit, IsNoSpan, HasBadSection, IsNameless, IsNotAbove, IsNoRegion, IsReason, IsGood}
 use Rattle.event_script.specs.Refusal.{whole_line}
-use Rattle.event_script.specs.Reading.{◌>=>◌, kind_of, statement_of, section_or, image_added, last_fixed, is_above, fixed_added, snapshot_added, accepts, memory_added, is_named, added, by_word, after_line, at_end}
+use Rattle.event_script.specs.Reading.{◌>=>◌, kind_of, statement_of, section_or, image_added, last_fixed, is_above, fixed_added, snapshot_added, accepts, memory_added, is_named, has_room, added, by_word, after_line, at_end}
 use Rattle.event_script.specs.declared.script.Event.{Event}
 use Rattle.event_script.specs.declared.script.Event.TheVariants as event
 use Rattle.event_script.specs.declared.reader.fault.Reason.{Reason}
@@ -266,9 +266,36 @@ module _ (known : DraftData) (text : LineText) (e : Event) (says : Says text (st
   event_named true is limit = good known text line_event says before (record { order = nothing; limit = limit; span = nothing; section = no_section; name = named_there known e is; fixed = nothing; region = nothing })
   event_named false is limit = refused known text reason.Name (to_name known text line_event says before nothing limit nothing no_section) (line_event, says, named_missing known e is)
 
-  event_limited : (t : Bool) → ltb (length known.events) 4096 ≡ t → Judged known text (cond t (cond (is_named (counts_of known.script) e) (Ok (with_statement known line_event)) (Err reason.Name)) (Err reason.Limit))
-  event_limited true is = event_named (is_named (counts_of known.script) e) refl (λ many. let few = ltb-true _ _ is in absurd (omega arith))
-  event_limited false is = limit_holds known text line_event says before nothing (ltb-false _ _ is)
+  abbrev room_test : Bool
+  room_test = ltb (length known.events) 4096
+
+  one_too_many : (happens : Event) → has_room known.totals happens ≡ false → IsUnwindTooMany known happens
+  one_too_many (event.Unwind snapshot) is = ltb-false known.totals.unwinds 16384 is
+  one_too_many (event.Register image) is = absurd cc
+  one_too_many (event.Deregister base) is = absurd cc
+  one_too_many (event.Load image) is = absurd cc
+  one_too_many (event.Unload base) is = absurd cc
+  one_too_many (event.Find pc) is = absurd cc
+
+  not_too_many : (happens : Event) → has_room known.totals happens ≡ true → IsUnwindTooMany known happens → ⊥
+  not_too_many (event.Unwind snapshot) is many = (let few = ltb-true known.totals.unwinds 16384 is in omega arith)
+  not_too_many (event.Register image) is many = many
+  not_too_many (event.Deregister base) is many = many
+  not_too_many (event.Load image) is many = many
+  not_too_many (event.Unload base) is many = many
+  not_too_many (event.Find pc) is many = many
+
+  event_kept : (room_test && has_room known.totals e) ≡ true → IsOutsideLimit known line_event → ⊥
+  event_kept is (inl many) = let few = ltb-true _ _ (and_parts room_test (has_room known.totals e) is).0 in absurd (omega arith)
+  event_kept is (inr many) = not_too_many e (and_parts room_test (has_room known.totals e) is).1 many
+
+  event_passed : (t : Bool) → room_test ≡ t → (t && has_room known.totals e) ≡ false → IsOutsideLimit known line_event
+  event_passed true p is = inr (one_too_many e is)
+  event_passed false p is = inl (ltb-false _ _ p)
+
+  event_limited : (t : Bool) → (room_test && has_room known.totals e) ≡ t → Judged known text (cond t (cond (is_named (counts_of known.script) e) (Ok (with_statement known line_event)) (Err reason.Name)) (Err reason.Limit))
+  event_limited true is = event_named (is_named (counts_of known.script) e) refl (event_kept is)
+  event_limited false is = limit_holds known text line_event says before nothing (event_passed room_test refl is)
 
 -- ---- what a line says, of any kind
 
@@ -288,7 +315,7 @@ judged_statement known text statement.Round says before =
     by_limit known text statement.Round says before nothing nothing no_section nothing nothing nothing (ltb (length (rounds_so_far known)) 64) (λ is many. let few = ltb-true _ _ is in absurd (omega arith)) (λ is. ltb-false _ _ is) (with_statement known statement.Round)
 judged_statement known text statement.Thread says before =
     by_limit known text statement.Thread says before nothing nothing no_section nothing nothing nothing (ltb (length (threads_so_far known)) 16) (λ is many. let few = ltb-true _ _ is in absurd (omega arith)) (λ is. ltb-false _ _ is) (with_statement known statement.Thread)
-judged_statement known text (statement.Event e) says before = event_limited known text e says before (ltb (length known.events) 4096) refl
+judged_statement known text (statement.Event e) says before = event_limited known text e says before (ltb (length known.events) 4096 && has_room known.totals e) refl
 judged_statement known text statement.End says before = good known text statement.End says before (record { order = nothing; limit = nothing; span = nothing; section = no_section; name = nothing; fixed = nothing; region = nothing })
 
 -- ---- a line

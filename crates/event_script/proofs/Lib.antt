@@ -14,12 +14,14 @@ pub mod Fixed
 pub mod Recorded
 pub mod Passed
 pub mod Judged
+pub mod EventTotals
 pub mod SoFar
 pub mod LineLists
 pub mod Sound
 pub mod LinesRead
 pub mod LineCounts
 pub mod Added
+pub mod Standing
 pub mod Complete
 pub mod FirstBad
 pub mod Begins

@@ -1,25 +1,24 @@
 -- How many lines there are.
-use Rattle.std.proofs.Common.{◌≡◌, ℕ, ◌+◌, ◌*◌, ◌≤◌, false, List, [], ◌∷◌, ◌++◌, length, map, All, Ok, refl, ap, ap₂, ◌∙◌, arith, length-append}
+use Rattle.std.proofs.Common.{◌≡◌, ℕ, ◌+◌, ◌*◌, ◌≤◌, false, List, [], ◌∷◌, ◌++◌, length, map, All, Ok, refl, ap, arith, length-append}
 use Rattle.frame_parse.specs.Sections.{SectionData}
 use Rattle.reg_model.specs.SpanData.{SpanData, IsSpan}
 use Rattle.event_script.specs.declared.script.Event.{Event}
 use Rattle.event_script.specs.declared.reader.fault.Reason.TheVariants as reason
 use Rattle.event_script.specs.declared.reader.kinds.Stage.{Stage}
 use Rattle.event_script.specs.declared.reader.kinds.Stage.TheVariants as stage
-use Rattle.event_script.specs.declared.reader.statement.Statement.{Statement}
 use Rattle.event_script.specs.declared.reader.statement.Statement.TheVariants as statement
 use Rattle.std.specs.List.{AllByRecursion}
 use Rattle.std.proofs.lemmas.List.Elements.{recursion_from_All}
 use Rattle.frame_expr.specs.Regions.{RegionData, end, AreFrom}
-use Rattle.event_script.specs.ScriptData.{ScriptData, SnapshotData, counts_of, IsSnapshot, recorded_bytes, AreFixed, IsThread}
-use Rattle.event_script.specs.Spelling.{image_statements, snapshot_lines, snapshot_statements, round_statements}
+use Rattle.event_script.specs.ScriptData.{ScriptData, SnapshotData, Counts, counts_of, IsSnapshot, recorded_bytes, AreFixed, IsThread, IsRound}
+use Rattle.event_script.specs.Spelling.{image_statements, snapshot_lines, snapshot_statements, thread_statements, round_statements}
 use Rattle.event_script.specs.Draft.{DraftData, is_ended}
 use Rattle.event_script.specs.Reading.{after_line}
 use Rattle.event_script.proofs.Steps.{guard_else}
 use Rattle.event_script.proofs.Fixed.{few_fixed}
-use Rattle.event_script.proofs.SoFar.{statements_at, statements_so_far, ShapeAt, Sound}
-use Rattle.event_script.proofs.LineLists.{one_thread}
-use Rattle.event_script.proofs.Sound.{open_snapshots}
+use Rattle.event_script.specs.declared.reader.totals.Totals.{Totals}
+use Rattle.event_script.proofs.SoFar.{AreRounds, early_rounds, statements_at, statements_so_far, Sound}
+use Rattle.event_script.proofs.Sound.{open_snapshots, round_rounds, thread_rounds}
 use Rattle.event_script.proofs.LinesRead.{line_read, line_sound}
 
 map_count : {A B : Type 0} (f : A → B) (xs : List A) → length (map f xs) ≡ length xs
@@ -46,37 +45,51 @@ snapshots_count number [] are = omega arith
 snapshots_count number (snapshot ∷ snapshots) are =
     omega (arith, length-append (snapshot_lines number snapshot) (snapshot_statements (number + 1) snapshots), snapshot_count number snapshot are.0, snapshots_count (number + 1) snapshots are.1)
 
+threads_count : (counts : Counts) (threads : List (List Event)) → AllByRecursion (IsThread counts) threads → length (thread_statements threads) ≤ 4097 * length threads
+threads_count counts [] are = omega arith
+threads_count counts (events ∷ threads) are =
+    let few = are.0.0 in
+    omega (arith, length-append (statement.Thread ∷ map statement.Event events) (thread_statements threads), map_count statement.Event events, threads_count counts threads are.1)
+
+rounds_count : (counts : Counts) (rounds : List (List (List Event))) → AllByRecursion (IsRound counts) rounds → length (round_statements rounds) ≤ 65553 * length rounds
+rounds_count counts [] are = omega arith
+rounds_count counts (threads ∷ rounds) are =
+    let few = are.0.0 in
+    omega (arith, length-append (statement.Round ∷ thread_statements threads) (round_statements rounds), threads_count counts threads (recursion_from_All (IsThread counts) threads are.0.1), rounds_count counts rounds are.1)
+
+few_of : (counts : Counts) (rounds : List (List (List Event))) → AreRounds counts rounds → length (round_statements rounds) ≤ 4195392
+few_of counts rounds are = (let few = are.few in omega (arith, rounds_count counts rounds (recursion_from_All (IsRound counts) rounds are.each)))
+
 module _ (script : ScriptData) (count : length script.images ≤ 4096) (spans : All IsSpan script.images) (fixed : AreFixed script.images script.fixed) where
   -- the lines of the images, of the fixed ones, of the snapshots, and of the rounds
-  middle_count : (snapshots : List SnapshotData) (lines rounds : List Statement) (most : ℕ) → (length snapshots ≤ 4096) × All IsSnapshot snapshots → lines ≡ rounds → length rounds ≤ most
-      → length (image_statements 0 script.images script.sections ++ map statement.Fixed script.fixed ++ snapshot_statements 0 snapshots ++ lines) ≤ 268447744 + most
-  middle_count snapshots lines rounds most some is small =
+  middle_count : (counts : Counts) (snapshots : List SnapshotData) (rounds : List (List (List Event))) → (length snapshots ≤ 4096) × All IsSnapshot snapshots → AreRounds counts rounds
+      → length (image_statements 0 script.images script.sections ++ map statement.Fixed script.fixed ++ snapshot_statements 0 snapshots ++ round_statements rounds) ≤ 272643136
+  middle_count counts snapshots rounds some are =
       let few = some.0 in
       let stacks = snapshots_count 0 snapshots (recursion_from_All IsSnapshot snapshots some.1) in
-      omega (arith, length-append (image_statements 0 script.images script.sections ++ map statement.Fixed script.fixed ++ snapshot_statements 0 snapshots) lines, length-append (image_statements 0 script.images script.sections ++ map statement.Fixed script.fixed) (snapshot_statements 0 snapshots), length-append (image_statements 0 script.images script.sections) (map statement.Fixed script.fixed), images_count 0 script.images script.sections, map_count statement.Fixed script.fixed, few_fixed script.images script.fixed spans fixed, ap length is)
+      omega (arith, length-append (image_statements 0 script.images script.sections ++ map statement.Fixed script.fixed ++ snapshot_statements 0 snapshots) (round_statements rounds), length-append (image_statements 0 script.images script.sections ++ map statement.Fixed script.fixed) (snapshot_statements 0 snapshots), length-append (image_statements 0 script.images script.sections) (map statement.Fixed script.fixed), images_count 0 script.images script.sections, map_count statement.Fixed script.fixed, few_fixed script.images script.fixed spans fixed, few_of counts rounds are)
 
-  module _ (snapshot : SnapshotData) (threads : List (List Event)) (events : List Event) (some : (length script.snapshots ≤ 4096) × All IsSnapshot script.snapshots) (thread : IsThread (counts_of script) events) where
-    few_at : (at : Stage) → ShapeAt at (record { stage = at; script = script; snapshot = snapshot; threads = threads; events = events }) → is_ended at ≡ false → length (statements_at at (record { stage = at; script = script; snapshot = snapshot; threads = threads; events = events })) ≤ 268451852
-    few_at stage.Version shape going = omega arith
-    few_at stage.Nodes shape going = omega arith
-    few_at stage.Loads shape going = omega arith
-    few_at stage.Images shape going = omega (arith, middle_count script.snapshots (round_statements script.rounds) [] 0 some (ap round_statements shape.0) (omega arith))
-    few_at stage.Fixed shape going = omega (arith, middle_count script.snapshots (round_statements script.rounds) [] 0 some (ap round_statements shape.0) (omega arith))
-    few_at stage.Snapshots shape going = omega (arith, middle_count (script.snapshots ++ snapshot ∷ []) (round_statements script.rounds) [] 0 (open_snapshots script snapshot threads events (shape.2, shape.3) some) (ap round_statements shape.0) (omega arith))
-    few_at stage.Round shape going =
-        omega (arith, middle_count script.snapshots (round_statements (script.rounds ++ threads ∷ [])) (statement.Round ∷ []) 1 some (ap₂ (λ (r : List (List (List Event))) (t : List (List Event)). round_statements (r ++ t ∷ [])) shape.0 shape.1) (omega arith))
-    few_at stage.Thread shape going =
-        let is : round_statements (script.rounds ++ (threads ++ events ∷ []) ∷ []) ≡ statement.Round ∷ statement.Thread ∷ map statement.Event events =
-        ap₂ (λ (r : List (List (List Event))) (t : List (List Event)). round_statements (r ++ (t ++ events ∷ []) ∷ [])) shape.0 shape.1 ∙ one_thread events in
-        omega (arith, middle_count script.snapshots (round_statements (script.rounds ++ (threads ++ events ∷ []) ∷ [])) (statement.Round ∷ statement.Thread ∷ map statement.Event events) 4098 some is (omega (arith, map_count statement.Event events, thread.0)))
-    few_at stage.Ended shape going = absurd cc
+  module _ (snapshot : SnapshotData) (threads : List (List Event)) (events : List Event) (totals : Totals) where
+    abbrev here : Stage → DraftData
+    here at = record { stage = at; script = script; snapshot = snapshot; threads = threads; events = events; totals = totals }
+
+    few_at : (at : Stage) → Sound (here at) → is_ended at ≡ false → length (statements_at at (here at)) ≤ 272643139
+    few_at stage.Version s going = omega arith
+    few_at stage.Nodes s going = omega arith
+    few_at stage.Loads s going = omega arith
+    few_at stage.Images s going = omega (arith, middle_count (counts_of script) script.snapshots script.rounds s.snapshots (early_rounds (counts_of script) script.rounds s.shape.0))
+    few_at stage.Fixed s going = omega (arith, middle_count (counts_of script) script.snapshots script.rounds s.snapshots (early_rounds (counts_of script) script.rounds s.shape.0))
+    few_at stage.Snapshots s going = omega (arith, middle_count (counts_of script) (script.snapshots ++ snapshot ∷ []) script.rounds (open_snapshots script snapshot threads events totals (s.shape.2, s.shape.3) s.snapshots) (early_rounds (counts_of script) script.rounds s.shape.0))
+    few_at stage.Round s going = omega (arith, middle_count (counts_of script) script.snapshots (script.rounds ++ threads ∷ []) s.snapshots (round_rounds script snapshot threads events totals s))
+    few_at stage.Thread s going = omega (arith, middle_count (counts_of script) script.snapshots (script.rounds ++ (threads ++ events ∷ []) ∷ []) s.snapshots (thread_rounds script snapshot threads events totals s))
+    few_at stage.Ended s going = absurd cc
 
 -- before a good line there are few lines
-pub few_lines : (known next : DraftData) (line : List ℕ) → Sound known → after_line known line ≡ Ok next → length (statements_so_far known) ≤ 268451852
+pub few_lines : (known next : DraftData) (line : List ℕ) → Sound known → after_line known line ≡ Ok next → length (statements_so_far known) ≤ 272643139
 unfolding after_line
 few_lines known next line s e =
     let open_still = guard_else (is_ended known.stage) reason.After _ next e in
-    few_at known.script s.count s.spans s.fixed known.snapshot known.threads known.events s.snapshots s.events known.stage s.shape open_still.0
+    few_at known.script s.count s.spans s.fixed known.snapshot known.threads known.events known.totals known.stage s open_still.0
 
 -- a good line is one more line
 pub one_more_line : (known next : DraftData) (line : List ℕ) (number : ℕ) → Sound known → number ≡ length (statements_so_far known) + 1 → after_line known line ≡ Ok next

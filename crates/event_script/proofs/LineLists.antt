@@ -1,15 +1,16 @@
 -- Lists of what lines say, with one more.
-use Rattle.std.proofs.Common.{◌≡◌, ℕ, ◌+◌, ◌≤◌, List, [], ◌∷◌, ◌++◌, length, map, sym, ap, ap₂, subst, ◌∙◌, append_assoc, append-nil, arith}
+use Rattle.std.proofs.Common.{◌≡◌, ℕ, ◌+◌, ◌<◌, List, [], ◌∷◌, ◌++◌, length, map, sym, ap, ◌∙◌, append_assoc, append-nil, arith, length-append}
+use Rattle.std.specs.List.{All}
 use Rattle.std.proofs.lemmas.List.{map-append}
-use Rattle.std.proofs.lemmas.List.Elements.{All-from_recursion}
+use Rattle.std.proofs.lemmas.List.Elements.{All-push}
 use Rattle.reg_model.specs.SpanData.{SpanData}
 use Rattle.frame_parse.specs.Sections.{SectionData}
 use Rattle.event_script.specs.ScriptData.{SnapshotData, Counts, IsThread, IsRound}
-use Rattle.event_script.specs.Spelling.{image_data, image_statements, snapshot_lines, snapshot_statements, round_statements}
+use Rattle.event_script.specs.Spelling.{image_data, image_statements, snapshot_lines, snapshot_statements, thread_statements, round_statements}
 use Rattle.event_script.specs.declared.script.Event.{Event}
 use Rattle.event_script.specs.declared.reader.statement.Statement.{Statement}
 use Rattle.event_script.specs.declared.reader.statement.Statement.TheVariants as statement
-use Rattle.event_script.proofs.SoFar.{AreRounds, no_snapshots}
+use Rattle.event_script.proofs.SoFar.{AreRounds}
 
 pub images_push : (number : ℕ) (images : List SpanData) (sections : List SectionData) (span : SpanData) (section : SectionData) → length sections ≡ length images
     → image_statements number (images ++ span ∷ []) (sections ++ section ∷ []) ≡ image_statements number images sections ++ statement.Image (image_data (number + length images) span section) ∷ []
@@ -24,11 +25,37 @@ images_push number (i ∷ images) (a ∷ sections) span section e =
 pub map_push : {A B : Type 0} (f : A → B) (xs : List A) (x : A) → map f (xs ++ x ∷ []) ≡ map f xs ++ f x ∷ []
 map_push f xs x = map-append f xs (x ∷ [])
 
--- a round of one thread
-pub one_thread : (events : List Event) → round_statements ((events ∷ []) ∷ []) ≡ statement.Round ∷ statement.Thread ∷ map statement.Event events
-one_thread events =
-    ap (λ (x : List Statement). statement.Round ∷ x) (append-nil (statement.Thread ∷ (map statement.Event events ++ [])))
-    ∙ ap (λ (x : List Statement). statement.Round ∷ statement.Thread ∷ x) (append-nil (map statement.Event events))
+-- one more thread of a round, and one more round
+threads_push : (threads : List (List Event)) (events : List Event) → thread_statements (threads ++ events ∷ []) ≡ thread_statements threads ++ statement.Thread ∷ map statement.Event events
+threads_push [] events = append-nil (statement.Thread ∷ map statement.Event events)
+threads_push (first ∷ threads) events =
+    ap (λ (x : List Statement). (statement.Thread ∷ map statement.Event first) ++ x) (threads_push threads events)
+    ∙ sym (append_assoc (statement.Thread ∷ map statement.Event first) (thread_statements threads) (statement.Thread ∷ map statement.Event events))
+
+pub rounds_push : (rounds : List (List (List Event))) (threads : List (List Event)) → round_statements (rounds ++ threads ∷ []) ≡ round_statements rounds ++ statement.Round ∷ thread_statements threads
+rounds_push [] threads = append-nil (statement.Round ∷ thread_statements threads)
+rounds_push (first ∷ rounds) threads =
+    ap (λ (x : List Statement). (statement.Round ∷ thread_statements first) ++ x) (rounds_push rounds threads)
+    ∙ sym (append_assoc (statement.Round ∷ thread_statements first) (round_statements rounds) (statement.Round ∷ thread_statements threads))
+
+-- one more line of the last round is one more line of all rounds
+round_grows : (rounds : List (List (List Event))) (old new : List (List Event)) (line : Statement) → thread_statements new ≡ thread_statements old ++ line ∷ [] → round_statements (rounds ++ new ∷ []) ≡ round_statements (rounds ++ old ∷ []) ++ line ∷ []
+round_grows rounds old new line is =
+    rounds_push rounds new
+    ∙ ap (λ (x : List Statement). round_statements rounds ++ statement.Round ∷ x) is
+    ∙ sym (append_assoc (round_statements rounds) (statement.Round ∷ thread_statements old) (line ∷ []))
+    ∙ ap (λ (x : List Statement). x ++ line ∷ []) (sym (rounds_push rounds old))
+
+pub thread_begins : (rounds : List (List (List Event))) (threads : List (List Event)) → round_statements (rounds ++ (threads ++ [] ∷ []) ∷ []) ≡ round_statements (rounds ++ threads ∷ []) ++ statement.Thread ∷ []
+thread_begins rounds threads = round_grows rounds threads (threads ++ [] ∷ []) statement.Thread (threads_push threads [])
+
+pub event_comes : (rounds : List (List (List Event))) (threads : List (List Event)) (events : List Event) (e : Event) → round_statements (rounds ++ (threads ++ (events ++ e ∷ []) ∷ []) ∷ []) ≡ round_statements (rounds ++ (threads ++ events ∷ []) ∷ []) ++ statement.Event e ∷ []
+event_comes rounds threads events e =
+    round_grows rounds (threads ++ events ∷ []) (threads ++ (events ++ e ∷ []) ∷ []) (statement.Event e) (
+    threads_push threads (events ++ e ∷ [])
+    ∙ ap (λ (x : List Statement). thread_statements threads ++ statement.Thread ∷ x) (map_push statement.Event events e)
+    ∙ sym (append_assoc (thread_statements threads) (statement.Thread ∷ map statement.Event events) (statement.Event e ∷ []))
+    ∙ ap (λ (x : List Statement). x ++ statement.Event e ∷ []) (sym (threads_push threads events)))
 
 -- lines and what the rounds so far add, none
 pub before_rounds : (known : List Statement) (rounds : List (List (List Event))) → rounds ≡ [] → known ++ round_statements rounds ≡ known
@@ -49,25 +76,8 @@ snapshots_push number (first ∷ snapshots) snapshot =
     ap (λ (x : List Statement). snapshot_lines number first ++ x) (snapshots_push (number + 1) snapshots snapshot ∙ ap (λ (n : ℕ). snapshot_statements (number + 1) snapshots ++ snapshot_lines n snapshot) next)
     ∙ sym (append_assoc (snapshot_lines number first) (snapshot_statements (number + 1) snapshots) (snapshot_lines (number + length (first ∷ snapshots)) snapshot))
 
-pub rounds_of_one : (counts : Counts) (rounds : List (List (List Event))) (threads : List (List Event)) (events : List Event) → rounds ≡ [] → threads ≡ [] → IsThread counts events → AreRounds counts (rounds ++ (threads ++ events ∷ []) ∷ [])
-rounds_of_one counts rounds threads events no_rounds no_threads thread =
-    subst (AreRounds counts) (ap₂ (λ (r : List (List (List Event))) (t : List (List Event)). r ++ (t ++ events ∷ []) ∷ []) (sym no_rounds) (sym no_threads))
-    (record {
-      few = omega arith;
-      small = All-from_recursion (λ threads. length threads ≤ 1) ((events ∷ []) ∷ []) (omega arith, tt);
-      each = All-from_recursion (IsRound counts) ((events ∷ []) ∷ []) ((omega arith, All-from_recursion (IsThread counts) (events ∷ []) (thread, tt)), tt);
-    })
+pub thread_push : (counts : Counts) (threads : List (List Event)) (events : List Event) → length threads < 16 → IsRound counts threads → IsThread counts events → IsRound counts (threads ++ events ∷ [])
+thread_push counts threads events room before thread = (omega (arith, length-append threads (events ∷ [])), All-push (IsThread counts) threads events before.1 thread)
 
-pub rounds_of_none : (counts : Counts) (rounds : List (List (List Event))) (threads : List (List Event)) → rounds ≡ [] → threads ≡ [] → AreRounds counts (rounds ++ threads ∷ [])
-rounds_of_none counts rounds threads no_rounds no_threads =
-    subst (AreRounds counts) (ap₂ (λ (r : List (List (List Event))) (t : List (List Event)). r ++ t ∷ []) (sym no_rounds) (sym no_threads))
-    (record {
-      few = omega arith;
-      small = All-from_recursion (λ threads. length threads ≤ 1) ([] ∷ []) (omega arith, tt);
-      each = All-from_recursion (IsRound counts) ([] ∷ []) ((omega arith, All-from_recursion (IsThread counts) [] tt), tt);
-    })
-
-pub no_rounds_at : (counts : Counts) (rounds : List (List (List Event))) → rounds ≡ [] → AreRounds counts rounds
-no_rounds_at counts rounds none =
-    subst (AreRounds counts) (sym none)
-    (record { few = omega arith; small = All-from_recursion (λ threads. length threads ≤ 1) [] tt; each = All-from_recursion (IsRound counts) [] tt })
+pub round_push : (counts : Counts) (rounds : List (List (List Event))) (threads : List (List Event)) → length rounds < 64 → All (IsRound counts) rounds → IsRound counts threads → AreRounds counts (rounds ++ threads ∷ [])
+round_push counts rounds threads room before round = record { few = omega (arith, length-append rounds (threads ∷ [])); each = All-push (IsRound counts) rounds threads before round }

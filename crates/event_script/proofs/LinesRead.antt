@@ -1,14 +1,14 @@
 -- Lines that were read, one after another: what is read is a script.
-use Rattle.std.proofs.Common.{◌≡◌, ℕ, ◌+◌, Bool, true, false, cond, List, [], ◌∷◌, ◌++◌, Result, Ok, Err, refl, sym, ap, subst, ◌∙◌, append_assoc, append-nil, arith}
+use Rattle.std.proofs.Common.{◌≡◌, ℕ, ◌+◌, Bool, true, false, true≢false, cond, List, [], ◌∷◌, ◌++◌, Result, Ok, Err, refl, sym, ap, subst, ◌∙◌, append_assoc, append-nil, arith}
 use Rattle.std.specs.Option.{ok_or}
 use Rattle.std.proofs.lemmas.Grind.{flat_map-append}
 use Rattle.std.proofs.lemmas.List.Elements.{All-from_recursion}
 use Rattle.reg_model.specs.SpanData.{IsSpan}
-use Rattle.event_script.specs.ScriptData.{IsSectionOf}
+use Rattle.event_script.specs.ScriptData.{IsSectionOf, AreSerial}
 use Rattle.event_script.specs.Statements.{kind_of_statement, statement_fields}
 use Rattle.event_script.specs.Spelling.{Line, spelling_of, statement_text, statements_text, script_text, IsScript}
 use Rattle.event_script.specs.Fields.{pieces, is_printable}
-use Rattle.event_script.specs.Draft.{DraftData, nothing_known, may_come, is_ended, is_unbuilt}
+use Rattle.event_script.specs.Draft.{DraftData, nothing_known, may_come, is_ended, is_unbuilt, rounds_at, rounds_so_far}
 use Rattle.event_script.specs.Reasons.{Says}
 use Rattle.event_script.specs.Refusal.{whole_line}
 use Rattle.event_script.specs.Reading.{kind_of, statement_of, added, by_word, after_line, at_end, BadLine, at_line, after_lines, outcome}
@@ -20,7 +20,9 @@ use Rattle.event_script.specs.declared.reader.statement.Statement.{Statement}
 use Rattle.event_script.proofs.Joined.{join, join_pieces, spelled_pieces}
 use Rattle.event_script.proofs.Steps.{bind_ok, guard_last, guard_then, guard_else, kind_word}
 use Rattle.event_script.proofs.Spoken.{same_kind, spoken}
-use Rattle.event_script.proofs.SoFar.{statements_at, statements_so_far, NodesAt, LoadsAt, ShapeAt, Sound, Step, no_events, no_snapshots, no_fixed}
+use Rattle.event_script.specs.declared.reader.totals.Totals.{Totals}
+use Rattle.event_script.proofs.EventTotals.{totals_of}
+use Rattle.event_script.proofs.SoFar.{statements_at, statements_so_far, NodesAt, LoadsAt, ShapeAt, Sound, Step, no_events, no_threads, no_rounds, no_snapshots, no_fixed}
 use Rattle.event_script.proofs.Sound.{statement_sound}
 
 -- a line that was read says something that may come, and that is what it adds
@@ -58,7 +60,7 @@ module _ (known next : DraftData) (line : List ℕ) where
       words_read (pieces 32 line) refl printable.1
 
   pub line_sound : Sound known → (r : LineRead known next line) → Step known next r.statement
-  line_sound s r = statement_sound known.script known.snapshot known.threads known.events known.stage r.statement next r.may r.built r.says.form s r.is
+  line_sound s r = statement_sound known.script known.snapshot known.threads known.events known.totals known.stage r.statement next r.may r.built r.says.form s r.is
 
 -- the text of a line that says this
 pub said_text : (line : List ℕ) (s : Statement) → Says (whole_line line) s → statement_text s ≡ line ++ 10 ∷ []
@@ -125,7 +127,10 @@ at_first = record {
   spans = All-from_recursion IsSpan [] tt;
   fixed = no_fixed [];
   snapshots = no_snapshots;
+  rounds = no_rounds (record { images = 0; snapshots = 0 });
+  threads = no_threads (record { images = 0; snapshots = 0 });
   events = no_events (record { images = 0; snapshots = 0 });
+  totals = record { is = refl; few = omega arith; serial = λ has. absurd (true≢false (sym has)) };
   shape = (refl, refl, refl, refl, refl, refl);
 }
 
@@ -137,6 +142,8 @@ script_from known text e = by known.stage refl e.is_last
     by stage.Ended same is_last =
         let s = e.sound in
         let shape = subst (λ (x : Stage). ShapeAt x known) same s.shape in
+        let here : rounds_so_far known ≡ known.script.rounds = ap (λ (x : Stage). rounds_at x known.script.rounds known.threads known.events) same in
+        let totals : known.totals ≡ totals_of known.script.rounds = s.totals.is ∙ ap totals_of here in
         record {
           text = e.is ∙ ap (λ (x : Stage). statements_text (statements_at x known)) same;
           runnable = record {
@@ -146,9 +153,10 @@ script_from known text e = by known.stage refl e.is_last
             sections = (s.each, s.sections);
             fixed = s.fixed;
             snapshots = s.snapshots;
-            rounds = (omega (arith, shape.few), shape.each);
+            rounds = (shape, s.rounds);
+            unwinds = (let few = s.totals.few in omega (arith, ap (λ (t : Totals). t.unwinds) totals));
           };
-          built = record { rounds = shape.few; threads = shape.small };
+          built = λ has. subst AreSerial here (s.totals.serial (ap (λ (t : Totals). t.has_registration) totals ∙ has));
         }
     by _ same is_last = absurd cc
 

@@ -1,5 +1,5 @@
 -- What the lines so far say, and what holds of what they make known.
-use Rattle.std.proofs.Common.{◌≡◌, ℕ, ◌<◌, ◌≤◌, List, [], ◌∷◌, ◌++◌, length, All, subst, arith}
+use Rattle.std.proofs.Common.{◌≡◌, ℕ, ◌<◌, ◌≤◌, List, [], ◌∷◌, ◌++◌, length, All, sym, subst, arith}
 use Rattle.std.proofs.lemmas.List.Elements.{All-from_recursion}
 use Rattle.reg_model.specs.SpanData.{SpanData, IsSpan}
 use Rattle.event_script.specs.ScriptData.{ScriptData, Counts, counts_of, IsSnapshot, IsSectionOf, AreFixed, IsEvent, IsThread, IsRound}
@@ -10,6 +10,7 @@ use Rattle.event_script.specs.declared.reader.kinds.Stage.{Stage}
 use Rattle.event_script.specs.declared.reader.kinds.Stage.TheVariants as stage
 use Rattle.event_script.specs.declared.reader.statement.Statement.{Statement}
 use Rattle.event_script.specs.declared.reader.statement.Statement.TheVariants as statement
+use Rattle.event_script.proofs.EventTotals.{Totalled}
 
 -- ---- the lines so far
 
@@ -40,19 +41,18 @@ LoadsAt stage.Nodes loads = Unit {0}
 LoadsAt stage.Loads loads = Unit {0}
 LoadsAt _ loads = (1 ≤ loads) × (loads ≤ 1024)
 
--- the rounds that can be run
+-- the rounds of a script
 pub record AreRounds (counts : Counts) (rounds : List (List (List Event))) : Type 0 where
-  pub few : length rounds ≤ 1
-  pub small : All (λ threads. length threads ≤ 1) rounds
+  pub few : length rounds ≤ 64
   pub each : All (IsRound counts) rounds
 
 abbrev pub ShapeAt : Stage → DraftData → Type 0
 ShapeAt stage.Images known = (known.script.rounds ≡ []) × (known.threads ≡ []) × (known.events ≡ []) × (known.script.fixed ≡ []) × (known.script.snapshots ≡ [])
 ShapeAt stage.Fixed known = (known.script.rounds ≡ []) × (known.threads ≡ []) × (known.script.snapshots ≡ []) × (known.events ≡ [])
 ShapeAt stage.Snapshots known = (known.script.rounds ≡ []) × (known.threads ≡ []) × (length known.script.snapshots < 4096) × IsSnapshot known.snapshot × (known.events ≡ [])
-ShapeAt stage.Round known = (known.script.rounds ≡ []) × (known.threads ≡ [])
-ShapeAt stage.Thread known = (known.script.rounds ≡ []) × (known.threads ≡ [])
-ShapeAt stage.Ended known = AreRounds (counts_of known.script) known.script.rounds
+ShapeAt stage.Round known = length known.script.rounds < 64
+ShapeAt stage.Thread known = (length known.script.rounds < 64) × (length known.threads < 16)
+ShapeAt stage.Ended known = length known.script.rounds ≤ 64
 ShapeAt _ known = (known.script.images ≡ []) × (known.script.rounds ≡ []) × (known.threads ≡ []) × (known.events ≡ []) × (known.script.fixed ≡ []) × (known.script.snapshots ≡ [])
 
 pub record Sound (known : DraftData) : Type 0 where
@@ -64,7 +64,10 @@ pub record Sound (known : DraftData) : Type 0 where
   pub spans : All IsSpan known.script.images
   pub fixed : AreFixed known.script.images known.script.fixed
   pub snapshots : (length known.script.snapshots ≤ 4096) × All IsSnapshot known.script.snapshots
+  pub rounds : All (IsRound (counts_of known.script)) known.script.rounds
+  pub threads : IsRound (counts_of known.script) known.threads
   pub events : IsThread (counts_of known.script) known.events
+  pub totals : Totalled known.totals (rounds_so_far known)
   pub shape : ShapeAt known.stage known
 
 -- after one more line, which says this
@@ -78,8 +81,17 @@ same_step known made next s e step = subst (λ (n : DraftData). Step known n s) 
 pub no_events : (counts : Counts) → IsThread counts []
 no_events counts = (omega arith, All-from_recursion (IsEvent counts) [] tt)
 
+pub no_threads : (counts : Counts) → IsRound counts []
+no_threads counts = (omega arith, All-from_recursion (IsThread counts) [] tt)
+
+pub no_rounds : (counts : Counts) → All (IsRound counts) []
+no_rounds counts = All-from_recursion (IsRound counts) [] tt
+
 pub no_snapshots : (0 ≤ 4096) × All IsSnapshot []
 no_snapshots = (omega arith, All-from_recursion IsSnapshot [] tt)
 
 pub no_fixed : (images : List SpanData) → AreFixed images []
 no_fixed images = record { named = All-from_recursion (λ image. image < length images) [] tt; rising = tt }
+
+pub early_rounds : (counts : Counts) (rounds : List (List (List Event))) → rounds ≡ [] → AreRounds counts rounds
+early_rounds counts rounds none = subst (AreRounds counts) (sym none) (record { few = omega arith; each = no_rounds counts })

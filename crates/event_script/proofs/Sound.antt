@@ -2,7 +2,7 @@
 use Rattle.std.proofs.Common.{◌≡◌, ℕ, ◌+◌, ◌-◌, ◌^◌, ◌<◌, ◌≤◌, true, false, cond, ◌&&◌, eqb, ltb, leb, List, [], ◌∷◌, ◌++◌, length, map, Result, Ok, Err, refl, sym, ap, ap₂, subst, ◌∙◌, append_assoc, eqb-true, ltb-true, leb-true, arith, length-append}
 use Rattle.std.specs.List.{slice_get, All}
 use Rattle.std.specs.Option.{ok_or}
-use Rattle.std.proofs.lemmas.Bool.{and_parts}
+use Rattle.std.proofs.lemmas.Bool.{and_parts, or_parts, ltb-false}
 use Rattle.std.proofs.lemmas.List.Elements.{All-push}
 use Rattle.hex.specs.Hex.{IsBytes}
 use Rattle.reg_model.specs.SpanData.{SpanData, IsSpan}
@@ -11,11 +11,11 @@ use Rattle.frame_parse.specs.Reading.{section_of}
 use Rattle.frame_parse.specs.declared.fault.FrameFault.{FrameFault}
 use Rattle.frame_expr.specs.Regions.{RegionData}
 use Rattle.event_script.specs.declared.reader.statement.SnapshotFields.{SnapshotFields}
-use Rattle.event_script.specs.ScriptData.{ScriptData, ImageData, SnapshotData, Counts, counts_of, IsSnapshot, recorded_bytes, IsSectionOf, AreFixed, IsEvent, IsThread}
-use Rattle.event_script.specs.Statements.{kind_of_statement, HasForm}
+use Rattle.event_script.specs.ScriptData.{ScriptData, ImageData, SnapshotData, Counts, counts_of, IsSnapshot, recorded_bytes, IsSectionOf, AreFixed, IsEvent, IsThread, IsRound, is_registration}
+use Rattle.event_script.specs.Statements.{kind_of_event, kind_of_statement, HasForm}
 use Rattle.event_script.specs.Spelling.{image_data, image_statements, snapshot_lines, snapshot_statements, round_statements}
-use Rattle.event_script.specs.Draft.{DraftData, may_come, is_unbuilt, span_from, with_image, with_statement}
-use Rattle.event_script.specs.Reading.{section_or, image_added, last_fixed, is_above, fixed_added, snapshot_added, accepts, region_added, memory_added, is_named, added}
+use Rattle.event_script.specs.Draft.{DraftData, may_come, has_second, is_unbuilt, span_from, with_image, with_statement}
+use Rattle.event_script.specs.Reading.{section_or, image_added, last_fixed, is_above, fixed_added, snapshot_added, accepts, region_added, memory_added, is_named, has_room, added}
 use Rattle.event_script.specs.declared.script.Event.{Event}
 use Rattle.event_script.specs.declared.script.Event.TheVariants as event
 use Rattle.event_script.specs.declared.reader.fault.Reason.{Reason}
@@ -27,9 +27,11 @@ use Rattle.event_script.specs.declared.reader.statement.Statement.TheVariants as
 use Rattle.event_script.proofs.Steps.{bind_ok, guard_last, guard_then, ok_is, some_from}
 use Rattle.event_script.proofs.Sections.{section_is}
 use Rattle.event_script.proofs.Fixed.{fixed_push}
-use Rattle.event_script.proofs.SoFar.{Sound, Step, same_step, no_events, no_fixed}
+use Rattle.event_script.specs.declared.reader.totals.Totals.{Totals}
+use Rattle.event_script.proofs.EventTotals.{totalled_round, totalled_thread, totalled_event}
+use Rattle.event_script.proofs.SoFar.{AreRounds, Sound, Step, same_step, no_events, no_threads, no_rounds, no_fixed}
 use Rattle.event_script.proofs.Recorded.{accepted_true, no_memory, snapshot_push}
-use Rattle.event_script.proofs.LineLists.{before_fixed, before_rounds, before_snapshots, images_push, map_push, no_rounds_at, one_thread, rounds_of_none, rounds_of_one, snapshots_push}
+use Rattle.event_script.proofs.LineLists.{before_fixed, before_rounds, before_snapshots, images_push, map_push, rounds_push, thread_begins, event_comes, thread_push, round_push, snapshots_push}
 
 -- ---- sections
 
@@ -55,9 +57,9 @@ image_is image section count number some address bytes =
 
 -- ---- one more line
 
-module _ (script : ScriptData) (snapshot : SnapshotData) (threads : List (List Event)) (events : List Event) where
+module _ (script : ScriptData) (snapshot : SnapshotData) (threads : List (List Event)) (events : List Event) (totals : Totals) where
   abbrev as_of : Stage → DraftData
-  as_of stage = record { stage = stage; script = script; snapshot = snapshot; threads = threads; events = events }
+  as_of stage = record { stage = stage; script = script; snapshot = snapshot; threads = threads; events = events; totals = totals }
 
   abbrev images_part : List Statement
   images_part = image_statements 0 script.images script.sections
@@ -79,7 +81,7 @@ module _ (script : ScriptData) (snapshot : SnapshotData) (threads : List (List E
   version_sound version next s e =
       let g = guard_last (eqb version 1) reason.Limit (as_of stage.Nodes) next e in
       same_step _ (as_of stage.Nodes) next _ g.1 (record {
-        sound = record { each = s.each; sections = s.sections; nodes = tt; loads = tt; count = s.count; spans = s.spans; fixed = s.fixed; snapshots = s.snapshots; events = s.events; shape = s.shape };
+        sound = record { each = s.each; sections = s.sections; nodes = tt; loads = tt; count = s.count; spans = s.spans; fixed = s.fixed; snapshots = s.snapshots; rounds = s.rounds; threads = s.threads; events = s.events; totals = s.totals; shape = s.shape };
         statements = ap (λ (n : ℕ). statement.Version n ∷ []) (sym (eqb-true version 1 g.0));
       })
 
@@ -89,7 +91,7 @@ module _ (script : ScriptData) (snapshot : SnapshotData) (threads : List (List E
       let g = guard_last (leb 4 nodes && leb nodes 16384) reason.Limit made next e in
       let limits = and_parts (leb 4 nodes) (leb nodes 16384) g.0 in
       same_step _ made next _ g.1 (record {
-        sound = record { each = s.each; sections = s.sections; nodes = (leb-true 4 nodes limits.0, leb-true nodes 16384 limits.1); loads = tt; count = s.count; spans = s.spans; fixed = s.fixed; snapshots = s.snapshots; events = s.events; shape = s.shape };
+        sound = record { each = s.each; sections = s.sections; nodes = (leb-true 4 nodes limits.0, leb-true nodes 16384 limits.1); loads = tt; count = s.count; spans = s.spans; fixed = s.fixed; snapshots = s.snapshots; rounds = s.rounds; threads = s.threads; events = s.events; totals = s.totals; shape = s.shape };
         statements = refl;
       })
 
@@ -99,11 +101,21 @@ module _ (script : ScriptData) (snapshot : SnapshotData) (threads : List (List E
       let g = guard_last (leb 1 loads && leb loads 1024) reason.Limit made next e in
       let limits = and_parts (leb 1 loads) (leb loads 1024) g.0 in
       same_step _ made next _ g.1 (record {
-        sound = record { each = s.each; sections = s.sections; nodes = s.nodes; loads = (leb-true 1 loads limits.0, leb-true loads 1024 limits.1); count = s.count; spans = s.spans; fixed = s.fixed; snapshots = s.snapshots; events = s.events; shape = (s.shape.1, s.shape.2, s.shape.3, s.shape.4, s.shape.5) };
+        sound = record { each = s.each; sections = s.sections; nodes = s.nodes; loads = (leb-true 1 loads limits.0, leb-true loads 1024 limits.1); count = s.count; spans = s.spans; fixed = s.fixed; snapshots = s.snapshots; rounds = s.rounds; threads = s.threads; events = s.events; totals = s.totals; shape = (s.shape.1, s.shape.2, s.shape.3, s.shape.4, s.shape.5) };
         statements = ap (λ (x : List Statement). statement.Version 1 ∷ statement.Nodes script.nodes ∷ statement.Loads loads ∷ x) (
             before_fixed images_part script.fixed script.snapshots script.rounds s.shape.4 s.shape.5 s.shape.1
             ∙ ap (λ (is : List SpanData). image_statements 0 is script.sections) s.shape.0);
       })
+
+  -- before the first round, whatever there is to name
+  none_over : (any : Counts) → script.rounds ≡ [] → All (IsRound any) script.rounds
+  none_over any none = subst (All (IsRound any)) (sym none) (no_rounds any)
+
+  none_before : (any : Counts) → threads ≡ [] → IsRound any threads
+  none_before any none = subst (IsRound any) (sym none) (no_threads any)
+
+  none_happened : (any : Counts) → events ≡ [] → IsThread any events
+  none_happened any none = subst (IsThread any) (sym none) (no_events any)
 
   image_sound : (image : ImageData) (next : DraftData) → HasForm (statement.Image image) → Sound (as_of stage.Images) → image_added (as_of stage.Images) image ≡ Ok next → Step (as_of stage.Images) next (statement.Image image)
   image_sound image next are s e =
@@ -141,7 +153,10 @@ module _ (script : ScriptData) (snapshot : SnapshotData) (threads : List (List E
           spans = All-push IsSpan images span s.spans good;
           fixed = subst (AreFixed (images ++ span ∷ [])) (sym s.shape.3) (no_fixed (images ++ span ∷ []));
           snapshots = s.snapshots;
-          events = subst (IsThread (counts_of made.script)) (sym s.shape.2) (no_events (counts_of made.script));
+          rounds = none_over (counts_of made.script) s.shape.0;
+          threads = none_before (counts_of made.script) s.shape.1;
+          events = none_happened (counts_of made.script) s.shape.2;
+          totals = s.totals;
           shape = s.shape;
         };
         statements = ap top (
@@ -154,7 +169,7 @@ module _ (script : ScriptData) (snapshot : SnapshotData) (threads : List (List E
 
   -- where no image was fixed, the next may be
   may_be_fixed : Sound (as_of stage.Images) → Sound (as_of stage.Fixed)
-  may_be_fixed s = record { each = s.each; sections = s.sections; nodes = s.nodes; loads = s.loads; count = s.count; spans = s.spans; fixed = s.fixed; snapshots = s.snapshots; events = s.events; shape = (s.shape.0, s.shape.1, s.shape.4, s.shape.2) }
+  may_be_fixed s = record { each = s.each; sections = s.sections; nodes = s.nodes; loads = s.loads; count = s.count; spans = s.spans; fixed = s.fixed; snapshots = s.snapshots; rounds = s.rounds; threads = s.threads; events = s.events; totals = s.totals; shape = (s.shape.0, s.shape.1, s.shape.4, s.shape.2) }
 
   from_images : (next : DraftData) (s : Statement) → Step (as_of stage.Fixed) next s → Step (as_of stage.Images) next s
   from_images next s step = record { sound = step.sound; statements = step.statements }
@@ -166,7 +181,7 @@ module _ (script : ScriptData) (snapshot : SnapshotData) (threads : List (List E
       let made = with_statement (as_of stage.Fixed) (statement.Fixed image) in
       let above = guard_last (is_above (last_fixed script.images script.fixed) named.0) reason.Fixed made next named.2 in
       same_step _ made next _ above.1 (record {
-        sound = record { each = s.each; sections = s.sections; nodes = s.nodes; loads = s.loads; count = s.count; spans = s.spans; fixed = fixed_push script.images script.fixed image named.0 s.fixed found above.0; snapshots = s.snapshots; events = s.events; shape = s.shape };
+        sound = record { each = s.each; sections = s.sections; nodes = s.nodes; loads = s.loads; count = s.count; spans = s.spans; fixed = fixed_push script.images script.fixed image named.0 s.fixed found above.0; snapshots = s.snapshots; rounds = s.rounds; threads = s.threads; events = s.events; totals = s.totals; shape = s.shape };
         statements = ap top (
             before_snapshots (images_part ++ map statement.Fixed (script.fixed ++ image ∷ [])) script.snapshots script.rounds s.shape.2 s.shape.0
             ∙ ap (λ (x : List Statement). images_part ++ x) (map_push statement.Fixed script.fixed image)
@@ -209,7 +224,7 @@ module _ (script : ScriptData) (snapshot : SnapshotData) (threads : List (List E
       let order = guard_then (eqb fields.number (length script.snapshots)) reason.Order _ next e in
       let limit = guard_last (ltb (length script.snapshots) 4096) reason.Limit made next order.1 in
       same_step _ made next _ limit.1 (record {
-        sound = record { each = s.each; sections = s.sections; nodes = s.nodes; loads = s.loads; count = s.count; spans = s.spans; fixed = s.fixed; snapshots = s.snapshots; events = s.events; shape = (s.shape.0, s.shape.1, ltb-true _ _ limit.0, no_memory fields form, s.shape.3) };
+        sound = record { each = s.each; sections = s.sections; nodes = s.nodes; loads = s.loads; count = s.count; spans = s.spans; fixed = s.fixed; snapshots = s.snapshots; rounds = s.rounds; threads = s.threads; events = s.events; totals = s.totals; shape = (s.shape.0, s.shape.1, ltb-true _ _ limit.0, no_memory fields form, s.shape.3) };
         statements = snapshot_begun script.snapshots fields s.shape.0 (eqb-true _ _ order.0);
       })
 
@@ -219,7 +234,7 @@ module _ (script : ScriptData) (snapshot : SnapshotData) (threads : List (List E
       let order = guard_then (eqb fields.number (length with_open)) reason.Order _ next e in
       let limit = guard_last (ltb (length with_open) 4096) reason.Limit made next order.1 in
       same_step _ made next _ limit.1 (record {
-        sound = record { each = s.each; sections = s.sections; nodes = s.nodes; loads = s.loads; count = s.count; spans = s.spans; fixed = s.fixed; snapshots = open_snapshots (s.shape.2, s.shape.3) s.snapshots; events = subst (IsThread (counts_of made.script)) (sym s.shape.4) (no_events (counts_of made.script)); shape = (s.shape.0, s.shape.1, ltb-true _ _ limit.0, no_memory fields form, s.shape.4) };
+        sound = record { each = s.each; sections = s.sections; nodes = s.nodes; loads = s.loads; count = s.count; spans = s.spans; fixed = s.fixed; snapshots = open_snapshots (s.shape.2, s.shape.3) s.snapshots; rounds = none_over counts_open s.shape.0; threads = none_before counts_open s.shape.1; events = none_happened counts_open s.shape.4; totals = s.totals; shape = (s.shape.0, s.shape.1, ltb-true _ _ limit.0, no_memory fields form, s.shape.4) };
         statements = snapshot_begun with_open fields s.shape.0 (eqb-true _ _ order.0);
       })
 
@@ -233,7 +248,7 @@ module _ (script : ScriptData) (snapshot : SnapshotData) (threads : List (List E
       let same : made ≡ next = ap (λ (x : SnapshotData). record (as_of stage.Snapshots) { snapshot = x }) accepted.1 ∙ ok_is _ next added_one.2 in
       let number = 0 + length script.snapshots in
       same_step _ made next _ same (record {
-        sound = record { each = s.each; sections = s.sections; nodes = s.nodes; loads = s.loads; count = s.count; spans = s.spans; fixed = s.fixed; snapshots = s.snapshots; events = s.events; shape = (s.shape.0, s.shape.1, s.shape.2, snapshot_push snapshot region s.shape.3 form (leb-true _ _ limit.0) (accepted_true snapshot.memory region accepted.0), s.shape.4) };
+        sound = record { each = s.each; sections = s.sections; nodes = s.nodes; loads = s.loads; count = s.count; spans = s.spans; fixed = s.fixed; snapshots = s.snapshots; rounds = s.rounds; threads = s.threads; events = s.events; totals = s.totals; shape = (s.shape.0, s.shape.1, s.shape.2, snapshot_push snapshot region s.shape.3 form (leb-true _ _ limit.0) (accepted_true snapshot.memory region accepted.0), s.shape.4) };
         statements = ap top (
             before_rounds (part_with (script.snapshots ++ grown ∷ [])) script.rounds s.shape.0
             ∙ ap (λ (x : List Statement). fixed_part ++ x) (
@@ -247,47 +262,80 @@ module _ (script : ScriptData) (snapshot : SnapshotData) (threads : List (List E
 
   -- ---- rounds and threads
 
-  round_begun : (snapshots : List SnapshotData) → script.rounds ≡ [] → top (part_with snapshots ++ round_statements (script.rounds ++ [] ∷ [])) ≡ top (part_with snapshots ++ round_statements script.rounds) ++ statement.Round ∷ []
-  round_begun snapshots no_rounds =
-      ap top (
-      ap (λ (r : List (List (List Event))). part_with snapshots ++ round_statements (r ++ [] ∷ [])) no_rounds
-      ∙ ap (λ (x : List Statement). x ++ statement.Round ∷ []) (sym (before_rounds (part_with snapshots) script.rounds no_rounds)))
+  abbrev lines_with : List SnapshotData → List (List (List Event)) → List Statement
+  lines_with snapshots rounds = top (part_with snapshots ++ round_statements rounds)
 
-  round_after_snapshots : (next : DraftData) → Sound (as_of stage.Snapshots) → cond (ltb (length script.rounds) 64) (Ok (with_statement (as_of stage.Snapshots) statement.Round)) (Err reason.Limit) ≡ Ok next → Step (as_of stage.Snapshots) next statement.Round
-  round_after_snapshots next s e =
+  one_more : (snapshots : List SnapshotData) (old new : List (List (List Event))) (line : Statement) → round_statements new ≡ round_statements old ++ line ∷ [] → lines_with snapshots new ≡ lines_with snapshots old ++ line ∷ []
+  one_more snapshots old new line is =
+      ap top (ap (λ (x : List Statement). part_with snapshots ++ x) is ∙ sym (append_assoc (part_with snapshots) (round_statements old) (line ∷ [])))
+
+  -- after a snapshot, before the first round, after a round without threads, and after a thread
+  round_after_snapshots : (next : DraftData) → totals.has_registration ≡ false → Sound (as_of stage.Snapshots) → cond (ltb (length script.rounds) 64) (Ok (with_statement (as_of stage.Snapshots) statement.Round)) (Err reason.Limit) ≡ Ok next → Step (as_of stage.Snapshots) next statement.Round
+  round_after_snapshots next built s e =
       let made = with_statement (as_of stage.Snapshots) statement.Round in
       let few = guard_last (ltb (length script.rounds) 64) reason.Limit made next e in
       same_step _ made next _ few.1 (record {
-        sound = record { each = s.each; sections = s.sections; nodes = s.nodes; loads = s.loads; count = s.count; spans = s.spans; fixed = s.fixed; snapshots = open_snapshots (s.shape.2, s.shape.3) s.snapshots; events = no_events counts_open; shape = (s.shape.0, refl) };
-        statements = round_begun with_open s.shape.0;
+        sound = record { each = s.each; sections = s.sections; nodes = s.nodes; loads = s.loads; count = s.count; spans = s.spans; fixed = s.fixed; snapshots = open_snapshots (s.shape.2, s.shape.3) s.snapshots; rounds = none_over counts_open s.shape.0; threads = no_threads counts_open; events = no_events counts_open; totals = totalled_round totals script.rounds built s.totals; shape = ltb-true _ _ few.0 };
+        statements = one_more with_open script.rounds (script.rounds ++ [] ∷ []) statement.Round (rounds_push script.rounds []);
       })
 
-  round_sound : (next : DraftData) → Sound (as_of stage.Fixed) → cond (ltb (length script.rounds) 64) (Ok (with_statement (as_of stage.Fixed) statement.Round)) (Err reason.Limit) ≡ Ok next → Step (as_of stage.Fixed) next statement.Round
-  round_sound next s e =
+  round_sound : (next : DraftData) → totals.has_registration ≡ false → Sound (as_of stage.Fixed) → cond (ltb (length script.rounds) 64) (Ok (with_statement (as_of stage.Fixed) statement.Round)) (Err reason.Limit) ≡ Ok next → Step (as_of stage.Fixed) next statement.Round
+  round_sound next built s e =
       let made = with_statement (as_of stage.Fixed) statement.Round in
       let few = guard_last (ltb (length script.rounds) 64) reason.Limit made next e in
       same_step _ made next _ few.1 (record {
-        sound = record { each = s.each; sections = s.sections; nodes = s.nodes; loads = s.loads; count = s.count; spans = s.spans; fixed = s.fixed; snapshots = s.snapshots; events = no_events counts; shape = (s.shape.0, refl) };
-        statements = round_begun script.snapshots s.shape.0;
+        sound = record { each = s.each; sections = s.sections; nodes = s.nodes; loads = s.loads; count = s.count; spans = s.spans; fixed = s.fixed; snapshots = s.snapshots; rounds = s.rounds; threads = no_threads counts; events = no_events counts; totals = totalled_round totals script.rounds built s.totals; shape = ltb-true _ _ few.0 };
+        statements = one_more script.snapshots script.rounds (script.rounds ++ [] ∷ []) statement.Round (rounds_push script.rounds []);
       })
 
-  thread_sound : (next : DraftData) → Sound (as_of stage.Round) → cond (ltb (length threads) 16) (Ok (with_statement (as_of stage.Round) statement.Thread)) (Err reason.Limit) ≡ Ok next → Step (as_of stage.Round) next statement.Thread
-  thread_sound next s e =
+  -- the rounds so far where one goes on, without threads, or with one that goes on
+  abbrev with_round : List (List (List Event))
+  with_round = script.rounds ++ threads ∷ []
+
+  abbrev with_thread : List (List (List Event))
+  with_thread = script.rounds ++ (threads ++ events ∷ []) ∷ []
+
+  pub round_rounds : Sound (as_of stage.Round) → AreRounds counts with_round
+  round_rounds s = round_push counts script.rounds threads s.shape s.rounds s.threads
+
+  pub thread_rounds : Sound (as_of stage.Thread) → AreRounds counts with_thread
+  thread_rounds s = round_push counts script.rounds (threads ++ events ∷ []) s.shape.0 s.rounds (thread_push counts threads events s.shape.1 s.threads s.events)
+
+  round_after_round : (next : DraftData) → totals.has_registration ≡ false → Sound (as_of stage.Round) → cond (ltb (length with_round) 64) (Ok (with_statement (as_of stage.Round) statement.Round)) (Err reason.Limit) ≡ Ok next → Step (as_of stage.Round) next statement.Round
+  round_after_round next built s e =
+      let made = with_statement (as_of stage.Round) statement.Round in
+      let few = guard_last (ltb (length with_round) 64) reason.Limit made next e in
+      same_step _ made next _ few.1 (record {
+        sound = record { each = s.each; sections = s.sections; nodes = s.nodes; loads = s.loads; count = s.count; spans = s.spans; fixed = s.fixed; snapshots = s.snapshots; rounds = (round_rounds s).each; threads = no_threads counts; events = no_events counts; totals = totalled_round totals with_round built s.totals; shape = ltb-true _ _ few.0 };
+        statements = one_more script.snapshots with_round (with_round ++ [] ∷ []) statement.Round (rounds_push with_round []);
+      })
+
+  round_after_thread : (next : DraftData) → totals.has_registration ≡ false → Sound (as_of stage.Thread) → cond (ltb (length with_thread) 64) (Ok (with_statement (as_of stage.Thread) statement.Round)) (Err reason.Limit) ≡ Ok next → Step (as_of stage.Thread) next statement.Round
+  round_after_thread next built s e =
+      let made = with_statement (as_of stage.Thread) statement.Round in
+      let few = guard_last (ltb (length with_thread) 64) reason.Limit made next e in
+      same_step _ made next _ few.1 (record {
+        sound = record { each = s.each; sections = s.sections; nodes = s.nodes; loads = s.loads; count = s.count; spans = s.spans; fixed = s.fixed; snapshots = s.snapshots; rounds = (thread_rounds s).each; threads = no_threads counts; events = no_events counts; totals = totalled_round totals with_thread built s.totals; shape = ltb-true _ _ few.0 };
+        statements = one_more script.snapshots with_thread (with_thread ++ [] ∷ []) statement.Round (rounds_push with_thread []);
+      })
+
+  thread_sound : (next : DraftData) → totals.has_registration ≡ false → Sound (as_of stage.Round) → cond (ltb (length threads) 16) (Ok (with_statement (as_of stage.Round) statement.Thread)) (Err reason.Limit) ≡ Ok next → Step (as_of stage.Round) next statement.Thread
+  thread_sound next built s e =
       let made = with_statement (as_of stage.Round) statement.Thread in
       let few = guard_last (ltb (length threads) 16) reason.Limit made next e in
       same_step _ made next _ few.1 (record {
-        sound = record { each = s.each; sections = s.sections; nodes = s.nodes; loads = s.loads; count = s.count; spans = s.spans; fixed = s.fixed; snapshots = s.snapshots; events = no_events counts; shape = s.shape };
-        statements = ap top (
-            ap₂ (λ (r : List (List (List Event))) (t : List (List Event)). snapshots_part ++ round_statements (r ++ (t ++ [] ∷ []) ∷ [])) s.shape.0 s.shape.1
-            ∙ sym (append_assoc snapshots_part (statement.Round ∷ []) (statement.Thread ∷ []))
-            ∙ ap₂ (λ (r : List (List (List Event))) (t : List (List Event)). (snapshots_part ++ round_statements (r ++ t ∷ [])) ++ statement.Thread ∷ []) (sym s.shape.0) (sym s.shape.1));
+        sound = record { each = s.each; sections = s.sections; nodes = s.nodes; loads = s.loads; count = s.count; spans = s.spans; fixed = s.fixed; snapshots = s.snapshots; rounds = s.rounds; threads = s.threads; events = no_events counts; totals = totalled_thread totals script.rounds threads built s.totals; shape = (s.shape, ltb-true _ _ few.0) };
+        statements = one_more script.snapshots with_round (script.rounds ++ (threads ++ [] ∷ []) ∷ []) statement.Thread (thread_begins script.rounds threads);
       })
 
-  thread_push : (e : Event) → snapshots_part ++ round_statements (((events ++ e ∷ []) ∷ []) ∷ []) ≡ (snapshots_part ++ round_statements ((events ∷ []) ∷ [])) ++ statement.Event e ∷ []
-  thread_push e =
-      ap (λ (x : List Statement). snapshots_part ++ x) (one_thread (events ++ e ∷ []) ∙ ap (λ (x : List Statement). statement.Round ∷ statement.Thread ∷ x) (map_push statement.Event events e))
-      ∙ sym (append_assoc snapshots_part (statement.Round ∷ statement.Thread ∷ map statement.Event events) (statement.Event e ∷ []))
-      ∙ ap (λ (x : List Statement). (snapshots_part ++ x) ++ statement.Event e ∷ []) (sym (one_thread events))
+  next_thread_sound : (next : DraftData) → totals.has_registration ≡ false → Sound (as_of stage.Thread) → cond (ltb (length (threads ++ events ∷ [])) 16) (Ok (with_statement (as_of stage.Thread) statement.Thread)) (Err reason.Limit) ≡ Ok next → Step (as_of stage.Thread) next statement.Thread
+  next_thread_sound next built s e =
+      let made = with_statement (as_of stage.Thread) statement.Thread in
+      let few = guard_last (ltb (length (threads ++ events ∷ [])) 16) reason.Limit made next e in
+      same_step _ made next _ few.1 (record {
+        sound = record { each = s.each; sections = s.sections; nodes = s.nodes; loads = s.loads; count = s.count; spans = s.spans; fixed = s.fixed; snapshots = s.snapshots; rounds = s.rounds; threads = thread_push counts threads events s.shape.1 s.threads s.events; events = no_events counts; totals = totalled_thread totals script.rounds (threads ++ events ∷ []) built s.totals; shape = (s.shape.0, ltb-true _ _ few.0) };
+        statements = one_more script.snapshots with_thread (script.rounds ++ ((threads ++ events ∷ []) ++ [] ∷ []) ∷ []) statement.Thread (thread_begins script.rounds (threads ++ events ∷ []));
+      })
 
   -- the event names an image that there is, and its numbers are small
   event_is : (e : Event) → is_named counts e ≡ true → HasForm (statement.Event e) → IsEvent counts e
@@ -298,14 +346,29 @@ module _ (script : ScriptData) (snapshot : SnapshotData) (threads : List (List E
   event_is (event.Find pc) named form = form
   event_is (event.Unwind stack) named form = ltb-true stack (length script.snapshots) named
 
-  event_sound : (happens : Event) (next : DraftData) → HasForm (statement.Event happens) → Sound (as_of stage.Thread)
-      → cond (ltb (length events) 4096) (cond (is_named counts happens) (Ok (with_statement (as_of stage.Thread) (statement.Event happens))) (Err reason.Name)) (Err reason.Limit) ≡ Ok next
+  first_ones : has_second (as_of stage.Thread) ≡ false → (length with_thread ≤ 1) × (length (threads ++ events ∷ []) ≤ 1)
+  first_ones built =
+      let parts = or_parts (ltb 1 (length with_thread)) (ltb 1 (length (threads ++ events ∷ []))) built in
+      (ltb-false 1 (length with_thread) parts.0, ltb-false 1 (length (threads ++ events ∷ [])) parts.1)
+
+  -- where a registration can be run, one thread of one round has begun
+  begun_alone : (e : Event) → is_unbuilt (as_of stage.Thread) (kind_of_event e) ≡ false → is_registration e ≡ true → (length with_thread ≤ 1) × (length (threads ++ events ∷ []) ≤ 1)
+  begun_alone (event.Register image) built is = first_ones built
+  begun_alone (event.Deregister base) built is = first_ones built
+  begun_alone (event.Load image) built is = absurd cc
+  begun_alone (event.Unload base) built is = absurd cc
+  begun_alone (event.Find pc) built is = absurd cc
+  begun_alone (event.Unwind stack) built is = absurd cc
+
+  event_sound : (happens : Event) (next : DraftData) → is_unbuilt (as_of stage.Thread) (kind_of_event happens) ≡ false → HasForm (statement.Event happens) → Sound (as_of stage.Thread)
+      → cond (ltb (length events) 4096 && has_room totals happens) (cond (is_named counts happens) (Ok (with_statement (as_of stage.Thread) (statement.Event happens))) (Err reason.Name)) (Err reason.Limit) ≡ Ok next
       → Step (as_of stage.Thread) next (statement.Event happens)
-  event_sound happens next form s e =
+  event_sound happens next built form s e =
       let made = with_statement (as_of stage.Thread) (statement.Event happens) in
-      let limit = guard_then (ltb (length events) 4096) reason.Limit _ next e in
+      let limit = guard_then (ltb (length events) 4096 && has_room totals happens) reason.Limit _ next e in
+      let room = and_parts (ltb (length events) 4096) (has_room totals happens) limit.0 in
       let named = guard_last (is_named counts happens) reason.Name made next limit.1 in
-      let few = ltb-true (length events) 4096 limit.0 in
+      let few = ltb-true (length events) 4096 room.0 in
       let so_far = s.events in
       same_step _ made next _ named.1 (record {
         sound = record {
@@ -317,38 +380,41 @@ module _ (script : ScriptData) (snapshot : SnapshotData) (threads : List (List E
           spans = s.spans;
           fixed = s.fixed;
           snapshots = s.snapshots;
+          rounds = s.rounds;
+          threads = s.threads;
           events = (omega (arith, length-append events (happens ∷ [])), All-push (IsEvent counts) events happens so_far.1 (event_is happens named.0 form));
+          totals = totalled_event totals script.rounds threads events s.totals happens room.1 (begun_alone happens built);
           shape = s.shape;
         };
-        statements = ap top (
-            ap₂ (λ (r : List (List (List Event))) (t : List (List Event)). snapshots_part ++ round_statements (r ++ (t ++ (events ++ happens ∷ []) ∷ []) ∷ [])) s.shape.0 s.shape.1
-            ∙ thread_push happens
-            ∙ ap₂ (λ (r : List (List (List Event))) (t : List (List Event)). (snapshots_part ++ round_statements (r ++ (t ++ events ∷ []) ∷ [])) ++ statement.Event happens ∷ []) (sym s.shape.0) (sym s.shape.1));
+        statements = one_more script.snapshots with_thread (script.rounds ++ (threads ++ (events ++ happens ∷ []) ∷ []) ∷ []) (statement.Event happens) (event_comes script.rounds threads events happens);
       })
 
   -- ---- the last line
 
+  no_round_yet : script.rounds ≡ [] → length script.rounds ≤ 64
+  no_round_yet none = omega (arith, ap length none)
+
   end_fixed : (next : DraftData) → Sound (as_of stage.Fixed) → with_statement (as_of stage.Fixed) statement.End ≡ next → Step (as_of stage.Fixed) next statement.End
   end_fixed next s e = same_step _ (with_statement (as_of stage.Fixed) statement.End) next _ e (record {
-    sound = record { each = s.each; sections = s.sections; nodes = s.nodes; loads = s.loads; count = s.count; spans = s.spans; fixed = s.fixed; snapshots = s.snapshots; events = no_events counts; shape = no_rounds_at counts script.rounds s.shape.0 };
+    sound = record { each = s.each; sections = s.sections; nodes = s.nodes; loads = s.loads; count = s.count; spans = s.spans; fixed = s.fixed; snapshots = s.snapshots; rounds = s.rounds; threads = no_threads counts; events = no_events counts; totals = s.totals; shape = no_round_yet s.shape.0 };
     statements = refl;
   })
 
   end_snapshots : (next : DraftData) → Sound (as_of stage.Snapshots) → with_statement (as_of stage.Snapshots) statement.End ≡ next → Step (as_of stage.Snapshots) next statement.End
   end_snapshots next s e = same_step _ (with_statement (as_of stage.Snapshots) statement.End) next _ e (record {
-    sound = record { each = s.each; sections = s.sections; nodes = s.nodes; loads = s.loads; count = s.count; spans = s.spans; fixed = s.fixed; snapshots = open_snapshots (s.shape.2, s.shape.3) s.snapshots; events = no_events counts_open; shape = no_rounds_at counts_open script.rounds s.shape.0 };
+    sound = record { each = s.each; sections = s.sections; nodes = s.nodes; loads = s.loads; count = s.count; spans = s.spans; fixed = s.fixed; snapshots = open_snapshots (s.shape.2, s.shape.3) s.snapshots; rounds = none_over counts_open s.shape.0; threads = no_threads counts_open; events = no_events counts_open; totals = s.totals; shape = no_round_yet s.shape.0 };
     statements = refl;
   })
 
   end_round : (next : DraftData) → Sound (as_of stage.Round) → with_statement (as_of stage.Round) statement.End ≡ next → Step (as_of stage.Round) next statement.End
   end_round next s e = same_step _ (with_statement (as_of stage.Round) statement.End) next _ e (record {
-    sound = record { each = s.each; sections = s.sections; nodes = s.nodes; loads = s.loads; count = s.count; spans = s.spans; fixed = s.fixed; snapshots = s.snapshots; events = no_events counts; shape = rounds_of_none counts script.rounds threads s.shape.0 s.shape.1 };
+    sound = record { each = s.each; sections = s.sections; nodes = s.nodes; loads = s.loads; count = s.count; spans = s.spans; fixed = s.fixed; snapshots = s.snapshots; rounds = (round_rounds s).each; threads = no_threads counts; events = no_events counts; totals = s.totals; shape = (round_rounds s).few };
     statements = refl;
   })
 
   end_thread : (next : DraftData) → Sound (as_of stage.Thread) → with_statement (as_of stage.Thread) statement.End ≡ next → Step (as_of stage.Thread) next statement.End
   end_thread next s e = same_step _ (with_statement (as_of stage.Thread) statement.End) next _ e (record {
-    sound = record { each = s.each; sections = s.sections; nodes = s.nodes; loads = s.loads; count = s.count; spans = s.spans; fixed = s.fixed; snapshots = s.snapshots; events = no_events counts; shape = rounds_of_one counts script.rounds threads events s.shape.0 s.shape.1 s.events };
+    sound = record { each = s.each; sections = s.sections; nodes = s.nodes; loads = s.loads; count = s.count; spans = s.spans; fixed = s.fixed; snapshots = s.snapshots; rounds = (thread_rounds s).each; threads = no_threads counts; events = no_events counts; totals = s.totals; shape = (thread_rounds s).few };
     statements = refl;
   })
 
@@ -361,19 +427,22 @@ module _ (script : ScriptData) (snapshot : SnapshotData) (threads : List (List E
   statement_sound stage.Images (statement.Image image) next may built form s e = image_sound image next form s e
   statement_sound stage.Images (statement.Fixed image) next may built form s e = from_images next _ (fixed_sound image next (may_be_fixed s) e)
   statement_sound stage.Images (statement.Snapshot fields) next may built form s e = from_images next _ (snapshot_sound fields next form (may_be_fixed s) e)
-  statement_sound stage.Images statement.Round next may built form s e = from_images next _ (round_sound next (may_be_fixed s) e)
+  statement_sound stage.Images statement.Round next may built form s e = from_images next _ (round_sound next built (may_be_fixed s) e)
   statement_sound stage.Images statement.End next may built form s e = from_images next _ (end_fixed next (may_be_fixed s) (ok_is _ next e))
   statement_sound stage.Fixed (statement.Fixed image) next may built form s e = fixed_sound image next s e
   statement_sound stage.Fixed (statement.Snapshot fields) next may built form s e = snapshot_sound fields next form s e
-  statement_sound stage.Fixed statement.Round next may built form s e = round_sound next s e
+  statement_sound stage.Fixed statement.Round next may built form s e = round_sound next built s e
   statement_sound stage.Fixed statement.End next may built form s e = end_fixed next s (ok_is _ next e)
   statement_sound stage.Snapshots (statement.Snapshot fields) next may built form s e = next_snapshot_sound fields next form s e
   statement_sound stage.Snapshots (statement.Memory region) next may built form s e = memory_sound region next form s e
-  statement_sound stage.Snapshots statement.Round next may built form s e = round_after_snapshots next s e
+  statement_sound stage.Snapshots statement.Round next may built form s e = round_after_snapshots next built s e
   statement_sound stage.Snapshots statement.End next may built form s e = end_snapshots next s (ok_is _ next e)
-  statement_sound stage.Round statement.Thread next may built form s e = thread_sound next s e
+  statement_sound stage.Round statement.Round next may built form s e = round_after_round next built s e
+  statement_sound stage.Round statement.Thread next may built form s e = thread_sound next built s e
   statement_sound stage.Round statement.End next may built form s e = end_round next s (ok_is _ next e)
-  statement_sound stage.Thread (statement.Event happens) next may built form s e = event_sound happens next form s e
+  statement_sound stage.Thread statement.Round next may built form s e = round_after_thread next built s e
+  statement_sound stage.Thread statement.Thread next may built form s e = next_thread_sound next built s e
+  statement_sound stage.Thread (statement.Event happens) next may built form s e = event_sound happens next built form s e
   statement_sound stage.Thread statement.End next may built form s e = end_thread next s (ok_is _ next e)
   statement_sound _ (statement.Event (event.Register image)) next may built form s e = absurd cc
   statement_sound _ (statement.Event (event.Deregister base)) next may built form s e = absurd cc

@@ -1,28 +1,31 @@
 -- A script as far as its lines have come: which lines may come, and what each adds.
-use Rattle.std.specs.Prelude.{ℕ, ◌+◌, ◌-◌, List, [], ◌∷◌, ◌++◌, Bool, true, false, Result, Ok}
-use Rattle.std.specs.Prelude.{Err, replicate}
+use Rattle.std.specs.Prelude.{ℕ, ◌+◌, ◌-◌, List, [], ◌∷◌, ◌++◌, length, Bool, true, false, ◌||◌}
+use Rattle.std.specs.Prelude.{nat_lt, Result, Ok, Err, replicate}
 use Rattle.reg_model.specs.SpanData.{SpanData}
 use Rattle.frame_parse.specs.Sections.{SectionData}
 use Rattle.frame_parse.specs.Reading.{section_of}
 use Rattle.frame_parse.specs.declared.fault.FrameFault.{FrameFault}
 use Rattle.event_script.specs.ScriptData.{ScriptData, ImageData, SnapshotData}
 use Rattle.event_script.specs.declared.script.Event.{Event}
+use Rattle.event_script.specs.declared.script.Event.TheVariants as event
 use Rattle.event_script.specs.declared.reader.kinds.Stage.{Stage}
 use Rattle.event_script.specs.declared.reader.kinds.Stage.TheVariants as stage
 use Rattle.event_script.specs.declared.reader.kinds.Kind.{Kind}
 use Rattle.event_script.specs.declared.reader.kinds.Kind.TheVariants as kind
 use Rattle.event_script.specs.declared.reader.statement.Statement.{Statement}
 use Rattle.event_script.specs.declared.reader.statement.Statement.TheVariants as statement
+use Rattle.event_script.specs.declared.reader.totals.Totals.{Totals}
 
 -- What the lines so far make known: which lines may come, what stands of the script, the snapshot
--- whose memory goes on, the threads that are over of the round that goes on, and the events of the
--- thread that goes on.
+-- whose memory goes on, the threads that are over of the round that goes on, the events of the
+-- thread that goes on, and what all events so far come to.
 pub record DraftData : Type 0 where
   pub stage : Stage
   pub script : ScriptData
   pub snapshot : SnapshotData
   pub threads : List (List Event)
   pub events : List Event
+  pub totals : Totals
 
 abbrev pub no_script : ScriptData
 no_script = record {
@@ -39,6 +42,10 @@ no_script = record {
 abbrev pub no_snapshot : SnapshotData
 no_snapshot = record { regs = record { columns = replicate 17 0 }; memory = [] }
 
+-- what no events come to
+abbrev pub no_totals : Totals
+no_totals = record { has_registration = false; unwinds = 0 }
+
 -- before the first line
 abbrev pub nothing_known : DraftData
 nothing_known = record {
@@ -47,6 +54,7 @@ nothing_known = record {
   snapshot = no_snapshot;
   threads = [];
   events = [];
+  totals = no_totals;
 }
 
 -- ---- which lines may come
@@ -88,22 +96,6 @@ abbrev pub is_ended : Stage → Bool
 is_ended stage.Ended = true
 is_ended _ = false
 
--- a round has begun, or a thread in it
-abbrev pub has_round : Stage → Bool
-has_round stage.Round = true
-has_round stage.Thread = true
-has_round _ = false
-
-abbrev pub has_thread : Stage → Bool
-has_thread stage.Thread = true
-has_thread _ = false
-
--- Lines that can't be run after what the lines before made known: a second round, a second thread.
-abbrev pub is_unbuilt : DraftData → Kind → Bool
-is_unbuilt known kind.Round = has_round known.stage
-is_unbuilt known kind.Thread = has_thread known.stage
-is_unbuilt known _ = false
-
 -- ---- what each adds
 
 -- the snapshots, with the one that goes on
@@ -133,6 +125,13 @@ threads_so_far known = threads_at known.stage known.threads known.events
 
 abbrev pub rounds_so_far : DraftData → List (List (List Event))
 rounds_so_far known = rounds_at known.stage known.script.rounds known.threads known.events
+
+-- with one more event
+abbrev pub with_event : Totals → Event → Totals
+with_event totals (event.Register image) = record totals { has_registration = true }
+with_event totals (event.Deregister base) = record totals { has_registration = true }
+with_event totals (event.Unwind snapshot) = record totals { unwinds = totals.unwinds + 1 }
+with_event totals _ = totals
 
 -- the span of an image
 abbrev pub span_from : ImageData → SpanData
@@ -170,6 +169,7 @@ after_round known next = record {
   snapshot = no_snapshot;
   threads = [];
   events = [];
+  totals = known.totals;
 }
 
 -- what is known after one more line that says so
@@ -198,5 +198,25 @@ with_statement known (statement.Memory region) =
 with_statement known statement.Round = after_round known stage.Round
 with_statement known statement.Thread =
     record known { stage = stage.Thread; threads = threads_so_far known; events = [] }
-with_statement known (statement.Event event) = record known { events = known.events ++ event ∷ [] }
+with_statement known (statement.Event event) = record known {
+  events = known.events ++ event ∷ [];
+  totals = with_event known.totals event;
+}
 with_statement known statement.End = after_round known stage.Ended
+
+-- ---- what can't be run
+
+-- a second `round` line came, or a second `thread` line
+abbrev pub has_second : DraftData → Bool
+has_second known =
+    nat_lt 1 (length (rounds_so_far known)) || nat_lt 1 (length (threads_so_far known))
+
+-- Lines that can't be run after what the lines before made known: a registration after a second
+-- `round` or `thread` line, and one of these after a registration, which makes it a second one,
+-- since registrations stand in a thread of a round.
+abbrev pub is_unbuilt : DraftData → Kind → Bool
+is_unbuilt known kind.Register = has_second known
+is_unbuilt known kind.Deregister = has_second known
+is_unbuilt known kind.Round = known.totals.has_registration
+is_unbuilt known kind.Thread = known.totals.has_registration
+is_unbuilt known _ = false

@@ -17,6 +17,7 @@ use Rattle.event_script.specs.declared.limits.TheConstants.{LEAST_LOADS, MOST_LO
 use Rattle.event_script.specs.declared.limits.TheConstants.{MOST_SECTION_BYTES, MOST_SNAPSHOTS}
 use Rattle.event_script.specs.declared.limits.TheConstants.{MOST_MEMORY_BYTES, MOST_ROUNDS}
 use Rattle.event_script.specs.declared.limits.TheConstants.{MOST_THREADS, MOST_EVENTS}
+use Rattle.event_script.specs.declared.limits.TheConstants.{MOST_UNWINDS}
 use Rattle.frame_expr.specs.Regions.{RegionData, regions_end}
 use Rattle.event_script.specs.ScriptData.{ImageData, SnapshotData, Counts, recorded_bytes}
 use Rattle.event_script.specs.ScriptData.{counts_of}
@@ -37,6 +38,7 @@ use Rattle.event_script.specs.declared.reader.kinds.Kind.TheVariants as kind
 use Rattle.event_script.specs.declared.reader.statement.SnapshotFields.{SnapshotFields}
 use Rattle.event_script.specs.declared.reader.statement.Statement.{Statement}
 use Rattle.event_script.specs.declared.reader.statement.Statement.TheVariants as statement
+use Rattle.event_script.specs.declared.reader.totals.Totals.{Totals}
 
 infixl 10 ◌>=>◌
 abbrev pub ◌>=>◌ : {A B E : Type 0} → Result A E → (A → Result B E) → Result B E
@@ -217,6 +219,11 @@ is_named counts (event.Load image) = nat_lt image counts.images
 is_named counts (event.Unwind snapshot) = nat_lt snapshot counts.snapshots
 is_named counts _ = true
 
+-- whether a script may have one more such event
+abbrev pub has_room : Totals → Event → Bool
+has_room totals (event.Unwind snapshot) = nat_lt totals.unwinds MOST_UNWINDS
+has_room totals _ = true
+
 unfoldable pub added : DraftData → Statement → Result DraftData Reason
 added known (statement.Version version) =
     if version == VERSION
@@ -238,7 +245,7 @@ added known statement.Thread =
     if nat_lt (length (threads_so_far known)) MOST_THREADS
     then Ok (with_statement known statement.Thread) else Err reason.Limit
 added known (statement.Event event) =
-    if nat_lt (length known.events) MOST_EVENTS
+    if nat_lt (length known.events) MOST_EVENTS && has_room known.totals event
     then (if is_named (counts_of known.script) event
     then Ok (with_statement known (statement.Event event)) else Err reason.Name)
     else Err reason.Limit

@@ -8,6 +8,7 @@ use Rattle.event_script.specs.declared.limits.TheConstants.{LEAST_LOADS, MOST_LO
 use Rattle.event_script.specs.declared.limits.TheConstants.{MOST_SECTION_BYTES, MOST_SNAPSHOTS}
 use Rattle.event_script.specs.declared.limits.TheConstants.{MOST_MEMORY_BYTES, MOST_ROUNDS}
 use Rattle.event_script.specs.declared.limits.TheConstants.{MOST_THREADS, MOST_EVENTS}
+use Rattle.event_script.specs.declared.limits.TheConstants.{MOST_UNWINDS}
 use Rattle.reg_model.specs.SpanData.{SpanData}
 use Rattle.event_script.specs.Fields.{pieces, is_printable}
 use Rattle.event_script.specs.Statements.{word_of, forms, AreFields, statement_line, HasForm}
@@ -16,6 +17,7 @@ use Rattle.frame_expr.specs.Regions.{Accepts}
 use Rattle.event_script.specs.ScriptData.{recorded_bytes}
 use Rattle.event_script.specs.Draft.{DraftData, may_come, is_ended, is_unbuilt, snapshots_so_far}
 use Rattle.event_script.specs.Draft.{threads_so_far, rounds_so_far}
+use Rattle.event_script.specs.declared.script.Event.{Event}
 use Rattle.event_script.specs.declared.script.Event.TheVariants as event
 use Rattle.event_script.specs.declared.reader.fault.Reason.{Reason}
 use Rattle.event_script.specs.declared.reader.fault.Reason.TheVariants as reason
@@ -57,6 +59,11 @@ IsOutOfOrder known (statement.Snapshot snapshot) =
     snapshot.number ≢ length (snapshots_so_far known)
 IsOutOfOrder known _ = ⊥
 
+-- it is one `unwind` event more than a script may have
+abbrev pub IsUnwindTooMany : DraftData → Event → Type 0
+IsUnwindTooMany known (event.Unwind snapshot) = MOST_UNWINDS ≤ known.totals.unwinds
+IsUnwindTooMany known _ = ⊥
+
 -- a number, or a count with this line, is outside its limit
 abbrev pub IsOutsideLimit : DraftData → Statement → Type 0
 IsOutsideLimit known (statement.Version version) = version ≢ VERSION
@@ -70,7 +77,8 @@ IsOutsideLimit known (statement.Memory region) =
     MOST_MEMORY_BYTES < recorded_bytes known.snapshot.memory + length region.bytes
 IsOutsideLimit known statement.Round = MOST_ROUNDS ≤ length (rounds_so_far known)
 IsOutsideLimit known statement.Thread = MOST_THREADS ≤ length (threads_so_far known)
-IsOutsideLimit known (statement.Event event) = MOST_EVENTS ≤ length known.events
+IsOutsideLimit known (statement.Event event) =
+    (MOST_EVENTS ≤ length known.events) ⊎ IsUnwindTooMany known event
 IsOutsideLimit known _ = ⊥
 
 -- the size is 0, or the base plus the size is above 2^64 - 1
@@ -144,7 +152,7 @@ SpeaksAgainst reason.Byte known text = is_printable text.bytes ≡ false
 SpeaksAgainst reason.Word known text =
     (kind : Kind) (fields : Line) → fields_of text ≡ word_of kind ∷ fields
     → may_come known.stage kind ≡ true → ⊥
--- its form can't be run
+-- it can't be run after the lines before
 SpeaksAgainst reason.Unbuilt known text =
     IsOfKind known text (λ kind fields. is_unbuilt known kind ≡ true)
 -- the number of fields is wrong; an empty field counts as a field

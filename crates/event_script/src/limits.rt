@@ -30,3 +30,6 @@ pub const MOST_THREADS: usize = 16;
 
 /// Events of one thread.
 pub const MOST_EVENTS: usize = 4_096;
+
+/// `unwind` events of a whole script.
+pub const MOST_UNWINDS: usize = 16_384;

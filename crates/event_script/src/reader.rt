@@ -18,6 +18,7 @@ mod snapshot_draft;
 mod statement;
 #[cfg(test)]
 mod tests;
+mod totals;
 
 use crate::reader::draft::Draft;
 use crate::reader::fault::{LineFault, Reason};

@@ -6,7 +6,8 @@ ghost use Rattle.event_script.specs.Fields.{fields_after};
 ghost use Rattle.event_script.specs.declared.limits.TheConstants.{MOST_SECTION_BYTES};
 ghost use Rattle.event_script.specs.declared.reader.kinds.Stage.TheVariants as stage;
 ghost use Rattle.event_script.specs.declared.reader.statement.Statement.TheVariants as statement;
-ghost use Rattle.event_script.specs.Draft.{no_snapshot, nothing_known, is_unbuilt, threads_so_far};
+ghost use Rattle.event_script.specs.Draft.{no_snapshot, nothing_known, threads_so_far};
+ghost use Rattle.event_script.specs.Draft.{rounds_so_far, has_second, is_unbuilt};
 ghost use Rattle.event_script.specs.Draft.{after_snapshot, after_round, with_statement};
 ghost use Rattle.event_script.specs.Reading.{GivesLine, LeavesDraft, spoken_added, section_or};
 ghost use Rattle.event_script.specs.Reading.{image_added, last_fixed, is_above, fixed_added};
@@ -24,6 +25,7 @@ use crate::reader::snapshot_draft::SnapshotDraft;
 use crate::reader::statement::{
     ImageFields, MemoryFields, SnapshotFields, Statement, statement_of,
 };
+use crate::reader::totals::Totals;
 use crate::script::{Event, Round, Snapshot, Thread};
 use frame_expr::Regs;
 use frame_parse::{FrameFault, Section};
@@ -51,6 +53,8 @@ pub struct Draft {
     pub threads: Vec<Thread>,
     /// The events of the thread that goes on.
     pub events: Vec<Event>,
+    /// What all events so far come to.
+    pub totals: Totals,
 }
 
 impl Model for Draft {
@@ -72,6 +76,7 @@ impl Model for Draft {
       snapshot = d.snapshot;
       threads = d.threads.items;
       events = d.events.items;
+      totals = d.totals;
     } };
 }
 
@@ -137,6 +142,7 @@ impl Draft {
             rounds: Vec::new(alloc),
             threads: Vec::new(alloc),
             events: Vec::new(alloc),
+            totals: Totals::new(),
         }
     }
 
@@ -291,12 +297,13 @@ impl Draft {
     fn event(&mut self, event: Event) -> Result<(), LineFault>
         ensures { LeavesDraft self.new result (added self.old (statement.Event event)) }
     {
-        if self.events.len() >= MOST_EVENTS {
+        if self.events.len() >= MOST_EVENTS || !self.totals.has_room(event) {
             return Err(Reason::Limit.into());
         }
         if !is_named(self.images.len(), self.snapshots.len(), event) {
             return Err(Reason::Name.into());
         }
+        self.totals.add(event);
         self.events.push(event)?;
         Ok(())
     }
@@ -330,13 +337,40 @@ impl Draft {
         }
     }
 
+    /// How many rounds have begun.
+    fn round_count(&self) -> usize
+        ensures { result ≡ length (rounds_so_far self.now) }
+    {
+        match self.stage {
+            Stage::Round | Stage::Thread => self.rounds.len() + 1,
+            _ => self.rounds.len(),
+        }
+    }
+
+    /// How many threads have begun of the round that goes on.
+    fn thread_count(&self) -> usize
+        ensures { result ≡ length (threads_so_far self.now) }
+    {
+        match self.stage {
+            Stage::Thread => self.threads.len() + 1,
+            _ => self.threads.len(),
+        }
+    }
+
+    /// Whether a second round has begun, or a second thread.
+    fn has_second(&self) -> bool
+        ensures { result ≡ has_second self.now }
+    {
+        self.round_count() > 1 || self.thread_count() > 1
+    }
+
     /// Whether a line of the kind can't be run, after those before it.
     fn is_unbuilt(&self, kind: Kind) -> bool
         ensures { result ≡ is_unbuilt self.now kind }
     {
         match kind {
-            Kind::Round => matches!(self.stage, Stage::Round | Stage::Thread),
-            Kind::Thread => matches!(self.stage, Stage::Thread),
+            Kind::Register | Kind::Deregister => self.has_second(),
+            Kind::Round | Kind::Thread => self.totals.has_registration,
             _ => false,
         }
     }

@@ -19,7 +19,7 @@ pub enum Reason {
     Byte,
     /// Its first field can't start a line here.
     Word,
-    /// Its form can't be run.
+    /// It can't be run after the lines before it.
     Unbuilt,
     /// The number of fields is wrong.
     Fields,

@@ -12,8 +12,8 @@ const BAD: [(&[u8], u32, Reason); 15] = [
     (b"frames\t1\n", 1, Reason::Byte),
     (b"Frames 1\n", 1, Reason::Word),
     (
-        b"frames 1\nnodes 4\nloads 1\nround\nround\n",
-        5,
+        b"frames 1\nnodes 4\nloads 1\nround\nthread\nthread\nderegister 0\n",
+        7,
         Reason::Unbuilt,
     ),
     (b"frames 1 \n", 1, Reason::Fields),

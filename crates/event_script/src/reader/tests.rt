@@ -21,6 +21,10 @@ const SECTION: (&[u8], usize) = (
     80,
 );
 
+/// Rounds and threads: the order of lines of the case loader_in_three_rounds.
+const ROUNDS: &[u8] = b"frames 1\nnodes 16\nloads 8\nimage 0 1000 30 0 -\nround\nthread\nload 0\n\
+round\nthread\nfind 1010\nthread\nfind 1020\nfind 1040\nround\nthread\nunload 1000\nend\n";
+
 #[test]
 fn a_script_is_what_its_lines_say(rt: HostRuntime) -> Result<(), Fail> {
     let script = read(rt.alloc(), ALL_LINES)?;
@@ -88,10 +92,17 @@ fn a_section_is_kept(rt: HostRuntime) -> Result<(), Fail> {
 
 #[test]
 fn what_was_read_prints_back(rt: HostRuntime) -> Result<(), Fail> {
-    for text in [ALL_LINES, SECTION.0] {
+    for text in [ALL_LINES, SECTION.0, ROUNDS] {
         let script = read(rt.alloc(), text)?;
         let printed = print_script(rt.alloc(), &script)?;
         assert_eq!(rt; printed.as_slice(), text);
     }
+    Ok(())
+}
+
+#[test]
+fn registrations_are_told(rt: HostRuntime) -> Result<(), Fail> {
+    assert!(rt; read(rt.alloc(), ALL_LINES)?.has_registrations());
+    assert!(rt; !read(rt.alloc(), ROUNDS)?.has_registrations());
     Ok(())
 }
