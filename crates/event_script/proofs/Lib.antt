@@ -22,6 +22,7 @@ pub mod LinesRead
 pub mod LineCounts
 pub mod Added
 pub mod Standing
+pub mod Rounds
 pub mod Complete
 pub mod FirstBad
 pub mod Begins
