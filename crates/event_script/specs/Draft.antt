@@ -126,7 +126,7 @@ threads_so_far known = threads_at known.stage known.threads known.events
 abbrev pub rounds_so_far : DraftData → List (List (List Event))
 rounds_so_far known = rounds_at known.stage known.script.rounds known.threads known.events
 
--- with one more event
+-- what events come to, with one more
 abbrev pub with_event : Totals → Event → Totals
 with_event totals (event.Register image) = record totals { has_registration = true }
 with_event totals (event.Deregister base) = record totals { has_registration = true }
@@ -206,7 +206,8 @@ with_statement known statement.End = after_round known stage.Ended
 
 -- ---- what can't be run
 
--- a second `round` line came, or a second `thread` line
+-- A second `round` line came, or a second `thread` line: the threads of the round that goes on are
+-- all threads, where it is the first round.
 abbrev pub has_second : DraftData → Bool
 has_second known =
     nat_lt 1 (length (rounds_so_far known)) || nat_lt 1 (length (threads_so_far known))
