@@ -82,17 +82,17 @@ all_receipts {T} {U} images answers_of threads_of rounds updates =
     ∙ flat_map-map (λ (round : List (List Answer)). of_round (receipts_in round)) round_of rounds
     ∙ flat_map-same _ _ (λ round. round_receipts images answers_of (threads_of round)) rounds
 
-answered_play : {T U : Type 0} {E : Type 0} (R : E → Answer → Type 0) (answers_of : T → List Answer) (threads_of : U → List T) (events : List (List (List E))) (rounds : List U) → AllZip (λ threads round. AllZip (λ events thread. AllZip R events (answers_of thread)) threads (threads_of round)) events rounds → AllZip (AllZip (AllZip R)) events (map (λ round. map answers_of (threads_of round)) rounds)
+pub answered_play : {T U : Type 0} {E : Type 0} (R : E → Answer → Type 0) (answers_of : T → List Answer) (threads_of : U → List T) (events : List (List (List E))) (rounds : List U) → AllZip (λ threads round. AllZip (λ events thread. AllZip R events (answers_of thread)) threads (threads_of round)) events rounds → AllZip (AllZip (AllZip R)) events (map (λ round. map answers_of (threads_of round)) rounds)
 answered_play {T} {U} R answers_of threads_of events rounds answered =
     AllZip-map (AllZip (AllZip R)) (λ round. map answers_of (threads_of round)) events rounds
     (AllZip-weaker _ _ (λ threads round zipped. AllZip-map (AllZip R) answers_of threads (threads_of round) zipped) events rounds answered)
 
 -- right answers are their events', and their traces unfold
 module _ (sections : List SectionData) (snapshots : List SnapshotData) where
-  events_answered : (events : List (List (List Event))) (rounds : List (List (List Answer))) → AllZip (AllZip (AllZip (IsRightAnswer sections snapshots))) events rounds → AllZip (AllZip (AllZip AnswersEvent)) events rounds
+  pub events_answered : (events : List (List (List Event))) (rounds : List (List (List Answer))) → AllZip (AllZip (AllZip (IsRightAnswer sections snapshots))) events rounds → AllZip (AllZip (AllZip AnswersEvent)) events rounds
   events_answered = AllZip-weaker _ _ (AllZip-weaker _ _ (AllZip-weaker _ _ (λ event answer both. both.0)))
 
-  traces_unfolded : (events : List (List (List Event))) (rounds : List (List (List Answer))) → AllZip (AllZip (AllZip (IsRightAnswer sections snapshots))) events rounds → All (All (All (IsUnfolded sections snapshots))) rounds
+  pub traces_unfolded : (events : List (List (List Event))) (rounds : List (List (List Answer))) → AllZip (AllZip (AllZip (IsRightAnswer sections snapshots))) events rounds → All (All (All (IsUnfolded sections snapshots))) rounds
   traces_unfolded =
       AllZip-second (AllZip (AllZip (IsRightAnswer sections snapshots))) (All (All (IsUnfolded sections snapshots)))
       (AllZip-second (AllZip (IsRightAnswer sections snapshots)) (All (IsUnfolded sections snapshots))

@@ -6,6 +6,11 @@ pub mod Played
 pub mod Lists
 pub mod Chains
 pub mod Traces
+pub mod Sharing
+pub mod Teams
+pub mod ManyRounds
+pub mod SharedLawfulness
+pub mod Opening
 pub mod Lawfulness
 pub mod Unfilled
 pub mod Endings

@@ -3,3 +3,4 @@ pub mod Devices
 pub mod Statuses
 pub mod Outcome
 pub mod Played
+pub mod Shared

@@ -14,14 +14,20 @@ mod play;
 mod player;
 mod ports;
 mod reading;
+mod rounds;
 mod running;
+mod scripts;
+mod shared;
 mod status;
 #[cfg(test)]
 mod tests;
+mod threads;
 mod writing;
 
 pub use gate::{Gate, NoGate};
 pub use memory::{MemorySink, MemorySource, SureSink, SureSource};
 pub use ports::{Failed, Sink, SinkFault, Source};
 pub use running::run;
+pub use scripts::run_script;
+pub use shared::SharedFinder;
 pub use status::Status;

@@ -9,7 +9,7 @@ ghost use Rattle.event_script.specs.Lawful.{image_member, receipts_of, receipts_
 ghost use Rattle.event_script.specs.Lawful.{IsUnfolded};
 ghost use Rattle.event_script.specs.Text.{IsPrintable};
 ghost use Rattle.event_script.specs.declared.journal.Answer.TheVariants as answer;
-ghost use Rattle.run_engine.specs.Played.{IsRightAnswer, AreImages, updates_left};
+ghost use Rattle.run_engine.specs.Played.{IsRightAnswer, AreImages, updates_left, updates_of};
 
 use crate::player::{Player, Setting};
 use event_script::{Answer, Event};
@@ -21,6 +21,8 @@ use unwind_step::{PlainFinder, Trace, trace};
 
 impl Player for PlainRegistry {
     ghost step = { PlainStep };
+
+    ghost may_play = { λ event. Unit {0} };
 
     ghost left = { updates_left };
 
@@ -52,7 +54,7 @@ fn play_event<R: Wait>(
       images = length setting.images.now;
       snapshots = length setting.snapshots.now;
     }) event }
-    requires left { 0 < updates_left registry.old }
+    requires left { updates_of event ≤ updates_left registry.old }
     requires is_below { HasPayloadsBelow (length setting.images.now) registry.old.state }
     ensures answered { IfOk result
         (λ answer. IsRightAnswer setting.entry.sections.now setting.entry.snapshots.now event
@@ -61,7 +63,8 @@ fn play_event<R: Wait>(
         (λ answer. Chain PlainStep registry.old (receipts_of setting.entry.images.now answer)
         registry.new) }
     ensures printable { IfOk result IsPrintable }
-    ensures left { IfOk result (λ _. updates_left registry.old ≤ updates_left registry.new + 1) }
+    ensures left { IfOk result
+        (λ _. updates_left registry.old ≤ updates_left registry.new + updates_of event) }
 {
     Ok(match event {
         Event::Register { image } => {

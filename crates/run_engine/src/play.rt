@@ -109,7 +109,7 @@ fn play_rounds<R: Wait, G: Gate>(
 }
 
 /// The members of images, by their numbers.
-fn members_of(alloc: Global, images: &[Span], numbers: &[u32]) -> Result<Vec<Member>, NoMemory>
+pub fn members_of(alloc: Global, images: &[Span], numbers: &[u32]) -> Result<Vec<Member>, NoMemory>
     requires { All (λ number. number < length images.now) numbers.now }
     ensures { IfOk result (λ members. members.items ≡ map (image_member images.now) numbers.now) }
 {

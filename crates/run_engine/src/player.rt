@@ -1,13 +1,15 @@
 //! What plays the events of a thread.
 
-ghost use Rattle.std.specs.Prelude.{ℕ, ◌+◌, ◌<◌, ◌≤◌, length, IfOk, flat_map};
+ghost use Rattle.std.specs.Prelude.{ℕ, ◌+◌, ◌≤◌, length, IfOk, flat_map, All};
 ghost use Rattle.std.specs.List.{AllZip};
 ghost use Rattle.reg_model.specs.Chain.{Chain};
 ghost use Rattle.reg_model.specs.declared.answer.Receipt.{Receipt};
 ghost use Rattle.event_script.specs.ScriptData.{IsEvent, IsThread};
 ghost use Rattle.event_script.specs.Lawful.{receipts_of};
 ghost use Rattle.event_script.specs.Text.{IsPrintable};
+ghost use Rattle.event_script.specs.declared.script.Event.{Event};
 ghost use Rattle.run_engine.specs.Played.{IsPlayedThread, IsRightAnswer, AreImages};
+ghost use Rattle.run_engine.specs.Played.{updates_of, updates_in};
 
 use crate::gate::Gate;
 use event_script::{Answer, Event, Snapshot};
@@ -31,10 +33,13 @@ pub trait Player {
     /// What one call does: from one state to another, with this receipt.
     ghost step: { Self → Receipt → Self → Type 0 };
 
+    /// Which events it can be asked to play.
+    ghost may_play: { Event → Type 0 };
+
     /// How many more updates it may be asked for.
     ghost left: { Self → ℕ };
 
-    /// Each payload that it answers with is below a number.
+    /// It can be asked for images with the numbers below this one, and answers with no other.
     ghost is_below: { ℕ → Self → Type 0 };
 
     /// Plays one event.
@@ -50,7 +55,8 @@ pub trait Player {
           images = length setting.images.now;
           snapshots = length setting.snapshots.now;
         }) event }
-        requires left { 0 < left self.old }
+        requires may_play { may_play event }
+        requires left { updates_of event ≤ left self.old }
         requires is_below { is_below (length setting.images.now) self.old }
         ensures answered { IfOk result
             (λ answer. IsRightAnswer setting.entry.sections.now setting.entry.snapshots.now event
@@ -58,7 +64,7 @@ pub trait Player {
         ensures calls { IfOk result
             (λ answer. Chain step self.old (receipts_of setting.entry.images.now answer) self.new) }
         ensures printable { IfOk result IsPrintable }
-        ensures left { IfOk result (λ _. left self.old ≤ left self.new + 1) }
+        ensures left { IfOk result (λ _. left self.old ≤ left self.new + updates_of event) }
         ensures is_below { IfOk result
             (λ _. is_below (length setting.entry.images.now) self.new) };
 }
@@ -85,7 +91,8 @@ pub fn play_thread<R: Wait, G: Gate, P: Player>(
       images = length setting.images.now;
       snapshots = length setting.snapshots.now;
     }) events.now }
-    requires left { length events.now ≤ P.left player.old }
+    requires may_play { All P.may_play events.now }
+    requires left { updates_in events.now ≤ P.left player.old }
     requires is_below { P.is_below (length setting.images.now) player.old }
     ensures answered { IfOk result
         (λ answers. AllZip (IsRightAnswer setting.entry.sections.now setting.entry.snapshots.now)
@@ -94,7 +101,8 @@ pub fn play_thread<R: Wait, G: Gate, P: Player>(
         (λ answers. Chain P.step player.old
         (flat_map (receipts_of setting.entry.images.now) answers.items) player.new) }
     ensures played { IfOk result (λ answers. IsPlayedThread answers.items) }
-    ensures left { IfOk result (λ _. P.left player.old ≤ P.left player.new + length events.now) }
+    ensures left { IfOk result
+        (λ _. P.left player.old ≤ P.left player.new + updates_in events.now) }
     ensures is_below { IfOk result (λ _. P.is_below (length setting.entry.images.now) player.new) }
 {
     let ThreadNumber { round, thread } = number;

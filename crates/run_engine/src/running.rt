@@ -9,15 +9,16 @@ ghost use Rattle.run_engine.specs.Ports.{Rose, HandsUpTo};
 ghost use Rattle.run_engine.specs.Outcome.{AreTaken, Writes, WritesPart, Ends, Concludes, limit};
 
 use crate::gate::Gate;
-use crate::play::play;
 use crate::ports::{Sink, SinkFault, Source};
 use crate::reading::{LIMIT, TakeFault, take_all};
+use crate::scripts::play_script;
 use crate::status::Status;
 use crate::writing::{write_journal, write_piece};
 use event_script::laws::bytes_have_one_answer;
 use event_script::{Reason, ScriptFault, print_fault, read};
 use std::alloc::Global;
 use std::sync::Wait;
+use std::thread::Threads;
 
 /// Takes the words of the command line, reads a script from the source, plays it, and writes its
 /// journal to the sink.
@@ -25,7 +26,7 @@ use std::sync::Wait;
 /// Each status but ReadFault has a text that is due with it: for Done the journal's, else one line
 /// that says why. Where the text can't be written, the status is WriteFault. Memory may be wanted
 /// at any time. A source that failed, or said its end, is not asked again.
-pub fn run<R: Wait, S: Source, K: Sink, G: Gate + Sync>(
+pub fn run<R: Threads + Wait + Sync, S: Source, K: Sink, G: Gate + Sync>(
     rt: &R,
     alloc: Global,
     words: &[String],
@@ -84,7 +85,7 @@ pub fn run<R: Wait, S: Source, K: Sink, G: Gate + Sync>(
 }
 
 /// The run, with one clause for how it ends.
-fn end_of<R: Wait, S: Source, K: Sink, G: Gate + Sync>(
+fn end_of<R: Threads + Wait + Sync, S: Source, K: Sink, G: Gate + Sync>(
     rt: &R,
     alloc: Global,
     words: &[String],
@@ -127,7 +128,7 @@ fn end_of<R: Wait, S: Source, K: Sink, G: Gate + Sync>(
         Err(ScriptFault::Bad { line, reason }) => return refuse(alloc, sink, line, reason),
         Err(ScriptFault::NoMemory) => return Status::NoMemory,
     };
-    let journal = match play(rt, alloc, gate, &script) {
+    let journal = match play_script(rt, alloc, gate, &script) {
         Ok(journal) => journal,
         Err(_) => return Status::NoMemory,
     };

@@ -3,11 +3,14 @@
 mod cases;
 mod devices;
 mod endings;
+mod gated;
+mod side_by_side;
 
 use crate::{MemorySink, MemorySource, NoGate, Status, run};
 use std::alloc::Global;
 use std::sync::Wait;
 use std::test::Fail;
+use std::thread::Threads;
 
 /// These texts, one after another.
 fn text_of(alloc: Global, parts: &[&str]) -> Result<Vec<u8>, Fail> {
@@ -29,7 +32,7 @@ fn words_of(alloc: Global, words: &[&str]) -> Result<Vec<String>, Fail> {
 
 /// A run in memory, of which the reads and the writes with these numbers fail.
 fn run_on(
-    rt: &impl Wait,
+    rt: &(impl Threads + Wait + Sync),
     alloc: Global,
     words: &[&str],
     input: &[&str],

@@ -7,10 +7,11 @@ use std::alloc::Global;
 use std::process::Abort;
 use std::sync::Wait;
 use std::test::Fail;
+use std::thread::Threads;
 
 /// Runs a script, and looks whether its journal is this one.
 fn plays(
-    rt: &(impl Abort + Wait),
+    rt: &(impl Abort + Threads + Wait + Sync),
     alloc: Global,
     script: &[&str],
     journal: &[&str],

@@ -9,13 +9,14 @@ use std::alloc::Global;
 use std::process::Abort;
 use std::sync::Wait;
 use std::test::Fail;
+use std::thread::Threads;
 
 const USAGE: &str = "usage: unwind_main run | unwind_main gen N\n";
 
 /// Runs `one_range`, of which the reads and the writes with these numbers fail, and looks how it
 /// ends.
 fn ends(
-    rt: &(impl Abort + Wait),
+    rt: &(impl Abort + Threads + Wait + Sync),
     alloc: Global,
     words: &[&str],
     reads: &[u32],
@@ -103,7 +104,7 @@ impl Source for Letters {
 
 /// Runs on so many letters, and looks how it ends.
 fn letters_end(
-    rt: &(impl Abort + Wait),
+    rt: &(impl Abort + Threads + Wait + Sync),
     alloc: Global,
     count: usize,
     code: u8,

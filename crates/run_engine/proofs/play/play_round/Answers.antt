@@ -9,7 +9,21 @@ use Rattle.run_engine.specs.Played.{IsPlayedThread, IsRightAnswer}
 use Rattle.run_engine.proofs.Lists.{AllZip-more, AllZip-front}
 use Rattle.reg_model.specs.Chain.{PlainStep}
 use Rattle.run_engine.proofs.Chains.{Chain-push}
+use Rattle.run_engine.proofs.Teams.{enough_left, still_left}
 use Rattle.run_engine.proofs.play.play_round.Goals as goal
+
+pub play_thread-requires-clause-left : goal.play_thread-requires-clause-left
+play_thread-requires-clause-left g c =
+    let threads = c.args.threads.now in
+    let item = c.index-threads-index.result in
+    let events : c.deref.result.now ≡ item = c.deref.ensures.value ∙ c.thread.view_is in
+    let P : List Event → Type 0 = λ events. length events ≤ 4096 in
+    let few : length item ≤ 4096 = subst P (sym c.index-threads-index.is) (All-get_or (IsThread (record { images = length c.args.setting.images.now; snapshots = length c.args.setting.snapshots.now })) threads c.loop-index.index item c.loop-index-test.true c.requires.round.1).0 in
+    let count : length c.deref.result.now ≡ length item = ap length events in
+    let left = c.loop-index.invariant.left in
+    let room = c.requires.left in
+    let within = c.loop-index-test.true in
+    enough_left c.deref.result.now _ (omega (arith, few, count)) (omega (arith, left, room, within))
 
 pub loop-index-preserved : goal.loop-index-preserved
 loop-index-preserved g c =
@@ -29,7 +43,7 @@ loop-index-preserved g c =
       calls = Chain-push PlainStep (λ thread. flat_map (receipts_of c.args.setting.images.now) thread.items) _ _ _ answers played before.calls c.in_ok-played.ensures.calls;
       played = All-push (λ thread. IsPlayedThread thread.items) answers played before.played c.in_ok-played.ensures.played;
       is_below = c.in_ok-played.ensures.is_below;
-      left = (let left = before.left in let more = c.in_ok-played.ensures.left in omega arith);
+      left = (let left = before.left in let more = still_left c.deref.result.now _ _ (omega (arith, few, count)) c.in_ok-played.ensures.left in omega (arith, left, more));
     })
 
 pub returns-clause-played : goal.returns-clause-played

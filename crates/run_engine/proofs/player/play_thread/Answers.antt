@@ -7,6 +7,7 @@ use Rattle.event_script.specs.Text.{IsPrintable}
 use Rattle.event_script.specs.declared.script.Event.TheVariants.{Register}
 use Rattle.run_engine.proofs.Lists.{AllZip-more, AllZip-front}
 use Rattle.run_engine.proofs.Chains.{Chain-push}
+use Rattle.run_engine.proofs.Teams.{left_next}
 use Rattle.run_engine.proofs.player.play_thread.Goals as goal
 
 pub loop-index-preserved : goal.loop-index-preserved
@@ -19,7 +20,7 @@ loop-index-preserved g c =
       calls = Chain-push g.P.Player.step (receipts_of c.args.setting.images.now) _ _ _ answers answer before.calls c.in_ok-answer.ensures.calls;
       printable = All-push IsPrintable answers answer before.printable c.in_ok-answer.ensures.printable;
       is_below = c.in_ok-answer.ensures.is_below;
-      left = (let left = before.left in let more = c.in_ok-answer.ensures.left in omega arith);
+      left = left_next c.args.events.now c.loop-index.index _ _ _ c.loop-index-test.true before.left c.in_ok-answer.ensures.left;
     })
 
 pub returns-clause-played : goal.returns-clause-played

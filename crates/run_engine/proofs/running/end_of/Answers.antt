@@ -40,15 +40,15 @@ returns-in-Err-Failed-write_journal-clause-ends g c =
       failed refl,
       inr (
         status.Done,
-        journal_text c.in-Ok-play.journal,
+        journal_text c.in-Ok-play_script.journal,
         (
           c.are_taken.ensures.0 c.if-not-are_taken.false,
           record {
             script = c.in-Ok-read.script;
-            journal = c.in-Ok-play.journal;
+            journal = c.in-Ok-play_script.journal;
             spelled = IfSome-same _ bytes.items P (c.in-Ok.ensures.all within) (short, rw (← c.deref.ensures.value) c.in-Ok-read.ensures.ok);
-            lawful = c.in-Ok-play.ensures.lawful;
-            unfilled = c.in-Ok-play.ensures.unfilled;
+            lawful = c.in-Ok-play_script.ensures.lawful;
+            unfilled = c.in-Ok-play_script.ensures.unfilled;
             text_is = refl;
           },
         ),
@@ -64,15 +64,15 @@ returns-clause-ends g c =
     let P : List ℕ → Type 0 = λ had. (length had ≤ limit) × IsScript had c.in-Ok-read.script in
     inr (
       status.Done,
-      journal_text c.in-Ok-play.journal,
+      journal_text c.in-Ok-play_script.journal,
       (
         c.are_taken.ensures.0 c.if-not-are_taken.false,
         record {
           script = c.in-Ok-read.script;
-          journal = c.in-Ok-play.journal;
+          journal = c.in-Ok-play_script.journal;
           spelled = IfSome-same _ bytes.items P (c.in-Ok.ensures.all within) (short, rw (← c.deref.ensures.value) c.in-Ok-read.ensures.ok);
-          lawful = c.in-Ok-play.ensures.lawful;
-          unfilled = c.in-Ok-play.ensures.unfilled;
+          lawful = c.in-Ok-play_script.ensures.lawful;
+          unfilled = c.in-Ok-play_script.ensures.unfilled;
           text_is = refl;
         },
       ),

@@ -1,0 +1,161 @@
+//! Plays rounds of threads over one registry.
+
+ghost use Rattle.std.specs.Prelude.{◌≡◌, ◌+◌, ◌*◌, ◌≤◌, All, IfOk, flat_map, length, map, sum};
+ghost use Rattle.std.specs.List.{AllZip};
+ghost use Rattle.event_script.specs.Lawful.{receipts_of};
+ghost use Rattle.event_script.specs.ScriptData.{IsRound, IsThread};
+ghost use Rattle.registry_core.specs.Rounds.{IsAfterRound, IsBetweenRounds};
+ghost use Rattle.run_engine.specs.Played.{AreImages, IsPlayedThread, IsRightAnswer};
+ghost use Rattle.run_engine.specs.Played.{RegistersNothing, updates_in, updates_of};
+ghost use Rattle.run_engine.specs.Shared.{IsAfterRounds, IsReady};
+
+use crate::gate::Gate;
+use crate::player::Setting;
+use crate::threads::{PlayedRound, Team, play_threads};
+use event_script::{Answer, Event, Round, Thread};
+use reg_model::NoMemory;
+use registry_core::Registry;
+use registry_core::laws::{
+    answered_callers_may_join, records_stay, rounds_follow, split_callers_are_new,
+};
+use std::alloc::Global;
+use std::sync::Wait;
+use std::thread::Threads;
+use word_rule::Caller;
+
+/// How many updates an event asks for.
+fn updates_of(event: &Event) -> u32
+    ensures { result ≡ updates_of event.now }
+{
+    match event {
+        Event::Find { .. } | Event::Unwind { .. } => 0,
+        _ => 1,
+    }
+}
+
+/// How many updates the events of a thread ask for.
+fn updates_in(events: &[Event]) -> u32
+    requires { length events.now ≤ 4096 }
+    ensures { result ≡ updates_in events.now }
+{
+    let mut count = 0;
+    for event in events {
+        count += updates_of(event);
+    }
+    count
+}
+
+/// How many update calls the caller of each thread needs.
+fn gives_of(alloc: Global, threads: &[Thread]) -> Result<Vec<u32>, NoMemory>
+    requires { All (λ events. length events ≤ 4096) threads.now }
+    ensures { IfOk result (λ gives. gives.items ≡ map updates_in threads.now) }
+{
+    let mut gives = Vec::new(alloc);
+    for thread in threads {
+        gives.push(updates_in(&thread.events))?;
+    }
+    Ok(gives)
+}
+
+/// One round of a script, and its number, counted from 1.
+#[derive(Clone, Copy)]
+struct NumberedRound<'a> {
+    number: u32,
+    threads: &'a [Thread],
+}
+
+/// Plays one round: its threads side by side, each as a caller that is split off for it, with the
+/// update calls that it needs, and joined when all have ended.
+fn play_round<R: Threads + Wait + Sync, G: Gate + Sync>(
+    rt: &R,
+    alloc: Global,
+    gate: &G,
+    setting: Setting<'_>,
+    registry: &Registry,
+    me: &mut Caller,
+    round: NumberedRound<'_>,
+) -> Result<Vec<Vec<Answer>>, NoMemory>
+    requires images { AreImages setting.images.now setting.sections.now }
+    requires round { IsRound (record {
+      images = length setting.images.now;
+      snapshots = length setting.snapshots.now;
+    }) round.threads.now }
+    requires may_play { All (All RegistersNothing) round.threads.now }
+    requires ready { IsReady (length setting.images.now) registry.now me.old }
+    requires between { IsBetweenRounds me.old }
+    requires left { 65536 ≤ me.old.left }
+    ensures answered { IfOk result (λ answers. AllZip
+        (λ events thread. AllZip
+        (IsRightAnswer setting.entry.sections.now setting.entry.snapshots.now) events thread.items)
+        round.entry.threads.now answers.items) }
+    ensures after { IfOk result (λ answers. IsAfterRound
+        (map (λ thread. flat_map (receipts_of setting.entry.images.now) thread.items) answers.items)
+        me.old me.new) }
+    ensures played { IfOk result
+        (λ answers. (length answers.items ≤ 16)
+        × All (λ thread. IsPlayedThread thread.items) answers.items) }
+    ensures left { IfOk result (λ _. me.old.left ≤ me.new.left + 65536) }
+{
+    // The laws that this rests on; they take no step.
+    split_callers_are_new();
+    answered_callers_may_join();
+    rounds_follow();
+    let NumberedRound { number, threads } = round;
+    let gives = gives_of(alloc, threads)?;
+    let callers = registry.split_each(alloc, me, &gives)?;
+    let team = Team { registry, callers };
+    let played = play_threads(rt, alloc, gate, number, setting, team, threads)?;
+    let PlayedRound { answers, callers } = played;
+    registry.join_each(alloc, me, callers)?;
+    Ok(answers)
+}
+
+/// Plays rounds, one after another.
+pub fn play_shared<R: Threads + Wait + Sync, G: Gate + Sync>(
+    rt: &R,
+    alloc: Global,
+    gate: &G,
+    setting: Setting<'_>,
+    registry: &Registry,
+    me: &mut Caller,
+    rounds: &[Round],
+) -> Result<Vec<Vec<Vec<Answer>>>, NoMemory>
+    requires images { AreImages setting.images.now setting.sections.now }
+    requires rounds { (length rounds.now ≤ 64) × All (IsRound (record {
+      images = length setting.images.now;
+      snapshots = length setting.snapshots.now;
+    })) rounds.now }
+    requires may_play { All (All (All RegistersNothing)) rounds.now }
+    requires ready { IsReady (length setting.images.now) registry.now me.old }
+    requires between { IsBetweenRounds me.old }
+    requires left { 65536 * length rounds.now ≤ me.old.left }
+    ensures answered { IfOk result (λ answers. AllZip
+        (λ threads round. AllZip
+        (λ events thread. AllZip
+        (IsRightAnswer setting.entry.sections.now setting.entry.snapshots.now) events thread.items)
+        threads round.items)
+        rounds.now answers.items) }
+    ensures after { IfOk result (λ answers. IsAfterRounds
+        (map
+        (λ round. map
+        (λ thread. flat_map (receipts_of setting.entry.images.now) thread.items) round.items)
+        answers.items)
+        me.old me.new) }
+    ensures played { IfOk result
+        (λ answers. (length answers.items ≤ 64)
+        × All (λ round. (length round.items ≤ 16)
+        × All (λ thread. IsPlayedThread thread.items) round.items) answers.items) }
+{
+    // What held in earlier rounds goes on to hold; a law that takes no step.
+    records_stay();
+    let mut answers = Vec::new(alloc);
+    for (index, round) in rounds.iter().enumerate() {
+        let round = NumberedRound {
+            number: index as u32 + 1,
+            threads: &round.threads,
+        };
+        let played = play_round(rt, alloc, gate, setting, registry, me, round)?;
+        answers.push(played)?;
+    }
+    Ok(answers)
+}

@@ -1,0 +1,85 @@
+//! Plays a script against a registry that its threads share.
+
+ghost use Rattle.std.specs.Prelude.{◌≡◌, All, IfOk, OnOk, flat_map, false, length};
+ghost use Rattle.event_script.specs.Lawful.{IsLawfulJournal, thread_receipts};
+ghost use Rattle.event_script.specs.ScriptData.{has_registrations};
+ghost use Rattle.registry_core.specs.Rounds.{IsBetweenRounds};
+ghost use Rattle.run_engine.specs.Outcome.{IsUnfilled};
+ghost use Rattle.run_engine.specs.Played.{IsPlayed};
+ghost use Rattle.run_engine.specs.Shared.{script_terms};
+ghost use Rattle.word_rule.specs.Logs.{first_log};
+ghost use Rattle.word_rule.specs.Places.{ALLOWANCE};
+
+use crate::gate::Gate;
+use crate::play::{members_of, play};
+use crate::player::Setting;
+use crate::rounds::play_shared;
+use event_script::{Journal, Script};
+use reg_model::NoMemory;
+use reg_model::laws::numbers_tell_histories;
+use registry_core::Registry;
+use registry_core::laws::whole_logs_are_numbered;
+use std::alloc::Global;
+use std::sync::Wait;
+use std::thread::Threads;
+use word_rule::Caller;
+
+/// Plays a script that registers nothing: the threads of each round side by side, each round when
+/// the one before it has ended. The caller comes back with the receipts of all of them.
+pub fn run_script<R: Threads + Wait + Sync, G: Gate + Sync>(
+    rt: &R,
+    alloc: Global,
+    script: &Script,
+    registry: &Registry,
+    me: &mut Caller,
+    gate: &G,
+) -> Result<Journal, NoMemory>
+    requires registers { has_registrations script.now.rounds ≡ false }
+    requires terms { registry.now.terms ≡ script_terms script.now }
+    requires caller { me.old
+        ≡ record {
+          table = registry.now.table;
+          left = ALLOWANCE;
+          log = first_log registry.now.terms;
+        } }
+    requires between { IsBetweenRounds me.old }
+    ensures lawful { IfOk result (λ journal. IsLawfulJournal script.now journal) }
+    ensures unfilled { IfOk result (λ journal. All (All (All IsUnfilled)) journal.rounds) }
+    ensures played { IfOk result (λ journal. IsPlayed journal.rounds) }
+    ensures between { OnOk result (IsBetweenRounds me.new) }
+    ensures receipts { IfOk result (λ journal. me.new.log.receipts.joined
+        ≡ flat_map (λ round. round) (thread_receipts script.now.images journal)) }
+{
+    // The laws that this rests on; they take no step.
+    numbers_tell_histories();
+    whole_logs_are_numbered();
+    let setting = Setting {
+        images: &script.images,
+        sections: &script.sections,
+        snapshots: &script.snapshots,
+    };
+    let rounds = play_shared(rt, alloc, gate, setting, registry, me, &script.rounds)?;
+    let updates = me.seen();
+    Ok(Journal { rounds, updates })
+}
+
+/// Plays a script against a new registry: against one that its threads share, or, where it
+/// registers something, against one over plain lists.
+pub fn play_script<R: Threads + Wait + Sync, G: Gate + Sync>(
+    rt: &R,
+    alloc: Global,
+    gate: &G,
+    script: &Script,
+) -> Result<Journal, NoMemory>
+    ensures lawful { IfOk result (λ journal. IsLawfulJournal script.now journal) }
+    ensures unfilled { IfOk result (λ journal. All (All (All IsUnfilled)) journal.rounds) }
+    ensures played { IfOk result (λ journal. IsPlayed journal.rounds) }
+{
+    if script.has_registrations() {
+        return play(rt, alloc, gate, script);
+    }
+    let fixed = members_of(alloc, &script.images, &script.fixed)?;
+    let images = script.images.len() as u32;
+    let (registry, mut me) = Registry::new(alloc, script.nodes, script.loads, images, fixed)?;
+    run_script(rt, alloc, script, &registry, &mut me, gate)
+}

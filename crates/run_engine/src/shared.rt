@@ -1,0 +1,215 @@
+//! The registry over the shared words unwinds stacks and plays events.
+
+ghost use Rattle.std.specs.Prelude.{◌≡◌, ◌+◌, ◌<◌, ◌≤◌, All, IfOk, length};
+ghost use Rattle.event_script.specs.Lawful.{IsUnfolded, receipts_of, receipts_of_trace};
+ghost use Rattle.event_script.specs.ScriptData.{IsEvent};
+ghost use Rattle.event_script.specs.Text.{IsPrintable};
+ghost use Rattle.event_script.specs.declared.journal.Answer.TheVariants as answer;
+ghost use Rattle.reg_model.specs.Chain.{Chain};
+ghost use Rattle.reg_model.specs.Receipt.{IsPlace};
+ghost use Rattle.registry_core.specs.Calls.{Receives};
+ghost use Rattle.run_engine.specs.Played.{AreImages, IsRightAnswer, RegistersNothing, updates_of};
+ghost use Rattle.run_engine.specs.Shared.{AnswersPlaying, AnswersShared, IsReady, SharedStep};
+
+use crate::plain::member_of;
+use crate::player::{Player, Setting};
+use event_script::{Answer, Event};
+use reg_model::{NoMemory, Place};
+use registry_core::Registry;
+use registry_core::laws::calls_follow;
+use std::alloc::Global;
+use std::marker::Model;
+use std::sync::Wait;
+use unwind_step::{Finder, Trace, trace};
+use word_rule::Caller;
+
+/// Asks a registry that other threads change meanwhile, as one of its callers.
+#[derive(Drop)]
+pub struct SharedFinder<'a> {
+    registry: &'a Registry,
+    me: &'a mut Caller,
+}
+
+impl<'a> Model for SharedFinder<'a> {
+    ghost use Rattle.std.specs.Prelude.{◌≡◌};
+    ghost use Rattle.run_engine.specs.Shared.{SharedFinderData};
+
+    ghost Value = { SharedFinderData };
+
+    ghost view = { λ f. record {
+      registry = f.registry.now;
+      me = f.me.now;
+      loan = f.me.ghost_name;
+    } };
+
+    ghost invariant = { λ f. (f.me.now.table ≡ f.registry.now.table)
+        × (f.me.now.log.terms ≡ f.registry.now.terms) };
+}
+
+impl<'a> SharedFinder<'a> {
+    /// A finder that asks as this caller.
+    pub fn new(registry: &'a Registry, me: &'a mut Caller) -> SharedFinder<'a>
+        requires table { me.old.table ≡ registry.now.table }
+        requires terms { me.old.log.terms ≡ registry.now.terms }
+        ensures { result
+            ≡ record { registry = registry.now; me = me.old; loan = me.entry.ghost_name } }
+    {
+        SharedFinder { registry, me }
+    }
+}
+
+impl Finder for SharedFinder<'_> {
+    ghost answers = { AnswersShared };
+
+    ghost bound = { λ f. f.me.log.terms.payloads };
+
+    fn find<R: Wait>(&mut self, rt: &R, pc: u64) -> Place {
+        self.registry.find(rt, self.me, pc)
+    }
+}
+
+/// One caller of a registry that threads share, which plays the events of its thread.
+#[derive(Drop)]
+pub struct SharedPlayer<'a> {
+    registry: &'a Registry,
+    me: Caller,
+}
+
+impl<'a> Model for SharedPlayer<'a> {
+    ghost use Rattle.std.specs.Prelude.{◌≡◌};
+    ghost use Rattle.run_engine.specs.Shared.{SharedPlayerData};
+
+    ghost Value = { SharedPlayerData };
+
+    ghost view = { λ p. record { registry = p.registry.now; me = p.me } };
+
+    ghost invariant = { λ p. (p.me.table ≡ p.registry.now.table)
+        × (p.me.log.terms ≡ p.registry.now.terms) };
+}
+
+impl<'a> SharedPlayer<'a> {
+    /// One that plays as this caller.
+    pub fn new(registry: &'a Registry, me: Caller) -> SharedPlayer<'a>
+        requires table { me.table ≡ registry.now.table }
+        requires terms { me.log.terms ≡ registry.now.terms }
+        ensures { result ≡ record { registry = registry.now; me = me } }
+    {
+        SharedPlayer { registry, me }
+    }
+
+    /// The caller.
+    pub fn into_caller(self) -> Caller
+        ensures { result ≡ self.entry.me }
+    {
+        self.me
+    }
+
+    /// Plays one event.
+    fn play_event<R: Wait>(
+        &mut self,
+        rt: &R,
+        alloc: Global,
+        setting: Setting<'_>,
+        event: Event,
+    ) -> Result<Answer, NoMemory>
+        requires images { AreImages setting.images.now setting.sections.now }
+        requires event { IsEvent (record {
+          images = length setting.images.now;
+          snapshots = length setting.snapshots.now;
+        }) event }
+        requires may_play { RegistersNothing event }
+        requires left { updates_of event ≤ self.old.me.left }
+        requires ready { IsReady (length setting.images.now) self.old.registry self.old.me }
+        ensures answered { IfOk result
+            (λ answer. IsRightAnswer setting.entry.sections.now setting.entry.snapshots.now event
+            answer) }
+        ensures calls { IfOk result
+            (λ answer. Chain Receives self.old.me (receipts_of setting.entry.images.now answer)
+            self.new.me) }
+        ensures registry { self.new.registry ≡ self.old.registry }
+        ensures printable { IfOk result IsPrintable }
+    {
+        Ok(match event {
+            Event::Load { image } => {
+                let member = member_of(setting.images, image);
+                let answer = self.registry.load(rt, &mut self.me, member);
+                Answer::Load { image, answer }
+            }
+            Event::Unload { base } => {
+                let answer = self.registry.unload(rt, &mut self.me, base);
+                Answer::Unload { base, answer }
+            }
+            Event::Find { pc } => {
+                let place = self.registry.find(rt, &mut self.me, pc);
+                Answer::Find { pc, place }
+            }
+            Event::Unwind { snapshot } => {
+                let trace = self.unwind(rt, alloc, setting, snapshot)?;
+                Answer::Unwind { snapshot, trace }
+            }
+            Event::Register { .. } | Event::Deregister { .. } => unreachable!(),
+        })
+    }
+
+    /// Unwinds a recorded stack, by its number.
+    fn unwind<R: Wait>(
+        &mut self,
+        rt: &R,
+        alloc: Global,
+        setting: Setting<'_>,
+        number: u32,
+    ) -> Result<Trace, NoMemory>
+        requires images { AreImages setting.images.now setting.sections.now }
+        requires number { number < length setting.snapshots.now }
+        requires ready { IsReady (length setting.images.now) self.old.registry self.old.me }
+        ensures unfolds { IfOk result
+            (λ trace. IsUnfolded setting.entry.sections.now setting.entry.snapshots.now
+            (answer.Unwind number trace)) }
+        ensures halves { IfOk result (λ trace. All (λ line. IsPlace line.place) trace.frames) }
+        ensures calls { IfOk result
+            (λ trace. Chain Receives self.old.me (receipts_of_trace trace.frames) self.new.me) }
+        ensures registry { self.new.registry ≡ self.old.registry }
+    {
+        let snapshot = &setting.snapshots[number as usize];
+        trace(
+            rt,
+            alloc,
+            self,
+            setting.sections,
+            &snapshot.regs,
+            &snapshot.memory,
+        )
+    }
+}
+
+impl Finder for SharedPlayer<'_> {
+    ghost answers = { AnswersPlaying };
+
+    ghost bound = { λ p. p.me.log.terms.payloads };
+
+    fn find<R: Wait>(&mut self, rt: &R, pc: u64) -> Place {
+        self.registry.find(rt, &mut self.me, pc)
+    }
+}
+
+impl Player for SharedPlayer<'_> {
+    ghost step = { SharedStep };
+
+    ghost may_play = { RegistersNothing };
+
+    ghost left = { λ p. p.me.left };
+
+    ghost is_below = { λ bound p. IsReady bound p.registry p.me };
+
+    fn play<R: Wait>(
+        &mut self,
+        rt: &R,
+        alloc: Global,
+        setting: Setting<'_>,
+        event: Event,
+    ) -> Result<Answer, NoMemory> {
+        // The law that this rests on; it takes no step.
+        calls_follow();
+        self.play_event(rt, alloc, setting, event)
+    }
+}

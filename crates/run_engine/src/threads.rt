@@ -1,0 +1,192 @@
+//! Plays the threads of a round side by side.
+
+ghost use Rattle.std.specs.Prelude.{◌≤◌, All, IfOk, flat_map, length, map};
+ghost use Rattle.std.specs.List.{AllZip};
+ghost use Rattle.std.specs.Thread.{IsSync};
+ghost use Rattle.event_script.specs.Lawful.{receipts_of};
+ghost use Rattle.event_script.specs.ScriptData.{IsRound, IsThread};
+ghost use Rattle.registry_core.specs.Calls.{Answered};
+ghost use Rattle.registry_core.specs.Rounds.{AreAnswered};
+ghost use Rattle.run_engine.specs.Played.{AreImages, IsPlayedThread, IsRightAnswer};
+ghost use Rattle.run_engine.specs.Played.{RegistersNothing, updates_in};
+ghost use Rattle.run_engine.specs.Shared.{AreManned, IsReady};
+
+use crate::gate::Gate;
+use crate::player::{Setting, ThreadNumber, play_thread};
+use crate::shared::SharedPlayer;
+use event_script::{Answer, Event, Thread};
+use reg_model::NoMemory;
+use registry_core::Registry;
+use registry_core::laws::calls_follow;
+use std::alloc::Global;
+use std::sync::Wait;
+use std::thread::{Threads, join};
+use word_rule::Caller;
+
+/// Those who play a round: one caller of the registry for each thread.
+#[derive(Drop)]
+pub struct Team<'a> {
+    pub registry: &'a Registry,
+    pub callers: Vec<Caller>,
+}
+
+/// What came of one thread: its answers, and its caller.
+#[derive(Drop)]
+pub struct PlayedThread {
+    pub answers: Vec<Answer>,
+    pub caller: Caller,
+}
+
+/// What came of a round: the answers of each thread, and its caller.
+#[derive(Drop)]
+pub struct PlayedRound {
+    pub answers: Vec<Vec<Answer>>,
+    pub callers: Vec<Caller>,
+}
+
+/// Plays the events of one thread as this player.
+fn play_alone<R: Wait, G: Gate>(
+    rt: &R,
+    alloc: Global,
+    gate: &G,
+    number: ThreadNumber,
+    setting: Setting<'_>,
+    player: SharedPlayer<'_>,
+    events: &[Event],
+) -> Result<PlayedThread, NoMemory>
+    requires images { AreImages setting.images.now setting.sections.now }
+    requires thread { IsThread (record {
+      images = length setting.images.now;
+      snapshots = length setting.snapshots.now;
+    }) events.now }
+    requires may_play { All RegistersNothing events.now }
+    requires ready { IsReady (length setting.images.now) player.registry player.me }
+    requires left { updates_in events.now ≤ player.me.left }
+    ensures answered { IfOk result
+        (λ played. AllZip (IsRightAnswer setting.entry.sections.now setting.entry.snapshots.now)
+        events.now played.answers.items) }
+    ensures calls { IfOk result
+        (λ played. Answered
+        (flat_map (receipts_of setting.entry.images.now) played.answers.items) player.entry.me
+        played.caller) }
+    ensures played { IfOk result (λ played. IsPlayedThread played.answers.items) }
+{
+    // The law that this rests on; it takes no step.
+    calls_follow();
+    let mut player = player;
+    let answers = play_thread(rt, alloc, gate, number, setting, &mut player, events)?;
+    let caller = player.into_caller();
+    Ok(PlayedThread { answers, caller })
+}
+
+/// Plays the threads of a round side by side: the last one here, and those before it beside it.
+pub fn play_threads<R: Threads + Wait + Sync, G: Gate + Sync>(
+    rt: &R,
+    alloc: Global,
+    gate: &G,
+    round: u32,
+    setting: Setting<'_>,
+    team: Team<'_>,
+    threads: &[Thread],
+) -> Result<PlayedRound, NoMemory>
+    requires images { AreImages setting.images.now setting.sections.now }
+    requires round { IsRound (record {
+      images = length setting.images.now;
+      snapshots = length setting.snapshots.now;
+    }) threads.now }
+    requires may_play { All (All RegistersNothing) threads.now }
+    requires manned { AreManned (length setting.images.now) team.registry.now threads.now
+        team.callers.items }
+    ensures answered { IfOk result
+        (λ played. AllZip
+        (λ events thread. AllZip
+        (IsRightAnswer setting.entry.sections.now setting.entry.snapshots.now) events thread.items)
+        threads.now played.answers.items) }
+    ensures calls { IfOk result
+        (λ played. AreAnswered
+        (map (λ thread. flat_map (receipts_of setting.entry.images.now) thread.items)
+        played.answers.items)
+        team.entry.callers.items played.callers.items) }
+    ensures played { IfOk result
+        (λ played. All (λ thread. IsPlayedThread thread.items) played.answers.items) }
+{
+    let Setting {
+        images,
+        sections,
+        snapshots,
+    } = setting;
+    let Team {
+        registry,
+        mut callers,
+    } = team;
+    let [before @ .., thread] = threads else {
+        return Ok(PlayedRound {
+            answers: Vec::new(alloc),
+            callers,
+        });
+    };
+    let Some(me) = callers.pop() else {
+        unreachable!()
+    };
+    let number = ThreadNumber {
+        round,
+        thread: threads.len() as u32,
+    };
+    let events: &[Event] = &thread.events;
+    let (others, own) = join(
+        rt,
+        || -> Result<PlayedRound, NoMemory>
+            requires { IsSync R.row × IsSync G.row × AreImages images.now sections.now × IsRound
+                (record { images = length images.now; snapshots = length snapshots.now })
+                before.now × All (All RegistersNothing) before.now × AreManned
+                (length images.now) registry.now before.now callers.items }
+            ensures answered { IfOk result
+                (λ played. AllZip
+                (λ events thread. AllZip (IsRightAnswer sections.entry.now snapshots.entry.now) events thread.items)
+                before.entry.now played.answers.items) }
+            ensures calls { IfOk result
+                (λ played. AreAnswered
+                (map (λ thread. flat_map (receipts_of images.entry.now) thread.items)
+                played.answers.items)
+                callers.items played.callers.items) }
+            ensures played { IfOk result
+                (λ played. All (λ thread. IsPlayedThread thread.items) played.answers.items) }
+        {
+            let setting = Setting {
+                images,
+                sections,
+                snapshots,
+            };
+            let team = Team { registry, callers };
+            play_threads(rt, alloc, gate, round, setting, team, before)
+        },
+        || -> Result<PlayedThread, NoMemory>
+            requires { IsSync R.row × IsSync G.row × AreImages images.now sections.now × IsThread
+                (record { images = length images.now; snapshots = length snapshots.now })
+                events.now × All RegistersNothing events.now × IsReady (length images.now)
+                registry.now me × (updates_in events.now ≤ me.left) }
+            ensures answered { IfOk result
+                (λ played. AllZip (IsRightAnswer sections.entry.now snapshots.entry.now)
+                events.entry.now played.answers.items) }
+            ensures calls { IfOk result
+                (λ played. Answered
+                (flat_map (receipts_of images.entry.now) played.answers.items) me played.caller) }
+            ensures played { IfOk result (λ played. IsPlayedThread played.answers.items) }
+        {
+            let setting = Setting {
+                images,
+                sections,
+                snapshots,
+            };
+            let player = SharedPlayer::new(registry, me);
+            play_alone(rt, alloc, gate, number, setting, player, events)
+        },
+    );
+    let others = others?;
+    let own = own?;
+    let mut answers = others.answers;
+    let mut callers = others.callers;
+    answers.push(own.answers)?;
+    callers.push(own.caller)?;
+    Ok(PlayedRound { answers, callers })
+}
