@@ -25,7 +25,7 @@ fn script_of(alloc: Global) -> Result<Vec<u8>, Fail> {
         text.extend_from_slice(line.as_bytes())?;
     }
     text.extend_from_slice(SNAPSHOT.as_bytes())?;
-    for round in 0..3u64 {
+    for round in 0..64u64 {
         text.extend_from_slice(b"round\n")?;
         for thread in 1..17u64 {
             let image = (thread + 5 * round) % 17;
@@ -336,12 +336,12 @@ fn read_slowly(
 }
 
 #[test]
-fn sixteen_threads_for_three_rounds(rt: HostRuntime) -> Result<(), Fail> {
+fn sixteen_threads_for_64_rounds(rt: HostRuntime) -> Result<(), Fail> {
     let alloc = rt.alloc();
     let Ok(script) = read(alloc, &script_of(alloc)?) else {
         panic!(rt; "no script")
     };
     let journal = play_script(&rt, alloc, &NoGate, &script)?;
-    assert_eq!(rt; journal.rounds.len(), 3);
+    assert_eq!(rt; journal.rounds.len(), 64);
     read_slowly(&rt, alloc, &script.images, &journal)
 }
