@@ -94,10 +94,10 @@ cie_place section start end p front c s =
     let found : c.initial ≡ made = sym (ap (λ (k : CieRecord). k.initial) s6.5.1) in
     found ∙ ap (λ (q : ℕ). record { at = q; end = end }) place
 
-fde_place : (section end p : ℕ) (c : CieRecord) (front : List ℕ) (f : FdeRecord) → (fde section end c).Spells p front f
+fde_place : (section start end p : ℕ) (c : CieRecord) (front : List ℕ) (f : FdeRecord) → (fde section start end c).Spells p front f
     → (f.program ≡ record { at = p + length front; end = end }) × (f.cie ≡ c)
 unfolding fde
-fde_place section end p c front f s =
+fde_place section start end p c front f s =
     let s1 = s.5 in let s2 = s1.5 in let s3 = s2.5 in
     let place : s3.0 ≡ p + length front =
     omega (
@@ -219,7 +219,7 @@ content_fde section p earlier start end text bytes before after f all s whole pl
           s.3 ∙ ap (λ (l : List ℕ). l ++ s.2) s.4.0 ∙ id.3
           ∙ ap (λ (l : List ℕ). id.1 ++ l) (u.3 ∙ ap (λ (l : List ℕ). l ++ u.2) known.0 ∙ v.3 ∙ ap (λ (l : List ℕ). v.1 ++ l) (rest.3 ∙ ap (λ (l : List ℕ). rest.1 ++ l) rest.5.0 ∙ append-nil rest.1))
           ∙ sym (append_assoc id.1 v.1 rest.1) in
-          let placed = fde_place section end _ u.0 v.1 v.0 v.4 in
+          let placed = fde_place section start end _ u.0 v.1 v.0 v.4 in
           let at : p + length s.1 + length id.1 + length u.1 + length v.1 ≡ p + length head = omega (arith, ap length s.4.0, ap length known.0, length-append id.1 v.1) in
           let inside : IsExtent bytes v.0.program rest.1 =
           subst (λ (e : Extent). IsExtent bytes e rest.1) (sym placed.0) (extent bytes before head rest.1 text after p (p + length s.1 + length id.1 + length u.1 + length v.1) end whole parts place at size) in

@@ -10,3 +10,4 @@ pub mod Orders
 pub mod Blocks
 pub mod Lookups
 pub mod LentSteps
+pub mod Places

@@ -249,7 +249,7 @@ find-here pc (f ∷ fs) zero d lt e = rw e refl
 find-here pc (f ∷ fs) (suc i) d lt e = find-here pc fs i d (omega arith) e
 
 no_entry : FdeEntry
-no_entry = record { cie = 0; first = 0; range = 0; lsda = None; program = record { at = 0; end = 0 } }
+no_entry = record { start = 0; cie = 0; first = 0; range = 0; lsda = None; program = record { at = 0; end = 0 } }
 
 -- what the search among ranges that are apart found, is the number of the first cover
 abbrev pub IsFound : ℕ → List CoveredRange → Option ℕ → Type 0

@@ -104,9 +104,9 @@ lsda_exact section c =
     block_exact (Short at) n _ (when_exact (c.augmentation.lsda == DW_EH_PE_omit || n == 0) _ _ (give_exact None) (optional_pointer_exact section c.augmentation.lsda)))))
     (give_exact None)
 
-pub fde_exact : (section end : ℕ) (c : CieRecord) → IsExact (fde section end c)
+pub fde_exact : (section start end : ℕ) (c : CieRecord) → IsExact (fde section start end c)
 unfolding fde
-fde_exact section end c =
+fde_exact section start end c =
     then_exact _ _ (pointer_exact section c.augmentation.pointers) (λ first.
     then_exact _ _ (range_exact c.augmentation.pointers first) (λ size.
     then_exact _ _ (lsda_exact section c) (λ l.

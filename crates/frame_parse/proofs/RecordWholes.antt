@@ -23,7 +23,7 @@ content_whole section earlier start end =
     then_whole _ _ (field_exact _ (fixed_exact 4)) (λ id.
     when_whole (id == 0) _ _
     (then_whole _ _ (cie_exact section start end) (λ c. give_whole _ (λ s. Cie (record c { offset = s.offset })) (steps_from_whole _ initial_state (steps_sound (context_of section c Initial)))))
-    (then_whole _ _ (found_exact (cie_after earlier at id) (NoCie at)) (λ c. then_whole _ _ (fde_exact section end c) (λ f. give_whole _ (λ s. Fde f) (steps_from_whole _ (first_state c f.first) (steps_sound (context_of section c Own))))))))
+    (then_whole _ _ (found_exact (cie_after earlier at id) (NoCie at)) (λ c. then_whole _ _ (fde_exact section start end c) (λ f. give_whole _ (λ s. Fde f) (steps_from_whole _ (first_state c f.first) (steps_sound (context_of section c Own))))))))
 
 record_length_exact : (start : ℕ) → IsExact (record_length start)
 unfolding record_length

@@ -9,6 +9,7 @@ use Rattle.frame_parse.specs.declared.records.Entry.TheVariants as entries
 
 -- an FDE, with its CIE
 pub record FdeRecord : Type 0 where
+  pub start : ℕ
   pub cie : CieRecord
   pub first : ℕ
   pub range : ℕ
@@ -23,6 +24,7 @@ pub data Record : Type 0 where
 -- an FDE that is kept, with this CIE
 abbrev pub with_cie : CieRecord → FdeEntry → FdeRecord
 with_cie c f = record {
+  start = f.start;
   cie = c;
   first = f.first;
   range = f.range;

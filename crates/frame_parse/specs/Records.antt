@@ -164,13 +164,14 @@ lsda section c = when c.has_data
     (give None)
 
 -- the fields of an FDE after its id
-unfoldable pub fde : ℕ → ℕ → CieRecord → Part RecordFault FdeRecord
-fde section end c = do
+unfoldable pub fde : ℕ → ℕ → ℕ → CieRecord → Part RecordFault FdeRecord
+fde section start end c = do
   first ← pointer section c.augmentation.pointers
   size ← range c.augmentation.pointers first
   l ← lsda section c
   at ← here
   give (record {
+    start = start;
     cie = c;
     first = first;
     range = size;
@@ -190,7 +191,7 @@ content section earlier start end = do
       (cie section start end >>=
       λ c. steps_from (step (context_of section c Initial)) initial_state >>=
       λ s. give (Cie (record c { offset = s.offset })))
-      (found (cie_after earlier at id) (NoCie at) >>= λ c. fde section end c >>=
+      (found (cie_after earlier at id) (NoCie at) >>= λ c. fde section start end c >>=
       λ f. steps_from (step (context_of section c Own)) (first_state c f.first) >>=
       λ s. give (Fde f))
 

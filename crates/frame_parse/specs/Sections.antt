@@ -79,14 +79,18 @@ first_cover pc (f ∷ fs) = if covers pc f then Some f else first_cover pc fs
 abbrev pub starts : List CieRecord → List ℕ
 starts cs = map (λ c. c.start) cs
 
+-- where the FDEs begin
+abbrev pub fde_starts : List FdeRecord → List ℕ
+fde_starts fs = map (λ f. f.start) fs
+
 -- each number is above those before it
 abbrev pub IsAscending : List ℕ → Type 0
 IsAscending ns = (i j : ℕ) → i < j → j < length ns → get_or ns i 0 < get_or ns j 0
 
--- a CIE begins where it was read
+-- a record begins where it was read
 abbrev pub BeginsAt : ℕ → Entry → Type 0
 BeginsAt place (entries.Cie c) = c.start ≡ place
-BeginsAt place (entries.Fde f) = Unit {0}
+BeginsAt place (entries.Fde f) = f.start ≡ place
 
 -- what contracts see of a section: its address and bytes, and its FDEs in order of bytes
 pub record SectionData : Type 0 where

@@ -46,6 +46,8 @@ pub struct CieRecord {
 /// An FDE, as a section keeps it: its CIE is kept once, and goes by its number in order of bytes.
 #[derive(Clone, Copy, Debug, PartialEq, Eq)]
 pub struct FdeEntry {
+    /// The place of its first byte, that of its length.
+    pub start: usize,
     pub cie: usize,
     pub first: u64,
     pub range: u64,
@@ -97,7 +99,8 @@ fn content(
         None => Err(RecordFault::NoCie { at }),
         Some(index) => {
             let cie = cie_at(earlier, index);
-            let fde = fde(cursor, section, end, cie, index)?;
+            let whole = Extent { at: start, end };
+            let fde = fde(cursor, section, whole, cie, index)?;
             let context = Context::new(section, cie, ProgramKind::Own);
             let _state = steps(&context, cursor, first_state(cie, fde.first))?;
             Ok(Entry::Fde(fde))

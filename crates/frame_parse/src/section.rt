@@ -6,6 +6,7 @@ ghost use Rattle.std.specs.List.{All};
 ghost use Rattle.std.specs.Option.{option_map};
 ghost use Rattle.frame_parse.specs.Entries.{fde_among, HasCie};
 ghost use Rattle.frame_parse.specs.Sections.{is_end, HasFdes, IsRefused, first_cover, HasOneAnswer};
+ghost use Rattle.frame_parse.specs.Sections.{fde_starts, IsAscending};
 ghost use Rattle.frame_parse.specs.Reading.{IsAnswered};
 
 use crate::fault::FrameFault;
@@ -118,9 +119,10 @@ impl Section {
         self.fdes.len()
     }
 
-    /// Every section has the FDEs of its bytes.
+    /// Every section has the FDEs of its bytes, and their places ascend.
     pub fn known(&self)
-        ensures { HasFdes self.now.address self.now.bytes self.now.fdes }
+        ensures fdes { HasFdes self.now.address self.now.bytes self.now.fdes }
+        ensures ascending { IsAscending (fde_starts self.now.fdes) }
     {
         let _ = &self.bytes;
     }
@@ -134,6 +136,14 @@ impl Section {
     {
         let (cie, entry) = self.fdes.get(index);
         Fde::new(self.address, &self.bytes, cie, entry)
+    }
+
+    /// The place of an FDE's first byte, that of its length, among the section's bytes.
+    pub fn fde_place(&self, index: usize) -> usize
+        requires { index < length self.now.fdes }
+        ensures { option_map (λ f. f.start) (slice_get self.now.fdes index) ≡ Some result }
+    {
+        self.fdes.get(index).1.start
     }
 
     /// The first FDE in order of bytes that covers an address.

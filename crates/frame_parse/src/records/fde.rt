@@ -39,18 +39,19 @@ fn lsda(cursor: &mut Cursor, section: u64, cie: &CieRecord) -> Result<Option<u64
     optional_pointer(&mut inside, section, cie.augmentation.lsda)
 }
 
-/// The fields after the id, where the CIE has this number. What is left up to `end` are the
-/// instructions.
+/// The fields after the id of a record, where the CIE has this number. What is left of the record
+/// are the instructions.
 #[tactic(auto, unfolding(crate::specs::Records::fde))]
 pub(crate) fn fde(
     cursor: &mut Cursor,
     section: u64,
-    end: usize,
+    whole: Extent,
     cie: &CieRecord,
     number: usize,
 ) -> Result<FdeEntry, RecordFault>
-    ensures read { Gives (with_cie cie.now) (fde section end cie.now).read cursor.old result
-        cursor.new }
+    ensures read { Gives (with_cie cie.now) (fde section whole.at whole.end cie.now).read
+        cursor.old result cursor.new }
+    ensures start { IfOk result (λ f. f.start ≡ whole.at) }
     ensures cie { IfOk result (λ f. f.cie ≡ number) }
 {
     let pointers = cie.augmentation.pointers;
@@ -58,13 +59,14 @@ pub(crate) fn fde(
     let range = range(cursor, pointers, first)?;
     let lsda = lsda(cursor, section, cie)?;
     Ok(FdeEntry {
+        start: whole.at,
         cie: number,
         first,
         range,
         lsda,
         program: Extent {
             at: cursor.at(),
-            end,
+            end: whole.end,
         },
     })
 }

@@ -1,0 +1,68 @@
+-- The places of a section's FDEs ascend.
+use Rattle.std.proofs.Common.{◌≡◌, ℕ, zero, suc, ◌+◌, ◌<◌, ◌≤◌, List, [], ◌∷◌, ◌++◌, length, get_or, sym, ap, subst, ◌∙◌, arith, inl, inr}
+use Rattle.frame_parse.specs.declared.records.CieRecord.{CieRecord}
+use Rattle.frame_parse.specs.Entries.{FdeRecord, Record, Cie, Fde}
+use Rattle.frame_parse.specs.Records.{fde, content, record_at, whole_record}
+use Rattle.frame_parse.specs.Sections.{AreRecords, fdes_of, IsSection, HasFdes, fde_starts, IsAscending}
+use Rattle.frame_parse.proofs.OneAnswer.{record_grows}
+
+-- ---- an FDE begins where its record does
+
+fde_begins : (section start end p : ℕ) (c : CieRecord) (front : List ℕ) (f : FdeRecord) → (fde section start end c).Spells p front f → f.start ≡ start
+unfolding fde
+fde_begins section start end p c front f s = sym (ap (λ (k : FdeRecord). k.start) s.5.5.5.5.1)
+
+content_begins : (section : ℕ) (earlier : List CieRecord) (start end p : ℕ) (text : List ℕ) (f : FdeRecord) → (content section earlier start end).Spells p text (Fde f) → f.start ≡ start
+unfolding content
+content_begins section earlier start end p text f s =
+    elim s.5.5 [
+      | inl w ↦ absurd (let never = w.1.5.5.1 in cc)
+      | inr w ↦
+          let v = w.1.5 in
+          let same : v.0 ≡ f = let made = v.5.5.1 in cc in
+          ap (λ (k : FdeRecord). k.start) (sym same) ∙ fde_begins section start end _ w.1.0 v.1 v.0 v.4
+    ]
+
+record_begins : (section p : ℕ) (earlier : List CieRecord) (front : List ℕ) (f : FdeRecord) → (whole_record section earlier).Spells p front (Fde f) → f.start ≡ p
+unfolding whole_record record_at
+record_begins section p earlier front f s =
+    let held = s.5.5 in
+    content_begins section earlier s.0 (held.0 + s.5.0) _ held.2 f held.5.1 ∙ sym s.4.1
+
+-- ---- records one after another
+
+-- the FDEs begin from a place on, each after those before it
+abbrev pub FromPlace : ℕ → List FdeRecord → Type 0
+FromPlace p [] = Unit {0}
+FromPlace p (f ∷ fs) = (p ≤ f.start) × FromPlace (f.start + 1) fs
+
+from_lower : (p q : ℕ) (fs : List FdeRecord) → q ≤ p → FromPlace p fs → FromPlace q fs
+from_lower p q [] le a = tt
+from_lower p q (f ∷ fs) le a = (let low = a.0 in omega arith, a.1)
+
+records_ascend : (section p : ℕ) (earlier : List CieRecord) (text : List ℕ) (rs : List Record) → AreRecords section p earlier text rs → FromPlace p (fdes_of rs)
+records_ascend section p earlier text [] s = tt
+records_ascend section p earlier text (Cie c ∷ rs) s =
+    from_lower (p + length s.0) p (fdes_of rs) (omega arith) (records_ascend section (p + length s.0) (earlier ++ c ∷ []) s.1 rs s.4)
+records_ascend section p earlier text (Fde f ∷ rs) s =
+    let at = record_begins section p earlier s.0 f s.3 in
+    let grown = record_grows section p earlier s.0 (Fde f) s.3 in
+    (omega arith, from_lower (p + length s.0) (f.start + 1) (fdes_of rs) (omega (arith, grown, at)) (records_ascend section (p + length s.0) earlier s.1 rs s.4))
+
+-- ---- sections
+
+from-each : (p : ℕ) (fs : List FdeRecord) (i : ℕ) → FromPlace p fs → i < length (fde_starts fs) → p ≤ get_or (fde_starts fs) i 0
+from-each p [] i a lt = absurd (omega arith)
+from-each p (f ∷ fs) zero a lt = a.0
+from-each p (f ∷ fs) (suc i) a lt = let more = from-each (f.start + 1) fs i a.1 (omega arith) in let low = a.0 in omega arith
+
+from-ascends : (p : ℕ) (fs : List FdeRecord) → FromPlace p fs → IsAscending (fde_starts fs)
+from-ascends p [] a i j lt inside = absurd (omega arith)
+from-ascends p (f ∷ fs) a i zero lt inside = absurd (omega arith)
+from-ascends p (f ∷ fs) a zero (suc j) lt inside = let more = from-each (f.start + 1) fs j a.1 (omega arith) in omega arith
+from-ascends p (f ∷ fs) a (suc i) (suc j) lt inside = from-ascends (f.start + 1) fs a.1 i j (omega arith) (omega arith)
+
+pub section_ascends : (section : ℕ) (bytes : List ℕ) (fdes : List FdeRecord) → HasFdes section bytes fdes → IsAscending (fde_starts fdes)
+unfolding HasFdes IsSection
+section_ascends section bytes fdes s =
+    subst (λ (fs : List FdeRecord). IsAscending (fde_starts fs)) s.2 (from-ascends 0 (fdes_of s.0) (records_ascend section 0 [] s.1.0 s.0 s.1.3))
