@@ -1,0 +1,3 @@
+pub mod Headers
+pub mod Places
+pub mod Tables
