@@ -1,20 +1,16 @@
 -- A load of the clock keeps the rule: all of the history is seen, and what was asked is answered.
-use Rattle.std.proofs.Common.{◌≡◌, ℕ, ◌+◌, ◌≤◌, ◌%◌, ◌⊎◌, ◌↔◌, inl, inr, ⊎_elim, List, [], ◌∷◌, ◌++◌, length, length-append, get_or, set, map, take_all, Contains, sym, refl, ap, ◌∙◌, subst, arith, ◌==◌, Bool, true, false, true≢false, IsTrue, Option, Some, None, IfSome, IsSomeAnd, is_some, ◌&&◌, append-nil, if◌then◌else◌}
-use Rattle.std.specs.List.{AllByRecursion, count_by}
+use Rattle.std.proofs.Common.{◌≡◌, ℕ, ◌+◌, ◌≤◌, ◌%◌, ◌↔◌, inl, inr, List, [], ◌∷◌, ◌++◌, length, length-append, get_or, set, map, take_all, Contains, sym, refl, ap, ◌∙◌, subst, arith, ◌==◌, Bool, true, false, true≢false, IsTrue, Option, Some, None, IfSome, IsSomeAnd, append-nil, if◌then◌else◌}
+use Rattle.std.specs.List.{AllByRecursion}
 use Rattle.std.proofs.lemmas.List.{nil_from_length}
-use Rattle.std.proofs.lemmas.List.Sums.{sum_by_push}
 use mathlib.Core.Option.{none, some}
 use lib.ListN.{get_elem?}
 use Rattle.atomic_table.specs.Table.{step, keeps, Allows}
 use Rattle.reg_model.specs.History.{state_after, state_at}
-use Rattle.reg_model.specs.Receipt.{moment}
-use Rattle.reg_model.specs.Numbers.{has_number}
 use Rattle.reg_model.specs.declared.span.Member.{Member}
 use Rattle.reg_model.specs.declared.answer.Half.TheVariants as half
 use Rattle.reg_model.specs.declared.answer.Update.{Update}
 use Rattle.reg_model.specs.declared.answer.Receipt.{Receipt}
 use Rattle.reg_model.proofs.Histories.{lawful_history}
-use Rattle.tree_shape.specs.Numbers.{once}
 use Rattle.tree_shape.specs.NodeData.{IsLeaf, LiesInFences, entries_of}
 use Rattle.tree_shape.specs.Trees.{Contents, HasEntry}
 use Rattle.tree_shape.specs.Lawful.{IsTree}
@@ -30,7 +26,7 @@ use Rattle.word_rule.specs.Places.{lower, upper}
 use Rattle.word_rule.specs.Memory.{Memory, memory_of}
 use Rattle.word_rule.specs.Logs.{is_spent, weight, turns, load_of}
 use Rattle.word_rule.specs.Sights.{after_clock, copies_after_clock, query_receipt, walk_receipts, with_clock}
-use Rattle.word_rule.specs.Callers.{total, CallersHold, LogHolds, IsRecord, IsMemberOf, AtLoader, LoaderLock, dones_in, start}
+use Rattle.word_rule.specs.Callers.{total, CallersHold, LogHolds, IsMemberOf, AtLoader, LoaderLock, dones_in, start}
 use Rattle.word_rule.specs.Copies.{ListsAll, ListsMembers, CopySightHolds}
 use Rattle.word_rule.specs.Observations.{SightHolds, WasFull, ObservationsHold, HadMembers, IsFullCount}
 use Rattle.word_rule.specs.TableInvariant.{TableInvariant, IsStill}
@@ -38,7 +34,8 @@ use Rattle.word_rule.specs.Clock.{IsSeen, ClockTells, MayAsk, AreAsked}
 use Rattle.word_rule.specs.Steps.{IsRefusalOf, MayRefuse, Refuses}
 use Rattle.word_rule.specs.declared.log.LoaderHolding.{LoaderHolding}
 use Rattle.word_rule.proofs.CopyStores.{loader_held}
-use Rattle.word_rule.proofs.Refusals.{HoldsNow, query_at, query_answers, answer_record, refusal}
+use Rattle.word_rule.proofs.Answering.{Told, told_record, told_numbers, all_ended}
+use Rattle.word_rule.proofs.Refusals.{HoldsNow, query_at, query_answers, refusal}
 use Rattle.word_rule.specs.Plays.{Seated, loads_clock}
 use Rattle.word_rule.proofs.Facts.{total_same, after_step}
 use Rattle.word_rule.proofs.Each.{all_map, all_append, all_of, some_with}
@@ -47,7 +44,7 @@ use Rattle.word_rule.proofs.CallersFrame.{lineages_over, lock_stays, busy}
 use Rattle.word_rule.proofs.NodesFrame.{nodes_same}
 use Rattle.word_rule.proofs.Frames.{Sit, table_step, still_after_load}
 use Rattle.word_rule.proofs.Listings.{ascending_disjoint, disjoint_fit, lists_same, loaded_members, loaded_spans, none_registered, start_lawful, state_fixed}
-use Rattle.word_rule.proofs.Joins.{record_later, records_later}
+use Rattle.word_rule.proofs.Joins.{records_later}
 use Rattle.word_rule.proofs.Alone.{seen_all}
 
 -- a live leaf's entries are those of the tree inside its fences: a law of tree_shape
@@ -58,10 +55,6 @@ pub record LeafLaw : Type 0 where
 -- what is asked of one's own terms
 pub may_ask : (a b : Ask) (t u : Terms) (v : Log) → a ≡ b → t ≡ u → MayAsk t a v → MayAsk u b v
 may_ask a b t u v same terms h = subst (λ z. MayAsk z b v) terms (subst (λ z. MayAsk t z v) same h)
-
--- what is asked is answered by one such receipt, or by none
-abbrev Told : Terms → List Update → List Receipt → Type 0
-Told t history rs = (rs ≡ []) ⊎ ((r : Receipt) × ((rs ≡ r ∷ []) × HoldsNow t history r))
 
 module _ (law : LeafLaw) (t : Terms) (slots id : ℕ) (me : Seated) (caller : me.0.role ≡ role.Caller) (a : Ask) (may : MayAsk t a me.0) where
   abbrev Rule : Sit → Type 0
@@ -127,22 +120,6 @@ module _ (law : LeafLaw) (t : Terms) (slots id : ℕ) (me : Seated) (caller : me
     told : Told t r.memory.history (asked a may).0
     told = (asked a may).1.1
 
-    own : (c : ℕ) → IsRecord t me.0.past c me.0.receipts.own → IsRecord t r.memory.history c (me.0.receipts.own ++ receipts)
-    own c h = ⊎_elim
-        (λ (none_more : receipts ≡ []). subst (IsRecord t r.memory.history c) (sym (ap (λ rs. me.0.receipts.own ++ rs) none_more ∙ append-nil me.0.receipts.own)) (record_later t me.0.past r.memory.history c c log.begins me.0.receipts.own h))
-        (λ (one : (x : Receipt) × ((receipts ≡ x ∷ []) × HoldsNow t r.memory.history x)).
-        subst (λ rs. IsRecord t r.memory.history c (me.0.receipts.own ++ rs)) (sym one.1.0) (answer_record t me.0.past r.memory.history c me.0.receipts.own one.0 one.1.1 log.begins h))
-        told
-
-    -- no number is among them
-    numbers_stay : (n : ℕ) → count_by (has_number n) (me.0.receipts.own ++ receipts) ≡ count_by (has_number n) me.0.receipts.own
-    numbers_stay n = ⊎_elim
-        (λ (none_more : receipts ≡ []). ap (count_by (has_number n)) (ap (λ rs. me.0.receipts.own ++ rs) none_more ∙ append-nil me.0.receipts.own))
-        (λ (one : (x : Receipt) × ((receipts ≡ x ∷ []) × HoldsNow t r.memory.history x)).
-        let none : has_number n one.0 ≡ false = ap (λ u. is_some u && (moment one.0 == n)) one.1.1.accepts in
-        ap (λ rs. count_by (has_number n) (me.0.receipts.own ++ rs)) one.1.0 ∙ (sum_by_push (λ x. once (has_number n x)) me.0.receipts.own one.0 ∙ (let z : once (has_number n one.0) ≡ 0 = ap once none in omega (arith, z))))
-        told
-
     made_same : total (λ v. v.made) (set s.views id w) ≡ total (λ v. v.made) s.views
     made_same = total_same (λ v. v.made) s.views id me.0 w at refl
 
@@ -151,7 +128,7 @@ module _ (law : LeafLaw) (t : Terms) (slots id : ℕ) (me : Seated) (caller : me
         (let mine = subst (λ k. LogHolds t r.memory.history k me.0) (sym is_c) log in record {
           terms = λ _. terms;
           begins = ([], append-nil r.memory.history);
-          receipts = record { own = own c mine.receipts.own; joined = records_later t me.0.past r.memory.history c c mine.begins me.0.receipts.joined mine.receipts.joined };
+          receipts = record { own = told_record t me.0.past r.memory.history c me.0.receipts.own receipts log.begins told mine.receipts.own; joined = records_later t me.0.past r.memory.history c c mine.begins me.0.receipts.joined mine.receipts.joined };
           lineage = mine.lineage;
           idle = busy me.0 w caller;
         })
@@ -167,7 +144,7 @@ module _ (law : LeafLaw) (t : Terms) (slots id : ℕ) (me : Seated) (caller : me
           terms = c.terms;
           members = c.members;
           room = (let e = total_same (λ v. v.budget.allowance) s.views id me.0 w at refl in let o = c.room in omega (arith, e, o));
-          numbers = λ n. total_same (dones_in n) s.views id me.0 w at (let e = numbers_stay n in omega (arith, e)) ∙ c.numbers n;
+          numbers = λ n. total_same (dones_in n) s.views id me.0 w at (let e = told_numbers t r.memory.history me.0.receipts.own receipts n told in omega (arith, e)) ∙ c.numbers n;
           each = each (total (λ v. v.made) (set s.views id w) + 1) (ap (λ k. k + 1) made_same);
           weights = (let e = total_same (λ v. weight v.role) s.views id me.0 w at refl in let b = made_same in let o = c.weights in omega (arith, e, b, o));
           loader = lock_stays s.views m.loader m.loader id me.0 w c.holder at refl (λ e. subst (LoaderLock (memory_of t s.words).loader s.views) e c.loader) c.loader;
@@ -212,12 +189,6 @@ module _ (law : LeafLaw) (t : Terms) (slots id : ℕ) (me : Seated) (caller : me
         go true = h
         go false = fresh
 
-    -- receipts end what loads told of fullness
-    full : (rs : List Receipt) (l : LoadEvent) → l.receipts ≤ length me.0.receipts.own → WasFull t r.memory.history (total (λ v. v.made) s.views + 1) me.0.receipts.own l → WasFull t r.memory.history (total (λ v. v.made) s.views + 1) (me.0.receipts.own ++ rs) l
-    full [] l few h = subst (λ k. WasFull t r.memory.history (total (λ v. v.made) s.views + 1) k l) (sym (append-nil me.0.receipts.own)) h
-    full (x ∷ rs) l few h = let len : length (me.0.receipts.own ++ x ∷ rs) ≡ length me.0.receipts.own + length (x ∷ rs) = length-append me.0.receipts.own (x ∷ rs) in
-        record { count = λ same. absurd (omega (arith, same, len, few)); head = λ same _ _ _. absurd (omega (arith, same, len, few)) }
-
     not_full : (rs : List Receipt) → WasFull t r.memory.history (total (λ v. v.made) s.views + 1) rs event
     not_full rs = record {
       count = λ _. all_of (λ h. IsFullCount event h → HadMembers t r.memory.history rs 10) (λ h is_full. absurd (let e = is_full.0 in omega (arith, e))) me.0.holdings.held;
@@ -230,16 +201,11 @@ module _ (law : LeafLaw) (t : Terms) (slots id : ℕ) (me : Seated) (caller : me
         let len : length (me.0.receipts.own ++ receipts) ≡ length me.0.receipts.own + length receipts = length-append me.0.receipts.own receipts in record {
           sights = all_clocked me.0.sights.nodes o.sights;
           copies = copies me.0.sights.copies o.copies;
-          full = all_append (WasFull t r.memory.history (total (λ v. v.made) s.views + 1) (me.0.receipts.own ++ receipts)) me.0.trace.loads (event ∷ []) (old_full me.0.trace.loads o.earlier o.full) (not_full (me.0.receipts.own ++ receipts), tt);
+          full = all_append (WasFull t r.memory.history (total (λ v. v.made) s.views + 1) (me.0.receipts.own ++ receipts)) me.0.trace.loads (event ∷ []) (all_ended t r.memory.history (total (λ v. v.made) s.views + 1) (turns me.0.trace) me.0.receipts.own receipts me.0.trace.loads o.earlier o.full) (not_full (me.0.receipts.own ++ receipts), tt);
           earlier = all_append (λ l. (l.turns ≤ turns me.0.trace) × (l.receipts ≤ length (me.0.receipts.own ++ receipts))) me.0.trace.loads (event ∷ [])
               (all_map (λ l. (l.turns ≤ turns me.0.trace) × (l.receipts ≤ length me.0.receipts.own)) (λ l. (l.turns ≤ turns me.0.trace) × (l.receipts ≤ length (me.0.receipts.own ++ receipts))) (λ l e. let b = e.1 in (e.0, omega (arith, b, len))) me.0.trace.loads o.earlier)
               ((omega arith, omega (arith, len)), tt);
         }
-      where
-        old_full : (ls : List LoadEvent) → AllByRecursion (λ l. (l.turns ≤ turns me.0.trace) × (l.receipts ≤ length me.0.receipts.own)) ls → AllByRecursion (WasFull t r.memory.history (total (λ v. v.made) s.views + 1) me.0.receipts.own) ls
-            → AllByRecursion (WasFull t r.memory.history (total (λ v. v.made) s.views + 1) (me.0.receipts.own ++ receipts)) ls
-        old_full [] e h = tt
-        old_full (l ∷ ls) e h = (full receipts l e.0.1 h.0, old_full ls e.1 h.1)
 
     pub kept_table : TableInvariant t (set s.words 0 (get_or s.words 0 0)) (set s.views id w)
     kept_table = table_step t s.words s.views r id me.0 w at stands (set s.words 0 (get_or s.words 0 0)) m (ap length (set_same s.words 0)) (ap (memory_of t) (set_same s.words 0)) (record {

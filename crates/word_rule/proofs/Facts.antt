@@ -107,3 +107,9 @@ decided j id = go (ℕ_discrete j id)
 -- what holds of all, and of one that comes after them, holds of all then
 pub behind : (P : ℕ → Log → Type 0) (views : List Log) (c : Log) → ((j : ℕ) (u : Log) → get_elem? views j ≡ some u → P j u) → ((j : ℕ) → P j c) → (j : ℕ) (u : Log) → get_elem? (views ++ c ∷ []) j ≡ some u → P j u
 behind P views c all mine j u e = ⊎_elim (λ (h : get_elem? views j ≡ some u). all j u h) (λ (h : c ≡ u). subst (P j) h (mine j)) (at_snoc views c u j e)
+
+-- a place that is set again
+pub set_twice : (views : List Log) (id : ℕ) (v w : Log) → set (set views id v) id w ≡ set views id w
+set_twice [] id v w = refl
+set_twice (u ∷ views) zero v w = refl
+set_twice (u ∷ views) (suc id) v w = ap (λ vs. u ∷ vs) (set_twice views id v w)

@@ -18,13 +18,15 @@ pub mod Loader
 pub mod NodeLoads
 pub mod HeadPlays
 pub mod NodeLocks
-pub mod NodeVersions
 pub mod CopyStores
 pub mod SeatNodes
 pub mod Joins
 pub mod Publishing
 pub mod Alone
 pub mod Refusals
+pub mod Answering
+pub mod NodeVersions
+pub mod WordLoads
 pub mod ClockLoads
 pub mod InitialCallers
 pub mod InitialTable

@@ -22,9 +22,8 @@ use Rattle.word_rule.specs.declared.log.Log.{Log}
 use Rattle.word_rule.specs.Places.{is_of_copy, copy_place, copy_words}
 use Rattle.word_rule.specs.Memory.{Memory, memory_of, copy_of}
 use Rattle.word_rule.specs.Spelling.{node_word}
-use Rattle.word_rule.specs.Held.{held_of}
 use Rattle.word_rule.specs.Logs.{is_spent, load_of}
-use Rattle.word_rule.specs.Sights.{with_copy_word, after_copy_load, after_node_load}
+use Rattle.word_rule.specs.Sights.{with_copy_word, after_copy_load}
 use Rattle.word_rule.specs.Callers.{total, start, AtLoader}
 use Rattle.word_rule.specs.Steps.{IsHeldWord}
 use Rattle.word_rule.specs.declared.log.LoaderHolding.{LoaderHolding}
@@ -32,13 +31,13 @@ use Rattle.word_rule.specs.Nodes.{Shadow, HoldsNode, IsPlaced}
 use Rattle.word_rule.specs.Copies.{CopySightHolds}
 use Rattle.word_rule.specs.Observations.{last_moment, HadMembers, IsFullCount, WasFull}
 use Rattle.word_rule.specs.TableInvariant.{TableInvariant}
-use Rattle.word_rule.specs.Plays.{Seated, loads_copy, loads_node}
+use Rattle.word_rule.specs.Plays.{Seated, loads_copy}
 use Rattle.word_rule.proofs.Each.{all_map}
 use Rattle.word_rule.proofs.Members.{ascending_fit}
 use Rattle.word_rule.proofs.Memories.{load_content_at, load_copy_at}
 use Rattle.word_rule.proofs.Spells.{reads_full}
 use Rattle.word_rule.proofs.CallersFrame.{busy}
-use Rattle.word_rule.proofs.ObservationsFrame.{observations_own, observations_same, longer_length}
+use Rattle.word_rule.proofs.ObservationsFrame.{observations_own, longer_length}
 use Rattle.word_rule.proofs.Frames.{Sit, still_after_load}
 use Rattle.word_rule.proofs.Quiet.{quiet}
 
@@ -133,7 +132,7 @@ module _ (t : Terms) (slots id : ℕ) (me : Seated) (caller : me.0.role ≡ role
       )
 
   -- a full node's count, loaded under its lock
-  full_count : (law : FullLaw) (order : OrderLaw) (s : Sit) (r : Holds s) (n at : ℕ) → get_elem? s.views id ≡ some me.0 → 1 ≤ at → at ≤ 35
+  pub full_count : (law : FullLaw) (order : OrderLaw) (s : Sit) (r : Holds s) (n at : ℕ) → get_elem? s.views id ≡ some me.0 → 1 ≤ at → at ≤ 35
       → WasFull t r.memory.history (total (λ u. u.made) s.views + 1) me.0.receipts.own (load_of me.0 (4 + 36 * n + at) (get_or s.words (4 + 36 * n + at) 0))
   full_count law order s r n at here low high = record {
     count = λ _. all_map (HoldsNode t (memory_of t s.words).nodes r.memory.shadow id) (λ h. IsFullCount (load_of me.0 (4 + 36 * n + at) (get_or s.words (4 + 36 * n + at) 0)) h → HadMembers t r.memory.history me.0.receipts.own 10) told me.0.holdings.held (r.memory.nodes.holdings id me.0 here).each;
@@ -178,21 +177,3 @@ module _ (t : Terms) (slots id : ℕ) (me : Seated) (caller : me.0.role ≡ role
           members (law r.memory.shadow.settled r.memory.shadow.live h.node r.memory.nodes.lawful live
           (⊎_elim (λ (e : length (pairs_of h.settled) ≡ 15). inl (let z : length (pairs_of (r.memory.shadow.settled h.node)) ≡ 15 = ap (λ k. length (pairs_of k)) (sym holds.settled) ∙ e in omega (arith, z)))
           (λ (e : length (entries_of h.settled) ≡ 10). inr (let z : length (entries_of (r.memory.shadow.settled h.node)) ≡ 10 = ap (λ k. length (entries_of k)) (sym holds.settled) ∙ e in omega (arith, z))) size))
-
-  pub loads_held_word : FullLaw → OrderLaw → (n at : ℕ) (h : Holding) → held_of n me.0.holdings.held ≡ Some h → 1 ≤ at → at ≤ 35 → Allows Holds slots id me (4 + 36 * n + at) (λ k. k) (loads_node n at (step slots (4 + 36 * n + at) 0 0 none) me)
-  loads_held_word law order n at h held low high s r deep here small =
-      let found : ℕ = get_or s.words (4 + 36 * n + at) 0 in
-      let w : Log = after_node_load n at found me.0 in
-      let m : Memory = memory_of t s.words in
-      let callers : ℕ = total (λ u. u.made) s.views + 1 in
-      let o = r.memory.observations id me.0 here in
-      let same : w.sights ≡ me.0.sights = rw held refl in (
-        w,
-        keeps,
-        tt,
-        quiet t s.words s.views r id me.0 w here stands (4 + 36 * n + at) (record { terms = refl; role = refl; past = refl; receipts = refl; allowance = refl; made = refl; lineage = refl }) refl refl (busy me.0 w caller)
-            (r.memory.nodes.holdings id me.0 here) (λ _ k. k) (λ _. refl)
-            (observations_same t m r.memory.history callers r.memory.shadow me.0 w (load_of me.0 (4 + 36 * n + at) found ∷ []) (record { own = refl; turns = omega arith; loads = refl }) same (full_count law order s r n at here low high, tt) ((omega arith, omega arith), tt) o)
-            (λ alone. still_after_load s.words me.0 w (load_of me.0 (4 + 36 * n + at) found) refl refl refl (r.alone id me.0 here alone)),
-        refl,
-      )

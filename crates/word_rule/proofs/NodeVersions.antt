@@ -1,5 +1,5 @@
 -- A load of a node's version keeps the rule: a sight begins, or one that is found to stand marks those that it names.
-use Rattle.std.proofs.Common.{◌≡◌, ℕ, zero, suc, ◌+◌, ◌-◌, ◌*◌, ◌%◌, ◌<◌, ◌⊎◌, List, [], ◌∷◌, ◌++◌, get_or, map, sym, refl, ap, ◌∙◌, subst, inl, inr, arith, ◌==◌, not, nat_le, nat_lt, Bool, true, false, IsTrue, true≢false, Option, Some, None, IfSome, option_map, append-nil, eq-eqb, ne_eqb, if◌then◌else◌}
+use Rattle.std.proofs.Common.{◌≡◌, ℕ, zero, suc, ◌+◌, ◌-◌, ◌*◌, ◌%◌, ◌<◌, ◌⊎◌, List, [], ◌∷◌, get_or, set, length, ◌&&◌, map, sym, refl, ap, ◌∙◌, subst, inl, inr, arith, ◌==◌, not, nat_le, nat_lt, Bool, true, false, IsTrue, true≢false, Option, Some, None, IfSome, option_map, eq-eqb, ne_eqb, if◌then◌else◌}
 use Rattle.std.proofs.lemmas.Option.{none-some, same_Some}
 use Rattle.std.specs.List.{AllByRecursion}
 use mathlib.Core.Option.{none}
@@ -20,15 +20,25 @@ use Rattle.word_rule.specs.declared.log.NodeSight.{NodeSight}
 use Rattle.word_rule.specs.declared.log.Log.{Log}
 use Rattle.word_rule.specs.Memory.{NodeWords, Memory, memory_of}
 use Rattle.word_rule.specs.Spelling.{node_word, is_short, pair_at, pairs_at, SpellsNode}
-use Rattle.word_rule.specs.Logs.{is_spent, load_of}
-use Rattle.word_rule.specs.Sights.{sight_of, without_sight, loaded_word, place_of, low_of, place_between, is_loaded_as, named_place, pairs_in_sight, place_under, or_mark, mark_child, sight_begun, sights_after_version, receipts_after_version, after_node_version}
+use Rattle.word_rule.specs.Logs.{is_spent, load_of, after_load}
+use Rattle.word_rule.specs.NodeTells.{IsLiveNode, IsOfNode}
+use Rattle.word_rule.specs.declared.log.Ask.{Ask}
+use Rattle.reg_model.specs.declared.answer.Half.TheVariants as half
+use Rattle.tree_shape.specs.Numbers.{once}
+use Rattle.atomic_table.proofs.Lists.{set_here}
+use Rattle.std.proofs.lemmas.Bool.{and_parts}
+use Rattle.word_rule.proofs.Answering.{Told, answered}
+use Rattle.word_rule.proofs.Refusals.{query_at, query_answers}
+use Rattle.word_rule.proofs.Facts.{within, set_twice}
+use Rattle.word_rule.proofs.Each.{all_map}
+use Rattle.word_rule.specs.Sights.{sight_of, without_sight, loaded_word, place_of, low_of, place_between, is_loaded_as, named_place, pairs_in_sight, place_under, or_mark, mark_child, sight_begun, sights_after_version, receipts_after_version, after_node_version, try_receipts, is_leaf_for, query_receipt, with_receipts}
 use Rattle.word_rule.specs.Callers.{total}
 use Rattle.word_rule.specs.Nodes.{Shadow, NodesHold, IsOpen, IsPlaced}
 use Rattle.word_rule.specs.Observations.{Stands, AreOfNode, SightHolds}
 use Rattle.word_rule.specs.TableInvariant.{TableInvariant}
 use Rattle.word_rule.specs.Plays.{Seated, loads_version}
-use Rattle.word_rule.proofs.Memories.{load_version_at}
-use Rattle.word_rule.proofs.Spells.{reads_pairs}
+use Rattle.word_rule.proofs.Memories.{load_version_at, content_length}
+use Rattle.word_rule.proofs.Spells.{reads_pairs, eqb_true}
 use Rattle.word_rule.proofs.Standing.{even_is_open, stands_spells}
 use Rattle.word_rule.proofs.CallersFrame.{busy}
 use Rattle.word_rule.proofs.ObservationsFrame.{observations_own}
@@ -237,36 +247,91 @@ module _ (t : Terms) (words : NodeWords) (views : List Log) (history : List Upda
       same_or_not (no ne) (yes e) = rw (ne_eqb s.version found ne, eq-eqb (found % 2) 0 e) (begins n found inside is e, kept n cs all)
       same_or_not (no ne) (no odd) = rw (ne_eqb s.version found ne, ne_eqb (found % 2) 0 odd) all
 
--- a load that asks for nothing gets no receipt
-no_receipt : (v : Log) (found : ℕ) (o : Option NodeSight) → receipts_after_version v ask.Nothing found o ≡ []
-no_receipt v found None = refl
-no_receipt v found (Some s) = go (s.version == found)
+  live_inside : (k : ℕ) → IsTrue (shadow.live k) → k < t.nodes
+  live_inside k alive = go (nat_lt k t.nodes) refl
+    where
+      go : (b : Bool) → nat_lt k t.nodes ≡ b → k < t.nodes
+      go true e = ltb_true k t.nodes e
+      go false e = let all = r.each_once k in let mine : once (shadow.live k) ≡ 1 = ap once alive in let nothing : once (nat_lt k t.nodes) ≡ 0 = ap once e in absurd (omega (arith, all, mine, nothing))
+
+  -- what a sight that stands is of
+  is_of : ((k : ℕ) → k < t.nodes → length (words.contents k) ≡ 35) → (s : NodeSight) → SightHolds t words history shadow s → Stands words.versions shadow s → IsOfNode t s
+  is_of wide s h stands = record {
+    words = words.contents s.node;
+    shape = shadow.settled s.node;
+    wide = wide s.node h.within;
+    spells = stands_spells t words views history shadow r s h.within h.even stands;
+    loaded_so = h.loaded stands;
+    live = go (place_of s) (h.marked stands);
+  }
+    where
+      go : (o : Option Frame) → IfSome o (λ f. IsTrue (shadow.live s.node) × IsPlaced (shadow.settled s.node) f) → IfSome o (IsLiveNode t s.node (shadow.settled s.node))
+      go None marked = tt
+      go (Some f) marked = record {
+        placed = marked.1;
+        ordered = r.lawful.tree.ordered s.node marked.0;
+        filled = r.lawful.filled s.node marked.0;
+        children = all_map (λ b. IsTrue (shadow.live b.child) × FitsParent shadow.settled b) (λ b. b.child < t.nodes) (λ b h. live_inside b.child h.0) (branches ((shadow.settled s.node).level - 1) (shadow.settled s.node)) (law shadow.settled shadow.live s.node r.lawful.tree marked.0);
+      }
+
+  pub found_again : ((k : ℕ) → k < t.nodes → length (words.contents k) ≡ 35) → (u : Terms) → u ≡ t → (n found : ℕ) → words.versions n ≡ found → (o : Option NodeSight) (cs : List NodeSight) → sight_of n cs ≡ o → AllByRecursion (SightHolds t words history shadow) cs → IfSome o (λ s. s.version ≡ found → IsOfNode u s)
+  found_again wide u terms n found is None cs there all = tt
+  found_again wide u terms n found is (Some s) cs there all = λ same. let h = found_sight n cs s all there in subst (λ k. IsOfNode k s) (sym terms) (is_of wide s h.0 (inl (ap words.versions h.1 ∙ (is ∙ sym same))))
+
+-- the receipts of a version are those of a try, which holds now
+told_version : (t : Terms) (v : Log) (a : Ask) (found : ℕ) (o : Option NodeSight) → v.terms ≡ t → Told t v.past (receipts_after_version v a found o)
+told_version t v a found None terms = inl refl
+told_version t v a found (Some s) terms = go (s.version == found) (tried a s.clock)
   where
-    go : (b : Bool) → ◌≡◌ {A = List Receipt} (if b then [] else []) []
-    go true = refl
-    go false = refl
+    go : (b : Bool) → Told t v.past (try_receipts v a s s.clock) → Told t v.past (if b then try_receipts v a s s.clock else [])
+    go true told = told
+    go false told = inl refl
+
+    tried : (b : Ask) (clock : Option ℕ) → Told t v.past (try_receipts v b s clock)
+    tried ask.Nothing clock = inl refl
+    tried (ask.Loaded pc) clock = inl refl
+    tried (ask.Refused u) clock = inl refl
+    tried (ask.Registered pc) None = inl refl
+    tried (ask.Registered pc) (Some stamp) = by_test (is_leaf_for pc (place_of s) && (stamp == length v.past)) refl
+      where
+        by_test : (b : Bool) → (is_leaf_for pc (place_of s) && (stamp == length v.past)) ≡ b → Told t v.past (if b then (query_receipt half.Registered v pc stamp ∷ []) else [])
+        by_test false is = inl refl
+        by_test true is =
+            let now : stamp ≡ length v.past = eqb_true stamp (length v.past) (and_parts (is_leaf_for pc (place_of s)) (stamp == length v.past) is).1 in
+            inr (query_at t v.past half.Registered pc (length v.past), ((λ i. query_at (terms i) v.past half.Registered pc (now i) ∷ []), query_answers t v.past half.Registered pc))
 
 module _ (t : Terms) (slots id : ℕ) (me : Seated) (caller : me.0.role ≡ role.Caller) where
   abbrev Holds : Sit → Type 0
   Holds s = TableInvariant t s.words s.views
 
-  pub loads_node_version : ChildrenLaw → (n : ℕ) → n < t.nodes → Allows Holds slots id me (4 + 36 * n) (λ k. k) (loads_version ask.Nothing n (step slots (4 + 36 * n) 0 0 none) me)
-  loads_node_version law n inside s r deep here small =
+  pub loads_node_version : ChildrenLaw → (a : Ask) (n : ℕ) → n < t.nodes → Allows Holds slots id me (4 + 36 * n) (λ k. k) (loads_version a n (step slots (4 + 36 * n) 0 0 none) me)
+  loads_node_version law a n inside s r deep here small =
       let found : ℕ = get_or s.words (4 + 36 * n) 0 in
-      let w : Log = after_node_version ask.Nothing n found me.0 in
+      let w : Log = record (after_load (4 + 36 * n) found me.0) { sights = record me.0.sights { nodes = sights_after_version n found (sight_of n me.0.sights.nodes) me.0.sights.nodes } } in
       let m : Memory = memory_of t s.words in
       let callers : ℕ = total (λ u. u.made) s.views + 1 in
       let o = r.memory.observations id me.0 here in
-      let nothing = no_receipt me.0 found (sight_of n me.0.sights.nodes) in
-      let own : w.receipts.own ≡ me.0.receipts.own = ap (λ rs. me.0.receipts.own ++ rs) nothing ∙ append-nil me.0.receipts.own in
-      let receipts : w.receipts ≡ me.0.receipts = (λ i. record { own = own i; joined = me.0.receipts.joined }) in
-      let sights = after_version t m.nodes s.views r.memory.history r.memory.shadow r.memory.nodes law n found inside (load_version_at t s.words n inside) me.0.sights.nodes (sight_of n me.0.sights.nodes) refl o.sights in (
-        w,
+      let terms : me.0.terms ≡ t = (r.memory.callers.each id me.0 here).terms (ap is_spent caller) in
+      let at = load_version_at t s.words n inside in
+      let sights = after_version t m.nodes s.views r.memory.history r.memory.shadow r.memory.nodes law n found inside at me.0.sights.nodes (sight_of n me.0.sights.nodes) refl o.sights in
+      let looked : TableInvariant t (set s.words (4 + 36 * n) found) (set s.views id w) =
+      quiet t s.words s.views r id me.0 w here (ap is_spent caller) (4 + 36 * n) (record { terms = refl; role = refl; past = refl; receipts = refl; allowance = refl; made = refl; lineage = refl }) refl refl
+      (busy me.0 w caller) (r.memory.nodes.holdings id me.0 here) (λ _ h. h) (λ _. refl)
+      (observations_own t m r.memory.history callers r.memory.shadow me.0 w (load_of me.0 (4 + 36 * n) found ∷ []) (record { own = refl; turns = omega arith; loads = refl }) sights o.copies (of_version t slots id me caller s r n, tt) ((omega arith, omega arith), tt) o)
+      (λ alone. still_after_load s.words me.0 w (load_of me.0 (4 + 36 * n) found) refl refl refl (r.alone id me.0 here alone)) in
+      let rs : List Receipt = receipts_after_version me.0 a found (sight_of n me.0.sights.nodes) in
+      let both : set (set s.views id w) id (with_receipts rs w) ≡ set s.views id (with_receipts rs w) = set_twice s.views id w (with_receipts rs w) in (
+        after_node_version a n found me.0,
         keeps,
         tt,
-        quiet t s.words s.views r id me.0 w here (ap is_spent caller) (4 + 36 * n) (record { terms = refl; role = refl; past = refl; receipts = receipts; allowance = refl; made = refl; lineage = refl }) refl refl
-            (busy me.0 w caller) (r.memory.nodes.holdings id me.0 here) (λ _ h. h) (λ _. refl)
-            (observations_own t m r.memory.history callers r.memory.shadow me.0 w (load_of me.0 (4 + 36 * n) found ∷ []) (record { own = own; turns = omega arith; loads = refl }) sights o.copies (of_version t slots id me caller s r n, tt) ((omega arith, omega arith), tt) o)
-            (λ alone. still_after_load s.words me.0 w (load_of me.0 (4 + 36 * n) found) refl refl refl (r.alone id me.0 here alone)),
-        refl,
+        subst (λ vs. TableInvariant t (set s.words (4 + 36 * n) found) vs) both
+            (answered t (set s.words (4 + 36 * n) found) (set s.views id w) looked id w (set_here s.views id w (within s.views id me.0 here)) caller rs (told_version t me.0 a found (sight_of n me.0.sights.nodes) terms)),
+        (refl, found_again t m.nodes s.views r.memory.history r.memory.shadow r.memory.nodes law (content_length t s.words r.wide) me.0.terms terms n found at (sight_of n me.0.sights.nodes) me.0.sights.nodes refl o.sights),
       )
+
+  -- the same as the code has it
+  pub loads_version_of : ChildrenLaw → (a b : Ask) (n k place : ℕ) → b ≡ a → k ≡ n → place ≡ 4 + 36 * n → n < t.nodes → Allows Holds slots id me place (λ x. x) (loads_version b k (step slots place 0 0 none) me)
+  loads_version_of law a b n k place asked node is inside =
+      subst (λ p. Allows Holds slots id me p (λ x. x) (loads_version b k (step slots p 0 0 none) me)) (sym is)
+      (subst (λ j. Allows Holds slots id me (4 + 36 * n) (λ x. x) (loads_version b j (step slots (4 + 36 * n) 0 0 none) me)) (sym node)
+      (subst (λ j. Allows Holds slots id me (4 + 36 * n) (λ x. x) (loads_version j n (step slots (4 + 36 * n) 0 0 none) me)) (sym asked) (loads_node_version law a n inside)))

@@ -18,3 +18,5 @@ pub mod Nodes
 pub mod Observations
 pub mod TableInvariant
 pub mod Kept
+pub mod NodeTells
+pub mod VersionLocks

@@ -14,6 +14,7 @@ use Rattle.word_rule.specs.Steps.{after_node_lock, after_give, after_copy_store,
 use Rattle.word_rule.specs.Steps.{AfterNodeRelease}
 use Rattle.word_rule.specs.declared.log.Terms.{Terms}
 use Rattle.word_rule.specs.Clock.{AfterClock}
+use Rattle.word_rule.specs.NodeTells.{HeldTells, SightTells}
 use Rattle.word_rule.specs.Logs.{is_spent, IsTaken, after_load, after_loader_lock, after_write}
 use Rattle.word_rule.specs.Logs.{after_loader_release, after_loader_release_same}
 use Rattle.word_rule.specs.Callers.{IsLockedAt, IsAlone, IsWhole}
@@ -79,11 +80,13 @@ loads_clock t ask st me found me' = AfterClock t ask found me.0 me'.0 × (me'.1 
 
 -- a word of a node was loaded
 abbrev pub loads_node : ℕ → ℕ → Stepped → Seated → ℕ → Seated → Type 0
-loads_node n at st me found me' = me' ≡ (after_node_load n at found me.0, me.1)
+loads_node n at st me found me' =
+    (me' ≡ (after_node_load n at found me.0, me.1)) × HeldTells n at found me.0
 
 -- a node's version was loaded
 abbrev pub loads_version : Ask → ℕ → Stepped → Seated → ℕ → Seated → Type 0
-loads_version ask n st me found me' = me' ≡ (after_node_version ask n found me.0, me.1)
+loads_version ask n st me found me' =
+    (me' ≡ (after_node_version ask n found me.0, me.1)) × SightTells n found me.0
 
 -- an exchange at a node's version word for one with bit 0: the node is held, or another word was
 -- found

@@ -3,37 +3,16 @@
 
 ghost use Rattle.std.specs.Prelude.{◌≡◌, ℕ, ◌+◌, ◌%◌, ◌<◌, ◌≤◌, Some, None, IsSome, IsTrue};
 ghost use Rattle.tree_shape.specs.Numbers.{is_among};
-ghost use Rattle.word_rule.specs.declared.log.Ask.TheVariants as ask;
 ghost use Rattle.word_rule.specs.declared.log.Holding.{Holding};
 ghost use Rattle.word_rule.specs.declared.log.Terms.{Terms};
 ghost use Rattle.word_rule.specs.Exchange.{is_lawful};
 ghost use Rattle.word_rule.specs.Held.{held_of};
-ghost use Rattle.word_rule.specs.Kept.{LoadKeeps, StoreKeeps, ExchangeKeeps};
+ghost use Rattle.word_rule.specs.Kept.{StoreKeeps, ExchangeKeeps};
 ghost use Rattle.word_rule.specs.Places.{HEAD, node_place};
-ghost use Rattle.word_rule.specs.Plays.{Seated, loads_version, locks_node, loads_node};
+ghost use Rattle.word_rule.specs.Plays.{Seated, locks_node};
 ghost use Rattle.word_rule.specs.Plays.{gives_node, releases_node};
 ghost use Rattle.word_rule.specs.Spelling.{spelled};
 ghost use Rattle.word_rule.specs.Steps.{IsFreeTo};
-
-/// The version of a node is loaded: a sight begins, or one that is found to stand marks the
-/// children that it names.
-pub fn load_of_a_version()
-    ensures { (t : Terms) (slots id n : ℕ) (me : Seated) → n < t.nodes
-        → LoadKeeps t slots id me (node_place n) (loads_version ask.Nothing n) }
-{
-    tree_shape::laws::children();
-}
-
-/// A word of a node that the caller holds is loaded. A count of a full node tells that ten members
-/// were registered.
-pub fn load_of_a_held_word()
-    ensures { (t : Terms) (slots id n at : ℕ) (me : Seated) (h : Holding)
-        → held_of n me.0.holdings.held ≡ Some h → 1 ≤ at → at ≤ 35
-        → LoadKeeps t slots id me (node_place n + at) (loads_node n at) }
-{
-    tree_shape::laws::fillings();
-    tree_shape::laws::order();
-}
 
 /// The root is locked where its version is still the one seen, which was not locked.
 pub fn lock_of_the_root()

@@ -29,6 +29,7 @@ pub mod laws;
 mod lifecycle;
 mod lineage;
 mod log;
+mod nodes;
 mod rule;
 mod seats;
 #[cfg(test)]

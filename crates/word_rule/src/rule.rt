@@ -121,6 +121,48 @@ impl<A: Asking> Play<(), Log> for LoadsClock<A> {
     ghost then = { loads_clock A.terms A.ask };
 }
 
+/// Of which node a step is, at which of its words, and what it is asked, where it is asked.
+pub(crate) trait AtNode {
+    ghost use Rattle.std.specs.Prelude.{ℕ};
+    ghost use Rattle.word_rule.specs.declared.log.Ask.{Ask};
+
+    ghost node: { ℕ };
+
+    ghost at: { ℕ };
+
+    ghost ask: { Ask };
+}
+
+impl AtNode for Brand {
+    ghost use Rattle.word_rule.specs.declared.log.Ask.TheVariants as ask;
+
+    ghost node = { 0 };
+
+    ghost at = { 0 };
+
+    ghost ask = { ask.Nothing };
+}
+
+pub(crate) struct LoadsVersion<N> {
+    node: PhantomData<N>,
+}
+
+impl<N: AtNode> Play<(), Log> for LoadsVersion<N> {
+    ghost use Rattle.word_rule.specs.Plays.{loads_version};
+
+    ghost then = { loads_version N.ask N.node };
+}
+
+pub(crate) struct LoadsNode<N> {
+    node: PhantomData<N>,
+}
+
+impl<N: AtNode> Play<(), Log> for LoadsNode<N> {
+    ghost use Rattle.word_rule.specs.Plays.{loads_node};
+
+    ghost then = { loads_node N.node N.at };
+}
+
 pub(crate) struct StoresCopy;
 
 impl Play<(), Log> for StoresCopy {

@@ -91,3 +91,17 @@ fn each_step_on_the_loaders_lock(rt: HostRuntime) -> Result<(), Fail> {
     assert!(rt; words.load_version(&mut a, lock, Ask::Nothing) == 4);
     Ok(())
 }
+
+#[test]
+fn each_load_of_a_node(rt: HostRuntime) -> Result<(), Fail> {
+    let alloc = rt.alloc();
+    let (words, mut a) = Words::new(alloc, 4, 1, 1, Vec::new(alloc))?;
+    let root = LockId::Node { node: 0 };
+    assert!(rt; words.load_version(&mut a, root, Ask::Nothing) == 0);
+    assert!(rt; words.load_node(&mut a, 0, 1) == 1 && words.load_node(&mut a, 0, 2) == 0);
+    assert!(rt; words.load_node(&mut a, 0, 4) == u64::MAX && words.load_node(&mut a, 0, 5) == 0);
+    assert!(rt; words.load_node(&mut a, 1, 1) == 2 && words.load_node(&mut a, 1, 6) == 2);
+    assert!(rt; words.load_node(&mut a, 3, 6) == 0);
+    assert!(rt; words.load_version(&mut a, root, Ask::Registered { pc: 5 }) == 0);
+    Ok(())
+}

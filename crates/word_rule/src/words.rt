@@ -7,6 +7,7 @@ ghost use Rattle.word_rule.specs.declared.log.LoaderHolding.{LoaderHolding};
 ghost use Rattle.word_rule.specs.CallerData.{surplus};
 ghost use Rattle.word_rule.specs.Places.{LOADER};
 ghost use Rattle.word_rule.specs.Callers.{IsLockedAt};
+ghost use Rattle.word_rule.specs.VersionLocks.{IsLock, VersionTells, after_version};
 
 use crate::caller::Caller;
 use crate::log::{Ask, LockId, Log};
@@ -76,16 +77,25 @@ impl Words {
         self.made.fixed.as_slice()
     }
 
-    /// Loads the version word of a lock.
-    pub fn load_version(&self, me: &mut Caller, lock: LockId, ask: Ask) -> u64
+    fn load_loader(&self, me: &mut Caller) -> u64
         requires table { me.old.table ≡ self.now.table }
-        requires lock { lock ≡ LockId.Loader }
-        requires ask { ask ≡ Ask.Nothing }
         ensures { me.new ≡ record me.old { log = after_load LOADER result me.old.log } }
     {
-        let _ = lock;
-        let _ = ask;
         self.table.shared.load::<Looks>(&mut me.seat, LOADER_WORD)
+    }
+
+    /// Loads the version word of a lock. A node's begins a sight of it, or finds that the sight
+    /// stands, which may then answer what was asked.
+    pub fn load_version(&self, me: &mut Caller, lock: LockId, ask: Ask) -> u64
+        requires table { me.old.table ≡ self.now.table }
+        requires lock { IsLock self.now.terms lock }
+        ensures log { me.new ≡ record me.old { log = after_version ask lock result me.old.log } }
+        ensures tells { VersionTells lock result me.old.log }
+    {
+        match lock {
+            LockId::Loader => self.load_loader(me),
+            LockId::Node { node } => self.load_node_version(me, node, ask),
+        }
     }
 
     /// Takes a lock whose word is still the one seen, which was not locked. Else answers the word

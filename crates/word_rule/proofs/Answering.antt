@@ -1,0 +1,128 @@
+-- Receipts that answer what was asked, and hold now: they go on a log's own, and end what its loads told of fullness.
+use Rattle.std.proofs.Common.{◌≡◌, ℕ, ◌+◌, ◌≤◌, ◌⊎◌, ⊎_elim, List, [], ◌∷◌, ◌++◌, length, length-append, set, sym, refl, ap, ◌∙◌, subst, arith, ◌==◌, ◌&&◌, false, true≢false, is_some, append-nil}
+use Rattle.std.specs.List.{AllByRecursion, count_by}
+use Rattle.std.proofs.lemmas.List.Sums.{sum_by_push}
+use mathlib.Core.Option.{some}
+use mathlib.Core.List.{IsPrefix}
+use lib.ListN.{get_elem?}
+use Rattle.reg_model.specs.Receipt.{moment}
+use Rattle.reg_model.specs.Numbers.{has_number}
+use Rattle.reg_model.specs.declared.answer.Update.{Update}
+use Rattle.reg_model.specs.declared.answer.Receipt.{Receipt}
+use Rattle.tree_shape.specs.Numbers.{once}
+use Rattle.word_rule.specs.declared.log.Role.TheVariants as role
+use Rattle.word_rule.specs.declared.log.LoadEvent.{LoadEvent}
+use Rattle.word_rule.specs.declared.log.Terms.{Terms}
+use Rattle.word_rule.specs.declared.log.Log.{Log}
+use Rattle.word_rule.specs.Memory.{Memory, memory_of}
+use Rattle.word_rule.specs.Logs.{is_spent, weight, turns}
+use Rattle.word_rule.specs.Sights.{with_receipts}
+use Rattle.word_rule.specs.Callers.{total, CallersHold, LogHolds, IsRecord, AtLoader, LoaderLock, dones_in}
+use Rattle.word_rule.specs.Observations.{WasFull, ObservationsHold}
+use Rattle.word_rule.specs.TableInvariant.{TableInvariant}
+use Rattle.word_rule.proofs.Refusals.{HoldsNow, answer_record}
+use Rattle.word_rule.proofs.Facts.{total_same, after_step}
+use Rattle.word_rule.proofs.Each.{all_map}
+use Rattle.word_rule.proofs.CallersFrame.{lineages_over, lock_stays, busy}
+use Rattle.word_rule.proofs.NodesFrame.{nodes_same}
+use Rattle.word_rule.proofs.Frames.{table_step}
+use Rattle.word_rule.proofs.Joins.{record_later}
+
+-- what is asked is answered by one such receipt, or by none
+abbrev pub Told : Terms → List Update → List Receipt → Type 0
+Told t history rs = (rs ≡ []) ⊎ ((r : Receipt) × ((rs ≡ r ∷ []) × HoldsNow t history r))
+
+-- they go on a record
+pub told_record : (t : Terms) (past history : List Update) (callers : ℕ) (own rs : List Receipt) → IsPrefix past history → Told t history rs → IsRecord t past callers own → IsRecord t history callers (own ++ rs)
+told_record t past history callers own rs longer told h = ⊎_elim
+    (λ (none_more : rs ≡ []). subst (IsRecord t history callers) (sym (ap (λ xs. own ++ xs) none_more ∙ append-nil own)) (record_later t past history callers callers longer own h))
+    (λ (one : (x : Receipt) × ((rs ≡ x ∷ []) × HoldsNow t history x)). subst (λ xs. IsRecord t history callers (own ++ xs)) (sym one.1.0) (answer_record t past history callers own one.0 one.1.1 longer h))
+    told
+
+-- no number is among them
+pub told_numbers : (t : Terms) (history : List Update) (own rs : List Receipt) (n : ℕ) → Told t history rs → count_by (has_number n) (own ++ rs) ≡ count_by (has_number n) own
+told_numbers t history own rs n told = ⊎_elim
+    (λ (none_more : rs ≡ []). ap (count_by (has_number n)) (ap (λ xs. own ++ xs) none_more ∙ append-nil own))
+    (λ (one : (x : Receipt) × ((rs ≡ x ∷ []) × HoldsNow t history x)).
+    let none : has_number n one.0 ≡ false = ap (λ u. is_some u && (moment one.0 == n)) one.1.1.accepts in
+    ap (λ xs. count_by (has_number n) (own ++ xs)) one.1.0 ∙ (sum_by_push (λ x. once (has_number n x)) own one.0 ∙ (let z : once (has_number n one.0) ≡ 0 = ap once none in omega (arith, z))))
+    told
+
+-- they end what a load told of fullness
+ended : (t : Terms) (history : List Update) (callers : ℕ) (own rs : List Receipt) (l : LoadEvent) → l.receipts ≤ length own → WasFull t history callers own l → WasFull t history callers (own ++ rs) l
+ended t history callers own [] l few h = subst (λ k. WasFull t history callers k l) (sym (append-nil own)) h
+ended t history callers own (x ∷ rs) l few h = let len : length (own ++ x ∷ rs) ≡ length own + length (x ∷ rs) = length-append own (x ∷ rs) in
+    record { count = λ same. absurd (omega (arith, same, len, few)); head = λ same _ _ _. absurd (omega (arith, same, len, few)) }
+
+pub all_ended : (t : Terms) (history : List Update) (callers most : ℕ) (own rs : List Receipt) (ls : List LoadEvent) → AllByRecursion (λ l. (l.turns ≤ most) × (l.receipts ≤ length own)) ls → AllByRecursion (WasFull t history callers own) ls
+    → AllByRecursion (WasFull t history callers (own ++ rs)) ls
+all_ended t history callers most own rs [] e h = tt
+all_ended t history callers most own rs (l ∷ ls) e h = (ended t history callers own rs l e.0.1 h.0, all_ended t history callers most own rs ls e.1 h.1)
+
+-- A log that gets such receipts, and does nothing else.
+module _ (t : Terms) (words : List ℕ) (views : List Log) (r : TableInvariant t words views) (id : ℕ) (v : Log) (at : get_elem? views id ≡ some v) (caller : v.role ≡ role.Caller) (rs : List Receipt) (told : Told t v.past rs) where
+  abbrev m : Memory
+  m = memory_of t words
+
+  abbrev w : Log
+  w = with_receipts rs v
+
+  stands : is_spent v.role ≡ false
+  stands = ap is_spent caller
+
+  own_past : IsPrefix v.past v.past
+  own_past = ([], append-nil v.past)
+
+  made_same : total (λ u. u.made) (set views id w) ≡ total (λ u. u.made) views
+  made_same = total_same (λ u. u.made) views id v w at refl
+
+  each : (c : ℕ) → c ≡ total (λ u. u.made) views + 1 → (j : ℕ) (u : Log) → get_elem? (set views id w) j ≡ some u → LogHolds t r.memory.history c u
+  each c is_c = after_step (λ _ u. LogHolds t r.memory.history c u) views id w
+      (let mine = subst (λ k. LogHolds t r.memory.history k v) (sym is_c) (r.memory.callers.each id v at) in record {
+        terms = mine.terms;
+        begins = mine.begins;
+        receipts = record { own = told_record t v.past v.past c v.receipts.own rs own_past told mine.receipts.own; joined = mine.receipts.joined };
+        lineage = mine.lineage;
+        idle = busy v w caller;
+      })
+      (λ j u _ there. subst (λ k. LogHolds t r.memory.history k u) (sym is_c) (r.memory.callers.each j u there))
+
+  callers : CallersHold t m (set views id w) r.memory.history
+  callers =
+      let c = r.memory.callers in record {
+        holder = c.holder;
+        lawful = c.lawful;
+        updates = c.updates;
+        published = c.published;
+        terms = c.terms;
+        members = c.members;
+        room = (let e = total_same (λ u. u.budget.allowance) views id v w at refl in let o = c.room in omega (arith, e, o));
+        numbers = λ n. total_same (dones_in n) views id v w at (let e = told_numbers t v.past v.receipts.own rs n told in omega (arith, e)) ∙ c.numbers n;
+        each = each (total (λ u. u.made) (set views id w) + 1) (ap (λ k. k + 1) made_same);
+        weights = (let e = total_same (λ u. weight u.role) views id v w at refl in let b = made_same in let o = c.weights in omega (arith, e, b, o));
+        loader = lock_stays views m.loader m.loader id v w c.holder at refl (λ e. subst (LoaderLock (memory_of t words).loader views) e c.loader) c.loader;
+        at_loader = after_step (λ j u. AtLoader (memory_of t words) r.memory.callers.holder j u.loader) views id w (c.at_loader id v at) (λ j u _ there. c.at_loader j u there);
+        counted = (let e = total_same (λ u. u.budget.credit) views id v w at refl in let o = c.counted in omega (arith, e, o));
+        lineages = lineages_over views c.lineages id v w at refl refl (λ gone. absurd (true≢false (sym gone ∙ stands)));
+      }
+
+  mine : ObservationsHold t m r.memory.history (total (λ u. u.made) views + 1) r.memory.shadow w
+  mine =
+      let o = r.memory.observations id v at in
+      let len : length (v.receipts.own ++ rs) ≡ length v.receipts.own + length rs = length-append v.receipts.own rs in record {
+        sights = o.sights;
+        copies = o.copies;
+        full = all_ended t r.memory.history (total (λ u. u.made) views + 1) (turns v.trace) v.receipts.own rs v.trace.loads o.earlier o.full;
+        earlier = all_map (λ l. (l.turns ≤ turns v.trace) × (l.receipts ≤ length v.receipts.own)) (λ l. (l.turns ≤ turns v.trace) × (l.receipts ≤ length (v.receipts.own ++ rs))) (λ l e. let b = e.1 in (e.0, omega (arith, b, len))) v.trace.loads o.earlier;
+      }
+
+  pub answered : TableInvariant t words (set views id w)
+  answered = table_step t words views r id v w at stands words m refl refl (record {
+    history = r.memory.history;
+    callers = callers;
+    shadow = r.memory.shadow;
+    nodes = nodes_same views id v w at t m.nodes r.memory.history r.memory.shadow refl r.memory.nodes;
+    active = r.memory.active;
+    observations = subst (λ c. (j : ℕ) (u : Log) → get_elem? (set views id w) j ≡ some u → ObservationsHold t m r.memory.history (c + 1) r.memory.shadow u) (sym made_same)
+        (after_step (λ _ u. ObservationsHold t m r.memory.history (total (λ z. z.made) views + 1) r.memory.shadow u) views id w mine (λ j u _ there. r.memory.observations j u there));
+  }) (λ alone. r.alone id v at alone)

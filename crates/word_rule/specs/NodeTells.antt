@@ -1,0 +1,42 @@
+-- What steps on nodes tell.
+use Rattle.std.specs.Prelude.{◌≡◌, ℕ, ◌-◌, ◌<◌, List, length, IfSome}
+use Rattle.std.specs.List.{AllByRecursion}
+use Rattle.tree_shape.specs.NodeData.{NodeData}
+use Rattle.tree_shape.specs.Trees.{branches}
+use Rattle.tree_shape.specs.Lawful.{IsFilled, IsOrdered}
+use Rattle.tree_shape.specs.declared.node.Frame.{Frame}
+use Rattle.word_rule.specs.declared.log.Terms.{Terms}
+use Rattle.word_rule.specs.declared.log.NodeSight.{NodeSight}
+use Rattle.word_rule.specs.declared.log.Log.{Log}
+use Rattle.word_rule.specs.Places.{CONTENT_WORDS}
+use Rattle.word_rule.specs.Spelling.{node_word, SpellsNode}
+use Rattle.word_rule.specs.Held.{held_of}
+use Rattle.word_rule.specs.Sights.{sight_of, place_of}
+use Rattle.word_rule.specs.Nodes.{IsPlaced}
+use Rattle.word_rule.specs.Observations.{AreOfNode}
+
+-- a live node at its place: in order, filled, and its children are nodes that there are
+pub record IsLiveNode (t : Terms) (n : ℕ) (s : NodeData) (f : Frame) : Type 0 where
+  pub placed : IsPlaced s f
+  pub ordered : IsOrdered s
+  pub filled : IsFilled n s
+  pub children : AllByRecursion (λ b. b.child < t.nodes) (branches (s.level - 1) s)
+
+-- What a sight is of: words that spell a node, and have each loaded word. Where it is marked live,
+-- the node has that place in the tree.
+pub record IsOfNode (t : Terms) (s : NodeSight) : Type 0 where
+  pub words : List ℕ
+  pub shape : NodeData
+  pub wide : length words ≡ CONTENT_WORDS
+  pub spells : SpellsNode words shape
+  pub loaded_so : AreOfNode words s.words
+  pub live : IfSome (place_of s) (IsLiveNode t s.node shape)
+
+-- what a version tells where the sight of its node has the same
+abbrev pub SightTells : ℕ → ℕ → Log → Type 0
+SightTells n found v =
+    IfSome (sight_of n v.sights.nodes) (λ s. s.version ≡ found → IsOfNode v.terms s)
+
+-- a load of a word of a node that the caller holds finds the word that it knows
+abbrev pub HeldTells : ℕ → ℕ → ℕ → Log → Type 0
+HeldTells n at found v = IfSome (held_of n v.holdings.held) (λ h. node_word h.words at ≡ found)
