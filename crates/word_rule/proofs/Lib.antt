@@ -32,4 +32,7 @@ pub mod InitialCallers
 pub mod InitialTable
 pub mod Exchanging
 pub mod NodeReleases
+pub mod VersionSteps
+pub mod NodeTries
+pub mod KeptVersions
 pub mod Exchanges

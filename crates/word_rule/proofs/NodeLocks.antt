@@ -1,15 +1,12 @@
 -- The lock of a node keeps the rule.
-use Rattle.std.proofs.Common.{◌≡◌, ◌≢◌, ℕ, zero, suc, ◌+◌, ◌*◌, ◌/◌, ◌%◌, ◌^◌, ◌<◌, ◌≤◌, List, [], ◌∷◌, length, get_or, set, length-set, sym, refl, ap, ◌∙◌, subst, inl, inr, ⊎_elim, arith, ◌==◌, MatchBool, false, IsTrue, Option, Some, None, IfSome, IsSome, eq-eqb, ne_eqb, append-nil}
+use Rattle.std.proofs.Common.{◌≡◌, ◌≢◌, ℕ, zero, suc, ◌+◌, ◌*◌, ◌/◌, ◌%◌, ◌^◌, ◌<◌, ◌≤◌, List, [], ◌∷◌, get_or, set, length-set, sym, refl, ap, ◌∙◌, subst, inl, inr, ⊎_elim, arith, ◌==◌, false, IsTrue, Option, Some, None, IfSome, IsSome, eq-eqb, ne_eqb, append-nil}
 use Rattle.std.proofs.lemmas.Option.{none-some}
 use Rattle.std.proofs.lemmas.List.Sums.{sum_by-cons}
 use Rattle.std.specs.List.{AllByRecursion, count_by}
-use mathlib.Core.Option.{none, some}
+use mathlib.Core.Option.{some}
 use native.Mathlib.Decide.{ℕ_discrete}
 use lib.ListN.{get_elem?}
-use prog.Atomic.{either}
-use Rattle.atomic_table.specs.Table.{step, Act, keeps, stepped, carried_after, Valid, Allows}
 use Rattle.atomic_table.proofs.Lists.{set_here}
-use Rattle.tree_shape.specs.NodeData.{NodeData}
 use Rattle.tree_shape.specs.Numbers.{times, once}
 use Rattle.word_rule.specs.declared.log.Role.TheVariants as role
 use Rattle.word_rule.specs.declared.log.Terms.{Terms}
@@ -25,10 +22,10 @@ use Rattle.word_rule.specs.Callers.{total, IsLockedAt}
 use Rattle.word_rule.specs.Nodes.{Shadow, NodesHold, HoldsNode, HoldingsHold, HeldBy, IsOpen, IsPlaced}
 use Rattle.word_rule.specs.Observations.{SightHolds, IsFullCount, HadMembers, WasFull}
 use Rattle.word_rule.specs.TableInvariant.{TableInvariant}
-use Rattle.word_rule.specs.Plays.{Seated, locks_node}
+use Rattle.word_rule.specs.Plays.{Seated}
 use Rattle.word_rule.proofs.Facts.{total_same, after_step, within, node_counters_at}
 use Rattle.word_rule.proofs.Each.{all_map, all_of}
-use Rattle.word_rule.proofs.Memories.{set_version, load_version_at, content_length, by_same}
+use Rattle.word_rule.proofs.Memories.{set_version}
 use Rattle.word_rule.proofs.Standing.{even_is_open}
 use Rattle.word_rule.proofs.CallersFrame.{IsLike, busy}
 use Rattle.word_rule.proofs.NodesFrame.{holder_stays}
@@ -36,7 +33,6 @@ use Rattle.word_rule.proofs.ObservationsFrame.{sight_over, observations_same}
 use Rattle.word_rule.proofs.Frames.{Sit, still_after_load}
 use Rattle.word_rule.proofs.Quiet.{quiet}
 use Rattle.word_rule.proofs.Writes.{callers_over_nodes, written}
-use Rattle.word_rule.proofs.HeadPlays.{RootLaw}
 
 pub updated_here : {A : Type 0} (f : ℕ → A) (n : ℕ) (x : A) (k : ℕ) → k ≡ n → updated f n x k ≡ x
 updated_here f n x k e = rw (eq-eqb k n e) refl
@@ -72,7 +68,7 @@ module _ (t : Terms) (slots id : ℕ) (me : Seated) (caller : me.0.role ≡ role
     head = λ _ is _ _. absurd (omega (arith, is));
   }
 
-  refused : (s : Sit) (r : Holds s) (n : ℕ) → get_elem? s.views id ≡ some me.0 → TableInvariant t (set s.words (4 + 36 * n) (get_or s.words (4 + 36 * n) 0)) (set s.views id (after_load (4 + 36 * n) (get_or s.words (4 + 36 * n) 0) me.0))
+  pub refused : (s : Sit) (r : Holds s) (n : ℕ) → get_elem? s.views id ≡ some me.0 → TableInvariant t (set s.words (4 + 36 * n) (get_or s.words (4 + 36 * n) 0)) (set s.views id (after_load (4 + 36 * n) (get_or s.words (4 + 36 * n) 0) me.0))
   refused s r n here =
       let found : ℕ = get_or s.words (4 + 36 * n) 0 in
       let w : Log = after_load (4 + 36 * n) found me.0 in
@@ -238,24 +234,3 @@ module _ (t : Terms) (slots id : ℕ) (me : Seated) (caller : me.0.role ≡ role
 
     pub bounded : seen < 2 ^ 63
     bounded = let c = r.memory.callers.counted in let o = one_counter (memory_of t s.words).nodes.versions n t.nodes inside in let before = hit in omega (arith, c, o, before)
-
-    pub told : (settled : NodeData) × (words : List ℕ) × (SpellsNode words settled × (length words ≡ 35) × ◌≡◌ {A = Seated} (w, me.1) (after_node_lock n seen settled words me.0, me.1))
-    told = (r.memory.shadow.settled n, (memory_of t s.words).nodes.contents n, (was_open.1, content_length t s.words r.wide n inside, refl))
-
-  -- the root's lock
-  pub locks_root : RootLaw → (seen : ℕ) → seen % 2 ≡ 0 → 0 < t.nodes → Allows Holds slots id me (4 + 36 * 0) (λ k. either (k == seen) (seen + 1) k) (locks_node 0 (step slots (4 + 36 * 0) seen (seen + 1) none) me)
-  locks_root root seen even inside s r deep at small =
-      let k : ℕ = get_or s.words (4 + 36 * 0) 0 in
-      by_same k seen (λ b. (w : Log) × (a : Act (Unit {0})) × Valid s.homes me.1 a × Holds (stepped s (4 + 36 * 0) (either b (seen + 1) k) id me.1 w a) × MatchBool b
-      ((seen % 4 ≡ 0) × (seen < 2 ^ 63) × ((settled : NodeData) × (words : List ℕ) × (SpellsNode words settled × (length words ≡ 35) × ◌≡◌ {A = Seated} (w, carried_after me.1 a) (after_node_lock 0 seen settled words me.0, me.1))))
-      (◌≡◌ {A = Seated} (w, carried_after me.1 a) (after_load (4 + 36 * 0) k me.0, me.1)))
-      (λ is.
-      let hit : (memory_of t s.words).nodes.versions 0 ≡ seen = load_version_at t s.words 0 inside ∙ is in
-      let marks : IfSome (mark_at_lock 0 (r.memory.shadow.settled 0) me.0.holdings.held) (λ f. IsTrue (r.memory.shadow.live 0) × IsPlaced (r.memory.shadow.settled 0) f) = (root r.memory.shadow.settled r.memory.shadow.live r.memory.nodes.lawful.tree, (refl, refl, refl)) in (
-        after_node_lock 0 seen (r.memory.shadow.settled 0) ((memory_of t s.words).nodes.contents 0) me.0,
-        keeps,
-        tt,
-        locked 0 seen inside s r at hit even marks,
-        (four 0 seen inside s r at hit even marks, bounded 0 seen inside s r at hit even marks, told 0 seen inside s r at hit even marks),
-      ))
-      (λ miss. (after_load (4 + 36 * 0) k me.0, keeps, tt, refused s r 0 at, refl))

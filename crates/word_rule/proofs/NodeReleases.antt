@@ -48,7 +48,7 @@ and_false false = refl
 
 -- the locks that are left after one is let go, each changed but for its node
 module _ (f : Holding → Holding) (same_node : (h : Holding) → (f h).node ≡ h.node) (n : ℕ) where
-  left_all : (P : Holding → Type 0) (held : List Holding) → AllByRecursion (λ h. h.node ≢ n → P (f h)) held → AllByRecursion P (without_lock n (map f held))
+  pub left_all : (P : Holding → Type 0) (held : List Holding) → AllByRecursion (λ h. h.node ≢ n → P (f h)) held → AllByRecursion P (without_lock n (map f held))
   left_all P [] all = tt
   left_all P (h ∷ held) all = go (ℕ_discrete (f h).node n) (left_all P held all.1)
     where
@@ -56,7 +56,7 @@ module _ (f : Holding → Holding) (same_node : (h : Holding) → (f h).node ≡
       go (yes e) rest = rw (eq-eqb (f h).node n e) rest
       go (no ne) rest = rw (ne_eqb (f h).node n ne) (all.0 (λ e. ne (same_node h ∙ e)), rest)
 
-  left_once : (k : ℕ) (held : List Holding) → count_by (λ h. h.node == k) (without_lock n (map f held)) ≤ count_by (λ h. h.node == k) held
+  pub left_once : (k : ℕ) (held : List Holding) → count_by (λ h. h.node == k) (without_lock n (map f held)) ≤ count_by (λ h. h.node == k) held
   left_once k [] = omega arith
   left_once k (h ∷ held) = go (ℕ_discrete (f h).node n) (left_once k held) (sum_by-cons (λ (g : Holding). once (g.node == k)) h held) (sum_by-cons (λ (g : Holding). once (g.node == k)) (f h) (without_lock n (map f held)))
     where
@@ -65,7 +65,7 @@ module _ (f : Holding → Holding) (same_node : (h : Holding) → (f h).node ≡
       go (yes e) rest c d = rw (eq-eqb (f h).node n e) (omega (arith, rest, c))
       go (no ne) rest c d = let same : once ((f h).node == k) ≡ once (h.node == k) = ap (λ z. once (z == k)) (same_node h) in rw (ne_eqb (f h).node n ne) (omega (arith, rest, c, d, same))
 
-  left_held : (k : ℕ) → k ≢ n → (held : List Holding) → IsSome (held_of k held) → IsSome (held_of k (without_lock n (map f held)))
+  pub left_held : (k : ℕ) → k ≢ n → (held : List Holding) → IsSome (held_of k held) → IsSome (held_of k (without_lock n (map f held)))
   left_held k far [] h = absurd (true≢false (sym h))
   left_held k far (g ∷ held) h = go (ℕ_discrete (f g).node n) (ℕ_discrete g.node k) (left_held k far held)
     where

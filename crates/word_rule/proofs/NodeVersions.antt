@@ -254,6 +254,15 @@ module _ (t : Terms) (words : NodeWords) (views : List Log) (history : List Upda
       go true e = ltb_true k t.nodes e
       go false e = let all = r.each_once k in let mine : once (shadow.live k) ≡ 1 = ap once alive in let nothing : once (nat_lt k t.nodes) ≡ 0 = ap once e in absurd (omega (arith, all, mine, nothing))
 
+  -- what is said of a live node at its place
+  pub is_live_node : (n : ℕ) (f : Frame) → IsTrue (shadow.live n) → IsPlaced (shadow.settled n) f → IsLiveNode t n (shadow.settled n) f
+  is_live_node n f alive placed = record {
+    placed = placed;
+    ordered = r.lawful.tree.ordered n alive;
+    filled = r.lawful.filled n alive;
+    children = all_map (λ b. IsTrue (shadow.live b.child) × FitsParent shadow.settled b) (λ b. b.child < t.nodes) (λ b h. live_inside b.child h.0) (branches ((shadow.settled n).level - 1) (shadow.settled n)) (law shadow.settled shadow.live n r.lawful.tree alive);
+  }
+
   -- what a sight that stands is of
   is_of : ((k : ℕ) → k < t.nodes → length (words.contents k) ≡ 35) → (s : NodeSight) → SightHolds t words history shadow s → Stands words.versions shadow s → IsOfNode t s
   is_of wide s h stands = record {
@@ -267,12 +276,7 @@ module _ (t : Terms) (words : NodeWords) (views : List Log) (history : List Upda
     where
       go : (o : Option Frame) → IfSome o (λ f. IsTrue (shadow.live s.node) × IsPlaced (shadow.settled s.node) f) → IfSome o (IsLiveNode t s.node (shadow.settled s.node))
       go None marked = tt
-      go (Some f) marked = record {
-        placed = marked.1;
-        ordered = r.lawful.tree.ordered s.node marked.0;
-        filled = r.lawful.filled s.node marked.0;
-        children = all_map (λ b. IsTrue (shadow.live b.child) × FitsParent shadow.settled b) (λ b. b.child < t.nodes) (λ b h. live_inside b.child h.0) (branches ((shadow.settled s.node).level - 1) (shadow.settled s.node)) (law shadow.settled shadow.live s.node r.lawful.tree marked.0);
-      }
+      go (Some f) marked = is_live_node s.node f marked.0 marked.1
 
   pub found_again : ((k : ℕ) → k < t.nodes → length (words.contents k) ≡ 35) → (u : Terms) → u ≡ t → (n found : ℕ) → words.versions n ≡ found → (o : Option NodeSight) (cs : List NodeSight) → sight_of n cs ≡ o → AllByRecursion (SightHolds t words history shadow) cs → IfSome o (λ s. s.version ≡ found → IsOfNode u s)
   found_again wide u terms n found is None cs there all = tt

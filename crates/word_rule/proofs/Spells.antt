@@ -96,3 +96,11 @@ reads_full words s found e count full = go s.body (comes words s e) full
 -- the pairs that are read
 pub reads_pairs : (words : List ℕ) (s : NodeData) (xs : List Pair) → SpellsNode words s → s.body ≡ Pairs xs → pairs_at words 6 (node_word words 5) ≡ Some xs
 reads_pairs words s xs e is = subst (ComesFrom (pairs_at words 6 (node_word words 5)) (entries_at words 6 (node_word words 5)) ((node_word words 1 == 2) && is_short (node_word words 6)) (node_word words 6)) is (comes words s e)
+
+-- words of the kind of free nodes spell one, linked to the next
+pub spells_free : (words : List ℕ) (s : NodeData) → SpellsNode words s → node_word words 1 ≡ 2 → s.body ≡ Link (node_word words 6)
+spells_free words s e kind = go (is_short (node_word words 6)) (subst (λ k. body_of_kind words k (node_word words 5) ≡ Some s.body) kind (reads words s e).body)
+  where
+    go : (b : Bool) → ◌≡◌ {A = Option Body} (if b then Some (Link (node_word words 6)) else None) (Some s.body) → s.body ≡ Link (node_word words 6)
+    go true f = sym (same_Some _ _ f)
+    go false f = absurd (none-some s.body f)

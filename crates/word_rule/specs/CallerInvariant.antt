@@ -2,10 +2,12 @@
 use Rattle.std.specs.Prelude.{◌≡◌, ℕ, ◌+◌, ◌*◌, ◌≤◌, ◌<◌, ◌^◌, List, [], length, slice_index}
 use Rattle.std.specs.Prelude.{IfSome, None}
 use Rattle.word_rule.specs.declared.log.Role.TheVariants as role
+use Rattle.word_rule.specs.declared.log.Holding.{Holding}
 use Rattle.word_rule.specs.declared.log.Log.{Log}
 use Rattle.word_rule.specs.declared.log.Lineage.{Lineage}
 use Rattle.word_rule.specs.declared.lineage.Names.{Names}
 use Rattle.word_rule.specs.Places.{ALLOWANCE, CALL_CREDIT}
+use Rattle.word_rule.specs.Held.{held_of}
 use Rattle.word_rule.specs.Plays.{Seated}
 
 -- the names that are kept plainly are those of the log
@@ -14,6 +16,14 @@ pub record AreNamesOf (names : Names) (l : Lineage) : Type 0 where
   pub forks : names.forks ≡ l.forks
   pub missing : names.missing.items ≡ l.missing
   pub unmatched : names.unmatched.items ≡ l.unmatched
+
+-- the version of a node's lock stands behind the loader's, by the node's number
+abbrev pub IsVersionAt : List ℕ → ℕ → Holding → Type 0
+IsVersionAt versions n h =
+    (n + 1 < length versions) × (h.version ≡ slice_index versions (n + 1)) × (h.version < 2 ^ 63)
+
+abbrev pub AreVersionsOf : List ℕ → List Holding → Type 0
+AreVersionsOf versions held = (n : ℕ) → IfSome (held_of n held) (IsVersionAt versions n)
 
 pub record IsCaller (left seen : ℕ) (versions : List ℕ) (names : Names) (me : Seated) : Type 0 where
   pub bare : me.1 ≡ []
@@ -25,6 +35,7 @@ pub record IsCaller (left seen : ℕ) (versions : List ℕ) (names : Names) (me 
   pub names_are : AreNamesOf names me.0.lineage
   pub wide : length versions ≡ me.0.terms.nodes + 1
   pub loader : IfSome me.0.loader (λ h. (h.version ≡ slice_index versions 0) × (h.version < 2 ^ 63))
+  pub nodes : AreVersionsOf versions me.0.holdings.held
 
 -- A note's log has what its maker had seen, and names; it may do nothing and has done nothing.
 pub record IsNote (u : Log) : Type 0 where

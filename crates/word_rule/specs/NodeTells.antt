@@ -1,7 +1,7 @@
 -- What steps on nodes tell.
-use Rattle.std.specs.Prelude.{◌≡◌, ℕ, ◌-◌, ◌<◌, List, length, IfSome}
+use Rattle.std.specs.Prelude.{◌≡◌, ◌≢◌, ℕ, ◌-◌, ◌<◌, List, length, IfSome, Some}
 use Rattle.std.specs.List.{AllByRecursion}
-use Rattle.tree_shape.specs.NodeData.{NodeData}
+use Rattle.tree_shape.specs.NodeData.{NodeData, Link}
 use Rattle.tree_shape.specs.Trees.{branches}
 use Rattle.tree_shape.specs.Lawful.{IsFilled, IsOrdered}
 use Rattle.tree_shape.specs.declared.node.Frame.{Frame}
@@ -12,6 +12,7 @@ use Rattle.word_rule.specs.Places.{CONTENT_WORDS}
 use Rattle.word_rule.specs.Spelling.{node_word, SpellsNode}
 use Rattle.word_rule.specs.Held.{held_of}
 use Rattle.word_rule.specs.Sights.{sight_of, place_of}
+use Rattle.word_rule.specs.Steps.{mark_at_lock}
 use Rattle.word_rule.specs.Nodes.{IsPlaced}
 use Rattle.word_rule.specs.Observations.{AreOfNode}
 
@@ -40,3 +41,13 @@ SightTells n found v =
 -- a load of a word of a node that the caller holds finds the word that it knows
 abbrev pub HeldTells : ℕ → ℕ → ℕ → Log → Type 0
 HeldTells n at found v = IfSome (held_of n v.holdings.held) (λ h. node_word h.words at ≡ found)
+
+-- What the lock of a node tells: its words spell its settled content. Where it is marked live, it
+-- has that place in the tree; where it is the first free node, as it is known under the root's
+-- lock, it is a free one.
+pub record IsTakenNode (n : ℕ) (v : Log) (words : List ℕ) (settled : NodeData) : Type 0 where
+  pub within : n < v.terms.nodes
+  pub wide : length words ≡ CONTENT_WORDS
+  pub spells : SpellsNode words settled
+  pub live : IfSome (mark_at_lock n settled v.holdings.held) (IsLiveNode v.terms n settled)
+  pub free : v.holdings.head ≡ Some n → n ≢ 0 → settled.body ≡ Link (node_word words 6)

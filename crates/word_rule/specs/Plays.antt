@@ -1,5 +1,5 @@
 -- What each step tells its caller.
-use Rattle.std.specs.Prelude.{◌≡◌, ℕ, ◌%◌, ◌<◌, ◌^◌, ◌==◌, ◌≤◌, List, length, MatchBool, IfSome}
+use Rattle.std.specs.Prelude.{◌≡◌, ℕ, ◌%◌, ◌<◌, ◌^◌, ◌==◌, ◌≤◌, List, MatchBool, IfSome}
 use Rattle.std.specs.Prelude.{false}
 use Rattle.atomic_table.specs.Table.{Me, Step}
 use Rattle.reg_model.specs.declared.answer.Update.{Update}
@@ -7,14 +7,14 @@ use Rattle.tree_shape.specs.NodeData.{NodeData}
 use Rattle.word_rule.specs.declared.log.Log.{Log}
 use Rattle.word_rule.specs.declared.log.LoaderHolding.{LoaderHolding}
 use Rattle.word_rule.specs.declared.log.Ask.{Ask}
-use Rattle.word_rule.specs.Places.{ALLOWANCE, CONTENT_WORDS}
-use Rattle.word_rule.specs.Spelling.{SpellsNode}
+use Rattle.word_rule.specs.Places.{ALLOWANCE, node_place}
 use Rattle.word_rule.specs.Sights.{after_node_version, after_node_load, after_copy_load}
 use Rattle.word_rule.specs.Steps.{after_node_lock, after_give, after_copy_store, AfterPublish, IsHeldWord}
-use Rattle.word_rule.specs.Steps.{AfterNodeRelease}
+use Rattle.word_rule.specs.Steps.{AfterNodeRelease, after_node_release_same}
 use Rattle.word_rule.specs.declared.log.Terms.{Terms}
 use Rattle.word_rule.specs.Clock.{AfterClock}
-use Rattle.word_rule.specs.NodeTells.{HeldTells, SightTells}
+use Rattle.word_rule.specs.Held.{held_of}
+use Rattle.word_rule.specs.NodeTells.{HeldTells, IsTakenNode, SightTells}
 use Rattle.word_rule.specs.Logs.{is_spent, IsTaken, after_load, after_loader_lock, after_write}
 use Rattle.word_rule.specs.Logs.{after_loader_release, after_loader_release_same}
 use Rattle.word_rule.specs.Callers.{IsLockedAt, IsAlone, IsWhole}
@@ -88,15 +88,37 @@ abbrev pub loads_version : Ask → ℕ → Stepped → Seated → ℕ → Seated
 loads_version ask n st me found me' =
     (me' ≡ (after_node_version ask n found me.0, me.1)) × SightTells n found me.0
 
+-- a node was taken at a version
+abbrev pub TakesNode : ℕ → ℕ → Seated → Seated → Type 0
+TakesNode n version me me' =
+    (version % 4 ≡ 0) × (version < 2 ^ 63)
+    × ((settled : NodeData) × (words : List ℕ)
+    × (IsTakenNode n me.0 words settled
+    × (me' ≡ (after_node_lock n version settled words me.0, me.1))))
+
 -- an exchange at a node's version word for one with bit 0: the node is held, or another word was
 -- found
 abbrev pub locks_node : ℕ → Stepped → Seated → ℕ → Seated → Type 0
-locks_node n st me found me' = MatchBool (found == st.first)
-    ((st.first % 4 ≡ 0) × (st.first < 2 ^ 63)
-    × ((settled : NodeData) × (words : List ℕ)
-    × (SpellsNode words settled × (length words ≡ CONTENT_WORDS)
-    × (me' ≡ (after_node_lock n st.first settled words me.0, me.1)))))
-    (me' ≡ (after_load st.word found me.0, me.1))
+locks_node n st me found me' =
+    MatchBool (found == st.first) (TakesNode n st.first me me') (me'
+    ≡ (after_load (node_place n) found me.0, me.1))
+
+-- bit 0 of a node's version word was set: the node is held at the version found, or was taken
+-- before
+abbrev pub grabs_node : ℕ → Stepped → Seated → ℕ → Seated → Type 0
+grabs_node n st me found me' =
+    MatchBool (found % 2 == 0) (TakesNode n found me me') (me'
+    ≡ (after_load (node_place n) found me.0, me.1))
+
+-- the word before a release of a node is its version, locked
+abbrev pub NodeWasLocked : ℕ → Seated → ℕ → Type 0
+NodeWasLocked n me found =
+    IfSome (held_of n me.0.holdings.held) (λ h. IsLockedAt h.version found)
+
+-- a node was let go with the version at which it was locked
+abbrev pub releases_same_node : ℕ → Stepped → Seated → ℕ → Seated → Type 0
+releases_same_node n st me found me' =
+    (me' ≡ (after_node_release_same n me.0, me.1)) × NodeWasLocked n me found
 
 -- a node was put back on the free list
 abbrev pub gives_node : Stepped → Seated → ℕ → Seated → Type 0

@@ -1,14 +1,21 @@
 -- Steps on version locks, by whose lock it is: a node's, or the loader's.
-use Rattle.std.specs.Prelude.{ℕ, ◌<◌}
+use Rattle.std.specs.Prelude.{◌≡◌, ℕ, ◌<◌, List, IfSome, IsSomeAnd, false}
+use Rattle.tree_shape.specs.NodeData.{NodeData}
 use Rattle.word_rule.specs.declared.log.Ask.{Ask}
 use Rattle.word_rule.specs.declared.log.LockId.{LockId}
 use Rattle.word_rule.specs.declared.log.LockId.TheVariants as lock
+use Rattle.word_rule.specs.declared.log.LoaderHolding.{LoaderHolding}
 use Rattle.word_rule.specs.declared.log.Log.{Log}
 use Rattle.word_rule.specs.declared.log.Terms.{Terms}
 use Rattle.word_rule.specs.Places.{LOADER, node_place}
-use Rattle.word_rule.specs.Logs.{after_load}
+use Rattle.word_rule.specs.CallerData.{CallerData}
+use Rattle.word_rule.specs.Callers.{IsLockedAt}
+use Rattle.word_rule.specs.Held.{held_of}
+use Rattle.word_rule.specs.Logs.{IsTaken, after_load, after_loader_lock}
+use Rattle.word_rule.specs.Logs.{after_loader_release_same}
+use Rattle.word_rule.specs.Steps.{after_node_lock, after_node_release_same}
 use Rattle.word_rule.specs.Sights.{after_node_version}
-use Rattle.word_rule.specs.NodeTells.{SightTells}
+use Rattle.word_rule.specs.NodeTells.{IsTakenNode, SightTells}
 
 -- a lock that there is: the loader's, or that of a node
 abbrev pub IsLock : Terms → LockId → Type 0
@@ -29,3 +36,35 @@ after_version a (lock.Node n) found v = after_node_version a n found v
 abbrev pub VersionTells : LockId → ℕ → Log → Type 0
 VersionTells lock.Loader found v = Unit {0}
 VersionTells (lock.Node n) found v = SightTells n found v
+
+-- the loader's lock was taken at a version
+abbrev pub LoaderTaken : ℕ → CallerData → CallerData → Type 0
+LoaderTaken version k k' = (h : LoaderHolding)
+    × (IsTaken k.log.terms version h × (k' ≡ record k { log = after_loader_lock h k.log }))
+
+-- a node was locked at a version
+abbrev pub NodeTaken : ℕ → ℕ → CallerData → CallerData → Type 0
+NodeTaken n version k k' = (settled : NodeData) × (words : List ℕ)
+    × (IsTakenNode n k.log words settled
+    × (k' ≡ record k { log = after_node_lock n version settled words k.log }))
+
+-- a lock was taken at a version
+abbrev pub Takes : LockId → ℕ → CallerData → CallerData → Type 0
+Takes lock.Loader version k k' = LoaderTaken version k k'
+Takes (lock.Node n) version k k' = NodeTaken n version k k'
+
+-- no word was stored under a lock that is held
+abbrev pub IsClean : LockId → Log → Type 0
+IsClean lock.Loader v = IsSomeAnd v.loader (λ h. h.stored ≡ false)
+IsClean (lock.Node n) v = IsSomeAnd (held_of n v.holdings.held) (λ h. h.stored ≡ false)
+
+-- the word is the version at which a lock is held, with its low bits
+abbrev pub WasLockedAs : LockId → ℕ → Log → Type 0
+WasLockedAs lock.Loader found v = IfSome v.loader (λ h. IsLockedAt h.version found)
+WasLockedAs (lock.Node n) found v =
+    IfSome (held_of n v.holdings.held) (λ h. IsLockedAt h.version found)
+
+-- a lock was let go with the version at which it was taken
+abbrev pub after_release_same : LockId → Log → Log
+after_release_same lock.Loader v = after_loader_release_same v
+after_release_same (lock.Node n) v = after_node_release_same n v

@@ -1,26 +1,17 @@
 //! Single steps that keep the table's invariant and that no call makes. Each is the contract of a
 //! function that does nothing.
 
-ghost use Rattle.std.specs.Prelude.{◌≡◌, ℕ, ◌+◌, ◌%◌, ◌<◌, ◌≤◌, Some, None, IsSome, IsTrue};
+ghost use Rattle.std.specs.Prelude.{◌≡◌, ℕ, ◌+◌, ◌<◌, Some, None, IsSome, IsTrue};
 ghost use Rattle.tree_shape.specs.Numbers.{is_among};
 ghost use Rattle.word_rule.specs.declared.log.Holding.{Holding};
 ghost use Rattle.word_rule.specs.declared.log.Terms.{Terms};
 ghost use Rattle.word_rule.specs.Exchange.{is_lawful};
 ghost use Rattle.word_rule.specs.Held.{held_of};
-ghost use Rattle.word_rule.specs.Kept.{StoreKeeps, ExchangeKeeps};
+ghost use Rattle.word_rule.specs.Kept.{StoreKeeps};
 ghost use Rattle.word_rule.specs.Places.{HEAD, node_place};
-ghost use Rattle.word_rule.specs.Plays.{Seated, locks_node};
-ghost use Rattle.word_rule.specs.Plays.{gives_node, releases_node};
+ghost use Rattle.word_rule.specs.Plays.{Seated, gives_node, releases_node};
 ghost use Rattle.word_rule.specs.Spelling.{spelled};
 ghost use Rattle.word_rule.specs.Steps.{IsFreeTo};
-
-/// The root is locked where its version is still the one seen, which was not locked.
-pub fn lock_of_the_root()
-    ensures { (t : Terms) (slots id seen : ℕ) (me : Seated) → seen % 2 ≡ 0 → 0 < t.nodes
-        → ExchangeKeeps t slots id me (node_place 0) seen (seen + 1) (locks_node 0) }
-{
-    tree_shape::laws::children();
-}
 
 /// A node that the caller holds is let go with the next version, and what it changed settles where
 /// that is a lawful exchange.

@@ -1,12 +1,20 @@
 //! Steps on nodes.
-ghost use Rattle.std.specs.Prelude.{◌≡◌, ◌+◌, ◌*◌, ◌<◌, ◌≤◌};
+ghost use Rattle.std.specs.Prelude.{◌≡◌, ◌≢◌, ◌+◌, ◌*◌, ◌%◌, ◌<◌, ◌≤◌, ◌==◌, MatchBool, IfOk};
+ghost use Rattle.std.specs.Prelude.{IfErr, IfSome, IsSomeAnd, false};
+ghost use Rattle.word_rule.specs.Callers.{IsLockedAt};
+ghost use Rattle.word_rule.specs.Held.{held_of};
+ghost use Rattle.word_rule.specs.Logs.{after_load};
 ghost use Rattle.word_rule.specs.NodeTells.{HeldTells, SightTells};
+ghost use Rattle.word_rule.specs.Places.{node_place};
+ghost use Rattle.word_rule.specs.Plays.{TakesNode};
 ghost use Rattle.word_rule.specs.Sights.{after_node_load, after_node_version};
+ghost use Rattle.word_rule.specs.Steps.{after_node_release_same};
+ghost use Rattle.word_rule.specs.VersionLocks.{NodeTaken};
 
 use crate::caller::Caller;
 use crate::log::{Ask, Log, Role};
-use crate::rule::{AtNode, LoadsNode, LoadsVersion};
-use crate::words::Words;
+use crate::rule::{AtNode, GrabsNode, LoadsNode, LoadsVersion, LocksNode, ReleasesSameNode};
+use crate::words::{LOCKED, Words};
 use atomic_table::Seat;
 use std::marker::Brand;
 use tree_shape::laws;
@@ -17,7 +25,7 @@ const FIRST_NODE: usize = 4;
 const NODE_WORDS: usize = 36;
 
 /// Where a node begins, with its version word.
-fn place_of(node: u32) -> usize
+pub(crate) fn place_of(node: u32) -> usize
     ensures { result ≡ 4 + 36 * node }
 {
     FIRST_NODE + NODE_WORDS * node as usize
@@ -80,5 +88,105 @@ impl Words {
         ensures held { HeldTells node at result me.old.log }
     {
         self.load_node_for::<Brand>(&mut me.seat, node, at)
+    }
+
+    fn try_node_for<N: AtNode>(&self, seat: &mut Seat<(), Log>, node: u32, seen: u64) -> u64
+        requires table { seat.old.table_id ≡ self.now.table }
+        requires about { N.node ≡ node }
+        requires inside { node < self.now.terms.nodes }
+        requires unlocked { seen % 2 ≡ 0 }
+        requires caller { seat.old.me.0.role ≡ Role.Caller }
+        ensures same { (seat.new.table_id ≡ seat.old.table_id) × (seat.new.id ≡ seat.old.id) }
+        ensures log { MatchBool (result == seen) (TakesNode N.node seen seat.old.me seat.new.me)
+            (seat.new.me ≡ (after_load (node_place N.node) result seat.old.me.0, seat.old.me.1)) }
+    {
+        laws::children();
+        self.table
+            .shared
+            .compare_exchange::<LocksNode<N>>(seat, place_of(node), seen, seen | LOCKED)
+    }
+
+    /// Locks a node at the version seen.
+    pub(crate) fn try_node(&self, me: &mut Caller, node: u32, seen: u64) -> Result<(), u64>
+        requires table { me.old.table ≡ self.now.table }
+        requires inside { node < self.now.terms.nodes }
+        requires unlocked { seen % 2 ≡ 0 }
+        ensures ok { IfOk result (λ _. NodeTaken node seen me.old me.new) }
+        ensures err { IfErr result
+            (λ found. (found ≢ seen)
+            × (me.new ≡ record me.old { log = after_load (node_place node) found me.old.log })) }
+    {
+        let found = self.try_node_for::<Brand>(&mut me.seat, node, seen);
+        if found != seen {
+            return Err(found);
+        }
+        me.versions[node as usize + 1] = seen;
+        Ok(())
+    }
+
+    fn take_node_for<N: AtNode>(&self, seat: &mut Seat<(), Log>, node: u32) -> u64
+        requires table { seat.old.table_id ≡ self.now.table }
+        requires about { N.node ≡ node }
+        requires inside { node < self.now.terms.nodes }
+        requires caller { seat.old.me.0.role ≡ Role.Caller }
+        ensures same { (seat.new.table_id ≡ seat.old.table_id) × (seat.new.id ≡ seat.old.id) }
+        ensures log { MatchBool (result % 2 == 0)
+            (TakesNode N.node result seat.old.me seat.new.me)
+            (seat.new.me ≡ (after_load (node_place N.node) result seat.old.me.0, seat.old.me.1)) }
+    {
+        laws::children();
+        self.table
+            .shared
+            .fetch_or::<GrabsNode<N>>(seat, place_of(node), LOCKED)
+    }
+
+    /// Locks a node at the version that it has.
+    pub(crate) fn take_node(&self, me: &mut Caller, node: u32) -> Result<u64, u64>
+        requires table { me.old.table ≡ self.now.table }
+        requires inside { node < self.now.terms.nodes }
+        ensures ok { IfOk result (λ version. NodeTaken node version me.old me.new) }
+        ensures err { IfErr result
+            (λ found. (found % 2 ≡ 1)
+            × (me.new ≡ record me.old { log = after_load (node_place node) found me.old.log })) }
+    {
+        let found = self.take_node_for::<Brand>(&mut me.seat, node);
+        if found % 2 != 0 {
+            return Err(found);
+        }
+        me.versions[node as usize + 1] = found;
+        Ok(found)
+    }
+
+    fn release_same_for<N: AtNode>(&self, seat: &mut Seat<(), Log>, node: u32, version: u64) -> u64
+        requires table { seat.old.table_id ≡ self.now.table }
+        requires about { N.node ≡ node }
+        requires inside { node < self.now.terms.nodes }
+        requires clean { IsSomeAnd (held_of node seat.old.me.0.holdings.held)
+            (λ h. h.stored ≡ false) }
+        requires version { IfSome (held_of node seat.old.me.0.holdings.held)
+            (λ h. h.version ≡ version) }
+        requires caller { seat.old.me.0.role ≡ Role.Caller }
+        ensures same { (seat.new.table_id ≡ seat.old.table_id) × (seat.new.id ≡ seat.old.id)
+            × (seat.new.me.1 ≡ seat.old.me.1) }
+        ensures log { seat.new.me.0 ≡ after_node_release_same N.node seat.old.me.0 }
+        ensures before { IfSome (held_of N.node seat.old.me.0.holdings.held)
+            (λ h. IsLockedAt h.version result) }
+    {
+        self.table
+            .shared
+            .swap::<ReleasesSameNode<N>>(seat, place_of(node), version)
+    }
+
+    /// Lets go of a node with the version at which it was locked.
+    pub(crate) fn release_node_same(&self, me: &mut Caller, node: u32) -> u64
+        requires table { me.old.table ≡ self.now.table }
+        requires inside { node < self.now.terms.nodes }
+        requires clean { IsSomeAnd (held_of node me.old.log.holdings.held) (λ h. h.stored ≡ false) }
+        ensures log { me.new ≡ record me.old { log = after_node_release_same node me.old.log } }
+        ensures before { IfSome (held_of node me.old.log.holdings.held)
+            (λ h. IsLockedAt h.version result) }
+    {
+        let version = me.versions[node as usize + 1];
+        self.release_same_for::<Brand>(&mut me.seat, node, version)
     }
 }

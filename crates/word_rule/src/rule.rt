@@ -163,6 +163,36 @@ impl<N: AtNode> Play<(), Log> for LoadsNode<N> {
     ghost then = { loads_node N.node N.at };
 }
 
+pub(crate) struct LocksNode<N> {
+    node: PhantomData<N>,
+}
+
+impl<N: AtNode> Play<(), Log> for LocksNode<N> {
+    ghost use Rattle.word_rule.specs.Plays.{locks_node};
+
+    ghost then = { locks_node N.node };
+}
+
+pub(crate) struct GrabsNode<N> {
+    node: PhantomData<N>,
+}
+
+impl<N: AtNode> Play<(), Log> for GrabsNode<N> {
+    ghost use Rattle.word_rule.specs.Plays.{grabs_node};
+
+    ghost then = { grabs_node N.node };
+}
+
+pub(crate) struct ReleasesSameNode<N> {
+    node: PhantomData<N>,
+}
+
+impl<N: AtNode> Play<(), Log> for ReleasesSameNode<N> {
+    ghost use Rattle.word_rule.specs.Plays.{releases_same_node};
+
+    ghost then = { releases_same_node N.node };
+}
+
 pub(crate) struct StoresCopy;
 
 impl Play<(), Log> for StoresCopy {

@@ -105,3 +105,27 @@ fn each_load_of_a_node(rt: HostRuntime) -> Result<(), Fail> {
     assert!(rt; words.load_version(&mut a, root, Ask::Registered { pc: 5 }) == 0);
     Ok(())
 }
+
+#[test]
+fn each_step_on_a_nodes_lock(rt: HostRuntime) -> Result<(), Fail> {
+    let alloc = rt.alloc();
+    let (words, mut a) = Words::new(alloc, 4, 1, 1, Vec::new(alloc))?;
+    let lock = LockId::Node { node: 3 };
+    assert!(rt; words.try_lock(&mut a, lock, 4) == Err(0));
+    assert!(rt; words.mark_sleeping(&mut a, lock, 1) == Err(0));
+    let Ok(()) = words.try_lock(&mut a, lock, 0) else {
+        panic!(rt; "the lock is free")
+    };
+    assert!(rt; words.load_version(&mut a, lock, Ask::Nothing) == 1);
+    words.sleep(&rt, lock, 5);
+    let Ok(()) = words.mark_sleeping(&mut a, lock, 1) else {
+        panic!(rt; "nobody else is here")
+    };
+    assert!(rt; words.load_node(&mut a, 3, 1) == 2 && words.take(&mut a, lock) == Err(3));
+    assert!(rt; words.release_same(&mut a, lock) == 3);
+    words.wake(lock);
+    assert!(rt; words.take(&mut a, lock) == Ok(0));
+    assert!(rt; words.release_same(&mut a, lock) == 1);
+    assert!(rt; words.take(&mut a, LockId::Node { node: 0 }) == Ok(0));
+    Ok(())
+}

@@ -7,10 +7,13 @@ ghost use Rattle.word_rule.specs.declared.log.LoaderHolding.{LoaderHolding};
 ghost use Rattle.word_rule.specs.CallerData.{surplus};
 ghost use Rattle.word_rule.specs.Places.{LOADER};
 ghost use Rattle.word_rule.specs.Callers.{IsLockedAt};
-ghost use Rattle.word_rule.specs.VersionLocks.{IsLock, VersionTells, after_version};
+ghost use Rattle.word_rule.specs.VersionLocks.{IsLock, IsClean, LoaderTaken, Takes, VersionTells};
+ghost use Rattle.word_rule.specs.VersionLocks.{WasLockedAs, after_release_same, after_version};
+ghost use Rattle.word_rule.specs.VersionLocks.{lock_place};
 
 use crate::caller::Caller;
 use crate::log::{Ask, LockId, Log};
+use crate::nodes::place_of;
 use crate::rule::{Grabs, Law, Locks, Looks, Made, Marks, Releases, ReleasesSame};
 use atomic_table::Table;
 use reg_model::Member;
@@ -21,7 +24,7 @@ use std::sync::Wait;
 
 /// The bit of a version word that is set while it is locked, and that which is set while threads
 /// sleep on it.
-const LOCKED: u64 = 1;
+pub(crate) const LOCKED: u64 = 1;
 
 const SLEEPERS: u64 = 2;
 
@@ -30,6 +33,16 @@ const VERSION: u64 = 4;
 
 /// Where the loader's version lock stands.
 const LOADER_WORD: usize = 2;
+
+/// Where the version word of a lock stands.
+fn word_of(lock: LockId) -> usize
+    ensures { result ≡ lock_place lock }
+{
+    match lock {
+        LockId::Loader => LOADER_WORD,
+        LockId::Node { node } => place_of(node),
+    }
+}
 
 /// The shared words, under one rule. Threads share them by `&`, and step on them each with a
 /// `Caller` of its own.
@@ -98,21 +111,14 @@ impl Words {
         }
     }
 
-    /// Takes a lock whose word is still the one seen, which was not locked. Else answers the word
-    /// found.
-    pub fn try_lock(&self, me: &mut Caller, lock: LockId, seen: u64) -> Result<(), u64>
+    fn try_loader(&self, me: &mut Caller, seen: u64) -> Result<(), u64>
         requires table { me.old.table ≡ self.now.table }
-        requires lock { lock ≡ LockId.Loader }
         requires unlocked { seen % 2 ≡ 0 }
-        ensures ok { IfOk result
-            (λ _. (h : LoaderHolding)
-            × (IsTaken me.old.log.terms seen h
-            × (me.new ≡ record me.old { log = after_loader_lock h me.old.log }))) }
+        ensures ok { IfOk result (λ _. LoaderTaken seen me.old me.new) }
         ensures err { IfErr result
             (λ found. (found ≢ seen)
             × (me.new ≡ record me.old { log = after_load LOADER found me.old.log })) }
     {
-        let _ = lock;
         let found = self
             .table
             .shared
@@ -124,20 +130,30 @@ impl Words {
         Ok(())
     }
 
-    /// Takes a lock in one step, at the version that it answers. Where it is taken already, answers
-    /// the word found, which stays as it was.
-    pub fn take(&self, me: &mut Caller, lock: LockId) -> Result<u64, u64>
+    /// Takes a lock whose word is still the one seen, which was not locked. Else answers the word
+    /// found.
+    pub fn try_lock(&self, me: &mut Caller, lock: LockId, seen: u64) -> Result<(), u64>
         requires table { me.old.table ≡ self.now.table }
-        requires lock { lock ≡ LockId.Loader }
-        ensures ok { IfOk result
-            (λ version. (h : LoaderHolding)
-            × (IsTaken me.old.log.terms version h
-            × (me.new ≡ record me.old { log = after_loader_lock h me.old.log }))) }
+        requires lock { IsLock self.now.terms lock }
+        requires unlocked { seen % 2 ≡ 0 }
+        ensures ok { IfOk result (λ _. Takes lock seen me.old me.new) }
+        ensures err { IfErr result
+            (λ found. (found ≢ seen)
+            × (me.new ≡ record me.old { log = after_load (lock_place lock) found me.old.log })) }
+    {
+        match lock {
+            LockId::Loader => self.try_loader(me, seen),
+            LockId::Node { node } => self.try_node(me, node, seen),
+        }
+    }
+
+    fn take_loader(&self, me: &mut Caller) -> Result<u64, u64>
+        requires table { me.old.table ≡ self.now.table }
+        ensures ok { IfOk result (λ version. LoaderTaken version me.old me.new) }
         ensures err { IfErr result
             (λ found. (found % 2 ≡ 1)
             × (me.new ≡ record me.old { log = after_load LOADER found me.old.log })) }
     {
-        let _ = lock;
         let found = self
             .table
             .shared
@@ -149,20 +165,35 @@ impl Words {
         Ok(found)
     }
 
+    /// Takes a lock in one step, at the version that it answers. Where it is taken already, answers
+    /// the word found, which stays as it was.
+    pub fn take(&self, me: &mut Caller, lock: LockId) -> Result<u64, u64>
+        requires table { me.old.table ≡ self.now.table }
+        requires lock { IsLock self.now.terms lock }
+        ensures ok { IfOk result (λ version. Takes lock version me.old me.new) }
+        ensures err { IfErr result
+            (λ found. (found % 2 ≡ 1)
+            × (me.new ≡ record me.old { log = after_load (lock_place lock) found me.old.log })) }
+    {
+        match lock {
+            LockId::Loader => self.take_loader(me),
+            LockId::Node { node } => self.take_node(me, node),
+        }
+    }
+
     /// Says that threads sleep on a lock, where its word is still the one seen, which was locked.
     pub fn mark_sleeping(&self, me: &mut Caller, lock: LockId, seen: u64) -> Result<(), u64>
         requires table { me.old.table ≡ self.now.table }
-        requires lock { lock ≡ LockId.Loader }
+        requires lock { IsLock self.now.terms lock }
         requires locked { seen % 2 ≡ 1 }
         ensures ok { IfOk result (λ _. me.new ≡ record me.old { log = after_write me.old.log }) }
         ensures err { IfErr result
             (λ found. (found ≢ seen)
-            × (me.new ≡ record me.old { log = after_load LOADER found me.old.log })) }
+            × (me.new ≡ record me.old { log = after_load (lock_place lock) found me.old.log })) }
     {
-        let _ = lock;
         let found = self.table.shared.compare_exchange::<Marks>(
             &mut me.seat,
-            LOADER_WORD,
+            word_of(lock),
             seen,
             seen | (LOCKED + SLEEPERS),
         );
@@ -185,37 +216,46 @@ impl Words {
             .swap::<Releases>(&mut me.seat, LOADER_WORD, next)
     }
 
-    /// Lets go of a lock under which nothing was stored, with the version at which it was taken,
-    /// and answers the word before.
-    pub fn release_same(&self, me: &mut Caller, lock: LockId) -> u64
+    fn release_loader_same(&self, me: &mut Caller) -> u64
         requires table { me.old.table ≡ self.now.table }
-        requires lock { lock ≡ LockId.Loader }
-        requires held { IsSomeAnd me.old.log.loader (λ h. h.stored ≡ false) }
+        requires clean { IsSomeAnd me.old.log.loader (λ h. h.stored ≡ false) }
         ensures log { me.new ≡ record me.old { log = after_loader_release_same me.old.log } }
         ensures before { IfSome me.old.log.loader (λ h. IsLockedAt h.version result) }
     {
-        let _ = lock;
         let same = me.versions[0];
         self.table
             .shared
             .swap::<ReleasesSame>(&mut me.seat, LOADER_WORD, same)
     }
 
+    /// Lets go of a lock under which nothing was stored, with the version at which it was taken,
+    /// and answers the word before.
+    pub fn release_same(&self, me: &mut Caller, lock: LockId) -> u64
+        requires table { me.old.table ≡ self.now.table }
+        requires lock { IsLock self.now.terms lock }
+        requires clean { IsClean lock me.old.log }
+        ensures log { me.new ≡ record me.old { log = after_release_same lock me.old.log } }
+        ensures before { WasLockedAs lock result me.old.log }
+    {
+        match lock {
+            LockId::Loader => self.release_loader_same(me),
+            LockId::Node { node } => self.release_node_same(me, node),
+        }
+    }
+
     /// Sleeps on a lock while its word is the one seen, or for no reason shorter. It tells nothing.
     pub fn sleep<R: Wait>(&self, rt: &R, lock: LockId, seen: u64)
-        requires { lock ≡ LockId.Loader }
+        requires { IsLock self.now.terms lock }
     {
-        let _ = lock;
         self.table
             .shared
-            .park(rt, LOADER_WORD, (seen % (1 << 32)) as u32);
+            .park(rt, word_of(lock), (seen % (1 << 32)) as u32);
     }
 
     /// Wakes one thread that sleeps on a lock, if there is one.
     pub fn wake(&self, lock: LockId)
-        requires { lock ≡ LockId.Loader }
+        requires { IsLock self.now.terms lock }
     {
-        let _ = lock;
-        self.table.shared.wake_one(LOADER_WORD);
+        self.table.shared.wake_one(word_of(lock));
     }
 }

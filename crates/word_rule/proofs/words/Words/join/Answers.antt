@@ -14,6 +14,7 @@ invariant_of-result c = let i = c.other.invariant in record {
   names_are = (c.in-Err.ensures.err _ _ c.me.invariant.names_are i.names_are).1;
   wide = i.wide;
   loader = i.loader;
+  nodes = i.nodes;
 }
 
 pub invariant_of-me : goal.invariant_of-me
@@ -27,6 +28,7 @@ invariant_of-me c = let i = c.me.invariant in record {
   names_are = (c.in-Err.ensures.err _ _ i.names_are c.other.invariant.names_are).0;
   wide = i.wide;
   loader = i.loader;
+  nodes = i.nodes;
 }
 
 pub join_seat-requires : goal.join_seat-requires

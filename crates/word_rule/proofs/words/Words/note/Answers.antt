@@ -13,6 +13,7 @@ invariant_of-me c = let i = c.me.invariant in record {
   names_are = c.in_err-names.ensures.err _ i.names_are;
   wide = i.wide;
   loader = i.loader;
+  nodes = i.nodes;
 }
 
 pub split_seat-seat-requires : goal.split_seat-seat-requires

@@ -1,6 +1,6 @@
 use Rattle.std.proofs.Common.{sym, ap, ◌∙◌, arith}
 use Rattle.word_rule.proofs.Loader.{locks_by_bit}
-use Rattle.word_rule.proofs.words.Words.try_lock.Goals as goal
+use Rattle.word_rule.proofs.words.Words.try_loader.Goals as goal
 
 pub compare_exchange-found-requires : goal.compare_exchange-found-requires
 compare_exchange-found-requires c =

@@ -1,6 +1,6 @@
 use Rattle.std.proofs.Common.{sym, ap, ◌∙◌, arith}
 use Rattle.word_rule.proofs.Loader.{grabs_loader}
-use Rattle.word_rule.proofs.words.Words.take.Goals as goal
+use Rattle.word_rule.proofs.words.Words.take_loader.Goals as goal
 
 pub fetch_or-found-requires : goal.fetch_or-found-requires
 fetch_or-found-requires c =

@@ -1,0 +1,377 @@
+-- Steps on the lock of any node: it is taken, is found taken, is marked as slept on, or is let go with the version that it had.
+use Rattle.std.proofs.Common.{◌≡◌, ◌≢◌, ℕ, zero, suc, ◌+◌, ◌-◌, ◌*◌, ◌%◌, ◌^◌, ◌<◌, ◌≤◌, ◌⊎◌, List, [], ◌∷◌, length, get_or, set, map, sym, refl, ap, ◌∙◌, subst, inl, inr, ⊎_elim, arith, ◌==◌, MatchBool, Bool, false, IsTrue, bit_or, Option, Some, None, IfSome, IsSome, IsSomeAnd, eq-eqb, ne_eqb}
+use Rattle.std.proofs.lemmas.Option.{same_Some}
+use Rattle.std.proofs.lemmas.Nat.{or_disjoint}
+use Rattle.std.specs.Int.Bits.{or_add_and}
+use lib.Bits.{and_mask}
+use Rattle.std.specs.List.{AllByRecursion, count_by}
+use mathlib.Core.Option.{none, some}
+use native.Mathlib.Decide.{ℕ_discrete}
+use lib.ListN.{get_elem?}
+use prog.Atomic.{either}
+use Rattle.atomic_table.specs.Table.{step, Act, keeps, stepped, carried_after, Valid, Allows}
+use Rattle.tree_shape.specs.declared.node.Frame.{Frame}
+use Rattle.tree_shape.specs.NodeData.{NodeData}
+use Rattle.tree_shape.specs.Trees.{Contents, Branch, branches}
+use Rattle.tree_shape.specs.Lawful.{FitsParent}
+use Rattle.word_rule.specs.declared.log.Role.TheVariants as role
+use Rattle.word_rule.specs.declared.log.Terms.{Terms}
+use Rattle.word_rule.specs.declared.log.Holding.{Holding}
+use Rattle.word_rule.specs.declared.log.Log.{Log}
+use Rattle.word_rule.specs.declared.log.LockId.{LockId}
+use Rattle.word_rule.specs.declared.log.LockId.TheVariants as lock
+use Rattle.word_rule.specs.Places.{word_count}
+use Rattle.word_rule.specs.VersionLocks.{IsLock, lock_place}
+use Rattle.word_rule.proofs.Loader.{marks_by_bits}
+use Rattle.word_rule.specs.Memory.{NodeWords, memory_of, updated}
+use Rattle.word_rule.specs.Spelling.{node_word, SpellsNode}
+use Rattle.word_rule.specs.Held.{held_of, without_lock}
+use Rattle.word_rule.specs.Logs.{is_spent, after_load, after_write}
+use Rattle.word_rule.specs.Steps.{place_in, place_by, first_mark, place_by_held, mark_at_lock, head_without, after_node_lock, after_node_release_same}
+use Rattle.word_rule.specs.Callers.{IsLockedAt}
+use Rattle.word_rule.specs.Nodes.{Shadow, HoldsNode, HoldingsHold, HeldBy, IsOpen, IsPlaced, IsChain}
+use Rattle.word_rule.specs.NodeTells.{IsLiveNode, IsTakenNode}
+use Rattle.word_rule.specs.TableInvariant.{TableInvariant}
+use Rattle.word_rule.specs.Plays.{Seated, locks_node, grabs_node, marks, releases_same_node}
+use Rattle.word_rule.proofs.Each.{all_map, some_with}
+use Rattle.word_rule.proofs.Memories.{load_version_at, content_length, by_same}
+use Rattle.word_rule.proofs.Spells.{spells_free}
+use Rattle.word_rule.proofs.Standing.{even_is_open, held_by}
+use Rattle.word_rule.proofs.Frames.{Sit}
+use Rattle.word_rule.proofs.NodesFrame.{holder_stays}
+use Rattle.word_rule.proofs.HeadPlays.{RootLaw}
+use Rattle.word_rule.proofs.NodeLocks.{updated_here, updated_other, refused, locked, four, bounded}
+use Rattle.word_rule.proofs.NodeVersions.{ChildrenLaw, is_live_node}
+use Rattle.word_rule.proofs.NodeReleases.{left_all, left_once, left_held}
+use Rattle.word_rule.proofs.VersionSteps.{stepped_version, words', shadow'}
+
+-- the child that a list of branches names has its place
+named : (f : Contents) (live : ℕ → Bool) (n : ℕ) (bs : List Branch) → AllByRecursion (λ b. IsTrue (live b.child) × FitsParent f b) bs → IfSome (place_in n bs) (λ p. IsTrue (live n) × IsPlaced (f n) p)
+named f live n [] all = tt
+named f live n (b ∷ bs) all = go (ℕ_discrete b.child n) (named f live n bs all.1)
+  where
+    go : Dec (b.child ≡ n) → IfSome (place_in n bs) (λ p. IsTrue (live n) × IsPlaced (f n) p) → IfSome (place_in n (b ∷ bs)) (λ p. IsTrue (live n) × IsPlaced (f n) p)
+    go (yes e) rest = let fits = all.0.1 in rw (eq-eqb b.child n e) (subst (λ k. IsTrue (live k) × IsPlaced (f k) b.frame) e (all.0.0, (fits.level, fits.low, fits.high)))
+    go (no ne) rest = rw (ne_eqb b.child n ne) rest
+
+map_same : (held : List Holding) → map (λ h. h) held ≡ held
+map_same [] = refl
+map_same (h ∷ held) = ap (λ hs. h ∷ hs) (map_same held)
+
+module _ (t : Terms) (slots id : ℕ) (me : Seated) (caller : me.0.role ≡ role.Caller) where
+  abbrev Holds : Sit → Type 0
+  Holds s = TableInvariant t s.words s.views
+
+  stands : is_spent me.0.role ≡ false
+  stands = ap is_spent caller
+
+  -- what a lock marks is live
+  module _ (children : ChildrenLaw) (root : RootLaw) (s : Sit) (r : Holds s) (at : get_elem? s.views id ≡ some me.0) where
+    abbrev nodes : NodeWords
+    nodes = (memory_of t s.words).nodes
+
+    abbrev IsLive : ℕ → Frame → Type 0
+    IsLive n f = IsTrue (r.memory.shadow.live n) × IsPlaced (r.memory.shadow.settled n) f
+
+    named_by : (n : ℕ) (h : Holding) (o : Option Frame) → HoldsNode t (memory_of t s.words).nodes r.memory.shadow id h → IfSome o (λ f. IsTrue (r.memory.shadow.live h.node) × IsPlaced h.settled f) → IfSome (place_by n o h) (λ f. IsTrue (r.memory.shadow.live n) × IsPlaced (r.memory.shadow.settled n) f)
+    named_by n h None k marked = tt
+    named_by n h (Some f) k marked =
+        named r.memory.shadow.settled r.memory.shadow.live n (branches (h.settled.level - 1) h.settled)
+        (subst (λ c. AllByRecursion (λ b. IsTrue (r.memory.shadow.live b.child) × FitsParent r.memory.shadow.settled b) (branches (c.level - 1) c)) (sym k.settled) (children r.memory.shadow.settled r.memory.shadow.live h.node r.memory.nodes.lawful.tree marked.0))
+
+    by_held : (n : ℕ) (held : List Holding) → AllByRecursion (HoldsNode t (memory_of t s.words).nodes r.memory.shadow id) held → IfSome (place_by_held n held) (λ f. IsTrue (r.memory.shadow.live n) × IsPlaced (r.memory.shadow.settled n) f)
+    by_held n [] all = tt
+    by_held n (h ∷ held) all = go (place_by n h.mark h) (named_by n h h.mark all.0 all.0.marked) (by_held n held all.1)
+      where
+        go : (o : Option Frame) → IfSome o (λ f. IsTrue (r.memory.shadow.live n) × IsPlaced (r.memory.shadow.settled n) f) → IfSome (place_by_held n held) (λ f. IsTrue (r.memory.shadow.live n) × IsPlaced (r.memory.shadow.settled n) f)
+            → IfSome (first_mark o (place_by_held n held)) (λ f. IsTrue (r.memory.shadow.live n) × IsPlaced (r.memory.shadow.settled n) f)
+        go None told rest = rest
+        go (Some f) told rest = told
+
+    marks_live : (n : ℕ) → IfSome (mark_at_lock n (r.memory.shadow.settled n) me.0.holdings.held) (λ f. IsTrue (r.memory.shadow.live n) × IsPlaced (r.memory.shadow.settled n) f)
+    marks_live n = go (ℕ_discrete n 0) (by_held n me.0.holdings.held (r.memory.nodes.holdings id me.0 at).each)
+      where
+        go : Dec (n ≡ 0) → IfSome (place_by_held n me.0.holdings.held) (λ f. IsTrue (r.memory.shadow.live n) × IsPlaced (r.memory.shadow.settled n) f)
+            → IfSome (mark_at_lock n (r.memory.shadow.settled n) me.0.holdings.held) (λ f. IsTrue (r.memory.shadow.live n) × IsPlaced (r.memory.shadow.settled n) f)
+        go (yes e) named_there = rw (eq-eqb n 0 e) (ap r.memory.shadow.live e ∙ root r.memory.shadow.settled r.memory.shadow.live r.memory.nodes.lawful.tree, (refl, refl, refl))
+        go (no ne) named_there = rw (ne_eqb n 0 ne) named_there
+
+    -- the first free node, as it is known under the root's lock, is of that kind
+    first_is_free : (n : ℕ) → me.0.holdings.head ≡ Some n → n ≢ 0 → node_word ((memory_of t s.words).nodes.contents n) 1 ≡ 2
+    first_is_free n head other = go r.memory.shadow.free r.memory.nodes.chain
+      where
+        head_is : (memory_of t s.words).nodes.head ≡ n
+        head_is = (subst (λ o. IfSome o (λ k. ((memory_of t s.words).nodes.head ≡ k) × IsSome (held_of 0 me.0.holdings.held))) head (r.memory.nodes.holdings id me.0 at).head).0
+
+        go : (free : List ℕ) → IsChain (memory_of t s.words).nodes.contents (memory_of t s.words).nodes.head free → node_word ((memory_of t s.words).nodes.contents n) 1 ≡ 2
+        go [] chain = absurd (other (sym head_is ∙ chain))
+        go (k ∷ free) chain = ap (λ i. node_word ((memory_of t s.words).nodes.contents i) 1) (sym head_is ∙ chain.0) ∙ chain.2
+
+    taken : (n seen : ℕ) → n < t.nodes → (memory_of t s.words).nodes.versions n ≡ seen → seen % 2 ≡ 0 → IsTakenNode n me.0 ((memory_of t s.words).nodes.contents n) (r.memory.shadow.settled n)
+    taken n seen inside hit even =
+        let terms : me.0.terms ≡ t = (r.memory.callers.each id me.0 at).terms stands in
+        let free : r.memory.shadow.holder n ≡ None = even_is_open t (memory_of t s.words).nodes s.views r.memory.history r.memory.shadow r.memory.nodes n (ap (λ k. k % 2) hit ∙ even) in
+        let spells : SpellsNode ((memory_of t s.words).nodes.contents n) (r.memory.shadow.settled n) = (subst (IsOpen ((memory_of t s.words).nodes.versions n) ((memory_of t s.words).nodes.contents n) (r.memory.shadow.settled n)) free (r.memory.nodes.unlocked n inside)).1 in record {
+          within = subst (λ k. n < k.nodes) (sym terms) inside;
+          wide = content_length t s.words r.wide n inside;
+          spells = spells;
+          free = λ head other. spells_free ((memory_of t s.words).nodes.contents n) (r.memory.shadow.settled n) spells (first_is_free n head other);
+          live = subst (λ k. IfSome (mark_at_lock n (r.memory.shadow.settled n) me.0.holdings.held) (IsLiveNode k n (r.memory.shadow.settled n))) (sym terms) (each_live (mark_at_lock n (r.memory.shadow.settled n) me.0.holdings.held) (marks_live n));
+        }
+      where
+        each_live : (o : Option Frame) → IfSome o (λ f. IsTrue (r.memory.shadow.live n) × IsPlaced (r.memory.shadow.settled n) f) → IfSome o (IsLiveNode t n (r.memory.shadow.settled n))
+        each_live None told = tt
+        each_live (Some f) told = is_live_node t (memory_of t s.words).nodes s.views r.memory.history r.memory.shadow r.memory.nodes children n f told.0 told.1
+
+  pub locks_any : ChildrenLaw → RootLaw → (n seen : ℕ) → seen % 2 ≡ 0 → n < t.nodes → Allows Holds slots id me (4 + 36 * n) (λ k. either (k == seen) (seen + 1) k) (locks_node n (step slots (4 + 36 * n) seen (seen + 1) none) me)
+  locks_any children root n seen even inside s r deep at small =
+      let k : ℕ = get_or s.words (4 + 36 * n) 0 in
+      by_same k seen (λ b. (w : Log) × (a : Act (Unit {0})) × Valid s.homes me.1 a × Holds (stepped s (4 + 36 * n) (either b (seen + 1) k) id me.1 w a) × MatchBool b
+      ((seen % 4 ≡ 0) × (seen < 2 ^ 63) × ((settled : NodeData) × (words : List ℕ) × (IsTakenNode n me.0 words settled × ◌≡◌ {A = Seated} (w, carried_after me.1 a) (after_node_lock n seen settled words me.0, me.1))))
+      (◌≡◌ {A = Seated} (w, carried_after me.1 a) (after_load (4 + 36 * n) k me.0, me.1)))
+      (λ is.
+      let hit : (memory_of t s.words).nodes.versions n ≡ seen = load_version_at t s.words n inside ∙ is in
+      let live = marks_live children root s r at n in (
+        after_node_lock n seen (r.memory.shadow.settled n) ((memory_of t s.words).nodes.contents n) me.0,
+        keeps,
+        tt,
+        locked t slots id me caller n seen inside s r at hit even live,
+        (
+          four t slots id me caller n seen inside s r at hit even live,
+          bounded t slots id me caller n seen inside s r at hit even live,
+          (r.memory.shadow.settled n, (memory_of t s.words).nodes.contents n, (taken children root s r at n seen inside hit even, refl)),
+        ),
+      ))
+      (λ miss. (after_load (4 + 36 * n) k me.0, keeps, tt, refused t slots id me caller s r n at, refl))
+
+  -- the same as the code has it: the bit is set by `|`
+  pub locks_node_by_bit : ChildrenLaw → RootLaw → (n k place seen : ℕ) → k ≡ n → place ≡ 4 + 36 * n → seen % 2 ≡ 0 → n < t.nodes → Allows Holds slots id me place (λ x. either (x == seen) (bit_or seen 1) x) (locks_node k (step slots place seen (bit_or seen 1) none) me)
+  locks_node_by_bit children root n k place seen node is even inside =
+      subst (λ p. Allows Holds slots id me p (λ x. either (x == seen) (bit_or seen 1) x) (locks_node k (step slots p seen (bit_or seen 1) none) me)) (sym is)
+      (subst (λ j. Allows Holds slots id me (4 + 36 * n) (λ x. either (x == seen) (bit_or seen 1) x) (locks_node j (step slots (4 + 36 * n) seen (bit_or seen 1) none) me)) (sym node)
+      (subst (λ z. Allows Holds slots id me (4 + 36 * n) (λ x. either (x == seen) z x) (locks_node n (step slots (4 + 36 * n) seen z none) me)) (sym (or_disjoint seen 1 (and_mask seen 1 ∙ even))) (locks_any children root n seen even inside)))
+
+  -- bit 0 is set in one step, whatever the word was
+  module _ (children : ChildrenLaw) (root : RootLaw) (n : ℕ) (inside : n < t.nodes) where
+    abbrev Grabbed : Sit → ℕ → Bool → Type 0
+    Grabbed s x b = (w : Log) × (a : Act (Unit {0})) × Valid s.homes me.1 a × Holds (stepped s (4 + 36 * n) x id me.1 w a) × MatchBool b
+        ((get_or s.words (4 + 36 * n) 0 % 4 ≡ 0) × (get_or s.words (4 + 36 * n) 0 < 2 ^ 63) × ((settled : NodeData) × (words : List ℕ) × (IsTakenNode n me.0 words settled × ◌≡◌ {A = Seated} (w, carried_after me.1 a) (after_node_lock n (get_or s.words (4 + 36 * n) 0) settled words me.0, me.1))))
+        (◌≡◌ {A = Seated} (w, carried_after me.1 a) (after_load (4 + 36 * n) (get_or s.words (4 + 36 * n) 0) me.0, me.1))
+
+    grabs_word : (s : Sit) (r : Holds s) → length s.homes ≡ slots → (at : get_elem? s.views id ≡ some me.0) → get_or s.words (4 + 36 * n) 0 < 18446744073709551616 → (m : ℕ) → get_or s.words (4 + 36 * n) 0 % 2 ≡ m
+        → Grabbed s (bit_or (get_or s.words (4 + 36 * n) 0) 1) (get_or s.words (4 + 36 * n) 0 % 2 == 0)
+    grabs_word s r deep at small zero even =
+        let x : ℕ = get_or s.words (4 + 36 * n) 0 in
+        let hit : Grabbed s (either (x == x) (bit_or x 1) x) (x == x) = locks_node_by_bit children root n n (4 + 36 * n) x refl refl even inside s r deep at small in
+        subst (Grabbed s (bit_or x 1)) (sym (eq-eqb (x % 2) 0 even)) (subst (λ b. Grabbed s (either b (bit_or x 1) x) b) (eq-eqb x x refl) hit)
+    grabs_word s r deep at small (suc m) odd =
+        let x : ℕ = get_or s.words (4 + 36 * n) 0 in
+        let sum = or_add_and x 1 in
+        let low = and_mask x 1 in
+        let same : bit_or x 1 ≡ x = omega (arith, sum, low, odd) in
+        let miss : Grabbed s x false = (after_load (4 + 36 * n) x me.0, keeps, tt, refused t slots id me caller s r n at, refl) in
+        subst (Grabbed s (bit_or x 1)) (sym (ne_eqb (x % 2) 0 (λ e. omega (arith, e, odd)))) (subst (λ y. Grabbed s y false) (sym same) miss)
+
+    grabs_any : Allows Holds slots id me (4 + 36 * n) (λ x. bit_or x 1) (grabs_node n (step slots (4 + 36 * n) 1 0 none) me)
+    grabs_any s r deep at small = grabs_word s r deep at small (get_or s.words (4 + 36 * n) 0 % 2) refl
+
+    pub grabs_of : (k place : ℕ) → k ≡ n → place ≡ 4 + 36 * n → Allows Holds slots id me place (λ x. bit_or x 1) (grabs_node k (step slots place 1 0 none) me)
+    grabs_of k place node is =
+        subst (λ p. Allows Holds slots id me p (λ x. bit_or x 1) (grabs_node k (step slots p 1 0 none) me)) (sym is)
+        (subst (λ j. Allows Holds slots id me (4 + 36 * n) (λ x. bit_or x 1) (grabs_node j (step slots (4 + 36 * n) 1 0 none) me)) (sym node) grabs_any)
+
+  -- the low two bits of an odd word set
+  abbrev marked : ℕ → ℕ
+  marked seen = seen - seen % 4 + 3
+
+  -- the lock is marked as slept on
+  module _ (n seen : ℕ) (inside : n < t.nodes) (odd : seen % 2 ≡ 1) (s : Sit) (r : Holds s) (at : get_elem? s.views id ≡ some me.0) (hit : (memory_of t s.words).nodes.versions n ≡ seen) where
+    raised : (version : ℕ) → IsLockedAt version seen → IsLockedAt version (marked seen)
+    raised version h = let z = h.0 in (h.0, inr (⊎_elim (λ (e : seen ≡ version + 1). omega (arith, e, z)) (λ (e : seen ≡ version + 3). omega (arith, e, z)) h.1))
+
+    lowered : (version : ℕ) → IsLockedAt version (marked seen) → IsLockedAt version seen
+    lowered version h = let z = h.0 in (h.0, ⊎_elim (λ (e : marked seen ≡ version + 1). absurd (omega (arith, e, z, odd))) (λ (e : marked seen ≡ version + 3). by_bit (ℕ_discrete (seen % 4) 1) e) h.1)
+      where
+        by_bit : Dec (seen % 4 ≡ 1) → marked seen ≡ version + 3 → (seen ≡ version + 1) ⊎ (seen ≡ version + 3)
+        by_bit (yes one) e = let z = h.0 in inl (omega (arith, one, e, z))
+        by_bit (no other) e = let z = h.0 in inr (omega (arith, other, e, z, odd))
+
+    abbrev w : Log
+    w = after_write me.0
+
+    same_lock : (j : ℕ) (h : Holding) → HoldsNode t (memory_of t s.words).nodes r.memory.shadow j h → HoldsNode t (words' t id me.0 w caller n (marked seen) inside s r at r.memory.shadow.holder (λ _ _. refl)) (shadow' t id me.0 w caller n (marked seen) inside s r at r.memory.shadow.holder (λ _ _. refl)) j h
+    same_lock j h k = record {
+      within = k.within;
+      is_holder = k.is_holder;
+      locked = by_node (ℕ_discrete h.node n);
+      as_now = k.as_now;
+      settled = k.settled;
+      stored = k.stored;
+      clean = k.clean;
+      marked = k.marked;
+      unmarked = k.unmarked;
+    }
+      where
+        by_node : Dec (h.node ≡ n) → IsLockedAt h.version (updated (memory_of t s.words).nodes.versions n (marked seen) h.node)
+        by_node (yes e) = subst (IsLockedAt h.version) (sym (updated_here (memory_of t s.words).nodes.versions n (marked seen) h.node e)) (raised h.version (subst (IsLockedAt h.version) (ap (memory_of t s.words).nodes.versions e ∙ hit) k.locked))
+        by_node (no ne) = subst (IsLockedAt h.version) (sym (updated_other (memory_of t s.words).nodes.versions n (marked seen) h.node ne)) k.locked
+
+    all_locks : (j : ℕ) (u : Log) → get_elem? s.views j ≡ some u → HoldingsHold t (words' t id me.0 w caller n (marked seen) inside s r at r.memory.shadow.holder (λ _ _. refl)) (shadow' t id me.0 w caller n (marked seen) inside s r at r.memory.shadow.holder (λ _ _. refl)) j u.holdings
+    all_locks j u there = let h = r.memory.nodes.holdings j u there in record {
+      each = all_map (HoldsNode t (memory_of t s.words).nodes r.memory.shadow j) (HoldsNode t (words' t id me.0 w caller n (marked seen) inside s r at r.memory.shadow.holder (λ _ _. refl)) (shadow' t id me.0 w caller n (marked seen) inside s r at r.memory.shadow.holder (λ _ _. refl)) j) (same_lock j) u.holdings.held h.each;
+      once = h.once;
+      few_out = h.few_out;
+      head = h.head;
+    }
+
+    pub marked_node : TableInvariant t (set s.words (4 + 36 * n) (marked seen)) (set s.views id (after_write me.0))
+    marked_node = stepped_version t id me.0 w caller n (marked seen) inside s r at r.memory.shadow.holder (λ _ _. refl) (record {
+      mine = all_locks id me.0 at;
+      others = λ j u _ there. all_locks j u there;
+      open_then = still_open r.memory.shadow.holder refl;
+      held_then = holder_stays s.views id me.0 w at n (r.memory.shadow.holder n) (λ h. h) (r.memory.nodes.holders n);
+      kept = λ _ _ h. h;
+      later = λ k _ less. (let e = hit in omega (arith, less, e));
+      stood = λ k even st. inr (⊎_elim (λ (is : marked seen ≡ k). absurd (omega (arith, is, even, odd))) (λ (l : IsLockedAt k (marked seen) × (r.memory.shadow.stored n ≡ false)). (subst (IsLockedAt k) (sym hit) (lowered k l.0), l.1)) st);
+    }) refl (record { terms = refl; role = refl; past = refl; receipts = refl; allowance = refl; made = refl; lineage = refl }) refl (let e = hit in omega (arith, e, odd)) (record { own = refl; sights = refl; loads = refl; turn = omega arith })
+      where
+        still_open : (holder : ℕ → Option ℕ) → holder ≡ r.memory.shadow.holder → IsOpen (marked seen) ((memory_of t s.words).nodes.contents n) (r.memory.shadow.settled n) (holder n)
+        still_open holder is = go (holder n) refl
+          where
+            go : (o : Option ℕ) → holder n ≡ o → IsOpen (marked seen) ((memory_of t s.words).nodes.contents n) (r.memory.shadow.settled n) o
+            go None e = let open_before = subst (IsOpen ((memory_of t s.words).nodes.versions n) ((memory_of t s.words).nodes.contents n) (r.memory.shadow.settled n)) (ap (λ f. f n) (sym is) ∙ e) (r.memory.nodes.unlocked n inside) in let z = open_before.0 in let h = hit in absurd (omega (arith, z, h, odd))
+            go (Some j) e = tt
+
+  marks_any : (n seen : ℕ) → n < t.nodes → seen % 2 ≡ 1 → Allows Holds slots id me (4 + 36 * n) (λ x. either (x == seen) (marked seen) x) (marks (step slots (4 + 36 * n) seen (marked seen) none) me)
+  marks_any n seen inside odd s r deep at small =
+      let k : ℕ = get_or s.words (4 + 36 * n) 0 in
+      by_same k seen (λ b. (w : Log) × (a : Act (Unit {0})) × Valid s.homes me.1 a × Holds (stepped s (4 + 36 * n) (either b (marked seen) k) id me.1 w a) × MatchBool b
+      (◌≡◌ {A = Seated} (w, carried_after me.1 a) (after_write me.0, me.1)) (◌≡◌ {A = Seated} (w, carried_after me.1 a) (after_load (4 + 36 * n) k me.0, me.1)))
+      (λ is. (after_write me.0, keeps, tt, marked_node n seen inside odd s r at (load_version_at t s.words n inside ∙ is), refl))
+      (λ miss. (after_load (4 + 36 * n) k me.0, keeps, tt, refused t slots id me caller s r n at, refl))
+
+  pub marks_node_by_bits : (n place seen : ℕ) → place ≡ 4 + 36 * n → n < t.nodes → seen % 2 ≡ 1 → Allows Holds slots id me place (λ x. either (x == seen) (bit_or seen 3) x) (marks (step slots place seen (bit_or seen 3) none) me)
+  marks_node_by_bits n place seen is inside odd =
+      let sum = or_add_and seen 3 in
+      let low = and_mask seen 2 in
+      let set_bits : marked seen ≡ bit_or seen 3 = omega (arith, sum, low) in
+      subst (λ p. Allows Holds slots id me p (λ x. either (x == seen) (bit_or seen 3) x) (marks (step slots p seen (bit_or seen 3) none) me)) (sym is)
+      (subst (λ z. Allows Holds slots id me (4 + 36 * n) (λ x. either (x == seen) z x) (marks (step slots (4 + 36 * n) seen z none) me)) set_bits (marks_any n seen inside odd))
+
+  -- a node is let go with the version that it had
+  module _ (n : ℕ) (hn : Holding) (found : held_of n me.0.holdings.held ≡ Some hn) (clean : hn.stored ≡ false) (s : Sit) (r : Holds s) (at : get_elem? s.views id ≡ some me.0) where
+    abbrev v' : Log
+    v' = after_node_release_same n me.0
+
+    my_lock : HoldsNode t (memory_of t s.words).nodes r.memory.shadow id hn × (hn.node ≡ n)
+    my_lock = held_by t (memory_of t s.words).nodes s.views r.memory.history r.memory.shadow r.memory.nodes id me.0 n hn at found
+
+    inside : n < t.nodes
+    inside = subst (λ k. k < t.nodes) my_lock.1 my_lock.0.within
+
+    pub locked_at : IsLockedAt hn.version ((memory_of t s.words).nodes.versions n)
+    locked_at = subst (λ k. IsLockedAt hn.version ((memory_of t s.words).nodes.versions k)) my_lock.1 my_lock.0.locked
+
+    holder_n : r.memory.shadow.holder n ≡ Some id
+    holder_n = ap r.memory.shadow.holder (sym my_lock.1) ∙ my_lock.0.is_holder
+
+    abbrev words'' : NodeWords
+    words'' = record (memory_of t s.words).nodes { versions = updated (memory_of t s.words).nodes.versions n hn.version }
+
+    abbrev shadow'' : Shadow
+    shadow'' = record r.memory.shadow { holder = updated r.memory.shadow.holder n None }
+
+    kept_lock : (j : ℕ) (h : Holding) → h.node ≢ n → HoldsNode t (memory_of t s.words).nodes r.memory.shadow j h → HoldsNode t words'' shadow'' j h
+    kept_lock j h far k = record {
+      within = k.within;
+      is_holder = updated_other r.memory.shadow.holder n None h.node far ∙ k.is_holder;
+      locked = subst (IsLockedAt h.version) (sym (updated_other (memory_of t s.words).nodes.versions n hn.version h.node far)) k.locked;
+      as_now = k.as_now;
+      settled = k.settled;
+      stored = k.stored;
+      clean = k.clean;
+      marked = k.marked;
+      unmarked = k.unmarked;
+    }
+
+    left : (P : Holding → Type 0) → AllByRecursion (λ h. h.node ≢ n → P h) me.0.holdings.held → AllByRecursion P (without_lock n me.0.holdings.held)
+    left P all = subst (λ xs. AllByRecursion P (without_lock n xs)) (map_same me.0.holdings.held) (left_all (λ h. h) (λ _. refl) n P me.0.holdings.held all)
+
+    still_held : (k : ℕ) → k ≢ n → IsSome (held_of k me.0.holdings.held) → IsSome (held_of k (without_lock n me.0.holdings.held))
+    still_held k far h = subst (λ xs. IsSome (held_of k (without_lock n xs))) (map_same me.0.holdings.held) (left_held (λ h. h) (λ _. refl) n k far me.0.holdings.held h)
+
+    head_kept : (o : Option ℕ) → Dec (n ≡ 0) → IfSome o (λ k. ((memory_of t s.words).nodes.head ≡ k) × IsSome (held_of 0 me.0.holdings.held)) → IfSome (head_without n o) (λ k. ((memory_of t s.words).nodes.head ≡ k) × IsSome (held_of 0 (without_lock n me.0.holdings.held)))
+    head_kept o (yes e) h = rw (eq-eqb n 0 e) tt
+    head_kept o (no ne) h = rw (ne_eqb n 0 ne) (go o h)
+      where
+        go : (o : Option ℕ) → IfSome o (λ k. ((memory_of t s.words).nodes.head ≡ k) × IsSome (held_of 0 me.0.holdings.held)) → IfSome o (λ k. ((memory_of t s.words).nodes.head ≡ k) × IsSome (held_of 0 (without_lock n me.0.holdings.held)))
+        go None h = tt
+        go (Some k) h = (h.0, still_held 0 (λ e. ne (sym e)) h.1)
+
+    mine : HoldingsHold t words'' shadow'' id (after_node_release_same n me.0).holdings
+    mine = let h = r.memory.nodes.holdings id me.0 at in record {
+      each = left (HoldsNode t words'' shadow'' id) (all_map (HoldsNode t (memory_of t s.words).nodes r.memory.shadow id) (λ h. h.node ≢ n → HoldsNode t words'' shadow'' id h) (λ h k far. kept_lock id h far k) me.0.holdings.held h.each);
+      once = λ k. (let a = subst (λ xs. count_by (λ h. h.node == k) (without_lock n xs) ≤ count_by (λ h. h.node == k) me.0.holdings.held) (map_same me.0.holdings.held) (left_once (λ h. h) (λ _. refl) n k me.0.holdings.held) in let b = h.once k in omega (arith, a, b));
+      few_out = h.few_out;
+      head = head_kept me.0.holdings.head (ℕ_discrete n 0) h.head;
+    }
+
+    others : (j : ℕ) (u : Log) → j ≢ id → get_elem? s.views j ≡ some u → HoldingsHold t words'' shadow'' j u.holdings
+    others j u far there = let h = r.memory.nodes.holdings j u there in record {
+      each = all_map (HoldsNode t (memory_of t s.words).nodes r.memory.shadow j) (HoldsNode t words'' shadow'' j) (λ h k. kept_lock j h (λ e. far (same_Some _ _ (sym k.is_holder ∙ (ap r.memory.shadow.holder e ∙ holder_n)))) k) u.holdings.held h.each;
+      once = h.once;
+      few_out = h.few_out;
+      head = h.head;
+    }
+
+    spells : SpellsNode ((memory_of t s.words).nodes.contents n) (r.memory.shadow.settled n)
+    spells = subst (λ ws. SpellsNode ws (r.memory.shadow.settled n)) (my_lock.0.as_now ∙ ap (memory_of t s.words).nodes.contents my_lock.1) (subst (SpellsNode hn.words) (my_lock.0.settled ∙ ap r.memory.shadow.settled my_lock.1) (my_lock.0.clean clean))
+
+    not_stored : r.memory.shadow.stored n ≡ false
+    not_stored = ap r.memory.shadow.stored (sym my_lock.1) ∙ (sym my_lock.0.stored ∙ clean)
+
+    pub let_go : TableInvariant t (set s.words (4 + 36 * n) hn.version) (set s.views id (after_node_release_same n me.0))
+    let_go =
+        let l = locked_at in
+        let low = l.0 in
+        stepped_version t id me.0 v' caller n hn.version inside s r at (updated r.memory.shadow.holder n None) (λ k far. updated_other r.memory.shadow.holder n None k far) (record {
+          mine = mine;
+          others = others;
+          open_then = subst (IsOpen hn.version ((memory_of t s.words).nodes.contents n) (r.memory.shadow.settled n)) (sym (updated_here r.memory.shadow.holder n None n refl)) (low, spells);
+          held_then = subst (HeldBy n (set s.views id v')) (sym (updated_here r.memory.shadow.holder n None n refl)) tt;
+          kept = still_held;
+          later = λ k even less. ⊎_elim (λ (e : (memory_of t s.words).nodes.versions n ≡ hn.version + 1). omega (arith, e, low, even, less)) (λ (e : (memory_of t s.words).nodes.versions n ≡ hn.version + 3). omega (arith, e, low, even, less)) l.1;
+          stood = λ k even st. inr (⊎_elim (λ (is : hn.version ≡ k). (subst (λ z. IsLockedAt z ((memory_of t s.words).nodes.versions n)) is l, not_stored))
+              (λ (o : IsLockedAt k hn.version × (r.memory.shadow.stored n ≡ false)). absurd (⊎_elim (λ (e : hn.version ≡ k + 1). omega (arith, e, low, even)) (λ (e : hn.version ≡ k + 3). omega (arith, e, low, even)) o.0.1)) st);
+        }) refl (record { terms = refl; role = refl; past = refl; receipts = refl; allowance = refl; made = refl; lineage = refl }) refl
+        (⊎_elim (λ (e : (memory_of t s.words).nodes.versions n ≡ hn.version + 1). omega (arith, e, low)) (λ (e : (memory_of t s.words).nodes.versions n ≡ hn.version + 3). omega (arith, e, low)) l.1) (record { own = refl; sights = refl; loads = refl; turn = omega arith })
+
+  pub releases_same_any : (n : ℕ) (hn : Holding) → held_of n me.0.holdings.held ≡ Some hn → hn.stored ≡ false → Allows Holds slots id me (4 + 36 * n) (λ _. hn.version) (releases_same_node n (step slots (4 + 36 * n) hn.version 0 none) me)
+  releases_same_any n hn found clean s r deep at small =
+      let word = load_version_at t s.words n (inside n hn found clean s r at) in (
+        after_node_release_same n me.0,
+        keeps,
+        tt,
+        let_go n hn found clean s r at,
+        (refl, subst (λ o. IfSome o (λ h. IsLockedAt h.version (get_or s.words (4 + 36 * n) 0))) (sym found) (subst (IsLockedAt hn.version) word (locked_at n hn found clean s r at))),
+      )
+
+  -- the same as the code has it: the version is the one that the caller keeps
+  pub releases_same_of : (n k place version : ℕ) → k ≡ n → place ≡ 4 + 36 * n → IsSomeAnd (held_of n me.0.holdings.held) (λ h. h.stored ≡ false) → IfSome (held_of n me.0.holdings.held) (λ h. h.version ≡ version)
+      → Allows Holds slots id me place (λ _. version) (releases_same_node k (step slots place version 0 none) me)
+  releases_same_of n k place version node is clean kept =
+      let h = some_with (held_of n me.0.holdings.held) (λ (h : Holding). h.stored ≡ false) clean in
+      let same = subst (λ o. IfSome o (λ h. h.version ≡ version)) h.1.0 kept in
+      subst (λ p. Allows Holds slots id me p (λ _. version) (releases_same_node k (step slots p version 0 none) me)) (sym is)
+      (subst (λ j. Allows Holds slots id me (4 + 36 * n) (λ _. version) (releases_same_node j (step slots (4 + 36 * n) version 0 none) me)) (sym node)
+      (subst (λ z. Allows Holds slots id me (4 + 36 * n) (λ _. z) (releases_same_node n (step slots (4 + 36 * n) z 0 none) me)) same (releases_same_any n h.0 h.1.0 h.1.1)))
+
+  -- of whichever lock it is, by its place
+  pub marks_lock : (lock : LockId) (place seen : ℕ) → place ≡ lock_place lock → IsLock t lock → seen % 2 ≡ 1 → Allows Holds slots id me place (λ x. either (x == seen) (bit_or seen 3) x) (marks (step slots place seen (bit_or seen 3) none) me)
+  marks_lock lock.Loader place seen is there odd = subst (λ p. Allows Holds slots id me p (λ x. either (x == seen) (bit_or seen 3) x) (marks (step slots p seen (bit_or seen 3) none) me)) (sym is) (marks_by_bits t slots id me caller seen odd)
+  marks_lock (lock.Node n) place seen is there odd = marks_node_by_bits n place seen is there odd
+
+-- the place of a lock is one of the table's words
+pub lock_within : (t : Terms) (lock : LockId) → IsLock t lock → lock_place lock < word_count t
+lock_within t lock.Loader there = omega arith
+lock_within t (lock.Node n) there = omega (arith, there)
