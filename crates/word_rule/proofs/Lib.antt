@@ -17,6 +17,7 @@ pub mod Receiving
 pub mod Loader
 pub mod NodeLoads
 pub mod HeadPlays
+pub mod HeadLoads
 pub mod NodeLocks
 pub mod CopyStores
 pub mod SeatNodes

@@ -131,6 +131,18 @@ module _ (t : Terms) (slots id : ℕ) (me : Seated) (caller : me.0.role ≡ role
         (refl, subst (λ k. IfSome me.0.loader (IsHeldWord k at found)) (sym terms) (held_word s r at here me.0.loader (r.memory.callers.at_loader id me.0 here))),
       )
 
+  -- as many members are registered as the tree has entries
+  pub had_members : (order : OrderLaw) (s : Sit) (r : Holds s) → get_elem? s.views id ≡ some me.0 → (least : ℕ) → least ≤ length (entries r.memory.shadow.settled) → HadMembers t r.memory.history me.0.receipts.own least
+  had_members order s r here least many =
+      let log = r.memory.callers.each id me.0 here in
+      let seen = longer_length me.0.past r.memory.history log.begins in
+      let last = last_within t me.0.past (total (λ u. u.made) s.views + 1) 0 me.0.receipts.own (omega arith) log.receipts.own.0 in
+      let tree = r.memory.nodes.lawful.tree in
+      let fit = ascending_fit 0 (2 ^ 64 - 1) (entries r.memory.shadow.settled) (state_after (start t) r.memory.history).registered (order.ascending r.memory.shadow.settled r.memory.shadow.live tree)
+      (λ x there. (r.memory.nodes.entries x).0 ((order.members r.memory.shadow.settled r.memory.shadow.live x tree).0 there)) in
+      let all : state_at (start t) r.memory.history (length r.memory.history) ≡ state_after (start t) r.memory.history = ap (state_after (start t)) (take_all (length r.memory.history) r.memory.history (omega arith)) in
+      (length r.memory.history, (omega (arith, last, seen), omega arith, subst (λ st. least ≤ length st.registered) (sym all) (omega (arith, many, fit))))
+
   -- a full node's count, loaded under its lock
   pub full_count : (law : FullLaw) (order : OrderLaw) (s : Sit) (r : Holds s) (n at : ℕ) → get_elem? s.views id ≡ some me.0 → 1 ≤ at → at ≤ 35
       → WasFull t r.memory.history (total (λ u. u.made) s.views + 1) me.0.receipts.own (load_of me.0 (4 + 36 * n + at) (get_or s.words (4 + 36 * n + at) 0))
@@ -153,17 +165,6 @@ module _ (t : Terms) (slots id : ℕ) (me : Seated) (caller : me.0.role ≡ role
           go None none_there p = absurd (true≢false (sym none_there))
           go (Some f) there p = p.0
 
-      members : 10 ≤ length (entries r.memory.shadow.settled) → HadMembers t r.memory.history me.0.receipts.own 10
-      members ten =
-          let log = r.memory.callers.each id me.0 here in
-          let seen = longer_length me.0.past r.memory.history log.begins in
-          let last = last_within t me.0.past (total (λ u. u.made) s.views + 1) 0 me.0.receipts.own (omega arith) log.receipts.own.0 in
-          let tree = r.memory.nodes.lawful.tree in
-          let fit = ascending_fit 0 (2 ^ 64 - 1) (entries r.memory.shadow.settled) (state_after (start t) r.memory.history).registered (order.ascending r.memory.shadow.settled r.memory.shadow.live tree)
-          (λ x there. (r.memory.nodes.entries x).0 ((order.members r.memory.shadow.settled r.memory.shadow.live x tree).0 there)) in
-          let all : state_at (start t) r.memory.history (length r.memory.history) ≡ state_after (start t) r.memory.history = ap (state_after (start t)) (take_all (length r.memory.history) r.memory.history (omega arith)) in
-          (length r.memory.history, (omega (arith, last, seen), omega arith, subst (λ st. 10 ≤ length st.registered) (sym all) (omega (arith, ten, fit))))
-
       told : (h : Holding) → HoldsNode t (memory_of t s.words).nodes r.memory.shadow id h → IsFullCount (load_of me.0 (4 + 36 * n + at) (get_or s.words (4 + 36 * n + at) 0)) h → HadMembers t r.memory.history me.0.receipts.own 10
       told h holds full =
           let place = full.0 in
@@ -174,6 +175,6 @@ module _ (t : Terms) (slots id : ℕ) (me : Seated) (caller : me.0.role ≡ role
           sym (load_content_at t s.words n at (omega (arith, w, node)) low high) ∙ (ap (λ k. get_or ((memory_of t s.words).nodes.contents n) (k - 1) 0) five ∙ ap (λ ws. node_word ws 5) (ap (memory_of t s.words).nodes.contents (sym node) ∙ sym holds.as_now)) in
           let size = reads_full h.words h.settled (get_or s.words (4 + 36 * n + at) 0) full.2 found full.3 in
           let live = live_of h full.1 holds.marked in
-          members (law r.memory.shadow.settled r.memory.shadow.live h.node r.memory.nodes.lawful live
+          had_members order s r here 10 (law r.memory.shadow.settled r.memory.shadow.live h.node r.memory.nodes.lawful live
           (⊎_elim (λ (e : length (pairs_of h.settled) ≡ 15). inl (let z : length (pairs_of (r.memory.shadow.settled h.node)) ≡ 15 = ap (λ k. length (pairs_of k)) (sym holds.settled) ∙ e in omega (arith, z)))
           (λ (e : length (entries_of h.settled) ≡ 10). inr (let z : length (entries_of (r.memory.shadow.settled h.node)) ≡ 10 = ap (λ k. length (entries_of k)) (sym holds.settled) ∙ e in omega (arith, z))) size))

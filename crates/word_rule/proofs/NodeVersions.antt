@@ -308,7 +308,7 @@ module _ (t : Terms) (slots id : ℕ) (me : Seated) (caller : me.0.role ≡ role
   abbrev Holds : Sit → Type 0
   Holds s = TableInvariant t s.words s.views
 
-  pub loads_node_version : ChildrenLaw → (a : Ask) (n : ℕ) → n < t.nodes → Allows Holds slots id me (4 + 36 * n) (λ k. k) (loads_version a n (step slots (4 + 36 * n) 0 0 none) me)
+  pub loads_node_version : ChildrenLaw → (a : Ask) (n : ℕ) → n < t.nodes → Allows Holds slots id me (4 + 36 * n) (λ k. k) (loads_version t a n (step slots (4 + 36 * n) 0 0 none) me)
   loads_node_version law a n inside s r deep here small =
       let found : ℕ = get_or s.words (4 + 36 * n) 0 in
       let w : Log = record (after_load (4 + 36 * n) found me.0) { sights = record me.0.sights { nodes = sights_after_version n found (sight_of n me.0.sights.nodes) me.0.sights.nodes } } in
@@ -330,12 +330,13 @@ module _ (t : Terms) (slots id : ℕ) (me : Seated) (caller : me.0.role ≡ role
         tt,
         subst (λ vs. TableInvariant t (set s.words (4 + 36 * n) found) vs) both
             (answered t (set s.words (4 + 36 * n) found) (set s.views id w) looked id w (set_here s.views id w (within s.views id me.0 here)) caller rs (told_version t me.0 a found (sight_of n me.0.sights.nodes) terms)),
-        (refl, found_again t m.nodes s.views r.memory.history r.memory.shadow r.memory.nodes law (content_length t s.words r.wide) me.0.terms terms n found at (sight_of n me.0.sights.nodes) me.0.sights.nodes refl o.sights),
+        (refl, terms, found_again t m.nodes s.views r.memory.history r.memory.shadow r.memory.nodes law (content_length t s.words r.wide) me.0.terms terms n found at (sight_of n me.0.sights.nodes) me.0.sights.nodes refl o.sights),
       )
 
   -- the same as the code has it
-  pub loads_version_of : ChildrenLaw → (a b : Ask) (n k place : ℕ) → b ≡ a → k ≡ n → place ≡ 4 + 36 * n → n < t.nodes → Allows Holds slots id me place (λ x. x) (loads_version b k (step slots place 0 0 none) me)
-  loads_version_of law a b n k place asked node is inside =
-      subst (λ p. Allows Holds slots id me p (λ x. x) (loads_version b k (step slots p 0 0 none) me)) (sym is)
-      (subst (λ j. Allows Holds slots id me (4 + 36 * n) (λ x. x) (loads_version b j (step slots (4 + 36 * n) 0 0 none) me)) (sym node)
-      (subst (λ j. Allows Holds slots id me (4 + 36 * n) (λ x. x) (loads_version j n (step slots (4 + 36 * n) 0 0 none) me)) (sym asked) (loads_node_version law a n inside)))
+  pub loads_version_of : ChildrenLaw → (u : Terms) (a b : Ask) (n k place : ℕ) → t ≡ u → b ≡ a → k ≡ n → place ≡ 4 + 36 * n → n < t.nodes → Allows Holds slots id me place (λ x. x) (loads_version u b k (step slots place 0 0 none) me)
+  loads_version_of law u a b n k place same asked node is inside =
+      subst (λ p. Allows Holds slots id me p (λ x. x) (loads_version u b k (step slots p 0 0 none) me)) (sym is)
+      (subst (λ j. Allows Holds slots id me (4 + 36 * n) (λ x. x) (loads_version u b j (step slots (4 + 36 * n) 0 0 none) me)) (sym node)
+      (subst (λ j. Allows Holds slots id me (4 + 36 * n) (λ x. x) (loads_version u j n (step slots (4 + 36 * n) 0 0 none) me)) (sym asked)
+      (subst (λ j. Allows Holds slots id me (4 + 36 * n) (λ x. x) (loads_version j a n (step slots (4 + 36 * n) 0 0 none) me)) same (loads_node_version law a n inside))))

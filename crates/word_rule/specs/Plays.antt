@@ -9,7 +9,8 @@ use Rattle.word_rule.specs.declared.log.LoaderHolding.{LoaderHolding}
 use Rattle.word_rule.specs.declared.log.Ask.{Ask}
 use Rattle.word_rule.specs.Places.{ALLOWANCE, node_place}
 use Rattle.word_rule.specs.Sights.{after_node_version, after_node_load, after_copy_load}
-use Rattle.word_rule.specs.Steps.{after_node_lock, after_give, after_copy_store, AfterPublish, IsHeldWord}
+use Rattle.word_rule.specs.Steps.{after_node_lock, after_head_load, after_copy_store, AfterPublish}
+use Rattle.word_rule.specs.Steps.{HeadStored, IsHeldWord}
 use Rattle.word_rule.specs.Steps.{AfterNodeRelease, after_node_release_same}
 use Rattle.word_rule.specs.declared.log.Terms.{Terms}
 use Rattle.word_rule.specs.Clock.{AfterClock}
@@ -84,9 +85,10 @@ loads_node n at st me found me' =
     (me' ≡ (after_node_load n at found me.0, me.1)) × HeldTells n at found me.0
 
 -- a node's version was loaded
-abbrev pub loads_version : Ask → ℕ → Stepped → Seated → ℕ → Seated → Type 0
-loads_version ask n st me found me' =
-    (me' ≡ (after_node_version ask n found me.0, me.1)) × SightTells n found me.0
+abbrev pub loads_version : Terms → Ask → ℕ → Stepped → Seated → ℕ → Seated → Type 0
+loads_version t ask n st me found me' =
+    (me' ≡ (after_node_version ask n found me.0, me.1)) × (me.0.terms ≡ t)
+    × SightTells n found me.0
 
 -- a node was taken at a version
 abbrev pub TakesNode : ℕ → ℕ → Seated → Seated → Type 0
@@ -120,9 +122,15 @@ abbrev pub releases_same_node : ℕ → Stepped → Seated → ℕ → Seated �
 releases_same_node n st me found me' =
     (me' ≡ (after_node_release_same n me.0, me.1)) × NodeWasLocked n me found
 
--- a node was put back on the free list
-abbrev pub gives_node : Stepped → Seated → ℕ → Seated → Type 0
-gives_node st me found me' = me' ≡ (after_give st.first me.0, me.1)
+-- the head was loaded: it is a node
+abbrev pub loads_head : Terms → Stepped → Seated → ℕ → Seated → Type 0
+loads_head t st me found me' =
+    (me' ≡ (after_head_load found me.0, me.1)) × (me.0.terms ≡ t) × (found < t.nodes)
+
+-- the head was stored
+abbrev pub stores_the_head : Stepped → Seated → ℕ → Seated → Type 0
+stores_the_head st me found me' =
+    IfSome me.0.holdings.head (HeadStored st.first me.0 me'.0) × (me'.1 ≡ me.1)
 
 -- a word of the copy that is not active was stored
 abbrev pub stores_copy : Stepped → Seated → ℕ → Seated → Type 0

@@ -274,14 +274,24 @@ abbrev pub IsFreeTo : ℕ → ℕ → Log → Type 0
 IsFreeTo n next v = IsSomeAnd (held_of n v.holdings.held)
     (λ h. IsSomeAnd (spelled (h.words)) (λ s. s.body ≡ Link next))
 
--- a store of the head takes the first node off the list, which the caller holds, or puts one there
--- that was out
+-- a store of the head takes the first node off the list, which the caller holds and which is linked
+-- to the new head
+abbrev pub MayTake : ℕ → ℕ → Log → Type 0
+MayTake first node v = (first ≢ 0) × IsFreeTo first node v × (length v.holdings.out < 4)
+
+-- or it puts one there that was out, linked to the head before
+abbrev pub MayGive : ℕ → ℕ → Log → Type 0
+MayGive first node v = IsFreeTo node first v × IsTrue (is_among v.holdings.out node)
+
 abbrev pub MayStoreHead : ℕ → Log → Type 0
 MayStoreHead node v =
     IsSome (held_of 0 v.holdings.held)
-    × IsSomeAnd v.holdings.head
-    (λ h. ((h ≢ 0) × IsFreeTo h node v × (length v.holdings.out < 4))
-    ⊎ (IsFreeTo node h v × IsTrue (is_among v.holdings.out node)))
+    × IsSomeAnd v.holdings.head (λ first. MayTake first node v ⊎ MayGive first node v)
+
+-- what it makes of a log, where this was the head
+pub record HeadStored (node : ℕ) (v w : Log) (first : ℕ) : Type 0 where
+  pub take : MayTake first node v → w ≡ after_take first node v
+  pub give : MayGive first node v → w ≡ after_give node v
 
 -- side by side: an exchange at the head takes a node off, or puts one there
 abbrev pub after_pop : ℕ → Log → Log

@@ -32,10 +32,10 @@ abbrev pub after_version : Ask → LockId → ℕ → Log → Log
 after_version a lock.Loader found v = after_load LOADER found v
 after_version a (lock.Node n) found v = after_node_version a n found v
 
--- what a found version tells
-abbrev pub VersionTells : LockId → ℕ → Log → Type 0
-VersionTells lock.Loader found v = Unit {0}
-VersionTells (lock.Node n) found v = SightTells n found v
+-- what a found version of a node tells: the terms, and what the sight of the node is of
+abbrev pub VersionTells : Terms → LockId → ℕ → Log → Type 0
+VersionTells t lock.Loader found v = Unit {0}
+VersionTells t (lock.Node n) found v = (v.terms ≡ t) × SightTells n found v
 
 -- the loader's lock was taken at a version
 abbrev pub LoaderTaken : ℕ → CallerData → CallerData → Type 0

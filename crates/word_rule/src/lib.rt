@@ -24,6 +24,7 @@
 mod caller;
 mod clock;
 pub mod exchange;
+mod head;
 mod initial;
 pub mod laws;
 mod lifecycle;

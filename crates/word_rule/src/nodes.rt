@@ -34,12 +34,13 @@ pub(crate) fn place_of(node: u32) -> usize
 impl Words {
     fn load_version_for<N: AtNode>(&self, seat: &mut Seat<(), Log>, node: u32, ask: Ask) -> u64
         requires table { seat.old.table_id ≡ self.now.table }
-        requires about { (N.node ≡ node) × (N.ask ≡ ask) }
+        requires about { (N.node ≡ node) × (N.ask ≡ ask) × (N.terms ≡ self.now.terms) }
         requires inside { node < self.now.terms.nodes }
         requires caller { seat.old.me.0.role ≡ Role.Caller }
         ensures same { (seat.new.table_id ≡ seat.old.table_id) × (seat.new.id ≡ seat.old.id)
             × (seat.new.me.1 ≡ seat.old.me.1) }
         ensures log { seat.new.me.0 ≡ after_node_version N.ask N.node result seat.old.me.0 }
+        ensures terms { seat.old.me.0.terms ≡ N.terms }
         ensures tells { SightTells N.node result seat.old.me.0 }
     {
         let _ = ask;
@@ -54,6 +55,7 @@ impl Words {
         requires table { me.old.table ≡ self.now.table }
         requires inside { node < self.now.terms.nodes }
         ensures log { me.new ≡ record me.old { log = after_node_version ask node result me.old.log } }
+        ensures terms { me.old.log.terms ≡ self.now.terms }
         ensures tells { SightTells node result me.old.log }
     {
         self.load_version_for::<Brand>(&mut me.seat, node, ask)

@@ -121,19 +121,24 @@ impl<A: Asking> Play<(), Log> for LoadsClock<A> {
     ghost then = { loads_clock A.terms A.ask };
 }
 
-/// Of which node a step is, at which of its words, and what it is asked, where it is asked.
+/// Of which node a step is, at which of its words, what it is asked, and with what its words were
+/// made.
 pub(crate) trait AtNode {
     ghost use Rattle.std.specs.Prelude.{ℕ};
     ghost use Rattle.word_rule.specs.declared.log.Ask.{Ask};
+    ghost use Rattle.word_rule.specs.declared.log.Terms.{Terms};
 
     ghost node: { ℕ };
 
     ghost at: { ℕ };
 
     ghost ask: { Ask };
+
+    ghost terms: { Terms };
 }
 
 impl AtNode for Brand {
+    ghost use Rattle.std.specs.Prelude.{[]};
     ghost use Rattle.word_rule.specs.declared.log.Ask.TheVariants as ask;
 
     ghost node = { 0 };
@@ -141,6 +146,8 @@ impl AtNode for Brand {
     ghost at = { 0 };
 
     ghost ask = { ask.Nothing };
+
+    ghost terms = { record { nodes = 0; loads = 0; payloads = 0; fixed = [] } };
 }
 
 pub(crate) struct LoadsVersion<N> {
@@ -150,7 +157,7 @@ pub(crate) struct LoadsVersion<N> {
 impl<N: AtNode> Play<(), Log> for LoadsVersion<N> {
     ghost use Rattle.word_rule.specs.Plays.{loads_version};
 
-    ghost then = { loads_version N.ask N.node };
+    ghost then = { loads_version N.terms N.ask N.node };
 }
 
 pub(crate) struct LoadsNode<N> {
@@ -191,6 +198,24 @@ impl<N: AtNode> Play<(), Log> for ReleasesSameNode<N> {
     ghost use Rattle.word_rule.specs.Plays.{releases_same_node};
 
     ghost then = { releases_same_node N.node };
+}
+
+pub(crate) struct LoadsHead<A> {
+    asking: PhantomData<A>,
+}
+
+impl<A: Asking> Play<(), Log> for LoadsHead<A> {
+    ghost use Rattle.word_rule.specs.Plays.{loads_head};
+
+    ghost then = { loads_head A.terms };
+}
+
+pub(crate) struct StoresHead;
+
+impl Play<(), Log> for StoresHead {
+    ghost use Rattle.word_rule.specs.Plays.{stores_the_head};
+
+    ghost then = { stores_the_head };
 }
 
 pub(crate) struct StoresCopy;

@@ -101,7 +101,7 @@ fn each_load_of_a_node(rt: HostRuntime) -> Result<(), Fail> {
     assert!(rt; words.load_node(&mut a, 0, 1) == 1 && words.load_node(&mut a, 0, 2) == 0);
     assert!(rt; words.load_node(&mut a, 0, 4) == u64::MAX && words.load_node(&mut a, 0, 5) == 0);
     assert!(rt; words.load_node(&mut a, 1, 1) == 2 && words.load_node(&mut a, 1, 6) == 2);
-    assert!(rt; words.load_node(&mut a, 3, 6) == 0);
+    assert!(rt; words.load_node(&mut a, 3, 6) == 0 && words.load_head(&mut a) == 1);
     assert!(rt; words.load_version(&mut a, root, Ask::Registered { pc: 5 }) == 0);
     Ok(())
 }

@@ -103,7 +103,7 @@ impl Words {
         requires table { me.old.table ≡ self.now.table }
         requires lock { IsLock self.now.terms lock }
         ensures log { me.new ≡ record me.old { log = after_version ask lock result me.old.log } }
-        ensures tells { VersionTells lock result me.old.log }
+        ensures tells { VersionTells self.now.terms lock result me.old.log }
     {
         match lock {
             LockId::Loader => self.load_loader(me),

@@ -2,4 +2,4 @@ use Rattle.word_rule.specs.declared.log.Ask.TheVariants as ask
 use Rattle.word_rule.proofs.words.Words.release_node_same.Given as goal
 
 abbrev pub ghosts-release_same_for : goal.ghosts-release_same_for
-ghosts-release_same_for a = record { node = a.node; at = 0; ask = ask.Nothing }
+ghosts-release_same_for a = record { node = a.node; at = 0; ask = ask.Nothing; terms = a.self.now.terms }
