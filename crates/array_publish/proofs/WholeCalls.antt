@@ -8,13 +8,14 @@ use Rattle.reg_model.specs.declared.answer.Removed.TheVariants as removed
 use Rattle.reg_model.specs.declared.answer.Receipt.{Receipt}
 use Rattle.reg_model.specs.declared.answer.Receipt.TheVariants as receipt
 use Rattle.reg_model.specs.declared.answer.Update.{Update}
+use Rattle.word_rule.specs.declared.log.LockId.TheVariants as lock
 use Rattle.word_rule.specs.declared.log.Terms.{Terms}
 use Rattle.word_rule.specs.CallerData.{CallerData}
 use Rattle.node_store.specs.Locking.{Locks}
 use Rattle.array_publish.specs.Update.{AnswersLoad, AnswersUnload, AnswersWith, CallsWith, HoldsCopies, IsClean, IsRightLoad, IsRightUnload, LoadsMember, TellsLoad, TellsUnload, UnloadsMember, after_answer, after_letting_go, begun, is_loaded, is_unloaded}
 
 -- the call of one that held no lock: locked, answered, let go
-pub whole_call : (right : List Update → Type 0) (r : Receipt) (accepted : Bool) (k1 k2 k3 k4 : CallerData) → Locks k1 k2 → AnswersWith right r accepted k2 k3 → k4 ≡ record k3 { log = after_letting_go accepted k3.log } → CallsWith right r accepted k1 k4
+pub whole_call : (right : List Update → Type 0) (r : Receipt) (accepted : Bool) (k1 k2 k3 k4 : CallerData) → Locks lock.Loader k1 k2 → AnswersWith right r accepted k2 k3 → k4 ≡ record k3 { log = after_letting_go accepted k3.log } → CallsWith right r accepted k1 k4
 whole_call right r true k1 k2 k3 k4 locked p gone =
     let writes : k1.log.trace.writes + locked.1 + 1 + p.2 + 1 ≡ k1.log.trace.writes + (locked.1 + 1 + p.2 + 1) = omega arith in (
       p.0,
@@ -59,14 +60,14 @@ whole_call right r false k1 k2 k3 k4 locked p gone =
       ),
     )
 
-past_kept : (k1 k2 : CallerData) → Locks k1 k2 → k2.log.past ≡ k1.log.past
+past_kept : (k1 k2 : CallerData) → Locks lock.Loader k1 k2 → k2.log.past ≡ k1.log.past
 past_kept k1 k2 locked = ap (λ (k : CallerData). k.log.past) locked.3.2
 
-pub load_told : (t : Terms) (m : Member) (k1 k2 k3 k4 : CallerData) (a : Loading) (published : Bool) → published ≡ is_loaded a → Locks k1 k2 → AnswersLoad t m k2 k3 a → k4 ≡ record k3 { log = after_letting_go published k3.log } → TellsLoad t m k1 k4 a
+pub load_told : (t : Terms) (m : Member) (k1 k2 k3 k4 : CallerData) (a : Loading) (published : Bool) → published ≡ is_loaded a → Locks lock.Loader k1 k2 → AnswersLoad t m k2 k3 a → k4 ≡ record k3 { log = after_letting_go published k3.log } → TellsLoad t m k1 k4 a
 load_told t m k1 k2 k3 k4 a published is locked q gone =
     whole_call (λ past. IsRightLoad t m k1.log.past past a) (receipt.Load m a) (is_loaded a) k1 k2 k3 k4 locked (q.0, q.1, q.2, q.3, q.4, (subst (λ z. IsRightLoad t m z q.0 a) (past_kept k1 k2 locked) q.5.0, q.5.1, q.5.2)) (subst (λ b. k4 ≡ record k3 { log = after_letting_go b k3.log }) is gone)
 
-pub unload_told : (t : Terms) (base : ℕ) (k1 k2 k3 k4 : CallerData) (a : Removed) (published : Bool) → published ≡ is_unloaded a → Locks k1 k2 → AnswersUnload t base k2 k3 a → k4 ≡ record k3 { log = after_letting_go published k3.log } → TellsUnload t base k1 k4 a
+pub unload_told : (t : Terms) (base : ℕ) (k1 k2 k3 k4 : CallerData) (a : Removed) (published : Bool) → published ≡ is_unloaded a → Locks lock.Loader k1 k2 → AnswersUnload t base k2 k3 a → k4 ≡ record k3 { log = after_letting_go published k3.log } → TellsUnload t base k1 k4 a
 unload_told t base k1 k2 k3 k4 a published is locked q gone =
     whole_call (λ past. IsRightUnload t base k1.log.past past a) (receipt.Unload base a) (is_unloaded a) k1 k2 k3 k4 locked (q.0, q.1, q.2, q.3, q.4, (subst (λ z. IsRightUnload t base z q.0 a) (past_kept k1 k2 locked) q.5.0, q.5.1, q.5.2)) (subst (λ b. k4 ≡ record k3 { log = after_letting_go b k3.log }) is gone)
 
@@ -89,10 +90,10 @@ unloads_whole t base k0 k1 k4 answer some_left is p = go answer (subst (λ (k : 
     go removed.Spent q = absurd q.4.0
 
 -- a lock just taken has all words of both copies, and nothing was stored under it
-pub taken_copies : (k k' : CallerData) → Locks k k' → HoldsCopies k'.log.terms k'
+pub taken_copies : (k k' : CallerData) → Locks lock.Loader k k' → HoldsCopies k'.log.terms k'
 taken_copies k k' p = subst (λ (z : CallerData). HoldsCopies z.log.terms z) (sym p.3.2) (p.3.1.active, p.3.1.spare)
 
-pub taken_clean : (k k' : CallerData) → Locks k k' → IsClean k'
+pub taken_clean : (k k' : CallerData) → Locks lock.Loader k k' → IsClean k'
 taken_clean k k' p = subst IsClean (sym p.3.2) p.3.1.clean
 
 -- what is asked where the lock is let go

@@ -18,7 +18,7 @@ use word_rule::{Caller, LockId, Words};
 fn take<L: Locking>(locking: &L, words: &Words, me: &mut Caller) -> Result<(), Busy>
     requires table { me.old.table ≡ words.now.table }
     requires free { me.old.log.loader ≡ None }
-    ensures ok { OnOk result (Locks me.old me.new) }
+    ensures ok { OnOk result (Locks LockId.Loader me.old me.new) }
     ensures busy { IfErr result (λ e. IsBusy e.lock me.old me.new × (L.gives_up ≡ true)) }
 {
     let lock = LockId::Loader;

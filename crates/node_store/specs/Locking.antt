@@ -1,18 +1,28 @@
 -- What taking a lock makes of a caller.
-use Rattle.std.specs.Prelude.{◌≡◌, ℕ, ◌+◌, ◌%◌, List, ◌++◌}
+use Rattle.std.specs.Prelude.{◌≡◌, ℕ, ◌+◌, ◌%◌, List, ◌++◌, None}
 use Rattle.std.specs.List.{AllByRecursion}
+use Rattle.tree_shape.specs.NodeData.{NodeData}
 use Rattle.word_rule.specs.CallerData.{CallerData}
-use Rattle.word_rule.specs.Places.{LOADER, node_place}
+use Rattle.word_rule.specs.Held.{held_of}
 use Rattle.word_rule.specs.Logs.{IsTaken, after_load, after_loader_lock}
+use Rattle.word_rule.specs.NodeTells.{IsTakenNode}
+use Rattle.word_rule.specs.Steps.{after_node_lock}
+use Rattle.word_rule.specs.VersionLocks.{lock_place}
 use Rattle.word_rule.specs.declared.log.LockId.{LockId}
 use Rattle.word_rule.specs.declared.log.LockId.TheVariants as lock
 use Rattle.word_rule.specs.declared.log.LoaderHolding.{LoaderHolding}
 use Rattle.word_rule.specs.declared.log.Log.{Log}
 use Rattle.word_rule.specs.declared.log.LoadEvent.{LoadEvent}
+use Rattle.word_rule.specs.declared.log.NodeSight.{NodeSight}
 
--- a load of the loader's version word, or a refused exchange there
-abbrev pub IsOfLoader : LoadEvent → Type 0
-IsOfLoader l = l.word ≡ LOADER
+-- the caller doesn't hold this lock
+abbrev pub IsNotHeld : LockId → Log → Type 0
+IsNotHeld lock.Loader v = v.loader ≡ None
+IsNotHeld (lock.Node n) v = held_of n v.holdings.held ≡ None
+
+-- a load of a lock's version word, or a refused exchange there
+abbrev pub IsOfLock : LockId → LoadEvent → Type 0
+IsOfLock id l = l.word ≡ lock_place id
 
 -- a log after so many loads and marks
 abbrev pub tried : List LoadEvent → ℕ → Log → Log
@@ -20,21 +30,33 @@ tried more marks v = record v {
   trace = record v.trace { loads = v.trace.loads ++ more; writes = v.trace.writes + marks };
 }
 
--- Only the loader's version word was loaded and marked.
-abbrev pub Tries : CallerData → CallerData → Type 0
-Tries k k' = (more : List LoadEvent) × (marks : ℕ) ×
-    (AllByRecursion IsOfLoader more × (k' ≡ record k { log = tried more marks k.log }))
+-- a log with these sights of nodes
+abbrev pub sighted : List NodeSight → Log → Log
+sighted nodes v = record v { sights = record v.sights { nodes = nodes } }
 
--- The loader's lock was taken; all else was such loads and marks.
-abbrev pub Locks : CallerData → CallerData → Type 0
-Locks k k' = (more : List LoadEvent) × (marks : ℕ) × (h : LoaderHolding) ×
-    (AllByRecursion IsOfLoader more × IsTaken k.log.terms h.version h
+-- what loads of a version leave of the sights of nodes: all, where it is the loader's
+abbrev pub SightsAfter : LockId → List NodeSight → List NodeSight → Type 0
+SightsAfter lock.Loader before after = after ≡ before
+SightsAfter (lock.Node n) before after = Unit {0}
+
+-- Only a lock's version word was loaded and marked.
+abbrev pub Tries : LockId → CallerData → CallerData → Type 0
+Tries id k k' = (more : List LoadEvent) × (marks : ℕ) × (nodes : List NodeSight) ×
+    (AllByRecursion (IsOfLock id) more × SightsAfter id k.log.sights.nodes nodes
+    × (k' ≡ record k { log = sighted nodes (tried more marks k.log) }))
+
+-- A lock was taken; all else was such loads and marks.
+abbrev pub Locks : LockId → CallerData → CallerData → Type 0
+Locks lock.Loader k k' = (more : List LoadEvent) × (marks : ℕ) × (h : LoaderHolding) ×
+    (AllByRecursion (IsOfLock lock.Loader) more × IsTaken k.log.terms h.version h
     × (k' ≡ record k { log = after_loader_lock h (tried more marks k.log) }))
-
--- where the version word of a lock stands
-abbrev pub lock_place : LockId → ℕ
-lock_place (lock.Node n) = node_place n
-lock_place lock.Loader = LOADER
+Locks (lock.Node n) k k' =
+    (more : List LoadEvent) × (marks : ℕ) × (nodes : List NodeSight) × (version : ℕ)
+    × (settled : NodeData) × (words : List ℕ)
+    × (AllByRecursion (IsOfLock (lock.Node n)) more × IsTakenNode n k.log words settled
+    × (k' ≡ record k {
+      log = after_node_lock n version settled words (sighted nodes (tried more marks k.log));
+    }))
 
 -- The lock was found taken: its word was loaded, with bit 0 set, and nothing else was done.
 abbrev pub IsBusy : LockId → CallerData → CallerData → Type 0

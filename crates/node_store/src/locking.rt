@@ -1,10 +1,10 @@
 //! How an update gets its locks, and lets go of them: it waits for each, or it tries each once and
 //! gives up. An update has one body for all of these ways.
-ghost use Rattle.std.specs.Prelude.{◌≡◌, ◌*◌, ◌<◌, ◌%◌, Bool, true, false, MatchBool, None, IsSome};
-ghost use Rattle.std.specs.Prelude.{IsSomeAnd};
-ghost use Rattle.word_rule.specs.Logs.{after_loader_release, after_loader_release_same};
+ghost use Rattle.std.specs.Prelude.{◌≡◌, ◌*◌, ◌<◌, ◌%◌, Bool, true, false, MatchBool, IsSome};
+ghost use Rattle.word_rule.specs.Logs.{after_loader_release};
 ghost use Rattle.word_rule.specs.CallerData.{surplus};
-ghost use Rattle.node_store.specs.Locking.{IsBusy, Locks};
+ghost use Rattle.word_rule.specs.VersionLocks.{IsClean, IsLock, after_release_same};
+ghost use Rattle.node_store.specs.Locking.{IsBusy, IsNotHeld, Locks};
 
 use crate::locks::{lock, unlock, unlock_same, wake_after};
 use std::sync::Wait;
@@ -25,9 +25,9 @@ pub trait Locking {
     /// locked.
     fn take(&self, words: &Words, me: &mut Caller, id: LockId) -> bool
         requires table { me.old.table ≡ words.now.table }
-        requires lock { id ≡ LockId.Loader }
-        requires free { me.old.log.loader ≡ None }
-        ensures { MatchBool result (Locks me.old me.new)
+        requires lock { IsLock words.now.terms id }
+        requires free { IsNotHeld id me.old.log }
+        ensures { MatchBool result (Locks id me.old me.new)
             (IsBusy id me.old me.new × (gives_up ≡ true)) };
 
     /// Lets go of it with the next version.
@@ -41,9 +41,9 @@ pub trait Locking {
     /// Lets go of it with the version as it was, where nothing was stored.
     fn let_go_same(&self, words: &Words, me: &mut Caller, id: LockId)
         requires table { me.old.table ≡ words.now.table }
-        requires lock { id ≡ LockId.Loader }
-        requires clean { IsSomeAnd me.old.log.loader (λ h. h.stored ≡ false) }
-        ensures { me.new ≡ record me.old { log = after_loader_release_same me.old.log } };
+        requires lock { IsLock words.now.terms id }
+        requires clean { IsClean id me.old.log }
+        ensures { me.new ≡ record me.old { log = after_release_same id me.old.log } };
 }
 
 /// Waits for each lock, and wakes one that sleeps on it.
@@ -72,8 +72,8 @@ impl<'a, R: Wait> Locking for Waiting<'a, R> {
 // Takes a lock in one step, or finds it taken.
 fn take_once(words: &Words, me: &mut Caller, id: LockId) -> bool
     requires table { me.old.table ≡ words.now.table }
-    requires lock { id ≡ LockId.Loader }
-    ensures { MatchBool result (Locks me.old me.new) (IsBusy id me.old me.new) }
+    requires lock { IsLock words.now.terms id }
+    ensures { MatchBool result (Locks id me.old me.new) (IsBusy id me.old me.new) }
 {
     match words.take(me, id) {
         Ok(_) => true,

@@ -4,10 +4,11 @@
 //! tries again for a while, then sets bit 1 and sleeps while the word stays as it was. Who lets go
 //! clears both bits and wakes one sleeper where bit 1 was set; others may sleep on, so one that has
 //! slept sets bit 1 again once it has the lock.
-ghost use Rattle.std.specs.Prelude.{◌≡◌, ◌*◌, ◌<◌, ◌%◌, None, IsSome, IsSomeAnd, false};
-ghost use Rattle.word_rule.specs.Logs.{after_loader_release, after_loader_release_same};
+ghost use Rattle.std.specs.Prelude.{◌≡◌, ◌*◌, ◌<◌, ◌%◌, IsSome};
+ghost use Rattle.word_rule.specs.Logs.{after_loader_release};
 ghost use Rattle.word_rule.specs.CallerData.{surplus};
-ghost use Rattle.node_store.specs.Locking.{Tries, Locks};
+ghost use Rattle.word_rule.specs.VersionLocks.{IsClean, IsLock, after_release_same};
+ghost use Rattle.node_store.specs.Locking.{IsNotHeld, Locks, Tries};
 
 use crossbeam_utils::Backoff;
 use std::sync::Wait;
@@ -24,9 +25,9 @@ const LOCKED_WITH_SLEEPERS: u64 = 3;
 // that word.
 fn wait<R: Wait>(rt: &R, words: &Words, me: &mut Caller, lock: LockId, seen: u64) -> u64
     requires table { me.old.table ≡ words.now.table }
-    requires lock { lock ≡ LockId.Loader }
+    requires lock { IsLock words.now.terms lock }
     requires locked { seen % 2 ≡ 1 }
-    ensures { Tries me.old me.new }
+    ensures { Tries lock me.old me.new }
 {
     if seen % BITS == LOCKED {
         if let Err(found) = words.mark_sleeping(me, lock, seen) {
@@ -40,9 +41,9 @@ fn wait<R: Wait>(rt: &R, words: &Words, me: &mut Caller, lock: LockId, seen: u64
 // Says that others may sleep on a lock that was taken, unless one of them said so since.
 fn mark_again(words: &Words, me: &mut Caller, lock: LockId, locked: u64)
     requires table { me.old.table ≡ words.now.table }
-    requires lock { lock ≡ LockId.Loader }
+    requires lock { IsLock words.now.terms lock }
     requires locked { locked % 2 ≡ 1 }
-    ensures { Tries me.old me.new }
+    ensures { Tries lock me.old me.new }
 {
     let _ = words.mark_sleeping(me, lock, locked);
 }
@@ -50,9 +51,9 @@ fn mark_again(words: &Words, me: &mut Caller, lock: LockId, locked: u64)
 /// Takes a lock, and waits for it where another has it.
 pub fn lock<R: Wait>(rt: &R, words: &Words, me: &mut Caller, lock: LockId)
     requires table { me.old.table ≡ words.now.table }
-    requires lock { lock ≡ LockId.Loader }
-    requires free { me.old.log.loader ≡ None }
-    ensures { Locks me.old me.new }
+    requires lock { IsLock words.now.terms lock }
+    requires free { IsNotHeld lock me.old.log }
+    ensures { Locks lock me.old me.new }
 {
     let backoff = Backoff::new();
     let mut slept = false;
@@ -81,7 +82,7 @@ pub fn lock<R: Wait>(rt: &R, words: &Words, me: &mut Caller, lock: LockId)
 
 // Wakes one that sleeps on a lock, where its word said so before it was let go.
 pub(crate) fn wake_after(words: &Words, lock: LockId, before: u64)
-    requires { lock ≡ LockId.Loader }
+    requires { IsLock words.now.terms lock }
 {
     if before % BITS == LOCKED_WITH_SLEEPERS {
         words.wake(lock);
@@ -105,9 +106,9 @@ pub fn unlock<R: Wait>(rt: &R, words: &Words, me: &mut Caller, lock: LockId)
 /// wakes one that sleeps on it.
 pub fn unlock_same<R: Wait>(rt: &R, words: &Words, me: &mut Caller, lock: LockId)
     requires table { me.old.table ≡ words.now.table }
-    requires lock { lock ≡ LockId.Loader }
-    requires clean { IsSomeAnd me.old.log.loader (λ h. h.stored ≡ false) }
-    ensures { me.new ≡ record me.old { log = after_loader_release_same me.old.log } }
+    requires lock { IsLock words.now.terms lock }
+    requires clean { IsClean lock me.old.log }
+    ensures { me.new ≡ record me.old { log = after_release_same lock me.old.log } }
 {
     let _ = rt;
     wake_after(words, lock, words.release_same(me, lock));
