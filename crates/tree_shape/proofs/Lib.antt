@@ -19,6 +19,7 @@ pub mod Wholes
 pub mod Spines
 pub mod Fences
 pub mod Transfers
+pub mod Agreement
 pub mod Becomes
 pub mod Listed
 pub mod RootSplits

@@ -19,7 +19,7 @@ ghost use Rattle.tree_shape.specs.Lawful.{IsTree, IsLawfulTree, IsFilled, FitsPa
 ghost use Rattle.tree_shape.specs.Lawful.{fewest_entries};
 ghost use Rattle.tree_shape.specs.LocalChange.{IsLocalChange, reached_nodes, live_after};
 ghost use Rattle.tree_shape.specs.LocalChange.{IsLawfulChange, ChangesEntries, EntriesBecome};
-ghost use Rattle.tree_shape.specs.LocalChange.{IsChangeOf, IsSameChange, either};
+ghost use Rattle.tree_shape.specs.LocalChange.{AgreeOn, IsChangeOf, IsSameChange, either};
 ghost use Rattle.tree_shape.specs.Decisions.{is_lawful_change};
 ghost use Rattle.tree_shape.specs.Numbers.{is_among};
 ghost use Rattle.tree_shape.specs.Steps.{Keeps, IsSplit, IsJoin, IsShare, with_node, without_node};
@@ -127,6 +127,12 @@ pub fn transfer()
         → ((n : ℕ) → group n ≡ group' n) → ((n : ℕ) → fresh n ≡ fresh' n)
         → IsLawfulChange f live top group fresh g update
         → IsLawfulChange f live top group' fresh' g update }
+{}
+
+/// Contents that agree with a lawful tree on its live nodes are a lawful tree.
+pub fn agreement()
+    ensures { (f g : Contents) (live : ℕ → Bool) → IsLawfulTree f live → AgreeOn live f g
+        → IsLawfulTree g live }
 {}
 
 /// A local change of a tree may have more fresh nodes: nothing that it reaches leads to them.

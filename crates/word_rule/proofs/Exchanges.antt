@@ -28,7 +28,7 @@ DecidedLaw = (f : Contents) (live : ℕ → Bool) (top : ℕ) (group : List ℕ)
 some_decides : {X : Type 0} (o : Option X) → Decides (is_some o) (IsSome o)
 some_decides o = (λ e. e, λ e. e)
 
-spelled_decides : (o : Option NodeData) (s : NodeData) → Decides (are_spelled o s) (o ≡ Some s)
+pub spelled_decides : (o : Option NodeData) (s : NodeData) → Decides (are_spelled o s) (o ≡ Some s)
 spelled_decides None s = (λ e. absurd (cc (e)), λ e. absurd (cc (e)))
 spelled_decides (Some t) s = (λ e. ap Some ((same_shape_decides t s).0 e), λ e. (same_shape_decides t s).1 (cc (e)))
 

@@ -1,12 +1,17 @@
 -- The versions that a caller keeps plainly are those of its locks, after a lock is let go.
-use Rattle.std.proofs.Common.{◌≡◌, ◌≢◌, ℕ, List, [], ◌∷◌, sym, refl, ap, ◌∙◌, subst, None, IfSome, eq-eqb, ne_eqb}
+use Rattle.std.proofs.Common.{◌≡◌, ◌≢◌, ℕ, ◌+◌, ◌*◌, ◌^◌, ◌<◌, List, [], ◌∷◌, length, get_or, map, sym, refl, ap, ◌∙◌, subst, arith, Bool, true, false, Option, Some, None, IfSome, option_map, eq-eqb, ne_eqb, if◌then◌else◌}
 use native.Mathlib.Decide.{ℕ_discrete}
 use Rattle.word_rule.specs.declared.log.Holding.{Holding}
 use Rattle.word_rule.specs.declared.log.Log.{Log}
 use Rattle.word_rule.specs.declared.lineage.Names.{Names}
 use Rattle.word_rule.specs.CallerInvariant.{AreVersionsOf, IsCaller, IsVersionAt}
 use Rattle.word_rule.specs.Held.{held_of, without_lock}
-use Rattle.word_rule.specs.Steps.{after_node_release_same}
+use Rattle.tree_shape.specs.Numbers.{is_among}
+use Rattle.word_rule.specs.Exchange.{after_exchange, exchange, group_of, is_lawful, is_reached, nothing_reached, settle, settle_free, top_of}
+use Rattle.word_rule.specs.Logs.{after_spending}
+use Rattle.word_rule.specs.Steps.{after_node_release, after_node_release_same}
+use Rattle.word_rule.proofs.Settles.{mapped_held}
+use Rattle.word_rule.proofs.NodeReleases.{settle_is}
 use Rattle.word_rule.specs.Plays.{Seated}
 
 -- the lock that is let go is gone
@@ -50,3 +55,36 @@ caller_released left seen versions names me me' n is same c = subst (λ (v : Log
   loader = c.loader;
   nodes = versions_left versions n me.0.holdings.held c.nodes;
 })
+
+-- over locks that are each changed but for their node and their version
+versions_mapped : (f : Holding → Holding) → ((h : Holding) → (f h).node ≡ h.node) → ((h : Holding) → (f h).version ≡ h.version) → (versions : List ℕ) (held : List Holding) → AreVersionsOf versions held → AreVersionsOf versions (map f held)
+versions_mapped f same_node same_version versions held kept k = subst (λ o. IfSome o (IsVersionAt versions k)) (sym (mapped_held f same_node k held)) (go (held_of k held) (kept k))
+  where
+    go : (o : Option Holding) → IfSome o (IsVersionAt versions k) → IfSome (option_map f o) (IsVersionAt versions k)
+    go None h = tt
+    go (Some h) told = subst (λ z. (k + 1 < length versions) × (z ≡ get_or versions (k + 1) 0) × (z < 2 ^ 63)) (sym (same_version h)) told
+
+versions_settled : (versions : List ℕ) (v : Log) → AreVersionsOf versions v.holdings.held → AreVersionsOf versions (settle None v).holdings.held
+versions_settled versions v kept = go (is_lawful v None)
+  where
+    go : (b : Bool) → AreVersionsOf versions (if b then after_exchange v (top_of v None) (is_among (group_of v None)) else settle_free v).holdings.held
+    go true = versions_mapped (exchange (is_among (group_of v None)) (is_reached v (top_of v None) (is_among (group_of v None)))) (λ _. refl) (λ _. refl) versions v.holdings.held kept
+    go false = versions_mapped (exchange nothing_reached nothing_reached) (λ _. refl) (λ _. refl) versions v.holdings.held kept
+
+-- a caller that let go of a node with the next version
+pub caller_let_go : (left seen : ℕ) (versions : List ℕ) (names : Names) (me me' : Seated) (n : ℕ) → me'.0 ≡ after_node_release n me.0 → me'.1 ≡ me.1 → 64 * left < me.0.budget.credit → IsCaller left seen versions names me → IsCaller left seen versions names me'
+caller_let_go left seen versions names me me' n is bare some_credit c =
+    let u : Log = record me.0 { holdings = (settle None me.0).holdings } in
+    let same : me'.0 ≡ record (after_node_release_same n u) { budget = after_spending u.budget } = is ∙ ap (λ (z : Log). record (after_node_release_same n z) { budget = after_spending z.budget }) (settle_is me.0) in
+    subst (λ (z : Log). IsCaller left seen versions names (z, me'.1)) (sym same) (record {
+      bare = bare ∙ c.bare;
+      role = c.role;
+      seen_all = c.seen_all;
+      allowed = c.allowed;
+      most = c.most;
+      credit = omega (arith, some_credit);
+      names_are = c.names_are;
+      wide = c.wide;
+      loader = c.loader;
+      nodes = versions_left versions n (settle None me.0).holdings.held (versions_settled versions me.0 c.nodes);
+    })

@@ -32,8 +32,9 @@ pub mod ClockLoads
 pub mod InitialCallers
 pub mod InitialTable
 pub mod Exchanging
-pub mod NodeReleases
+pub mod Settles
 pub mod VersionSteps
+pub mod NodeReleases
 pub mod NodeTries
 pub mod KeptVersions
 pub mod Exchanges

@@ -1,10 +1,9 @@
 -- Steps on the lock of any node: it is taken, is found taken, is marked as slept on, or is let go with the version that it had.
-use Rattle.std.proofs.Common.{◌≡◌, ◌≢◌, ℕ, zero, suc, ◌+◌, ◌-◌, ◌*◌, ◌%◌, ◌^◌, ◌<◌, ◌≤◌, ◌⊎◌, List, [], ◌∷◌, length, get_or, set, map, sym, refl, ap, ◌∙◌, subst, inl, inr, ⊎_elim, arith, ◌==◌, MatchBool, Bool, false, IsTrue, bit_or, Option, Some, None, IfSome, IsSome, IsSomeAnd, eq-eqb, ne_eqb}
-use Rattle.std.proofs.lemmas.Option.{same_Some}
+use Rattle.std.proofs.Common.{◌≡◌, ◌≢◌, ℕ, zero, suc, ◌+◌, ◌-◌, ◌*◌, ◌%◌, ◌^◌, ◌<◌, ◌⊎◌, List, [], ◌∷◌, length, get_or, set, sym, refl, ap, ◌∙◌, subst, inl, inr, ⊎_elim, arith, ◌==◌, MatchBool, Bool, false, IsTrue, bit_or, Option, Some, None, IfSome, IsSome, eq-eqb, ne_eqb}
 use Rattle.std.proofs.lemmas.Nat.{or_disjoint}
 use Rattle.std.specs.Int.Bits.{or_add_and}
 use lib.Bits.{and_mask}
-use Rattle.std.specs.List.{AllByRecursion, count_by}
+use Rattle.std.specs.List.{AllByRecursion}
 use mathlib.Core.Option.{none, some}
 use native.Mathlib.Decide.{ℕ_discrete}
 use lib.ListN.{get_elem?}
@@ -25,24 +24,23 @@ use Rattle.word_rule.specs.VersionLocks.{IsLock, lock_place}
 use Rattle.word_rule.proofs.Loader.{marks_by_bits}
 use Rattle.word_rule.specs.Memory.{NodeWords, memory_of, updated}
 use Rattle.word_rule.specs.Spelling.{node_word, SpellsNode}
-use Rattle.word_rule.specs.Held.{held_of, without_lock}
+use Rattle.word_rule.specs.Held.{held_of}
 use Rattle.word_rule.specs.Logs.{is_spent, after_load, after_write}
-use Rattle.word_rule.specs.Steps.{place_in, place_by, first_mark, place_by_held, mark_at_lock, head_without, after_node_lock, after_node_release_same}
+use Rattle.word_rule.specs.Steps.{place_in, place_by, first_mark, place_by_held, mark_at_lock, after_node_lock}
 use Rattle.word_rule.specs.Callers.{IsLockedAt}
-use Rattle.word_rule.specs.Nodes.{Shadow, HoldsNode, HoldingsHold, HeldBy, IsOpen, IsPlaced, IsChain}
+use Rattle.word_rule.specs.Nodes.{HoldsNode, HoldingsHold, IsOpen, IsPlaced, IsChain}
 use Rattle.word_rule.specs.NodeTells.{IsLiveNode, IsTakenNode}
 use Rattle.word_rule.specs.TableInvariant.{TableInvariant}
-use Rattle.word_rule.specs.Plays.{Seated, locks_node, grabs_node, marks, releases_same_node}
-use Rattle.word_rule.proofs.Each.{all_map, some_with}
+use Rattle.word_rule.specs.Plays.{Seated, locks_node, grabs_node, marks}
+use Rattle.word_rule.proofs.Each.{all_map}
 use Rattle.word_rule.proofs.Memories.{load_version_at, content_length, by_same}
 use Rattle.word_rule.proofs.Spells.{spells_free}
-use Rattle.word_rule.proofs.Standing.{even_is_open, held_by}
+use Rattle.word_rule.proofs.Standing.{even_is_open}
 use Rattle.word_rule.proofs.Frames.{Sit}
 use Rattle.word_rule.proofs.NodesFrame.{holder_stays}
 use Rattle.word_rule.proofs.HeadPlays.{RootLaw}
 use Rattle.word_rule.proofs.NodeLocks.{updated_here, updated_other, refused, locked, four, bounded}
 use Rattle.word_rule.proofs.NodeVersions.{ChildrenLaw, is_live_node}
-use Rattle.word_rule.proofs.NodeReleases.{left_all, left_once, left_held}
 use Rattle.word_rule.proofs.VersionSteps.{stepped_version, words', shadow'}
 
 -- the child that a list of branches names has its place
@@ -53,10 +51,6 @@ named f live n (b ∷ bs) all = go (ℕ_discrete b.child n) (named f live n bs a
     go : Dec (b.child ≡ n) → IfSome (place_in n bs) (λ p. IsTrue (live n) × IsPlaced (f n) p) → IfSome (place_in n (b ∷ bs)) (λ p. IsTrue (live n) × IsPlaced (f n) p)
     go (yes e) rest = let fits = all.0.1 in rw (eq-eqb b.child n e) (subst (λ k. IsTrue (live k) × IsPlaced (f k) b.frame) e (all.0.0, (fits.level, fits.low, fits.high)))
     go (no ne) rest = rw (ne_eqb b.child n ne) rest
-
-map_same : (held : List Holding) → map (λ h. h) held ≡ held
-map_same [] = refl
-map_same (h ∷ held) = ap (λ hs. h ∷ hs) (map_same held)
 
 module _ (t : Terms) (slots id : ℕ) (me : Seated) (caller : me.0.role ≡ role.Caller) where
   abbrev Holds : Sit → Type 0
@@ -232,7 +226,7 @@ module _ (t : Terms) (slots id : ℕ) (me : Seated) (caller : me.0.role ≡ role
       held_then = holder_stays s.views id me.0 w at n (r.memory.shadow.holder n) (λ h. h) (r.memory.nodes.holders n);
       kept = λ _ _ h. h;
       later = λ k _ less. (let e = hit in omega (arith, less, e));
-      stood = λ k even st. inr (⊎_elim (λ (is : marked seen ≡ k). absurd (omega (arith, is, even, odd))) (λ (l : IsLockedAt k (marked seen) × (r.memory.shadow.stored n ≡ false)). (subst (IsLockedAt k) (sym hit) (lowered k l.0), l.1)) st);
+      stood = λ k even less st. inr (⊎_elim (λ (is : marked seen ≡ k). absurd (omega (arith, is, even, odd))) (λ (l : IsLockedAt k (marked seen) × (r.memory.shadow.stored n ≡ false)). (subst (IsLockedAt k) (sym hit) (lowered k l.0), l.1)) st);
     }) refl (record { terms = refl; role = refl; past = refl; receipts = refl; allowance = refl; made = refl; lineage = refl }) refl (let e = hit in omega (arith, e, odd)) (record { own = refl; sights = refl; loads = refl; turn = omega arith })
       where
         still_open : (holder : ℕ → Option ℕ) → holder ≡ r.memory.shadow.holder → IsOpen (marked seen) ((memory_of t s.words).nodes.contents n) (r.memory.shadow.settled n) (holder n)
@@ -257,114 +251,6 @@ module _ (t : Terms) (slots id : ℕ) (me : Seated) (caller : me.0.role ≡ role
       let set_bits : marked seen ≡ bit_or seen 3 = omega (arith, sum, low) in
       subst (λ p. Allows Holds slots id me p (λ x. either (x == seen) (bit_or seen 3) x) (marks (step slots p seen (bit_or seen 3) none) me)) (sym is)
       (subst (λ z. Allows Holds slots id me (4 + 36 * n) (λ x. either (x == seen) z x) (marks (step slots (4 + 36 * n) seen z none) me)) set_bits (marks_any n seen inside odd))
-
-  -- a node is let go with the version that it had
-  module _ (n : ℕ) (hn : Holding) (found : held_of n me.0.holdings.held ≡ Some hn) (clean : hn.stored ≡ false) (s : Sit) (r : Holds s) (at : get_elem? s.views id ≡ some me.0) where
-    abbrev v' : Log
-    v' = after_node_release_same n me.0
-
-    my_lock : HoldsNode t (memory_of t s.words).nodes r.memory.shadow id hn × (hn.node ≡ n)
-    my_lock = held_by t (memory_of t s.words).nodes s.views r.memory.history r.memory.shadow r.memory.nodes id me.0 n hn at found
-
-    inside : n < t.nodes
-    inside = subst (λ k. k < t.nodes) my_lock.1 my_lock.0.within
-
-    pub locked_at : IsLockedAt hn.version ((memory_of t s.words).nodes.versions n)
-    locked_at = subst (λ k. IsLockedAt hn.version ((memory_of t s.words).nodes.versions k)) my_lock.1 my_lock.0.locked
-
-    holder_n : r.memory.shadow.holder n ≡ Some id
-    holder_n = ap r.memory.shadow.holder (sym my_lock.1) ∙ my_lock.0.is_holder
-
-    abbrev words'' : NodeWords
-    words'' = record (memory_of t s.words).nodes { versions = updated (memory_of t s.words).nodes.versions n hn.version }
-
-    abbrev shadow'' : Shadow
-    shadow'' = record r.memory.shadow { holder = updated r.memory.shadow.holder n None }
-
-    kept_lock : (j : ℕ) (h : Holding) → h.node ≢ n → HoldsNode t (memory_of t s.words).nodes r.memory.shadow j h → HoldsNode t words'' shadow'' j h
-    kept_lock j h far k = record {
-      within = k.within;
-      is_holder = updated_other r.memory.shadow.holder n None h.node far ∙ k.is_holder;
-      locked = subst (IsLockedAt h.version) (sym (updated_other (memory_of t s.words).nodes.versions n hn.version h.node far)) k.locked;
-      as_now = k.as_now;
-      settled = k.settled;
-      stored = k.stored;
-      clean = k.clean;
-      marked = k.marked;
-      unmarked = k.unmarked;
-    }
-
-    left : (P : Holding → Type 0) → AllByRecursion (λ h. h.node ≢ n → P h) me.0.holdings.held → AllByRecursion P (without_lock n me.0.holdings.held)
-    left P all = subst (λ xs. AllByRecursion P (without_lock n xs)) (map_same me.0.holdings.held) (left_all (λ h. h) (λ _. refl) n P me.0.holdings.held all)
-
-    still_held : (k : ℕ) → k ≢ n → IsSome (held_of k me.0.holdings.held) → IsSome (held_of k (without_lock n me.0.holdings.held))
-    still_held k far h = subst (λ xs. IsSome (held_of k (without_lock n xs))) (map_same me.0.holdings.held) (left_held (λ h. h) (λ _. refl) n k far me.0.holdings.held h)
-
-    head_kept : (o : Option ℕ) → Dec (n ≡ 0) → IfSome o (λ k. ((memory_of t s.words).nodes.head ≡ k) × IsSome (held_of 0 me.0.holdings.held)) → IfSome (head_without n o) (λ k. ((memory_of t s.words).nodes.head ≡ k) × IsSome (held_of 0 (without_lock n me.0.holdings.held)))
-    head_kept o (yes e) h = rw (eq-eqb n 0 e) tt
-    head_kept o (no ne) h = rw (ne_eqb n 0 ne) (go o h)
-      where
-        go : (o : Option ℕ) → IfSome o (λ k. ((memory_of t s.words).nodes.head ≡ k) × IsSome (held_of 0 me.0.holdings.held)) → IfSome o (λ k. ((memory_of t s.words).nodes.head ≡ k) × IsSome (held_of 0 (without_lock n me.0.holdings.held)))
-        go None h = tt
-        go (Some k) h = (h.0, still_held 0 (λ e. ne (sym e)) h.1)
-
-    mine : HoldingsHold t words'' shadow'' id (after_node_release_same n me.0).holdings
-    mine = let h = r.memory.nodes.holdings id me.0 at in record {
-      each = left (HoldsNode t words'' shadow'' id) (all_map (HoldsNode t (memory_of t s.words).nodes r.memory.shadow id) (λ h. h.node ≢ n → HoldsNode t words'' shadow'' id h) (λ h k far. kept_lock id h far k) me.0.holdings.held h.each);
-      once = λ k. (let a = subst (λ xs. count_by (λ h. h.node == k) (without_lock n xs) ≤ count_by (λ h. h.node == k) me.0.holdings.held) (map_same me.0.holdings.held) (left_once (λ h. h) (λ _. refl) n k me.0.holdings.held) in let b = h.once k in omega (arith, a, b));
-      few_out = h.few_out;
-      head = head_kept me.0.holdings.head (ℕ_discrete n 0) h.head;
-    }
-
-    others : (j : ℕ) (u : Log) → j ≢ id → get_elem? s.views j ≡ some u → HoldingsHold t words'' shadow'' j u.holdings
-    others j u far there = let h = r.memory.nodes.holdings j u there in record {
-      each = all_map (HoldsNode t (memory_of t s.words).nodes r.memory.shadow j) (HoldsNode t words'' shadow'' j) (λ h k. kept_lock j h (λ e. far (same_Some _ _ (sym k.is_holder ∙ (ap r.memory.shadow.holder e ∙ holder_n)))) k) u.holdings.held h.each;
-      once = h.once;
-      few_out = h.few_out;
-      head = h.head;
-    }
-
-    spells : SpellsNode ((memory_of t s.words).nodes.contents n) (r.memory.shadow.settled n)
-    spells = subst (λ ws. SpellsNode ws (r.memory.shadow.settled n)) (my_lock.0.as_now ∙ ap (memory_of t s.words).nodes.contents my_lock.1) (subst (SpellsNode hn.words) (my_lock.0.settled ∙ ap r.memory.shadow.settled my_lock.1) (my_lock.0.clean clean))
-
-    not_stored : r.memory.shadow.stored n ≡ false
-    not_stored = ap r.memory.shadow.stored (sym my_lock.1) ∙ (sym my_lock.0.stored ∙ clean)
-
-    pub let_go : TableInvariant t (set s.words (4 + 36 * n) hn.version) (set s.views id (after_node_release_same n me.0))
-    let_go =
-        let l = locked_at in
-        let low = l.0 in
-        stepped_version t id me.0 v' caller n hn.version inside s r at (updated r.memory.shadow.holder n None) (λ k far. updated_other r.memory.shadow.holder n None k far) (record {
-          mine = mine;
-          others = others;
-          open_then = subst (IsOpen hn.version ((memory_of t s.words).nodes.contents n) (r.memory.shadow.settled n)) (sym (updated_here r.memory.shadow.holder n None n refl)) (low, spells);
-          held_then = subst (HeldBy n (set s.views id v')) (sym (updated_here r.memory.shadow.holder n None n refl)) tt;
-          kept = still_held;
-          later = λ k even less. ⊎_elim (λ (e : (memory_of t s.words).nodes.versions n ≡ hn.version + 1). omega (arith, e, low, even, less)) (λ (e : (memory_of t s.words).nodes.versions n ≡ hn.version + 3). omega (arith, e, low, even, less)) l.1;
-          stood = λ k even st. inr (⊎_elim (λ (is : hn.version ≡ k). (subst (λ z. IsLockedAt z ((memory_of t s.words).nodes.versions n)) is l, not_stored))
-              (λ (o : IsLockedAt k hn.version × (r.memory.shadow.stored n ≡ false)). absurd (⊎_elim (λ (e : hn.version ≡ k + 1). omega (arith, e, low, even)) (λ (e : hn.version ≡ k + 3). omega (arith, e, low, even)) o.0.1)) st);
-        }) refl (record { terms = refl; role = refl; past = refl; receipts = refl; allowance = refl; made = refl; lineage = refl }) refl
-        (⊎_elim (λ (e : (memory_of t s.words).nodes.versions n ≡ hn.version + 1). omega (arith, e, low)) (λ (e : (memory_of t s.words).nodes.versions n ≡ hn.version + 3). omega (arith, e, low)) l.1) (record { own = refl; sights = refl; loads = refl; turn = omega arith })
-
-  pub releases_same_any : (n : ℕ) (hn : Holding) → held_of n me.0.holdings.held ≡ Some hn → hn.stored ≡ false → Allows Holds slots id me (4 + 36 * n) (λ _. hn.version) (releases_same_node n (step slots (4 + 36 * n) hn.version 0 none) me)
-  releases_same_any n hn found clean s r deep at small =
-      let word = load_version_at t s.words n (inside n hn found clean s r at) in (
-        after_node_release_same n me.0,
-        keeps,
-        tt,
-        let_go n hn found clean s r at,
-        (refl, subst (λ o. IfSome o (λ h. IsLockedAt h.version (get_or s.words (4 + 36 * n) 0))) (sym found) (subst (IsLockedAt hn.version) word (locked_at n hn found clean s r at))),
-      )
-
-  -- the same as the code has it: the version is the one that the caller keeps
-  pub releases_same_of : (n k place version : ℕ) → k ≡ n → place ≡ 4 + 36 * n → IsSomeAnd (held_of n me.0.holdings.held) (λ h. h.stored ≡ false) → IfSome (held_of n me.0.holdings.held) (λ h. h.version ≡ version)
-      → Allows Holds slots id me place (λ _. version) (releases_same_node k (step slots place version 0 none) me)
-  releases_same_of n k place version node is clean kept =
-      let h = some_with (held_of n me.0.holdings.held) (λ (h : Holding). h.stored ≡ false) clean in
-      let same = subst (λ o. IfSome o (λ h. h.version ≡ version)) h.1.0 kept in
-      subst (λ p. Allows Holds slots id me p (λ _. version) (releases_same_node k (step slots p version 0 none) me)) (sym is)
-      (subst (λ j. Allows Holds slots id me (4 + 36 * n) (λ _. version) (releases_same_node j (step slots (4 + 36 * n) version 0 none) me)) (sym node)
-      (subst (λ z. Allows Holds slots id me (4 + 36 * n) (λ _. z) (releases_same_node n (step slots (4 + 36 * n) z 0 none) me)) same (releases_same_any n h.0 h.1.0 h.1.1)))
 
   -- of whichever lock it is, by its place
   pub marks_lock : (lock : LockId) (place seen : ℕ) → place ≡ lock_place lock → IsLock t lock → seen % 2 ≡ 1 → Allows Holds slots id me place (λ x. either (x == seen) (bit_or seen 3) x) (marks (step slots place seen (bit_or seen 3) none) me)

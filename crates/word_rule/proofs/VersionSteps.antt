@@ -40,7 +40,7 @@ module _ (t : Terms) (id : ℕ) (v w : Log) (caller : v.role ≡ role.Caller) (n
     pub kept : (k : ℕ) → k ≢ n → IsSome (held_of k v.holdings.held) → IsSome (held_of k w.holdings.held)
     -- a version that was is no higher, and one at which a sight stands afterwards was there
     pub later : (k : ℕ) → k % 4 ≡ 0 → k ≤ (memory_of t s.words).nodes.versions n → k ≤ x
-    pub stood : (k : ℕ) → k % 4 ≡ 0 → (x ≡ k) ⊎ (IsLockedAt k x × (r.memory.shadow.stored n ≡ false))
+    pub stood : (k : ℕ) → k % 4 ≡ 0 → k ≤ (memory_of t s.words).nodes.versions n → (x ≡ k) ⊎ (IsLockedAt k x × (r.memory.shadow.stored n ≡ false))
         → ((memory_of t s.words).nodes.versions n ≡ k) ⊎ (IsLockedAt k ((memory_of t s.words).nodes.versions n) × (r.memory.shadow.stored n ≡ false))
 
   module _ (lock : OnLock) (out : w.holdings.out ≡ v.holdings.out) where
@@ -80,7 +80,7 @@ module _ (t : Terms) (id : ℕ) (v w : Log) (caller : v.role ≡ role.Caller) (n
             sight_over t (memory_of t s.words).nodes words' r.memory.history r.memory.history r.memory.shadow shadow' k (subst (λ z. k.version ≤ z) (sym word) (lock.later k.version h.even (subst (λ z. k.version ≤ (memory_of t s.words).nodes.versions z) e h.later)))
             (λ st. record {
               stands = subst (λ z. ((memory_of t s.words).nodes.versions z ≡ k.version) ⊎ (IsLockedAt k.version ((memory_of t s.words).nodes.versions z) × (r.memory.shadow.stored z ≡ false))) (sym e)
-                  (lock.stood k.version h.even (subst (λ z. (x ≡ k.version) ⊎ (IsLockedAt k.version x × (r.memory.shadow.stored z ≡ false))) e (subst (λ z. (z ≡ k.version) ⊎ (IsLockedAt k.version z × (r.memory.shadow.stored k.node ≡ false))) word st)));
+                  (lock.stood k.version h.even (subst (λ z. k.version ≤ (memory_of t s.words).nodes.versions z) e h.later) (subst (λ z. (x ≡ k.version) ⊎ (IsLockedAt k.version x × (r.memory.shadow.stored z ≡ false))) e (subst (λ z. (z ≡ k.version) ⊎ (IsLockedAt k.version z × (r.memory.shadow.stored k.node ≡ false))) word st)));
               contents = refl;
               settled = refl;
               live = refl;

@@ -17,6 +17,5 @@ pub mod CallerInvariant
 pub mod Nodes
 pub mod Observations
 pub mod TableInvariant
-pub mod Kept
 pub mod NodeTells
 pub mod VersionLocks

@@ -11,7 +11,7 @@ use Rattle.word_rule.specs.Places.{ALLOWANCE, node_place}
 use Rattle.word_rule.specs.Sights.{after_node_version, after_node_load, after_copy_load}
 use Rattle.word_rule.specs.Steps.{after_node_lock, after_head_load, after_copy_store, AfterPublish}
 use Rattle.word_rule.specs.Steps.{HeadStored, IsHeldWord}
-use Rattle.word_rule.specs.Steps.{AfterNodeRelease, after_node_release_same}
+use Rattle.word_rule.specs.Steps.{after_node_release, after_node_release_same}
 use Rattle.word_rule.specs.declared.log.Terms.{Terms}
 use Rattle.word_rule.specs.Clock.{AfterClock}
 use Rattle.word_rule.specs.Held.{held_of}
@@ -142,4 +142,5 @@ publishes u st me found me' = AfterPublish u found me.0 me'.0 × (me'.1 ≡ me.1
 
 -- a node was let go with the next version, and contents settled
 abbrev pub releases_node : ℕ → Stepped → Seated → ℕ → Seated → Type 0
-releases_node n st me found me' = AfterNodeRelease n me.0 me'.0 × (me'.1 ≡ me.1)
+releases_node n st me found me' =
+    (me' ≡ (after_node_release n me.0, me.1)) × NodeWasLocked n me found

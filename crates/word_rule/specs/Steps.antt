@@ -86,11 +86,11 @@ after_node_release_same n v =
       };
     }
 
--- A node was let go with the next version: its content settled where that is lawful.
-abbrev pub AfterNodeRelease : ℕ → Log → Log → Type 0
-AfterNodeRelease n v w =
+-- A node was let go with the next version: what its holder changed settled where that is lawful.
+abbrev pub after_node_release : ℕ → Log → Log
+after_node_release n v =
     let u = settle None v in
-    w ≡ record (after_node_release_same n u) { budget = after_spending u.budget }
+    record (after_node_release_same n u) { budget = after_spending u.budget }
 
 -- A release asks that the node's words spell a node, and, where it is live and they spell another
 -- content, for a lawful exchange.

@@ -1,5 +1,5 @@
 -- Steps on version locks, by whose lock it is: a node's, or the loader's.
-use Rattle.std.specs.Prelude.{◌≡◌, ℕ, ◌<◌, List, IfSome, IsSomeAnd, false}
+use Rattle.std.specs.Prelude.{◌≡◌, ℕ, ◌<◌, List, IfSome, IsSome, IsSomeAnd, false}
 use Rattle.tree_shape.specs.NodeData.{NodeData}
 use Rattle.word_rule.specs.declared.log.Ask.{Ask}
 use Rattle.word_rule.specs.declared.log.LockId.{LockId}
@@ -12,8 +12,9 @@ use Rattle.word_rule.specs.CallerData.{CallerData}
 use Rattle.word_rule.specs.Callers.{IsLockedAt}
 use Rattle.word_rule.specs.Held.{held_of}
 use Rattle.word_rule.specs.Logs.{IsTaken, after_load, after_loader_lock}
-use Rattle.word_rule.specs.Logs.{after_loader_release_same}
-use Rattle.word_rule.specs.Steps.{after_node_lock, after_node_release_same}
+use Rattle.word_rule.specs.Logs.{after_loader_release, after_loader_release_same}
+use Rattle.word_rule.specs.Steps.{MayRelease, after_node_lock, after_node_release}
+use Rattle.word_rule.specs.Steps.{after_node_release_same}
 use Rattle.word_rule.specs.Sights.{after_node_version}
 use Rattle.word_rule.specs.NodeTells.{IsTakenNode, SightTells}
 
@@ -68,3 +69,13 @@ WasLockedAs (lock.Node n) found v =
 abbrev pub after_release_same : LockId → Log → Log
 after_release_same lock.Loader v = after_loader_release_same v
 after_release_same (lock.Node n) v = after_node_release_same n v
+
+-- a lock is let go with the next version by one that holds it; a node, as its words allow it
+abbrev pub MayLetGo : LockId → Log → Type 0
+MayLetGo lock.Loader v = IsSome v.loader
+MayLetGo (lock.Node n) v = MayRelease n v
+
+-- a lock was let go with the next version
+abbrev pub after_release : LockId → Log → Log
+after_release lock.Loader v = after_loader_release v
+after_release (lock.Node n) v = after_node_release n v

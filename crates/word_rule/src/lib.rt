@@ -26,7 +26,6 @@ mod clock;
 pub mod exchange;
 mod head;
 mod initial;
-pub mod laws;
 mod lifecycle;
 mod lineage;
 mod log;

@@ -1,6 +1,7 @@
 //! Steps on nodes.
-ghost use Rattle.std.specs.Prelude.{◌≡◌, ◌≢◌, ◌+◌, ◌*◌, ◌%◌, ◌<◌, ◌≤◌, ◌==◌, MatchBool, IfOk};
-ghost use Rattle.std.specs.Prelude.{IfErr, IfSome, IsSomeAnd, false};
+ghost use Rattle.std.specs.Prelude.{◌≡◌, ◌≢◌, ◌+◌, ◌*◌, ◌%◌, ◌^◌, ◌<◌, ◌≤◌, ◌==◌, MatchBool};
+ghost use Rattle.std.specs.Prelude.{IfOk, IfErr, IfSome, IsSomeAnd, false};
+ghost use Rattle.word_rule.specs.CallerData.{surplus};
 ghost use Rattle.word_rule.specs.Callers.{IsLockedAt};
 ghost use Rattle.word_rule.specs.Held.{held_of};
 ghost use Rattle.word_rule.specs.Logs.{after_load};
@@ -8,13 +9,15 @@ ghost use Rattle.word_rule.specs.NodeTells.{HeldTells, SightTells};
 ghost use Rattle.word_rule.specs.Places.{node_place};
 ghost use Rattle.word_rule.specs.Plays.{TakesNode};
 ghost use Rattle.word_rule.specs.Sights.{after_node_load, after_node_version};
-ghost use Rattle.word_rule.specs.Steps.{after_node_release_same};
+ghost use Rattle.word_rule.specs.Steps.{MayRelease, after_node_release, after_node_release_same};
 ghost use Rattle.word_rule.specs.VersionLocks.{NodeTaken};
 
 use crate::caller::Caller;
 use crate::log::{Ask, Log, Role};
-use crate::rule::{AtNode, GrabsNode, LoadsNode, LoadsVersion, LocksNode, ReleasesSameNode};
-use crate::words::{LOCKED, Words};
+use crate::rule::{
+    AtNode, GrabsNode, LoadsNode, LoadsVersion, LocksNode, ReleasesNode, ReleasesSameNode,
+};
+use crate::words::{LOCKED, VERSION, Words};
 use atomic_table::Seat;
 use std::marker::Brand;
 use tree_shape::laws;
@@ -190,5 +193,45 @@ impl Words {
     {
         let version = me.versions[node as usize + 1];
         self.release_same_for::<Brand>(&mut me.seat, node, version)
+    }
+
+    fn release_for<N: AtNode>(&self, seat: &mut Seat<(), Log>, node: u32, version: u64) -> u64
+        requires table { seat.old.table_id ≡ self.now.table }
+        requires about { N.node ≡ node }
+        requires inside { node < self.now.terms.nodes }
+        requires may { MayRelease node seat.old.me.0 }
+        requires credit { 0 < seat.old.me.0.budget.credit }
+        requires version { IfSome (held_of node seat.old.me.0.holdings.held)
+            (λ h. h.version ≡ version) }
+        requires room { version < 2 ^ 63 }
+        requires caller { seat.old.me.0.role ≡ Role.Caller }
+        ensures same { (seat.new.table_id ≡ seat.old.table_id) × (seat.new.id ≡ seat.old.id)
+            × (seat.new.me.1 ≡ seat.old.me.1) }
+        ensures log { seat.new.me.0 ≡ after_node_release N.node seat.old.me.0 }
+        ensures before { IfSome (held_of N.node seat.old.me.0.holdings.held)
+            (λ h. IsLockedAt h.version result) }
+    {
+        laws::transfer();
+        laws::widen();
+        laws::local_change();
+        laws::agreement();
+        laws::decided();
+        self.table
+            .shared
+            .swap::<ReleasesNode<N>>(seat, place_of(node), version + VERSION)
+    }
+
+    /// Lets go of a node with the next version, at which what the caller changed settles.
+    pub(crate) fn release_node(&self, me: &mut Caller, node: u32) -> u64
+        requires table { me.old.table ≡ self.now.table }
+        requires inside { node < self.now.terms.nodes }
+        requires may { MayRelease node me.old.log }
+        requires surplus { 0 < surplus me.old }
+        ensures log { me.new ≡ record me.old { log = after_node_release node me.old.log } }
+        ensures before { IfSome (held_of node me.old.log.holdings.held)
+            (λ h. IsLockedAt h.version result) }
+    {
+        let version = me.versions[node as usize + 1];
+        self.release_for::<Brand>(&mut me.seat, node, version)
     }
 }

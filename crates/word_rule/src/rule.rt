@@ -200,6 +200,16 @@ impl<N: AtNode> Play<(), Log> for ReleasesSameNode<N> {
     ghost then = { releases_same_node N.node };
 }
 
+pub(crate) struct ReleasesNode<N> {
+    node: PhantomData<N>,
+}
+
+impl<N: AtNode> Play<(), Log> for ReleasesNode<N> {
+    ghost use Rattle.word_rule.specs.Plays.{releases_node};
+
+    ghost then = { releases_node N.node };
+}
+
 pub(crate) struct LoadsHead<A> {
     asking: PhantomData<A>,
 }

@@ -127,5 +127,8 @@ fn each_step_on_a_nodes_lock(rt: HostRuntime) -> Result<(), Fail> {
     assert!(rt; words.take(&mut a, lock) == Ok(0));
     assert!(rt; words.release_same(&mut a, lock) == 1);
     assert!(rt; words.take(&mut a, LockId::Node { node: 0 }) == Ok(0));
+    assert!(rt; words.release(&mut a, LockId::Node { node: 0 }) == 1);
+    let root = LockId::Node { node: 0 };
+    assert!(rt; words.load_version(&mut a, root, Ask::Nothing) == 4);
     Ok(())
 }

@@ -7,8 +7,9 @@ ghost use Rattle.word_rule.specs.declared.log.LoaderHolding.{LoaderHolding};
 ghost use Rattle.word_rule.specs.CallerData.{surplus};
 ghost use Rattle.word_rule.specs.Places.{LOADER};
 ghost use Rattle.word_rule.specs.Callers.{IsLockedAt};
-ghost use Rattle.word_rule.specs.VersionLocks.{IsLock, IsClean, LoaderTaken, Takes, VersionTells};
-ghost use Rattle.word_rule.specs.VersionLocks.{WasLockedAs, after_release_same, after_version};
+ghost use Rattle.word_rule.specs.VersionLocks.{IsLock, IsClean, LoaderTaken, MayLetGo, Takes};
+ghost use Rattle.word_rule.specs.VersionLocks.{VersionTells, WasLockedAs, after_release};
+ghost use Rattle.word_rule.specs.VersionLocks.{after_release_same, after_version};
 ghost use Rattle.word_rule.specs.VersionLocks.{lock_place};
 
 use crate::caller::Caller;
@@ -29,7 +30,7 @@ pub(crate) const LOCKED: u64 = 1;
 const SLEEPERS: u64 = 2;
 
 /// What a version rises by, each time that its lock is let go.
-const VERSION: u64 = 4;
+pub(crate) const VERSION: u64 = 4;
 
 /// Where the loader's version lock stands.
 const LOADER_WORD: usize = 2;
@@ -200,20 +201,33 @@ impl Words {
         if found == seen { Ok(()) } else { Err(found) }
     }
 
-    /// Lets go of a lock with the next version, and answers the word before.
-    pub fn release(&self, me: &mut Caller, lock: LockId) -> u64
+    fn release_loader(&self, me: &mut Caller) -> u64
         requires table { me.old.table ≡ self.now.table }
-        requires lock { lock ≡ LockId.Loader }
         requires held { IsSome me.old.log.loader }
         requires surplus { 0 < surplus me.old }
         ensures log { me.new ≡ record me.old { log = after_loader_release me.old.log } }
         ensures before { IfSome me.old.log.loader (λ h. IsLockedAt h.version result) }
     {
-        let _ = lock;
         let next = me.versions[0] + VERSION;
         self.table
             .shared
             .swap::<Releases>(&mut me.seat, LOADER_WORD, next)
+    }
+
+    /// Lets go of a lock with the next version, and answers the word before. Of a node, what the
+    /// caller changed settles.
+    pub fn release(&self, me: &mut Caller, lock: LockId) -> u64
+        requires table { me.old.table ≡ self.now.table }
+        requires lock { IsLock self.now.terms lock }
+        requires may { MayLetGo lock me.old.log }
+        requires surplus { 0 < surplus me.old }
+        ensures log { me.new ≡ record me.old { log = after_release lock me.old.log } }
+        ensures before { WasLockedAs lock result me.old.log }
+    {
+        match lock {
+            LockId::Loader => self.release_loader(me),
+            LockId::Node { node } => self.release_node(me, node),
+        }
     }
 
     fn release_loader_same(&self, me: &mut Caller) -> u64

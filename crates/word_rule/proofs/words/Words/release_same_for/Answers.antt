@@ -1,5 +1,5 @@
 use Rattle.std.proofs.Common.{sym, ap, ◌∙◌, arith}
-use Rattle.word_rule.proofs.NodeTries.{releases_same_of}
+use Rattle.word_rule.proofs.NodeReleases.{releases_same_of}
 use Rattle.word_rule.proofs.words.Words.release_same_for.Goals as goal
 
 pub swap-requires : goal.swap-requires

@@ -1,7 +1,7 @@
 use Rattle.std.proofs.Common.{◌<◌, sym, ap, ◌∙◌, subst, arith, IsSome}
 use Rattle.word_rule.specs.CallerData.{surplus}
 use Rattle.word_rule.proofs.Loader.{releases_kept, first_of, version_kept}
-use Rattle.word_rule.proofs.words.Words.release.Goals as goal
+use Rattle.word_rule.proofs.words.Words.release_loader.Goals as goal
 
 pub swap-requires : goal.swap-requires
 swap-requires c =
