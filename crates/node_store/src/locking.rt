@@ -1,9 +1,9 @@
 //! How an update gets its locks, and lets go of them: it waits for each, or it tries each once and
 //! gives up. An update has one body for all of these ways.
-ghost use Rattle.std.specs.Prelude.{◌≡◌, ◌*◌, ◌<◌, ◌%◌, Bool, true, false, MatchBool, IsSome};
-ghost use Rattle.word_rule.specs.Logs.{after_loader_release};
+ghost use Rattle.std.specs.Prelude.{◌≡◌, ◌*◌, ◌<◌, ◌%◌, Bool, true, false, MatchBool};
 ghost use Rattle.word_rule.specs.CallerData.{surplus};
-ghost use Rattle.word_rule.specs.VersionLocks.{IsClean, IsLock, after_release_same};
+ghost use Rattle.word_rule.specs.VersionLocks.{IsClean, IsLock, MayLetGo, after_release};
+ghost use Rattle.word_rule.specs.VersionLocks.{after_release_same};
 ghost use Rattle.node_store.specs.Locking.{IsBusy, IsNotHeld, Locks};
 
 use crate::locks::{lock, unlock, unlock_same, wake_after};
@@ -33,10 +33,10 @@ pub trait Locking {
     /// Lets go of it with the next version.
     fn let_go(&self, words: &Words, me: &mut Caller, id: LockId)
         requires table { me.old.table ≡ words.now.table }
-        requires lock { id ≡ LockId.Loader }
-        requires held { IsSome me.old.log.loader }
+        requires lock { IsLock words.now.terms id }
+        requires may { MayLetGo id me.old.log }
         requires surplus { 0 < surplus me.old }
-        ensures { me.new ≡ record me.old { log = after_loader_release me.old.log } };
+        ensures { me.new ≡ record me.old { log = after_release id me.old.log } };
 
     /// Lets go of it with the version as it was, where nothing was stored.
     fn let_go_same(&self, words: &Words, me: &mut Caller, id: LockId)

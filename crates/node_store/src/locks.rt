@@ -4,10 +4,10 @@
 //! tries again for a while, then sets bit 1 and sleeps while the word stays as it was. Who lets go
 //! clears both bits and wakes one sleeper where bit 1 was set; others may sleep on, so one that has
 //! slept sets bit 1 again once it has the lock.
-ghost use Rattle.std.specs.Prelude.{◌≡◌, ◌*◌, ◌<◌, ◌%◌, IsSome};
-ghost use Rattle.word_rule.specs.Logs.{after_loader_release};
+ghost use Rattle.std.specs.Prelude.{◌≡◌, ◌*◌, ◌<◌, ◌%◌};
 ghost use Rattle.word_rule.specs.CallerData.{surplus};
-ghost use Rattle.word_rule.specs.VersionLocks.{IsClean, IsLock, after_release_same};
+ghost use Rattle.word_rule.specs.VersionLocks.{IsClean, IsLock, MayLetGo, after_release};
+ghost use Rattle.word_rule.specs.VersionLocks.{after_release_same};
 ghost use Rattle.node_store.specs.Locking.{IsNotHeld, Locks, Tries};
 
 use crossbeam_utils::Backoff;
@@ -92,10 +92,10 @@ pub(crate) fn wake_after(words: &Words, lock: LockId, before: u64)
 /// Lets go of a lock with the next version, and wakes one that sleeps on it.
 pub fn unlock<R: Wait>(rt: &R, words: &Words, me: &mut Caller, lock: LockId)
     requires table { me.old.table ≡ words.now.table }
-    requires lock { lock ≡ LockId.Loader }
-    requires held { IsSome me.old.log.loader }
+    requires lock { IsLock words.now.terms lock }
+    requires may { MayLetGo lock me.old.log }
     requires surplus { 0 < surplus me.old }
-    ensures { me.new ≡ record me.old { log = after_loader_release me.old.log } }
+    ensures { me.new ≡ record me.old { log = after_release lock me.old.log } }
 {
     let _ = rt;
     let before = words.release(me, lock);
