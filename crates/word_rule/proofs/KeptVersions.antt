@@ -9,7 +9,8 @@ use Rattle.word_rule.specs.Held.{held_of, without_lock}
 use Rattle.tree_shape.specs.Numbers.{is_among}
 use Rattle.word_rule.specs.Exchange.{after_exchange, exchange, group_of, is_lawful, is_reached, nothing_reached, settle, settle_free, top_of}
 use Rattle.word_rule.specs.Logs.{after_spending}
-use Rattle.word_rule.specs.Steps.{after_node_release, after_node_release_same}
+use Rattle.word_rule.specs.Steps.{after_node_release, after_node_release_same, after_node_store, frees, stored_log}
+use Rattle.word_rule.proofs.NodeStores.{storing, storing_node, storing_version}
 use Rattle.word_rule.proofs.Settles.{mapped_held}
 use Rattle.word_rule.proofs.NodeReleases.{settle_is}
 use Rattle.word_rule.specs.Plays.{Seated}
@@ -87,4 +88,38 @@ caller_let_go left seen versions names me me' n is bare some_credit c =
       wide = c.wide;
       loader = c.loader;
       nodes = versions_left versions n (settle None me.0).holdings.held (versions_settled versions me.0 c.nodes);
+    })
+
+-- a caller that stored in a node
+pub caller_stored : (left seen : ℕ) (versions : List ℕ) (names : Names) (me me' : Seated) (n at value : ℕ) → me'.0 ≡ after_node_store n at value me.0 → me'.1 ≡ me.1 → IsCaller left seen versions names me → IsCaller left seen versions names me'
+caller_stored left seen versions names me me' n at value is bare c =
+    subst (λ (z : Log). IsCaller left seen versions names (z, me'.1)) (sym is) (go (frees n at value me.0))
+  where
+    stored : IsCaller left seen versions names (stored_log n at value me.0, me'.1)
+    stored = record {
+      bare = bare ∙ c.bare;
+      role = c.role;
+      seen_all = c.seen_all;
+      allowed = c.allowed;
+      most = c.most;
+      credit = c.credit;
+      names_are = c.names_are;
+      wide = c.wide;
+      loader = c.loader;
+      nodes = versions_mapped (storing n at value) (storing_node n at value) (storing_version n at value) versions me.0.holdings.held c.nodes;
+    }
+
+    go : (b : Bool) → IsCaller left seen versions names ((if b then settle None (stored_log n at value me.0) else stored_log n at value me.0), me'.1)
+    go false = stored
+    go true = subst (λ (z : Log). IsCaller left seen versions names (z, me'.1)) (sym (settle_is (stored_log n at value me.0))) (record {
+      bare = bare ∙ c.bare;
+      role = c.role;
+      seen_all = c.seen_all;
+      allowed = c.allowed;
+      most = c.most;
+      credit = c.credit;
+      names_are = c.names_are;
+      wide = c.wide;
+      loader = c.loader;
+      nodes = versions_settled versions (stored_log n at value me.0) stored.nodes;
     })

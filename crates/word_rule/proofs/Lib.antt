@@ -36,5 +36,6 @@ pub mod Settles
 pub mod VersionSteps
 pub mod NodeReleases
 pub mod NodeTries
+pub mod NodeStores
 pub mod KeptVersions
 pub mod Exchanges

@@ -178,6 +178,37 @@ module _ (t : Terms) (words : List ℕ) (wide : length words ≡ word_count t) (
           (λ far. by_below n t.nodes (λ b. (if b then get_or (set words (4 + 36 * a) x) (4 + 36 * n) 0 else 0) ≡ (if b then get_or words (4 + 36 * n) 0 else 0))
           (λ less. there (4 + 36 * a) (4 + 36 * n) (λ e. far (omega (arith, e)))) (λ more. refl))
 
+  -- a word of a node after its version word
+  pub set_content : (a at : ℕ) → a < t.nodes → 1 ≤ at → at ≤ 35 → memory_of t (set words (4 + 36 * a + at) x) ≡ record m { nodes = record m.nodes { contents = updated m.nodes.contents a (set (m.nodes.contents a) (at - 1) x) } }
+  set_content a at within low high i = record {
+    clock = there (4 + 36 * a + at) 0 (λ e. omega (arith, e)) i;
+    loader = there (4 + 36 * a + at) 2 (λ e. omega (arith, e)) i;
+    nodes = record {
+      head = there (4 + 36 * a + at) 1 (λ e. omega (arith, e)) i;
+      versions = λ n. versions_stay (4 + 36 * a + at) (λ b less e. omega (arith, e, low, high)) n i;
+      contents = λ n. content_at n i;
+    };
+    copies = λ c. low_copies (4 + 36 * a + at) (omega (arith, within, high)) c i;
+  }
+    where
+      is_in : (y z : List ℕ) → ◌≡◌ {A = List ℕ} (if nat_lt a t.nodes then y else z) y
+      is_in y z = rw (lt-ltb a t.nodes within) refl
+
+      elsewhere : (n : ℕ) → n ≢ a → part 35 (4 + 36 * n + 1) (set words (4 + 36 * a + at) x) ≡ part 35 (4 + 36 * n + 1) words
+      elsewhere n ne = go (dec_le a n)
+        where
+          go : Dec (a ≤ n) → part 35 (4 + 36 * n + 1) (set words (4 + 36 * a + at) x) ≡ part 35 (4 + 36 * n + 1) words
+          go (yes h) = part_after words 35 (4 + 36 * n + 1) (4 + 36 * a + at) x (omega (arith, h, ne, high))
+          go (no h) = let l = lt_of_not-le h in part_before words 35 (4 + 36 * n + 1) (4 + 36 * a + at) x (omega (arith, l, low))
+
+      content_at : (n : ℕ) → (memory_of t (set words (4 + 36 * a + at) x)).nodes.contents n ≡ updated m.nodes.contents a (set (m.nodes.contents a) (at - 1) x) n
+      content_at n = by_same n a (λ b. (memory_of t (set words (4 + 36 * a + at) x)).nodes.contents n ≡ (if b then set (m.nodes.contents a) (at - 1) x else m.nodes.contents n))
+          (λ e. ap (memory_of t (set words (4 + 36 * a + at) x)).nodes.contents e ∙ (is_in (part 35 (4 + 36 * a + 1) (set words (4 + 36 * a + at) x)) []
+          ∙ ((let z : 4 + 36 * a + at ≡ 4 + 36 * a + 1 + (at - 1) = omega (arith, low) in ap (λ k. part 35 (4 + 36 * a + 1) (set words k x)) z)
+          ∙ (part_inside words 35 (4 + 36 * a + 1) (at - 1) x (omega (arith, low, high)) ∙ ap (λ ws. set ws (at - 1) x) (sym (is_in (part 35 (4 + 36 * a + 1) words) []))))))
+          (λ ne. by_below n t.nodes (λ b. ◌≡◌ {A = List ℕ} (if b then part 35 (4 + 36 * n + 1) (set words (4 + 36 * a + at) x) else []) (if b then part 35 (4 + 36 * n + 1) words else []))
+          (λ less. elsewhere n ne) (λ more. refl))
+
   -- a word of copy 0 or 1
   pub set_copy : (c k : ℕ) → c < 2 → k < copy_words t → memory_of t (set words (copy_place t c + k) x) ≡ record m { copies = updated m.copies c (set (m.copies c) k x) }
   set_copy c k two inside i = record {

@@ -11,7 +11,7 @@ use Rattle.word_rule.specs.Places.{ALLOWANCE, node_place}
 use Rattle.word_rule.specs.Sights.{after_node_version, after_node_load, after_copy_load}
 use Rattle.word_rule.specs.Steps.{after_node_lock, after_head_load, after_copy_store, AfterPublish}
 use Rattle.word_rule.specs.Steps.{HeadStored, IsHeldWord}
-use Rattle.word_rule.specs.Steps.{after_node_release, after_node_release_same}
+use Rattle.word_rule.specs.Steps.{after_node_release, after_node_release_same, after_node_store}
 use Rattle.word_rule.specs.declared.log.Terms.{Terms}
 use Rattle.word_rule.specs.Clock.{AfterClock}
 use Rattle.word_rule.specs.Held.{held_of}
@@ -121,6 +121,10 @@ NodeWasLocked n me found =
 abbrev pub releases_same_node : ℕ → Stepped → Seated → ℕ → Seated → Type 0
 releases_same_node n st me found me' =
     (me' ≡ (after_node_release_same n me.0, me.1)) × NodeWasLocked n me found
+
+-- a word of a held node was stored
+abbrev pub stores_node : ℕ → ℕ → Stepped → Seated → ℕ → Seated → Type 0
+stores_node n at st me found me' = me' ≡ (after_node_store n at st.first me.0, me.1)
 
 -- the head was loaded: it is a node
 abbrev pub loads_head : Terms → Stepped → Seated → ℕ → Seated → Type 0

@@ -2,7 +2,7 @@
 -- and what they ask for.
 use Rattle.std.specs.Prelude.{◌≡◌, ◌≢◌, ◌↔◌, Contains, is_some, option_map, ℕ, ◌+◌, ◌-◌, ◌<◌, ◌≤◌}
 use Rattle.std.specs.Prelude.{◌⊎◌, ◌%◌, slice_index, IfSome, IsNone}
-use Rattle.std.specs.Prelude.{true, false, ◌==◌, IsTrue, List, [], ◌∷◌, ◌++◌, length, Option, Some}
+use Rattle.std.specs.Prelude.{Bool, true, false, ◌==◌, ◌&&◌, IsTrue, List, [], ◌∷◌, ◌++◌, length, Option, Some}
 use Rattle.std.specs.Prelude.{None, IsSome, IsSomeAnd, slice_set, if◌then◌else◌}
 use Rattle.std.specs.List.{find}
 use Rattle.reg_model.specs.History.{state_after}
@@ -112,14 +112,14 @@ stored_log n at value v =
       holdings = record v.holdings { held = edited n (store_in at value) v.holdings.held };
     }
 
--- A word of a held node was stored. Where it made a live node free, the contents settle where that
--- is lawful.
-abbrev pub AfterStore : ℕ → ℕ → ℕ → Log → Log → Type 0
-AfterStore n at value v w =
-    (((at ≡ 1) × (value ≡ 2) × IsTrue (marked_in v.holdings.held n))
-    × (w ≡ settle None (stored_log n at value v)))
-    ⊎ ((¬ ((at ≡ 1) × (value ≡ 2) × IsTrue (marked_in v.holdings.held n)))
-    × (w ≡ stored_log n at value v))
+-- whether a store makes a node free that is marked live
+abbrev pub frees : ℕ → ℕ → ℕ → Log → Bool
+frees n at value v = (at == 1) && (value == 2) && marked_in v.holdings.held n
+
+-- A word of a held node was stored. Where it made a live node free, what is held settles.
+abbrev pub after_node_store : ℕ → ℕ → ℕ → Log → Log
+after_node_store n at value v = if frees n at value v
+    then settle None (stored_log n at value v) else stored_log n at value v
 
 -- a store asks that the node is held, and live or out
 abbrev pub MayStore : ℕ → Log → Type 0

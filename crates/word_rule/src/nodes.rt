@@ -9,13 +9,15 @@ ghost use Rattle.word_rule.specs.NodeTells.{HeldTells, SightTells};
 ghost use Rattle.word_rule.specs.Places.{node_place};
 ghost use Rattle.word_rule.specs.Plays.{TakesNode};
 ghost use Rattle.word_rule.specs.Sights.{after_node_load, after_node_version};
-ghost use Rattle.word_rule.specs.Steps.{MayRelease, after_node_release, after_node_release_same};
+ghost use Rattle.word_rule.specs.Steps.{MayRelease, MayStore, after_node_release};
+ghost use Rattle.word_rule.specs.Steps.{after_node_release_same, after_node_store};
 ghost use Rattle.word_rule.specs.VersionLocks.{NodeTaken};
 
 use crate::caller::Caller;
 use crate::log::{Ask, Log, Role};
 use crate::rule::{
     AtNode, GrabsNode, LoadsNode, LoadsVersion, LocksNode, ReleasesNode, ReleasesSameNode,
+    StoresNode,
 };
 use crate::words::{LOCKED, VERSION, Words};
 use atomic_table::Seat;
@@ -233,5 +235,38 @@ impl Words {
     {
         let version = me.versions[node as usize + 1];
         self.release_for::<Brand>(&mut me.seat, node, version)
+    }
+
+    fn store_node_for<N: AtNode>(&self, seat: &mut Seat<(), Log>, node: u32, at: u32, value: u64)
+        requires table { seat.old.table_id ≡ self.now.table }
+        requires about { (N.node ≡ node) × (N.at ≡ at) }
+        requires inside { node < self.now.terms.nodes }
+        requires word { (1 ≤ at) × (at ≤ 35) }
+        requires may { MayStore node seat.old.me.0 }
+        requires caller { seat.old.me.0.role ≡ Role.Caller }
+        ensures same { (seat.new.table_id ≡ seat.old.table_id) × (seat.new.id ≡ seat.old.id)
+            × (seat.new.me.1 ≡ seat.old.me.1) }
+        ensures log { seat.new.me.0 ≡ after_node_store N.node N.at value seat.old.me.0 }
+    {
+        laws::transfer();
+        laws::widen();
+        laws::local_change();
+        laws::agreement();
+        laws::decided();
+        self.table
+            .shared
+            .store::<StoresNode<N>>(seat, place_of(node) + at as usize, value);
+    }
+
+    /// Stores a word of a node that the caller holds, counted from its version word. Where it makes
+    /// a live node free, what the caller changed settles.
+    pub fn store_node(&self, me: &mut Caller, node: u32, at: u32, value: u64)
+        requires table { me.old.table ≡ self.now.table }
+        requires inside { node < self.now.terms.nodes }
+        requires word { (1 ≤ at) × (at ≤ 35) }
+        requires may { MayStore node me.old.log }
+        ensures { me.new ≡ record me.old { log = after_node_store node at value me.old.log } }
+    {
+        self.store_node_for::<Brand>(&mut me.seat, node, at, value);
     }
 }

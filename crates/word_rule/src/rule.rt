@@ -210,6 +210,16 @@ impl<N: AtNode> Play<(), Log> for ReleasesNode<N> {
     ghost then = { releases_node N.node };
 }
 
+pub(crate) struct StoresNode<N> {
+    node: PhantomData<N>,
+}
+
+impl<N: AtNode> Play<(), Log> for StoresNode<N> {
+    ghost use Rattle.word_rule.specs.Plays.{stores_node};
+
+    ghost then = { stores_node N.node N.at };
+}
+
 pub(crate) struct LoadsHead<A> {
     asking: PhantomData<A>,
 }
