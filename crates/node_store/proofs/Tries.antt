@@ -7,7 +7,7 @@ use Rattle.word_rule.specs.Logs.{IsTaken, load_of, after_load, after_loader_lock
 use Rattle.word_rule.specs.NodeTells.{IsTakenNode}
 use Rattle.word_rule.specs.Sights.{sight_of, receipts_after_version, sights_after_version}
 use Rattle.word_rule.specs.Steps.{after_node_lock}
-use Rattle.word_rule.specs.VersionLocks.{Takes, after_version, lock_place}
+use Rattle.word_rule.specs.VersionLocks.{IsLockTaken, after_version, lock_place}
 use Rattle.word_rule.specs.declared.log.Ask.TheVariants as ask
 use Rattle.word_rule.specs.declared.log.LoadEvent.{LoadEvent}
 use Rattle.word_rule.specs.declared.log.LockId.{LockId}
@@ -73,7 +73,7 @@ tries_version (lock.Node n) a b c found p e =
 pub tries_table : (id : LockId) (a b : CallerData) → Tries id a b → b.table ≡ a.table
 tries_table id a b p = ap (λ k. k.table) p.3.2
 
-pub takes : (id : LockId) (a b c : CallerData) (version : ℕ) → Tries id a b → Takes id version b c → Locks id a c
+pub takes : (id : LockId) (a b c : CallerData) (version : ℕ) → Tries id a b → IsLockTaken id version b c → Locks id a c
 takes lock.Loader a b c version p taken =
     let h : LoaderHolding = taken.0 in
     let step : CallerData → CallerData = λ k. record k { log = after_loader_lock h k.log } in

@@ -1,9 +1,8 @@
 -- What taking a lock makes of a caller.
-use Rattle.std.specs.Prelude.{◌≡◌, ℕ, ◌+◌, ◌%◌, List, ◌++◌, None}
+use Rattle.std.specs.Prelude.{◌≡◌, ℕ, ◌+◌, ◌%◌, List, ◌++◌}
 use Rattle.std.specs.List.{AllByRecursion}
 use Rattle.tree_shape.specs.NodeData.{NodeData}
 use Rattle.word_rule.specs.CallerData.{CallerData}
-use Rattle.word_rule.specs.Held.{held_of}
 use Rattle.word_rule.specs.Logs.{IsTaken, after_load, after_loader_lock}
 use Rattle.word_rule.specs.NodeTells.{IsTakenNode}
 use Rattle.word_rule.specs.Steps.{after_node_lock}
@@ -14,11 +13,6 @@ use Rattle.word_rule.specs.declared.log.LoaderHolding.{LoaderHolding}
 use Rattle.word_rule.specs.declared.log.Log.{Log}
 use Rattle.word_rule.specs.declared.log.LoadEvent.{LoadEvent}
 use Rattle.word_rule.specs.declared.log.NodeSight.{NodeSight}
-
--- the caller doesn't hold this lock
-abbrev pub IsNotHeld : LockId → Log → Type 0
-IsNotHeld lock.Loader v = v.loader ≡ None
-IsNotHeld (lock.Node n) v = held_of n v.holdings.held ≡ None
 
 -- a load of a lock's version word, or a refused exchange there
 abbrev pub IsOfLock : LockId → LoadEvent → Type 0

@@ -6,10 +6,12 @@
 //! a little, and then slept on; or, by a caller that gives up, tried once.
 #![tactic(auto)]
 
+mod free;
 mod locking;
 mod locks;
 #[cfg(test)]
 mod tests;
 
+pub use free::take_free;
 pub use locking::{Busy, Locking, Once, Trying, Waiting};
 pub use locks::{lock, unlock, unlock_same};

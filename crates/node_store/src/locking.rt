@@ -2,9 +2,9 @@
 //! gives up. An update has one body for all of these ways.
 ghost use Rattle.std.specs.Prelude.{◌≡◌, ◌*◌, ◌<◌, ◌%◌, Bool, true, false, MatchBool};
 ghost use Rattle.word_rule.specs.CallerData.{surplus};
-ghost use Rattle.word_rule.specs.VersionLocks.{IsClean, IsLock, MayLetGo, after_release};
+ghost use Rattle.word_rule.specs.VersionLocks.{IsHeldClean, IsLock, MayLetGo, after_release};
 ghost use Rattle.word_rule.specs.VersionLocks.{after_release_same};
-ghost use Rattle.node_store.specs.Locking.{IsBusy, IsNotHeld, Locks};
+ghost use Rattle.node_store.specs.Locking.{IsBusy, Locks};
 
 use crate::locks::{lock, unlock, unlock_same, wake_after};
 use std::sync::Wait;
@@ -26,7 +26,6 @@ pub trait Locking {
     fn take(&self, words: &Words, me: &mut Caller, id: LockId) -> bool
         requires table { me.old.table ≡ words.now.table }
         requires lock { IsLock words.now.terms id }
-        requires free { IsNotHeld id me.old.log }
         ensures { MatchBool result (Locks id me.old me.new)
             (IsBusy id me.old me.new × (gives_up ≡ true)) };
 
@@ -42,7 +41,7 @@ pub trait Locking {
     fn let_go_same(&self, words: &Words, me: &mut Caller, id: LockId)
         requires table { me.old.table ≡ words.now.table }
         requires lock { IsLock words.now.terms id }
-        requires clean { IsClean id me.old.log }
+        requires clean { IsHeldClean id me.old.log }
         ensures { me.new ≡ record me.old { log = after_release_same id me.old.log } };
 }
 

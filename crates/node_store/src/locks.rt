@@ -6,9 +6,9 @@
 //! slept sets bit 1 again once it has the lock.
 ghost use Rattle.std.specs.Prelude.{◌≡◌, ◌*◌, ◌<◌, ◌%◌};
 ghost use Rattle.word_rule.specs.CallerData.{surplus};
-ghost use Rattle.word_rule.specs.VersionLocks.{IsClean, IsLock, MayLetGo, after_release};
+ghost use Rattle.word_rule.specs.VersionLocks.{IsHeldClean, IsLock, MayLetGo, after_release};
 ghost use Rattle.word_rule.specs.VersionLocks.{after_release_same};
-ghost use Rattle.node_store.specs.Locking.{IsNotHeld, Locks, Tries};
+ghost use Rattle.node_store.specs.Locking.{Locks, Tries};
 
 use crossbeam_utils::Backoff;
 use std::sync::Wait;
@@ -48,11 +48,10 @@ fn mark_again(words: &Words, me: &mut Caller, lock: LockId, locked: u64)
     let _ = words.mark_sleeping(me, lock, locked);
 }
 
-/// Takes a lock, and waits for it where another has it.
+/// Takes a lock, and waits for it where another has it, or for ever where the caller has it.
 pub fn lock<R: Wait>(rt: &R, words: &Words, me: &mut Caller, lock: LockId)
     requires table { me.old.table ≡ words.now.table }
     requires lock { IsLock words.now.terms lock }
-    requires free { IsNotHeld lock me.old.log }
     ensures { Locks lock me.old me.new }
 {
     let backoff = Backoff::new();
@@ -107,7 +106,7 @@ pub fn unlock<R: Wait>(rt: &R, words: &Words, me: &mut Caller, lock: LockId)
 pub fn unlock_same<R: Wait>(rt: &R, words: &Words, me: &mut Caller, lock: LockId)
     requires table { me.old.table ≡ words.now.table }
     requires lock { IsLock words.now.terms lock }
-    requires clean { IsClean lock me.old.log }
+    requires clean { IsHeldClean lock me.old.log }
     ensures { me.new ≡ record me.old { log = after_release_same lock me.old.log } }
 {
     let _ = rt;

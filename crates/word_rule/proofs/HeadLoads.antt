@@ -155,7 +155,7 @@ module _ (t : Terms) (slots id : ℕ) (me : Seated) (caller : me.0.role ≡ role
             (mine entries_law order s r here) (λ _ k. k) (λ _. refl)
             (observations_same t m r.memory.history callers r.memory.shadow me.0 w (load_of me.0 1 found ∷ []) (record { own = refl; turns = omega arith; loads = refl }) refl (head_full entries_law order s r here, tt) ((omega arith, omega arith), tt) (r.memory.observations id me.0 here))
             (λ alone. still_after_load s.words me.0 w (load_of me.0 1 found) refl refl refl (r.alone id me.0 here alone)),
-        (refl, terms, head_within entries_law order s r here),
+        (refl, terms, head_within entries_law order s r here, r.memory.callers.terms.nodes.1),
       )
 
   -- the same, told of terms that are known to be these

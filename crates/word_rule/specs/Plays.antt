@@ -130,6 +130,7 @@ stores_node n at st me found me' = me' ≡ (after_node_store n at st.first me.0,
 abbrev pub loads_head : Terms → Stepped → Seated → ℕ → Seated → Type 0
 loads_head t st me found me' =
     (me' ≡ (after_head_load found me.0, me.1)) × (me.0.terms ≡ t) × (found < t.nodes)
+    × (t.nodes ≤ 16384)
 
 -- the head was stored
 abbrev pub stores_the_head : Stepped → Seated → ℕ → Seated → Type 0

@@ -50,14 +50,14 @@ NodeTaken n version k k' = (settled : NodeData) × (words : List ℕ)
     × (k' ≡ record k { log = after_node_lock n version settled words k.log }))
 
 -- a lock was taken at a version
-abbrev pub Takes : LockId → ℕ → CallerData → CallerData → Type 0
-Takes lock.Loader version k k' = LoaderTaken version k k'
-Takes (lock.Node n) version k k' = NodeTaken n version k k'
+abbrev pub IsLockTaken : LockId → ℕ → CallerData → CallerData → Type 0
+IsLockTaken lock.Loader version k k' = LoaderTaken version k k'
+IsLockTaken (lock.Node n) version k k' = NodeTaken n version k k'
 
 -- no word was stored under a lock that is held
-abbrev pub IsClean : LockId → Log → Type 0
-IsClean lock.Loader v = IsSomeAnd v.loader (λ h. h.stored ≡ false)
-IsClean (lock.Node n) v = IsSomeAnd (held_of n v.holdings.held) (λ h. h.stored ≡ false)
+abbrev pub IsHeldClean : LockId → Log → Type 0
+IsHeldClean lock.Loader v = IsSomeAnd v.loader (λ h. h.stored ≡ false)
+IsHeldClean (lock.Node n) v = IsSomeAnd (held_of n v.holdings.held) (λ h. h.stored ≡ false)
 
 -- the word is the version at which a lock is held, with its low bits
 abbrev pub WasLockedAs : LockId → ℕ → Log → Type 0

@@ -1,5 +1,5 @@
 //! Steps on the free head, by one writer at a time.
-ghost use Rattle.std.specs.Prelude.{◌≡◌, ◌*◌, ◌<◌, IfSome};
+ghost use Rattle.std.specs.Prelude.{◌≡◌, ◌*◌, ◌<◌, ◌≤◌, IfSome};
 ghost use Rattle.word_rule.specs.Steps.{HeadStored, MayStoreHead, after_head_load};
 
 use crate::caller::Caller;
@@ -21,7 +21,8 @@ impl Words {
         ensures same { (seat.new.table_id ≡ seat.old.table_id) × (seat.new.id ≡ seat.old.id)
             × (seat.new.me.1 ≡ seat.old.me.1) }
         ensures log { seat.new.me.0 ≡ after_head_load result seat.old.me.0 }
-        ensures node { (seat.old.me.0.terms ≡ A.terms) × (result < A.terms.nodes) }
+        ensures node { (seat.old.me.0.terms ≡ A.terms) × (result < A.terms.nodes)
+            × (A.terms.nodes ≤ 16384) }
     {
         laws::fillings();
         laws::order();
@@ -34,6 +35,7 @@ impl Words {
         ensures log { me.new ≡ record me.old { log = after_head_load result me.old.log } }
         ensures terms { me.old.log.terms ≡ self.now.terms }
         ensures node { result < self.now.terms.nodes }
+        ensures few { self.now.terms.nodes ≤ 16384 }
     {
         self.load_head_for::<Brand>(&mut me.seat)
     }

@@ -17,8 +17,9 @@
 //! The layer above the model (reg_model: updates, histories, receipts) and the tree as pure values
 //! (tree_shape: what a node is, when contents are a lawful tree). From atomic_table it takes the
 //! steps, each proved to keep a rule that it is given. The rule here is the whole invariant. Built
-//! so far are the steps on the loader's version lock, loads of the clock and of the loader's
-//! copies, and callers and notes that come and go; the other steps have their definitions.
+//! are the steps on version locks, on nodes, on the free head by one writer at a time, on the clock
+//! and the loader's copies, and callers and notes that come and go; the commit of an update of the
+//! tree has its definitions.
 #![tactic(auto)]
 
 mod caller;

@@ -7,7 +7,8 @@ ghost use Rattle.word_rule.specs.declared.log.LoaderHolding.{LoaderHolding};
 ghost use Rattle.word_rule.specs.CallerData.{surplus};
 ghost use Rattle.word_rule.specs.Places.{LOADER};
 ghost use Rattle.word_rule.specs.Callers.{IsLockedAt};
-ghost use Rattle.word_rule.specs.VersionLocks.{IsLock, IsClean, LoaderTaken, MayLetGo, Takes};
+ghost use Rattle.word_rule.specs.VersionLocks.{IsHeldClean, IsLock, IsLockTaken, LoaderTaken};
+ghost use Rattle.word_rule.specs.VersionLocks.{MayLetGo};
 ghost use Rattle.word_rule.specs.VersionLocks.{VersionTells, WasLockedAs, after_release};
 ghost use Rattle.word_rule.specs.VersionLocks.{after_release_same, after_version};
 ghost use Rattle.word_rule.specs.VersionLocks.{lock_place};
@@ -137,7 +138,7 @@ impl Words {
         requires table { me.old.table ≡ self.now.table }
         requires lock { IsLock self.now.terms lock }
         requires unlocked { seen % 2 ≡ 0 }
-        ensures ok { IfOk result (λ _. Takes lock seen me.old me.new) }
+        ensures ok { IfOk result (λ _. IsLockTaken lock seen me.old me.new) }
         ensures err { IfErr result
             (λ found. (found ≢ seen)
             × (me.new ≡ record me.old { log = after_load (lock_place lock) found me.old.log })) }
@@ -171,7 +172,7 @@ impl Words {
     pub fn take(&self, me: &mut Caller, lock: LockId) -> Result<u64, u64>
         requires table { me.old.table ≡ self.now.table }
         requires lock { IsLock self.now.terms lock }
-        ensures ok { IfOk result (λ version. Takes lock version me.old me.new) }
+        ensures ok { IfOk result (λ version. IsLockTaken lock version me.old me.new) }
         ensures err { IfErr result
             (λ found. (found % 2 ≡ 1)
             × (me.new ≡ record me.old { log = after_load (lock_place lock) found me.old.log })) }
@@ -247,7 +248,7 @@ impl Words {
     pub fn release_same(&self, me: &mut Caller, lock: LockId) -> u64
         requires table { me.old.table ≡ self.now.table }
         requires lock { IsLock self.now.terms lock }
-        requires clean { IsClean lock me.old.log }
+        requires clean { IsHeldClean lock me.old.log }
         ensures log { me.new ≡ record me.old { log = after_release_same lock me.old.log } }
         ensures before { WasLockedAs lock result me.old.log }
     {
