@@ -1,1 +1,3 @@
 pub mod Tries
+pub mod Readings
+pub mod Items

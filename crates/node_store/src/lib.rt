@@ -9,9 +9,13 @@
 mod free;
 mod locking;
 mod locks;
+mod reading;
 #[cfg(test)]
 mod tests;
+mod writing;
 
 pub use free::take_free;
 pub use locking::{Busy, Locking, Once, Trying, Waiting};
 pub use locks::{lock, unlock, unlock_same};
+pub use reading::{CONTENT_WORDS, node_of};
+pub use writing::{Store, wanted_word};

@@ -1,0 +1,87 @@
+-- What the words of a node are to be so that they spell it, and the stores that make old words so.
+use Rattle.std.specs.Prelude.{◌≡◌, ◌≢◌, ℕ, zero, suc, ◌+◌, ◌-◌, ◌^◌, ◌<◌, ◌≤◌, ◌==◌, nat_lt}
+use Rattle.std.specs.Prelude.{List, [], ◌∷◌, ◌++◌, length, Option, Some, None, slice_get, slice_set}
+use Rattle.std.specs.Prelude.{if◌then◌else◌}
+use Rattle.std.specs.List.{AllByRecursion}
+use Rattle.reg_model.specs.SpanData.{IsSpan}
+use Rattle.reg_model.specs.declared.span.Member.{Member}
+use Rattle.tree_shape.specs.declared.limits.TheConstants.{PAIRS, ENTRIES}
+use Rattle.tree_shape.specs.declared.pair.Pair.{Pair}
+use Rattle.tree_shape.specs.NodeData.{NodeData, Body, Pairs, Entries, Link}
+use Rattle.word_rule.specs.Spelling.{node_word}
+use Rattle.node_store.specs.declared.writing.Store.{Store}
+
+-- the kind of a node, which is word 1
+abbrev pub kind_of : Body → ℕ
+kind_of (Pairs pairs) = 0
+kind_of (Entries entries) = 1
+kind_of (Link next) = 2
+
+-- the count, which is word 5; a free node has none
+abbrev pub count_of : Body → Option ℕ
+count_of (Pairs pairs) = Some (length pairs)
+count_of (Entries entries) = Some (length entries)
+count_of (Link next) = None
+
+-- the words from word 6 on: a child and its separator; a base, a size and a payload; or the link
+abbrev pub pair_words : List Pair → List ℕ
+pair_words [] = []
+pair_words (p ∷ pairs) = p.child ∷ p.separator ∷ pair_words pairs
+
+abbrev pub entry_words : List Member → List ℕ
+entry_words [] = []
+entry_words (m ∷ entries) =
+    m.span.first ∷ (m.span.last + 1 - m.span.first) ∷ m.payload ∷ entry_words entries
+
+abbrev pub item_words : Body → List ℕ
+item_words (Pairs pairs) = pair_words pairs
+item_words (Entries entries) = entry_words entries
+item_words (Link next) = next ∷ []
+
+-- what the word of a node with this number is to be, and nothing where any will do
+abbrev pub wanted : NodeData → ℕ → Option ℕ
+wanted s at =
+    if at == 1 then Some (kind_of s.body)
+    else (if at == 2 then Some s.level
+    else (if at == 3 then Some s.low
+    else (if at == 4 then Some s.high
+    else (if at == 5 then count_of s.body else slice_get (item_words s.body) (at - 6)))))
+
+-- what holds of every node of the code: its numbers fit their words, and its items have room
+abbrev pub BodyFits : Body → Type 0
+BodyFits (Pairs pairs) =
+    (length pairs ≤ PAIRS) × AllByRecursion (λ p. p.child < 2 ^ 32) pairs
+BodyFits (Entries entries) =
+    (length entries ≤ ENTRIES) × AllByRecursion (λ m. IsSpan m.span × (m.payload < 2 ^ 32)) entries
+BodyFits (Link next) = next < 2 ^ 32
+
+abbrev pub Fits : NodeData → Type 0
+Fits s = (s.level < 2 ^ 32) × BodyFits s.body
+
+-- The words of a node in the order in which they are stored: the greatest number first, and the
+-- count last of all.
+abbrev pub place_in_turn : ℕ → ℕ
+place_in_turn turn =
+    if nat_lt turn 30 then 35 - turn else (if nat_lt turn 34 then (34 - turn) else 5)
+
+-- the store of a word, where it is to be another than it is
+abbrev pub store_of : List ℕ → ℕ → Option ℕ → List Store
+store_of words at None = []
+store_of words at (Some value) =
+    if node_word words at == value then [] else (record { at = at; value = value } ∷ [])
+
+-- the stores of the first so many turns, over these words
+abbrev pub stores_upto : NodeData → List ℕ → ℕ → List Store
+stores_upto s words zero = []
+stores_upto s words (suc turn) =
+    stores_upto s words turn
+    ++ store_of words (place_in_turn turn) (wanted s (place_in_turn turn))
+
+-- all stores that make these words spell the node
+abbrev pub stores : NodeData → List ℕ → List Store
+stores s words = stores_upto s words 35
+
+-- the words after stores
+abbrev pub after_stores : List Store → List ℕ → List ℕ
+after_stores [] words = words
+after_stores (store ∷ more) words = after_stores more (slice_set words (store.at - 1) store.value)
