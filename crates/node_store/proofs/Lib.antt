@@ -1,3 +1,5 @@
 pub mod Tries
 pub mod Readings
 pub mod Items
+pub mod Spelled
+pub mod Stores

@@ -1,14 +1,16 @@
 -- What the words of a node are to be so that they spell it, and the stores that make old words so.
-use Rattle.std.specs.Prelude.{◌≡◌, ◌≢◌, ℕ, zero, suc, ◌+◌, ◌-◌, ◌^◌, ◌<◌, ◌≤◌, ◌==◌, nat_lt}
+use Rattle.std.specs.Prelude.{◌≡◌, ◌≢◌, ℕ, zero, suc, ◌+◌, ◌-◌, ◌^◌, ◌<◌, ◌≤◌, ◌==◌, ◌⊎◌, nat_lt}
 use Rattle.std.specs.Prelude.{List, [], ◌∷◌, ◌++◌, length, Option, Some, None, slice_get, slice_set}
 use Rattle.std.specs.Prelude.{if◌then◌else◌}
 use Rattle.std.specs.List.{AllByRecursion}
+use Rattle.std.specs.Option.{option_to_list}
 use Rattle.reg_model.specs.SpanData.{IsSpan}
 use Rattle.reg_model.specs.declared.span.Member.{Member}
 use Rattle.tree_shape.specs.declared.limits.TheConstants.{PAIRS, ENTRIES}
 use Rattle.tree_shape.specs.declared.pair.Pair.{Pair}
 use Rattle.tree_shape.specs.NodeData.{NodeData, Body, Pairs, Entries, Link}
-use Rattle.word_rule.specs.Spelling.{node_word}
+use Rattle.word_rule.specs.Places.{CONTENT_WORDS}
+use Rattle.word_rule.specs.Spelling.{node_word, SpellsNode}
 use Rattle.node_store.specs.declared.writing.Store.{Store}
 
 -- the kind of a node, which is word 1
@@ -62,26 +64,46 @@ Fits s = (s.level < 2 ^ 32) × BodyFits s.body
 -- count last of all.
 abbrev pub place_in_turn : ℕ → ℕ
 place_in_turn turn =
-    if nat_lt turn 30 then 35 - turn else (if nat_lt turn 34 then (34 - turn) else 5)
+    if nat_lt turn 30 then 35 - turn else (if nat_lt turn 34 then 34 - turn else 5)
 
 -- the store of a word, where it is to be another than it is
-abbrev pub store_of : List ℕ → ℕ → Option ℕ → List Store
-store_of words at None = []
+abbrev pub store_of : List ℕ → ℕ → Option ℕ → Option Store
+store_of words at None = None
 store_of words at (Some value) =
-    if node_word words at == value then [] else (record { at = at; value = value } ∷ [])
+    if node_word words at == value then None else Some record { at = at; value = value }
+
+abbrev pub store_in_turn : NodeData → List ℕ → ℕ → Option Store
+store_in_turn s words turn =
+    store_of words (place_in_turn turn) (wanted s (place_in_turn turn))
 
 -- the stores of the first so many turns, over these words
 abbrev pub stores_upto : NodeData → List ℕ → ℕ → List Store
 stores_upto s words zero = []
 stores_upto s words (suc turn) =
-    stores_upto s words turn
-    ++ store_of words (place_in_turn turn) (wanted s (place_in_turn turn))
+    stores_upto s words turn ++ option_to_list (store_in_turn s words turn)
 
--- all stores that make these words spell the node
+-- all stores of a node over these words
 abbrev pub stores : NodeData → List ℕ → List Store
-stores s words = stores_upto s words 35
+stores s words = stores_upto s words CONTENT_WORDS
 
 -- the words after stores
 abbrev pub after_stores : List Store → List ℕ → List ℕ
 after_stores [] words = words
 after_stores (store ∷ more) words = after_stores more (slice_set words (store.at - 1) store.value)
+
+-- one word is stored before another: the greater number first, and the count last of all
+abbrev pub ComesBefore : ℕ → ℕ → Type 0
+ComesBefore a b = (a ≢ 5) × ((b ≡ 5) ⊎ (b < a))
+
+abbrev pub AreInOrder : List Store → Type 0
+AreInOrder [] = Unit {0}
+AreInOrder (store ∷ more) =
+    AllByRecursion (λ later. ComesBefore store.at later.at) more × AreInOrder more
+
+-- These stores write a node over words: each changes a word after the version, no word is stored
+-- twice, and afterwards the words spell the node.
+pub record Write (s : NodeData) (words : List ℕ) (made : List Store) : Type 0 where
+  pub places : AllByRecursion (λ x. (1 ≤ x.at) × (x.at ≤ CONTENT_WORDS)) made
+  pub change : AllByRecursion (λ x. node_word words x.at ≢ x.value) made
+  pub order : AreInOrder made
+  pub spells : SpellsNode (after_stores made words) s

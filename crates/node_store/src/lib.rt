@@ -18,4 +18,4 @@ pub use free::take_free;
 pub use locking::{Busy, Locking, Once, Trying, Waiting};
 pub use locks::{lock, unlock, unlock_same};
 pub use reading::{CONTENT_WORDS, node_of};
-pub use writing::{Store, wanted_word};
+pub use writing::{Store, TURNS, store_in_turn, wanted_word, write_over};

@@ -2,18 +2,31 @@
 //!
 //! Only words that differ are stored, each once: the greatest number first, and the count last.
 ghost use Rattle.std.specs.Prelude.{◌≡◌, ◌+◌, ◌-◌, ◌*◌, ◌^◌, ◌<◌, ◌≤◌, Some, None, IfSome};
-ghost use Rattle.std.specs.Prelude.{if◌then◌else◌, slice_get};
+ghost use Rattle.std.specs.Prelude.{if◌then◌else◌, slice_get, ℕ, List, length};
 ghost use Rattle.std.specs.List.{AllByRecursion};
 ghost use Rattle.reg_model.specs.SpanData.{IsSpan};
 ghost use Rattle.tree_shape.specs.NodeData.{Pairs, Entries};
 ghost use Rattle.word_rule.specs.Spelling.{node_word, SpellsNode};
 ghost use Rattle.node_store.specs.Writing.{wanted, kind_of, count_of, item_words, pair_words, entry_words};
-ghost use Rattle.node_store.specs.Writing.{Fits, place_in_turn, store_of, stores, after_stores};
+ghost use Rattle.node_store.specs.Writing.{Fits, Write, place_in_turn, store_in_turn, stores};
+ghost use Rattle.node_store.specs.Writing.{after_stores};
+ghost use Rattle.tree_shape.specs.NodeData.{NodeData};
+ghost use Rattle.word_rule.specs.Places.{CONTENT_WORDS};
 
-use crate::reading::{CONTENT_WORDS, COUNT, ENTRY_WORDS, FIRST, FREE, HIGH, INNER, KIND, LEAF, LEVEL};
-use crate::reading::{LOW, PAIR_WORDS};
+use crate::reading::{
+    CONTENT_WORDS, COUNT, ENTRY_WORDS, FIRST, FREE, HIGH, INNER, KIND, LEAF, LEVEL, LOW, PAIR_WORDS,
+};
 use reg_model::Member;
 use tree_shape::{Content, Node, Pair};
+
+/// The turns of a write: each word after the version has one.
+pub const TURNS: u32 = 35;
+
+// The last turn, which is that of the count.
+const LAST_TURN: u32 = 34;
+
+// The words from the first item on.
+const ITEM_WORDS: u32 = 30;
 
 /// A word of a node that is stored: its number in the node, and what it becomes.
 #[derive(Clone, Copy, Debug, PartialEq, Eq)]
@@ -25,8 +38,7 @@ pub struct Store {
 // That a number of 32 bits is one, as its type has it. Here and below nothing is done.
 fn number_fits(number: u32)
     ensures { number < 2 ^ 32 }
-{
-}
+{}
 
 // That children are numbers of 32 bits.
 fn children_fit(pairs: &[Pair])
@@ -133,5 +145,52 @@ pub fn wanted_word(node: &Node, at: u32) -> Option<u64>
         HIGH => Some(node.high),
         COUNT => count(node),
         item => item_word(node, item - FIRST),
+    }
+}
+
+// The word whose turn it is.
+fn place_in_turn(turn: u32) -> u32
+    requires { turn < 35 }
+    ensures { result ≡ place_in_turn turn }
+{
+    if turn < ITEM_WORDS {
+        CONTENT_WORDS as u32 - turn
+    } else if turn < LAST_TURN {
+        LAST_TURN - turn
+    } else {
+        COUNT as u32
+    }
+}
+
+/// The store of a turn, where the word whose turn it is isn't yet as it is to be.
+pub fn store_in_turn(words: &[u64; CONTENT_WORDS], node: &Node, turn: u32) -> Option<Store>
+    requires { turn < 35 }
+    ensures { result ≡ store_in_turn node.now words.now turn }
+{
+    let at = place_in_turn(turn);
+    let value = wanted_word(node, at)?;
+    if words[at as usize - 1] == value {
+        return None;
+    }
+    Some(Store { at, value })
+}
+
+/// Whatever the words are, the stores of a node over them write it.
+fn writes()
+    ensures { (s : NodeData) (words : List ℕ) → length words ≡ CONTENT_WORDS → Fits s
+        → Write s words (stores s words) }
+{}
+
+/// Writes a node over old words. Only words that differ are stored, each once.
+pub fn write_over(words: &mut [u64; CONTENT_WORDS], node: &Node)
+    ensures stores { words.new ≡ after_stores (stores node.now words.old) words.old }
+    ensures write { Write node.now words.old (stores node.now words.old) }
+{
+    node_fits(node);
+    writes();
+    for turn in 0..TURNS {
+        if let Some(store) = store_in_turn(words, node, turn) {
+            words[store.at as usize - 1] = store.value;
+        }
     }
 }

@@ -1,4 +1,4 @@
-use Rattle.std.proofs.Common.{◌≡◌, ◌%◌, ◌/◌, Some, None, option_map, slice_get, ap, sym, ◌∙◌, arith, length}
+use Rattle.std.proofs.Common.{◌≡◌, ◌%◌, ◌/◌, Some, option_map, ap, sym, ◌∙◌, arith}
 use Rattle.std.proofs.lemmas.Option.{slice_get_past, slice_get-get_or}
 use Rattle.node_store.proofs.Items.{pair_word_at, word_of_pair}
 use Rattle.node_store.proofs.writing.pair_word.Goals as goal
