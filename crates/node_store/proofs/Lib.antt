@@ -3,3 +3,4 @@ pub mod Readings
 pub mod Items
 pub mod Spelled
 pub mod Stores
+pub mod Sighted

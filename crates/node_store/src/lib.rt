@@ -10,6 +10,7 @@ mod free;
 mod locking;
 mod locks;
 mod reading;
+mod sight;
 #[cfg(test)]
 mod tests;
 mod writing;
@@ -18,4 +19,5 @@ pub use free::take_free;
 pub use locking::{Busy, Locking, Once, Trying, Waiting};
 pub use locks::{lock, unlock, unlock_same};
 pub use reading::{CONTENT_WORDS, node_of};
+pub use sight::{Sight, check, peek};
 pub use writing::{Store, TURNS, store_in_turn, wanted_word, write_over};

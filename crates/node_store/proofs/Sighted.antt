@@ -1,0 +1,174 @@
+-- What a log keeps of the loads of a node, and what its version tells when it is found again.
+use Rattle.std.proofs.Common.{◌≡◌, ℕ, zero, suc, ◌+◌, ◌-◌, ◌<◌, ◌≤◌, ◌%◌, ◌==◌, Bool, true, false, cond, List, [], ◌∷◌, length, map, Option, Some, None, IfSome, IsSomeAnd, option_map, get_or, set, if◌then◌else◌, refl, ap, sym, ◌∙◌, subst, arith, is_some, nat_eq, eq-eqb, get_or-set_same, get_or-set_other}
+use Rattle.std.specs.List.{find}
+use Rattle.std.proofs.lemmas.Bool.{eqb-true, eqb-false}
+use Rattle.std.proofs.lemmas.List.{ext_get_or}
+use Rattle.std.proofs.lemmas.Option.{none-some, cond_some}
+use Rattle.tree_shape.specs.NodeData.{NodeData}
+use Rattle.word_rule.specs.declared.log.Ask.TheVariants as ask
+use Rattle.word_rule.specs.declared.log.LoadedWord.{LoadedWord}
+use Rattle.word_rule.specs.declared.log.Log.{Log}
+use Rattle.word_rule.specs.declared.log.NodeSight.{NodeSight}
+use Rattle.word_rule.specs.Held.{held_of}
+use Rattle.word_rule.specs.NodeTells.{IsOfNode, IsLiveNode, SightTells}
+use Rattle.word_rule.specs.Observations.{AreOfNode}
+use Rattle.word_rule.specs.Places.{CONTENT_WORDS}
+use Rattle.word_rule.specs.Sights.{after_node_load, after_node_version, loaded_word, mark_child, or_mark, place_of, place_under, sight_begun, sight_of, sights_after_version, with_word, without_sight}
+use Rattle.word_rule.specs.Spelling.{node_word, spelled, SpellsNode}
+use Rattle.node_store.specs.declared.sight.Sight.{Sight}
+use Rattle.node_store.specs.Sights.{AreLoaded, IsKept, IsLiveAs, after_words}
+
+-- of words that are a node's, one that was loaded is that of the node
+loaded_is : (words : List ℕ) (loaded : List LoadedWord) (at value : ℕ) → AreOfNode words loaded → loaded_word at loaded ≡ Some value → node_word words at ≡ value
+loaded_is words [] at value stand is = absurd (none-some value is)
+loaded_is words (w ∷ loaded) at value stand is = go (nat_eq w.at at) refl is (λ e. loaded_is words loaded at value stand.1 e)
+  where
+    go : (b : Bool) → nat_eq w.at at ≡ b → (if b then Some w.value else loaded_word at loaded) ≡ Some value → (loaded_word at loaded ≡ Some value → node_word words at ≡ value) → node_word words at ≡ value
+    go true e is later = ap (node_word words) (sym (eqb-true w.at at e)) ∙ stand.0 ∙ (cond_some true w.value value is).1
+    go false e is later = later is
+
+-- two lists of words that agree on each
+same_words : (words others : List ℕ) → length words ≡ CONTENT_WORDS → length others ≡ CONTENT_WORDS → ((at : ℕ) → 1 ≤ at → at ≤ CONTENT_WORDS → node_word words at ≡ node_word others at) → words ≡ others
+same_words words others wide wide' same =
+    ext_get_or 0 words others (wide ∙ sym wide')
+    (λ i less. let back : i + 1 - 1 ≡ i = omega arith in subst (λ k. get_or words k 0 ≡ get_or others k 0) back (same (i + 1) (omega arith) (omega (arith, less, wide))))
+
+-- what a search found passes its test
+found_passes : {A : Type 0} (test : A → Bool) (xs : List A) (x : A) → find test xs ≡ Some x → test x ≡ true
+found_passes test [] x is = absurd (none-some x is)
+found_passes test (y ∷ xs) x is = go (test y) refl is (λ e. found_passes test xs x e)
+  where
+    go : (b : Bool) → test y ≡ b → cond b (Some y) (find test xs) ≡ Some x → (find test xs ≡ Some x → test x ≡ true) → test x ≡ true
+    go true e is later = ap test (sym (cond_some true y x is).1) ∙ e
+    go false e is later = later is
+
+-- what a sight is of, where it was found to stand
+abbrev pub IsSeen : Log → Sight → NodeData → Type 0
+IsSeen v s shape = SpellsNode s.words shape × IsLiveAs v s.node shape
+
+pub seen : (v : Log) (s : Sight) (found : ℕ) → length s.words ≡ CONTENT_WORDS → IsKept v s → SightTells s.node found v → found ≡ s.version → (shape : NodeData) × IsSeen v s shape
+seen v s found wide kept tells is = go (sight_of s.node v.sights.nodes) refl kept tells
+  where
+    go : (o : Option NodeSight) → sight_of s.node v.sights.nodes ≡ o
+        → IsSomeAnd o (λ k. (k.version ≡ s.version) × AreLoaded s.words k.words)
+        → IfSome o (λ k. k.version ≡ found → IsOfNode v.terms k)
+        → (shape : NodeData) × (SpellsNode s.words shape × IfSome o (λ k. IfSome (place_of k) (IsLiveNode v.terms s.node shape)))
+    go None e kept tells = absurd kept
+    go (Some k) e kept tells =
+        let of = tells (kept.0 ∙ sym is) in
+        let same = same_words of.words s.words of.wide wide (λ at least most. loaded_is of.words k.words at (node_word s.words at) of.loaded_so (kept.1 at least most)) in
+        let node : k.node ≡ s.node = eqb-true k.node s.node (found_passes (λ z. z.node == s.node) v.sights.nodes k e) in
+        (of.shape, (subst (λ ws. spelled ws ≡ Some of.shape) same of.spells, subst (λ n. IfSome (place_of k) (IsLiveNode v.terms n of.shape)) node of.live))
+
+-- the loads of the words that a later one doesn't change
+words_same : (n : ℕ) (words others : List ℕ) (count : ℕ) (v : Log) → ((at : ℕ) → 1 ≤ at → at ≤ count → node_word words at ≡ node_word others at) → after_words n words count v ≡ after_words n others count v
+words_same n words others zero v same = refl
+words_same n words others (suc count) v same =
+    ap (λ value. after_node_load n (suc count) value (after_words n words count v)) (same (suc count) (omega arith) (omega arith))
+    ∙ ap (after_node_load n (suc count) (node_word others (suc count))) (words_same n words others count v (λ at least most. same at least (omega (arith, most))))
+
+-- one word more is loaded
+pub word_more : (n : ℕ) (words : List ℕ) (at found : ℕ) (v : Log) → at < length words → after_node_load n (at + 1) found (after_words n words at v) ≡ after_words n (set words at found) (at + 1) v
+word_more n words at found v inside =
+    let next : at + 1 ≡ suc at = omega arith in
+    let back : suc at - 1 ≡ at = omega arith in
+    let here : node_word (set words at found) (suc at) ≡ found = ap (λ k. get_or (set words at found) k 0) back ∙ get_or-set_same words at found 0 inside in
+    let others = words_same n words (set words at found) at v (λ k least most. sym (get_or-set_other words at (k - 1) found 0 (λ e. omega (arith, e, least, most)))) in
+    ap (λ k. after_node_load n k found (after_words n words at v)) next
+    ∙ ap (after_node_load n (suc at) found) others
+    ∙ ap (λ value. after_node_load n (suc at) value (after_words n (set words at found) at v)) (sym here)
+    ∙ ap (λ k. after_words n (set words at found) k v) (sym next)
+
+-- the sight of a node, where each sight was changed and kept its node
+sight_changed : (n : ℕ) (f : NodeSight → NodeSight) → ((s : NodeSight) → (f s).node ≡ s.node) → (sights : List NodeSight) → sight_of n (map f sights) ≡ option_map f (sight_of n sights)
+sight_changed n f keeps [] = refl
+sight_changed n f keeps (s ∷ sights) = ap (λ m. cond (m == n) (Some (f s)) (sight_of n (map f sights))) (keeps s) ∙ go (nat_eq s.node n) (sight_changed n f keeps sights)
+  where
+    go : (b : Bool) → sight_of n (map f sights) ≡ option_map f (sight_of n sights) → cond b (Some (f s)) (sight_of n (map f sights)) ≡ option_map f (cond b (Some s) (sight_of n sights))
+    go true later = refl
+    go false later = later
+
+-- a word that joins the sight of its node
+word_keeps : (n at value : ℕ) (s : NodeSight) → (with_word n at value s).node ≡ s.node
+word_keeps n at value s = go (nat_eq s.node n)
+  where
+    go : (b : Bool) → (if b then record s { words = record { at = at; value = value } ∷ s.words } else s).node ≡ s.node
+    go true = refl
+    go false = refl
+
+mark_keeps : (parent s : NodeSight) → (mark_child parent s).node ≡ s.node
+mark_keeps parent s = go (nat_eq s.node parent.node)
+  where
+    go : (b : Bool) → (if b then s else record s { mark = or_mark (place_under s.node parent (place_of parent)) s.mark }).node ≡ s.node
+    go true = refl
+    go false = refl
+
+mark_same : (parent s : NodeSight) → (mark_child parent s).version ≡ s.version
+mark_same parent s = go (nat_eq s.node parent.node)
+  where
+    go : (b : Bool) → (if b then s else record s { mark = or_mark (place_under s.node parent (place_of parent)) s.mark }).version ≡ s.version
+    go true = refl
+    go false = refl
+
+-- a log has a sight of a node at a version, with so many of these words
+pub record HasWords (n version : ℕ) (words : List ℕ) (count : ℕ) (v : Log) : Type 0 where
+  pub free : held_of n v.holdings.held ≡ None
+  pub kept : NodeSight
+  pub is : sight_of n v.sights.nodes ≡ Some kept
+  pub version_is : kept.version ≡ version
+  pub loaded : (at : ℕ) → 1 ≤ at → at ≤ count → loaded_word at kept.words ≡ Some (node_word words at)
+
+-- the loads that join a sight, where the node isn't held
+free_load : (n at value : ℕ) (v : Log) → held_of n v.holdings.held ≡ None → (after_node_load n at value v).sights.nodes ≡ map (with_word n at value) v.sights.nodes
+free_load n at value v free = ap (λ o. (if is_some o then v.sights else record v.sights { nodes = map (with_word n at value) v.sights.nodes }).nodes) free
+
+has_more : (n version : ℕ) (words : List ℕ) (count : ℕ) (v : Log) → HasWords n version words count v → HasWords n version words (suc count) (after_node_load n (suc count) (node_word words (suc count)) v)
+has_more n version words count v h =
+    let value : ℕ = node_word words (suc count) in
+    let here : (h.kept.node == n) ≡ true = found_passes (λ z. z.node == n) v.sights.nodes h.kept h.is in
+    let joined : with_word n (suc count) value h.kept ≡ record h.kept { words = record { at = suc count; value = value } ∷ h.kept.words } =
+    ap (λ b. if b then record h.kept { words = record { at = suc count; value = value } ∷ h.kept.words } else h.kept) here in
+    record {
+      free = h.free;
+      kept = record h.kept { words = record { at = suc count; value = value } ∷ h.kept.words };
+      is = ap (sight_of n) (free_load n (suc count) value v h.free)
+          ∙ (sight_changed n (with_word n (suc count) value) (word_keeps n (suc count) value) v.sights.nodes
+          ∙ (ap (option_map (with_word n (suc count) value)) h.is ∙ ap Some joined));
+      version_is = h.version_is;
+      loaded = λ at least most. go at least most (nat_eq (suc count) at) refl;
+    }
+  where
+    go : (at : ℕ) → 1 ≤ at → at ≤ suc count → (b : Bool) → nat_eq (suc count) at ≡ b → (if b then Some (node_word words (suc count)) else loaded_word at h.kept.words) ≡ Some (node_word words at)
+    go at least most true e = ap (λ k. Some (node_word words k)) (eqb-true (suc count) at e)
+    go at least most false e = h.loaded at least (omega (arith, most, eqb-false (suc count) at e))
+
+has_all : (n version : ℕ) (words : List ℕ) (count : ℕ) (v : Log) → HasWords n version words 0 v → HasWords n version words count (after_words n words count v)
+has_all n version words zero v h = h
+has_all n version words (suc count) v h = has_more n version words count (after_words n words count v) (has_all n version words count v h)
+
+-- a sight that begins
+fresh : (n found : ℕ) (sights : List NodeSight) → sight_of n (sight_begun n found ∷ sights) ≡ Some (sight_begun n found)
+fresh n found sights = ap (λ b. cond b (Some (sight_begun n found)) (sight_of n sights)) (eq-eqb n n refl)
+
+-- the sight that there is once an unlocked version was found
+begins : (n found : ℕ) (o : Option NodeSight) (sights : List NodeSight) → found % 2 ≡ 0 → sight_of n sights ≡ o → (kept : NodeSight) × ((sight_of n (sights_after_version n found o sights) ≡ Some kept) × (kept.version ≡ found))
+begins n found None sights even was =
+    (sight_begun n found, (ap (λ b. sight_of n (if b then sight_begun n found ∷ sights else sights)) (eq-eqb (found % 2) 0 even) ∙ fresh n found sights, refl))
+begins n found (Some s) sights even was = go (nat_eq s.version found) refl
+  where
+    go : (b : Bool) → nat_eq s.version found ≡ b → (kept : NodeSight) × ((sight_of n (if b then map (mark_child s) sights else (if found % 2 == 0 then sight_begun n found ∷ without_sight n sights else sights)) ≡ Some kept) × (kept.version ≡ found))
+    go true e = (mark_child s s, (sight_changed n (mark_child s) (mark_keeps s) sights ∙ ap (option_map (mark_child s)) was, mark_same s s ∙ eqb-true s.version found e))
+    go false e = (sight_begun n found, (ap (λ b. sight_of n (if b then sight_begun n found ∷ without_sight n sights else sights)) (eq-eqb (found % 2) 0 even) ∙ fresh n found (without_sight n sights), refl))
+
+pub kept_after : (n found : ℕ) (words : List ℕ) (v : Log) → found % 2 ≡ 0 → held_of n v.holdings.held ≡ None → IsKept (after_words n words CONTENT_WORDS (after_node_version ask.Nothing n found v)) record { node = n; version = found; words = words }
+kept_after n found words v even free =
+    let first = begins n found (sight_of n v.sights.nodes) v.sights.nodes even refl in
+    let start : HasWords n found words 0 (after_node_version ask.Nothing n found v) = record {
+      free = free;
+      kept = first.0;
+      is = first.1.0;
+      version_is = first.1.1;
+      loaded = λ at least most. absurd (omega (arith, least, most));
+    } in
+    let all = has_all n found words CONTENT_WORDS (after_node_version ask.Nothing n found v) start in
+    subst (λ o. IsSomeAnd o (λ k. (k.version ≡ found) × AreLoaded words k.words)) (sym all.is) (all.version_is, all.loaded)
