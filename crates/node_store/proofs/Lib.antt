@@ -4,3 +4,4 @@ pub mod Items
 pub mod Spelled
 pub mod Stores
 pub mod Sighted
+pub mod HeldWords

@@ -61,7 +61,7 @@ seen v s found wide kept tells is = go (sight_of s.node v.sights.nodes) refl kep
         (of.shape, (subst (λ ws. spelled ws ≡ Some of.shape) same of.spells, subst (λ n. IfSome (place_of k) (IsLiveNode v.terms n of.shape)) node of.live))
 
 -- the loads of the words that a later one doesn't change
-words_same : (n : ℕ) (words others : List ℕ) (count : ℕ) (v : Log) → ((at : ℕ) → 1 ≤ at → at ≤ count → node_word words at ≡ node_word others at) → after_words n words count v ≡ after_words n others count v
+pub words_same : (n : ℕ) (words others : List ℕ) (count : ℕ) (v : Log) → ((at : ℕ) → 1 ≤ at → at ≤ count → node_word words at ≡ node_word others at) → after_words n words count v ≡ after_words n others count v
 words_same n words others zero v same = refl
 words_same n words others (suc count) v same =
     ap (λ value. after_node_load n (suc count) value (after_words n words count v)) (same (suc count) (omega arith) (omega arith))

@@ -1,3 +1,4 @@
+pub mod Holding
 pub mod Locking
 pub mod Free
 pub mod Sights

@@ -7,6 +7,7 @@
 #![tactic(auto)]
 
 mod free;
+mod held;
 mod locking;
 mod locks;
 mod reading;
@@ -16,6 +17,7 @@ mod tests;
 mod writing;
 
 pub use free::take_free;
+pub use held::read_held;
 pub use locking::{Busy, Locking, Once, Trying, Waiting};
 pub use locks::{lock, unlock, unlock_same};
 pub use reading::{CONTENT_WORDS, node_of};
