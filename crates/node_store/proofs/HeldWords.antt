@@ -86,6 +86,7 @@ held_more n at found loaded v w inside same tells held = go (held_of n v.holding
 
 -- loads leave what is held as it is
 pub holdings_same : (n : ℕ) (words : List ℕ) (count : ℕ) (v : Log) → (after_words n words count v).holdings ≡ v.holdings
+unfolding after_words
 holdings_same n words zero v = refl
 holdings_same n words (suc count) v = holdings_same n words count v
 

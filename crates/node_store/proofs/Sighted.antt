@@ -47,6 +47,7 @@ abbrev pub IsSeen : Log → Sight → NodeData → Type 0
 IsSeen v s shape = SpellsNode s.words shape × IsLiveAs v s.node shape
 
 pub seen : (v : Log) (s : Sight) (found : ℕ) → length s.words ≡ CONTENT_WORDS → IsKept v s → SightTells s.node found v → found ≡ s.version → (shape : NodeData) × IsSeen v s shape
+unfolding IsKept
 seen v s found wide kept tells is = go (sight_of s.node v.sights.nodes) refl kept tells
   where
     go : (o : Option NodeSight) → sight_of s.node v.sights.nodes ≡ o
@@ -62,6 +63,7 @@ seen v s found wide kept tells is = go (sight_of s.node v.sights.nodes) refl kep
 
 -- the loads of the words that a later one doesn't change
 pub words_same : (n : ℕ) (words others : List ℕ) (count : ℕ) (v : Log) → ((at : ℕ) → 1 ≤ at → at ≤ count → node_word words at ≡ node_word others at) → after_words n words count v ≡ after_words n others count v
+unfolding after_words
 words_same n words others zero v same = refl
 words_same n words others (suc count) v same =
     ap (λ value. after_node_load n (suc count) value (after_words n words count v)) (same (suc count) (omega arith) (omega arith))
@@ -69,6 +71,7 @@ words_same n words others (suc count) v same =
 
 -- one word more is loaded
 pub word_more : (n : ℕ) (words : List ℕ) (at found : ℕ) (v : Log) → at < length words → after_node_load n (at + 1) found (after_words n words at v) ≡ after_words n (set words at found) (at + 1) v
+unfolding after_words
 word_more n words at found v inside =
     let next : at + 1 ≡ suc at = omega arith in
     let back : suc at - 1 ≡ at = omega arith in
@@ -143,6 +146,7 @@ has_more n version words count v h =
     go at least most false e = h.loaded at least (omega (arith, most, eqb-false (suc count) at e))
 
 has_all : (n version : ℕ) (words : List ℕ) (count : ℕ) (v : Log) → HasWords n version words 0 v → HasWords n version words count (after_words n words count v)
+unfolding after_words
 has_all n version words zero v h = h
 has_all n version words (suc count) v h = has_more n version words count (after_words n words count v) (has_all n version words count v h)
 
@@ -161,6 +165,7 @@ begins n found (Some s) sights even was = go (nat_eq s.version found) refl
     go false e = (sight_begun n found, (ap (λ b. sight_of n (if b then sight_begun n found ∷ without_sight n sights else sights)) (eq-eqb (found % 2) 0 even) ∙ fresh n found (without_sight n sights), refl))
 
 pub kept_after : (n found : ℕ) (words : List ℕ) (v : Log) → found % 2 ≡ 0 → held_of n v.holdings.held ≡ None → IsKept (after_words n words CONTENT_WORDS (after_node_version ask.Nothing n found v)) record { node = n; version = found; words = words }
+unfolding IsKept
 kept_after n found words v even free =
     let first = begins n found (sight_of n v.sights.nodes) v.sights.nodes even refl in
     let start : HasWords n found words 0 (after_node_version ask.Nothing n found v) = record {

@@ -21,12 +21,12 @@ AreLoaded words loaded =
     (at : ℕ) → 1 ≤ at → at ≤ CONTENT_WORDS → loaded_word at loaded ≡ Some (node_word words at)
 
 -- the log keeps this sight: it has one of the node, of this version, with these words
-abbrev pub IsKept : Log → Sight → Type 0
+unfoldable pub IsKept : Log → Sight → Type 0
 IsKept v s = IsSomeAnd (sight_of s.node v.sights.nodes)
     (λ kept. (kept.version ≡ s.version) × AreLoaded s.words kept.words)
 
 -- a log after its caller loaded so many words of a node after the version, which are these
-abbrev pub after_words : ℕ → List ℕ → ℕ → Log → Log
+unfoldable pub after_words : ℕ → List ℕ → ℕ → Log → Log
 after_words n words zero v = v
 after_words n words (suc count) v =
     after_node_load n (suc count) (node_word words (suc count)) (after_words n words count v)

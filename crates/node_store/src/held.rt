@@ -9,6 +9,7 @@ use tree_shape::Node;
 use word_rule::{Caller, Words};
 
 /// The node that the words of a held node spell, as they are now.
+#[tactic(auto, unfolding(crate::specs::Sights::after_words))]
 pub fn read_held(words: &Words, me: &mut Caller, node: u32) -> Node
     requires table { me.old.table ≡ words.now.table }
     requires inside { node < words.now.terms.nodes }

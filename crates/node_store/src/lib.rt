@@ -14,6 +14,8 @@ mod reading;
 mod sight;
 #[cfg(test)]
 mod tests;
+#[cfg(test)]
+mod word_tests;
 mod writing;
 
 pub use free::take_free;

@@ -41,6 +41,7 @@ fn all_words(words: &[u64; CONTENT_WORDS])
 
 /// Loads a node's version and its words. Locked where the version has bit 0 set, with the word
 /// found.
+#[tactic(auto, unfolding(crate::specs::Sights::after_words))]
 pub fn peek(words: &Words, me: &mut Caller, node: u32) -> Result<Sight, Again>
     requires table { me.old.table ≡ words.now.table }
     requires inside { node < words.now.terms.nodes }

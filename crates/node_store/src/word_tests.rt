@@ -1,0 +1,152 @@
+use crate::{
+    CONTENT_WORDS, Store, check, node_of, peek, read_held, store_in_turn, wanted_word, write_over,
+};
+use reg_model::Again;
+use std::test::Fail;
+use tree_shape::{Content, Node, Pair};
+use word_rule::{LockId, Words};
+
+// A leaf from 1000 to the last address with two entries, and words that don't matter.
+fn leaf_words() -> [u64; CONTENT_WORDS] {
+    let mut words = [9; CONTENT_WORDS];
+    words[0] = 1;
+    words[1] = 0;
+    words[2] = 0x1000;
+    words[3] = 0xffff_ffff_ffff_ffff;
+    words[4] = 2;
+    words[5] = 0x1000;
+    words[6] = 0x20;
+    words[7] = 7;
+    words[8] = 0xffff_ffff_ffff_fff0;
+    words[9] = 0xf;
+    words[10] = 0xffff_ffff;
+    words
+}
+
+// An inner node with two children.
+fn inner() -> Node {
+    let unused = Pair {
+        child: 0,
+        separator: 0,
+    };
+    let mut pairs = [unused; 15];
+    pairs[0] = Pair {
+        child: 3,
+        separator: 0x140f,
+    };
+    pairs[1] = Pair {
+        child: 2,
+        separator: 0xffff_ffff_ffff_ffff,
+    };
+    Node {
+        level: 1,
+        low: 0,
+        high: 0xffff_ffff_ffff_ffff,
+        content: Content::Inner { count: 2, pairs },
+    }
+}
+
+#[test]
+fn words_spell_a_leaf(rt: HostRuntime) -> Result<(), Fail> {
+    let Some(node) = node_of(&leaf_words()) else {
+        panic!(rt; "the words spell a leaf")
+    };
+    assert!(rt; node.level == 0 && node.low == 0x1000 && node.high == 0xffff_ffff_ffff_ffff);
+    let Content::Leaf { count, entries } = &node.content else {
+        panic!(rt; "a leaf")
+    };
+    assert!(rt; *count == 2 && entries[0].span.last() == 0x101f && entries[0].payload == 7);
+    assert!(rt; entries[1].span.last() == 0xffff_ffff_ffff_fffe);
+    assert!(rt; entries[1].payload == 0xffff_ffff);
+    Ok(())
+}
+
+fn is_none_with(at: usize, value: u64) -> bool {
+    let mut words = leaf_words();
+    if at >= 1 && at <= CONTENT_WORDS {
+        words[at - 1] = value;
+    }
+    node_of(&words).is_none()
+}
+
+#[test]
+fn words_that_spell_no_node(rt: HostRuntime) -> Result<(), Fail> {
+    assert!(rt; is_none_with(1, 3) && is_none_with(2, 0x1_0000_0000));
+    assert!(rt; is_none_with(5, 11) && is_none_with(5, 0x1_0000_0002));
+    assert!(rt; is_none_with(7, 0) && is_none_with(8, 0x1_0000_0000));
+    assert!(rt; is_none_with(10, 0x10) && !is_none_with(10, 1) && !is_none_with(12, 0));
+    Ok(())
+}
+
+#[test]
+fn words_of_an_inner_node(rt: HostRuntime) -> Result<(), Fail> {
+    let node = inner();
+    assert!(rt; wanted_word(&node, 1) == Some(0) && wanted_word(&node, 5) == Some(2));
+    assert!(rt; wanted_word(&node, 6) == Some(3) && wanted_word(&node, 7) == Some(0x140f));
+    assert!(rt; wanted_word(&node, 8) == Some(2) && wanted_word(&node, 10).is_none());
+    Ok(())
+}
+
+#[test]
+fn stores_over_old_words(rt: HostRuntime) -> Result<(), Fail> {
+    let node = inner();
+    let mut words = leaf_words();
+    let greatest = Store {
+        at: 9,
+        value: 0xffff_ffff_ffff_ffff,
+    };
+    assert!(rt; store_in_turn(&words, &node, 25).is_none());
+    assert!(rt; store_in_turn(&words, &node, 26) == Some(greatest));
+    assert!(rt; store_in_turn(&words, &node, 33) == Some(Store { at: 1, value: 0 }));
+    assert!(rt; store_in_turn(&words, &node, 34).is_none());
+    write_over(&mut words, &node);
+    assert!(rt; words[0] == 0 && words[1] == 1 && words[2] == 0 && words[4] == 2);
+    assert!(rt; words[5] == 3 && words[6] == 0x140f && words[7] == 2);
+    assert!(rt; words[8] == 0xffff_ffff_ffff_ffff && words[9] == 0xf && words[11] == 9);
+    Ok(())
+}
+
+#[test]
+fn a_sight_beside_a_lock(rt: HostRuntime) -> Result<(), Fail> {
+    let alloc = rt.alloc();
+    let (words, mut a) = Words::new(alloc, 4, 1, 1, Vec::new(alloc))?;
+    let mut b = words.split(alloc, &mut a, 1)?;
+    let root = LockId::Node { node: 0 };
+    let Ok(sight) = peek(&words, &mut b, 0) else {
+        panic!(rt; "nobody holds it")
+    };
+    assert!(rt; sight.node == 0 && sight.version == 0 && sight.words[3] == u64::MAX);
+    assert!(rt; words.take(&mut a, root) == Ok(0));
+    let locked = Again::Locked { word: 4, seen: 1 };
+    assert!(rt; peek(&words, &mut b, 0) == Err(locked));
+    let changed = Again::Changed {
+        word: 4,
+        first: 0,
+        second: 1,
+    };
+    let Err(again) = check(&words, &mut b, &sight) else {
+        panic!(rt; "it is locked")
+    };
+    assert!(rt; again == changed);
+    let held = read_held(&words, &mut a, 0);
+    assert!(rt; held.level == 0 && held.high == u64::MAX);
+    words.release_same(&mut a, root);
+    Ok(())
+}
+
+#[test]
+fn a_sight_that_stands(rt: HostRuntime) -> Result<(), Fail> {
+    let alloc = rt.alloc();
+    let (words, mut a) = Words::new(alloc, 4, 1, 1, Vec::new(alloc))?;
+    let Ok(sight) = peek(&words, &mut a, 3) else {
+        panic!(rt; "nobody holds it")
+    };
+    let Ok(node) = check(&words, &mut a, &sight) else {
+        panic!(rt; "nobody stored in it")
+    };
+    let Content::Free { next } = &node.content else {
+        panic!(rt; "a free node")
+    };
+    assert!(rt; *next == 0);
+    Ok(())
+}
