@@ -84,12 +84,6 @@ held_more n at found loaded v w inside same tells held = go (held_of n v.holding
     go None tells held = tt
     go (Some h) tells held = λ k least most. agree_more at found loaded h.words inside tells held k least most
 
--- loads leave what is held as it is
-pub holdings_same : (n : ℕ) (words : List ℕ) (count : ℕ) (v : Log) → (after_words n words count v).holdings ≡ v.holdings
-unfolding after_words
-holdings_same n words zero v = refl
-holdings_same n words (suc count) v = holdings_same n words count v
-
 -- what is known once all words were loaded
 pub all_held : (n : ℕ) (loaded : List ℕ) (v : Log) → AreHeld n loaded 35 v → IsSomeAnd (held_of n v.holdings.held) (λ h. IsSome (spelled h.words)) → IsSomeAnd (held_of n v.holdings.held) (λ h. (spelled loaded ≡ spelled h.words) × (after_words n loaded 35 v ≡ after_words n h.words 35 v) × IsSome (spelled h.words))
 all_held n loaded v held spells = go (held_of n v.holdings.held) held spells

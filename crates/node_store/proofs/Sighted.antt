@@ -1,5 +1,5 @@
 -- What a log keeps of the loads of a node, and what its version tells when it is found again.
-use Rattle.std.proofs.Common.{◌≡◌, ℕ, zero, suc, ◌+◌, ◌-◌, ◌<◌, ◌≤◌, ◌%◌, ◌==◌, Bool, true, false, cond, List, [], ◌∷◌, length, map, Option, Some, None, IfSome, IsSomeAnd, option_map, get_or, set, if◌then◌else◌, refl, ap, sym, ◌∙◌, subst, arith, is_some, nat_eq, eq-eqb, get_or-set_same, get_or-set_other}
+use Rattle.std.proofs.Common.{ne_eqb, ◌≢◌, ◌≡◌, ℕ, zero, suc, ◌+◌, ◌-◌, ◌<◌, ◌≤◌, ◌%◌, ◌==◌, Bool, true, false, cond, List, [], ◌∷◌, length, map, Option, Some, None, IfSome, IsSomeAnd, option_map, get_or, set, if◌then◌else◌, not, refl, ap, sym, ◌∙◌, subst, arith, is_some, nat_eq, eq-eqb, get_or-set_same, get_or-set_other}
 use Rattle.std.specs.List.{find}
 use Rattle.std.proofs.lemmas.Bool.{eqb-true, eqb-false}
 use Rattle.std.proofs.lemmas.List.{ext_get_or}
@@ -177,3 +177,89 @@ kept_after n found words v even free =
     } in
     let all = has_all n found words CONTENT_WORDS (after_node_version ask.Nothing n found v) start in
     subst (λ o. IsSomeAnd o (λ k. (k.version ≡ found) × AreLoaded words k.words)) (sym all.is) (all.version_is, all.loaded)
+
+-- loads leave what is held as it is
+pub holdings_same : (n : ℕ) (words : List ℕ) (count : ℕ) (v : Log) → (after_words n words count v).holdings ≡ v.holdings
+unfolding after_words
+holdings_same n words zero v = refl
+holdings_same n words (suc count) v = holdings_same n words count v
+
+-- a log's sight of the node is the one meant
+abbrev pub KeptBy : Sight → Option NodeSight → Type 0
+KeptBy s o = IsSomeAnd o (λ k. (k.version ≡ s.version) × AreLoaded s.words k.words)
+
+-- a change of each sight that leaves node, version and words as they are
+stays_changed : (s : Sight) (f : NodeSight → NodeSight) → ((k : NodeSight) → ((f k).version ≡ k.version) × ((f k).words ≡ k.words)) → (o : Option NodeSight) → KeptBy s o → KeptBy s (option_map f o)
+stays_changed s f same None h = absurd h
+stays_changed s f same (Some k) h = ((same k).0 ∙ h.0, subst (AreLoaded s.words) (sym (same k).1) h.1)
+
+mark_words : (parent s : NodeSight) → (mark_child parent s).words ≡ s.words
+mark_words parent s = go (nat_eq s.node parent.node)
+  where
+    go : (b : Bool) → (if b then s else record s { mark = or_mark (place_under s.node parent (place_of parent)) s.mark }).words ≡ s.words
+    go true = refl
+    go false = refl
+
+-- the sights of other nodes, where one was taken out
+without_other : (n m : ℕ) → m ≢ n → (sights : List NodeSight) → sight_of m (without_sight n sights) ≡ sight_of m sights
+without_other n m far [] = refl
+without_other n m far (s ∷ sights) = go (nat_eq s.node n) refl (without_other n m far sights)
+  where
+    go : (b : Bool) → nat_eq s.node n ≡ b → sight_of m (without_sight n sights) ≡ sight_of m sights → sight_of m (if not b then s ∷ without_sight n sights else without_sight n sights) ≡ cond (s.node == m) (Some s) (sight_of m sights)
+    go true e later =
+        later ∙ sym (ap (λ b. cond b (Some s) (sight_of m sights)) (ne_eqb s.node m (λ same. far (sym same ∙ eqb-true s.node n e))))
+    go false e later = ap (cond (s.node == m) (Some s)) later
+
+-- the version of another node was found
+others_looked : (n found : ℕ) (s : Sight) → s.node ≢ n → (o : Option NodeSight) (sights : List NodeSight) → KeptBy s (sight_of s.node sights) → KeptBy s (sight_of s.node (sights_after_version n found o sights))
+others_looked n found s far None sights kept = go (nat_eq (found % 2) 0)
+  where
+    begun : sight_of s.node (sight_begun n found ∷ sights) ≡ sight_of s.node sights
+    begun = ap (λ b. cond b (Some (sight_begun n found)) (sight_of s.node sights)) (ne_eqb n s.node (λ same. far (sym same)))
+
+    go : (b : Bool) → KeptBy s (sight_of s.node (if b then sight_begun n found ∷ sights else sights))
+    go true = subst (KeptBy s) (sym begun) kept
+    go false = kept
+others_looked n found s far (Some t) sights kept = stands (nat_eq t.version found)
+  where
+    begun : sight_of s.node (sight_begun n found ∷ without_sight n sights) ≡ sight_of s.node sights
+    begun = ap (λ b. cond b (Some (sight_begun n found)) (sight_of s.node (without_sight n sights))) (ne_eqb n s.node (λ same. far (sym same))) ∙ without_other n s.node far sights
+
+    anew : (b : Bool) → KeptBy s (sight_of s.node (if b then sight_begun n found ∷ without_sight n sights else sights))
+    anew true = subst (KeptBy s) (sym begun) kept
+    anew false = kept
+
+    stands : (b : Bool) → KeptBy s (sight_of s.node (if b then map (mark_child t) sights else (if found % 2 == 0 then sight_begun n found ∷ without_sight n sights else sights)))
+    stands true = subst (KeptBy s) (sym (sight_changed s.node (mark_child t) (mark_keeps t) sights)) (stays_changed s (mark_child t) (λ k. (mark_same t k, mark_words t k)) (sight_of s.node sights) kept)
+    stands false = anew (nat_eq (found % 2) 0)
+
+-- a word of another node joins no sight of this one
+word_other : (n at value : ℕ) (k : NodeSight) → k.node ≢ n → with_word n at value k ≡ k
+word_other n at value k far = ap (λ b. if b then record k { words = record { at = at; value = value } ∷ k.words } else k) (ne_eqb k.node n far)
+
+others_loaded : (n at value : ℕ) (s : Sight) (v : Log) → s.node ≢ n → KeptBy s (sight_of s.node v.sights.nodes) → KeptBy s (sight_of s.node (after_node_load n at value v).sights.nodes)
+others_loaded n at value s v far kept = go (is_some (held_of n v.holdings.held))
+  where
+    joined : (o : Option NodeSight) → sight_of s.node v.sights.nodes ≡ o → KeptBy s o → KeptBy s (option_map (with_word n at value) o)
+    joined None e h = absurd h
+    joined (Some k) e h =
+        let node : k.node ≡ s.node = eqb-true k.node s.node (found_passes (λ z. z.node == s.node) v.sights.nodes k e) in
+        subst (λ z. KeptBy s (Some z)) (sym (word_other n at value k (λ same. far (sym node ∙ same)))) h
+
+    go : (b : Bool) → KeptBy s (sight_of s.node (if b then v.sights else record v.sights { nodes = map (with_word n at value) v.sights.nodes }).nodes)
+    go true = kept
+    go false = subst (KeptBy s) (sym (sight_changed s.node (with_word n at value) (word_keeps n at value) v.sights.nodes)) (joined (sight_of s.node v.sights.nodes) refl kept)
+
+others_all : (n : ℕ) (words : List ℕ) (count : ℕ) (s : Sight) (v : Log) → s.node ≢ n → KeptBy s (sight_of s.node v.sights.nodes) → KeptBy s (sight_of s.node (after_words n words count v).sights.nodes)
+unfolding after_words
+others_all n words zero s v far kept = kept
+others_all n words (suc count) s v far kept = others_loaded n (suc count) (node_word words (suc count)) s (after_words n words count v) far (others_all n words count s v far kept)
+
+pub others_kept : (n found : ℕ) (words : List ℕ) (count : ℕ) (s : Sight) (v : Log) → s.node ≢ n → IsKept v s → IsKept (after_words n words count (after_node_version ask.Nothing n found v)) s
+unfolding IsKept
+others_kept n found words count s v far kept =
+    others_all n words count s (after_node_version ask.Nothing n found v) far (others_looked n found s far (sight_of n v.sights.nodes) v.sights.nodes kept)
+
+pub others_seen : (n found : ℕ) (s : Sight) (v : Log) → s.node ≢ n → IsKept v s → IsKept (after_node_version ask.Nothing n found v) s
+unfolding IsKept
+others_seen n found s v far kept = others_looked n found s far (sight_of n v.sights.nodes) v.sights.nodes kept

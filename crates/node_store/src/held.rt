@@ -14,7 +14,8 @@ pub fn read_held(words: &Words, me: &mut Caller, node: u32) -> Node
     requires table { me.old.table ≡ words.now.table }
     requires inside { node < words.now.terms.nodes }
     requires held { IsSomeAnd (held_of node me.old.log.holdings.held) (λ h. IsSome (spelled h.words)) }
-    ensures { Reads node me.old me.new result }
+    ensures reads { Reads node me.old me.new result }
+    ensures holdings { me.new.log.holdings ≡ me.old.log.holdings }
 {
     let mut loaded = [0; CONTENT_WORDS];
     for at in 0..CONTENT_WORDS {

@@ -2,9 +2,10 @@
 //!
 //! Nothing that a sight has is trusted before its version is found again. Then its words are those
 //! of one node that the tree once had, and had still when the version was found again.
-ghost use Rattle.std.specs.Prelude.{◌≡◌, ◌+◌, ◌*◌, ◌<◌, ◌≤◌, IfOk, None, length};
+ghost use Rattle.std.specs.Prelude.{◌≡◌, ◌≢◌, ◌+◌, ◌*◌, ◌<◌, ◌≤◌, IfOk, None, length};
 ghost use Rattle.word_rule.specs.Held.{held_of};
 ghost use Rattle.word_rule.specs.Places.{node_place};
+ghost use Rattle.node_store.specs.declared.sight.Sight.{Sight};
 ghost use Rattle.node_store.specs.Sights.{Checks, IsKept, Peeks};
 
 use crate::reading::{CONTENT_WORDS, node_of};
@@ -47,6 +48,8 @@ pub fn peek(words: &Words, me: &mut Caller, node: u32) -> Result<Sight, Again>
     requires inside { node < words.now.terms.nodes }
     requires few { words.now.terms.nodes ≤ 16384 }
     ensures peeks { Peeks node me.old me.new result }
+    ensures holdings { me.new.log.holdings ≡ me.old.log.holdings }
+    ensures others { (s : Sight) → s.node ≢ node → IsKept me.old.log s → IsKept me.new.log s }
     ensures kept { held_of node me.old.log.holdings.held ≡ None
         → IfOk result (λ sight. IsKept me.new.log sight) }
 {

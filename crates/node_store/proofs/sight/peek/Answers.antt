@@ -2,7 +2,7 @@ use Rattle.std.proofs.Common.{◌≡◌, ◌∙◌, sym, ap, subst, length-set, 
 use Rattle.word_rule.specs.CallerData.{CallerData}
 use Rattle.word_rule.specs.Sights.{after_node_load}
 use Rattle.node_store.specs.Sights.{IsKept, after_look, after_words}
-use Rattle.node_store.proofs.Sighted.{kept_after, word_more}
+use Rattle.node_store.proofs.Sighted.{kept_after, others_kept, others_seen, word_more}
 use Rattle.node_store.proofs.sight.peek.Goals as goal
 
 pub loop-at-preserved : goal.loop-at-preserved
@@ -25,3 +25,13 @@ returns-clause-kept c free =
     let loads = inv.loads ∙ ap (λ count. record c.args.me.now { log = after_words c.args.node c.loop-at.loaded count k0.log }) all in
     subst (λ (k : CallerData). IsKept k.log record { node = c.args.node; version = c.load_version-version.result; words = c.loop-at.loaded }) (sym loads)
     (kept_after c.args.node c.load_version-version.result c.loop-at.loaded c.args.me.now.log (omega (arith, c.if-version-ne0.false)) free)
+
+pub returns-then-version-ne0-clause-others : goal.returns-then-version-ne0-clause-others
+returns-then-version-ne0-clause-others c s far kept =
+    subst (λ (k : CallerData). IsKept k.log s) (sym c.load_version-version.ensures.log)
+    (others_seen c.args.node c.load_version-version.result s c.args.me.now.log far kept)
+
+pub returns-clause-others : goal.returns-clause-others
+returns-clause-others c s far kept =
+    subst (λ (k : CallerData). IsKept k.log s) (sym c.loop-at.invariant.loads)
+    (others_kept c.args.node c.load_version-version.result c.loop-at.loaded c.loop-at.at s c.args.me.now.log far kept)
