@@ -116,9 +116,11 @@ fn a_sight_beside_a_lock(rt: HostRuntime) -> Result<(), Fail> {
         panic!(rt; "nobody holds it")
     };
     assert!(rt; sight.node == 0 && sight.version == 0 && sight.words[3] == u64::MAX);
-    assert!(rt; words.take(&mut a, root) == Ok(0));
-    let locked = Again::Locked { word: 4, seen: 1 };
-    assert!(rt; peek(&words, &mut b, 0) == Err(locked));
+    let Ok(version) = words.take(&mut a, root) else {
+        panic!(rt; "nobody holds it")
+    };
+    let held = read_held(&words, &mut a, 0);
+    assert!(rt; version == 0 && held.level == 0 && held.high == u64::MAX);
     let changed = Again::Changed {
         word: 4,
         first: 0,
@@ -128,9 +130,7 @@ fn a_sight_beside_a_lock(rt: HostRuntime) -> Result<(), Fail> {
         panic!(rt; "it is locked")
     };
     assert!(rt; again == changed);
-    let held = read_held(&words, &mut a, 0);
-    assert!(rt; held.level == 0 && held.high == u64::MAX);
-    words.release_same(&mut a, root);
+    assert!(rt; peek(&words, &mut b, 0) == Err(Again::Locked { word: 4, seen: 1 }));
     Ok(())
 }
 
