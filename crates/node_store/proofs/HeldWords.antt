@@ -10,17 +10,9 @@ use Rattle.word_rule.specs.Places.{TOP}
 use Rattle.word_rule.specs.Spelling.{node_word, is_short, pairs_at, entries_at, body_of_kind, spelled, SpellsNode}
 use Rattle.word_rule.specs.CallerData.{CallerData}
 use Rattle.std.proofs.lemmas.Option.{none-some}
-use Rattle.node_store.specs.Holding.{Reads}
+use Rattle.node_store.specs.Holding.{AgreeUpto, AreHeld, Reads}
 use Rattle.node_store.specs.Sights.{after_words}
 use Rattle.node_store.proofs.Sighted.{words_same}
-
--- two lists agree on the words from 1 to 35
-abbrev pub AgreeUpto : List ℕ → List ℕ → ℕ → Type 0
-AgreeUpto words others count = (at : ℕ) → 1 ≤ at → at ≤ count → node_word words at ≡ node_word others at
-
--- so many words are those of the held node
-abbrev pub AreHeld : ℕ → List ℕ → ℕ → Log → Type 0
-AreHeld n words count v = IfSome (held_of n v.holdings.held) (λ h. AgreeUpto words h.words count)
 
 pairs_same : (words others : List ℕ) → AgreeUpto words others 35 → (count at : ℕ) → 1 ≤ at → at + 2 * count ≤ 36 → pairs_at words at count ≡ pairs_at others at count
 pairs_same words others same zero at least most = refl

@@ -5,3 +5,4 @@ pub mod Spelled
 pub mod Stores
 pub mod Sighted
 pub mod HeldWords
+pub mod HeldWrites

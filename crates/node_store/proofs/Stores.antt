@@ -44,7 +44,7 @@ turn t less = high (nat_lt t 30) refl
     high true e = High (ltb-true t 30 e) (high_place t (ltb-true t 30 e))
     high false e = low (ltb-false t 30 e) (nat_lt t 34) refl
 
-place_inside : (t : ℕ) → t < 35 → (1 ≤ place_in_turn t) × (place_in_turn t ≤ 35)
+pub place_inside : (t : ℕ) → t < 35 → (1 ≤ place_in_turn t) × (place_in_turn t ≤ 35)
 place_inside t less = go (turn t less)
   where
     go : Turn t → (1 ≤ place_in_turn t) × (place_in_turn t ≤ 35)
@@ -52,7 +52,7 @@ place_inside t less = go (turn t less)
     go (Low more few is) = (omega (arith, few, is), omega (arith, few, is))
     go (Last same is) = (omega (arith, is), omega (arith, is))
 
-comes_before : (t u : ℕ) → t < u → u < 35 → ComesBefore (place_in_turn t) (place_in_turn u)
+pub comes_before : (t u : ℕ) → t < u → u < 35 → ComesBefore (place_in_turn t) (place_in_turn u)
 comes_before t u before less = go (turn t (omega (arith, before, less))) (turn u less)
   where
     go : Turn t → Turn u → ComesBefore (place_in_turn t) (place_in_turn u)
@@ -64,7 +64,7 @@ comes_before t u before less = go (turn t (omega (arith, before, less))) (turn u
     go (Low more few is) (Last same is') = ((λ e. omega (arith, few, more, is, e)), inl is')
     go (Last same is) q = absurd (omega (arith, same, before, less))
 
-never_again : (a b : ℕ) → ComesBefore a b → a ≢ b
+pub never_again : (a b : ℕ) → ComesBefore a b → a ≢ b
 never_again a b (far, inl count) e = far (e ∙ count)
 never_again a b (far, inr less) e = omega (arith, less, e)
 
@@ -188,6 +188,11 @@ writes_node s words wide fits = record {
       (λ at least most. let t = each_has_turn at least most in subst (λ k. IfSome (wanted s k) (λ value. node_word (after_stores (stores s words) words) k ≡ value)) t.1.1 (right_upto s words wide 35 (omega arith) t.0 t.1.0));
 }
 
+-- a store is a matter of the word that it is about
+pub same_store : (now words : List ℕ) (at : ℕ) (w : Option ℕ) → node_word now at ≡ node_word words at → store_of now at w ≡ store_of words at w
+same_store now words at None e = refl
+same_store now words at (Some value) e = ap (λ n. if nat_eq n value then None else Some record { at = at; value = value }) e
+
 -- one turn more of a loop over the words as they are now
 pub turn_made : (s : NodeData) (words now : List ℕ) (t : ℕ) → t < 35 → now ≡ after_stores (stores_upto s words t) words → after_stores (option_to_list (store_in_turn s now t)) now ≡ after_stores (stores_upto s words (t + 1)) words
 turn_made s words now t less is =
@@ -198,7 +203,3 @@ turn_made s words now t less is =
     ∙ ap (after_stores (option_to_list (store_in_turn s words t))) is
     ∙ sym (append_stores (stores_upto s words t) (option_to_list (store_in_turn s words t)) words)
     ∙ ap (λ k. after_stores (stores_upto s words k) words) (sym next)
-  where
-    same_store : (now words : List ℕ) (at : ℕ) (w : Option ℕ) → node_word now at ≡ node_word words at → store_of now at w ≡ store_of words at w
-    same_store now words at None e = refl
-    same_store now words at (Some value) e = ap (λ n. if nat_eq n value then None else Some record { at = at; value = value }) e

@@ -1,14 +1,47 @@
 -- The words of a node that a caller holds, read and written.
-use Rattle.std.specs.Prelude.{◌≡◌, ℕ, IsSomeAnd}
+use Rattle.std.specs.Prelude.{◌≡◌, ℕ, ◌≤◌, List, [], ◌∷◌, length, IfSome, IsSomeAnd}
 use Rattle.tree_shape.specs.NodeData.{NodeData}
+use Rattle.word_rule.specs.declared.log.Log.{Log}
 use Rattle.word_rule.specs.CallerData.{CallerData}
 use Rattle.word_rule.specs.Held.{held_of}
 use Rattle.word_rule.specs.Places.{CONTENT_WORDS}
-use Rattle.word_rule.specs.Spelling.{SpellsNode}
+use Rattle.word_rule.specs.Spelling.{node_word, SpellsNode}
+use Rattle.word_rule.specs.Steps.{after_node_store}
+use Rattle.node_store.specs.declared.writing.Store.{Store}
 use Rattle.node_store.specs.Sights.{after_words}
+use Rattle.node_store.specs.Writing.{stores}
+
+-- two lists have the same words up to this number
+abbrev pub AgreeUpto : List ℕ → List ℕ → ℕ → Type 0
+AgreeUpto words others count =
+    (at : ℕ) → 1 ≤ at → at ≤ count → node_word words at ≡ node_word others at
+
+-- so many words are those that the log has of a held node
+abbrev pub AreHeld : ℕ → List ℕ → ℕ → Log → Type 0
+AreHeld n words count v =
+    IfSome (held_of n v.holdings.held) (λ h. AgreeUpto words h.words count)
 
 -- A held node was read: all its words were loaded, and they spell it.
 abbrev pub Reads : ℕ → CallerData → CallerData → NodeData → Type 0
 Reads n k k' shape = IsSomeAnd (held_of n k.log.holdings.held)
     (λ h. SpellsNode h.words shape
     × (k' ≡ record k { log = after_words n h.words CONTENT_WORDS k.log }))
+
+-- a log after stores of words of a held node, one after another
+unfoldable pub after_node_stores : ℕ → List Store → Log → Log
+after_node_stores n [] v = v
+after_node_stores n (store ∷ more) v =
+    after_node_stores n more (after_node_store n store.at store.value v)
+
+-- the words that a log has of a held node spell this one
+abbrev pub SpellsHeld : ℕ → NodeData → Log → Type 0
+SpellsHeld n s v = IsSomeAnd (held_of n v.holdings.held) (λ h. SpellsNode h.words s)
+
+-- A held node was written: its words were loaded, and those that differ were stored, in order.
+-- Where the log had all words of it, they spell it now.
+abbrev pub Writes : ℕ → NodeData → CallerData → CallerData → Type 0
+Writes n s k k' = IsSomeAnd (held_of n k.log.holdings.held)
+    (λ h. (k' ≡ record k {
+      log = after_node_stores n (stores s h.words) (after_words n h.words CONTENT_WORDS k.log);
+    })
+    × (length h.words ≡ CONTENT_WORDS → SpellsHeld n s k'.log))

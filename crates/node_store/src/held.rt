@@ -1,28 +1,64 @@
-//! The words of nodes that a caller holds.
-ghost use Rattle.std.specs.Prelude.{◌≡◌, ◌+◌, ◌<◌, ◌≤◌, IsSome, IsSomeAnd};
+//! The words of nodes that a caller holds, read and written.
+ghost use Rattle.std.specs.Prelude.{◌≡◌, ◌+◌, ◌<◌, ◌≤◌, length, IsSome, IsSomeAnd};
 ghost use Rattle.word_rule.specs.Held.{held_of};
+ghost use Rattle.word_rule.specs.Places.{CONTENT_WORDS};
 ghost use Rattle.word_rule.specs.Spelling.{spelled};
-ghost use Rattle.node_store.specs.Holding.{Reads};
+ghost use Rattle.word_rule.specs.Steps.{MayStore};
+ghost use Rattle.node_store.specs.Holding.{AreHeld, Reads, Writes};
+ghost use Rattle.node_store.specs.Sights.{after_words};
 
 use crate::reading::{CONTENT_WORDS, node_of};
+use crate::writing::{TURNS, node_fits, store_in_turn, writes};
 use tree_shape::Node;
 use word_rule::{Caller, Words};
 
-/// The node that the words of a held node spell, as they are now.
+// The words of a node, one after another: of a held one those that the log has.
 #[tactic(auto, unfolding(crate::specs::Sights::after_words))]
-pub fn read_held(words: &Words, me: &mut Caller, node: u32) -> Node
+fn load_words(words: &Words, me: &mut Caller, node: u32) -> [u64; CONTENT_WORDS]
     requires table { me.old.table ≡ words.now.table }
     requires inside { node < words.now.terms.nodes }
-    requires held { IsSomeAnd (held_of node me.old.log.holdings.held) (λ h. IsSome (spelled h.words)) }
-    ensures reads { Reads node me.old me.new result }
-    ensures holdings { me.new.log.holdings ≡ me.old.log.holdings }
+    ensures wide { length result ≡ CONTENT_WORDS }
+    ensures held { AreHeld node result CONTENT_WORDS me.old.log }
+    ensures log { me.new
+        ≡ record me.old { log = after_words node result CONTENT_WORDS me.old.log } }
 {
     let mut loaded = [0; CONTENT_WORDS];
     for at in 0..CONTENT_WORDS {
         loaded[at] = words.load_node(me, node, at as u32 + 1);
     }
+    loaded
+}
+
+/// The node that the words of a held node spell, as they are now.
+pub fn read_held(words: &Words, me: &mut Caller, node: u32) -> Node
+    requires table { me.old.table ≡ words.now.table }
+    requires inside { node < words.now.terms.nodes }
+    requires held { IsSomeAnd (held_of node me.old.log.holdings.held)
+        (λ h. IsSome (spelled h.words)) }
+    ensures reads { Reads node me.old me.new result }
+    ensures holdings { me.new.log.holdings ≡ me.old.log.holdings }
+{
+    let loaded = load_words(words, me, node);
     let Some(shape) = node_of(&loaded) else {
         unreachable!()
     };
     shape
+}
+
+/// Writes a node into one that is held. Only words that differ are stored, each once: the greatest
+/// number first, and the count last of all.
+pub fn write_held(words: &Words, me: &mut Caller, node: u32, content: &Node)
+    requires table { me.old.table ≡ words.now.table }
+    requires inside { node < words.now.terms.nodes }
+    requires may { MayStore node me.old.log }
+    ensures { Writes node content.now me.old me.new }
+{
+    node_fits(content);
+    writes();
+    let old = load_words(words, me, node);
+    for turn in 0..TURNS {
+        if let Some(store) = store_in_turn(&old, content, turn) {
+            words.store_node(me, node, store.at, store.value);
+        }
+    }
 }

@@ -20,6 +20,7 @@ mod writing;
 
 pub use free::take_free;
 pub use held::read_held;
+pub use held::{read_held, write_held};
 pub use locking::{Busy, Locking, Once, Trying, Waiting};
 pub use locks::{lock, unlock, unlock_same};
 pub use reading::{CONTENT_WORDS, node_of};

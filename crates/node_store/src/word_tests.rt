@@ -3,7 +3,7 @@ use crate::{
 };
 use reg_model::Again;
 use std::test::Fail;
-use tree_shape::{Content, Node, Pair};
+use tree_shape::{Content, Node, Pair, put_entry};
 use word_rule::{LockId, Words};
 
 // A leaf from 1000 to the last address with two entries, and words that don't matter.
@@ -148,5 +148,31 @@ fn a_sight_that_stands(rt: HostRuntime) -> Result<(), Fail> {
         panic!(rt; "a free node")
     };
     assert!(rt; *next == 0);
+    Ok(())
+}
+
+#[test]
+fn a_held_node_is_written(rt: HostRuntime) -> Result<(), Fail> {
+    let alloc = rt.alloc();
+    let (words, mut a) = Words::new(alloc, 4, 1, 8, Vec::new(alloc))?;
+    let root = LockId::Node { node: 0 };
+    let Ok(_) = words.take(&mut a, root) else {
+        panic!(rt; "nobody holds it")
+    };
+    let Some(span) = Span::new(0x1000, 0x20) else {
+        panic!(rt; "a span")
+    };
+    let leaf = Node::empty_leaf(0, 0xffff_ffff_ffff_ffff);
+    let leaf = put_entry(&leaf, &Member { span, payload: 7 });
+    write_held(&words, &mut a, 0, &leaf);
+    let loaded = [
+        words.load_node(&mut a, 0, 1),
+        words.load_node(&mut a, 0, 5),
+        words.load_node(&mut a, 0, 6),
+        words.load_node(&mut a, 0, 7),
+        words.load_node(&mut a, 0, 8),
+        words.load_node(&mut a, 0, 9),
+    ];
+    assert!(rt; loaded == [1, 1, 0x1000, 0x20, 7, 0]);
     Ok(())
 }

@@ -64,7 +64,7 @@ fn entries_fit(entries: &[Member])
 }
 
 // That the numbers of a node fit their words.
-fn node_fits(node: &Node)
+pub(crate) fn node_fits(node: &Node)
     ensures { Fits node.now }
 {
     number_fits(node.level);
@@ -176,7 +176,7 @@ pub fn store_in_turn(words: &[u64; CONTENT_WORDS], node: &Node, turn: u32) -> Op
 }
 
 /// Whatever the words are, the stores of a node over them write it.
-fn writes()
+pub(crate) fn writes()
     ensures { (s : NodeData) (words : List ℕ) → length words ≡ CONTENT_WORDS → Fits s
         → Write s words (stores s words) }
 {}

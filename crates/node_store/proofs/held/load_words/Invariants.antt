@@ -1,8 +1,8 @@
 use Rattle.std.proofs.Common.{◌≡◌, length}
 use Rattle.word_rule.specs.Places.{CONTENT_WORDS}
 use Rattle.node_store.specs.Sights.{after_words}
-use Rattle.node_store.proofs.HeldWords.{AreHeld}
-use Rattle.node_store.proofs.held.read_held.Given as goal
+use Rattle.node_store.specs.Holding.{AreHeld}
+use Rattle.node_store.proofs.held.load_words.Given as goal
 
 -- the words so far are those that the log has
 abbrev pub invariant-loop-at : goal.invariant-loop-at
