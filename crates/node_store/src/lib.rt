@@ -1,9 +1,10 @@
-//! Locks over the shared words: a version lock is taken and let go by the single steps of
-//! word_rule.
+//! Locks over the shared words, taken and let go by the single steps of word_rule; and nodes as
+//! values, read from their words and written into them.
 //!
 //! The layer between single steps and whole operations. From word_rule it takes the steps and what
 //! each makes of a caller's log; from crossbeam_utils the pause between two tries. A lock is tried
-//! a little, and then slept on; or, by a caller that gives up, tried once.
+//! a little, and then slept on; or, by a caller that gives up, tried once. A node is read without a
+//! lock by a version that is found again (`peek`, `check`), or while it is held (`read_held`).
 #![tactic(auto)]
 
 mod free;

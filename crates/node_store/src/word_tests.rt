@@ -1,7 +1,8 @@
 use crate::{
-    CONTENT_WORDS, Store, check, node_of, peek, read_held, store_in_turn, wanted_word, write_over,
+    CONTENT_WORDS, Store, check, node_of, peek, read_held, store_in_turn, wanted_word, write_held,
+    write_over,
 };
-use reg_model::Again;
+use reg_model::{Again, Member, Span};
 use std::test::Fail;
 use tree_shape::{Content, Node, Pair, put_entry};
 use word_rule::{LockId, Words};
