@@ -233,6 +233,20 @@ others_looked n found s far (Some t) sights kept = stands (nat_eq t.version foun
     stands true = subst (KeptBy s) (sym (sight_changed s.node (mark_child t) (mark_keeps t) sights)) (stays_changed s (mark_child t) (λ k. (mark_same t k, mark_words t k)) (sight_of s.node sights) kept)
     stands false = anew (nat_eq (found % 2) 0)
 
+-- a locked version was found: every sight stays
+odd_looked : (n found : ℕ) (s : Sight) → found % 2 ≡ 1 → (o : Option NodeSight) (sights : List NodeSight) → KeptBy s (sight_of s.node sights) → KeptBy s (sight_of s.node (sights_after_version n found o sights))
+odd_looked n found s odd None sights kept =
+    subst (λ b. KeptBy s (sight_of s.node (if b then sight_begun n found ∷ sights else sights))) (sym (ne_eqb (found % 2) 0 (λ e. omega (arith, e, odd)))) kept
+odd_looked n found s odd (Some t) sights kept = stands (nat_eq t.version found)
+  where
+    stands : (b : Bool) → KeptBy s (sight_of s.node (if b then map (mark_child t) sights else (if found % 2 == 0 then sight_begun n found ∷ without_sight n sights else sights)))
+    stands true = subst (KeptBy s) (sym (sight_changed s.node (mark_child t) (mark_keeps t) sights)) (stays_changed s (mark_child t) (λ k. (mark_same t k, mark_words t k)) (sight_of s.node sights) kept)
+    stands false = subst (λ b. KeptBy s (sight_of s.node (if b then sight_begun n found ∷ without_sight n sights else sights))) (sym (ne_eqb (found % 2) 0 (λ e. omega (arith, e, odd)))) kept
+
+pub locked_kept : (n found : ℕ) (s : Sight) (v : Log) → found % 2 ≡ 1 → IsKept v s → IsKept (after_node_version ask.Nothing n found v) s
+unfolding IsKept
+locked_kept n found s v odd kept = odd_looked n found s odd (sight_of n v.sights.nodes) v.sights.nodes kept
+
 -- a word of another node joins no sight of this one
 word_other : (n at value : ℕ) (k : NodeSight) → k.node ≢ n → with_word n at value k ≡ k
 word_other n at value k far = ap (λ b. if b then record k { words = record { at = at; value = value } ∷ k.words } else k) (ne_eqb k.node n far)

@@ -2,7 +2,7 @@
 //!
 //! Nothing that a sight has is trusted before its version is found again. Then its words are those
 //! of one node that the tree once had, and had still when the version was found again.
-ghost use Rattle.std.specs.Prelude.{◌≡◌, ◌≢◌, ◌+◌, ◌*◌, ◌<◌, ◌≤◌, IfOk, None, length};
+ghost use Rattle.std.specs.Prelude.{◌≡◌, ◌≢◌, ◌+◌, ◌*◌, ◌<◌, ◌≤◌, IfOk, IsErr, None, length};
 ghost use Rattle.word_rule.specs.Held.{held_of};
 ghost use Rattle.word_rule.specs.Places.{node_place};
 ghost use Rattle.node_store.specs.declared.sight.Sight.{Sight};
@@ -50,6 +50,7 @@ pub fn peek(words: &Words, me: &mut Caller, node: u32) -> Result<Sight, Again>
     ensures peeks { Peeks node me.old me.new result }
     ensures holdings { me.new.log.holdings ≡ me.old.log.holdings }
     ensures others { (s : Sight) → s.node ≢ node → IsKept me.old.log s → IsKept me.new.log s }
+    ensures locked { IsErr result → (s : Sight) → IsKept me.old.log s → IsKept me.new.log s }
     ensures kept { held_of node me.old.log.holdings.held ≡ None
         → IfOk result (λ sight. IsKept me.new.log sight) }
 {

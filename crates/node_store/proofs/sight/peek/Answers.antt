@@ -2,7 +2,7 @@ use Rattle.std.proofs.Common.{◌≡◌, ◌∙◌, sym, ap, subst, length-set, 
 use Rattle.word_rule.specs.CallerData.{CallerData}
 use Rattle.word_rule.specs.Sights.{after_node_load}
 use Rattle.node_store.specs.Sights.{IsKept, after_look, after_words}
-use Rattle.node_store.proofs.Sighted.{kept_after, others_kept, others_seen, word_more}
+use Rattle.node_store.proofs.Sighted.{kept_after, locked_kept, others_kept, others_seen, word_more}
 use Rattle.node_store.proofs.sight.peek.Goals as goal
 
 pub loop-at-preserved : goal.loop-at-preserved
@@ -35,3 +35,8 @@ pub returns-clause-others : goal.returns-clause-others
 returns-clause-others c s far kept =
     subst (λ (k : CallerData). IsKept k.log s) (sym c.loop-at.invariant.loads)
     (others_kept c.args.node c.load_version-version.result c.loop-at.loaded c.loop-at.at s c.args.me.now.log far kept)
+
+pub returns-then-version-ne0-clause-locked : goal.returns-then-version-ne0-clause-locked
+returns-then-version-ne0-clause-locked c is s kept =
+    subst (λ (k : CallerData). IsKept k.log s) (sym c.load_version-version.ensures.log)
+    (locked_kept c.args.node c.load_version-version.result s c.args.me.now.log (omega (arith, c.if-version-ne0.true)) kept)
