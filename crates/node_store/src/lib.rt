@@ -12,6 +12,8 @@ mod held;
 mod locking;
 mod locks;
 mod reading;
+#[cfg(test)]
+mod side_tests;
 mod sight;
 #[cfg(test)]
 mod tests;
