@@ -1,6 +1,5 @@
 -- The stores that write a held node, and what they make of its holder's log.
 use Rattle.std.proofs.Common.{◌≡◌, ◌≢◌, ℕ, zero, suc, ◌+◌, ◌-◌, ◌<◌, ◌≤◌, ◌⊎◌, inl, inr, ⊎_elim, rules, Bool, true, false, cond, ◌&&◌, ◌==◌, List, [], ◌∷◌, ◌++◌, length, map, Option, Some, None, IfSome, IsSome, IsSomeAnd, IsTrue, option_map, set, nat_eq, nat_le, if◌then◌else◌, refl, ap, sym, ◌∙◌, subst, arith, ne_eqb, leb-true, leb-false}
-use Rattle.std.specs.List.{find}
 use Rattle.std.specs.Option.{option_to_list}
 use Rattle.std.proofs.lemmas.Option.{none-some, cond_some}
 use native.Mathlib.Decide.{ℕ_discrete}
@@ -9,7 +8,7 @@ use Rattle.tree_shape.specs.NodeData.{NodeData, Body, Pairs, Entries, Link}
 use Rattle.word_rule.specs.declared.log.Log.{Log}
 use Rattle.word_rule.specs.declared.log.Holding.{Holding}
 use Rattle.word_rule.specs.CallerData.{CallerData}
-use Rattle.word_rule.specs.Exchange.{after_exchange, exchange, group_of, is_lawful, settle, settle_free, top_of}
+use Rattle.word_rule.specs.Exchange.{after_exchange, group_of, is_lawful, settle, settle_free, top_of}
 use Rattle.word_rule.specs.Held.{edited, held_of, marked_in}
 use Rattle.word_rule.specs.Places.{CONTENT_WORDS}
 use Rattle.word_rule.specs.Spelling.{node_word, SpellsNode}

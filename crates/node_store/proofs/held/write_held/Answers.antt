@@ -5,7 +5,7 @@ use Rattle.word_rule.specs.Steps.{MayStore, after_node_store}
 use Rattle.node_store.specs.Holding.{after_node_stores}
 use Rattle.node_store.specs.Sights.{after_words}
 use Rattle.node_store.specs.Writing.{store_in_turn, stores_upto}
-use Rattle.node_store.proofs.HeldWrites.{may_after_words, may_next, may_now, no_store, still_before, store_inside, turn_none, turn_some, written}
+use Rattle.node_store.proofs.HeldWrites.{may_after_words, may_next, no_store, still_before, turn_none, turn_some, written}
 use Rattle.node_store.proofs.held.write_held.Goals as goal
 use Rattle.node_store.proofs.held.write_held.Goals.{in-Some, in_default}
 
