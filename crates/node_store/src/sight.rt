@@ -27,11 +27,13 @@ pub struct Sight {
     pub words: [u64; CONTENT_WORDS],
 }
 
-// Where the version word of a node stands in the table.
-fn place_of_node(node: u32) -> u32
-    requires { node < 16384 }
+// Where the version word of a node stands in the table. There are few nodes, so it is a number of
+// 32 bits.
+fn place_of_node(words: &Words, node: u32) -> u32
+    requires { node < words.now.terms.nodes }
     ensures { result ≡ node_place node }
 {
+    let _few = words.nodes();
     FIRST_NODE + NODE_WORDS * node
 }
 
@@ -46,7 +48,6 @@ fn all_words(words: &[u64; CONTENT_WORDS])
 pub fn peek(words: &Words, me: &mut Caller, node: u32) -> Result<Sight, Again>
     requires table { me.old.table ≡ words.now.table }
     requires inside { node < words.now.terms.nodes }
-    requires few { words.now.terms.nodes ≤ 16384 }
     ensures peeks { Peeks node me.old me.new result }
     ensures holdings { me.new.log.holdings ≡ me.old.log.holdings }
     ensures others { (s : Sight) → s.node ≢ node → IsKept me.old.log s → IsKept me.new.log s }
@@ -57,7 +58,7 @@ pub fn peek(words: &Words, me: &mut Caller, node: u32) -> Result<Sight, Again>
     let version = words.load_version(me, LockId::Node { node }, Ask::Nothing);
     if version % 2 != 0 {
         return Err(Again::Locked {
-            word: place_of_node(node),
+            word: place_of_node(words, node),
             seen: version,
         });
     }
@@ -77,7 +78,6 @@ pub fn peek(words: &Words, me: &mut Caller, node: u32) -> Result<Sight, Again>
 pub fn check(words: &Words, me: &mut Caller, sight: &Sight) -> Result<Node, Again>
     requires table { me.old.table ≡ words.now.table }
     requires inside { sight.now.node < words.now.terms.nodes }
-    requires few { words.now.terms.nodes ≤ 16384 }
     requires kept { IsKept me.old.log sight.now }
     ensures { Checks sight.now me.old me.new result }
 {
@@ -85,7 +85,7 @@ pub fn check(words: &Words, me: &mut Caller, sight: &Sight) -> Result<Node, Agai
     let version = words.load_version(me, LockId::Node { node }, Ask::Nothing);
     if version != sight.version {
         return Err(Again::Changed {
-            word: place_of_node(node),
+            word: place_of_node(words, node),
             first: sight.version,
             second: version,
         });

@@ -1,6 +1,6 @@
 //! The words, and the steps on version locks.
-ghost use Rattle.std.specs.Prelude.{◌≡◌, ◌≢◌, ◌+◌, ◌*◌, ◌%◌, ◌<◌, ℕ, List, IfOk, IfErr, IfSome};
-ghost use Rattle.std.specs.Prelude.{IsSome, IsSomeAnd, false};
+ghost use Rattle.std.specs.Prelude.{◌≡◌, ◌≢◌, ◌+◌, ◌*◌, ◌%◌, ◌<◌, ◌≤◌, ℕ, List, IfOk, IfErr};
+ghost use Rattle.std.specs.Prelude.{IfSome, IsSome, IsSomeAnd, false};
 ghost use Rattle.word_rule.specs.Logs.{IsTaken, after_load, after_loader_lock, after_write};
 ghost use Rattle.word_rule.specs.Logs.{after_loader_release, after_loader_release_same};
 ghost use Rattle.word_rule.specs.declared.log.LoaderHolding.{LoaderHolding};
@@ -55,7 +55,7 @@ pub struct Words {
 }
 
 impl Model for Words {
-    ghost use Rattle.std.specs.Prelude.{◌≡◌};
+    ghost use Rattle.std.specs.Prelude.{◌≡◌, ◌≤◌};
     ghost use Rattle.word_rule.specs.CallerData.{WordsData};
 
     ghost Value = { WordsData };
@@ -67,13 +67,14 @@ impl Model for Words {
 
     ghost invariant = { λ w. (w.table.shared.key.value ≡ w.made)
         × (w.table.shared.table_id.words ≡ word_count (terms_of w.made))
-        × (w.table.shared.table_id.slots ≡ 0) };
+        × (w.table.shared.table_id.slots ≡ 0) × (w.made.nodes ≤ 16384) };
 }
 
 impl Words {
     /// The number of nodes.
     pub fn nodes(&self) -> u32
-        ensures { result ≡ self.now.terms.nodes }
+        ensures value { result ≡ self.now.terms.nodes }
+        ensures few { result ≤ 16384 }
     {
         self.made.nodes
     }
