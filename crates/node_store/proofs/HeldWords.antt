@@ -10,7 +10,7 @@ use Rattle.word_rule.specs.Places.{TOP}
 use Rattle.word_rule.specs.Spelling.{node_word, is_short, pairs_at, entries_at, body_of_kind, spelled, SpellsNode}
 use Rattle.word_rule.specs.CallerData.{CallerData}
 use Rattle.std.proofs.lemmas.Option.{none-some}
-use Rattle.node_store.specs.Holding.{AgreeUpto, AreHeld, Reads}
+use Rattle.node_store.specs.Holding.{AgreeUpto, AreHeld, ReadsHeld}
 use Rattle.node_store.specs.Sights.{after_words}
 use Rattle.node_store.proofs.Sighted.{words_same}
 
@@ -85,7 +85,7 @@ all_held n loaded v held spells = go (held_of n v.holdings.held) held spells
     go (Some h) held spells = (spelled_same loaded h.words held, words_same n loaded h.words 35 v held, spells)
 
 -- a held node was read
-pub read : (n : ℕ) (loaded : List ℕ) (k k' : CallerData) (shape : NodeData) → IsSomeAnd (held_of n k.log.holdings.held) (λ h. (spelled loaded ≡ spelled h.words) × (after_words n loaded 35 k.log ≡ after_words n h.words 35 k.log) × IsSome (spelled h.words)) → spelled loaded ≡ Some shape → k' ≡ record k { log = after_words n loaded 35 k.log } → Reads n k k' shape
+pub read : (n : ℕ) (loaded : List ℕ) (k k' : CallerData) (shape : NodeData) → IsSomeAnd (held_of n k.log.holdings.held) (λ h. (spelled loaded ≡ spelled h.words) × (after_words n loaded 35 k.log ≡ after_words n h.words 35 k.log) × IsSome (spelled h.words)) → spelled loaded ≡ Some shape → k' ≡ record k { log = after_words n loaded 35 k.log } → ReadsHeld n k k' shape
 read n loaded k k' shape held is loads = go (held_of n k.log.holdings.held) held
   where
     go : (o : Option Holding) → IsSomeAnd o (λ h. (spelled loaded ≡ spelled h.words) × (after_words n loaded 35 k.log ≡ after_words n h.words 35 k.log) × IsSome (spelled h.words)) → IsSomeAnd o (λ h. SpellsNode h.words shape × (k' ≡ record k { log = after_words n h.words 35 k.log }))

@@ -14,9 +14,9 @@ use Rattle.word_rule.specs.Places.{CONTENT_WORDS}
 use Rattle.word_rule.specs.Spelling.{node_word, SpellsNode}
 use Rattle.word_rule.specs.Steps.{MayStore, after_node_store, frees, store_in, stored_log}
 use Rattle.node_store.specs.declared.writing.Store.{Store}
-use Rattle.node_store.specs.Holding.{AgreeUpto, AreHeld, SpellsHeld, Writes, after_node_stores}
+use Rattle.node_store.specs.Holding.{AgreeUpto, AreHeld, SpellsHeld, WritesHeld, after_node_stores}
 use Rattle.node_store.specs.Sights.{after_words}
-use Rattle.node_store.specs.Writing.{Fits, Write, count_of, kind_of, place_in_turn, store_in_turn, store_of, stores, stores_upto, after_stores, wanted}
+use Rattle.node_store.specs.Writing.{FitsWords, Write, count_of, kind_of_body, place_in_turn, store_in_turn, store_of, stores, stores_upto, after_stores, wanted_node_word}
 use Rattle.node_store.proofs.Sighted.{holdings_same, words_same}
 use Rattle.node_store.proofs.Stores.{comes_before, never_again, place_inside, same_store}
 
@@ -64,15 +64,15 @@ may_stays n at value v e may =
 -- what is stored in a turn
 record Stored (s : NodeData) (t : ℕ) (x : Store) : Type 0 where
   pub at_is : x.at ≡ place_in_turn t
-  pub value_is : wanted s x.at ≡ Some x.value
+  pub value_is : wanted_node_word s x.at ≡ Some x.value
 
 stored : (s : NodeData) (words : List ℕ) (t : ℕ) (x : Store) → store_in_turn s words t ≡ Some x → Stored s t x
-stored s words t x is = go (wanted s (place_in_turn t)) refl is
+stored s words t x is = go (wanted_node_word s (place_in_turn t)) refl is
   where
-    one : (value : ℕ) → wanted s (place_in_turn t) ≡ Some value → record { at = place_in_turn t; value = value } ≡ x → Stored s t x
+    one : (value : ℕ) → wanted_node_word s (place_in_turn t) ≡ Some value → record { at = place_in_turn t; value = value } ≡ x → Stored s t x
     one value w e = subst (Stored s t) e (record { at_is = refl; value_is = w })
 
-    go : (o : Option ℕ) → wanted s (place_in_turn t) ≡ o → store_of words (place_in_turn t) o ≡ Some x → Stored s t x
+    go : (o : Option ℕ) → wanted_node_word s (place_in_turn t) ≡ o → store_of words (place_in_turn t) o ≡ Some x → Stored s t x
     go None w e = absurd (none-some x e)
     go (Some value) w e = differs (nat_eq (node_word words (place_in_turn t)) value) e
       where
@@ -82,7 +82,7 @@ stored s words t x is = go (wanted s (place_in_turn t)) refl is
 
 -- whether the kind of a free node is yet to be stored, or never will be
 abbrev pub IsStill : NodeData → ℕ → Type 0
-IsStill s t = (t ≤ 33) ⊎ (kind_of s.body ≢ 2)
+IsStill s t = (t ≤ 33) ⊎ (kind_of_body s.body ≢ 2)
 
 above_one : (t : ℕ) → t ≤ 32 → place_in_turn t ≢ 1
 above_one t few e = never_again (place_in_turn t) (place_in_turn 33) (comes_before t 33 (omega (arith, few)) (omega arith)) e
@@ -94,7 +94,7 @@ and_false false = refl
 can_store : (s : NodeData) (words : List ℕ) (t : ℕ) (x : Store) → t < 35 → store_in_turn s words t ≡ Some x → IsStill s t
 can_store s words t x less is = go (nat_le t 33) refl
   where
-    never_link : (body : Body) → IsSome (count_of body) → kind_of body ≢ 2
+    never_link : (body : Body) → IsSome (count_of body) → kind_of_body body ≢ 2
     never_link (Pairs pairs) is e = omega (arith, e)
     never_link (Entries entries) is e = omega (arith, e)
     never_link (Link next) is e = search rules
@@ -105,24 +105,24 @@ can_store s words t x less is = go (nat_le t 33) refl
         let last : t ≡ 34 = omega (arith, less, leb-false t 33 more) in
         let made = stored s words t x is in
         let five : x.at ≡ 5 = made.at_is ∙ ap place_in_turn last in
-        let count : count_of s.body ≡ Some x.value = subst (λ k. wanted s k ≡ Some x.value) five made.value_is in
+        let count : count_of s.body ≡ Some x.value = subst (λ k. wanted_node_word s k ≡ Some x.value) five made.value_is in
         inr (never_link s.body (subst IsSome (sym count) (search rules)))
 
 -- a store frees nothing before the kind's turn, nor where the node isn't to be free
 frees_nothing : (n : ℕ) (s : NodeData) (words : List ℕ) (t : ℕ) (x : Store) (v : Log) → t < 35 → store_in_turn s words t ≡ Some x → IsStill s (t + 1) → frees n x.at x.value v ≡ false
 frees_nothing n s words t x v less is still = go (ℕ_discrete x.at 1)
   where
-    kind_is : x.at ≡ 1 → x.value ≡ kind_of s.body
+    kind_is : x.at ≡ 1 → x.value ≡ kind_of_body s.body
     kind_is e =
         let made = stored s words t x is in
-        let w : Some (kind_of s.body) ≡ Some x.value = subst (λ k. wanted s k ≡ Some x.value) e made.value_is in
-        sym (cond_some true (kind_of s.body) x.value w).1
+        let w : Some (kind_of_body s.body) ≡ Some x.value = subst (λ k. wanted_node_word s k ≡ Some x.value) e made.value_is in
+        sym (cond_some true (kind_of_body s.body) x.value w).1
 
     last_first : t + 1 ≤ 33 → x.at ≡ 1 → ⊥
     last_first early e = above_one t (omega (arith, early)) (sym (stored s words t x is).at_is ∙ e)
 
     other : x.at ≡ 1 → x.value ≢ 2
-    other e two = ⊎_elim (λ (early : t + 1 ≤ 33). last_first early e) (λ (never : kind_of s.body ≢ 2). never (sym (kind_is e) ∙ two)) still
+    other e two = ⊎_elim (λ (early : t + 1 ≤ 33). last_first early e) (λ (never : kind_of_body s.body ≢ 2). never (sym (kind_is e) ∙ two)) still
 
     go : Dec (x.at ≡ 1) → frees n x.at x.value v ≡ false
     go (no ne) = ap (λ b. b && (x.value == 2) && marked_in v.holdings.held n) (ne_eqb x.at 1 ne)
@@ -210,11 +210,11 @@ stores_same : (s : NodeData) (words others : List ℕ) → AgreeUpto words other
 stores_same s words others same zero most = refl
 stores_same s words others same (suc t) most =
     let inside = place_inside t (omega (arith, most)) in
-    let here = same_store words others (place_in_turn t) (wanted s (place_in_turn t)) (same (place_in_turn t) inside.0 inside.1) in
+    let here = same_store words others (place_in_turn t) (wanted_node_word s (place_in_turn t)) (same (place_in_turn t) inside.0 inside.1) in
     (λ i. stores_same s words others same t (omega (arith, most)) i ++ option_to_list (here i))
 
 -- a held node was written
-pub written : (n : ℕ) (s : NodeData) (loaded : List ℕ) (k k' : CallerData) → Fits s → ((words : List ℕ) → length words ≡ CONTENT_WORDS → Fits s → Write s words (stores s words)) → MayStore n k.log → AreHeld n loaded 35 k.log → k' ≡ record k { log = after_node_stores n (stores s loaded) (after_words n loaded 35 k.log) } → Writes n s k k'
+pub written : (n : ℕ) (s : NodeData) (loaded : List ℕ) (k k' : CallerData) → FitsWords s → ((words : List ℕ) → length words ≡ CONTENT_WORDS → FitsWords s → Write s words (stores s words)) → MayStore n k.log → AreHeld n loaded 35 k.log → k' ≡ record k { log = after_node_stores n (stores s loaded) (after_words n loaded 35 k.log) } → WritesHeld n s k k'
 written n s loaded k k' fits writes may held is = go (held_of n k.log.holdings.held) refl may held
   where
     go : (o : Option Holding) → held_of n k.log.holdings.held ≡ o → IsSomeAnd o (λ h. IsSome h.mark ⊎ IsTrue (is_among k.log.holdings.out n)) → IfSome o (λ h. AgreeUpto loaded h.words 35)

@@ -8,11 +8,11 @@ use Rattle.tree_shape.specs.declared.pair.Pair.{Pair}
 use Rattle.tree_shape.specs.NodeData.{NodeData, Body, Pairs, Entries, Link}
 use Rattle.word_rule.specs.Places.{TOP}
 use Rattle.word_rule.specs.Spelling.{node_word, is_short, pair_at, pairs_at, is_entry_at, entry_at, entries_at, body_of_kind, SpellsNode}
-use Rattle.node_store.specs.Writing.{Fits, BodyFits, wanted, kind_of, count_of, item_words, pair_words, entry_words}
+use Rattle.node_store.specs.Writing.{FitsWords, BodyFits, wanted_node_word, kind_of_body, count_of, item_words, pair_words, entry_words}
 
 -- each word that matters is as it is to be
 abbrev pub AreWanted : NodeData → List ℕ → Type 0
-AreWanted s words = (at : ℕ) → 1 ≤ at → at ≤ 35 → IfSome (wanted s at) (λ value. node_word words at ≡ value)
+AreWanted s words = (at : ℕ) → 1 ≤ at → at ≤ 35 → IfSome (wanted_node_word s at) (λ value. node_word words at ≡ value)
 
 -- these numbers stand one after another from a word on
 AreAt : List ℕ → ℕ → List ℕ → Type 0
@@ -51,7 +51,7 @@ entries_spelled words at (m ∷ entries) fit stand =
     ap (λ b. if b then option_map (λ ms. entry_at words at ∷ ms) (entries_at words (at + 3) (length entries)) else None) is
     ∙ ap (option_map (λ ms. entry_at words at ∷ ms)) rest ∙ ap (λ x. Some (x ∷ entries)) here
 
-body_spelled : (words : List ℕ) (body : Body) → BodyFits body → IfSome (count_of body) (λ n. node_word words 5 ≡ n) → AreAt words 6 (item_words body) → body_of_kind words (kind_of body) (node_word words 5) ≡ Some body
+body_spelled : (words : List ℕ) (body : Body) → BodyFits body → IfSome (count_of body) (λ n. node_word words 5 ≡ n) → AreAt words 6 (item_words body) → body_of_kind words (kind_of_body body) (node_word words 5) ≡ Some body
 unfolding AreAt
 body_spelled words (Pairs pairs) fits count stand =
     ap (body_of_kind words 0) count
@@ -86,14 +86,14 @@ items_few (Pairs pairs) fits = omega (arith, pair_count pairs, fits.0)
 items_few (Entries entries) fits = omega (arith, entry_count entries, fits.0)
 items_few (Link next) fits = omega arith
 
-wanted_item : (s : NodeData) (at : ℕ) → 6 ≤ at → wanted s at ≡ slice_get (item_words s.body) (at - 6)
+wanted_item : (s : NodeData) (at : ℕ) → 6 ≤ at → wanted_node_word s at ≡ slice_get (item_words s.body) (at - 6)
 wanted_item s at few =
     let one = ne_eqb at 1 (λ e. omega (arith, few, e)) in
     let two = ne_eqb at 2 (λ e. omega (arith, few, e)) in
     let three = ne_eqb at 3 (λ e. omega (arith, few, e)) in
     let four = ne_eqb at 4 (λ e. omega (arith, few, e)) in
     let five = ne_eqb at 5 (λ e. omega (arith, few, e)) in
-    (λ i. if one i then Some (kind_of s.body) else (if two i then Some s.level else (if three i then Some s.low else (if four i then Some s.high else (if five i then count_of s.body else slice_get (item_words s.body) (at - 6))))))
+    (λ i. if one i then Some (kind_of_body s.body) else (if two i then Some s.level else (if three i then Some s.low else (if four i then Some s.high else (if five i then count_of s.body else slice_get (item_words s.body) (at - 6))))))
 
 item_is : (s : NodeData) (words : List ℕ) → BodyFits s.body → AreWanted s words → (i : ℕ) → IfSome (slice_get (item_words s.body) i) (λ value. node_word words (6 + i) ≡ value)
 item_is s words fits h i = go (nat_lt i 30) refl
@@ -107,7 +107,7 @@ item_is s words fits h i = go (nat_lt i 30) refl
         let none = slice_get_past (item_words s.body) i (omega (arith, items_few s.body fits, ltb-false i 30 more)) in
         subst (λ o. IfSome o (λ value. node_word words (6 + i) ≡ value)) (sym none) tt
 
-pub wanted_is_spelled : (s : NodeData) (words : List ℕ) → Fits s → AreWanted s words → SpellsNode words s
+pub wanted_is_spelled : (s : NodeData) (words : List ℕ) → FitsWords s → AreWanted s words → SpellsNode words s
 wanted_is_spelled s words fits h =
     let kind = h 1 (omega arith) (omega arith) in
     let level = h 2 (omega arith) (omega arith) in

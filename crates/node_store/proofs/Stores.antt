@@ -8,7 +8,7 @@ use Rattle.word_rule.specs.Places.{CONTENT_WORDS}
 use Rattle.word_rule.specs.Spelling.{node_word}
 use Rattle.tree_shape.specs.NodeData.{NodeData}
 use Rattle.node_store.specs.declared.writing.Store.{Store}
-use Rattle.node_store.specs.Writing.{Fits, Write, ComesBefore, AreInOrder, wanted, place_in_turn, store_of, store_in_turn, stores_upto, stores, after_stores}
+use Rattle.node_store.specs.Writing.{FitsWords, Write, ComesBefore, AreStoresInOrder, wanted_node_word, place_in_turn, store_of, store_in_turn, stores_upto, stores, after_stores}
 use Rattle.node_store.proofs.Spelled.{wanted_is_spelled}
 
 all_map : {A : Type 0} (P Q : A → Type 0) → ((a : A) → P a → Q a) → (xs : List A) → AllByRecursion P xs → AllByRecursion Q xs
@@ -109,20 +109,20 @@ of_turns s words zero = tt
 of_turns s words (suc t) =
     all_append (IsOfTurn words (suc t)) (stores_upto s words t) (option_to_list (store_in_turn s words t))
     (all_map (IsOfTurn words t) (IsOfTurn words (suc t)) (λ x h. (h.0, (omega (arith, h.1.0), h.1.1, h.1.2))) (stores_upto s words t) (of_turns s words t))
-    (of_store (IsOfTurn words (suc t)) words (place_in_turn t) (wanted s (place_in_turn t)) (λ value other. (t, (omega arith, refl, other))))
+    (of_store (IsOfTurn words (suc t)) words (place_in_turn t) (wanted_node_word s (place_in_turn t)) (λ value other. (t, (omega arith, refl, other))))
 
-in_order_append : (made : List Store) (o : Option Store) → AreInOrder made → AllByRecursion (λ x. AllByRecursion (λ y. ComesBefore x.at y.at) (option_to_list o)) made → AreInOrder (made ++ option_to_list o)
+in_order_append : (made : List Store) (o : Option Store) → AreStoresInOrder made → AllByRecursion (λ x. AllByRecursion (λ y. ComesBefore x.at y.at) (option_to_list o)) made → AreStoresInOrder (made ++ option_to_list o)
 in_order_append [] None h before = tt
 in_order_append [] (Some y) h before = (tt, tt)
 in_order_append (x ∷ made) o h before =
     (all_append (λ y. ComesBefore x.at y.at) made (option_to_list o) h.0 before.0, in_order_append made o h.1 before.1)
 
-in_order : (s : NodeData) (words : List ℕ) (turns : ℕ) → turns ≤ 35 → AreInOrder (stores_upto s words turns)
+in_order : (s : NodeData) (words : List ℕ) (turns : ℕ) → turns ≤ 35 → AreStoresInOrder (stores_upto s words turns)
 in_order s words zero most = tt
 in_order s words (suc t) most =
     in_order_append (stores_upto s words t) (store_in_turn s words t) (in_order s words t (omega (arith, most)))
     (all_map (IsOfTurn words t) (λ x. AllByRecursion (λ y. ComesBefore x.at y.at) (option_to_list (store_in_turn s words t)))
-    (λ x h. of_store (λ y. ComesBefore x.at y.at) words (place_in_turn t) (wanted s (place_in_turn t))
+    (λ x h. of_store (λ y. ComesBefore x.at y.at) words (place_in_turn t) (wanted_node_word s (place_in_turn t))
     (λ value other. subst (λ k. ComesBefore k (place_in_turn t)) (sym h.1.1) (comes_before h.0 t h.1.0 (omega (arith, most)))))
     (stores_upto s words t) (of_turns s words t))
 
@@ -149,17 +149,17 @@ now_right old now at (Some value) least most same = go (nat_eq (node_word old at
 
 -- what is right after some turns
 abbrev pub IsRight : NodeData → List ℕ → ℕ → Type 0
-IsRight s words t = IfSome (wanted s (place_in_turn t)) (λ value. node_word words (place_in_turn t) ≡ value)
+IsRight s words t = IfSome (wanted_node_word s (place_in_turn t)) (λ value. node_word words (place_in_turn t) ≡ value)
 
 right_again : (s : NodeData) (words now : List ℕ) (t u : ℕ) → t < u → u < 35 → IsRight s now t → IsRight s (after_stores (option_to_list (store_in_turn s words u)) now) t
 right_again s words now t u before less right =
     let far : AllByRecursion (λ x. x.at - 1 ≢ place_in_turn t - 1) (option_to_list (store_in_turn s words u)) =
-    of_store (λ x. x.at - 1 ≢ place_in_turn t - 1) words (place_in_turn u) (wanted s (place_in_turn u))
+    of_store (λ x. x.at - 1 ≢ place_in_turn t - 1) words (place_in_turn u) (wanted_node_word s (place_in_turn u))
     (λ value other e.
     let here = place_inside u less in
     let there = place_inside t (omega (arith, before, less)) in
     never_again (place_in_turn t) (place_in_turn u) (comes_before t u before less) (omega (arith, e, here.0, there.0))) in
-    subst (λ n. IfSome (wanted s (place_in_turn t)) (λ value. n ≡ value)) (sym (kept_word (option_to_list (store_in_turn s words u)) now (place_in_turn t) far)) right
+    subst (λ n. IfSome (wanted_node_word s (place_in_turn t)) (λ value. n ≡ value)) (sym (kept_word (option_to_list (store_in_turn s words u)) now (place_in_turn t) far)) right
 
 right_upto : (s : NodeData) (words : List ℕ) → length words ≡ 35 → (turns : ℕ) → turns ≤ 35 → (t : ℕ) → t < turns → IsRight s (after_stores (stores_upto s words turns) words) t
 right_upto s words wide zero most t less = absurd (omega (arith, less))
@@ -174,18 +174,18 @@ right_upto s words wide (suc u) most t less =
         let long : length now ≡ 35 = ap length (sym is) ∙ wide_after (stores_upto s words u) words ∙ wide in
         let still = subst (λ ws. node_word ws (place_in_turn u) ≡ node_word words (place_in_turn u)) is (still_old s words u (omega (arith, most))) in
         subst (λ k. IsRight s (after_stores (option_to_list (store_in_turn s words u)) now) k) (sym e)
-        (now_right words now (place_in_turn u) (wanted s (place_in_turn u)) inside.0 (omega (arith, inside.1, long)) still)
+        (now_right words now (place_in_turn u) (wanted_node_word s (place_in_turn u)) inside.0 (omega (arith, inside.1, long)) still)
     go now was is (no ne) =
         let before : t < u = omega (arith, less, ne) in
         right_again s words now t u before (omega (arith, most)) (was before)
 
-pub writes_node : (s : NodeData) (words : List ℕ) → length words ≡ CONTENT_WORDS → Fits s → Write s words (stores s words)
+pub writes_node : (s : NodeData) (words : List ℕ) → length words ≡ CONTENT_WORDS → FitsWords s → Write s words (stores s words)
 writes_node s words wide fits = record {
   places = all_map (IsOfTurn words 35) (λ x. (1 ≤ x.at) × (x.at ≤ CONTENT_WORDS)) (λ x h. let inside = place_inside h.0 h.1.0 in let is = h.1.1 in (omega (arith, inside.0, is), omega (arith, inside.1, is))) (stores s words) (of_turns s words 35);
   change = all_map (IsOfTurn words 35) (λ x. node_word words x.at ≢ x.value) (λ x h. h.1.2) (stores s words) (of_turns s words 35);
   order = in_order s words 35 (omega arith);
   spells = wanted_is_spelled s (after_stores (stores s words) words) fits
-      (λ at least most. let t = each_has_turn at least most in subst (λ k. IfSome (wanted s k) (λ value. node_word (after_stores (stores s words) words) k ≡ value)) t.1.1 (right_upto s words wide 35 (omega arith) t.0 t.1.0));
+      (λ at least most. let t = each_has_turn at least most in subst (λ k. IfSome (wanted_node_word s k) (λ value. node_word (after_stores (stores s words) words) k ≡ value)) t.1.1 (right_upto s words wide 35 (omega arith) t.0 t.1.0));
 }
 
 -- a store is a matter of the word that it is about
@@ -197,7 +197,7 @@ same_store now words at (Some value) e = ap (λ n. if nat_eq n value then None e
 pub turn_made : (s : NodeData) (words now : List ℕ) (t : ℕ) → t < 35 → now ≡ after_stores (stores_upto s words t) words → after_stores (option_to_list (store_in_turn s now t)) now ≡ after_stores (stores_upto s words (t + 1)) words
 turn_made s words now t less is =
     let still : node_word now (place_in_turn t) ≡ node_word words (place_in_turn t) = ap (λ ws. node_word ws (place_in_turn t)) is ∙ still_old s words t less in
-    let same : store_in_turn s now t ≡ store_in_turn s words t = same_store now words (place_in_turn t) (wanted s (place_in_turn t)) still in
+    let same : store_in_turn s now t ≡ store_in_turn s words t = same_store now words (place_in_turn t) (wanted_node_word s (place_in_turn t)) still in
     let next : t + 1 ≡ suc t = omega arith in
     ap (λ o. after_stores (option_to_list o) now) same
     ∙ ap (after_stores (option_to_list (store_in_turn s words t))) is

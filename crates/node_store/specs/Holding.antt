@@ -22,8 +22,8 @@ AreHeld n words count v =
     IfSome (held_of n v.holdings.held) (λ h. AgreeUpto words h.words count)
 
 -- A held node was read: all its words were loaded, and they spell it.
-abbrev pub Reads : ℕ → CallerData → CallerData → NodeData → Type 0
-Reads n k k' shape = IsSomeAnd (held_of n k.log.holdings.held)
+abbrev pub ReadsHeld : ℕ → CallerData → CallerData → NodeData → Type 0
+ReadsHeld n k k' shape = IsSomeAnd (held_of n k.log.holdings.held)
     (λ h. SpellsNode h.words shape
     × (k' ≡ record k { log = after_words n h.words CONTENT_WORDS k.log }))
 
@@ -39,8 +39,8 @@ SpellsHeld n s v = IsSomeAnd (held_of n v.holdings.held) (λ h. SpellsNode h.wor
 
 -- A held node was written: its words were loaded, and those that differ were stored, in order.
 -- Where the log had all words of it, they spell it now.
-abbrev pub Writes : ℕ → NodeData → CallerData → CallerData → Type 0
-Writes n s k k' = IsSomeAnd (held_of n k.log.holdings.held)
+abbrev pub WritesHeld : ℕ → NodeData → CallerData → CallerData → Type 0
+WritesHeld n s k k' = IsSomeAnd (held_of n k.log.holdings.held)
     (λ h. (k' ≡ record k {
       log = after_node_stores n (stores s h.words) (after_words n h.words CONTENT_WORDS k.log);
     })

@@ -14,10 +14,10 @@ use Rattle.word_rule.specs.Spelling.{node_word, SpellsNode}
 use Rattle.node_store.specs.declared.writing.Store.{Store}
 
 -- the kind of a node, which is word 1
-abbrev pub kind_of : Body → ℕ
-kind_of (Pairs pairs) = 0
-kind_of (Entries entries) = 1
-kind_of (Link next) = 2
+abbrev pub kind_of_body : Body → ℕ
+kind_of_body (Pairs pairs) = 0
+kind_of_body (Entries entries) = 1
+kind_of_body (Link next) = 2
 
 -- the count, which is word 5; a free node has none
 abbrev pub count_of : Body → Option ℕ
@@ -41,9 +41,9 @@ item_words (Entries entries) = entry_words entries
 item_words (Link next) = next ∷ []
 
 -- what the word of a node with this number is to be, and nothing where any will do
-abbrev pub wanted : NodeData → ℕ → Option ℕ
-wanted s at =
-    if at == 1 then Some (kind_of s.body)
+abbrev pub wanted_node_word : NodeData → ℕ → Option ℕ
+wanted_node_word s at =
+    if at == 1 then Some (kind_of_body s.body)
     else (if at == 2 then Some s.level
     else (if at == 3 then Some s.low
     else (if at == 4 then Some s.high
@@ -57,8 +57,8 @@ BodyFits (Entries entries) =
     (length entries ≤ ENTRIES) × AllByRecursion (λ m. IsSpan m.span × (m.payload < 2 ^ 32)) entries
 BodyFits (Link next) = next < 2 ^ 32
 
-abbrev pub Fits : NodeData → Type 0
-Fits s = (s.level < 2 ^ 32) × BodyFits s.body
+abbrev pub FitsWords : NodeData → Type 0
+FitsWords s = (s.level < 2 ^ 32) × BodyFits s.body
 
 -- The words of a node in the order in which they are stored: the greatest number first, and the
 -- count last of all.
@@ -74,7 +74,7 @@ store_of words at (Some value) =
 
 abbrev pub store_in_turn : NodeData → List ℕ → ℕ → Option Store
 store_in_turn s words turn =
-    store_of words (place_in_turn turn) (wanted s (place_in_turn turn))
+    store_of words (place_in_turn turn) (wanted_node_word s (place_in_turn turn))
 
 -- the stores of the first so many turns, over these words
 abbrev pub stores_upto : NodeData → List ℕ → ℕ → List Store
@@ -95,15 +95,15 @@ after_stores (store ∷ more) words = after_stores more (slice_set words (store.
 abbrev pub ComesBefore : ℕ → ℕ → Type 0
 ComesBefore a b = (a ≢ 5) × ((b ≡ 5) ⊎ (b < a))
 
-abbrev pub AreInOrder : List Store → Type 0
-AreInOrder [] = Unit {0}
-AreInOrder (store ∷ more) =
-    AllByRecursion (λ later. ComesBefore store.at later.at) more × AreInOrder more
+abbrev pub AreStoresInOrder : List Store → Type 0
+AreStoresInOrder [] = Unit {0}
+AreStoresInOrder (store ∷ more) =
+    AllByRecursion (λ later. ComesBefore store.at later.at) more × AreStoresInOrder more
 
 -- These stores write a node over words: each changes a word after the version, no word is stored
 -- twice, and afterwards the words spell the node.
 pub record Write (s : NodeData) (words : List ℕ) (made : List Store) : Type 0 where
   pub places : AllByRecursion (λ x. (1 ≤ x.at) × (x.at ≤ CONTENT_WORDS)) made
   pub change : AllByRecursion (λ x. node_word words x.at ≢ x.value) made
-  pub order : AreInOrder made
+  pub order : AreStoresInOrder made
   pub spells : SpellsNode (after_stores made words) s

@@ -4,7 +4,7 @@ ghost use Rattle.word_rule.specs.Held.{held_of};
 ghost use Rattle.word_rule.specs.Places.{CONTENT_WORDS};
 ghost use Rattle.word_rule.specs.Spelling.{spelled};
 ghost use Rattle.word_rule.specs.Steps.{MayStore};
-ghost use Rattle.node_store.specs.Holding.{AreHeld, Reads, Writes};
+ghost use Rattle.node_store.specs.Holding.{AreHeld, ReadsHeld, WritesHeld};
 ghost use Rattle.node_store.specs.Sights.{after_words};
 
 use crate::reading::{CONTENT_WORDS, node_of};
@@ -35,7 +35,7 @@ pub fn read_held(words: &Words, me: &mut Caller, node: u32) -> Node
     requires inside { node < words.now.terms.nodes }
     requires held { IsSomeAnd (held_of node me.old.log.holdings.held)
         (λ h. IsSome (spelled h.words)) }
-    ensures reads { Reads node me.old me.new result }
+    ensures reads { ReadsHeld node me.old me.new result }
     ensures holdings { me.new.log.holdings ≡ me.old.log.holdings }
 {
     let loaded = load_words(words, me, node);
@@ -45,13 +45,13 @@ pub fn read_held(words: &Words, me: &mut Caller, node: u32) -> Node
     shape
 }
 
-/// Writes a node into one that is held. Only words that differ are stored, each once: the greatest
+/// WritesHeld a node into one that is held. Only words that differ are stored, each once: the greatest
 /// number first, and the count last of all.
 pub fn write_held(words: &Words, me: &mut Caller, node: u32, content: &Node)
     requires table { me.old.table ≡ words.now.table }
     requires inside { node < words.now.terms.nodes }
     requires may { MayStore node me.old.log }
-    ensures { Writes node content.now me.old me.new }
+    ensures { WritesHeld node content.now me.old me.new }
 {
     node_fits(content);
     writes();

@@ -7,9 +7,9 @@ ghost use Rattle.std.specs.List.{AllByRecursion};
 ghost use Rattle.reg_model.specs.SpanData.{IsSpan};
 ghost use Rattle.tree_shape.specs.NodeData.{Pairs, Entries};
 ghost use Rattle.word_rule.specs.Spelling.{node_word, SpellsNode};
-ghost use Rattle.node_store.specs.Writing.{wanted, kind_of, count_of, item_words, pair_words};
+ghost use Rattle.node_store.specs.Writing.{wanted_node_word, kind_of_body, count_of, item_words, pair_words};
 ghost use Rattle.node_store.specs.Writing.{entry_words};
-ghost use Rattle.node_store.specs.Writing.{Fits, Write, place_in_turn, store_in_turn, stores};
+ghost use Rattle.node_store.specs.Writing.{FitsWords, Write, place_in_turn, store_in_turn, stores};
 ghost use Rattle.node_store.specs.Writing.{after_stores};
 ghost use Rattle.tree_shape.specs.NodeData.{NodeData};
 ghost use Rattle.word_rule.specs.Places.{CONTENT_WORDS};
@@ -66,7 +66,7 @@ fn entries_fit(entries: &[Member])
 
 // That the numbers of a node fit their words.
 pub(crate) fn node_fits(node: &Node)
-    ensures { Fits node.now }
+    ensures { FitsWords node.now }
 {
     number_fits(node.level);
     match &node.content {
@@ -78,7 +78,7 @@ pub(crate) fn node_fits(node: &Node)
 
 // The kind of a node.
 fn kind(node: &Node) -> u64
-    ensures { result ≡ kind_of node.now.body }
+    ensures { result ≡ kind_of_body node.now.body }
 {
     match &node.content {
         Content::Inner { .. } => INNER,
@@ -137,7 +137,7 @@ fn item_word(node: &Node, at: usize) -> Option<u64>
 /// What the word of a node with this number is to be. None where any will do.
 pub fn wanted_word(node: &Node, at: u32) -> Option<u64>
     requires { 1 ≤ at }
-    ensures { result ≡ wanted node.now at }
+    ensures { result ≡ wanted_node_word node.now at }
 {
     match at as usize {
         KIND => Some(kind(node)),
@@ -178,11 +178,11 @@ pub fn store_in_turn(words: &[u64; CONTENT_WORDS], node: &Node, turn: u32) -> Op
 
 /// Whatever the words are, the stores of a node over them write it.
 pub(crate) fn writes()
-    ensures { (s : NodeData) (words : List ℕ) → length words ≡ CONTENT_WORDS → Fits s
+    ensures { (s : NodeData) (words : List ℕ) → length words ≡ CONTENT_WORDS → FitsWords s
         → Write s words (stores s words) }
 {}
 
-/// Writes a node over old words. Only words that differ are stored, each once.
+/// WritesHeld a node over old words. Only words that differ are stored, each once.
 pub fn write_over(words: &mut [u64; CONTENT_WORDS], node: &Node)
     ensures stores { words.new ≡ after_stores (stores node.now words.old) words.old }
     ensures write { Write node.now words.old (stores node.now words.old) }
