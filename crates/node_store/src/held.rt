@@ -45,7 +45,7 @@ pub fn read_held(words: &Words, me: &mut Caller, node: u32) -> Node
     shape
 }
 
-/// WritesHeld a node into one that is held. Only words that differ are stored, each once: the greatest
+/// Writes a node into one that is held. Only words that differ are stored, each once: the greatest
 /// number first, and the count last of all.
 pub fn write_held(words: &Words, me: &mut Caller, node: u32, content: &Node)
     requires table { me.old.table ≡ words.now.table }

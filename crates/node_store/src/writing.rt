@@ -7,8 +7,8 @@ ghost use Rattle.std.specs.List.{AllByRecursion};
 ghost use Rattle.reg_model.specs.SpanData.{IsSpan};
 ghost use Rattle.tree_shape.specs.NodeData.{Pairs, Entries};
 ghost use Rattle.word_rule.specs.Spelling.{node_word, SpellsNode};
-ghost use Rattle.node_store.specs.Writing.{wanted_node_word, kind_of_body, count_of, item_words, pair_words};
-ghost use Rattle.node_store.specs.Writing.{entry_words};
+ghost use Rattle.node_store.specs.Writing.{wanted_node_word, kind_of_body, count_of};
+ghost use Rattle.node_store.specs.Writing.{item_words, pair_words, entry_words};
 ghost use Rattle.node_store.specs.Writing.{FitsWords, Write, place_in_turn, store_in_turn, stores};
 ghost use Rattle.node_store.specs.Writing.{after_stores};
 ghost use Rattle.tree_shape.specs.NodeData.{NodeData};
@@ -182,7 +182,7 @@ pub(crate) fn writes()
         → Write s words (stores s words) }
 {}
 
-/// WritesHeld a node over old words. Only words that differ are stored, each once.
+/// Writes a node over old words. Only words that differ are stored, each once.
 pub fn write_over(words: &mut [u64; CONTENT_WORDS], node: &Node)
     ensures stores { words.new ≡ after_stores (stores node.now words.old) words.old }
     ensures write { Write node.now words.old (stores node.now words.old) }
