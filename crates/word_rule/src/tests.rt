@@ -126,9 +126,16 @@ fn each_step_on_a_nodes_lock(rt: HostRuntime) -> Result<(), Fail> {
     words.wake(lock);
     assert!(rt; words.take(&mut a, lock) == Ok(0));
     assert!(rt; words.release_same(&mut a, lock) == 1);
-    assert!(rt; words.take(&mut a, LockId::Node { node: 0 }) == Ok(0));
-    assert!(rt; words.release(&mut a, LockId::Node { node: 0 }) == 1);
+    Ok(())
+}
+
+#[test]
+fn release_of_the_root(rt: HostRuntime) -> Result<(), Fail> {
+    let alloc = rt.alloc();
+    let (words, mut a) = Words::new(alloc, 4, 1, 1, Vec::new(alloc))?;
     let root = LockId::Node { node: 0 };
+    assert!(rt; words.take(&mut a, root) == Ok(0));
+    assert!(rt; words.release(&mut a, root) == 1);
     assert!(rt; words.load_version(&mut a, root, Ask::Nothing) == 4);
     Ok(())
 }
