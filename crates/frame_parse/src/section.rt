@@ -1,6 +1,6 @@
 //! A section: its records, one after another.
 
-ghost use Rattle.std.specs.Prelude.{◌≡◌, ◌≤◌, ◌<◌, ◌⊎◌, length, map, IfOk, IfErr, IfSome};
+ghost use Rattle.std.specs.Prelude.{◌≡◌, ◌<◌, ◌⊎◌, length, map, IfOk, IfErr, IfSome};
 ghost use Rattle.std.specs.Prelude.{slice_get, Some, ℕ, List};
 ghost use Rattle.std.specs.List.{All};
 ghost use Rattle.std.specs.Option.{option_map};
@@ -82,7 +82,6 @@ impl Model for Section {
 impl Section {
     /// The section whose bytes stand at an address.
     pub fn read(alloc: Global, address: u64, bytes: &[u8]) -> Result<Section, FrameFault>
-        requires { length bytes.now ≤ 65536 }
         ensures address { IfOk result (λ s. s.address ≡ address) }
         ensures bytes { IfOk result (λ s. s.bytes ≡ bytes.now) }
         ensures found { IfOk result (λ s. HasFdes address bytes.now s.fdes) }

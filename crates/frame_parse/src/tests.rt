@@ -2,8 +2,6 @@
 //! sections' descriptions, or are what `readelf --debug-dump=frames` shows. The rows of
 //! `cases/tables` have one refusal of each kind and more.
 
-ghost use Rattle.std.specs.Prelude.{◌≤◌, length};
-
 use super::*;
 use std::alloc::Global;
 use std::test::*;
@@ -15,9 +13,7 @@ use data::*;
 use program_steps::*;
 
 /// The refusal of a section, or `None` where it is accepted.
-fn fault_of(alloc: Global, address: u64, bytes: &[u8]) -> Option<FrameFault>
-    requires { length bytes.now ≤ 65536 }
-{
+fn fault_of(alloc: Global, address: u64, bytes: &[u8]) -> Option<FrameFault> {
     match Section::read(alloc, address, bytes) {
         Ok(_) => None,
         Err(fault) => Some(fault),
@@ -41,9 +37,7 @@ fn has_fdes(section: &Section, fdes: &[(usize, u64, u64)]) -> bool {
     true
 }
 
-fn read(alloc: Global, address: u64, bytes: &[u8]) -> Result<Section, Fail>
-    requires { length bytes.now ≤ 65536 }
-{
+fn read(alloc: Global, address: u64, bytes: &[u8]) -> Result<Section, Fail> {
     Ok(
         Section::read(alloc, address, bytes)
             .ok()
@@ -170,7 +164,7 @@ const ANSWERS: [(&[u8], Option<FrameFault>); 3] = [
 #[test]
 fn answers(rt: HostRuntime) {
     for (bytes, answer) in ANSWERS {
-        let read = bytes.len() <= 65536 && fault_of(rt.alloc(), 0x2000, bytes) == answer;
+        let read = fault_of(rt.alloc(), 0x2000, bytes) == answer;
         assert!(rt; read, "{bytes:?}");
     }
 }
