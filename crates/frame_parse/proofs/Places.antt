@@ -1,5 +1,7 @@
--- The places of a section's FDEs ascend.
-use Rattle.std.proofs.Common.{◌≡◌, ℕ, zero, suc, ◌+◌, ◌<◌, ◌≤◌, List, [], ◌∷◌, ◌++◌, length, get_or, sym, ap, subst, ◌∙◌, arith, inl, inr}
+-- The places of a section's FDEs ascend, and are those of bytes.
+use Rattle.std.proofs.Common.{◌≡◌, ℕ, zero, suc, ◌+◌, ◌<◌, ◌≤◌, List, [], ◌∷◌, ◌++◌, length, get_or, sym, ap, subst, ◌∙◌, length-append, arith, inl, inr}
+use Rattle.std.specs.List.{All}
+use Rattle.std.proofs.lemmas.List.Elements.{All-cons}
 use Rattle.frame_parse.specs.declared.records.CieRecord.{CieRecord}
 use Rattle.frame_parse.specs.Entries.{FdeRecord, Record, Cie, Fde}
 use Rattle.frame_parse.specs.Records.{fde, content, record_at, whole_record}
@@ -66,3 +68,23 @@ pub section_ascends : (section : ℕ) (bytes : List ℕ) (fdes : List FdeRecord)
 unfolding HasFdes IsSection
 section_ascends section bytes fdes s =
     subst (λ (fs : List FdeRecord). IsAscending (fde_starts fs)) s.2 (from-ascends 0 (fdes_of s.0) (records_ascend section 0 [] s.1.0 s.0 s.1.3))
+
+-- ---- FDEs begin inside the section
+
+records_within : (section p end : ℕ) (earlier : List CieRecord) (text : List ℕ) (rs : List Record) → AreRecords section p earlier text rs → p + length text ≤ end → All (λ f. f.start < end) (fdes_of rs)
+records_within section p end earlier text [] s low = λ k d inside. absurd (omega arith)
+records_within section p end earlier text (Cie c ∷ rs) s low =
+    let whole : length text ≡ length s.0 + length s.1 = ap length s.2 ∙ length-append s.0 s.1 in
+    records_within section (p + length s.0) end (earlier ++ c ∷ []) s.1 rs s.4 (omega arith)
+records_within section p end earlier text (Fde f ∷ rs) s low =
+    let at = record_begins section p earlier s.0 f s.3 in
+    let grown = record_grows section p earlier s.0 (Fde f) s.3 in
+    let whole : length text ≡ length s.0 + length s.1 = ap length s.2 ∙ length-append s.0 s.1 in
+    All-cons (λ f. f.start < end) f (fdes_of rs) (omega (arith, at, grown)) (records_within section (p + length s.0) end earlier s.1 rs s.4 (omega arith))
+
+pub section_within : (section : ℕ) (bytes : List ℕ) (fdes : List FdeRecord) → HasFdes section bytes fdes → All (λ f. f.start < length bytes) fdes
+unfolding HasFdes IsSection
+section_within section bytes fdes s =
+    let i = s.1 in
+    let whole : length bytes ≡ length i.0 + length i.1 = ap length i.2 ∙ length-append i.0 i.1 in
+    subst (λ (fs : List FdeRecord). All (λ f. f.start < length bytes) fs) s.2 (records_within section 0 (length bytes) [] i.0 s.0 i.3 (omega arith))

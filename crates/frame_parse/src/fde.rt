@@ -61,6 +61,13 @@ impl<'a> Fde<'a> {
         }
     }
 
+    /// The place of its first byte, that of its length, among the section's bytes.
+    pub fn place(&self) -> usize
+        ensures { result ≡ self.now.entry.start }
+    {
+        self.entry.start
+    }
+
     /// The first address that it covers.
     pub fn first(&self) -> u64
         ensures { result ≡ self.now.entry.first }

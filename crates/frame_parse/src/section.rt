@@ -118,10 +118,11 @@ impl Section {
         self.fdes.len()
     }
 
-    /// Every section has the FDEs of its bytes, and their places ascend.
+    /// Every section has the FDEs of its bytes, and their places ascend among them.
     pub fn known(&self)
         ensures fdes { HasFdes self.now.address self.now.bytes self.now.fdes }
         ensures ascending { IsAscending (fde_starts self.now.fdes) }
+        ensures within { All (λ f. f.start < length self.now.bytes) self.now.fdes }
     {
         let _ = &self.bytes;
     }
