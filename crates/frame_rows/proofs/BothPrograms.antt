@@ -34,7 +34,7 @@ initial_left f p first start base initial law is at none left has =
     made ∙ ap (λ (k : PlacedRow). (rows_after unset first (beside k []) initial).row) none ∙ ap (λ (l : ℕ). base_row l initial) at
 
 -- the initial instructions all stand at the first address
-initial_at : (f : FdeData) (initial : List PlacedStep) → Law → HasPlacedInitial f initial → AreAt f.entry.first initial
+pub initial_at : (f : FdeData) (initial : List PlacedStep) → Law → HasPlacedInitial f initial → AreAt f.entry.first initial
 initial_at f initial law has = (law (initial_of f.section f.entry (text_in f.bytes f.entry.cie.initial)) initial has).staying refl
 
 program_left : (f : FdeData) (q : PlacedProgramData) (first pc : ℕ) (base row : PlacedRow) (steps : List PlacedStep) → Law → q ≡ program_of f.section f.entry (text_in f.bytes f.entry.program) → first ≡ f.entry.first → first ≤ pc → Leaves q pc base base row → HasPlacedProgram f steps

@@ -1,15 +1,15 @@
 -- A row that is handed out has the rules of its FDE's instructions, with their expressions.
-use Rattle.std.proofs.Common.{◌≡◌, ℕ, ◌<◌, List, Option, Some, map, option_map, refl, sym, ap, subst, ◌∙◌}
+use Rattle.std.proofs.Common.{◌≡◌, ℕ, ◌<◌, List, Option, Some, map, option_map, refl, sym, ap, ◌∙◌}
 use Rattle.std.specs.Prelude.{slice_get}
 use Rattle.std.proofs.lemmas.Option.{slice_get-map}
 use Rattle.frame_parse.specs.Blocks.{block_in}
-use Rattle.frame_parse.specs.Instructions.{PlacedStep, StepData, step_told}
+use Rattle.frame_parse.specs.Instructions.{PlacedStep, StepData}
 use Rattle.frame_parse.specs.Sections.{FdeData}
 use Rattle.frame_parse.specs.Steps.{HasSteps, lent_step}
 use Rattle.frame_rows.specs.declared.placed_row.PlacedRow.{PlacedRow}
 use Rattle.frame_rows.specs.Columns.{HasInitial, HasProgram, rule_at, cfa_at}
 use Rattle.frame_rows.specs.Rows.{HasPlacedInitial, HasPlacedProgram}
-use Rattle.frame_rows.specs.Rules.{RuleData, CfaRuleData, PlacedRule, RowData, rule_told, cfa_rule_told, lent_row}
+use Rattle.frame_rows.specs.Rules.{RuleData, PlacedRule, rule_told, cfa_rule_told, lent_row}
 use Rattle.frame_rows.proofs.Told.{rule_at_told, cfa_at_told}
 
 pub initial_known : (f : FdeData) (placed : List PlacedStep) → HasPlacedInitial f placed → (steps : List StepData) × HasInitial f steps

@@ -4,3 +4,4 @@ pub mod BothPrograms
 pub mod Expressions
 pub mod Told
 pub mod LentRows
+pub mod PlacedRows

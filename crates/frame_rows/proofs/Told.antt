@@ -1,5 +1,5 @@
 -- The rules that instructions leave are the same however expressions are told.
-use Rattle.std.proofs.Common.{◌≡◌, ℕ, List, [], ◌∷◌, Bool, true, false, cond, map, nat_eq, nat_le, refl, sym, ap, ◌∙◌}
+use Rattle.std.proofs.Common.{◌≡◌, ℕ, List, [], ◌∷◌, Bool, true, false, cond, map, nat_eq, nat_le, refl, ap, ◌∙◌}
 use Rattle.std.specs.List.{fold}
 use Rattle.frame_parse.specs.declared.instructions.InstructionWith.{InstructionWith}
 use Rattle.frame_parse.specs.declared.instructions.InstructionWith.TheVariants.{Nop, Advance, Set, Restore, Remember, RestoreState, Cfa, CfaColumn, CfaOffset, CfaExpression}
@@ -11,7 +11,7 @@ use Rattle.frame_rows.specs.declared.rule.RuleWith.{RuleWith}
 use Rattle.frame_rows.specs.declared.rule.RuleWith.TheVariants as rules
 use Rattle.frame_rows.specs.declared.rule.CfaRuleWith.{CfaRuleWith}
 use Rattle.frame_rows.specs.declared.rule.CfaRuleWith.TheVariants as cfas
-use Rattle.frame_rows.specs.Columns.{Column, new_column, restore_from, restore_state, rule_of, with_column, with_offset, register_step, cfa_step, instructions, up_to, initial_rule, rule_at, initial_cfa, cfa_at}
+use Rattle.frame_rows.specs.Columns.{Column, new_column, restore_from, rule_of, with_column, with_offset, register_step, cfa_step, instructions, up_to, initial_rule, rule_at, initial_cfa, cfa_at}
 use Rattle.frame_rows.specs.Rules.{rule_told, cfa_rule_told}
 
 -- ---- a column, with its rules told in another way

@@ -3,3 +3,4 @@ pub mod Rows
 pub mod Walk
 pub mod Expressions
 pub mod Rules
+pub mod RowAt

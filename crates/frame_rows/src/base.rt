@@ -36,6 +36,21 @@ impl Base for NothingSet {
     }
 }
 
+/// The row that the initial instructions leave, where it is kept.
+#[derive(Drop)]
+pub(crate) struct KeptRow<'r> {
+    pub(crate) row: &'r PlacedRow,
+}
+
+impl Base for KeptRow<'_> {
+    ghost gives = { λ s given. s.row.now ≡ given };
+
+    #[inline(always)]
+    fn rule(&mut self, column: u8) -> PlacedRule {
+        self.row.rule(column as usize)
+    }
+}
+
 /// Among an FDE's own instructions: the row that the initial ones leave, which is kept from the
 /// first restore on.
 #[derive(Drop)]

@@ -6,14 +6,17 @@
 #![tactic(auto)]
 
 mod base;
+mod laws;
 mod placed_row;
 mod row;
 mod rule;
 mod walk;
 
+pub use laws::placed_rows_are_rows;
+pub use placed_row::PlacedRow;
 pub use row::Row;
-pub use rule::{CfaRule, CfaRuleWith, Rule, RuleWith};
-pub use walk::row_at;
+pub use rule::{CfaRule, CfaRuleWith, PlacedCfaRule, PlacedRule, Rule, RuleWith};
+pub use walk::{initial_row, row_at};
 
 #[cfg(test)]
 mod tests;

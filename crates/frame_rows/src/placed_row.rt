@@ -5,15 +5,16 @@ ghost use Rattle.frame_rows.specs.declared.placed_row.PlacedRow.{PlacedRow};
 ghost use Rattle.frame_rows.specs.declared.rule.RuleWith.TheVariants.{Unset};
 ghost use Rattle.frame_rows.specs.Rows.{applied, unset};
 
-use crate::base::Base;
+use crate::base::{Base, KeptRow};
 use crate::rule::{PlacedCfaRule, PlacedRule, rule_of};
 use frame_parse::PlacedInstruction;
 
-/// The rules that hold at an address, as a walk keeps, remembers and restores them.
+/// The rules that hold at an address, as a walk keeps, remembers and restores them. Where their
+/// expressions stand in the section's bytes, `Row::new` makes of it a row that lends them.
 #[derive(Clone, Copy, Debug, PartialEq, Eq)]
 pub struct PlacedRow {
-    pub(crate) cfa: PlacedCfaRule,
-    pub(crate) columns: [PlacedRule; 17],
+    pub cfa: PlacedCfaRule,
+    pub columns: [PlacedRule; 17],
 }
 
 impl PlacedRow {
@@ -47,6 +48,14 @@ impl PlacedRow {
         if index < self.columns.len() {
             self.columns[index] = rule;
         }
+    }
+
+    /// Does what an instruction makes of a row by itself. A restore gives back the rule that the
+    /// initial instructions leave.
+    pub fn apply(&mut self, initial: &PlacedRow, instruction: PlacedInstruction)
+        ensures { self.new ≡ applied initial.now self.old instruction }
+    {
+        apply(self, &mut KeptRow { row: initial }, instruction)
     }
 }
 

@@ -32,7 +32,7 @@ impl<'a> Model for Row<'a> {
 impl<'a> Row<'a> {
     /// The row whose expressions stand in the bytes.
     #[inline(always)]
-    pub(crate) fn new(bytes: &'a [u8], placed: PlacedRow) -> Row<'a>
+    pub fn new(bytes: &'a [u8], placed: PlacedRow) -> Row<'a>
         requires { HasExpressions bytes.now placed }
         ensures { result ≡ lent_row bytes.now placed }
     {

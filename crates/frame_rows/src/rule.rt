@@ -46,9 +46,9 @@ pub type Rule<'a> = RuleWith<ColumnExpr<'a>>;
 
 /// Rules that tell the places of their expressions' blocks in the section. They are small, so that
 /// rows of them are copied fast.
-pub(crate) type PlacedCfaRule = CfaRuleWith<usize>;
+pub type PlacedCfaRule = CfaRuleWith<usize>;
 
-pub(crate) type PlacedRule = RuleWith<usize>;
+pub type PlacedRule = RuleWith<usize>;
 
 impl PlacedCfaRule {
     /// Another column, and the same offset. A rule of another kind stays.

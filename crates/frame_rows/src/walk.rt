@@ -99,9 +99,9 @@ fn set_initial(fde: &Fde<'_>, row: &mut PlacedRow)
     go_through(fde.placed_initial(), fde.first(), &mut NothingSet, row);
 }
 
-/// The row that the initial instructions leave, for the restores of a program.
+/// The row that the initial instructions leave, which restores of a program give back.
 #[inline(never)]
-pub(crate) fn initial_row(fde: &Fde<'_>) -> PlacedRow
+pub fn initial_row(fde: &Fde<'_>) -> PlacedRow
     ensures { (initial : List PlacedStep) → HasPlacedInitial fde.now initial
         → result ≡ base_row fde.now.entry.first initial }
 {

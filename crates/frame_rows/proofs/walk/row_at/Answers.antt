@@ -1,6 +1,5 @@
-use Rattle.std.proofs.Common.{◌≡◌, ℕ, ◌<◌, List, Some, sym, ap, subst, ◌∙◌}
+use Rattle.std.proofs.Common.{ℕ, List, sym, ap, subst, ◌∙◌}
 use Rattle.std.specs.Prelude.{slice_get}
-use Rattle.frame_rows.specs.Columns.{rule_at}
 use Rattle.frame_rows.specs.Expressions.{HasExpressions}
 use Rattle.frame_rows.specs.Rules.{RowData, lent_row}
 use Rattle.frame_rows.proofs.Expressions.{row_has}
