@@ -1,7 +1,7 @@
 //! A section: its records, one after another.
 
 ghost use Rattle.std.specs.Prelude.{◌≡◌, ◌<◌, ◌⊎◌, length, map, IfOk, IfErr, IfSome};
-ghost use Rattle.std.specs.Prelude.{slice_get, Some, ℕ, List};
+ghost use Rattle.std.specs.Prelude.{slice_get, option_and_then, Some, ℕ, List};
 ghost use Rattle.std.specs.List.{All};
 ghost use Rattle.std.specs.Option.{option_map};
 ghost use Rattle.frame_parse.specs.Entries.{fde_among, HasCie};
@@ -152,10 +152,19 @@ impl Section {
         ensures section { IfSome result
             (λ f. (f.section ≡ self.now.address) × (f.bytes ≡ self.now.bytes)) }
     {
-        match self.fdes.cover(pc) {
+        match self.number_at(pc) {
             None => None,
             Some(index) => Some(self.fde(index)),
         }
+    }
+
+    /// The number of the first FDE in order of bytes that covers an address.
+    pub fn number_at(&self, pc: u64) -> Option<usize>
+        ensures value { option_and_then (slice_get self.now.fdes) result
+            ≡ first_cover pc self.now.fdes }
+        ensures within { IfSome result (λ i. i < length self.now.fdes) }
+    {
+        self.fdes.cover(pc)
     }
 }
 

@@ -93,6 +93,9 @@ fn covers(rt: HostRuntime) -> Result<(), Fail> {
     assert_eq!(rt; first_at(&s1, 0x102f), Some(0x1020));
     assert_eq!(rt; first_at(&s1, 0x1030), None);
     assert_eq!(rt; first_at(&s1, 0xffff_ffff_ffff_ffff), None);
+    assert_eq!(rt; s1.number_at(0x101f), Some(0));
+    assert_eq!(rt; s1.number_at(0x1020), Some(1));
+    assert_eq!(rt; s1.number_at(0x1030), None);
     Ok(())
 }
 

@@ -3,7 +3,7 @@
 ghost use Rattle.std.specs.Prelude.{◌≤◌, length};
 
 use super::*;
-use frame_parse::Section;
+use frame_parse::{PlacedInstruction, PlacedReadRule, Section};
 use std::alloc::Global;
 use std::test::*;
 
@@ -180,6 +180,34 @@ fn initial_instructions(rt: HostRuntime) -> Result<(), Fail> {
 #[test]
 fn restores(rt: HostRuntime) -> Result<(), Fail> {
     assert!(rt; are_there(&read(rt.alloc(), 0x2000, &RESTORES)?, &RESTORES_ROWS));
+    Ok(())
+}
+
+/// A row by places, changed by hand: a restore gives back the rule of the initial instructions.
+#[test]
+fn rows_by_places(rt: HostRuntime) -> Result<(), Fail> {
+    let s4 = read(rt.alloc(), 0x2000, &S4)?;
+    let fde = s4.fde_at(0x1000).ok_or("an FDE covers the address")?;
+    placed_rows_are_rows(&fde);
+    let initial = initial_row(&fde);
+    let mut row = initial;
+    row.apply(&initial, PlacedInstruction::CfaOffset { by: 16 });
+    row.apply(
+        &initial,
+        PlacedInstruction::Set {
+            column: 16,
+            rule: PlacedReadRule::Undefined,
+        },
+    );
+    assert_eq!(rt; row.cfa, PlacedCfaRule::Offset { column: 7, by: 16 });
+    assert_eq!(rt; row.rule(16), PlacedRule::Undefined);
+    row.apply(&initial, PlacedInstruction::Restore { column: 16 });
+    assert_eq!(rt;
+        row.rule(16),
+        PlacedRule::Offset {
+            by: 8u64.wrapping_neg()
+        }
+    );
     Ok(())
 }
 
