@@ -6,10 +6,11 @@ ghost use Rattle.std.specs.List.{All};
 ghost use Rattle.std.specs.Option.{option_map};
 ghost use Rattle.frame_parse.specs.Sections.{first_cover, IsAscending};
 ghost use Rattle.eh_hdr.specs.Headers.{IsHeader, IsRefusedHeader};
-ghost use Rattle.eh_hdr.specs.Tables.{entries_of_header, IsLastUpTo, locations};
+ghost use Rattle.eh_hdr.specs.Tables.{entries_of_header, IsLastUpTo, IsSortedTable, locations};
 
 use crate::fault::HeaderFault;
 use crate::lookup::{last_up_to, table_cover};
+use crate::search_table::SearchTable;
 use crate::table::{TableEntry, header_table};
 use eh_bytes::Cursor;
 use frame_parse::{Fde, Section};
@@ -93,6 +94,14 @@ impl<'s> Header<'s> {
             None => section.fde_at(pc),
             Some(entries) => table_cover(section, entries, pc),
         }
+    }
+
+    /// Its table, for lookups in the section that it was read beside.
+    pub fn into_table(self) -> SearchTable
+        ensures table { result ≡ self.entry.table }
+        ensures sorted { IsSortedTable self.entry.section.fdes result }
+    {
+        SearchTable::new(self.table)
     }
 
     fn entries(&self) -> &[TableEntry]

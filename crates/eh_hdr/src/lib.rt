@@ -11,11 +11,13 @@ mod fields;
 mod header;
 mod laws;
 mod lookup;
+mod search_table;
 mod table;
 
 pub use fault::HeaderFault;
 pub use header::Header;
 pub use laws::headers_have_one_answer;
+pub use search_table::SearchTable;
 
 #[cfg(test)]
 mod tests;
