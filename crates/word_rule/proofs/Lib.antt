@@ -27,6 +27,7 @@ pub mod Alone
 pub mod Refusals
 pub mod Answering
 pub mod NodeVersions
+pub mod Holders
 pub mod WordLoads
 pub mod ClockLoads
 pub mod InitialCallers

@@ -82,7 +82,11 @@ module _ (t : Terms) (slots id : ℕ) (me : Seated) (caller : me.0.role ≡ role
       (λ alone. subst (λ ws. IsStill ws w) (sym (set_same s.words 2)) (still_after_load s.words me.0 w (load_of me.0 2 x) refl refl refl (r.alone id me.0 at alone)))
 
   pub loads_loader : Allows Holds slots id me 2 (λ n. n) (looks (step slots 2 0 0 none) me)
-  loads_loader s r deep at small = (after_load 2 (get_or s.words 2 0) me.0, keeps, tt, loaded s r at, refl)
+  loads_loader s r deep at small = (after_load 2 (get_or s.words 2 0) me.0, keeps, tt, loaded s r at, (refl, locked_word me.0.loader (r.memory.callers.at_loader id me.0 at)))
+    where
+      locked_word : (o : Option LoaderHolding) → AtLoader (memory_of t s.words) r.memory.callers.holder id o → IfSome o (λ h. IsLockedAt h.version (get_or s.words 2 0))
+      locked_word None a = tt
+      locked_word (Some h) a = a.1.locked
 
   -- nobody holds a lock whose word is even
   even_is_free : (s : Sit) (r : Holds s) → get_or s.words 2 0 % 2 ≡ 0 → r.memory.callers.holder ≡ None

@@ -35,6 +35,8 @@ use Rattle.word_rule.proofs.ObservationsFrame.{sight_over}
 use Rattle.word_rule.proofs.Frames.{Sit}
 use Rattle.word_rule.proofs.Writes.{callers_over_nodes, written}
 use Rattle.word_rule.proofs.NodeLoads.{ltb_true}
+use Rattle.word_rule.proofs.HeadPlays.{RootLaw}
+use Rattle.word_rule.proofs.Holders.{out_tells}
 use Rattle.word_rule.proofs.NodeLocks.{updated_here, updated_other}
 use Rattle.word_rule.proofs.Exchanging.{ChangeLaws, all_found}
 use Rattle.word_rule.proofs.Exchanges.{DecidedLaw}
@@ -222,7 +224,7 @@ module _ (t : Terms) (id : ℕ) (v : Log) (caller : v.role ≡ role.Caller) (n a
       (callers_over_nodes t s.words s.views r id v w here (ap is_spent caller) words' (record { terms = refl; role = refl; past = refl; receipts = refl; allowance = refl; made = refl; lineage = refl }) refl (omega arith) (busy v w caller)) nodes r.memory.active refl sights (λ k p. p)
       (record { own = refl; sights = refl; loads = refl; turn = omega arith })
 
-module _ (t : Terms) (slots id : ℕ) (me : Seated) (caller : me.0.role ≡ role.Caller) (laws : ChangeLaws) (agreement : AgreementLaw) (decided : DecidedLaw) where
+module _ (t : Terms) (slots id : ℕ) (me : Seated) (caller : me.0.role ≡ role.Caller) (laws : ChangeLaws) (agreement : AgreementLaw) (decided : DecidedLaw) (root : RootLaw) where
   abbrev Holds : Sit → Type 0
   Holds s = TableInvariant t s.words s.views
 
@@ -231,7 +233,7 @@ module _ (t : Terms) (slots id : ℕ) (me : Seated) (caller : me.0.role ≡ role
       let h = some_with (held_of n me.0.holdings.held) (λ (h : Holding). IsSome h.mark ⊎ IsTrue (is_among me.0.holdings.out n)) may in
       let w : Log = stored_log n at value me.0 in
       let stored : TableInvariant t (set s.words (4 + 36 * n + at) value) (set s.views id w) = stored_table t id me.0 caller n at value h.0 h.1.0 h.1.1 low high s r here in
-      (after_node_store n at value me.0, keeps, tt, go (frees n at value me.0) stored, refl)
+      (after_node_store n at value me.0, keeps, tt, go (frees n at value me.0) stored, (refl, out_tells t (memory_of t s.words).nodes s.views r.memory.history r.memory.shadow r.memory.nodes id me.0 here root n))
     where
       go : (b : Bool) → TableInvariant t (set s.words (4 + 36 * n + at) value) (set s.views id (stored_log n at value me.0))
           → TableInvariant t (set s.words (4 + 36 * n + at) value) (set s.views id (if b then settle None (stored_log n at value me.0) else stored_log n at value me.0))

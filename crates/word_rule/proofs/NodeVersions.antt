@@ -32,14 +32,15 @@ use Rattle.word_rule.proofs.Refusals.{query_at, query_answers}
 use Rattle.word_rule.proofs.Facts.{within, set_twice}
 use Rattle.word_rule.proofs.Each.{all_map}
 use Rattle.word_rule.specs.Sights.{sight_of, without_sight, loaded_word, place_of, low_of, place_between, is_loaded_as, named_place, pairs_in_sight, place_under, or_mark, mark_child, sight_begun, sights_after_version, receipts_after_version, after_node_version, try_receipts, is_leaf_for, query_receipt, with_receipts}
-use Rattle.word_rule.specs.Callers.{total}
+use Rattle.word_rule.specs.Callers.{total, IsLockedAt}
+use Rattle.word_rule.specs.Held.{held_of}
 use Rattle.word_rule.specs.Nodes.{Shadow, NodesHold, IsOpen, IsPlaced}
 use Rattle.word_rule.specs.Observations.{Stands, AreOfNode, SightHolds}
 use Rattle.word_rule.specs.TableInvariant.{TableInvariant}
 use Rattle.word_rule.specs.Plays.{Seated, loads_version}
 use Rattle.word_rule.proofs.Memories.{load_version_at, content_length}
 use Rattle.word_rule.proofs.Spells.{reads_pairs, eqb_true}
-use Rattle.word_rule.proofs.Standing.{even_is_open, stands_spells}
+use Rattle.word_rule.proofs.Standing.{even_is_open, stands_spells, version_locked}
 use Rattle.word_rule.proofs.CallersFrame.{busy}
 use Rattle.word_rule.proofs.ObservationsFrame.{observations_own}
 use Rattle.word_rule.proofs.Frames.{Sit, still_after_load}
@@ -330,7 +331,12 @@ module _ (t : Terms) (slots id : ℕ) (me : Seated) (caller : me.0.role ≡ role
         tt,
         subst (λ vs. TableInvariant t (set s.words (4 + 36 * n) found) vs) both
             (answered t (set s.words (4 + 36 * n) found) (set s.views id w) looked id w (set_here s.views id w (within s.views id me.0 here)) caller rs (told_version t me.0 a found (sight_of n me.0.sights.nodes) terms)),
-        (refl, terms, found_again t m.nodes s.views r.memory.history r.memory.shadow r.memory.nodes law (content_length t s.words r.wide) me.0.terms terms n found at (sight_of n me.0.sights.nodes) me.0.sights.nodes refl o.sights),
+        (
+          refl,
+          terms,
+          found_again t m.nodes s.views r.memory.history r.memory.shadow r.memory.nodes law (content_length t s.words r.wide) me.0.terms terms n found at (sight_of n me.0.sights.nodes) me.0.sights.nodes refl o.sights,
+          subst (λ k. IfSome (held_of n me.0.holdings.held) (λ h. IsLockedAt h.version k)) at (version_locked t m.nodes s.views r.memory.history r.memory.shadow r.memory.nodes id me.0 n here),
+        ),
       )
 
   -- the same as the code has it

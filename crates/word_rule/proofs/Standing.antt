@@ -1,5 +1,5 @@
 -- Who holds a node, and what a sight that stands tells of it.
-use Rattle.std.proofs.Common.{◌≡◌, ◌≢◌, ℕ, ◌+◌, ◌<◌, ◌%◌, List, refl, ap, ◌∙◌, subst, ⊎_elim, arith, Option, Some, None, false}
+use Rattle.std.proofs.Common.{◌≡◌, ◌≢◌, ℕ, ◌+◌, ◌<◌, ◌%◌, List, refl, ap, ◌∙◌, subst, ⊎_elim, arith, Option, Some, None, IfSome, false}
 use mathlib.Core.Option.{some}
 use lib.ListN.{get_elem?}
 use Rattle.reg_model.specs.declared.answer.Update.{Update}
@@ -55,3 +55,11 @@ module _ (t : Terms) (words : NodeWords) (views : List Log) (history : List Upda
   -- a log has a lock only where it is the holder
   pub held_by : (j : ℕ) (u : Log) (n : ℕ) (h : Holding) → get_elem? views j ≡ some u → held_of n u.holdings.held ≡ Some h → HoldsNode t words shadow j h × (h.node ≡ n)
   held_by j u n h at found = held_is (HoldsNode t words shadow j) n u.holdings.held h (r.holdings j u at).each found
+
+  -- the version word of a node that a log has locked
+  pub version_locked : (j : ℕ) (u : Log) (n : ℕ) → get_elem? views j ≡ some u → IfSome (held_of n u.holdings.held) (λ h. IsLockedAt h.version (words.versions n))
+  version_locked j u n at = go (held_of n u.holdings.held) refl
+    where
+      go : (o : Option Holding) → held_of n u.holdings.held ≡ o → IfSome o (λ h. IsLockedAt h.version (words.versions n))
+      go None e = tt
+      go (Some h) e = let mine = held_by j u n h at e in subst (λ k. IsLockedAt h.version (words.versions k)) mine.1 mine.0.locked

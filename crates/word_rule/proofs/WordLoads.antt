@@ -23,7 +23,7 @@ use Rattle.word_rule.specs.Observations.{Stands, SightHolds}
 use Rattle.word_rule.specs.NodeTells.{HeldTells}
 use Rattle.word_rule.specs.TableInvariant.{TableInvariant}
 use Rattle.word_rule.specs.Plays.{Seated, loads_node}
-use Rattle.word_rule.proofs.Memories.{load_content_at}
+use Rattle.word_rule.proofs.Memories.{load_content_at, content_length}
 use Rattle.word_rule.proofs.Spells.{reads}
 use Rattle.word_rule.proofs.Standing.{stands_spells, held_by}
 use Rattle.word_rule.proofs.CallersFrame.{busy}
@@ -31,9 +31,11 @@ use Rattle.word_rule.proofs.ObservationsFrame.{observations_own}
 use Rattle.word_rule.proofs.Frames.{Sit, still_after_load}
 use Rattle.word_rule.proofs.Quiet.{quiet}
 use Rattle.word_rule.proofs.HeadPlays.{RootLaw}
+use Rattle.word_rule.proofs.NodeVersions.{ChildrenLaw}
+use Rattle.word_rule.proofs.Holders.{out_tells, holder_tells}
 use Rattle.word_rule.proofs.NodeLoads.{FullLaw, OrderLaw, full_count}
 
-module _ (t : Terms) (slots id : ℕ) (me : Seated) (caller : me.0.role ≡ role.Caller) (law : FullLaw) (order : OrderLaw) (root : RootLaw) (n at : ℕ) (inside : n < t.nodes) (low : 1 ≤ at) (high : at ≤ 35) where
+module _ (t : Terms) (slots id : ℕ) (me : Seated) (caller : me.0.role ≡ role.Caller) (law : FullLaw) (order : OrderLaw) (root : RootLaw) (children : ChildrenLaw) (n at : ℕ) (inside : n < t.nodes) (low : 1 ≤ at) (high : at ≤ 35) where
   abbrev Holds : Sit → Type 0
   Holds s = TableInvariant t s.words s.views
 
@@ -128,7 +130,12 @@ module _ (t : Terms) (slots id : ℕ) (me : Seated) (caller : me.0.role ≡ role
             (r.memory.nodes.holdings id me.0 here) (λ _ k. k) (λ _. refl)
             (observations_own t m r.memory.history callers r.memory.shadow me.0 w (load_of me.0 (4 + 36 * n + at) found ∷ []) (record { own = refl; turns = omega arith; loads = refl }) (sights s r here b) (copies s r here b) (full_count t slots id me caller law order s r n at here low high, tt) ((omega arith, omega arith), tt) o)
             (λ alone. still_after_load s.words me.0 w (load_of me.0 (4 + 36 * n + at) found) refl refl refl (r.alone id me.0 here alone)),
-        (refl, tells s r here),
+        (
+          refl,
+          tells s r here,
+          holder_tells t m.nodes s.views r.memory.history r.memory.shadow r.memory.nodes id me.0 here children (content_length t s.words r.wide) ((r.memory.callers.each id me.0 here).terms stands) n,
+          out_tells t m.nodes s.views r.memory.history r.memory.shadow r.memory.nodes id me.0 here root n,
+        ),
       )
 
   -- the same as the code has it

@@ -1,16 +1,18 @@
 -- What steps on nodes tell.
-use Rattle.std.specs.Prelude.{◌≡◌, ◌≢◌, ℕ, ◌-◌, ◌<◌, List, length, IfSome, Some}
+use Rattle.std.specs.Prelude.{◌≡◌, ◌≢◌, ℕ, ◌-◌, ◌<◌, false, IsTrue, List, length, IfSome, Some}
 use Rattle.std.specs.List.{AllByRecursion}
 use Rattle.tree_shape.specs.NodeData.{NodeData, Link}
 use Rattle.tree_shape.specs.Trees.{branches}
 use Rattle.tree_shape.specs.Lawful.{IsFilled, IsOrdered}
+use Rattle.tree_shape.specs.Numbers.{is_among}
 use Rattle.tree_shape.specs.declared.node.Frame.{Frame}
 use Rattle.word_rule.specs.declared.log.Terms.{Terms}
+use Rattle.word_rule.specs.declared.log.Holding.{Holding}
 use Rattle.word_rule.specs.declared.log.NodeSight.{NodeSight}
 use Rattle.word_rule.specs.declared.log.Log.{Log}
 use Rattle.word_rule.specs.Places.{CONTENT_WORDS}
 use Rattle.word_rule.specs.Spelling.{node_word, SpellsNode}
-use Rattle.word_rule.specs.Held.{held_of}
+use Rattle.word_rule.specs.Held.{held_of, marked_in}
 use Rattle.word_rule.specs.Sights.{sight_of, place_of}
 use Rattle.word_rule.specs.Steps.{mark_at_lock}
 use Rattle.word_rule.specs.Nodes.{IsPlaced}
@@ -41,6 +43,22 @@ SightTells n found v =
 -- a load of a word of a node that the caller holds finds the word that it knows
 abbrev pub HeldTells : ℕ → ℕ → ℕ → Log → Type 0
 HeldTells n at found v = IfSome (held_of n v.holdings.held) (λ h. node_word h.words at ≡ found)
+
+-- What the log has of a held node: all its words, which spell its settled content where none was
+-- stored. Where it is marked live, that content has its place in the tree.
+pub record IsHeldNode (t : Terms) (h : Holding) : Type 0 where
+  pub wide : length h.words ≡ CONTENT_WORDS
+  pub clean : h.stored ≡ false → SpellsNode h.words h.settled
+  pub live : IfSome h.mark (IsLiveNode t h.node h.settled)
+
+-- what a load of a word of a node tells of the log where the caller holds the node
+abbrev pub HolderTells : ℕ → Log → Type 0
+HolderTells n v = IfSome (held_of n v.holdings.held) (IsHeldNode v.terms)
+
+-- a node that is out isn't the root, and isn't marked live
+abbrev pub OutTells : ℕ → Log → Type 0
+OutTells n v =
+    IsTrue (is_among v.holdings.out n) → (n ≢ 0) × (marked_in v.holdings.held n ≡ false)
 
 -- What the lock of a node tells: its words spell its settled content. Where it is marked live, it
 -- has that place in the tree; where it is the first free node, as it is known under the root's

@@ -15,7 +15,7 @@ use Rattle.word_rule.specs.Steps.{after_node_release, after_node_release_same, a
 use Rattle.word_rule.specs.declared.log.Terms.{Terms}
 use Rattle.word_rule.specs.Clock.{AfterClock}
 use Rattle.word_rule.specs.Held.{held_of}
-use Rattle.word_rule.specs.NodeTells.{HeldTells, IsTakenNode, SightTells}
+use Rattle.word_rule.specs.NodeTells.{HeldTells, HolderTells, IsTakenNode, OutTells, SightTells}
 use Rattle.word_rule.specs.Logs.{is_spent, IsTaken, after_load, after_loader_lock, after_write}
 use Rattle.word_rule.specs.Logs.{after_loader_release, after_loader_release_same}
 use Rattle.word_rule.specs.Callers.{IsLockedAt, IsAlone, IsWhole}
@@ -26,9 +26,13 @@ Seated = Me (Unit {0}) Log
 abbrev pub Stepped : Type 0
 Stepped = Step (Unit {0})
 
--- a load of a word
+-- the word found is the loader's lock's, locked, where the caller holds it
+abbrev pub WasLocked : Seated → ℕ → Type 0
+WasLocked me found = IfSome me.0.loader (λ h. IsLockedAt h.version found)
+
+-- a load of the loader's version
 abbrev pub looks : Stepped → Seated → ℕ → Seated → Type 0
-looks st me found me' = me' ≡ (after_load st.word found me.0, me.1)
+looks st me found me' = (me' ≡ (after_load st.word found me.0, me.1)) × WasLocked me found
 
 -- an exchange at the loader's lock for one with bit 0: the lock is taken, or another word was found
 abbrev pub locks : Stepped → Seated → ℕ → Seated → Type 0
@@ -51,10 +55,6 @@ abbrev pub marks : Stepped → Seated → ℕ → Seated → Type 0
 marks st me found me' =
     MatchBool (found == st.first) (me' ≡ (after_write me.0, me.1)) (me'
     ≡ (after_load st.word found me.0, me.1))
-
--- the word before a release is the lock's, locked
-abbrev pub WasLocked : Seated → ℕ → Type 0
-WasLocked me found = IfSome me.0.loader (λ h. IsLockedAt h.version found)
 
 abbrev pub releases : Stepped → Seated → ℕ → Seated → Type 0
 releases st me found me' = (me' ≡ (after_loader_release me.0, me.1)) × WasLocked me found
@@ -83,12 +83,18 @@ loads_clock t ask st me found me' = AfterClock t ask found me.0 me'.0 × (me'.1 
 abbrev pub loads_node : ℕ → ℕ → Stepped → Seated → ℕ → Seated → Type 0
 loads_node n at st me found me' =
     (me' ≡ (after_node_load n at found me.0, me.1)) × HeldTells n at found me.0
+    × HolderTells n me.0 × OutTells n me.0
+
+-- the word found is a node's version, locked, where the caller holds it
+abbrev pub NodeWasLocked : ℕ → Seated → ℕ → Type 0
+NodeWasLocked n me found =
+    IfSome (held_of n me.0.holdings.held) (λ h. IsLockedAt h.version found)
 
 -- a node's version was loaded
 abbrev pub loads_version : Terms → Ask → ℕ → Stepped → Seated → ℕ → Seated → Type 0
 loads_version t ask n st me found me' =
     (me' ≡ (after_node_version ask n found me.0, me.1)) × (me.0.terms ≡ t)
-    × SightTells n found me.0
+    × SightTells n found me.0 × NodeWasLocked n me found
 
 -- a node was taken at a version
 abbrev pub TakesNode : ℕ → ℕ → Seated → Seated → Type 0
@@ -112,11 +118,6 @@ grabs_node n st me found me' =
     MatchBool (found % 2 == 0) (TakesNode n found me me') (me'
     ≡ (after_load (node_place n) found me.0, me.1))
 
--- the word before a release of a node is its version, locked
-abbrev pub NodeWasLocked : ℕ → Seated → ℕ → Type 0
-NodeWasLocked n me found =
-    IfSome (held_of n me.0.holdings.held) (λ h. IsLockedAt h.version found)
-
 -- a node was let go with the version at which it was locked
 abbrev pub releases_same_node : ℕ → Stepped → Seated → ℕ → Seated → Type 0
 releases_same_node n st me found me' =
@@ -124,7 +125,8 @@ releases_same_node n st me found me' =
 
 -- a word of a held node was stored
 abbrev pub stores_node : ℕ → ℕ → Stepped → Seated → ℕ → Seated → Type 0
-stores_node n at st me found me' = me' ≡ (after_node_store n at st.first me.0, me.1)
+stores_node n at st me found me' =
+    (me' ≡ (after_node_store n at st.first me.0, me.1)) × OutTells n me.0
 
 -- the head was loaded: it is a node
 abbrev pub loads_head : Terms → Stepped → Seated → ℕ → Seated → Type 0

@@ -5,7 +5,7 @@ ghost use Rattle.word_rule.specs.CallerData.{surplus};
 ghost use Rattle.word_rule.specs.Callers.{IsLockedAt};
 ghost use Rattle.word_rule.specs.Held.{held_of};
 ghost use Rattle.word_rule.specs.Logs.{after_load};
-ghost use Rattle.word_rule.specs.NodeTells.{HeldTells, SightTells};
+ghost use Rattle.word_rule.specs.NodeTells.{HeldTells, HolderTells, OutTells, SightTells};
 ghost use Rattle.word_rule.specs.Places.{node_place};
 ghost use Rattle.word_rule.specs.Plays.{TakesNode};
 ghost use Rattle.word_rule.specs.Sights.{after_node_load, after_node_version};
@@ -47,6 +47,8 @@ impl Words {
         ensures log { seat.new.me.0 ≡ after_node_version N.ask N.node result seat.old.me.0 }
         ensures terms { seat.old.me.0.terms ≡ N.terms }
         ensures tells { SightTells N.node result seat.old.me.0 }
+        ensures held { IfSome (held_of N.node seat.old.me.0.holdings.held)
+            (λ h. IsLockedAt h.version result) }
     {
         let _ = ask;
         laws::children();
@@ -62,6 +64,8 @@ impl Words {
         ensures log { me.new ≡ record me.old { log = after_node_version ask node result me.old.log } }
         ensures terms { me.old.log.terms ≡ self.now.terms }
         ensures tells { SightTells node result me.old.log }
+        ensures held { IfSome (held_of node me.old.log.holdings.held)
+            (λ h. IsLockedAt h.version result) }
     {
         self.load_version_for::<Brand>(&mut me.seat, node, ask)
     }
@@ -76,6 +80,8 @@ impl Words {
             × (seat.new.me.1 ≡ seat.old.me.1) }
         ensures log { seat.new.me.0 ≡ after_node_load N.node N.at result seat.old.me.0 }
         ensures held { HeldTells N.node N.at result seat.old.me.0 }
+        ensures holder { HolderTells N.node seat.old.me.0 }
+        ensures out { OutTells N.node seat.old.me.0 }
     {
         laws::fillings();
         laws::order();
@@ -93,6 +99,8 @@ impl Words {
         requires word { (1 ≤ at) × (at ≤ 35) }
         ensures log { me.new ≡ record me.old { log = after_node_load node at result me.old.log } }
         ensures held { HeldTells node at result me.old.log }
+        ensures holder { HolderTells node me.old.log }
+        ensures out { OutTells node me.old.log }
     {
         self.load_node_for::<Brand>(&mut me.seat, node, at)
     }
@@ -247,7 +255,9 @@ impl Words {
         ensures same { (seat.new.table_id ≡ seat.old.table_id) × (seat.new.id ≡ seat.old.id)
             × (seat.new.me.1 ≡ seat.old.me.1) }
         ensures log { seat.new.me.0 ≡ after_node_store N.node N.at value seat.old.me.0 }
+        ensures out { OutTells N.node seat.old.me.0 }
     {
+        laws::children();
         laws::transfer();
         laws::widen();
         laws::local_change();
@@ -265,7 +275,8 @@ impl Words {
         requires inside { node < self.now.terms.nodes }
         requires word { (1 ≤ at) × (at ≤ 35) }
         requires may { MayStore node me.old.log }
-        ensures { me.new ≡ record me.old { log = after_node_store node at value me.old.log } }
+        ensures log { me.new ≡ record me.old { log = after_node_store node at value me.old.log } }
+        ensures out { OutTells node me.old.log }
     {
         self.store_node_for::<Brand>(&mut me.seat, node, at, value);
     }

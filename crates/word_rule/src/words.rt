@@ -95,18 +95,20 @@ impl Words {
 
     fn load_loader(&self, me: &mut Caller) -> u64
         requires table { me.old.table ≡ self.now.table }
-        ensures { me.new ≡ record me.old { log = after_load LOADER result me.old.log } }
+        ensures log { me.new ≡ record me.old { log = after_load LOADER result me.old.log } }
+        ensures held { IfSome me.old.log.loader (λ h. IsLockedAt h.version result) }
     {
         self.table.shared.load::<Looks>(&mut me.seat, LOADER_WORD)
     }
 
-    /// Loads the version word of a lock. A node's begins a sight of it, or finds that the sight
-    /// stands, which may then answer what was asked.
+    /// Loads the version word of a lock, which is locked where the caller holds it. A node's begins
+    /// a sight of it, or finds that the sight stands, which may then answer what was asked.
     pub fn load_version(&self, me: &mut Caller, lock: LockId, ask: Ask) -> u64
         requires table { me.old.table ≡ self.now.table }
         requires lock { IsLock self.now.terms lock }
         ensures log { me.new ≡ record me.old { log = after_version ask lock result me.old.log } }
         ensures tells { VersionTells self.now.terms lock result me.old.log }
+        ensures held { WasLockedAs lock result me.old.log }
     {
         match lock {
             LockId::Loader => self.load_loader(me),

@@ -18,5 +18,5 @@ store-requires g c =
         wider = c.widen.ensures.reached;
         lawful = c.local_change.ensures.lawful;
         update = c.local_change.ensures.update;
-      }) c.agreement.ensures c.decided.ensures _ _ _ _ _ _ c.requires.about.0 c.requires.about.1 (omega (arith, place)) c.requires.may word.0 word.1,
+      }) c.agreement.ensures c.decided.ensures c.children.ensures.root _ _ _ _ _ _ c.requires.about.0 c.requires.about.1 (omega (arith, place)) c.requires.may word.0 word.1,
     )
