@@ -52,7 +52,7 @@ seen v s found wide kept tells is = go (sight_of s.node v.sights.nodes) refl kep
   where
     go : (o : Option NodeSight) → sight_of s.node v.sights.nodes ≡ o
         → IsSomeAnd o (λ k. (k.version ≡ s.version) × AreLoaded s.words k.words)
-        → IfSome o (λ k. k.version ≡ found → IsOfNode v.terms k)
+        → IfSome o (λ k. k.version ≡ found → IsOfNode v.terms v.past k)
         → (shape : NodeData) × (SpellsNode s.words shape × IfSome o (λ k. IfSome (place_of k) (IsLiveNode v.terms s.node shape)))
     go None e kept tells = absurd kept
     go (Some k) e kept tells =

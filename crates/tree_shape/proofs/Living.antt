@@ -1,6 +1,6 @@
 -- What a tree tree says of its live nodes: their children are live, and each has one parent at most.
-use Rattle.std.proofs.Common.{◌≡◌, ℕ, zero, suc, ◌+◌, ◌-◌, ◌<◌, ◌≤◌, List, [], ◌∷◌, ◌++◌, map, refl}
-use Rattle.std.proofs.Common.{ap, sym, ◌∙◌, subst, arith, Bool, true, false, IsTrue, eqb, inl, inr}
+use Rattle.std.proofs.Common.{◌≡◌, ◌≢◌, ℕ, zero, suc, ◌+◌, ◌-◌, ◌<◌, ◌≤◌, List, [], ◌∷◌, ◌++◌, map}
+use Rattle.std.proofs.Common.{refl, ap, sym, ◌∙◌, subst, arith, Bool, true, false, IsTrue, eqb, inl, inr}
 use Rattle.std.proofs.Common.{◌⊎◌}
 use Rattle.std.specs.List.{flat_map, AllByRecursion}
 use Rattle.std.proofs.lemmas.Bool.{cases_eq, cases_Bool}
@@ -259,3 +259,11 @@ pub live_children : (f : Contents) (live : ℕ → Bool) (n : ℕ) → IsTree f 
 live_children f live n tree alive =
     all_from (λ b. IsTrue (live b.child) × FitsParent f b) (own_branches f n)
     (λ b own. (child_live f live tree n alive b own, child_fits f live tree n alive b own))
+
+-- the root is none of them
+pub never_root : (f : Contents) (live : ℕ → Bool) (n : ℕ) → IsTree f live → IsTrue (live n) →
+    AllByRecursion (λ b. b.child ≢ 0) (own_branches f n)
+never_root f live n tree alive =
+    all_from (λ b. b.child ≢ 0) (own_branches f n)
+    (λ b own e. root_no_child f live tree n alive
+    (subst (λ x. 0 < times x (children f n)) e (own_child f n b own)))

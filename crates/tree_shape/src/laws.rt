@@ -1,6 +1,6 @@
 //! Laws of lawful trees. Each is the contract of a function that does nothing.
 
-ghost use Rattle.std.specs.Prelude.{◌≡◌, ℕ, ◌*◌, ◌-◌, ◌^◌, ◌<◌, ◌≤◌, ◌↔◌, Bool, false, IsTrue};
+ghost use Rattle.std.specs.Prelude.{◌≡◌, ◌≢◌, ℕ, ◌*◌, ◌-◌, ◌^◌, ◌<◌, ◌≤◌, ◌↔◌, Bool, false, IsTrue};
 ghost use Rattle.std.specs.Prelude.{Option, None, Some, List, [], ◌∷◌, ◌⊎◌, Contains};
 ghost use Rattle.std.specs.Prelude.{length};
 ghost use Rattle.std.specs.Bool.{Decides};
@@ -53,12 +53,14 @@ pub fn leaf_fences()
 {}
 
 /// The root is live, and so are the children of a live node, each with the level and the fences
-/// that it gives them.
+/// that it gives them. None of them is the root.
 pub fn children()
     ensures root { (f : Contents) (live : ℕ → Bool) → IsTree f live → IsTrue (live 0) }
     ensures live { (f : Contents) (live : ℕ → Bool) (n : ℕ) → IsTree f live → IsTrue (live n)
         → AllByRecursion (λ b. IsTrue (live b.child) × FitsParent f b)
         (branches ((f n).level - 1) (f n)) }
+    ensures never_root { (f : Contents) (live : ℕ → Bool) (n : ℕ) → IsTree f live
+        → IsTrue (live n) → AllByRecursion (λ b. b.child ≢ 0) (branches ((f n).level - 1) (f n)) }
 {}
 
 /// A tree's entries from left to right are those of its live nodes, and ascend.

@@ -1,7 +1,8 @@
 -- A load of the clock keeps the rule: all of the history is seen, and what was asked is answered.
-use Rattle.std.proofs.Common.{◌≡◌, ℕ, ◌+◌, ◌≤◌, ◌%◌, ◌↔◌, inl, inr, List, [], ◌∷◌, ◌++◌, length, length-append, get_or, set, map, take_all, Contains, sym, refl, ap, ◌∙◌, subst, arith, ◌==◌, Bool, true, false, true≢false, IsTrue, Option, Some, None, IfSome, IsSomeAnd, append-nil, if◌then◌else◌}
+use Rattle.std.proofs.Common.{◌≡◌, ℕ, suc, ◌+◌, ◌≤◌, ◌%◌, ◌↔◌, inl, inr, List, [], ◌∷◌, ◌++◌, length, length-append, get_or, set, map, take_all, Contains, sym, refl, ap, ◌∙◌, subst, arith, ◌==◌, Bool, true, false, true≢false, IsTrue, Option, Some, None, IfSome, IsSome, IsSomeAnd, append-nil, if◌then◌else◌}
 use Rattle.std.specs.List.{AllByRecursion}
 use Rattle.std.proofs.lemmas.List.{nil_from_length}
+use Rattle.std.proofs.lemmas.Option.{none-some, same_Some}
 use mathlib.Core.Option.{none, some}
 use lib.ListN.{get_elem?}
 use Rattle.atomic_table.specs.Table.{step, keeps, Allows}
@@ -11,7 +12,9 @@ use Rattle.reg_model.specs.declared.answer.Half.TheVariants as half
 use Rattle.reg_model.specs.declared.answer.Update.{Update}
 use Rattle.reg_model.specs.declared.answer.Receipt.{Receipt}
 use Rattle.reg_model.proofs.Histories.{lawful_history}
-use Rattle.tree_shape.specs.NodeData.{IsLeaf, LiesInFences, entries_of}
+use Rattle.reg_model.specs.SpanData.{contains}
+use Rattle.reg_model.specs.Query.{member_at}
+use Rattle.tree_shape.specs.NodeData.{IsLeaf, IsInFences, LiesInFences, entries_of}
 use Rattle.tree_shape.specs.Trees.{Contents, HasEntry}
 use Rattle.tree_shape.specs.Lawful.{IsTree}
 use Rattle.word_rule.specs.declared.log.Role.TheVariants as role
@@ -28,7 +31,7 @@ use Rattle.word_rule.specs.Logs.{is_spent, weight, turns, load_of}
 use Rattle.word_rule.specs.Sights.{after_clock, copies_after_clock, query_receipt, walk_receipts, with_clock}
 use Rattle.word_rule.specs.Callers.{total, CallersHold, LogHolds, IsMemberOf, AtLoader, LoaderLock, dones_in, start}
 use Rattle.word_rule.specs.Copies.{ListsAll, ListsMembers, CopySightHolds}
-use Rattle.word_rule.specs.Observations.{SightHolds, WasFull, ObservationsHold, HadMembers, IsFullCount}
+use Rattle.word_rule.specs.Observations.{AreInside, SightHolds, WasFull, ObservationsHold, HadMembers, IsFullCount}
 use Rattle.word_rule.specs.TableInvariant.{TableInvariant, IsStill}
 use Rattle.word_rule.specs.Clock.{IsSeen, ClockTells, MayAsk, AreAsked}
 use Rattle.word_rule.specs.Steps.{IsRefusalOf, MayRefuse, Refuses}
@@ -43,7 +46,7 @@ use Rattle.word_rule.proofs.Memories.{set_same}
 use Rattle.word_rule.proofs.CallersFrame.{lineages_over, lock_stays, busy}
 use Rattle.word_rule.proofs.NodesFrame.{nodes_same}
 use Rattle.word_rule.proofs.Frames.{Sit, table_step, still_after_load}
-use Rattle.word_rule.proofs.Listings.{ascending_disjoint, disjoint_fit, lists_same, loaded_members, loaded_spans, none_registered, start_lawful, state_fixed}
+use Rattle.word_rule.proofs.Listings.{ascending_disjoint, contains_find, disjoint_fit, lists_same, loaded_members, loaded_spans, none_registered, start_lawful, state_fixed}
 use Rattle.word_rule.proofs.Joins.{records_later}
 use Rattle.word_rule.proofs.Alone.{seen_all}
 
@@ -51,6 +54,26 @@ use Rattle.word_rule.proofs.Alone.{seen_all}
 pub record LeafLaw : Type 0 where
   pub kind : (f : Contents) (live : ℕ → Bool) (n : ℕ) → IsTree f live → IsTrue (live n) → IsLeaf (f n) ↔ ((f n).level ≡ 0)
   pub entries : (f : Contents) (live : ℕ → Bool) (leaf : ℕ) (m : Member) → IsTree f live → IsTrue (live leaf) → IsLeaf (f leaf) → Contains (entries_of (f leaf)) m ↔ (HasEntry f live m × LiesInFences m.span (f leaf))
+  pub found : (f : Contents) (live : ℕ → Bool) (leaf pc : ℕ) (m : Member) → IsTree f live → IsTrue (live leaf) → IsLeaf (f leaf) → IsInFences pc (f leaf) → (member_at pc (entries_of (f leaf)) ≡ Some m) ↔ (HasEntry f live m × IsTrue (contains m.span pc))
+
+-- what is found is there, and contains the address
+found_there : (pc : ℕ) (members : List Member) (m : Member) → member_at pc members ≡ Some m → Contains members m × (contains m.span pc ≡ true)
+found_there pc [] m e = absurd (none-some m e)
+found_there pc (x ∷ members) m e = go (contains x.span pc) refl (found_there pc members m)
+  where
+    go : (b : Bool) → contains x.span pc ≡ b → (member_at pc members ≡ Some m → Contains members m × (contains m.span pc ≡ true)) → Contains (x ∷ members) m × (contains m.span pc ≡ true)
+    go true is rest = let same : x ≡ m = same_Some _ _ (rw is at e) in ((0, omega arith, same), subst (λ (z : Member). contains z.span pc ≡ true) same is)
+    go false is rest = let r = rest (rw is at e) in ((suc r.0.0, (let l = r.0.1 in omega (arith, l)), r.0.2), r.1)
+
+-- A search that finds exactly those that are there and contain the address finds what any search
+-- among them does.
+searched : (pc : ℕ) (entries members : List Member) → ((m : Member) → (member_at pc entries ≡ Some m) ↔ (Contains members m × (contains m.span pc ≡ true))) → member_at pc entries ≡ member_at pc members
+searched pc entries members exact = go (member_at pc entries) refl (member_at pc members) refl
+  where
+    go : (o : Option Member) → member_at pc entries ≡ o → (p : Option Member) → member_at pc members ≡ p → member_at pc entries ≡ member_at pc members
+    go o e (Some m) f = (exact m).1 (found_there pc members m f) ∙ sym f
+    go None e None f = e ∙ sym f
+    go (Some m) e None f = let d = (exact m).0 e in absurd (true≢false (sym (subst IsSome f (contains_find (λ (x : Member). contains x.span pc) members m d.0 d.1))))
 
 -- what is asked of one's own terms
 pub may_ask : (a b : Ask) (t u : Terms) (v : Log) → a ≡ b → t ≡ u → MayAsk t a v → MayAsk u b v
@@ -164,12 +187,21 @@ module _ (law : LeafLaw) (t : Terms) (slots id : ℕ) (me : Seated) (caller : me
       marked = h.marked;
       clock = λ stand. (
         (let l = low in omega (arith, l)),
-        λ live level x.
+        λ live level.
             let tree = r.memory.nodes.lawful.tree in
-            let leaf = law.entries r.memory.shadow.settled r.memory.shadow.live g.node x tree live ((law.kind r.memory.shadow.settled r.memory.shadow.live g.node tree live).1 level) in
-            let now : state_at (start t) r.memory.history (lower (get_or s.words 0 0)) ≡ state_after (start t) r.memory.history = ap (state_after (start t)) (take_all (lower (get_or s.words 0 0)) r.memory.history (let l = low in omega (arith, l))) in (
-              (λ c. let d = leaf.0 c in (subst (λ st. Contains st.registered x) (sym now) ((r.memory.nodes.entries x).0 d.0), d.1.0, d.1.1)),
-              (λ c. leaf.1 ((r.memory.nodes.entries x).1 (subst (λ st. Contains st.registered x) now c.0), (c.1, c.2))),
+            let is_leaf = (law.kind r.memory.shadow.settled r.memory.shadow.live g.node tree live).1 level in
+            let now : state_at (start t) r.memory.history (lower (get_or s.words 0 0)) ≡ state_after (start t) r.memory.history = ap (state_after (start t)) (take_all (lower (get_or s.words 0 0)) r.memory.history (let l = low in omega (arith, l))) in
+            subst (λ st. AreInside st.registered (r.memory.shadow.settled g.node)) (sym now) (
+              (λ x.
+                  let leaf = law.entries r.memory.shadow.settled r.memory.shadow.live g.node x tree live is_leaf in (
+                    (λ c. let d = leaf.0 c in ((r.memory.nodes.entries x).0 d.0, d.1.0, d.1.1)),
+                    (λ c. leaf.1 ((r.memory.nodes.entries x).1 c.0, (c.1, c.2))),
+                  )),
+              (λ pc inside. searched pc (entries_of (r.memory.shadow.settled g.node)) (state_after (start t) r.memory.history).registered (λ x.
+                  let leaf = law.found r.memory.shadow.settled r.memory.shadow.live g.node pc x tree live is_leaf inside in (
+                    (λ e. let d = leaf.0 e in ((r.memory.nodes.entries x).0 d.0, d.1)),
+                    (λ c. leaf.1 ((r.memory.nodes.entries x).1 c.0, c.1)),
+                  ))),
             ),
       );
     }

@@ -71,7 +71,7 @@ module _ (t : Terms) (slots id : ℕ) (me : Seated) (caller : me.0.role ≡ role
     named_by n h None k marked = tt
     named_by n h (Some f) k marked =
         named r.memory.shadow.settled r.memory.shadow.live n (branches (h.settled.level - 1) h.settled)
-        (subst (λ c. AllByRecursion (λ b. IsTrue (r.memory.shadow.live b.child) × FitsParent r.memory.shadow.settled b) (branches (c.level - 1) c)) (sym k.settled) (children r.memory.shadow.settled r.memory.shadow.live h.node r.memory.nodes.lawful.tree marked.0))
+        (subst (λ c. AllByRecursion (λ b. IsTrue (r.memory.shadow.live b.child) × FitsParent r.memory.shadow.settled b) (branches (c.level - 1) c)) (sym k.settled) (children.live r.memory.shadow.settled r.memory.shadow.live h.node r.memory.nodes.lawful.tree marked.0))
 
     by_held : (n : ℕ) (held : List Holding) → AllByRecursion (HoldsNode t (memory_of t s.words).nodes r.memory.shadow id) held → IfSome (place_by_held n held) (λ f. IsTrue (r.memory.shadow.live n) × IsPlaced (r.memory.shadow.settled n) f)
     by_held n [] all = tt

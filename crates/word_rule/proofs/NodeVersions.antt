@@ -1,18 +1,23 @@
 -- A load of a node's version keeps the rule: a sight begins, or one that is found to stand marks those that it names.
-use Rattle.std.proofs.Common.{◌≡◌, ℕ, zero, suc, ◌+◌, ◌-◌, ◌*◌, ◌%◌, ◌<◌, ◌⊎◌, List, [], ◌∷◌, get_or, set, length, ◌&&◌, map, sym, refl, ap, ◌∙◌, subst, inl, inr, arith, ◌==◌, not, nat_le, nat_lt, Bool, true, false, IsTrue, true≢false, Option, Some, None, IfSome, option_map, eq-eqb, ne_eqb, if◌then◌else◌}
+use Rattle.std.proofs.Common.{◌≡◌, ℕ, zero, suc, ◌+◌, ◌-◌, ◌*◌, ◌%◌, ◌<◌, ◌≤◌, ◌≢◌, ◌⊎◌, ⊎_elim, List, [], ◌∷◌, get_or, set, length, ◌&&◌, map, sym, refl, ap, ◌∙◌, subst, inl, inr, arith, ◌==◌, not, nat_le, nat_lt, Bool, true, false, IsTrue, true≢false, Option, Some, None, IfSome, IsSome, is_some, take_all, option_map, eq-eqb, ne_eqb, if◌then◌else◌}
 use Rattle.std.proofs.lemmas.Option.{none-some, same_Some}
 use Rattle.std.specs.List.{AllByRecursion}
-use mathlib.Core.Option.{none}
+use mathlib.Core.Option.{none, some, some-injective}
+use mathlib.Core.List.{IsPrefix}
+use lib.ListN.{get_elem?}
 use native.Mathlib.Decide.{ℕ_discrete}
 use Rattle.atomic_table.specs.Table.{step, keeps, Allows}
 use Rattle.reg_model.specs.declared.answer.Update.{Update}
 use Rattle.reg_model.specs.declared.answer.Receipt.{Receipt}
 use Rattle.tree_shape.specs.declared.node.Frame.{Frame}
 use Rattle.tree_shape.specs.declared.pair.Pair.{Pair}
-use Rattle.tree_shape.specs.NodeData.{Body, Pairs, Entries, Link, pairs_in}
-use Rattle.tree_shape.specs.Trees.{Contents, branches, branches_from}
+use Rattle.reg_model.specs.History.{state_after, state_at}
+use Rattle.tree_shape.specs.NodeData.{Body, Pairs, Entries, Link, frame_of, pairs_in}
+use Rattle.tree_shape.specs.Trees.{Contents, Branch, branches, branches_from}
 use Rattle.tree_shape.specs.Lawful.{IsTree, IsOrderedAs, FitsParent}
+use Rattle.word_rule.specs.declared.log.Role.{Role}
 use Rattle.word_rule.specs.declared.log.Role.TheVariants as role
+use Rattle.word_rule.specs.declared.log.Holding.{Holding}
 use Rattle.word_rule.specs.declared.log.Ask.TheVariants as ask
 use Rattle.word_rule.specs.declared.log.Terms.{Terms}
 use Rattle.word_rule.specs.declared.log.LoadedWord.{LoadedWord}
@@ -20,8 +25,8 @@ use Rattle.word_rule.specs.declared.log.NodeSight.{NodeSight}
 use Rattle.word_rule.specs.declared.log.Log.{Log}
 use Rattle.word_rule.specs.Memory.{NodeWords, Memory, memory_of}
 use Rattle.word_rule.specs.Spelling.{node_word, is_short, pair_at, pairs_at, SpellsNode}
-use Rattle.word_rule.specs.Logs.{is_spent, load_of, after_load}
-use Rattle.word_rule.specs.NodeTells.{IsLiveNode, IsOfNode}
+use Rattle.word_rule.specs.Logs.{is_spent, weight, turns, load_of, after_load}
+use Rattle.word_rule.specs.NodeTells.{AloneTells, IsLiveNode, IsOfNode}
 use Rattle.word_rule.specs.declared.log.Ask.{Ask}
 use Rattle.reg_model.specs.declared.answer.Half.TheVariants as half
 use Rattle.tree_shape.specs.Numbers.{once}
@@ -29,28 +34,30 @@ use Rattle.atomic_table.proofs.Lists.{set_here}
 use Rattle.std.proofs.lemmas.Bool.{and_parts}
 use Rattle.word_rule.proofs.Answering.{Told, answered}
 use Rattle.word_rule.proofs.Refusals.{query_at, query_answers}
-use Rattle.word_rule.proofs.Facts.{within, set_twice}
+use Rattle.word_rule.proofs.Facts.{within, decided, set_twice}
 use Rattle.word_rule.proofs.Each.{all_map}
 use Rattle.word_rule.specs.Sights.{sight_of, without_sight, loaded_word, place_of, low_of, place_between, is_loaded_as, named_place, pairs_in_sight, place_under, or_mark, mark_child, sight_begun, sights_after_version, receipts_after_version, after_node_version, try_receipts, is_leaf_for, query_receipt, with_receipts}
-use Rattle.word_rule.specs.Callers.{total, IsLockedAt}
 use Rattle.word_rule.specs.Held.{held_of}
-use Rattle.word_rule.specs.Nodes.{Shadow, NodesHold, IsOpen, IsPlaced}
-use Rattle.word_rule.specs.Observations.{Stands, AreOfNode, SightHolds}
+use Rattle.word_rule.specs.Callers.{total, start, IsAlone, IsLockedAt}
+use Rattle.word_rule.specs.Nodes.{Shadow, NodesHold, HeldBy, IsOpen, IsPlaced}
+use Rattle.word_rule.specs.Observations.{Stands, AreInside, AreOfNode, SightHolds}
 use Rattle.word_rule.specs.TableInvariant.{TableInvariant}
 use Rattle.word_rule.specs.Plays.{Seated, loads_version}
 use Rattle.word_rule.proofs.Memories.{load_version_at, content_length}
 use Rattle.word_rule.proofs.Spells.{reads_pairs, eqb_true}
 use Rattle.word_rule.proofs.Standing.{even_is_open, stands_spells, version_locked}
 use Rattle.word_rule.proofs.CallersFrame.{busy}
-use Rattle.word_rule.proofs.ObservationsFrame.{observations_own}
+use Rattle.word_rule.proofs.Lineages.{others_spent}
+use Rattle.word_rule.proofs.ObservationsFrame.{observations_own, same_moment}
 use Rattle.word_rule.proofs.Frames.{Sit, still_after_load}
 use Rattle.word_rule.proofs.Quiet.{quiet}
 use Rattle.word_rule.proofs.NodeLoads.{ltb_true}
 use Rattle.word_rule.proofs.NodeLocks.{of_version}
 
--- the children of a live node are live, and as it names them: a law of tree_shape
-abbrev pub ChildrenLaw : Type 0
-ChildrenLaw = (f : Contents) (live : ℕ → Bool) (n : ℕ) → IsTree f live → IsTrue (live n) → AllByRecursion (λ b. IsTrue (live b.child) × FitsParent f b) (branches ((f n).level - 1) (f n))
+-- the children of a live node are live, and as it names them, and none of them is the root: laws of tree_shape
+pub record ChildrenLaw : Type 0 where
+  pub live : (f : Contents) (live : ℕ → Bool) (n : ℕ) → IsTree f live → IsTrue (live n) → AllByRecursion (λ b. IsTrue (live b.child) × FitsParent f b) (branches ((f n).level - 1) (f n))
+  pub never_root : (f : Contents) (live : ℕ → Bool) (n : ℕ) → IsTree f live → IsTrue (live n) → AllByRecursion (λ b. b.child ≢ 0) (branches ((f n).level - 1) (f n))
 
 -- a loaded word is the node's
 loaded_is : (words : List ℕ) (loaded : List LoadedWord) (at x : ℕ) → AreOfNode words loaded → loaded_word at loaded ≡ Some x → node_word words at ≡ x
@@ -145,7 +152,7 @@ module _ (t : Terms) (words : NodeWords) (views : List Log) (history : List Upda
                   let number : node_word (words.contents s.node) 5 ≡ n = loaded_is (words.contents s.node) s.words 5 n (h.loaded stands) known in
                   let read = reads_pairs (words.contents s.node) (shadow.settled s.node) ps spells is in
                   let zero_place : 6 + 2 * 0 ≡ 6 = omega arith in
-                  let kids = law shadow.settled shadow.live s.node r.lawful.tree marked.0 in
+                  let kids = law.live shadow.settled shadow.live s.node r.lawful.tree marked.0 in
                   let kids' : AllByRecursion (λ b. IsTrue (shadow.live b.child) × FitsParent shadow.settled b) (branches_from (place.level - 1) (shadow.settled s.node).low ps) =
                   subst (λ q. AllByRecursion (λ b. IsTrue (shadow.live b.child) × FitsParent shadow.settled b) (branches_from (q - 1) (shadow.settled s.node).low ps)) marked.1.0
                   (subst (λ q. AllByRecursion (λ b. IsTrue (shadow.live b.child) × FitsParent shadow.settled b) (branches_from ((shadow.settled s.node).level - 1) (shadow.settled s.node).low (pairs_in q))) is kids) in
@@ -261,27 +268,48 @@ module _ (t : Terms) (words : NodeWords) (views : List Log) (history : List Upda
     placed = placed;
     ordered = r.lawful.tree.ordered n alive;
     filled = r.lawful.filled n alive;
-    children = all_map (λ b. IsTrue (shadow.live b.child) × FitsParent shadow.settled b) (λ b. b.child < t.nodes) (λ b h. live_inside b.child h.0) (branches ((shadow.settled n).level - 1) (shadow.settled n)) (law shadow.settled shadow.live n r.lawful.tree alive);
+    places = λ k. frame_of (shadow.settled k);
+    own = refl;
+    children = kids (branches ((shadow.settled n).level - 1) (shadow.settled n)) (law.live shadow.settled shadow.live n r.lawful.tree alive) (law.never_root shadow.settled shadow.live n r.lawful.tree alive);
   }
+    where
+      kids : (bs : List Branch) → AllByRecursion (λ b. IsTrue (shadow.live b.child) × FitsParent shadow.settled b) bs → AllByRecursion (λ b. b.child ≢ 0) bs
+          → AllByRecursion (λ b. (b.child < t.nodes) × (b.child ≢ 0) × (frame_of (shadow.settled b.child) ≡ b.frame)) bs
+      kids [] all others = tt
+      kids (b ∷ bs) all others =
+          let fit = all.0.1 in
+          ((live_inside b.child all.0.0, others.0, (λ i. record { level = fit.level i; low = fit.low i; high = fit.high i })), kids bs all.1 others.1)
 
   -- what a sight that stands is of
-  is_of : ((k : ℕ) → k < t.nodes → length (words.contents k) ≡ 35) → (s : NodeSight) → SightHolds t words history shadow s → Stands words.versions shadow s → IsOfNode t s
-  is_of wide s h stands = record {
+  is_of : ((k : ℕ) → k < t.nodes → length (words.contents k) ≡ 35) → (past : List Update) → IsPrefix past history → (s : NodeSight) → SightHolds t words history shadow s → Stands words.versions shadow s → IsOfNode t past s
+  is_of wide past seen s h stands = record {
     words = words.contents s.node;
     shape = shadow.settled s.node;
     wide = wide s.node h.within;
     spells = stands_spells t words views history shadow r s h.within h.even stands;
     loaded_so = h.loaded stands;
     live = go (place_of s) (h.marked stands);
+    entries = at_clock s.clock (h.clock stands);
   }
     where
+      alive : (o : Option Frame) → IfSome o (λ f. IsTrue (shadow.live s.node) × IsPlaced (shadow.settled s.node) f) → IsSome o → IsTrue (shadow.live s.node)
+      alive None marked there = absurd (true≢false (sym there))
+      alive (Some f) marked there = marked.0
+
+      at_clock : (o : Option ℕ) → IfSome o (λ k. (k ≤ length history) × (IsTrue (shadow.live s.node) → (shadow.settled s.node).level ≡ 0 → AreInside (state_at (start t) history k).registered (shadow.settled s.node)))
+          → IfSome o (λ k. k ≡ length past → IsSome (place_of s) → (shadow.settled s.node).level ≡ 0 → AreInside (state_after (start t) past).registered (shadow.settled s.node))
+      at_clock None told = tt
+      at_clock (Some k) told = λ all there level.
+          let now : state_at (start t) history k ≡ state_after (start t) past = same_moment t past history k seen (omega (arith, all)) ∙ ap (state_after (start t)) (take_all k past (omega (arith, all))) in
+          subst (λ st. AreInside st.registered (shadow.settled s.node)) now (told.1 (alive (place_of s) (h.marked stands) there) level)
+
       go : (o : Option Frame) → IfSome o (λ f. IsTrue (shadow.live s.node) × IsPlaced (shadow.settled s.node) f) → IfSome o (IsLiveNode t s.node (shadow.settled s.node))
       go None marked = tt
       go (Some f) marked = is_live_node s.node f marked.0 marked.1
 
-  pub found_again : ((k : ℕ) → k < t.nodes → length (words.contents k) ≡ 35) → (u : Terms) → u ≡ t → (n found : ℕ) → words.versions n ≡ found → (o : Option NodeSight) (cs : List NodeSight) → sight_of n cs ≡ o → AllByRecursion (SightHolds t words history shadow) cs → IfSome o (λ s. s.version ≡ found → IsOfNode u s)
-  found_again wide u terms n found is None cs there all = tt
-  found_again wide u terms n found is (Some s) cs there all = λ same. let h = found_sight n cs s all there in subst (λ k. IsOfNode k s) (sym terms) (is_of wide s h.0 (inl (ap words.versions h.1 ∙ (is ∙ sym same))))
+  pub found_again : ((k : ℕ) → k < t.nodes → length (words.contents k) ≡ 35) → (past : List Update) → IsPrefix past history → (u : Terms) → u ≡ t → (n found : ℕ) → words.versions n ≡ found → (o : Option NodeSight) (cs : List NodeSight) → sight_of n cs ≡ o → AllByRecursion (SightHolds t words history shadow) cs → IfSome o (λ s. s.version ≡ found → IsOfNode u past s)
+  found_again wide past seen u terms n found is None cs there all = tt
+  found_again wide past seen u terms n found is (Some s) cs there all = λ same. let h = found_sight n cs s all there in subst (λ k. IsOfNode k past s) (sym terms) (is_of wide past seen s h.0 (inl (ap words.versions h.1 ∙ (is ∙ sym same))))
 
 -- the receipts of a version are those of a try, which holds now
 told_version : (t : Terms) (v : Log) (a : Ask) (found : ℕ) (o : Option NodeSight) → v.terms ≡ t → Told t v.past (receipts_after_version v a found o)
@@ -304,6 +332,45 @@ told_version t v a found (Some s) terms = go (s.version == found) (tried a s.clo
         by_test true is =
             let now : stamp ≡ length v.past = eqb_true stamp (length v.past) (and_parts (is_leaf_for pc (place_of s)) (stamp == length v.past) is).1 in
             inr (query_at t v.past half.Registered pc (length v.past), ((λ i. query_at (terms i) v.past half.Registered pc (now i) ∷ []), query_answers t v.past half.Registered pc))
+
+-- what the version tells one that is alone
+module _ (t : Terms) (words : List ℕ) (views : List Log) (r : TableInvariant t words views) (id : ℕ) (v : Log) (here : get_elem? views id ≡ some v) (n : ℕ) (inside : n < t.nodes) where
+  abbrev found : ℕ
+  found = get_or words (4 + 36 * n) 0
+
+  abbrev nodes : NodeWords
+  nodes = (memory_of t words).nodes
+
+  is_version : nodes.versions n ≡ found
+  is_version = load_version_at t words n inside
+
+  -- nobody holds it where the caller is alone and holds nothing
+  unlocked : IsAlone v.lineage → v.holdings.held ≡ [] → (o : Option ℕ) → r.memory.shadow.holder n ≡ o → found % 2 ≡ 0
+  unlocked alone none_held None e =
+      let z = (subst (IsOpen (nodes.versions n) (nodes.contents n) (r.memory.shadow.settled n)) e (r.memory.nodes.unlocked n inside)).0 in let is = is_version in omega (arith, z, is)
+  unlocked alone none_held (Some j) e =
+      let b = subst (HeldBy n views) e (r.memory.nodes.holders n) in
+      absurd (⊎_elim
+      (λ (is : j ≡ id). nothing b.0 (ap (λ (u : Log). u.holdings.held) (some-injective b.0 v (sym b.1.0 ∙ (ap (get_elem? views) is ∙ here))) ∙ none_held) b.1.1)
+      (λ (far : j ≢ id).
+      let gone = others_spent views (λ k z q. (r.memory.callers.each k z q).lineage) r.memory.callers.lineages id v here alone j b.0 far b.1.0 in
+      nothing b.0 ((r.memory.callers.each j b.0 b.1.0).idle (weightless b.0.role gone)).held b.1.1)
+      (decided j id))
+    where
+      nothing : (u : Log) → u.holdings.held ≡ [] → IsSome (held_of n u.holdings.held) → ⊥
+      nothing u empty there = true≢false (sym there ∙ ap (λ hs. is_some (held_of n hs)) empty)
+
+      weightless : (a : Role) → is_spent a ≡ true → weight a ≡ 0
+      weightless role.Caller gone = absurd (true≢false (sym gone))
+      weightless role.Note gone = refl
+      weightless role.Spent gone = refl
+
+  pub told_alone : AloneTells n found v
+  told_alone alone = (
+    (λ none_held. unlocked alone none_held (r.memory.shadow.holder n) refl),
+    all_map (λ l. l.turns ≡ turns v.trace → get_or words l.word 0 ≡ l.found) (λ l. l.word ≡ 4 + 36 * n → l.turns ≡ turns v.trace → l.found ≡ found)
+        (λ l as_found word turn. sym (as_found turn) ∙ ap (λ k. get_or words k 0) word) v.trace.loads (r.alone id v here alone),
+  )
 
 module _ (t : Terms) (slots id : ℕ) (me : Seated) (caller : me.0.role ≡ role.Caller) where
   abbrev Holds : Sit → Type 0
@@ -334,8 +401,9 @@ module _ (t : Terms) (slots id : ℕ) (me : Seated) (caller : me.0.role ≡ role
         (
           refl,
           terms,
-          found_again t m.nodes s.views r.memory.history r.memory.shadow r.memory.nodes law (content_length t s.words r.wide) me.0.terms terms n found at (sight_of n me.0.sights.nodes) me.0.sights.nodes refl o.sights,
+          found_again t m.nodes s.views r.memory.history r.memory.shadow r.memory.nodes law (content_length t s.words r.wide) me.0.past (r.memory.callers.each id me.0 here).begins me.0.terms terms n found at (sight_of n me.0.sights.nodes) me.0.sights.nodes refl o.sights,
           subst (λ k. IfSome (held_of n me.0.holdings.held) (λ h. IsLockedAt h.version k)) at (version_locked t m.nodes s.views r.memory.history r.memory.shadow r.memory.nodes id me.0 n here),
+          told_alone t s.words s.views r id me.0 here n inside,
         ),
       )
 

@@ -1,7 +1,10 @@
 -- What steps on nodes tell.
-use Rattle.std.specs.Prelude.{◌≡◌, ◌≢◌, ℕ, ◌-◌, ◌<◌, false, IsTrue, List, length, IfSome, Some}
+use Rattle.std.specs.Prelude.{◌≡◌, ◌≢◌, ℕ, ◌-◌, ◌<◌, ◌%◌, false, IsTrue, List, [], length, IfSome}
+use Rattle.std.specs.Prelude.{IsSome, Some}
 use Rattle.std.specs.List.{AllByRecursion}
-use Rattle.tree_shape.specs.NodeData.{NodeData, Link}
+use Rattle.reg_model.specs.History.{state_after}
+use Rattle.reg_model.specs.declared.answer.Update.{Update}
+use Rattle.tree_shape.specs.NodeData.{NodeData, Link, frame_of}
 use Rattle.tree_shape.specs.Trees.{branches}
 use Rattle.tree_shape.specs.Lawful.{IsFilled, IsOrdered}
 use Rattle.tree_shape.specs.Numbers.{is_among}
@@ -10,35 +13,52 @@ use Rattle.word_rule.specs.declared.log.Terms.{Terms}
 use Rattle.word_rule.specs.declared.log.Holding.{Holding}
 use Rattle.word_rule.specs.declared.log.NodeSight.{NodeSight}
 use Rattle.word_rule.specs.declared.log.Log.{Log}
-use Rattle.word_rule.specs.Places.{CONTENT_WORDS}
+use Rattle.word_rule.specs.Places.{CONTENT_WORDS, node_place}
 use Rattle.word_rule.specs.Spelling.{node_word, SpellsNode}
 use Rattle.word_rule.specs.Held.{held_of, marked_in}
+use Rattle.word_rule.specs.Logs.{turns}
+use Rattle.word_rule.specs.Callers.{IsAlone, start}
 use Rattle.word_rule.specs.Sights.{sight_of, place_of}
 use Rattle.word_rule.specs.Steps.{mark_at_lock}
 use Rattle.word_rule.specs.Nodes.{IsPlaced}
-use Rattle.word_rule.specs.Observations.{AreOfNode}
+use Rattle.word_rule.specs.Observations.{AreInside, AreOfNode}
 
--- a live node at its place: in order, filled, and its children are nodes that there are
+-- A live node at its place: in order, filled, and its children are nodes that there are, none of
+-- them the root. Each node has one place: this one, and its children those that it gives them.
 pub record IsLiveNode (t : Terms) (n : ℕ) (s : NodeData) (f : Frame) : Type 0 where
   pub placed : IsPlaced s f
   pub ordered : IsOrdered s
   pub filled : IsFilled n s
-  pub children : AllByRecursion (λ b. b.child < t.nodes) (branches (s.level - 1) s)
+  pub places : ℕ → Frame
+  pub own : places n ≡ frame_of s
+  pub children : AllByRecursion
+      (λ b. (b.child < t.nodes) × (b.child ≢ 0) × (places b.child ≡ b.frame))
+      (branches (s.level - 1) s)
 
 -- What a sight is of: words that spell a node, and have each loaded word. Where it is marked live,
--- the node has that place in the tree.
-pub record IsOfNode (t : Terms) (s : NodeSight) : Type 0 where
+-- the node has that place in the tree; and where it is a leaf, and the clock was loaded with all
+-- that is seen, its entries are the registered members of then inside its fences.
+pub record IsOfNode (t : Terms) (past : List Update) (s : NodeSight) : Type 0 where
   pub words : List ℕ
   pub shape : NodeData
   pub wide : length words ≡ CONTENT_WORDS
   pub spells : SpellsNode words shape
   pub loaded_so : AreOfNode words s.words
   pub live : IfSome (place_of s) (IsLiveNode t s.node shape)
+  pub entries : IfSome s.clock (λ k. k ≡ length past → IsSome (place_of s) → shape.level ≡ 0
+      → AreInside (state_after (start t) past).registered shape)
 
 -- what a version tells where the sight of its node has the same
 abbrev pub SightTells : ℕ → ℕ → Log → Type 0
 SightTells n found v =
-    IfSome (sight_of n v.sights.nodes) (λ s. s.version ≡ found → IsOfNode v.terms s)
+    IfSome (sight_of n v.sights.nodes) (λ s. s.version ≡ found → IsOfNode v.terms v.past s)
+
+-- What a node's version tells one that is alone. It isn't locked where the caller holds no node, and
+-- it is as each load of it found it since the caller last changed anything.
+abbrev pub AloneTells : ℕ → ℕ → Log → Type 0
+AloneTells n found v = IsAlone v.lineage
+    → (v.holdings.held ≡ [] → found % 2 ≡ 0) × AllByRecursion
+    (λ l. l.word ≡ node_place n → l.turns ≡ turns v.trace → l.found ≡ found) v.trace.loads
 
 -- a load of a word of a node that the caller holds finds the word that it knows
 abbrev pub HeldTells : ℕ → ℕ → ℕ → Log → Type 0

@@ -3,11 +3,13 @@ use Rattle.std.specs.Prelude.{◌≡◌, ℕ, ◌+◌, ◌-◌, ◌*◌, ◌<◌
 use Rattle.std.specs.Prelude.{[], ◌∷◌, length, max, IfSome, IsSome, Contains}
 use Rattle.std.specs.List.{AllByRecursion}
 use Rattle.reg_model.specs.History.{state_at}
+use Rattle.reg_model.specs.Query.{member_at}
 use Rattle.reg_model.specs.Receipt.{moment}
 use Rattle.reg_model.specs.declared.answer.Update.{Update}
 use Rattle.reg_model.specs.declared.answer.Receipt.{Receipt}
 use Rattle.reg_model.specs.declared.span.Member.{Member}
 use Rattle.tree_shape.specs.NodeData.{NodeData, Body, Link, Pairs, Entries, entries_of}
+use Rattle.tree_shape.specs.NodeData.{IsInFences}
 use Rattle.tree_shape.specs.declared.limits.TheConstants.{PAIRS, ENTRIES}
 use Rattle.word_rule.specs.declared.log.Terms.{Terms}
 use Rattle.word_rule.specs.declared.log.Holding.{Holding}
@@ -35,11 +37,13 @@ Stands versions shadow s =
 abbrev pub AreOfNode : List ℕ → List LoadedWord → Type 0
 AreOfNode words loaded = AllByRecursion (λ w. node_word words w.at ≡ w.value) loaded
 
--- the entries are the members inside the fences of the content
+-- The entries are the members inside the fences of the content, and an address inside the fences is
+-- found among the entries as it is among the members.
 abbrev pub AreInside : List Member → NodeData → Type 0
 AreInside members s =
-    (x : Member) → Contains (entries_of s) x ↔ (Contains members x × (s.low ≤ x.span.first)
-    × (x.span.last ≤ s.high))
+    ((x : Member) → Contains (entries_of s) x ↔ (Contains members x × (s.low ≤ x.span.first)
+    × (x.span.last ≤ s.high)))
+    × ((pc : ℕ) → IsInFences pc s → member_at pc (entries_of s) ≡ member_at pc members)
 
 -- A version that is gone never comes back. While a sight stands its words are as they were loaded;
 -- where it is marked, its node is live, at that place; and where the clock was loaded and the node

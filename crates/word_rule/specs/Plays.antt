@@ -15,7 +15,8 @@ use Rattle.word_rule.specs.Steps.{after_node_release, after_node_release_same, a
 use Rattle.word_rule.specs.declared.log.Terms.{Terms}
 use Rattle.word_rule.specs.Clock.{AfterClock}
 use Rattle.word_rule.specs.Held.{held_of}
-use Rattle.word_rule.specs.NodeTells.{HeldTells, HolderTells, IsTakenNode, OutTells, SightTells}
+use Rattle.word_rule.specs.NodeTells.{AloneTells, HeldTells, HolderTells, IsTakenNode, OutTells}
+use Rattle.word_rule.specs.NodeTells.{SightTells}
 use Rattle.word_rule.specs.Logs.{is_spent, IsTaken, after_load, after_loader_lock, after_write}
 use Rattle.word_rule.specs.Logs.{after_loader_release, after_loader_release_same}
 use Rattle.word_rule.specs.Callers.{IsLockedAt, IsAlone, IsWhole}
@@ -94,7 +95,7 @@ NodeWasLocked n me found =
 abbrev pub loads_version : Terms → Ask → ℕ → Stepped → Seated → ℕ → Seated → Type 0
 loads_version t ask n st me found me' =
     (me' ≡ (after_node_version ask n found me.0, me.1)) × (me.0.terms ≡ t)
-    × SightTells n found me.0 × NodeWasLocked n me found
+    × SightTells n found me.0 × NodeWasLocked n me found × AloneTells n found me.0
 
 -- a node was taken at a version
 abbrev pub TakesNode : ℕ → ℕ → Seated → Seated → Type 0

@@ -16,7 +16,7 @@ use Rattle.word_rule.specs.Logs.{after_loader_release, after_loader_release_same
 use Rattle.word_rule.specs.Steps.{MayRelease, after_node_lock, after_node_release}
 use Rattle.word_rule.specs.Steps.{after_node_release_same}
 use Rattle.word_rule.specs.Sights.{after_node_version}
-use Rattle.word_rule.specs.NodeTells.{IsTakenNode, SightTells}
+use Rattle.word_rule.specs.NodeTells.{AloneTells, IsTakenNode, SightTells}
 
 -- a lock that there is: the loader's, or that of a node
 abbrev pub IsLock : Terms → LockId → Type 0
@@ -37,6 +37,11 @@ after_version a (lock.Node n) found v = after_node_version a n found v
 abbrev pub VersionTells : Terms → LockId → ℕ → Log → Type 0
 VersionTells t lock.Loader found v = Unit {0}
 VersionTells t (lock.Node n) found v = (v.terms ≡ t) × SightTells n found v
+
+-- what it tells one that is alone
+abbrev pub LockAloneTells : LockId → ℕ → Log → Type 0
+LockAloneTells lock.Loader found v = Unit {0}
+LockAloneTells (lock.Node n) found v = AloneTells n found v
 
 -- the loader's lock was taken at a version
 abbrev pub LoaderTaken : ℕ → CallerData → CallerData → Type 0

@@ -5,7 +5,7 @@ ghost use Rattle.word_rule.specs.CallerData.{surplus};
 ghost use Rattle.word_rule.specs.Callers.{IsLockedAt};
 ghost use Rattle.word_rule.specs.Held.{held_of};
 ghost use Rattle.word_rule.specs.Logs.{after_load};
-ghost use Rattle.word_rule.specs.NodeTells.{HeldTells, HolderTells, OutTells, SightTells};
+ghost use Rattle.word_rule.specs.NodeTells.{AloneTells, HeldTells, HolderTells, OutTells, SightTells};
 ghost use Rattle.word_rule.specs.Places.{node_place};
 ghost use Rattle.word_rule.specs.Plays.{TakesNode};
 ghost use Rattle.word_rule.specs.Sights.{after_node_load, after_node_version};
@@ -49,6 +49,7 @@ impl Words {
         ensures tells { SightTells N.node result seat.old.me.0 }
         ensures held { IfSome (held_of N.node seat.old.me.0.holdings.held)
             (λ h. IsLockedAt h.version result) }
+        ensures alone { AloneTells N.node result seat.old.me.0 }
     {
         let _ = ask;
         laws::children();
@@ -66,6 +67,7 @@ impl Words {
         ensures tells { SightTells node result me.old.log }
         ensures held { IfSome (held_of node me.old.log.holdings.held)
             (λ h. IsLockedAt h.version result) }
+        ensures alone { AloneTells node result me.old.log }
     {
         self.load_version_for::<Brand>(&mut me.seat, node, ask)
     }

@@ -8,7 +8,7 @@ ghost use Rattle.word_rule.specs.CallerData.{surplus};
 ghost use Rattle.word_rule.specs.Places.{LOADER};
 ghost use Rattle.word_rule.specs.Callers.{IsLockedAt};
 ghost use Rattle.word_rule.specs.VersionLocks.{IsHeldClean, IsLock, IsLockTaken, LoaderTaken};
-ghost use Rattle.word_rule.specs.VersionLocks.{MayLetGo};
+ghost use Rattle.word_rule.specs.VersionLocks.{LockAloneTells, MayLetGo};
 ghost use Rattle.word_rule.specs.VersionLocks.{VersionTells, WasLockedAs, after_release};
 ghost use Rattle.word_rule.specs.VersionLocks.{after_release_same, after_version};
 ghost use Rattle.word_rule.specs.VersionLocks.{lock_place};
@@ -109,6 +109,7 @@ impl Words {
         ensures log { me.new ≡ record me.old { log = after_version ask lock result me.old.log } }
         ensures tells { VersionTells self.now.terms lock result me.old.log }
         ensures held { WasLockedAs lock result me.old.log }
+        ensures alone { LockAloneTells lock result me.old.log }
     {
         match lock {
             LockId::Loader => self.load_loader(me),

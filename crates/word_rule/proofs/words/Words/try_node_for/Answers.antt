@@ -12,5 +12,5 @@ compare_exchange-requires g c =
     let nodes = ap (λ k. k.terms.nodes) c.self.view_is in (
       c.requires.table ∙ sym (ap (λ k. k.table) c.self.view_is),
       omega (arith, wide, place, inside, nodes),
-      locks_node_by_bit _ _ _ _ c.requires.caller c.children.ensures.live c.children.ensures.root _ _ _ _ c.requires.about place c.requires.unlocked (subst (λ k. c.args.node < k.nodes) (sym terms) inside),
+      locks_node_by_bit _ _ _ _ c.requires.caller (record { live = c.children.ensures.live; never_root = c.children.ensures.never_root }) c.children.ensures.root _ _ _ _ c.requires.about place c.requires.unlocked (subst (λ k. c.args.node < k.nodes) (sym terms) inside),
     )
