@@ -1,5 +1,5 @@
 -- An exchange of settled contents keeps the tree, seen from one log, and what is said of nodes.
-use Rattle.std.proofs.Common.{◌≡◌, ◌≢◌, ℕ, ◌+◌, ◌<◌, ◌≤◌, ◌⊎◌, ◌↔◌, List, [], ◌∷◌, map, sym, refl, ap, ◌∙◌, subst, inl, inr, ⊎_elim, arith, ◌==◌, ◌&&◌, ◌||◌, not, nat_lt, Bool, true, false, IsTrue, true≢false, Option, Some, None, IfSome, IsSome, is_some, eq-eqb, ne_eqb, if◌then◌else◌}
+use Rattle.std.proofs.Common.{◌≡◌, ◌≢◌, ℕ, ◌+◌, ◌<◌, ◌≤◌, ◌⊎◌, List, [], ◌∷◌, map, sym, refl, ap, ◌∙◌, subst, inl, inr, ⊎_elim, arith, ◌==◌, ◌&&◌, ◌||◌, not, nat_lt, Bool, true, false, IsTrue, true≢false, Option, Some, None, IfSome, IsSome, is_some, eq-eqb, ne_eqb, if◌then◌else◌}
 use Rattle.std.proofs.lemmas.Option.{none-some}
 use Rattle.std.proofs.lemmas.List.Sums.{sum_by-cons}
 use Rattle.std.specs.List.{AllByRecursion, filter, count_by}
@@ -7,7 +7,6 @@ use mathlib.Core.Option.{some}
 use native.Mathlib.Decide.{ℕ_discrete}
 use lib.ListN.{get_elem?}
 use Rattle.reg_model.specs.declared.answer.Update.{Update}
-use Rattle.reg_model.specs.declared.span.Member.{Member}
 use Rattle.tree_shape.specs.declared.node.Frame.{Frame}
 use Rattle.tree_shape.specs.Trees.{Contents, HasEntry}
 use Rattle.tree_shape.specs.Numbers.{times, once, is_among}
@@ -146,7 +145,7 @@ all_found (g ∷ held) few = (rw (eq-eqb g.node g.node refl) refl, later held (a
     later (h ∷ hs) a b = (rw (ne_eqb g.node h.node (λ z. b.0 (sym z))) a.0, later hs a.1 b.1)
 
 module _ (laws : ChangeLaws) (t : Terms) (words : NodeWords) (views : List Log) (history : List Update) (shadow : Shadow) (r : NodesHold t words views history shadow) (id : ℕ) (v : Log) (at : get_elem? views id ≡ some v)
-    (top : ℕ) (group : ℕ → Bool) (ex : IsLawfulExchange v None top group) where
+    (update : Option Update) (top : ℕ) (group : ℕ → Bool) (ex : IsLawfulExchange v update top group) where
   abbrev fresh : ℕ → Bool
   fresh = is_fresh v.holdings.held v.holdings.out
 
@@ -235,14 +234,14 @@ module _ (laws : ChangeLaws) (t : Terms) (words : NodeWords) (views : List Log) 
     fresh_free = λ k f. (fresh_out k f).0;
   }
 
-  change_mid : IsLawfulChange shadow.settled shadow.live top group fresh mid None
-  change_mid = laws.transfer top group fresh (settled_in v.holdings.held) (marked_in v.holdings.held) (exchanged_in v group) shadow.settled shadow.live mid None ex.change same_mid
+  change_mid : IsLawfulChange shadow.settled shadow.live top group fresh mid update
+  change_mid = laws.transfer top group fresh (settled_in v.holdings.held) (marked_in v.holdings.held) (exchanged_in v group) shadow.settled shadow.live mid update ex.change same_mid
 
   reach_mid : reached_nodes top group fresh mid ≡ reached_in v top group
   reach_mid = laws.reached top group fresh (settled_in v.holdings.held) (marked_in v.holdings.held) (exchanged_in v group) shadow.settled shadow.live mid ex.change.change same_mid
 
-  change_wide : IsLawfulChange shadow.settled shadow.live top group loose mid None
-  change_wide = laws.widen shadow.settled shadow.live top group fresh loose mid None r.lawful.tree change_mid (λ k f. fresh_loose k f) (λ k l. (loose_parts k l).2)
+  change_wide : IsLawfulChange shadow.settled shadow.live top group loose mid update
+  change_wide = laws.widen shadow.settled shadow.live top group fresh loose mid update r.lawful.tree change_mid (λ k f. fresh_loose k f) (λ k l. (loose_parts k l).2)
 
   reach_wide : reached_nodes top group loose mid ≡ reached_in v top group
   reach_wide = laws.wider shadow.settled shadow.live top group fresh loose mid r.lawful.tree change_mid.change (λ k f. fresh_loose k f) (λ k l. (loose_parts k l).2) ∙ reach_mid
@@ -259,8 +258,8 @@ module _ (laws : ChangeLaws) (t : Terms) (words : NodeWords) (views : List Log) 
     fresh_free = λ k l. (loose_parts k l).2;
   }
 
-  change_last : IsLawfulChange shadow.settled shadow.live top group loose settled' None
-  change_last = laws.transfer top group loose shadow.settled shadow.live mid shadow.settled shadow.live settled' None change_wide same_last
+  change_last : IsLawfulChange shadow.settled shadow.live top group loose settled' update
+  change_last = laws.transfer top group loose shadow.settled shadow.live mid shadow.settled shadow.live settled' update change_wide same_last
 
   reaches : reached_nodes top group loose settled' ≡ reached_in v top group
   reaches = laws.reached top group loose shadow.settled shadow.live mid shadow.settled shadow.live settled' change_wide.change same_last ∙ reach_wide
@@ -268,8 +267,8 @@ module _ (laws : ChangeLaws) (t : Terms) (words : NodeWords) (views : List Log) 
   pub lawful_after : IsLawfulTree settled' live'
   lawful_after = laws.lawful shadow.settled shadow.live top group loose settled' r.lawful change_last.change change_last.filled
 
-  pub entries_after : (m : Member) → HasEntry settled' live' m ↔ HasEntry shadow.settled shadow.live m
-  entries_after = laws.update shadow.settled shadow.live top group loose settled' None r.lawful change_last
+  pub entries_after : EntriesBecome update (HasEntry shadow.settled shadow.live) (HasEntry settled' live')
+  entries_after = laws.update shadow.settled shadow.live top group loose settled' update r.lawful change_last
 
   pub live_new : (k : ℕ) → either group loose k ≡ true → live' k ≡ is_reached v top group k
   live_new k e = rw e (ap (λ xs. is_among xs k) reaches)

@@ -11,7 +11,7 @@ use Rattle.word_rule.specs.Exchange.{after_exchange, exchange, group_of, is_lawf
 use Rattle.word_rule.specs.Logs.{after_spending}
 use Rattle.word_rule.specs.Steps.{after_node_release, after_node_release_same, after_node_store, frees, stored_log}
 use Rattle.word_rule.proofs.NodeStores.{storing, storing_node, storing_version}
-use Rattle.word_rule.proofs.Settles.{mapped_held}
+use Rattle.word_rule.proofs.Settling.{mapped_held}
 use Rattle.word_rule.proofs.NodeReleases.{settle_is}
 use Rattle.word_rule.specs.Plays.{Seated}
 

@@ -33,6 +33,7 @@ pub mod ClockLoads
 pub mod InitialCallers
 pub mod InitialTable
 pub mod Exchanging
+pub mod Settling
 pub mod Settles
 pub mod VersionSteps
 pub mod NodeReleases

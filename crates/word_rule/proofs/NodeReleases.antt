@@ -34,7 +34,8 @@ use Rattle.word_rule.proofs.NodeLocks.{updated_here, updated_other}
 use Rattle.word_rule.proofs.Exchanging.{ChangeLaws, tested}
 use Rattle.word_rule.proofs.Exchanges.{DecidedLaw, exchange_decides, spelled_decides}
 use Rattle.word_rule.proofs.VersionSteps.{stepped_version}
-use Rattle.word_rule.proofs.Settles.{AgreementLaw, mapped_held, settles, spells_now}
+use Rattle.word_rule.proofs.Settling.{AgreementLaw, mapped_held}
+use Rattle.word_rule.proofs.Settles.{settles, spells_now}
 
 map_same : (held : List Holding) → map (λ h. h) held ≡ held
 map_same [] = refl
@@ -231,7 +232,7 @@ module _ (t : Terms) (slots id : ℕ) (me : Seated) (caller : me.0.role ≡ role
               found = after group (is_reached me.0 top group);
               version = refl;
               words = refl;
-              spells = spells_now t id me.0 caller s.words s.views r at laws top group ex n hn found spells;
+              spells = spells_now t id me.0 caller s.words s.views r at laws None top group ex n hn found spells;
             }
         go false is = record { lock = exchange nothing_reached nothing_reached hn; found = after nothing_reached nothing_reached; version = refl; words = refl; spells = free_spells is }
 

@@ -40,7 +40,8 @@ use Rattle.word_rule.proofs.Holders.{out_tells}
 use Rattle.word_rule.proofs.NodeLocks.{updated_here, updated_other}
 use Rattle.word_rule.proofs.Exchanging.{ChangeLaws, all_found}
 use Rattle.word_rule.proofs.Exchanges.{DecidedLaw}
-use Rattle.word_rule.proofs.Settles.{AgreementLaw, mapped_all, mapped_once, mapped_kept, mapped_head, settles}
+use Rattle.word_rule.proofs.Settling.{AgreementLaw, mapped_all, mapped_once, mapped_kept, mapped_head}
+use Rattle.word_rule.proofs.Settles.{settles}
 
 -- a lock with the word stored, where it is the node's
 abbrev pub storing : ℕ → ℕ → ℕ → Holding → Holding

@@ -1,195 +1,50 @@
 -- The settled contents of what a caller holds become what its words spell, by a lawful exchange or freely: the rule is kept, and no word changes.
-use Rattle.std.proofs.Common.{◌≡◌, ◌≢◌, ℕ, ◌+◌, ◌%◌, ◌<◌, ◌⊎◌, List, [], ◌∷◌, set, map, sym, refl, ap, ◌∙◌, subst, inl, inr, ⊎_elim, arith, ◌==◌, ◌&&◌, Bool, true, false, IsTrue, true≢false, Option, Some, None, IfSome, IsSome, is_some, option_map, not, Contains, ◌↔◌, if◌then◌else◌, eq-eqb, ne_eqb, append-nil}
-use Rattle.std.proofs.lemmas.Option.{none-some, same_Some}
-use Rattle.std.proofs.lemmas.List.Sums.{sum_by-cons}
-use Rattle.std.specs.List.{AllByRecursion, count_by}
+use Rattle.std.proofs.Common.{◌≡◌, ℕ, ◌⊎◌, List, set, sym, refl, ap, ◌∙◌, subst, inl, inr, ⊎_elim, arith, ◌&&◌, Bool, true, false, IsTrue, true≢false, Option, Some, None, IfSome, IsSome, is_some, not, Contains, ◌↔◌, if◌then◌else◌}
+use Rattle.std.proofs.lemmas.Option.{none-some}
 use mathlib.Core.Option.{some}
-use native.Mathlib.Decide.{ℕ_discrete}
 use lib.ListN.{get_elem?}
 use Rattle.tree_shape.specs.declared.node.Frame.{Frame}
 use Rattle.reg_model.specs.declared.span.Member.{Member}
+use Rattle.reg_model.specs.declared.answer.Update.{Update}
+use Rattle.reg_model.specs.History.{state_after}
 use Rattle.tree_shape.specs.NodeData.{frame_of, NodeData, entries_of}
 use Rattle.tree_shape.specs.Trees.{Contents, HasEntry}
-use Rattle.tree_shape.specs.Lawful.{IsLawfulTree}
 use Rattle.word_rule.specs.declared.log.Holdings.{Holdings}
-use Rattle.tree_shape.specs.Numbers.{times, once}
-use Rattle.tree_shape.specs.LocalChange.{either, AgreeOn}
+use Rattle.tree_shape.specs.LocalChange.{either}
 use Rattle.word_rule.specs.declared.log.Role.TheVariants as role
 use Rattle.word_rule.specs.declared.log.Terms.{Terms}
 use Rattle.word_rule.specs.declared.log.Holding.{Holding}
-use Rattle.word_rule.specs.declared.log.NodeSight.{NodeSight}
 use Rattle.word_rule.specs.declared.log.Log.{Log}
-use Rattle.word_rule.specs.Memory.{Memory, memory_of}
+use Rattle.word_rule.specs.Memory.{memory_of}
 use Rattle.word_rule.specs.Spelling.{spelled, SpellsNode}
 use Rattle.word_rule.specs.Held.{held_of, now_of, now_shape, now_in, marked_in, is_marked}
-use Rattle.word_rule.specs.Logs.{is_spent}
 use Rattle.word_rule.specs.Exchange.{is_reached, is_fresh, IsLawfulExchange, exchange, after_exchange, group_of, is_lawful, nothing_reached, settle, settle_free, top_of}
 use Rattle.tree_shape.specs.Numbers.{is_among}
 use Rattle.word_rule.proofs.Exchanges.{DecidedLaw, exchange_decides}
-use Rattle.word_rule.specs.Callers.{total, IsLockedAt}
-use Rattle.word_rule.specs.Nodes.{Shadow, NodesHold, HoldsNode, HoldingsHold, IsOpen, IsPlaced}
-use Rattle.word_rule.specs.Observations.{Stands, SightHolds, ObservationsHold}
+use Rattle.word_rule.specs.Callers.{start}
+use Rattle.word_rule.specs.Nodes.{Shadow, HoldsNode, IsPlaced}
 use Rattle.word_rule.specs.TableInvariant.{TableInvariant}
-use Rattle.word_rule.proofs.Facts.{total_set, total_same, after_step}
 use Rattle.word_rule.proofs.Each.{all_map, held_is}
-use Rattle.word_rule.proofs.Standing.{locked_is_odd, held_by}
-use Rattle.word_rule.proofs.CallersFrame.{busy}
-use Rattle.word_rule.proofs.NodesFrame.{holder_stays}
-use Rattle.word_rule.proofs.ObservationsFrame.{sight_over, observations_over}
-use Rattle.word_rule.proofs.Frames.{table_step}
-use Rattle.word_rule.proofs.Writes.{callers_over_nodes}
+use Rattle.word_rule.proofs.Standing.{held_by}
+use Rattle.word_rule.proofs.Settling.{AgreementLaw, OnSettling, mapped_all, mapped_once, mapped_kept, mapped_head, settled_table}
 use Rattle.word_rule.proofs.Exchanging.{ChangeLaws, loose, settled', live', marked_lock, group_lock, fresh_out, fresh_loose, loose_parts, reached_inside, loose_inside, lawful_after, entries_after, live_new, live_kept, settled_new, settled_kept, unheld, balance, all_found, or_left, or_right, or_cases, tested}
+
 
 and_false : (b : Bool) → (b && false) ≡ false
 and_false true = refl
 and_false false = refl
 
--- contents that agree with a lawful tree on its live nodes are one: a law of tree_shape
-abbrev pub AgreementLaw : Type 0
-AgreementLaw = (f g : Contents) (live : ℕ → Bool) → IsLawfulTree f live → AgreeOn live f g → IsLawfulTree g live
-
--- locks that are each changed but for their node
-module _ (f : Holding → Holding) (same_node : (h : Holding) → (f h).node ≡ h.node) where
-  pub mapped_all : (P : Holding → Type 0) (held : List Holding) → AllByRecursion (λ h. P (f h)) held → AllByRecursion P (map f held)
-  mapped_all P [] all = tt
-  mapped_all P (h ∷ held) all = (all.0, mapped_all P held all.1)
-
-  pub mapped_once : (k : ℕ) (held : List Holding) → count_by (λ h. h.node == k) (map f held) ≡ count_by (λ h. h.node == k) held
-  mapped_once k [] = refl
-  mapped_once k (h ∷ held) =
-      let c = sum_by-cons (λ (g : Holding). once (g.node == k)) h held in let d = sum_by-cons (λ (g : Holding). once (g.node == k)) (f h) (map f held) in
-      let same : once ((f h).node == k) ≡ once (h.node == k) = ap (λ z. once (z == k)) (same_node h) in let rest = mapped_once k held in omega (arith, c, d, same, rest)
-
-  pub mapped_held : (k : ℕ) (held : List Holding) → held_of k (map f held) ≡ option_map f (held_of k held)
-  mapped_held k [] = refl
-  mapped_held k (h ∷ held) = go (ℕ_discrete h.node k) (mapped_held k held)
-    where
-      go : Dec (h.node ≡ k) → held_of k (map f held) ≡ option_map f (held_of k held) → held_of k (map f (h ∷ held)) ≡ option_map f (held_of k (h ∷ held))
-      go (yes e) rest = rw (eq-eqb (f h).node k (same_node h ∙ e), eq-eqb h.node k e) refl
-      go (no ne) rest = rw (ne_eqb (f h).node k (λ z. ne (sym (same_node h) ∙ z)), ne_eqb h.node k ne) rest
-
-  pub mapped_kept : (k : ℕ) (held : List Holding) → IsSome (held_of k held) → IsSome (held_of k (map f held))
-  mapped_kept k held some_lock = subst IsSome (sym (mapped_held k held)) (go (held_of k held) some_lock)
-    where
-      go : (o : Option Holding) → IsSome o → IsSome (option_map f o)
-      go None h = h
-      go (Some h) e = refl
-
-  pub mapped_head : (P : ℕ → Type 0) (held : List Holding) (o : Option ℕ) → IfSome o (λ k. P k × IsSome (held_of 0 held)) → IfSome o (λ k. P k × IsSome (held_of 0 (map f held)))
-  mapped_head P held None h = tt
-  mapped_head P held (Some k) h = (h.0, mapped_kept 0 held h.1)
-
 module _ (t : Terms) (id : ℕ) (v : Log) (caller : v.role ≡ role.Caller) (words : List ℕ) (views : List Log) (r : TableInvariant t words views) (at : get_elem? views id ≡ some v) where
-  stands : is_spent v.role ≡ false
-  stands = ap is_spent caller
-
   mine_of : (k : ℕ) (h : Holding) → held_of k v.holdings.held ≡ Some h → HoldsNode t (memory_of t words).nodes r.memory.shadow id h × (h.node ≡ k)
   mine_of k h f = held_by t (memory_of t words).nodes views r.memory.history r.memory.shadow r.memory.nodes id v k h at f
 
-  not_mine : (k : ℕ) → r.memory.shadow.holder k ≢ Some id → held_of k v.holdings.held ≡ None
-  not_mine k far = go (held_of k v.holdings.held) refl
-    where
-      go : (o : Option Holding) → held_of k v.holdings.held ≡ o → held_of k v.holdings.held ≡ None
-      go None e = e
-      go (Some h) e = let l = mine_of k h e in absurd (far (ap r.memory.shadow.holder (sym l.1) ∙ l.0.is_holder))
-
-  -- These contents, with these live nodes and these holdings.
-  module _ (now : Contents) (alive : ℕ → Bool) (holdings : Holdings) where
-    abbrev pub over : Shadow
-    over = record r.memory.shadow { settled = now; live = alive }
-
-    pub record OnSettling : Type 0 where
-      pub lawful : IsLawfulTree now alive
-      pub entries : (m : Member) → HasEntry now alive m ↔ HasEntry r.memory.shadow.settled r.memory.shadow.live m
-      pub balance : (k : ℕ) → once (alive k) + times k holdings.out ≡ once (r.memory.shadow.live k) + times k v.holdings.out
-      pub mine : HoldingsHold t (memory_of t words).nodes over id holdings
-      pub kept : (k : ℕ) → IsSome (held_of k v.holdings.held) → IsSome (held_of k holdings.held)
-      -- a node that isn't held, or in which nothing was stored, stays as it was
-      pub unheld : (k : ℕ) → held_of k v.holdings.held ≡ None → (now k ≡ r.memory.shadow.settled k) × (alive k ≡ r.memory.shadow.live k)
-      pub clean : (k : ℕ) (h : Holding) → held_of k v.holdings.held ≡ Some h → h.stored ≡ false → (now k ≡ r.memory.shadow.settled k) × (alive k ≡ r.memory.shadow.live k)
-
-    module _ (o : OnSettling) where
-      abbrev w : Log
-      w = record v { holdings = holdings }
-
-      other_lock : (j : ℕ) (h : Holding) → j ≢ id → HoldsNode t (memory_of t words).nodes r.memory.shadow j h → HoldsNode t (memory_of t words).nodes over j h
-      other_lock j h far k =
-          let same = o.unheld h.node (not_mine h.node (λ e. far (same_Some _ _ (sym k.is_holder ∙ e)))) in record {
-            within = k.within;
-            is_holder = k.is_holder;
-            locked = k.locked;
-            as_now = k.as_now;
-            settled = k.settled ∙ sym same.0;
-            stored = k.stored;
-            clean = k.clean;
-            marked = lives h.mark same.1 k.marked;
-            unmarked = λ e l. k.unmarked e (sym same.1 ∙ l);
-          }
-        where
-          lives : (p : Option Frame) → alive h.node ≡ r.memory.shadow.live h.node → IfSome p (λ f. IsTrue (r.memory.shadow.live h.node) × IsPlaced h.settled f) → IfSome p (λ f. IsTrue (alive h.node) × IsPlaced h.settled f)
-          lives None life told = tt
-          lives (Some f) life told = (life ∙ told.0, told.1)
-
-      open_after : (k : ℕ) → (p : Option ℕ) → r.memory.shadow.holder k ≡ p → k < t.nodes → IsOpen ((memory_of t words).nodes.versions k) ((memory_of t words).nodes.contents k) (now k) p
-      open_after k None e less =
-          let was = subst (IsOpen ((memory_of t words).nodes.versions k) ((memory_of t words).nodes.contents k) (r.memory.shadow.settled k)) e (r.memory.nodes.unlocked k less) in
-          (was.0, subst (SpellsNode ((memory_of t words).nodes.contents k)) (sym (o.unheld k (not_mine k (λ z. none-some id (sym e ∙ z)))).0) was.1)
-      open_after k (Some j) e less = tt
-
-      nodes : NodesHold t (memory_of t words).nodes (set views id w) r.memory.history over
-      nodes = record {
-        lawful = o.lawful;
-        entries = λ x. let e = o.entries x in let p = r.memory.nodes.entries x in ((λ h. p.0 (e.0 h)), (λ h. e.1 (p.1 h)));
-        unlocked = λ k less. open_after k (r.memory.shadow.holder k) refl less;
-        holdings = after_step (λ j z. HoldingsHold t (memory_of t words).nodes over j z.holdings) views id w o.mine
-            (λ j u far there. let h = r.memory.nodes.holdings j u there in record {
-              each = all_map (HoldsNode t (memory_of t words).nodes r.memory.shadow j) (HoldsNode t (memory_of t words).nodes over j) (λ a k. other_lock j a far k) u.holdings.held h.each;
-              once = h.once;
-              few_out = h.few_out;
-              head = h.head;
-            });
-        holders = λ k. holder_stays views id v w at k (r.memory.shadow.holder k) (o.kept k) (r.memory.nodes.holders k);
-        each_once = λ k. (let a = total_set (λ z. times k z.holdings.out) views id v w at in let b = o.balance k in let p = r.memory.nodes.each_once k in omega (arith, a, b, p));
-        chain = r.memory.nodes.chain;
-      }
-
-      sights : (k : NodeSight) → SightHolds t (memory_of t words).nodes r.memory.history r.memory.shadow k → SightHolds t (memory_of t words).nodes r.memory.history over k
-      sights k p = sight_over t (memory_of t words).nodes (memory_of t words).nodes r.memory.history r.memory.history r.memory.shadow over k p.later
-          (λ st. let same = same_node (held_of k.node v.holdings.held) refl st in record { stands = st; contents = refl; settled = same.0; live = same.1 }) ([], append-nil r.memory.history) p
-        where
-          same_node : (h : Option Holding) → held_of k.node v.holdings.held ≡ h → Stands (memory_of t words).nodes.versions r.memory.shadow k → (now k.node ≡ r.memory.shadow.settled k.node) × (alive k.node ≡ r.memory.shadow.live k.node)
-          same_node None is st = o.unheld k.node is
-          same_node (Some h) is st =
-              let l = mine_of k.node h is in let ev = p.even in
-              let odd = locked_is_odd h.version ((memory_of t words).nodes.versions k.node) (subst (λ z. IsLockedAt h.version ((memory_of t words).nodes.versions z)) l.1 l.0.locked) in
-              let clean : h.stored ≡ false = l.0.stored ∙ (ap r.memory.shadow.stored l.1 ∙ ⊎_elim (λ (same : (memory_of t words).nodes.versions k.node ≡ k.version). absurd (odd (ap (λ z. z % 4) same ∙ ev))) (λ (locked : IsLockedAt k.version ((memory_of t words).nodes.versions k.node) × (r.memory.shadow.stored k.node ≡ false)). locked.1) st) in
-              o.clean k.node h is clean
-
-      -- no word changes, and of the log its holdings alone
-      pub settled_table : TableInvariant t words (set views id (record v { holdings = holdings }))
-      settled_table =
-          let m : Memory = memory_of t words in
-          let same : total (λ u. u.made) (set views id w) ≡ total (λ u. u.made) views = total_same (λ u. u.made) views id v w at refl in
-          let each : (u : Log) → ObservationsHold t m r.memory.history (total (λ z. z.made) views + 1) r.memory.shadow u → ObservationsHold t m r.memory.history (total (λ z. z.made) views + 1) over u =
-          observations_over t m m r.memory.history r.memory.history (total (λ z. z.made) views + 1) (total (λ z. z.made) views + 1) r.memory.shadow over sights (λ k h. h) ([], append-nil r.memory.history) (omega arith) in
-          let mine = each v (r.memory.observations id v at) in
-          table_step t words views r id v w at stands words m refl refl (record {
-            history = r.memory.history;
-            callers = callers_over_nodes t words views r id v w at stands m.nodes (record { terms = refl; role = refl; past = refl; receipts = refl; allowance = refl; made = refl; lineage = refl }) refl (omega arith) (busy v w caller);
-            shadow = over;
-            nodes = nodes;
-            active = r.memory.active;
-            observations = subst (λ c. (j : ℕ) (u : Log) → get_elem? (set views id w) j ≡ some u → ObservationsHold t m r.memory.history (c + 1) over u) (sym same)
-                (after_step (λ _ u. ObservationsHold t m r.memory.history (total (λ z. z.made) views + 1) over u) views id w (record { sights = mine.sights; copies = mine.copies; full = mine.full; earlier = mine.earlier }) (λ j u _ there. each u (r.memory.observations j u there)));
-          }) (λ alone. r.alone id v at alone)
-
   -- what the caller changed, where that is a lawful exchange
-  module _ (laws : ChangeLaws) (top : ℕ) (group : ℕ → Bool) (ex : IsLawfulExchange v None top group) where
+  module _ (laws : ChangeLaws) (update : Option Update) (top : ℕ) (group : ℕ → Bool) (ex : IsLawfulExchange v update top group) where
     abbrev now : ℕ → NodeData
-    now = settled' laws t (memory_of t words).nodes views r.memory.history r.memory.shadow r.memory.nodes id v at top group ex
+    now = settled' laws t (memory_of t words).nodes views r.memory.history r.memory.shadow r.memory.nodes id v at update top group ex
 
     abbrev alive : ℕ → Bool
-    alive = live' laws t (memory_of t words).nodes views r.memory.history r.memory.shadow r.memory.nodes id v at top group ex
+    alive = live' laws t (memory_of t words).nodes views r.memory.history r.memory.shadow r.memory.nodes id v at update top group ex
 
     abbrev shadow' : Shadow
     shadow' = record r.memory.shadow { settled = now; live = alive }
@@ -205,28 +60,28 @@ module _ (t : Terms) (id : ℕ) (v : Log) (caller : v.role ≡ role.Caller) (wor
 
     -- what the laws of the exchange say at these contents
     inside : (k : ℕ) → reached k ≡ true → either group (is_fresh v.holdings.held v.holdings.out) k ≡ true
-    inside = reached_inside laws t (memory_of t words).nodes views r.memory.history r.memory.shadow r.memory.nodes id v at top group ex
+    inside = reached_inside laws t (memory_of t words).nodes views r.memory.history r.memory.shadow r.memory.nodes id v at update top group ex
 
     abbrev loosely : ℕ → Bool
-    loosely = loose laws t (memory_of t words).nodes views r.memory.history r.memory.shadow r.memory.nodes id v at top group ex
+    loosely = loose laws t (memory_of t words).nodes views r.memory.history r.memory.shadow r.memory.nodes id v at update top group ex
 
     loosen : (k : ℕ) → either group (is_fresh v.holdings.held v.holdings.out) k ≡ true → either group loosely k ≡ true
-    loosen = loose_inside laws t (memory_of t words).nodes views r.memory.history r.memory.shadow r.memory.nodes id v at top group ex
+    loosen = loose_inside laws t (memory_of t words).nodes views r.memory.history r.memory.shadow r.memory.nodes id v at update top group ex
 
     new_life : (k : ℕ) → either group loosely k ≡ true → alive k ≡ reached k
-    new_life = live_new laws t (memory_of t words).nodes views r.memory.history r.memory.shadow r.memory.nodes id v at top group ex
+    new_life = live_new laws t (memory_of t words).nodes views r.memory.history r.memory.shadow r.memory.nodes id v at update top group ex
 
     old_life : (k : ℕ) → either group loosely k ≡ false → alive k ≡ r.memory.shadow.live k
-    old_life = live_kept laws t (memory_of t words).nodes views r.memory.history r.memory.shadow r.memory.nodes id v at top group ex
+    old_life = live_kept laws t (memory_of t words).nodes views r.memory.history r.memory.shadow r.memory.nodes id v at update top group ex
 
     new_content : (k : ℕ) → either group loosely k ≡ true → now k ≡ now_in v.holdings.held k
-    new_content = settled_new laws t (memory_of t words).nodes views r.memory.history r.memory.shadow r.memory.nodes id v at top group ex
+    new_content = settled_new laws t (memory_of t words).nodes views r.memory.history r.memory.shadow r.memory.nodes id v at update top group ex
 
     old_content : (k : ℕ) → either group loosely k ≡ false → now k ≡ r.memory.shadow.settled k
-    old_content = settled_kept laws t (memory_of t words).nodes views r.memory.history r.memory.shadow r.memory.nodes id v at top group ex
+    old_content = settled_kept laws t (memory_of t words).nodes views r.memory.history r.memory.shadow r.memory.nodes id v at update top group ex
 
     parts : (k : ℕ) → loosely k ≡ true → (is_some (held_of k v.holdings.held) ≡ true) × (marked_in v.holdings.held k ≡ false) × (r.memory.shadow.live k ≡ false)
-    parts = loose_parts laws t (memory_of t words).nodes views r.memory.history r.memory.shadow r.memory.nodes id v at top group ex
+    parts = loose_parts laws t (memory_of t words).nodes views r.memory.history r.memory.shadow r.memory.nodes id v at update top group ex
 
     -- a loose node that isn't reached isn't live before or after; a reached one is of the group or out
     not_reached : (k : ℕ) → group k ≡ false → is_fresh v.holdings.held v.holdings.out k ≡ false → reached k ≡ false
@@ -251,10 +106,10 @@ module _ (t : Terms) (id : ℕ) (v : Log) (caller : v.role ≡ role.Caller) (wor
       now_here = ap now_shape is
 
       live_marked : is_some h.mark ≡ true → r.memory.shadow.live k ≡ true
-      live_marked m = (marked_lock laws t (memory_of t words).nodes views r.memory.history r.memory.shadow r.memory.nodes id v at top group ex k (mark_test ∙ m)).1.1
+      live_marked m = (marked_lock laws t (memory_of t words).nodes views r.memory.history r.memory.shadow r.memory.nodes id v at update top group ex k (mark_test ∙ m)).1.1
 
       fresh_unmarked : is_fresh v.holdings.held v.holdings.out k ≡ true → is_some h.mark ≡ false
-      fresh_unmarked f = sym mark_test ∙ (parts k (fresh_loose laws t (memory_of t words).nodes views r.memory.history r.memory.shadow r.memory.nodes id v at top group ex k f)).1
+      fresh_unmarked f = sym mark_test ∙ (parts k (fresh_loose laws t (memory_of t words).nodes views r.memory.history r.memory.shadow r.memory.nodes id v at update top group ex k f)).1
 
       no_mark : is_some h.mark ≡ false → h.mark ≡ None
       no_mark = go h.mark
@@ -372,7 +227,7 @@ module _ (t : Terms) (id : ℕ) (v : Log) (caller : v.role ≡ role.Caller) (wor
               let sp = own.unmarked (no_mark m) (ap r.memory.shadow.live node ∙ kept_life re g m l) in sp ∙ ap Some (sym (stays sp))
 
     tight : (k : ℕ) → held_of k v.holdings.held ≡ None → either group loosely k ≡ false
-    tight = unheld laws t (memory_of t words).nodes views r.memory.history r.memory.shadow r.memory.nodes id v at top group ex
+    tight = unheld laws t (memory_of t words).nodes views r.memory.history r.memory.shadow r.memory.nodes id v at update top group ex
 
     -- where a sight stands, its node wasn't stored in, so it keeps its content, and neither enters nor leaves
     module _ (k : ℕ) (h : Holding) (is : held_of k v.holdings.held ≡ Some h) (clean : h.stored ≡ false) where
@@ -383,22 +238,22 @@ module _ (t : Terms) (id : ℕ) (v : Log) (caller : v.role ≡ role.Caller) (wor
       clean_life = go (tested (group k)) (tested (is_fresh v.holdings.held v.holdings.out k)) (tested (reached k)) (tested (loosely k))
         where
           go : (group k ≡ true) ⊎ (group k ≡ false) → (is_fresh v.holdings.held v.holdings.out k ≡ true) ⊎ (is_fresh v.holdings.held v.holdings.out k ≡ false) → (reached k ≡ true) ⊎ (reached k ≡ false) → (loosely k ≡ true) ⊎ (loosely k ≡ false) → alive k ≡ r.memory.shadow.live k
-          go (inl g) f (inl re) l = new_life k (or_left (group k) (loosely k) g) ∙ (re ∙ sym (group_lock laws t (memory_of t words).nodes views r.memory.history r.memory.shadow r.memory.nodes id v at top group ex k g).1.1)
+          go (inl g) f (inl re) l = new_life k (or_left (group k) (loosely k) g) ∙ (re ∙ sym (group_lock laws t (memory_of t words).nodes views r.memory.history r.memory.shadow r.memory.nodes id v at update top group ex k g).1.1)
           go (inl g) f (inr gone) l =
               let node_is = (my_lock k h is).1 in
               absurd (true≢false (sym ((held_is (λ a. IsTrue (group a.node) → reached a.node ≡ false → a.stored ≡ true) k v.holdings.held h ex.leaves is).0 (ap group node_is ∙ g) (ap reached node_is ∙ gone)) ∙ clean))
           go (inr g) (inl f) (inl re) l =
               let node_is = (my_lock k h is).1 in
               absurd (true≢false (sym ((held_is (λ a. IsTrue (is_fresh v.holdings.held v.holdings.out a.node) → IsTrue (reached a.node) → a.stored ≡ true) k v.holdings.held h ex.enters is).0 (ap (is_fresh v.holdings.held v.holdings.out) node_is ∙ f) (ap reached node_is ∙ re)) ∙ clean))
-          go (inr g) (inl f) (inr gone) l = new_life k (loosen k (or_right (group k) (is_fresh v.holdings.held v.holdings.out k) f)) ∙ (gone ∙ sym (fresh_out laws t (memory_of t words).nodes views r.memory.history r.memory.shadow r.memory.nodes id v at top group ex k f).0)
+          go (inr g) (inl f) (inr gone) l = new_life k (loosen k (or_right (group k) (is_fresh v.holdings.held v.holdings.out k) f)) ∙ (gone ∙ sym (fresh_out laws t (memory_of t words).nodes views r.memory.history r.memory.shadow r.memory.nodes id v at update top group ex k f).0)
           go (inr g) (inr f) re (inl l) = new_life k (or_right (group k) (loosely k) l) ∙ (not_reached k g f ∙ sym (parts k l).2)
           go (inr g) (inr f) re (inr l) = old_life k (rw (g, l) refl)
 
-    pub exchanged : TableInvariant t words (set views id (after_exchange v top group))
-    exchanged = settled_table now alive (after_exchange v top group).holdings (record {
-      lawful = lawful_after laws t (memory_of t words).nodes views r.memory.history r.memory.shadow r.memory.nodes id v at top group ex;
-      entries = entries_after laws t (memory_of t words).nodes views r.memory.history r.memory.shadow r.memory.nodes id v at top group ex;
-      balance = balance laws t (memory_of t words).nodes views r.memory.history r.memory.shadow r.memory.nodes id v at top group ex (r.memory.nodes.holdings id v at).once;
+    pub exchanged : (history' : List Update) → ((m : Member) → HasEntry now alive m ↔ Contains (state_after (start t) history').registered m) → OnSettling t id v caller words views r at now alive (after_exchange v top group).holdings history'
+    exchanged history' entries = record {
+      lawful = lawful_after laws t (memory_of t words).nodes views r.memory.history r.memory.shadow r.memory.nodes id v at update top group ex;
+      entries = entries;
+      balance = balance laws t (memory_of t words).nodes views r.memory.history r.memory.shadow r.memory.nodes id v at update top group ex (r.memory.nodes.holdings id v at).once;
       mine = (let h = r.memory.nodes.holdings id v at in record {
         each = mapped_all changed (λ _. refl) (HoldsNode t (memory_of t words).nodes shadow' id) v.holdings.held (all_map (λ a. held_of a.node v.holdings.held ≡ Some a) (λ a. HoldsNode t (memory_of t words).nodes shadow' id (changed a)) (λ a is. new_lock a.node a is) v.holdings.held (all_found v.holdings.held h.once));
         once = λ k. (let same = mapped_once changed (λ _. refl) k v.holdings.held in let b = h.once k in omega (arith, same, b));
@@ -408,7 +263,7 @@ module _ (t : Terms) (id : ℕ) (v : Log) (caller : v.role ≡ role.Caller) (wor
       kept = λ k h. mapped_kept changed (λ _. refl) k v.holdings.held h;
       unheld = λ k none_held. (old_content k (tight k none_held), old_life k (tight k none_held));
       clean = λ k h is c. (clean_content k h is c, clean_life k h is c);
-    })
+    }
 
   -- what isn't marked settles freely
   module _ (agreement : AgreementLaw) where
@@ -420,6 +275,9 @@ module _ (t : Terms) (id : ℕ) (v : Log) (caller : v.role ≡ role.Caller) (wor
 
     abbrev free_holdings : Holdings
     free_holdings = (settle_free v).holdings
+
+    abbrev free_shadow : Shadow
+    free_shadow = record r.memory.shadow { settled = free_now }
 
     module _ (k : ℕ) (h : Holding) (is : held_of k v.holdings.held ≡ Some h) where
       mine_k : HoldsNode t (memory_of t words).nodes r.memory.shadow id h × (h.node ≡ k)
@@ -459,7 +317,7 @@ module _ (t : Terms) (id : ℕ) (v : Log) (caller : v.role ≡ role.Caller) (wor
           go None e = refl
           go (Some f) e = absurd (true≢false e)
 
-      free_lock : HoldsNode t (memory_of t words).nodes (over free_now r.memory.shadow.live free_holdings) id (freed h)
+      free_lock : HoldsNode t (memory_of t words).nodes (free_shadow) id (freed h)
       free_lock = record {
         within = mine_k.0.within;
         is_holder = mine_k.0.is_holder;
@@ -489,16 +347,16 @@ module _ (t : Terms) (id : ℕ) (v : Log) (caller : v.role ≡ role.Caller) (wor
             (λ (m : is_some h.mark ≡ false). now_stays k h e ((mine_of k h e).0.unmarked (unmarked_none k h e m) (ap r.memory.shadow.live (mine_of k h e).1 ∙ alive))) (tested (is_some h.mark))
 
     pub freely : TableInvariant t words (set views id (settle_free v))
-    freely = settled_table free_now r.memory.shadow.live free_holdings (record {
+    freely = settled_table t id v caller words views r at free_now r.memory.shadow.live free_holdings (record {
       lawful = agreement r.memory.shadow.settled free_now r.memory.shadow.live r.memory.nodes.lawful free_live;
       entries = λ m. (
-        (λ h. (h.0, (h.1.0, subst (λ c. Contains (entries_of c) m) (free_live h.0 h.1.0) h.1.1))),
-        (λ h. (h.0, (h.1.0, subst (λ c. Contains (entries_of c) m) (sym (free_live h.0 h.1.0)) h.1.1))),
+        (λ h. (r.memory.nodes.entries m).0 (h.0, (h.1.0, subst (λ c. Contains (entries_of c) m) (free_live h.0 h.1.0) h.1.1))),
+        (λ c. let h = (r.memory.nodes.entries m).1 c in (h.0, (h.1.0, subst (λ c. Contains (entries_of c) m) (sym (free_live h.0 h.1.0)) h.1.1))),
       );
       balance = λ k. refl;
       mine = (let h = r.memory.nodes.holdings id v at in record {
-        each = mapped_all freed (λ _. refl) (HoldsNode t (memory_of t words).nodes (over free_now r.memory.shadow.live free_holdings) id) v.holdings.held
-            (all_map (λ a. held_of a.node v.holdings.held ≡ Some a) (λ a. HoldsNode t (memory_of t words).nodes (over free_now r.memory.shadow.live free_holdings) id (freed a)) (λ a is. free_lock a.node a is) v.holdings.held (all_found v.holdings.held h.once));
+        each = mapped_all freed (λ _. refl) (HoldsNode t (memory_of t words).nodes (free_shadow) id) v.holdings.held
+            (all_map (λ a. held_of a.node v.holdings.held ≡ Some a) (λ a. HoldsNode t (memory_of t words).nodes (free_shadow) id (freed a)) (λ a is. free_lock a.node a is) v.holdings.held (all_found v.holdings.held h.once));
         once = λ k. (let same = mapped_once freed (λ _. refl) k v.holdings.held in let b = h.once k in omega (arith, same, b));
         few_out = h.few_out;
         head = mapped_head freed (λ _. refl) (λ k. (memory_of t words).nodes.head ≡ k) v.holdings.held v.holdings.head h.head;
@@ -513,5 +371,11 @@ module _ (t : Terms) (id : ℕ) (v : Log) (caller : v.role ≡ role.Caller) (wor
   settles laws agreement decided = go (is_lawful v None) refl
     where
       go : (b : Bool) → is_lawful v None ≡ b → TableInvariant t words (set views id (if b then after_exchange v (top_of v None) (is_among (group_of v None)) else settle_free v))
-      go true is = exchanged laws (top_of v None) (is_among (group_of v None)) ((exchange_decides decided v None).0 is)
+      go true is =
+          let top : ℕ = top_of v None in
+          let group : ℕ → Bool = is_among (group_of v None) in
+          let ex = (exchange_decides decided v None).0 is in
+          let kept = entries_after laws t (memory_of t words).nodes views r.memory.history r.memory.shadow r.memory.nodes id v at None top group ex in
+          settled_table t id v caller words views r at (now laws None top group ex) (alive laws None top group ex) (after_exchange v top group).holdings
+          (exchanged laws None top group ex r.memory.history (λ m. let e = kept m in let p = r.memory.nodes.entries m in ((λ h. p.0 (e.0 h)), (λ c. e.1 (p.1 c)))))
       go false is = freely agreement
