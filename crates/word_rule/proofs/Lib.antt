@@ -22,6 +22,7 @@ pub mod NodeLocks
 pub mod CopyStores
 pub mod SeatNodes
 pub mod Joins
+pub mod Accepting
 pub mod Publishing
 pub mod Alone
 pub mod Refusals

@@ -1,9 +1,8 @@
 -- A publication keeps the rule: the history has an update of the loader more, and the copies change their parts.
-use Rattle.std.proofs.Common.{◌≡◌, ℕ, ◌+◌, ◌/◌, ◌%◌, ◌^◌, ◌<◌, ◌≤◌, ◌↔◌, List, [], ◌∷◌, ◌++◌, length, length-append, get_or, set, length-set, sym, refl, ap, ◌∙◌, subst, inl, inr, ⊎_elim, arith, ◌==◌, not, true, false, true≢false, Option, Some, None, option_map, IfSome, IsSomeAnd, append-nil, append_assoc, Contains, eq-eqb, ne_eqb}
+use Rattle.std.proofs.Common.{◌≡◌, ℕ, ◌+◌, ◌/◌, ◌%◌, ◌^◌, ◌<◌, ◌≤◌, ◌↔◌, List, [], ◌∷◌, ◌++◌, length, get_or, set, length-set, sym, refl, ap, ◌∙◌, subst, inl, inr, ⊎_elim, arith, ◌==◌, not, true, false, true≢false, Option, Some, None, option_map, IfSome, IsSomeAnd, Contains, eq-eqb, ne_eqb}
 use Rattle.std.proofs.lemmas.Option.{none-some, same_Some}
 use Rattle.std.proofs.lemmas.List.Sums.{sum_by_push, count_by-le-length}
 use Rattle.std.proofs.lemmas.List.Elements.{Contains-append_left, Contains-append_right, Contains-append_cases, Contains-push, Contains-push_cases}
-use Rattle.std.specs.List.{AllByRecursion}
 use mathlib.Core.Option.{none, some}
 use mathlib.Core.List.{IsPrefix}
 use lib.ListN.{get_elem?}
@@ -11,8 +10,6 @@ use Rattle.atomic_table.specs.Table.{step, keeps, Allows}
 use Rattle.atomic_table.proofs.Lists.{set_here}
 use Rattle.reg_model.specs.State.{State, at_base}
 use Rattle.reg_model.specs.History.{Fits, after, state_after}
-use Rattle.reg_model.specs.PlainRegistryData.{Step}
-use Rattle.reg_model.specs.Receipt.{moment, accepted, made, Holds, HadTenMembers}
 use Rattle.reg_model.specs.declared.span.Member.{Member}
 use Rattle.reg_model.specs.declared.answer.Update.{Update}
 use Rattle.reg_model.specs.declared.answer.Update.TheVariants as update
@@ -20,8 +17,7 @@ use Rattle.reg_model.specs.declared.answer.Loading.TheVariants as loading
 use Rattle.reg_model.specs.declared.answer.Removed.TheVariants as removed
 use Rattle.reg_model.specs.declared.answer.Receipt.{Receipt}
 use Rattle.reg_model.specs.declared.answer.Receipt.TheVariants as receipt
-use Rattle.reg_model.proofs.Histories.{IsHistory-append, state_after-append}
-use Rattle.reg_model.proofs.Receipts.{step_holds}
+use Rattle.reg_model.proofs.Histories.{state_after-append}
 use Rattle.tree_shape.specs.Numbers.{once}
 use Rattle.tree_shape.specs.Trees.{HasEntry}
 use Rattle.word_rule.specs.declared.log.Role.TheVariants as role
@@ -30,34 +26,23 @@ use Rattle.word_rule.specs.declared.log.LoaderHolding.{LoaderHolding}
 use Rattle.word_rule.specs.declared.log.Log.{Log}
 use Rattle.word_rule.specs.Places.{upper}
 use Rattle.word_rule.specs.Memory.{Memory, memory_of}
-use Rattle.word_rule.specs.Logs.{is_spent, weight, turns}
+use Rattle.word_rule.specs.Logs.{is_spent}
 use Rattle.word_rule.specs.Steps.{IsDone, exchange_copies, after_publish, AfterPublish, Publishes, MayPublish}
-use Rattle.word_rule.specs.Callers.{total, CallersHold, LogHolds, ReceiptsHold, HoldsLoader, AtLoader, LoaderLock, IsOfTerms, is_of_loader, dones_in, number_of, start}
-use Rattle.word_rule.specs.Nodes.{Shadow, NodesHold}
-use Rattle.word_rule.specs.Copies.{ListsAll, ListsMembers, ActiveCopy, CopySightHolds}
-use Rattle.word_rule.specs.Observations.{SightHolds, WasFull, ObservationsHold, last_moment}
+use Rattle.word_rule.specs.Callers.{total, CallersHold, HoldsLoader, AtLoader, LoaderLock, is_of_loader, start}
+use Rattle.word_rule.specs.Nodes.{NodesHold}
+use Rattle.word_rule.specs.Copies.{ListsAll, ListsMembers, ActiveCopy}
+use Rattle.word_rule.specs.Observations.{ObservationsHold}
 use Rattle.word_rule.specs.TableInvariant.{TableInvariant}
 use Rattle.word_rule.specs.Plays.{Seated, publishes}
-use Rattle.word_rule.proofs.Facts.{total_set, total_same, part_of_total, after_step, within}
-use Rattle.word_rule.proofs.Each.{all_map, all_append, some_of, some_with}
+use Rattle.word_rule.proofs.Facts.{total_same, after_step, within}
+use Rattle.word_rule.proofs.Each.{some_of, some_with}
 use Rattle.word_rule.proofs.Memories.{set_clock}
-use Rattle.word_rule.proofs.CallersFrame.{lineages_over, busy}
 use Rattle.word_rule.proofs.NodesFrame.{nodes_same}
 use Rattle.word_rule.proofs.ObservationsFrame.{observations_over, sight_over}
 use Rattle.word_rule.proofs.Frames.{Sit, table_step, still_after_turn}
 use Rattle.word_rule.proofs.Listings.{lists_same, contains_filter, filter_contains, find_contains, contains_find, state_fixed, loaded_spans, loaded_disjoint, disjoint_fit, free_of}
-use Rattle.word_rule.proofs.Receiving.{all_hold_snoc, in_order_next, done_snoc, number_snoc}
-use Rattle.word_rule.proofs.Joins.{record_later, records_later}
+use Rattle.word_rule.proofs.Accepting.{Accepts, callers_after, few_updates, observations_received}
 use Rattle.word_rule.proofs.CopyStores.{other_loader, loader_held}
-
--- An update of the loader that fits, as the one after so many, has its receipt.
-pub record Accepts (u : Update) (s : State) (n : ℕ) (r : Receipt) : Type 0 where
-  pub is_done : IsDone u (n + 1) s r
-  pub accepts : accepted r ≡ Some u
-  pub number : moment r ≡ n + 1
-  pub makes : made r ≡ u ∷ []
-  pub one_step : Step (record { state = s; updates = n }) r (record { state = after u s; updates = n + 1 })
-  pub no_full : (st : State) (history : List Update) (since : ℕ) → HadTenMembers st history since r
 
 some_and : {A : Type 0} (P : A → Type 0) (o : Option A) (a : A) → o ≡ Some a → P a → IsSomeAnd o P
 some_and P None a e p = absurd (none-some a e)
@@ -110,23 +95,6 @@ answered t s (update.Unload base) before new n p fit =
     )
 answered t s (update.Register m) before new n p fit = absurd p
 answered t s (update.Deregister base) before new n p fit = absurd p
-
--- what a log has observed stays where it gets receipts: they end what its loads told of fullness
-pub observations_received : (t : Terms) (m : Memory) (history : List Update) (callers : ℕ) (shadow : Shadow) (v w : Log) (more : List Receipt) → 0 < length more → w.receipts.own ≡ v.receipts.own ++ more → w.sights ≡ v.sights → w.trace.loads ≡ v.trace.loads → turns v.trace ≤ turns w.trace
-    → ObservationsHold t m history callers shadow v → ObservationsHold t m history callers shadow w
-observations_received t m history callers shadow v w more some_more own sights loads turn r =
-    let len : length w.receipts.own ≡ length v.receipts.own + length more = ap length own ∙ length-append v.receipts.own more in record {
-      sights = subst (λ k. AllByRecursion (SightHolds t m.nodes history shadow) k.nodes) (sym sights) r.sights;
-      copies = subst (λ k. IfSome k.copies (CopySightHolds t m.clock m.copies)) (sym sights) r.copies;
-      full = subst (AllByRecursion (WasFull t history callers w.receipts.own)) (sym loads)
-          (all_map (λ l. (l.turns ≤ turns v.trace) × (l.receipts ≤ length v.receipts.own)) (WasFull t history callers w.receipts.own)
-          (λ l e. record { count = λ same. absurd (let a = e.1 in omega (arith, a, same, len, some_more)); head = λ same _ _ _. absurd (let a = e.1 in omega (arith, a, same, len, some_more)) }) v.trace.loads r.earlier);
-      earlier = subst (AllByRecursion (λ l. (l.turns ≤ turns w.trace) × (l.receipts ≤ length w.receipts.own))) (sym loads)
-          (all_map (λ l. (l.turns ≤ turns v.trace) × (l.receipts ≤ length v.receipts.own)) (λ l. (l.turns ≤ turns w.trace) × (l.receipts ≤ length w.receipts.own)) (λ l e. let a = e.0 in let b = e.1 in (omega (arith, a, turn), omega (arith, b, len))) v.trace.loads r.earlier);
-    }
-
-prefix_all : (a b c : List Update) → IsPrefix a b → IsPrefix a (b ++ c)
-prefix_all a b c p = (p.0 ++ c, sym (append_assoc a p.0 c) ∙ ap (λ z. z ++ c) p.1)
 
 module _ (t : Terms) (slots id : ℕ) (me : Seated) (caller : me.0.role ≡ role.Caller) where
   abbrev Rule : Sit → Type 0
@@ -183,18 +151,15 @@ module _ (t : Terms) (slots id : ℕ) (me : Seated) (caller : me.0.role ≡ role
     abbrev w : Log
     w = after_publish u r.memory.history answer_of.0 me.0
 
-    later_state : state_after (start t) (r.memory.history ++ u ∷ []) ≡ after u (state_after (start t) r.memory.history)
-    later_state = state_after-append (start t) r.memory.history (u ∷ [])
-
-    len : length (r.memory.history ++ u ∷ []) ≡ length r.memory.history + 1
-    len = length-append r.memory.history (u ∷ [])
+    later : state_after (start t) (r.memory.history ++ u ∷ []) ≡ after u (state_after (start t) r.memory.history)
+    later = state_after-append (start t) r.memory.history (u ∷ [])
 
     grows : IsPrefix r.memory.history (r.memory.history ++ u ∷ [])
     grows = (u ∷ [], refl)
 
     -- no more updates than 2^26, so neither half of the clock runs over
     small : length r.memory.history < 67108864
-    small = let o = r.memory.callers.room in let d = may.due in let q = part_of_total (λ v. v.budget.allowance) s.views id me.0 at in omega (arith, o, d, q)
+    small = few_updates t (memory_of t s.words) s.views r.memory.history r.memory.callers id me.0 caller at u may.due may.member step_fits.0 answer_of.0 answer_of.1
 
     low : get_or s.words 0 0 % 4294967296 ≡ length r.memory.history
     low = r.memory.callers.updates
@@ -208,54 +173,8 @@ module _ (t : Terms) (slots id : ℕ) (me : Seated) (caller : me.0.role ≡ role
     pub no_overflow : (get_or s.words 0 0 + 4294967297) % 2 ^ 64 ≡ get_or s.words 0 0 + 4294967297
     no_overflow = let a = high in let b = small in omega (arith, a, b)
 
-    prefix : IsPrefix me.0.past (r.memory.history ++ u ∷ [])
-    prefix = prefix_all me.0.past r.memory.history (u ∷ []) (r.memory.callers.each id me.0 at).begins
-
-    seen : length me.0.past ≤ length r.memory.history
-    seen = let b = (r.memory.callers.each id me.0 at).begins in let sum : length me.0.past + length b.0 ≡ length r.memory.history = sym (length-append me.0.past b.0) ∙ ap length b.1 in omega (arith, sum)
-
-    holds_answer : (callers since : ℕ) → Holds (start t) (r.memory.history ++ u ∷ []) t.nodes callers since answer_of.0
-    holds_answer callers since = subst (λ k. Holds (start t) (r.memory.history ++ k) t.nodes callers since answer_of.0) told.makes
-        (step_holds (start t) r.memory.history (record { state = state_after (start t) r.memory.history; updates = length r.memory.history }) (record { state = after u (state_after (start t) r.memory.history); updates = length r.memory.history + 1 }) t.nodes callers since answer_of.0
-        (record { lawful = r.memory.callers.lawful; state = refl; updates = refl }) told.one_step (told.no_full (start t) (r.memory.history ++ made answer_of.0) since)).1
-
-    receipts : (callers : ℕ) → ReceiptsHold t (r.memory.history ++ u ∷ []) callers w.receipts
-    receipts callers =
-        let log = r.memory.callers.each id me.0 at in
-        let own = record_later t me.0.past (r.memory.history ++ u ∷ []) _ callers prefix me.0.receipts.own log.receipts.own in
-        let number = told.number in let before = seen in record {
-          own = (
-            all_hold_snoc t (r.memory.history ++ u ∷ []) callers 0 me.0.receipts.own answer_of.0 own.0 (holds_answer callers (last_moment 0 me.0.receipts.own)),
-            in_order_next t me.0.past _ me.0.receipts.own answer_of.0 u log.receipts.own.0 log.receipts.own.1 told.accepts (omega (arith, number, before)),
-          );
-          joined = records_later t me.0.past (r.memory.history ++ u ∷ []) _ callers prefix me.0.receipts.joined log.receipts.joined;
-        }
-
     made_same : total (λ v. v.made) (set s.views id w) ≡ total (λ v. v.made) s.views
     made_same = total_same (λ v. v.made) s.views id me.0 w at refl
-
-    each : (c : ℕ) → c ≡ total (λ v. v.made) s.views + 1 → (j : ℕ) (v : Log) → get_elem? (set s.views id w) j ≡ some v → LogHolds t (r.memory.history ++ u ∷ []) c v
-    each c is_c = after_step (λ _ v. LogHolds t (r.memory.history ++ u ∷ []) c v) s.views id w
-        (let log = r.memory.callers.each id me.0 at in record {
-          terms = λ _. log.terms stands;
-          begins = ([], append-nil (r.memory.history ++ u ∷ []));
-          receipts = receipts c;
-          lineage = log.lineage;
-          idle = busy me.0 w caller;
-        })
-        (λ j v _ there. let log = subst (λ k. LogHolds t r.memory.history k v) (sym is_c) (r.memory.callers.each j v there) in record {
-          terms = log.terms;
-          begins = prefix_all v.past r.memory.history (u ∷ []) log.begins;
-          receipts = log.receipts;
-          lineage = log.lineage;
-          idle = log.idle;
-        })
-
-    numbers : (n : ℕ) → total (dones_in n) (set s.views id w) ≡ number_of (length (r.memory.history ++ u ∷ [])) n
-    numbers n =
-        let a = total_set (dones_in n) s.views id me.0 w at in let d = done_snoc n (length r.memory.history + 1) me.0.receipts.own answer_of.0 u told.accepts told.number in
-        let o = r.memory.callers.numbers n in let q = number_snoc (length r.memory.history) n in
-        let sum : total (dones_in n) (set s.views id w) ≡ number_of (length r.memory.history + 1) n = omega (arith, a, d, o, q) in sum ∙ ap (λ k. number_of k n) (sym len)
 
     loader_now : w.loader ≡ Some (exchange_copies h)
     loader_now = ap (option_map exchange_copies) is
@@ -274,27 +193,16 @@ module _ (t : Terms) (slots id : ℕ) (me : Seated) (caller : me.0.role ≡ role
         (λ j v far there. other_loader (memory_of t s.words) m' r.memory.callers.holder j v.loader (λ e. far (same_Some _ _ (sym e ∙ mine.0))) (r.memory.callers.at_loader j v there))
 
     callers : CallersHold t m' (set s.views id w) (r.memory.history ++ u ∷ [])
-    callers = record {
-      holder = r.memory.callers.holder;
-      lawful = IsHistory-append (start t) r.memory.history (u ∷ []) r.memory.callers.lawful (step_fits.0, tt);
-      updates = (let a = low in let b = small in let l = len in omega (arith, a, b, l));
-      published = (let a = higher in let p = r.memory.callers.published in let q = sum_by_push (λ x. once (is_of_loader x)) r.memory.history u in let b : once (is_of_loader u) ≡ 1 = ap once step_fits.2 in omega (arith, a, p, q, b));
-      terms = r.memory.callers.terms;
-      members = all_append (IsOfTerms t) r.memory.history (u ∷ []) r.memory.callers.members (may.member, tt);
-      room = (let a = total_set (λ v. v.budget.allowance) s.views id me.0 w at in let o = r.memory.callers.room in let d = may.due in let l = len in omega (arith, a, o, d, l));
-      numbers = numbers;
-      each = each (total (λ v. v.made) (set s.views id w) + 1) (ap (λ k. k + 1) made_same);
-      weights = (let a = total_same (λ v. weight v.role) s.views id me.0 w at refl in let b = made_same in let o = r.memory.callers.weights in omega (arith, a, b, o));
-      loader = subst (LoaderLock (memory_of t s.words).loader (set s.views id w)) (sym mine.0) (w, exchange_copies h, (set_here s.views id w (within s.views id me.0 at), loader_now));
-      at_loader = at_lock;
-      counted = (let a = total_same (λ v. v.budget.credit) s.views id me.0 w at refl in let o = r.memory.callers.counted in omega (arith, a, o));
-      lineages = lineages_over s.views r.memory.callers.lineages id me.0 w at refl refl (λ gone. absurd (true≢false (sym gone ∙ stands)));
-    }
+    callers = callers_after t (memory_of t s.words) s.views r.memory.history r.memory.callers id me.0 caller at u may.due may.member step_fits.0 answer_of.0 answer_of.1 me.0.holdings w.loader (get_or s.words 0 0 + 4294967297)
+        (let a = low in let b = small in omega (arith, a, b))
+        (let a = higher in let p = r.memory.callers.published in let q = sum_by_push (λ x. once (is_of_loader x)) r.memory.history u in let b : once (is_of_loader u) ≡ 1 = ap once step_fits.2 in omega (arith, a, p, q, b))
+        (subst (LoaderLock (memory_of t s.words).loader (set s.views id w)) (sym mine.0) (w, exchange_copies h, (set_here s.views id w (within s.views id me.0 at), loader_now)))
+        at_lock
 
     nodes : NodesHold t (memory_of t s.words).nodes (set s.views id w) (r.memory.history ++ u ∷ []) r.memory.shadow
     nodes =
         let n = nodes_same s.views id me.0 w at t (memory_of t s.words).nodes r.memory.history r.memory.shadow refl r.memory.nodes in
-        let kept : (state_after (start t) (r.memory.history ++ u ∷ [])).registered ≡ (state_after (start t) r.memory.history).registered = ap (λ st. st.registered) later_state ∙ step_fits.3 in record {
+        let kept : (state_after (start t) (r.memory.history ++ u ∷ [])).registered ≡ (state_after (start t) r.memory.history).registered = ap (λ st. st.registered) later ∙ step_fits.3 in record {
           lawful = n.lawful;
           entries = λ x. subst (λ xs. HasEntry r.memory.shadow.settled r.memory.shadow.live x ↔ Contains xs x) (sym kept) (n.entries x);
           unlocked = n.unlocked;
@@ -308,7 +216,7 @@ module _ (t : Terms) (slots id : ℕ) (me : Seated) (caller : me.0.role ≡ role
     active = let up = higher in record {
       members = may.after;
       lists = subst (λ ws. ListsMembers ws may.after) (mine.1.spare ∙ ap (memory_of t s.words).copies (omega (arith, up))) may.spare;
-      same = λ x. subst (λ st. Contains may.after x ↔ Contains st.loaded x) (sym later_state) (step_fits.1 x);
+      same = λ x. subst (λ st. Contains may.after x ↔ Contains st.loaded x) (sym later) (step_fits.1 x);
     }
 
     over : (v : Log) → ObservationsHold t (memory_of t s.words) r.memory.history (total (λ z. z.made) s.views + 1) r.memory.shadow v → ObservationsHold t m' (r.memory.history ++ u ∷ []) (total (λ z. z.made) s.views + 1) r.memory.shadow v
