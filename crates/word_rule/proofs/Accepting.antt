@@ -1,14 +1,20 @@
 -- An update is accepted: the history has it at its end, its caller has the receipt, and the callers' part of the rule is kept.
-use Rattle.std.proofs.Common.{◌≡◌, ℕ, ◌+◌, ◌<◌, ◌≤◌, List, [], ◌∷◌, ◌++◌, length, length-append, set, sym, refl, ap, ◌∙◌, subst, arith, Option, Some, false, IfSome, append-nil, append_assoc, true≢false}
+use Rattle.std.proofs.Common.{◌≡◌, ℕ, ◌+◌, ◌<◌, ◌≤◌, List, [], ◌∷◌, ◌++◌, length, length-append, set, sym, refl, ap, ◌∙◌, subst, arith, Option, Some, None, IsSomeAnd, false, IfSome, append-nil, append_assoc, true≢false}
 use Rattle.std.specs.List.{AllByRecursion}
 use mathlib.Core.Option.{some}
 use mathlib.Core.List.{IsPrefix}
 use lib.ListN.{get_elem?}
-use Rattle.reg_model.specs.State.{State}
+use Rattle.reg_model.specs.State.{State, at_base}
 use Rattle.reg_model.specs.History.{Fits, after, state_after}
 use Rattle.reg_model.specs.PlainRegistryData.{Step}
 use Rattle.reg_model.specs.Receipt.{moment, accepted, made, Holds, HadTenMembers}
 use Rattle.reg_model.specs.declared.answer.Update.{Update}
+use Rattle.reg_model.specs.declared.answer.Update.TheVariants as update
+use Rattle.reg_model.specs.declared.answer.Inserted.TheVariants as inserted
+use Rattle.reg_model.specs.declared.answer.Loading.TheVariants as loading
+use Rattle.reg_model.specs.declared.answer.Removed.TheVariants as removed
+use Rattle.reg_model.specs.declared.answer.Receipt.TheVariants as receipt
+use Rattle.std.proofs.lemmas.Option.{none-some, same_Some}
 use Rattle.reg_model.specs.declared.answer.Receipt.{Receipt}
 use Rattle.reg_model.proofs.Histories.{IsHistory-append}
 use Rattle.reg_model.proofs.Receipts.{step_holds}
@@ -26,7 +32,7 @@ use Rattle.word_rule.specs.Nodes.{Shadow}
 use Rattle.word_rule.specs.Copies.{CopySightHolds}
 use Rattle.word_rule.specs.Observations.{SightHolds, WasFull, ObservationsHold, last_moment}
 use Rattle.word_rule.proofs.Facts.{total_set, total_same, part_of_total, after_step}
-use Rattle.word_rule.proofs.Each.{all_map, all_append}
+use Rattle.word_rule.proofs.Each.{all_map, all_append, some_of}
 use Rattle.word_rule.proofs.CallersFrame.{lineages_over, busy}
 use Rattle.word_rule.proofs.Receiving.{all_hold_snoc, in_order_next, done_snoc, number_snoc}
 use Rattle.word_rule.proofs.Joins.{record_later, records_later}
@@ -39,6 +45,44 @@ pub record Accepts (u : Update) (s : State) (n : ℕ) (r : Receipt) : Type 0 whe
   pub makes : made r ≡ u ∷ []
   pub one_step : Step (record { state = s; updates = n }) r (record { state = after u s; updates = n + 1 })
   pub no_full : (st : State) (history : List Update) (since : ℕ) → HadTenMembers st history since r
+
+some_and : {A : Type 0} (P : A → Type 0) (o : Option A) (a : A) → o ≡ Some a → P a → IsSomeAnd o P
+some_and P None a e p = absurd (none-some a e)
+some_and P (Some b) a e p = subst P (sym (same_Some _ _ e)) p
+
+pub answered : (s : State) (u : Update) (n : ℕ) → Fits u s → (r : Receipt) × Accepts u s n r
+answered s (update.Register m) n fit = (
+  receipt.Register m (inserted.Done (n + 1)),
+  record { is_done = refl; accepts = refl; number = refl; makes = refl; one_step = record { right = tt; changes = (fit, refl, refl) }; no_full = λ st history since. tt },
+)
+answered s (update.Load m) n fit = (
+  receipt.Load m (loading.Done (n + 1)),
+  record { is_done = refl; accepts = refl; number = refl; makes = refl; one_step = record { right = tt; changes = (fit, refl, refl) }; no_full = λ st history since. tt },
+)
+answered s (update.Deregister base) n fit =
+    let m = some_of (at_base base s.registered) fit in (
+      receipt.Deregister base (removed.Done (n + 1) m.0),
+      record {
+        is_done = some_and (λ x. receipt.Deregister base (removed.Done (n + 1) m.0) ≡ receipt.Deregister base (removed.Done (n + 1) x)) (at_base base s.registered) m.0 m.1 refl;
+        accepts = refl;
+        number = refl;
+        makes = refl;
+        one_step = record { right = m.1; changes = (fit, refl, refl) };
+        no_full = λ st history since. tt;
+      },
+    )
+answered s (update.Unload base) n fit =
+    let m = some_of (at_base base s.loaded) fit in (
+      receipt.Unload base (removed.Done (n + 1) m.0),
+      record {
+        is_done = some_and (λ x. receipt.Unload base (removed.Done (n + 1) m.0) ≡ receipt.Unload base (removed.Done (n + 1) x)) (at_base base s.loaded) m.0 m.1 refl;
+        accepts = refl;
+        number = refl;
+        makes = refl;
+        one_step = record { right = m.1; changes = (fit, refl, refl) };
+        no_full = λ st history since. tt;
+      },
+    )
 
 -- what a log has observed stays where it gets receipts: they end what its loads told of fullness
 pub observations_received : (t : Terms) (m : Memory) (history : List Update) (callers : ℕ) (shadow : Shadow) (v w : Log) (more : List Receipt) → 0 < length more → w.receipts.own ≡ v.receipts.own ++ more → w.sights ≡ v.sights → w.trace.loads ≡ v.trace.loads → turns v.trace ≤ turns w.trace

@@ -46,7 +46,7 @@ use Rattle.word_rule.proofs.Memories.{set_same}
 use Rattle.word_rule.proofs.CallersFrame.{lineages_over, lock_stays, busy}
 use Rattle.word_rule.proofs.NodesFrame.{nodes_same}
 use Rattle.word_rule.proofs.Frames.{Sit, table_step, still_after_load}
-use Rattle.word_rule.proofs.Listings.{ascending_disjoint, contains_find, disjoint_fit, lists_same, loaded_members, loaded_spans, none_registered, start_lawful, state_fixed}
+use Rattle.word_rule.proofs.Listings.{ascending_disjoint, contains_find, disjoint_fit, lists_same, loaded_members, loaded_spans, none_registered, registered_members, start_lawful, state_fixed}
 use Rattle.word_rule.proofs.Joins.{records_later}
 use Rattle.word_rule.proofs.Alone.{seen_all}
 
@@ -282,7 +282,8 @@ module _ (law : LeafLaw) (t : Terms) (slots id : ℕ) (me : Seated) (caller : me
       members = all_append (IsMemberOf t) (state_after (start t) r.memory.history).fixed (state_after (start t) r.memory.history).loaded
           (subst (AllByRecursion (IsMemberOf t)) (sym (state_fixed (start t) r.memory.history).0) r.memory.callers.terms.members)
           (loaded_members t (start t) r.memory.history r.memory.callers.members tt);
-      registered = none_registered t (start t) r.memory.history r.memory.callers.members refl;
+      entries = registered_members t (start t) r.memory.history r.memory.callers.members tt;
+      registered = λ all. none_registered (start t) r.memory.history all refl;
       copies = seen_copy me.0.sights.copies (r.memory.observations id me.0 at).copies;
       holder = held_copy me.0.loader (r.memory.callers.at_loader id me.0 at);
       alone = λ alone.

@@ -1,7 +1,9 @@
 -- The versions that a caller keeps plainly are those of its locks, after a lock is let go.
-use Rattle.std.proofs.Common.{◌≡◌, ◌≢◌, ℕ, ◌+◌, ◌*◌, ◌^◌, ◌<◌, List, [], ◌∷◌, length, get_or, map, sym, refl, ap, ◌∙◌, subst, arith, Bool, true, false, Option, Some, None, IfSome, option_map, eq-eqb, ne_eqb, if◌then◌else◌}
+use Rattle.std.proofs.Common.{◌≡◌, ◌≢◌, ℕ, ◌+◌, ◌*◌, ◌^◌, ◌<◌, ◌%◌, List, [], ◌∷◌, length, length-append, get_or, map, sym, refl, ap, ◌∙◌, subst, arith, Bool, true, false, Option, Some, None, IfSome, option_map, eq-eqb, ne_eqb, if◌then◌else◌}
 use native.Mathlib.Decide.{ℕ_discrete}
+use Rattle.reg_model.specs.declared.answer.Update.{Update}
 use Rattle.word_rule.specs.declared.log.Holding.{Holding}
+use Rattle.word_rule.specs.Commits.{AfterCommit}
 use Rattle.word_rule.specs.declared.log.Log.{Log}
 use Rattle.word_rule.specs.declared.lineage.Names.{Names}
 use Rattle.word_rule.specs.CallerInvariant.{AreVersionsOf, IsCaller, IsVersionAt}
@@ -9,7 +11,7 @@ use Rattle.word_rule.specs.Held.{held_of, without_lock}
 use Rattle.tree_shape.specs.Numbers.{is_among}
 use Rattle.word_rule.specs.Exchange.{after_exchange, exchange, group_of, is_lawful, is_reached, nothing_reached, settle, settle_free, top_of}
 use Rattle.word_rule.specs.Logs.{after_spending}
-use Rattle.word_rule.specs.Steps.{after_node_release, after_node_release_same, after_node_store, frees, stored_log}
+use Rattle.word_rule.specs.Steps.{after_update, after_node_release, after_node_release_same, after_node_store, frees, stored_log}
 use Rattle.word_rule.proofs.NodeStores.{storing, storing_node, storing_version}
 use Rattle.word_rule.proofs.Settling.{mapped_held}
 use Rattle.word_rule.proofs.NodeReleases.{settle_is}
@@ -65,18 +67,18 @@ versions_mapped f same_node same_version versions held kept k = subst (λ o. IfS
     go None h = tt
     go (Some h) told = subst (λ z. (k + 1 < length versions) × (z ≡ get_or versions (k + 1) 0) × (z < 2 ^ 63)) (sym (same_version h)) told
 
-versions_settled : (versions : List ℕ) (v : Log) → AreVersionsOf versions v.holdings.held → AreVersionsOf versions (settle None v).holdings.held
-versions_settled versions v kept = go (is_lawful v None)
+versions_settled : (update : Option Update) (versions : List ℕ) (v : Log) → AreVersionsOf versions v.holdings.held → AreVersionsOf versions (settle update v).holdings.held
+versions_settled update versions v kept = go (is_lawful v update)
   where
-    go : (b : Bool) → AreVersionsOf versions (if b then after_exchange v (top_of v None) (is_among (group_of v None)) else settle_free v).holdings.held
-    go true = versions_mapped (exchange (is_among (group_of v None)) (is_reached v (top_of v None) (is_among (group_of v None)))) (λ _. refl) (λ _. refl) versions v.holdings.held kept
+    go : (b : Bool) → AreVersionsOf versions (if b then after_exchange v (top_of v update) (is_among (group_of v update)) else settle_free v).holdings.held
+    go true = versions_mapped (exchange (is_among (group_of v update)) (is_reached v (top_of v update) (is_among (group_of v update)))) (λ _. refl) (λ _. refl) versions v.holdings.held kept
     go false = versions_mapped (exchange nothing_reached nothing_reached) (λ _. refl) (λ _. refl) versions v.holdings.held kept
 
 -- a caller that let go of a node with the next version
 pub caller_let_go : (left seen : ℕ) (versions : List ℕ) (names : Names) (me me' : Seated) (n : ℕ) → me'.0 ≡ after_node_release n me.0 → me'.1 ≡ me.1 → 64 * left < me.0.budget.credit → IsCaller left seen versions names me → IsCaller left seen versions names me'
 caller_let_go left seen versions names me me' n is bare some_credit c =
     let u : Log = record me.0 { holdings = (settle None me.0).holdings } in
-    let same : me'.0 ≡ record (after_node_release_same n u) { budget = after_spending u.budget } = is ∙ ap (λ (z : Log). record (after_node_release_same n z) { budget = after_spending z.budget }) (settle_is me.0) in
+    let same : me'.0 ≡ record (after_node_release_same n u) { budget = after_spending u.budget } = is ∙ ap (λ (z : Log). record (after_node_release_same n z) { budget = after_spending z.budget }) (settle_is None me.0) in
     subst (λ (z : Log). IsCaller left seen versions names (z, me'.1)) (sym same) (record {
       bare = bare ∙ c.bare;
       role = c.role;
@@ -87,7 +89,7 @@ caller_let_go left seen versions names me me' n is bare some_credit c =
       names_are = c.names_are;
       wide = c.wide;
       loader = c.loader;
-      nodes = versions_left versions n (settle None me.0).holdings.held (versions_settled versions me.0 c.nodes);
+      nodes = versions_left versions n (settle None me.0).holdings.held (versions_settled None versions me.0 c.nodes);
     })
 
 -- a caller that stored in a node
@@ -111,7 +113,7 @@ caller_stored left seen versions names me me' n at value is bare c =
 
     go : (b : Bool) → IsCaller left seen versions names ((if b then settle None (stored_log n at value me.0) else stored_log n at value me.0), me'.1)
     go false = stored
-    go true = subst (λ (z : Log). IsCaller left seen versions names (z, me'.1)) (sym (settle_is (stored_log n at value me.0))) (record {
+    go true = subst (λ (z : Log). IsCaller left seen versions names (z, me'.1)) (sym (settle_is None (stored_log n at value me.0))) (record {
       bare = bare ∙ c.bare;
       role = c.role;
       seen_all = c.seen_all;
@@ -121,5 +123,22 @@ caller_stored left seen versions names me me' n at value is bare c =
       names_are = c.names_are;
       wide = c.wide;
       loader = c.loader;
-      nodes = versions_settled versions (stored_log n at value me.0) stored.nodes;
+      nodes = versions_settled None versions (stored_log n at value me.0) stored.nodes;
+    })
+
+-- a caller that committed an update
+pub caller_committed : (left seen seen' : ℕ) (versions : List ℕ) (names : Names) (me me' : Seated) (u : Update) (found : ℕ) → AfterCommit u found me.0 me'.0 → me'.1 ≡ me.1 → left < me.0.budget.allowance → seen' ≡ found % 4294967296 + 1 → IsCaller left seen versions names me → IsCaller left seen' versions names me'
+caller_committed left seen seen' versions names me me' u found (before, r, (tells, done, is)) bare some_due now c =
+    let same : me'.0 ≡ after_update u before r (record me.0 { holdings = (settle (Some u) me.0).holdings }) = is ∙ ap (after_update u before r) (settle_is (Some u) me.0) in
+    subst (λ (z : Log). IsCaller left seen' versions names (z, me'.1)) (sym same) (record {
+      bare = bare ∙ c.bare;
+      role = c.role;
+      seen_all = (let n = tells.number in let l = length-append before (u ∷ []) in omega (arith, now, n, l));
+      allowed = omega (arith, some_due);
+      most = c.most;
+      credit = c.credit;
+      names_are = c.names_are;
+      wide = c.wide;
+      loader = c.loader;
+      nodes = versions_settled (Some u) versions me.0 c.nodes;
     })

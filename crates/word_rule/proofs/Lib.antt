@@ -36,6 +36,8 @@ pub mod InitialTable
 pub mod Exchanging
 pub mod Settling
 pub mod Settles
+pub mod TreeUpdates
+pub mod Committing
 pub mod VersionSteps
 pub mod NodeReleases
 pub mod NodeTries

@@ -12,7 +12,9 @@ use Rattle.reg_model.proofs.Spans.{overlap_from, overlap_bounds}
 use Rattle.reg_model.proofs.Histories.{lawful_history}
 use Rattle.segment_array.specs.Ascending.{AscendFrom}
 use Rattle.word_rule.specs.declared.log.Terms.{Terms}
-use Rattle.word_rule.specs.Callers.{IsOfTerms, IsMemberOf, AreTerms, start}
+use Rattle.std.proofs.lemmas.List.Sums.{count_by-le-length, sum_by-cons}
+use Rattle.tree_shape.specs.Numbers.{once}
+use Rattle.word_rule.specs.Callers.{IsOfTerms, IsMemberOf, AreTerms, is_of_loader, publications, start}
 use Rattle.word_rule.proofs.Each.{all_append}
 use Rattle.word_rule.specs.Copies.{StandFrom, ListsMembers}
 use Rattle.word_rule.proofs.Members.{drop_one, length_drop_one, contains_drop_one}
@@ -86,29 +88,38 @@ loaded_spans t s (update.Deregister base ∷ history) h all x c = loaded_spans t
 loaded_spans t s (update.Load m ∷ history) h all x c = loaded_spans t (after (update.Load m) s) history h.1 (λ z d. ⊎_elim (λ (e : Contains s.loaded z). all z e) (λ (e : m ≡ z). subst (λ y. IsSpan y.span) e h.0.0) (Contains-push_cases s.loaded m z d)) x c
 loaded_spans t s (update.Unload base ∷ history) h all x c = loaded_spans t (after (update.Unload base) s) history h.1 (λ z d. all z (contains_filter (λ m. not (m.span.first == base)) s.loaded z d).0) x c
 
+-- what holds of all holds of those that a test passes
+all_filtered : (P : Member → Type 0) (p : Member → Bool) (xs : List Member) → AllByRecursion P xs → AllByRecursion P (filter p xs)
+all_filtered P p [] every = tt
+all_filtered P p (y ∷ xs) every = go (p y) (all_filtered P p xs every.1)
+  where
+    go : (b : Bool) → AllByRecursion P (filter p xs) → AllByRecursion P (if b then (y ∷ filter p xs) else filter p xs)
+    go true rest = (every.0, rest)
+    go false rest = rest
+
 -- loaded members may be made known
 pub loaded_members : (t : Terms) (s : State) (history : List Update) → AllByRecursion (IsOfTerms t) history → AllByRecursion (IsMemberOf t) s.loaded → AllByRecursion (IsMemberOf t) (state_after s history).loaded
 loaded_members t s [] h all = all
 loaded_members t s (update.Register m ∷ history) h all = loaded_members t (after (update.Register m) s) history h.1 all
 loaded_members t s (update.Deregister base ∷ history) h all = loaded_members t (after (update.Deregister base) s) history h.1 all
 loaded_members t s (update.Load m ∷ history) h all = loaded_members t (after (update.Load m) s) history h.1 (all_append (IsMemberOf t) s.loaded (m ∷ []) all (h.0, tt))
-loaded_members t s (update.Unload base ∷ history) h all = loaded_members t (after (update.Unload base) s) history h.1 (kept (λ m. not (m.span.first == base)) s.loaded all)
-  where
-    kept : (p : Member → Bool) (xs : List Member) → AllByRecursion (IsMemberOf t) xs → AllByRecursion (IsMemberOf t) (filter p xs)
-    kept p [] every = tt
-    kept p (y ∷ xs) every = go (p y) (kept p xs every.1)
-      where
-        go : (b : Bool) → AllByRecursion (IsMemberOf t) (filter p xs) → AllByRecursion (IsMemberOf t) (if b then (y ∷ filter p xs) else filter p xs)
-        go true rest = (every.0, rest)
-        go false rest = rest
+loaded_members t s (update.Unload base ∷ history) h all = loaded_members t (after (update.Unload base) s) history h.1 (all_filtered (IsMemberOf t) (λ m. not (m.span.first == base)) s.loaded all)
 
--- nothing is registered
-pub none_registered : (t : Terms) (s : State) (history : List Update) → AllByRecursion (IsOfTerms t) history → s.registered ≡ [] → (state_after s history).registered ≡ []
-none_registered t s [] h none = none
-none_registered t s (update.Register m ∷ history) h none = absurd h.0
-none_registered t s (update.Deregister base ∷ history) h none = absurd h.0
-none_registered t s (update.Load m ∷ history) h none = none_registered t (after (update.Load m) s) history h.1 none
-none_registered t s (update.Unload base ∷ history) h none = none_registered t (after (update.Unload base) s) history h.1 none
+-- registered members may be made known
+pub registered_members : (t : Terms) (s : State) (history : List Update) → AllByRecursion (IsOfTerms t) history → AllByRecursion (IsMemberOf t) s.registered → AllByRecursion (IsMemberOf t) (state_after s history).registered
+registered_members t s [] h all = all
+registered_members t s (update.Register m ∷ history) h all = registered_members t (after (update.Register m) s) history h.1 (all_append (IsMemberOf t) s.registered (m ∷ []) all (h.0, tt))
+registered_members t s (update.Deregister base ∷ history) h all = registered_members t (after (update.Deregister base) s) history h.1 (all_filtered (IsMemberOf t) (λ m. not (m.span.first == base)) s.registered all)
+registered_members t s (update.Load m ∷ history) h all = registered_members t (after (update.Load m) s) history h.1 all
+registered_members t s (update.Unload base ∷ history) h all = registered_members t (after (update.Unload base) s) history h.1 all
+
+-- nothing is registered where each update was the loader's
+pub none_registered : (s : State) (history : List Update) → publications history ≡ length history → s.registered ≡ [] → (state_after s history).registered ≡ []
+none_registered s [] all none = none
+none_registered s (update.Register m ∷ history) all none = let most = count_by-le-length is_of_loader history in let step = sum_by-cons (λ u. once (is_of_loader u)) (update.Register m) history in absurd (omega (arith, all, most, step))
+none_registered s (update.Deregister base ∷ history) all none = let most = count_by-le-length is_of_loader history in let step = sum_by-cons (λ u. once (is_of_loader u)) (update.Deregister base) history in absurd (omega (arith, all, most, step))
+none_registered s (update.Load m ∷ history) all none = let step = sum_by-cons (λ u. once (is_of_loader u)) (update.Load m) history in none_registered (after (update.Load m) s) history (omega (arith, all, step)) none
+none_registered s (update.Unload base ∷ history) all none = let step = sum_by-cons (λ u. once (is_of_loader u)) (update.Unload base) history in none_registered (after (update.Unload base) s) history (omega (arith, all, step)) none
 
 -- members that ascend are disjoint
 above_free : (x : Member) (low : ℕ) (xs : List Member) → x.span.last < low → AscendFrom low xs → AllByRecursion (λ m. ¬ Overlaps m.span x.span) xs

@@ -9,6 +9,7 @@ use lib.ListN.{get_elem?}
 use Rattle.atomic_table.specs.Table.{step, keeps, Allows}
 use Rattle.atomic_table.proofs.Lists.{set_here}
 use Rattle.tree_shape.specs.NodeData.{NodeData}
+use Rattle.reg_model.specs.declared.answer.Update.{Update}
 use Rattle.tree_shape.specs.Numbers.{once, is_among}
 use Rattle.word_rule.specs.declared.log.Role.TheVariants as role
 use Rattle.word_rule.specs.declared.log.Budget.{Budget}
@@ -159,10 +160,10 @@ module _ (t : Terms) (id : ℕ) (v : Log) (caller : v.role ≡ role.Caller) (n :
       }) refl (record { terms = refl; role = refl; past = refl; receipts = refl; allowance = allowance; made = refl; lineage = refl }) refl fewer (record { own = refl; sights = refl; loads = refl; turn = omega arith })
 
 -- what settles keeps all but the holdings
-pub settle_is : (v : Log) → settle None v ≡ record v { holdings = (settle None v).holdings }
-settle_is v = go (is_lawful v None)
+pub settle_is : (update : Option Update) (v : Log) → settle update v ≡ record v { holdings = (settle update v).holdings }
+settle_is update v = go (is_lawful v update)
   where
-    go : (b : Bool) → ◌≡◌ {A = Log} (if b then after_exchange v (top_of v None) (is_among (group_of v None)) else settle_free v) (record v { holdings = (if b then after_exchange v (top_of v None) (is_among (group_of v None)) else settle_free v).holdings })
+    go : (b : Bool) → ◌≡◌ {A = Log} (if b then after_exchange v (top_of v update) (is_among (group_of v update)) else settle_free v) (record v { holdings = (if b then after_exchange v (top_of v update) (is_among (group_of v update)) else settle_free v).holdings })
     go true = refl
     go false = refl
 
@@ -242,7 +243,7 @@ module _ (t : Terms) (slots id : ℕ) (me : Seated) (caller : me.0.role ≡ role
   releases_any laws agreement decided n hn found spells lawful some_credit s r deep at small =
       let u : Log = record me.0 { holdings = (settle None me.0).holdings } in
       let w : Log = record (after_node_release_same n u) { budget = after_spending me.0.budget } in
-      let r1 : TableInvariant t s.words (set s.views id u) = subst (λ z. TableInvariant t s.words (set s.views id z)) (settle_is me.0) (settles t id me.0 caller s.words s.views r at laws agreement decided) in
+      let r1 : TableInvariant t s.words (set s.views id u) = subst (λ z. TableInvariant t s.words (set s.views id z)) (settle_is None me.0) (settles t id me.0 caller s.words s.views r at laws agreement decided) in
       let s1 : Sit = record s { views = set s.views id u } in
       let at1 = set_here s.views id u (within s.views id me.0 at) in
       let l = lock_after laws agreement decided s r at n hn found spells lawful in
@@ -262,7 +263,7 @@ module _ (t : Terms) (slots id : ℕ) (me : Seated) (caller : me.0.role ≡ role
         tt,
         subst (TableInvariant t (set s.words (4 + 36 * n) (hn.version + 4))) (set_twice s.views id u w) gone,
         (
-          ap (λ (z : Log). (record (after_node_release_same n z) { budget = after_spending z.budget }, me.1)) (sym (settle_is me.0)),
+          ap (λ (z : Log). (record (after_node_release_same n z) { budget = after_spending z.budget }, me.1)) (sym (settle_is None me.0)),
           subst (λ o. IfSome o (λ h. IsLockedAt h.version (get_or s.words (4 + 36 * n) 0))) (sym found) (subst (IsLockedAt hn.version) word lock),
         ),
       )

@@ -1,6 +1,6 @@
 -- A publication keeps the rule: the history has an update of the loader more, and the copies change their parts.
-use Rattle.std.proofs.Common.{◌≡◌, ℕ, ◌+◌, ◌/◌, ◌%◌, ◌^◌, ◌<◌, ◌≤◌, ◌↔◌, List, [], ◌∷◌, ◌++◌, length, get_or, set, length-set, sym, refl, ap, ◌∙◌, subst, inl, inr, ⊎_elim, arith, ◌==◌, not, true, false, true≢false, Option, Some, None, option_map, IfSome, IsSomeAnd, Contains, eq-eqb, ne_eqb}
-use Rattle.std.proofs.lemmas.Option.{none-some, same_Some}
+use Rattle.std.proofs.Common.{◌≡◌, ℕ, ◌+◌, ◌/◌, ◌%◌, ◌^◌, ◌<◌, ◌≤◌, ◌↔◌, List, [], ◌∷◌, ◌++◌, length, get_or, set, length-set, sym, refl, ap, ◌∙◌, subst, inl, inr, ⊎_elim, arith, ◌==◌, not, true, false, true≢false, Some, option_map, IfSome, IsSomeAnd, Contains, eq-eqb, ne_eqb}
+use Rattle.std.proofs.lemmas.Option.{same_Some}
 use Rattle.std.proofs.lemmas.List.Sums.{sum_by_push, count_by-le-length}
 use Rattle.std.proofs.lemmas.List.Elements.{Contains-append_left, Contains-append_right, Contains-append_cases, Contains-push, Contains-push_cases}
 use mathlib.Core.Option.{none, some}
@@ -8,15 +8,12 @@ use mathlib.Core.List.{IsPrefix}
 use lib.ListN.{get_elem?}
 use Rattle.atomic_table.specs.Table.{step, keeps, Allows}
 use Rattle.atomic_table.proofs.Lists.{set_here}
-use Rattle.reg_model.specs.State.{State, at_base}
+use Rattle.reg_model.specs.State.{State}
 use Rattle.reg_model.specs.History.{Fits, after, state_after}
 use Rattle.reg_model.specs.declared.span.Member.{Member}
 use Rattle.reg_model.specs.declared.answer.Update.{Update}
 use Rattle.reg_model.specs.declared.answer.Update.TheVariants as update
-use Rattle.reg_model.specs.declared.answer.Loading.TheVariants as loading
-use Rattle.reg_model.specs.declared.answer.Removed.TheVariants as removed
 use Rattle.reg_model.specs.declared.answer.Receipt.{Receipt}
-use Rattle.reg_model.specs.declared.answer.Receipt.TheVariants as receipt
 use Rattle.reg_model.proofs.Histories.{state_after-append}
 use Rattle.tree_shape.specs.Numbers.{once}
 use Rattle.tree_shape.specs.Trees.{HasEntry}
@@ -35,18 +32,14 @@ use Rattle.word_rule.specs.Observations.{ObservationsHold}
 use Rattle.word_rule.specs.TableInvariant.{TableInvariant}
 use Rattle.word_rule.specs.Plays.{Seated, publishes}
 use Rattle.word_rule.proofs.Facts.{total_same, after_step, within}
-use Rattle.word_rule.proofs.Each.{some_of, some_with}
+use Rattle.word_rule.proofs.Each.{some_with}
 use Rattle.word_rule.proofs.Memories.{set_clock}
 use Rattle.word_rule.proofs.NodesFrame.{nodes_same}
 use Rattle.word_rule.proofs.ObservationsFrame.{observations_over, sight_over}
 use Rattle.word_rule.proofs.Frames.{Sit, table_step, still_after_turn}
 use Rattle.word_rule.proofs.Listings.{lists_same, contains_filter, filter_contains, find_contains, contains_find, state_fixed, loaded_spans, loaded_disjoint, disjoint_fit, free_of}
-use Rattle.word_rule.proofs.Accepting.{Accepts, callers_after, few_updates, observations_received}
+use Rattle.word_rule.proofs.Accepting.{Accepts, answered, callers_after, few_updates, observations_received}
 use Rattle.word_rule.proofs.CopyStores.{other_loader, loader_held}
-
-some_and : {A : Type 0} (P : A → Type 0) (o : Option A) (a : A) → o ≡ Some a → P a → IsSomeAnd o P
-some_and P None a e p = absurd (none-some a e)
-some_and P (Some b) a e p = subst P (sym (same_Some _ _ e)) p
 
 -- what lists say of a publication, the state says: what is listed before are the loaded members
 fits : (t : Terms) (s : State) (u : Update) (before new : List Member) → s.fixed ≡ t.fixed → s.loads ≡ t.loads → ((x : Member) → Contains before x ↔ Contains s.loaded x) → length s.loaded ≤ length before → Publishes t u before new
@@ -75,26 +68,6 @@ fits t s (update.Unload base) before new fixed loads same few p =
     )
 fits t s (update.Register m) before new fixed loads same few p = absurd p
 fits t s (update.Deregister base) before new fixed loads same few p = absurd p
-
-answered : (t : Terms) (s : State) (u : Update) (before new : List Member) (n : ℕ) → Publishes t u before new → Fits u s → (r : Receipt) × Accepts u s n r
-answered t s (update.Load m) before new n p fit = (
-  receipt.Load m (loading.Done (n + 1)),
-  record { is_done = refl; accepts = refl; number = refl; makes = refl; one_step = record { right = tt; changes = (fit, refl, refl) }; no_full = λ st history since. tt },
-)
-answered t s (update.Unload base) before new n p fit =
-    let m = some_of (at_base base s.loaded) fit in (
-      receipt.Unload base (removed.Done (n + 1) m.0),
-      record {
-        is_done = some_and (λ x. receipt.Unload base (removed.Done (n + 1) m.0) ≡ receipt.Unload base (removed.Done (n + 1) x)) (at_base base s.loaded) m.0 m.1 refl;
-        accepts = refl;
-        number = refl;
-        makes = refl;
-        one_step = record { right = m.1; changes = (fit, refl, refl) };
-        no_full = λ st history since. tt;
-      },
-    )
-answered t s (update.Register m) before new n p fit = absurd p
-answered t s (update.Deregister base) before new n p fit = absurd p
 
 module _ (t : Terms) (slots id : ℕ) (me : Seated) (caller : me.0.role ≡ role.Caller) where
   abbrev Rule : Sit → Type 0
@@ -143,7 +116,7 @@ module _ (t : Terms) (slots id : ℕ) (me : Seated) (caller : me.0.role ≡ role
     step_fits = fits t (state_after (start t) r.memory.history) u may.before may.after (state_fixed (start t) r.memory.history).0 (state_fixed (start t) r.memory.history).1 same few may.publishes
 
     pub answer_of : (x : Receipt) × Accepts u (state_after (start t) r.memory.history) (length r.memory.history) x
-    answer_of = answered t (state_after (start t) r.memory.history) u may.before may.after (length r.memory.history) may.publishes step_fits.0
+    answer_of = answered (state_after (start t) r.memory.history) u (length r.memory.history) step_fits.0
 
     told : Accepts u (state_after (start t) r.memory.history) (length r.memory.history) answer_of.0
     told = answer_of.1

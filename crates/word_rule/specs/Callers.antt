@@ -51,11 +51,10 @@ publications updates = count_by is_of_loader updates
 abbrev pub IsMemberOf : Terms → Member → Type 0
 IsMemberOf t m = IsSpan m.span × (m.payload < t.payloads)
 
--- an update that a step on these words accepts: one of the loader's, of a member that may be made
--- known
+-- an update that a step on these words accepts: what it adds is a member that may be made known
 abbrev pub IsOfTerms : Terms → Update → Type 0
-IsOfTerms t (Register m) = ⊥
-IsOfTerms t (Deregister base) = ⊥
+IsOfTerms t (Register m) = IsMemberOf t m
+IsOfTerms t (Deregister base) = Unit {0}
 IsOfTerms t (Load m) = IsMemberOf t m
 IsOfTerms t (Unload base) = Unit {0}
 

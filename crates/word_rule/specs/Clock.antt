@@ -37,8 +37,9 @@ pub record ClockTells (t : Terms) (found : ℕ) (v : Log) (past : List Update) :
   pub published : upper found ≡ publications past
   pub lawful : IsLawful (state_after (start t) past)
   pub members : AllByRecursion (IsMemberOf t) (objects (state_after (start t) past))
-  -- no step registers, so the registered half's answer is a miss
-  pub registered : (state_after (start t) past).registered ≡ []
+  pub entries : AllByRecursion (IsMemberOf t) (state_after (start t) past).registered
+  -- where each update was the loader's, as both halves of the clock then say, nothing is registered
+  pub registered : publications past ≡ length past → (state_after (start t) past).registered ≡ []
   -- where the guard of its sight of copies is still the upper half, what was loaded is of a copy
   -- that lists the loaded members
   pub copies : IfSome v.sights.copies

@@ -11,6 +11,7 @@ pub mod Exchange
 pub mod Sights
 pub mod Copies
 pub mod Steps
+pub mod Commits
 pub mod Clock
 pub mod Plays
 pub mod CallerInvariant

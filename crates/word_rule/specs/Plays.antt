@@ -11,6 +11,7 @@ use Rattle.word_rule.specs.Places.{ALLOWANCE, node_place}
 use Rattle.word_rule.specs.Sights.{after_node_version, after_node_load, after_copy_load}
 use Rattle.word_rule.specs.Steps.{after_node_lock, after_head_load, after_copy_store, AfterPublish}
 use Rattle.word_rule.specs.Steps.{HeadStored, IsHeldWord}
+use Rattle.word_rule.specs.Commits.{AfterCommit}
 use Rattle.word_rule.specs.Steps.{after_node_release, after_node_release_same, after_node_store}
 use Rattle.word_rule.specs.declared.log.Terms.{Terms}
 use Rattle.word_rule.specs.Clock.{AfterClock}
@@ -147,6 +148,10 @@ stores_copy st me found me' = me' ≡ (after_copy_store st.word st.first me.0, m
 -- an update of the loader was published
 abbrev pub publishes : Update → Stepped → Seated → ℕ → Seated → Type 0
 publishes u st me found me' = AfterPublish u found me.0 me'.0 × (me'.1 ≡ me.1)
+
+-- an update of the tree was committed
+abbrev pub commits : Update → Stepped → Seated → ℕ → Seated → Type 0
+commits u st me found me' = AfterCommit u found me.0 me'.0 × (me'.1 ≡ me.1)
 
 -- a node was let go with the next version, and contents settled
 abbrev pub releases_node : ℕ → Stepped → Seated → ℕ → Seated → Type 0

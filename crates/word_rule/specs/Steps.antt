@@ -144,16 +144,6 @@ after_update u before r v =
       budget = record v.budget { allowance = v.budget.allowance - 1 };
     }
 
--- A commit: the update of the tree was accepted, and the contents settled.
-abbrev pub AfterCommit : Update → Log → Log → Type 0
-AfterCommit u v w = (before : List Update) × (r : Receipt) ×
-    (IsDone u (length before + 1) (state_after (start v.terms) before) r
-    × (w ≡ after_update u before r (settle (Some u) v)))
-
--- a commit asks for a lawful exchange, in which its update changes the entries
-abbrev pub MayCommit : Update → Log → Type 0
-MayCommit u v = IsTrue (is_lawful v (Some u))
-
 -- where the copy that is not active begins, for the holder of the loader's lock
 abbrev pub spare_place : Terms → LoaderHolding → ℕ
 spare_place t h = copy_place t ((h.published + 1) % 2)

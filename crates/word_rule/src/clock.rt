@@ -17,10 +17,10 @@ use std::marker::Brand;
 use tree_shape::laws;
 
 /// Where the clock stands.
-const CLOCK_WORD: usize = 0;
+pub(crate) const CLOCK_WORD: usize = 0;
 
 /// What its lower half counts up to.
-const LOWER: u64 = 1 << 32;
+pub(crate) const LOWER: u64 = 1 << 32;
 
 impl Words {
     fn load_clock_for<A: Asking>(&self, seat: &mut Seat<(), Log>, ask: Ask) -> u64

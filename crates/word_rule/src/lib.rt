@@ -18,12 +18,13 @@
 //! (tree_shape: what a node is, when contents are a lawful tree). From atomic_table it takes the
 //! steps, each proved to keep a rule that it is given. The rule here is the whole invariant. Built
 //! are the steps on version locks, on nodes, on the free head by one writer at a time, on the clock
-//! and the loader's copies, and callers and notes that come and go; the commit of an update of the
-//! tree has its definitions.
+//! and the loader's copies, the commit of an update of the tree, and callers and notes that come
+//! and go.
 #![tactic(auto)]
 
 mod caller;
 mod clock;
+mod commits;
 pub mod exchange;
 mod head;
 mod initial;

@@ -246,7 +246,7 @@ impl Play<(), Log> for StoresCopy {
     ghost then = { stores_copy };
 }
 
-/// Which update is published.
+/// Which update is published, or committed.
 pub(crate) trait Updating {
     ghost use Rattle.reg_model.specs.declared.answer.Update.{Update};
 
@@ -267,6 +267,16 @@ impl<U: Updating> Play<(), Log> for Publishes<U> {
     ghost use Rattle.word_rule.specs.Plays.{publishes};
 
     ghost then = { publishes U.update };
+}
+
+pub(crate) struct Commits<U> {
+    updating: PhantomData<U>,
+}
+
+impl<U: Updating> Play<(), Log> for Commits<U> {
+    ghost use Rattle.word_rule.specs.Plays.{commits};
+
+    ghost then = { commits U.update };
 }
 
 /// How much a split gives away, which only the call knows: of so many update calls, these.

@@ -1,0 +1,36 @@
+-- The commit of an update of the tree: what it asks for, what it tells, and what it makes of a log.
+use Rattle.std.specs.Prelude.{◌≡◌, ℕ, ◌+◌, ◌<◌, List, length, Some, IsTrue}
+use mathlib.Core.List.{IsPrefix}
+use Rattle.reg_model.specs.History.{state_after}
+use Rattle.reg_model.specs.declared.answer.Update.{Update}
+use Rattle.reg_model.specs.declared.answer.Receipt.{Receipt}
+use Rattle.word_rule.specs.declared.log.Log.{Log}
+use Rattle.word_rule.specs.declared.log.Terms.{Terms}
+use Rattle.word_rule.specs.Places.{ALLOWANCE, lower}
+use Rattle.word_rule.specs.Exchange.{is_lawful, settle}
+use Rattle.word_rule.specs.Callers.{IsOfTerms, start}
+use Rattle.word_rule.specs.Steps.{IsDone, after_update}
+
+-- A commit asks for one of the update calls that were begun, for a member that may be made known,
+-- and that the exchange of what the caller changed is lawful, with the entries changed by the
+-- update. So it is one of the tree, made in a live leaf that the caller holds.
+pub record MayCommit (t : Terms) (u : Update) (v : Log) : Type 0 where
+  pub due : 0 < v.budget.allowance
+  pub member : IsOfTerms t u
+  pub lawful : IsTrue (is_lawful v (Some u))
+
+-- What a commit tells of the history before it, of which it found this clock.
+pub record CommitTells (found : ℕ) (v : Log) (before : List Update) : Type 0 where
+  pub begins : IsPrefix v.past before
+  pub number : lower found ≡ length before
+  pub room : length before < ALLOWANCE
+
+-- The update of the tree was accepted, and what the caller changed settled.
+abbrev pub after_commit : Update → List Update → Receipt → Log → Log
+after_commit u before r v = after_update u before r (settle (Some u) v)
+
+abbrev pub AfterCommit : Update → ℕ → Log → Log → Type 0
+AfterCommit u found v w = (before : List Update) × (r : Receipt) ×
+    (CommitTells found v before
+    × IsDone u (length before + 1) (state_after (start v.terms) before) r
+    × (w ≡ after_commit u before r v))
