@@ -29,7 +29,6 @@ use Rattle.word_rule.proofs.Standing.{held_by}
 use Rattle.word_rule.proofs.Settling.{AgreementLaw, OnSettling, mapped_all, mapped_once, mapped_kept, mapped_head, settled_table}
 use Rattle.word_rule.proofs.Exchanging.{ChangeLaws, loose, settled', live', marked_lock, group_lock, fresh_out, fresh_loose, loose_parts, reached_inside, loose_inside, lawful_after, entries_after, live_new, live_kept, settled_new, settled_kept, unheld, balance, all_found, or_left, or_right, or_cases, tested}
 
-
 and_false : (b : Bool) → (b && false) ≡ false
 and_false true = refl
 and_false false = refl

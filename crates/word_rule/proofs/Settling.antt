@@ -38,7 +38,6 @@ use Rattle.word_rule.proofs.ObservationsFrame.{sight_over, observations_over}
 use Rattle.word_rule.proofs.Frames.{table_step}
 use Rattle.word_rule.proofs.Writes.{callers_over_nodes}
 
-
 -- contents that agree with a lawful tree on its live nodes are one: a law of tree_shape
 abbrev pub AgreementLaw : Type 0
 AgreementLaw = (f g : Contents) (live : ℕ → Bool) → IsLawfulTree f live → AgreeOn live f g → IsLawfulTree g live
