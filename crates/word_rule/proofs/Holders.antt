@@ -1,5 +1,5 @@
 -- What is told of a node that a log holds, and of one that it has out.
-use Rattle.std.proofs.Common.{◌≡◌, ℕ, ◌<◌, ◌≤◌, List, length, sym, refl, ap, ◌∙◌, subst, arith, nat_lt, Bool, true, false, IsTrue, true≢false, Option, Some, None, IfSome}
+use Rattle.std.proofs.Common.{◌≡◌, ℕ, ◌<◌, ◌≤◌, List, length, sym, refl, ap, ◌∙◌, subst, arith, nat_lt, Bool, true, false, IsTrue, true≢false, Option, Some, None, IfSome, IsSome}
 use mathlib.Core.Option.{some}
 use lib.ListN.{get_elem?}
 use Rattle.reg_model.specs.declared.answer.Update.{Update}
@@ -11,10 +11,11 @@ use Rattle.word_rule.specs.declared.log.Log.{Log}
 use Rattle.word_rule.specs.Memory.{NodeWords}
 use Rattle.word_rule.specs.Held.{held_of, is_marked}
 use Rattle.word_rule.specs.Nodes.{Shadow, NodesHold, HoldsNode, IsPlaced}
-use Rattle.word_rule.specs.NodeTells.{IsHeldNode, IsLiveNode, OutTells}
+use Rattle.word_rule.specs.NodeTells.{KnowsTree, IsHeldNode, IsLiveNode, OutTells}
 use Rattle.word_rule.proofs.Names.{once_small}
 use Rattle.word_rule.proofs.Facts.{part_of_total}
 use Rattle.word_rule.proofs.Standing.{held_by}
+use Rattle.word_rule.proofs.Each.{all_map}
 use Rattle.word_rule.proofs.NodeLoads.{ltb_true}
 use Rattle.word_rule.proofs.HeadPlays.{RootLaw}
 use Rattle.word_rule.proofs.NodeVersions.{ChildrenLaw, is_live_node}
@@ -63,3 +64,17 @@ module _ (t : Terms) (words : NodeWords) (views : List Log) (history : List Upda
         clean = mine.0.clean;
         live = live h mine.0 h.mark mine.0.marked;
       }
+
+  -- the tree that the invariant has is one that the log knows
+  pub knows_tree : KnowsTree u.holdings
+  knows_tree = record {
+    contents = shadow.settled;
+    live = shadow.live;
+    lawful = r.lawful;
+    marked = all_map (HoldsNode t words shadow j) (λ h. IsSome h.mark → IsTrue (shadow.live h.node) × (shadow.settled h.node ≡ h.settled)) (λ h k is. (by_mark h h.mark is k.marked, sym k.settled)) u.holdings.held (r.holdings j u at).each;
+    dead = λ n out. out_is_dead n (ltb_true 0 (times n u.holdings.out) out);
+  }
+    where
+      by_mark : (h : Holding) (o : Option Frame) → IsSome o → IfSome o (λ f. IsTrue (shadow.live h.node) × IsPlaced h.settled f) → IsTrue (shadow.live h.node)
+      by_mark h None is told = absurd (true≢false (sym is))
+      by_mark h (Some f) is told = told.0

@@ -32,7 +32,7 @@ use Rattle.word_rule.proofs.Frames.{Sit, still_after_load}
 use Rattle.word_rule.proofs.Quiet.{quiet}
 use Rattle.word_rule.proofs.HeadPlays.{RootLaw}
 use Rattle.word_rule.proofs.NodeVersions.{ChildrenLaw}
-use Rattle.word_rule.proofs.Holders.{out_tells, holder_tells}
+use Rattle.word_rule.proofs.Holders.{out_tells, holder_tells, knows_tree}
 use Rattle.word_rule.proofs.NodeLoads.{FullLaw, OrderLaw, full_count}
 
 module _ (t : Terms) (slots id : ℕ) (me : Seated) (caller : me.0.role ≡ role.Caller) (law : FullLaw) (order : OrderLaw) (root : RootLaw) (children : ChildrenLaw) (n at : ℕ) (inside : n < t.nodes) (low : 1 ≤ at) (high : at ≤ 35) where
@@ -135,6 +135,7 @@ module _ (t : Terms) (slots id : ℕ) (me : Seated) (caller : me.0.role ≡ role
           tells s r here,
           holder_tells t m.nodes s.views r.memory.history r.memory.shadow r.memory.nodes id me.0 here children (content_length t s.words r.wide) ((r.memory.callers.each id me.0 here).terms stands) n,
           out_tells t m.nodes s.views r.memory.history r.memory.shadow r.memory.nodes id me.0 here root n,
+          knows_tree t m.nodes s.views r.memory.history r.memory.shadow r.memory.nodes id me.0 here,
         ),
       )
 

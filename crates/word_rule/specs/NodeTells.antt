@@ -1,16 +1,17 @@
 -- What steps on nodes tell.
 use Rattle.std.specs.Prelude.{◌≡◌, ◌≢◌, ℕ, ◌-◌, ◌<◌, ◌%◌, false, IsTrue, List, [], length, IfSome}
-use Rattle.std.specs.Prelude.{IsSome, Some}
+use Rattle.std.specs.Prelude.{Bool, IsSome, Some}
 use Rattle.std.specs.List.{AllByRecursion}
 use Rattle.reg_model.specs.History.{state_after}
 use Rattle.reg_model.specs.declared.answer.Update.{Update}
 use Rattle.tree_shape.specs.NodeData.{NodeData, Link, frame_of}
-use Rattle.tree_shape.specs.Trees.{branches}
-use Rattle.tree_shape.specs.Lawful.{IsFilled, IsOrdered}
+use Rattle.tree_shape.specs.Trees.{Contents, branches}
+use Rattle.tree_shape.specs.Lawful.{IsFilled, IsLawfulTree, IsOrdered}
 use Rattle.tree_shape.specs.Numbers.{is_among}
 use Rattle.tree_shape.specs.declared.node.Frame.{Frame}
 use Rattle.word_rule.specs.declared.log.Terms.{Terms}
 use Rattle.word_rule.specs.declared.log.Holding.{Holding}
+use Rattle.word_rule.specs.declared.log.Holdings.{Holdings}
 use Rattle.word_rule.specs.declared.log.NodeSight.{NodeSight}
 use Rattle.word_rule.specs.declared.log.Log.{Log}
 use Rattle.word_rule.specs.Places.{CONTENT_WORDS, node_place}
@@ -79,6 +80,16 @@ HolderTells n v = IfSome (held_of n v.holdings.held) (IsHeldNode v.terms)
 abbrev pub OutTells : ℕ → Log → Type 0
 OutTells n v =
     IsTrue (is_among v.holdings.out n) → (n ≢ 0) × (marked_in v.holdings.held n ≡ false)
+
+-- What a caller knows of the tree by what it holds: there is a lawful one in which each node that it
+-- holds marked live is live with its settled content, and none that it has out is.
+pub record KnowsTree (holdings : Holdings) : Type 0 where
+  pub contents : Contents
+  pub live : ℕ → Bool
+  pub lawful : IsLawfulTree contents live
+  pub marked : AllByRecursion (λ h. IsSome h.mark → IsTrue (live h.node)
+      × (contents h.node ≡ h.settled)) holdings.held
+  pub dead : (n : ℕ) → IsTrue (is_among holdings.out n) → live n ≡ false
 
 -- What the lock of a node tells: its words spell its settled content. Where it is marked live, it
 -- has that place in the tree; where it is the first free node, as it is known under the root's

@@ -16,7 +16,7 @@ use Rattle.word_rule.specs.Steps.{after_node_release, after_node_release_same, a
 use Rattle.word_rule.specs.declared.log.Terms.{Terms}
 use Rattle.word_rule.specs.Clock.{AfterClock}
 use Rattle.word_rule.specs.Held.{held_of}
-use Rattle.word_rule.specs.NodeTells.{AloneTells, HeldTells, HolderTells, IsTakenNode, OutTells}
+use Rattle.word_rule.specs.NodeTells.{AloneTells, HeldTells, HolderTells, IsTakenNode, OutTells, KnowsTree}
 use Rattle.word_rule.specs.NodeTells.{SightTells}
 use Rattle.word_rule.specs.Logs.{is_spent, IsTaken, after_load, after_loader_lock, after_write}
 use Rattle.word_rule.specs.Logs.{after_loader_release, after_loader_release_same}
@@ -85,7 +85,7 @@ loads_clock t ask st me found me' = AfterClock t ask found me.0 me'.0 × (me'.1 
 abbrev pub loads_node : ℕ → ℕ → Stepped → Seated → ℕ → Seated → Type 0
 loads_node n at st me found me' =
     (me' ≡ (after_node_load n at found me.0, me.1)) × HeldTells n at found me.0
-    × HolderTells n me.0 × OutTells n me.0
+    × HolderTells n me.0 × OutTells n me.0 × KnowsTree me.0.holdings
 
 -- the word found is a node's version, locked, where the caller holds it
 abbrev pub NodeWasLocked : ℕ → Seated → ℕ → Type 0

@@ -5,7 +5,8 @@ ghost use Rattle.word_rule.specs.CallerData.{surplus};
 ghost use Rattle.word_rule.specs.Callers.{IsLockedAt};
 ghost use Rattle.word_rule.specs.Held.{held_of};
 ghost use Rattle.word_rule.specs.Logs.{after_load};
-ghost use Rattle.word_rule.specs.NodeTells.{AloneTells, HeldTells, HolderTells, OutTells, SightTells};
+ghost use Rattle.word_rule.specs.NodeTells.{AloneTells, HeldTells, HolderTells, KnowsTree};
+ghost use Rattle.word_rule.specs.NodeTells.{OutTells, SightTells};
 ghost use Rattle.word_rule.specs.Places.{node_place};
 ghost use Rattle.word_rule.specs.Plays.{TakesNode};
 ghost use Rattle.word_rule.specs.Sights.{after_node_load, after_node_version};
@@ -84,6 +85,7 @@ impl Words {
         ensures held { HeldTells N.node N.at result seat.old.me.0 }
         ensures holder { HolderTells N.node seat.old.me.0 }
         ensures out { OutTells N.node seat.old.me.0 }
+        ensures tree { KnowsTree seat.old.me.0.holdings }
     {
         laws::fillings();
         laws::order();
@@ -103,6 +105,7 @@ impl Words {
         ensures held { HeldTells node at result me.old.log }
         ensures holder { HolderTells node me.old.log }
         ensures out { OutTells node me.old.log }
+        ensures tree { KnowsTree me.old.log.holdings }
     {
         self.load_node_for::<Brand>(&mut me.seat, node, at)
     }
