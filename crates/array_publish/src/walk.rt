@@ -10,14 +10,9 @@ ghost use Rattle.array_publish.specs.Search.{IsLastBegun, IsMember, IsObjectAt, 
 
 use reg_model::{Member, Span};
 use segment_array::{segments_for, spot};
-use word_rule::{Caller, Words};
+use word_rule::{Caller, FIRST_NODE, NODE_WORDS, Words};
 
-/// The words before the nodes, those of a node, those of a segment, and those before the members of
-/// a copy or a segment.
-const FIRST_NODE: u32 = 4;
-
-const NODE_WORDS: u32 = 36;
-
+/// The words of a segment, and those before the members of a copy or a segment.
 const SEGMENT_WORDS: u32 = 50;
 
 const HEADER_WORDS: u32 = 2;
@@ -60,7 +55,7 @@ pub fn place_of_copy(words: &Words, copy: u32) -> u32
     ensures { result ≡ copy_place words.now.terms copy }
 {
     let size = HEADER_WORDS + SEGMENT_WORDS * segments_for(words.loads());
-    FIRST_NODE + NODE_WORDS * words.nodes() + copy * size
+    FIRST_NODE as u32 + NODE_WORDS as u32 * words.nodes() + copy * size
 }
 
 /// Where a segment begins in a copy.

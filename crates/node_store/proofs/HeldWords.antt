@@ -5,14 +5,16 @@ use Rattle.tree_shape.specs.NodeData.{NodeData, Pairs, Entries, Link}
 use Rattle.word_rule.specs.declared.log.Log.{Log}
 use Rattle.word_rule.specs.declared.log.Holding.{Holding}
 use Rattle.word_rule.specs.Held.{held_of}
-use Rattle.word_rule.specs.NodeTells.{HeldTells}
+use Rattle.word_rule.specs.NodeTells.{HeldTells, HolderTells, IsHeldNode, IsLiveNode}
+use Rattle.tree_shape.specs.declared.node.Frame.{Frame}
 use Rattle.word_rule.specs.Places.{TOP}
 use Rattle.word_rule.specs.Spelling.{node_word, is_short, pairs_at, entries_at, body_of_kind, spelled, SpellsNode}
 use Rattle.word_rule.specs.CallerData.{CallerData}
-use Rattle.std.proofs.lemmas.Option.{none-some}
-use Rattle.node_store.specs.Holding.{AgreeUpto, AreHeld, ReadsHeld}
+use Rattle.std.proofs.lemmas.Option.{none-some, cond_some}
+use Rattle.std.proofs.lemmas.Bool.{eqb-true}
+use Rattle.node_store.specs.Holding.{AgreeUpto, AreHeld, IsLiveHeld, ReadsHeld}
 use Rattle.node_store.specs.Sights.{after_words}
-use Rattle.node_store.proofs.Sighted.{words_same}
+use Rattle.node_store.proofs.Sighted.{found_passes, holdings_same, terms_same, words_same}
 
 pairs_same : (words others : List ℕ) → AgreeUpto words others 35 → (count at : ℕ) → 1 ≤ at → at + 2 * count ≤ 36 → pairs_at words at count ≡ pairs_at others at count
 pairs_same words others same zero at least most = refl
@@ -103,3 +105,20 @@ never_none n loaded v held none = go (held_of n v.holdings.held) held
         never : (o : Option NodeData) → IsSome o → o ≡ None → ⊥
         never None is e = search rules
         never (Some s) is e = none-some s (sym e)
+
+-- what is told after loads of words is told before them
+pub holder_before : (n : ℕ) (words : List ℕ) (count : ℕ) (v : Log) → HolderTells n (after_words n words count v) → HolderTells n v
+holder_before n words count v told =
+    subst (λ t. IfSome (held_of n v.holdings.held) (IsHeldNode t)) (terms_same n words count v)
+    (subst (λ hs. IfSome (held_of n hs.held) (IsHeldNode (after_words n words count v).terms)) (holdings_same n words count v) told)
+
+-- a held node is as it settled, where nothing was stored
+pub live_held : (n : ℕ) (loaded : List ℕ) (v : Log) (shape : NodeData) → HolderTells n v → AreHeld n loaded 35 v → spelled loaded ≡ Some shape → IsLiveHeld n v shape
+live_held n loaded v shape told held is = go (held_of n v.holdings.held) refl told held
+  where
+    go : (o : Option Holding) → held_of n v.holdings.held ≡ o → IfSome o (IsHeldNode v.terms) → IfSome o (λ h. AgreeUpto loaded h.words 35) → IfSome o (λ h. h.stored ≡ false → IfSome h.mark (IsLiveNode v.terms n shape))
+    go None e told same = tt
+    go (Some h) e told same = λ clean.
+        let node : h.node ≡ n = eqb-true h.node n (found_passes (λ z. z.node == n) v.holdings.held h e) in
+        let settled : h.settled ≡ shape = (cond_some true h.settled shape (sym (told.clean clean) ∙ (sym (spelled_same loaded h.words same) ∙ is))).1 in
+        subst (λ k. IfSome h.mark (IsLiveNode v.terms k shape)) node (subst (λ s. IfSome h.mark (IsLiveNode v.terms h.node s)) settled told.live)

@@ -10,11 +10,12 @@ use Rattle.word_rule.specs.declared.log.Holding.{Holding}
 use Rattle.word_rule.specs.CallerData.{CallerData}
 use Rattle.word_rule.specs.Exchange.{after_exchange, group_of, is_lawful, settle, settle_free, top_of}
 use Rattle.word_rule.specs.Held.{edited, held_of, marked_in}
+use Rattle.word_rule.specs.NodeTells.{HolderTells, IsHeldNode}
 use Rattle.word_rule.specs.Places.{CONTENT_WORDS}
 use Rattle.word_rule.specs.Spelling.{node_word, SpellsNode}
 use Rattle.word_rule.specs.Steps.{MayStore, after_node_store, frees, store_in, stored_log}
 use Rattle.node_store.specs.declared.writing.Store.{Store}
-use Rattle.node_store.specs.Holding.{AgreeUpto, AreHeld, SpellsHeld, WritesHeld, after_node_stores}
+use Rattle.node_store.specs.Holding.{AgreeUpto, AreHeld, SpellsHeld, WritesHeld, WritesInOrder, after_node_stores}
 use Rattle.node_store.specs.Sights.{after_words}
 use Rattle.node_store.specs.Writing.{FitsWords, Write, count_of, kind_of_body, place_in_turn, store_in_turn, store_of, stores, stores_upto, after_stores, wanted_node_word}
 use Rattle.node_store.proofs.Sighted.{holdings_same, words_same}
@@ -214,20 +215,21 @@ stores_same s words others same (suc t) most =
     (λ i. stores_same s words others same t (omega (arith, most)) i ++ option_to_list (here i))
 
 -- a held node was written
-pub written : (n : ℕ) (s : NodeData) (loaded : List ℕ) (k k' : CallerData) → FitsWords s → ((words : List ℕ) → length words ≡ CONTENT_WORDS → FitsWords s → Write s words (stores s words)) → MayStore n k.log → AreHeld n loaded 35 k.log → k' ≡ record k { log = after_node_stores n (stores s loaded) (after_words n loaded 35 k.log) } → WritesHeld n s k k'
-written n s loaded k k' fits writes may held is = go (held_of n k.log.holdings.held) refl may held
+pub written : (n : ℕ) (s : NodeData) (loaded : List ℕ) (k k' : CallerData) → FitsWords s → ((words : List ℕ) → length words ≡ CONTENT_WORDS → FitsWords s → Write s words (stores s words)) → MayStore n k.log → AreHeld n loaded 35 k.log → HolderTells n k.log → k' ≡ record k { log = after_node_stores n (stores s loaded) (after_words n loaded 35 k.log) } → WritesHeld n s k k' × WritesInOrder n s k.log × SpellsHeld n s k'.log
+written n s loaded k k' fits writes may held told is = go (held_of n k.log.holdings.held) refl may held told
   where
-    go : (o : Option Holding) → held_of n k.log.holdings.held ≡ o → IsSomeAnd o (λ h. IsSome h.mark ⊎ IsTrue (is_among k.log.holdings.out n)) → IfSome o (λ h. AgreeUpto loaded h.words 35)
-        → IsSomeAnd o (λ h. (k' ≡ record k { log = after_node_stores n (stores s h.words) (after_words n h.words CONTENT_WORDS k.log) }) × (length h.words ≡ CONTENT_WORDS → SpellsHeld n s k'.log))
-    go None e may same = may
-    go (Some h) e may same =
+    go : (o : Option Holding) → held_of n k.log.holdings.held ≡ o → IsSomeAnd o (λ h. IsSome h.mark ⊎ IsTrue (is_among k.log.holdings.out n)) → IfSome o (λ h. AgreeUpto loaded h.words 35) → IfSome o (IsHeldNode k.log.terms)
+        → IsSomeAnd o (λ h. k' ≡ record k { log = after_node_stores n (stores s h.words) (after_words n h.words CONTENT_WORDS k.log) }) × IsSomeAnd o (λ h. Write s h.words (stores s h.words)) × SpellsHeld n s k'.log
+    go None e may same told = absurd may
+    go (Some h) e may same told =
         let log : after_node_stores n (stores s loaded) (after_words n loaded 35 k.log) ≡ after_node_stores n (stores s h.words) (after_words n h.words 35 k.log) =
         (λ i. after_node_stores n (stores_same s loaded h.words same 35 (omega arith) i) (words_same n loaded h.words 35 k.log same i)) in
         let all : k' ≡ record k { log = after_node_stores n (stores s h.words) (after_words n h.words 35 k.log) } = is ∙ ap (λ v. record k { log = v }) log in
         let holds = holdings_same n h.words 35 k.log in
         let has : HasHeld n h.words (after_words n h.words 35 k.log) = subst (λ o. IsSomeAnd o (λ z. z.words ≡ h.words)) (sym (ap (λ hs. held_of n hs.held) holds ∙ e)) refl in
         let after : HasHeld n (after_stores (stores s h.words) h.words) k'.log = subst (λ (z : CallerData). HasHeld n (after_stores (stores s h.words) h.words) z.log) (sym all) (has_all_stored n (stores s h.words) h.words (after_words n h.words 35 k.log) has) in
-        (all, λ wide. spelled_now (held_of n k'.log.holdings.held) (after_stores (stores s h.words) h.words) (writes h.words wide fits).spells after)
+        let write : Write s h.words (stores s h.words) = writes h.words told.wide fits in
+        (all, write, spelled_now (held_of n k'.log.holdings.held) (after_stores (stores s h.words) h.words) write.spells after)
       where
         spelled_now : (o : Option Holding) (words : List ℕ) → SpellsNode words s → IsSomeAnd o (λ z. z.words ≡ words) → IsSomeAnd o (λ z. SpellsNode z.words s)
         spelled_now None words spells has = has

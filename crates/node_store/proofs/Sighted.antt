@@ -1,14 +1,16 @@
 -- What a log keeps of the loads of a node, and what its version tells when it is found again.
-use Rattle.std.proofs.Common.{ne_eqb, ◌≢◌, ◌≡◌, ℕ, zero, suc, ◌+◌, ◌-◌, ◌<◌, ◌≤◌, ◌%◌, ◌==◌, Bool, true, false, cond, List, [], ◌∷◌, length, map, Option, Some, None, IfSome, IsSomeAnd, option_map, get_or, set, if◌then◌else◌, not, refl, ap, sym, ◌∙◌, subst, arith, is_some, nat_eq, eq-eqb, get_or-set_same, get_or-set_other}
+use Rattle.std.proofs.Common.{ne_eqb, ◌≢◌, ◌≡◌, ℕ, zero, suc, ◌+◌, ◌-◌, ◌<◌, ◌≤◌, ◌%◌, ◌==◌, Bool, true, false, cond, List, [], ◌∷◌, length, map, Option, Some, None, IfSome, IsSomeAnd, option_map, get_or, set, if◌then◌else◌, ⊎_elim, not, refl, ap, sym, ◌∙◌, subst, arith, is_some, nat_eq, eq-eqb, get_or-set_same, get_or-set_other}
 use Rattle.std.specs.List.{find}
 use Rattle.std.proofs.lemmas.Bool.{eqb-true, eqb-false}
 use Rattle.std.proofs.lemmas.List.{ext_get_or}
 use Rattle.std.proofs.lemmas.Option.{none-some, cond_some}
 use Rattle.tree_shape.specs.NodeData.{NodeData}
 use Rattle.word_rule.specs.declared.log.Ask.TheVariants as ask
+use Rattle.word_rule.specs.declared.log.Holding.{Holding}
 use Rattle.word_rule.specs.declared.log.LoadedWord.{LoadedWord}
 use Rattle.word_rule.specs.declared.log.Log.{Log}
 use Rattle.word_rule.specs.declared.log.NodeSight.{NodeSight}
+use Rattle.word_rule.specs.Callers.{IsLockedAt}
 use Rattle.word_rule.specs.Held.{held_of}
 use Rattle.word_rule.specs.NodeTells.{IsOfNode, IsLiveNode, SightTells}
 use Rattle.word_rule.specs.Observations.{AreOfNode}
@@ -34,7 +36,7 @@ same_words words others wide wide' same =
     (λ i less. let back : i + 1 - 1 ≡ i = omega arith in subst (λ k. get_or words k 0 ≡ get_or others k 0) back (same (i + 1) (omega arith) (omega (arith, less, wide))))
 
 -- what a search found passes its test
-found_passes : {A : Type 0} (test : A → Bool) (xs : List A) (x : A) → find test xs ≡ Some x → test x ≡ true
+pub found_passes : {A : Type 0} (test : A → Bool) (xs : List A) (x : A) → find test xs ≡ Some x → test x ≡ true
 found_passes test [] x is = absurd (none-some x is)
 found_passes test (y ∷ xs) x is = go (test y) refl is (λ e. found_passes test xs x e)
   where
@@ -183,6 +185,18 @@ pub holdings_same : (n : ℕ) (words : List ℕ) (count : ℕ) (v : Log) → (af
 unfolding after_words
 holdings_same n words zero v = refl
 holdings_same n words (suc count) v = holdings_same n words count v
+
+pub terms_same : (n : ℕ) (words : List ℕ) (count : ℕ) (v : Log) → (after_words n words count v).terms ≡ v.terms
+unfolding after_words
+terms_same n words zero v = refl
+terms_same n words (suc count) v = terms_same n words count v
+
+-- who finds an even version doesn't hold the node
+pub even_free : (found : ℕ) (o : Option Holding) → found % 2 ≡ 0 → IfSome o (λ h. IsLockedAt h.version found) → o ≡ None
+even_free found None even told = refl
+even_free found (Some h) even told =
+    let whole = told.0 in
+    absurd (⊎_elim (λ (e : found ≡ h.version + 1). omega (arith, whole, e, even)) (λ (e : found ≡ h.version + 3). omega (arith, whole, e, even)) told.1)
 
 -- a log's sight of the node is the one meant
 abbrev pub KeptBy : Sight → Option NodeSight → Type 0

@@ -1,15 +1,16 @@
 -- The words of a node that a caller holds, read and written.
-use Rattle.std.specs.Prelude.{◌≡◌, ℕ, ◌≤◌, List, [], ◌∷◌, length, IfSome, IsSomeAnd}
+use Rattle.std.specs.Prelude.{◌≡◌, ℕ, ◌≤◌, false, List, [], ◌∷◌, IfSome, IsSomeAnd}
 use Rattle.tree_shape.specs.NodeData.{NodeData}
 use Rattle.word_rule.specs.declared.log.Log.{Log}
 use Rattle.word_rule.specs.CallerData.{CallerData}
 use Rattle.word_rule.specs.Held.{held_of}
+use Rattle.word_rule.specs.NodeTells.{IsLiveNode}
 use Rattle.word_rule.specs.Places.{CONTENT_WORDS}
 use Rattle.word_rule.specs.Spelling.{node_word, SpellsNode}
 use Rattle.word_rule.specs.Steps.{after_node_store}
 use Rattle.node_store.specs.declared.writing.Store.{Store}
 use Rattle.node_store.specs.Sights.{after_words}
-use Rattle.node_store.specs.Writing.{stores}
+use Rattle.node_store.specs.Writing.{Write, stores}
 
 -- two lists have the same words up to this number
 abbrev pub AgreeUpto : List ℕ → List ℕ → ℕ → Type 0
@@ -27,6 +28,12 @@ ReadsHeld n k k' shape = IsSomeAnd (held_of n k.log.holdings.held)
     (λ h. SpellsNode h.words shape
     × (k' ≡ record k { log = after_words n h.words CONTENT_WORDS k.log }))
 
+-- A held node that is marked live and in which no word was stored is this one, at its place in the
+-- tree.
+abbrev pub IsLiveHeld : ℕ → Log → NodeData → Type 0
+IsLiveHeld n v shape = IfSome (held_of n v.holdings.held)
+    (λ h. h.stored ≡ false → IfSome h.mark (IsLiveNode v.terms n shape))
+
 -- a log after stores of words of a held node, one after another
 unfoldable pub after_node_stores : ℕ → List Store → Log → Log
 after_node_stores n [] v = v
@@ -37,11 +44,14 @@ after_node_stores n (store ∷ more) v =
 abbrev pub SpellsHeld : ℕ → NodeData → Log → Type 0
 SpellsHeld n s v = IsSomeAnd (held_of n v.holdings.held) (λ h. SpellsNode h.words s)
 
--- A held node was written: its words were loaded, and those that differ were stored, in order.
--- Where the log had all words of it, they spell it now.
+-- A held node was written: its words were loaded, and those that differ were stored.
 abbrev pub WritesHeld : ℕ → NodeData → CallerData → CallerData → Type 0
 WritesHeld n s k k' = IsSomeAnd (held_of n k.log.holdings.held)
-    (λ h. (k' ≡ record k {
+    (λ h. k' ≡ record k {
       log = after_node_stores n (stores s h.words) (after_words n h.words CONTENT_WORDS k.log);
     })
-    × (length h.words ≡ CONTENT_WORDS → SpellsHeld n s k'.log))
+
+-- these stores are the fewest that write it, in their order
+abbrev pub WritesInOrder : ℕ → NodeData → Log → Type 0
+WritesInOrder n s v =
+    IsSomeAnd (held_of n v.holdings.held) (λ h. Write s h.words (stores s h.words))

@@ -1,10 +1,12 @@
 //! The words of nodes that a caller holds, read and written.
 ghost use Rattle.std.specs.Prelude.{◌≡◌, ◌+◌, ◌<◌, ◌≤◌, length, IsSome, IsSomeAnd};
 ghost use Rattle.word_rule.specs.Held.{held_of};
+ghost use Rattle.word_rule.specs.NodeTells.{HolderTells};
 ghost use Rattle.word_rule.specs.Places.{CONTENT_WORDS};
 ghost use Rattle.word_rule.specs.Spelling.{spelled};
 ghost use Rattle.word_rule.specs.Steps.{MayStore};
-ghost use Rattle.node_store.specs.Holding.{AreHeld, ReadsHeld, WritesHeld};
+ghost use Rattle.node_store.specs.Holding.{AreHeld, IsLiveHeld, ReadsHeld, SpellsHeld};
+ghost use Rattle.node_store.specs.Holding.{WritesHeld, WritesInOrder};
 ghost use Rattle.node_store.specs.Sights.{after_words};
 
 use crate::reading::{CONTENT_WORDS, node_of};
@@ -19,6 +21,7 @@ fn load_words(words: &Words, me: &mut Caller, node: u32) -> [u64; CONTENT_WORDS]
     requires inside { node < words.now.terms.nodes }
     ensures wide { length result ≡ CONTENT_WORDS }
     ensures held { AreHeld node result CONTENT_WORDS me.old.log }
+    ensures holder { HolderTells node me.old.log }
     ensures log { me.new
         ≡ record me.old { log = after_words node result CONTENT_WORDS me.old.log } }
 {
@@ -29,13 +32,15 @@ fn load_words(words: &Words, me: &mut Caller, node: u32) -> [u64; CONTENT_WORDS]
     loaded
 }
 
-/// The node that the words of a held node spell, as they are now.
+/// The node that the words of a held node spell, as they are now. Where the node is live and no
+/// word of it was stored, its children are nodes that there are.
 pub fn read_held(words: &Words, me: &mut Caller, node: u32) -> Node
     requires table { me.old.table ≡ words.now.table }
     requires inside { node < words.now.terms.nodes }
     requires held { IsSomeAnd (held_of node me.old.log.holdings.held)
         (λ h. IsSome (spelled h.words)) }
     ensures reads { ReadsHeld node me.old me.new result }
+    ensures live { IsLiveHeld node me.old.log result }
     ensures holdings { me.new.log.holdings ≡ me.old.log.holdings }
 {
     let loaded = load_words(words, me, node);
@@ -46,12 +51,14 @@ pub fn read_held(words: &Words, me: &mut Caller, node: u32) -> Node
 }
 
 /// Writes a node into one that is held. Only words that differ are stored, each once: the greatest
-/// number first, and the count last of all.
+/// number first, and the count last of all. Afterwards its words spell the node.
 pub fn write_held(words: &Words, me: &mut Caller, node: u32, content: &Node)
     requires table { me.old.table ≡ words.now.table }
     requires inside { node < words.now.terms.nodes }
     requires may { MayStore node me.old.log }
-    ensures { WritesHeld node content.now me.old me.new }
+    ensures stores { WritesHeld node content.now me.old me.new }
+    ensures order { WritesInOrder node content.now me.old.log }
+    ensures spells { SpellsHeld node content.now me.new.log }
 {
     node_fits(content);
     writes();

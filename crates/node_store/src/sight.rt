@@ -2,8 +2,7 @@
 //!
 //! Nothing that a sight has is trusted before its version is found again. Then its words are those
 //! of one node that the tree once had, and had still when the version was found again.
-ghost use Rattle.std.specs.Prelude.{◌≡◌, ◌≢◌, ◌+◌, ◌*◌, ◌<◌, ◌≤◌, IfOk, IsErr, None, length};
-ghost use Rattle.word_rule.specs.Held.{held_of};
+ghost use Rattle.std.specs.Prelude.{◌≡◌, ◌≢◌, ◌+◌, ◌*◌, ◌<◌, ◌≤◌, IfOk, IsErr, length};
 ghost use Rattle.word_rule.specs.Places.{node_place};
 ghost use Rattle.node_store.specs.declared.sight.Sight.{Sight};
 ghost use Rattle.node_store.specs.Sights.{Checks, IsKept, Peeks};
@@ -11,12 +10,7 @@ ghost use Rattle.node_store.specs.Sights.{Checks, IsKept, Peeks};
 use crate::reading::{CONTENT_WORDS, node_of};
 use reg_model::Again;
 use tree_shape::Node;
-use word_rule::{Ask, Caller, LockId, Words};
-
-/// Where the nodes begin in the table, and the words of one.
-const FIRST_NODE: u32 = 4;
-
-const NODE_WORDS: u32 = 36;
+use word_rule::{Ask, Caller, FIRST_NODE, LockId, NODE_WORDS, Words};
 
 /// The words of a node that were loaded under a version.
 #[derive(Clone, Copy, Debug, PartialEq, Eq)]
@@ -34,7 +28,7 @@ fn place_of_node(words: &Words, node: u32) -> u32
     ensures { result ≡ node_place node }
 {
     let _few = words.nodes();
-    FIRST_NODE + NODE_WORDS * node
+    FIRST_NODE as u32 + NODE_WORDS as u32 * node
 }
 
 // That a node has so many words, as the array's type has it. Nothing is done.
@@ -42,8 +36,8 @@ fn all_words(words: &[u64; CONTENT_WORDS])
     ensures { length words.now ≡ 35 }
 {}
 
-/// Loads a node's version and its words. Locked where the version has bit 0 set, with the word
-/// found.
+/// Loads a node's version and its words. Locked where the version has bit 0 set, as it has where
+/// the caller holds the node, with the word found.
 #[tactic(auto, unfolding(crate::specs::Sights::after_words))]
 pub fn peek(words: &Words, me: &mut Caller, node: u32) -> Result<Sight, Again>
     requires table { me.old.table ≡ words.now.table }
@@ -52,8 +46,7 @@ pub fn peek(words: &Words, me: &mut Caller, node: u32) -> Result<Sight, Again>
     ensures holdings { me.new.log.holdings ≡ me.old.log.holdings }
     ensures others { (s : Sight) → s.node ≢ node → IsKept me.old.log s → IsKept me.new.log s }
     ensures locked { IsErr result → (s : Sight) → IsKept me.old.log s → IsKept me.new.log s }
-    ensures kept { held_of node me.old.log.holdings.held ≡ None
-        → IfOk result (λ sight. IsKept me.new.log sight) }
+    ensures kept { IfOk result (λ sight. IsKept me.new.log sight) }
 {
     let version = words.load_version(me, LockId::Node { node }, Ask::Nothing);
     if version % 2 != 0 {

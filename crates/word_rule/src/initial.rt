@@ -2,11 +2,9 @@
 ghost use Rattle.std.specs.Prelude.{◌≡◌, ◌+◌, ◌*◌, ◌/◌, ◌<◌, ◌≤◌, ◌∷◌, ◌++◌, replicate, IfOk};
 ghost use Rattle.word_rule.specs.Places.{initial_node, initial_nodes};
 
+use crate::nodes::NODE_WORDS;
 use reg_model::NoMemory;
 use std::alloc::Global;
-
-/// The words of a node.
-const NODE_WORDS: usize = 36;
 
 const KIND: usize = 1;
 

@@ -43,4 +43,5 @@ pub use log::{
     Ask, Budget, CopySight, Holding, Holdings, Lineage, LoadEvent, LoadedWord, LoaderHolding,
     LockId, Log, NodeSight, Receipts, Role, Sights, Terms, Trace,
 };
+pub use nodes::{FIRST_NODE, NODE_WORDS};
 pub use words::Words;

@@ -25,10 +25,11 @@ use atomic_table::Seat;
 use std::marker::Brand;
 use tree_shape::laws;
 
-/// Where the nodes begin, and the words of one.
-const FIRST_NODE: usize = 4;
+/// Where the nodes begin in the table.
+pub const FIRST_NODE: usize = 4;
 
-const NODE_WORDS: usize = 36;
+/// The words of a node, its version word first.
+pub const NODE_WORDS: usize = 36;
 
 /// Where a node begins, with its version word.
 pub(crate) fn place_of(node: u32) -> usize

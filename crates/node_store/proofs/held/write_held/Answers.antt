@@ -30,7 +30,7 @@ loop-turn-preserved c =
       | in-Some w ↦
           let x = w.in-Some.store in
           let is : store_in_turn s old t ≡ Some x = sym c.store_in_turn.ensures ∙ w.in-Some.is in
-          let me = w.me-is ∙ w.store_node.ensures in
+          let me = w.me-is ∙ w.store_node.ensures.log in
           record {
             stored = me
                 ∙ (ap (λ (k : CallerData). record k { log = after_node_store n x.at x.value k.log }) inv.stored
@@ -52,4 +52,5 @@ returns c =
     let old = c.load_words-old.result in
     let all : c.loop-turn.turn ≡ 35 = omega (arith, c.loop-turn-test.false, c.loop-turn.auto.turn-end) in
     let stored = c.loop-turn.invariant.stored ∙ ap (λ count. record c.args.me.now { log = after_node_stores n (stores_upto s old count) (after_words n old CONTENT_WORDS c.args.me.now.log) }) all in
-    written n s old c.args.me.now c.loop-turn.me c.node_fits.ensures (c.writes.ensures s) c.requires.may c.load_words-old.ensures.held stored
+    let done = written n s old c.args.me.now c.loop-turn.me c.node_fits.ensures (c.writes.ensures s) c.requires.may c.load_words-old.ensures.held c.load_words-old.ensures.holder stored in
+    record { stores = done.0; order = done.1; spells = done.2 }
