@@ -22,7 +22,7 @@ use Rattle.node_store.proofs.Sighted.{holdings_same, words_same}
 use Rattle.node_store.proofs.Stores.{comes_before, never_again, place_inside, same_store}
 
 -- the lock of a node, where each lock was changed and kept its node
-held_changed : (n : ℕ) (f : Holding → Holding) → ((h : Holding) → (f h).node ≡ h.node) → (held : List Holding) → held_of n (map f held) ≡ option_map f (held_of n held)
+pub held_changed : (n : ℕ) (f : Holding → Holding) → ((h : Holding) → (f h).node ≡ h.node) → (held : List Holding) → held_of n (map f held) ≡ option_map f (held_of n held)
 held_changed n f keeps [] = refl
 held_changed n f keeps (h ∷ held) = ap (λ m. cond (m == n) (Some (f h)) (held_of n (map f held))) (keeps h) ∙ go (nat_eq h.node n) (held_changed n f keeps held)
   where
@@ -31,7 +31,7 @@ held_changed n f keeps (h ∷ held) = ap (λ m. cond (m == n) (Some (f h)) (held
     go false later = later
 
 -- a store changes the lock of its node
-held_edited : (n : ℕ) (f : Holding → Holding) → ((h : Holding) → (f h).node ≡ h.node) → (held : List Holding) → held_of n (edited n f held) ≡ option_map f (held_of n held)
+pub held_edited : (n : ℕ) (f : Holding → Holding) → ((h : Holding) → (f h).node ≡ h.node) → (held : List Holding) → held_of n (edited n f held) ≡ option_map f (held_of n held)
 held_edited n f keeps [] = refl
 held_edited n f keeps (h ∷ held) = go (nat_eq h.node n) refl (held_edited n f keeps held)
   where
@@ -50,7 +50,7 @@ append_node_stores n [] more v = refl
 append_node_stores n (x ∷ made) more v = append_node_stores n made more (after_node_store n x.at x.value v)
 
 -- a store that makes no live node free
-plain_store : (n at value : ℕ) (v : Log) → frees n at value v ≡ false → after_node_store n at value v ≡ stored_log n at value v
+pub plain_store : (n at value : ℕ) (v : Log) → frees n at value v ≡ false → after_node_store n at value v ≡ stored_log n at value v
 plain_store n at value v e = ap (λ b. if b then settle None (stored_log n at value v) else stored_log n at value v) e
 
 may_stays : (n at value : ℕ) (v : Log) → frees n at value v ≡ false → MayStore n v → MayStore n (after_node_store n at value v)
@@ -88,7 +88,7 @@ IsStill s t = (t ≤ 33) ⊎ (kind_of_body s.body ≢ 2)
 above_one : (t : ℕ) → t ≤ 32 → place_in_turn t ≢ 1
 above_one t few e = never_again (place_in_turn t) (place_in_turn 33) (comes_before t 33 (omega (arith, few)) (omega arith)) e
 
-and_false : (b : Bool) → (b && false) ≡ false
+pub and_false : (b : Bool) → (b && false) ≡ false
 and_false true = refl
 and_false false = refl
 

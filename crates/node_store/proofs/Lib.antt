@@ -6,3 +6,4 @@ pub mod Stores
 pub mod Sighted
 pub mod HeldWords
 pub mod HeldWrites
+pub mod Giving

@@ -1,9 +1,15 @@
 -- What taking a node off the free list, and giving one back, make of a caller.
-use Rattle.std.specs.Prelude.{◌≡◌, ◌≢◌, ℕ, Bool, true, Option, Some, None, Result, Ok, Err}
+use Rattle.std.specs.Prelude.{◌≡◌, ◌≢◌, ℕ, Bool, true, ◌==◌, Option, Some, None, Result, Ok, Err}
+use Rattle.std.specs.Prelude.{if◌then◌else◌}
 use Rattle.word_rule.specs.CallerData.{CallerData}
+use Rattle.word_rule.specs.Held.{held_of}
 use Rattle.word_rule.specs.Sights.{after_node_load}
-use Rattle.word_rule.specs.Steps.{after_head_load, after_take}
+use Rattle.word_rule.specs.Spelling.{node_word}
+use Rattle.word_rule.specs.Steps.{after_give, after_head_load, after_node_release}
+use Rattle.word_rule.specs.Steps.{after_node_store, after_take}
+use Rattle.word_rule.specs.declared.log.Holding.{Holding}
 use Rattle.word_rule.specs.declared.log.LockId.TheVariants as lock
+use Rattle.word_rule.specs.declared.log.Log.{Log}
 use Rattle.node_store.specs.declared.locking.Busy.{Busy}
 use Rattle.node_store.specs.Locking.{IsBusy, Locks}
 
@@ -24,3 +30,29 @@ IsFreeTaken gives_up k k' (Ok (Some n)) = (n ≢ 0) × TakesFree n k k'
 IsFreeTaken gives_up k k' (Err busy) =
     (n : ℕ) × ((busy.lock ≡ lock.Node n) × (n ≢ 0) × IsBusy (lock.Node n) (headed n k) k'
     × (gives_up ≡ true))
+
+-- the word that a log has of a held node
+abbrev pub word_of_lock : ℕ → Option Holding → ℕ
+word_of_lock at None = 0
+word_of_lock at (Some h) = node_word h.words at
+
+abbrev pub held_word : ℕ → ℕ → Log → ℕ
+held_word n at v = word_of_lock at (held_of n v.holdings.held)
+
+-- A word of a held node was made this one: it was loaded, and stored where it was another.
+abbrev pub after_setting : ℕ → ℕ → ℕ → Log → Log
+after_setting n at value v =
+    if held_word n at v == value
+    then after_node_load n at (held_word n at v) v
+    else after_node_store n at value (after_node_load n at (held_word n at v) v)
+
+-- A node was made free and linked to the head that was found: its kind is 2, and its level 0.
+abbrev pub after_linking : ℕ → ℕ → Log → Log
+after_linking n head v =
+    after_node_store n 6 head (after_head_load head (after_setting n 2 0 (after_setting n 1 2 v)))
+
+-- A node that was out was given back: it was linked, then it became the head, and then it was let
+-- go with the next version.
+abbrev pub GivesFree : ℕ → CallerData → CallerData → Type 0
+GivesFree n k k' = (head : ℕ)
+    × (k' ≡ record k { log = after_node_release n (after_give n (after_linking n head k.log)) })

@@ -1,13 +1,22 @@
 //! Nodes that are taken off the free list and given back, by one writer at a time: under the root's
 //! lock.
-ghost use Rattle.std.specs.Prelude.{◌≡◌, ◌*◌, ◌<◌, length, IsSome};
+ghost use Rattle.std.specs.Prelude.{◌≡◌, ◌*◌, ◌<◌, ◌≤◌, Some, None, length, IsSome, IsTrue};
+ghost use Rattle.tree_shape.specs.Numbers.{is_among};
+ghost use Rattle.word_rule.specs.CallerData.{surplus};
 ghost use Rattle.word_rule.specs.Held.{held_of};
-ghost use Rattle.node_store.specs.Free.{IsFreeTaken};
+ghost use Rattle.word_rule.specs.NodeTells.{HolderTells, OutTells};
+ghost use Rattle.node_store.specs.Free.{GivesFree, IsFreeTaken, after_setting};
 
 use crate::locking::{Busy, Locking};
+use crate::locks::wake_after;
+use crate::reading::FREE;
 use word_rule::{Caller, LockId, Words};
 
-/// The word of a free node that links it to the next.
+/// The words of a free node: its kind, its level, and what links it to the next.
+const KIND: u32 = 1;
+
+const LEVEL: u32 = 2;
+
 const LINK: u32 = 6;
 
 /// Takes the first node off the free list and gives it out locked, or None where there is none.
@@ -34,4 +43,43 @@ pub fn take_free<L: Locking>(
     let next = words.load_node(me, node, LINK);
     words.store_head(me, next);
     Ok(Some(node))
+}
+
+// Makes a word of a node that is out this one: it is stored where it is another.
+fn set_word(words: &Words, me: &mut Caller, node: u32, at: u32, value: u64)
+    requires table { me.old.table ≡ words.now.table }
+    requires inside { node < words.now.terms.nodes }
+    requires word { (1 ≤ at) × (at ≤ 35) }
+    requires held { IsSome (held_of node me.old.log.holdings.held) }
+    requires out { IsTrue (is_among me.old.log.holdings.out node) }
+    ensures log { me.new ≡ record me.old { log = after_setting node at value me.old.log } }
+    ensures holder { HolderTells node me.old.log }
+    ensures out { OutTells node me.old.log }
+{
+    if words.load_node(me, node, at) != value {
+        words.store_node(me, node, at, value);
+    }
+}
+
+/// Puts a node that the caller holds and has out onto the free list, as the first one, and lets go
+/// of it.
+pub fn give_free(words: &Words, me: &mut Caller, node: u32)
+    requires table { me.old.table ≡ words.now.table }
+    requires inside { node < words.now.terms.nodes }
+    requires root { IsSome (held_of 0 me.old.log.holdings.held) }
+    requires held { IsSome (held_of node me.old.log.holdings.held) }
+    requires out { IsTrue (is_among me.old.log.holdings.out node) }
+    requires surplus { 0 < surplus me.old }
+    ensures gives { GivesFree node me.old me.new }
+    ensures unlocked { held_of node me.new.log.holdings.held ≡ None }
+    ensures first { me.new.log.holdings.head ≡ Some node }
+    ensures root { IsSome (held_of 0 me.new.log.holdings.held) }
+{
+    set_word(words, me, node, KIND, FREE);
+    set_word(words, me, node, LEVEL, 0);
+    let head = words.load_head(me);
+    words.store_node(me, node, LINK, head);
+    words.store_head(me, node as u64);
+    let lock = LockId::Node { node };
+    wake_after(words, lock, words.release(me, lock));
 }

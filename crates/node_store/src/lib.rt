@@ -21,7 +21,7 @@ mod tests;
 mod word_tests;
 mod writing;
 
-pub use free::take_free;
+pub use free::{give_free, take_free};
 pub use held::{read_held, write_held};
 pub use locking::{Busy, Locking, Once, Trying, Waiting};
 pub use locks::{lock, unlock, unlock_same};
