@@ -9,11 +9,12 @@ use Rattle.word_rule.specs.declared.log.Terms.{Terms}
 use Rattle.word_rule.specs.declared.log.Holding.{Holding}
 use Rattle.word_rule.specs.declared.log.Log.{Log}
 use Rattle.word_rule.specs.Memory.{NodeWords}
-use Rattle.word_rule.specs.Held.{held_of, is_marked}
+use Rattle.word_rule.specs.Held.{held_of}
 use Rattle.word_rule.specs.Nodes.{Shadow, NodesHold, HoldsNode, IsPlaced}
 use Rattle.word_rule.specs.NodeTells.{KnowsTree, IsHeldNode, IsLiveNode, OutTells}
 use Rattle.word_rule.proofs.Names.{once_small}
 use Rattle.word_rule.proofs.Facts.{part_of_total}
+use Rattle.word_rule.proofs.Each.{all_map}
 use Rattle.word_rule.proofs.Standing.{held_by}
 use Rattle.word_rule.proofs.Each.{all_map}
 use Rattle.word_rule.proofs.NodeLoads.{ltb_true}
@@ -36,16 +37,12 @@ module _ (t : Terms) (words : NodeWords) (views : List Log) (history : List Upda
   out_tells root n out =
       let dead = out_is_dead n (ltb_true 0 (times n u.holdings.out) out) in (
         λ is. true≢false (sym (root shadow.settled shadow.live r.lawful.tree) ∙ (ap shadow.live (sym is) ∙ dead)),
-        go dead (held_of n u.holdings.held) refl,
+        all_map (HoldsNode t words shadow j) (λ h. h.node ≡ n → h.mark ≡ None) (λ h k e. no_mark h h.mark (ap shadow.live e ∙ dead) k.marked) u.holdings.held (r.holdings j u at).each,
       )
     where
-      by_mark : (h : Holding) (o : Option Frame) → h.mark ≡ o → shadow.live h.node ≡ false → IfSome o (λ f. IsTrue (shadow.live h.node) × IsPlaced h.settled f) → is_marked (Some h) ≡ false
-      by_mark h None e dead told = rw e refl
-      by_mark h (Some f) e dead told = absurd (true≢false (sym told.0 ∙ dead))
-
-      go : shadow.live n ≡ false → (o : Option Holding) → held_of n u.holdings.held ≡ o → is_marked o ≡ false
-      go dead None e = refl
-      go dead (Some h) e = let mine = held_by t words views history shadow r j u n h at e in by_mark h h.mark refl (ap shadow.live mine.1 ∙ dead) mine.0.marked
+      no_mark : (h : Holding) (o : Option Frame) → shadow.live h.node ≡ false → IfSome o (λ f. IsTrue (shadow.live h.node) × IsPlaced h.settled f) → o ≡ None
+      no_mark h None dead told = refl
+      no_mark h (Some f) dead told = absurd (true≢false (sym told.0 ∙ dead))
 
   -- the words and the settled content of a node that is held
   pub holder_tells : ChildrenLaw → ((k : ℕ) → k < t.nodes → length (words.contents k) ≡ 35) → u.terms ≡ t → (n : ℕ) → IfSome (held_of n u.holdings.held) (IsHeldNode u.terms)

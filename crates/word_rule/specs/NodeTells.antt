@@ -1,6 +1,6 @@
 -- What steps on nodes tell.
 use Rattle.std.specs.Prelude.{◌≡◌, ◌≢◌, ℕ, ◌-◌, ◌<◌, ◌%◌, false, IsTrue, List, [], length, IfSome}
-use Rattle.std.specs.Prelude.{Bool, IsSome, Some}
+use Rattle.std.specs.Prelude.{Bool, IsSome, Some, None}
 use Rattle.std.specs.List.{AllByRecursion}
 use Rattle.reg_model.specs.History.{state_after}
 use Rattle.reg_model.specs.declared.answer.Update.{Update}
@@ -16,7 +16,7 @@ use Rattle.word_rule.specs.declared.log.NodeSight.{NodeSight}
 use Rattle.word_rule.specs.declared.log.Log.{Log}
 use Rattle.word_rule.specs.Places.{CONTENT_WORDS, node_place}
 use Rattle.word_rule.specs.Spelling.{node_word, SpellsNode}
-use Rattle.word_rule.specs.Held.{held_of, marked_in}
+use Rattle.word_rule.specs.Held.{held_of}
 use Rattle.word_rule.specs.Logs.{turns}
 use Rattle.word_rule.specs.Callers.{IsAlone, start}
 use Rattle.word_rule.specs.Sights.{sight_of, place_of}
@@ -76,10 +76,10 @@ pub record IsHeldNode (t : Terms) (h : Holding) : Type 0 where
 abbrev pub HolderTells : ℕ → Log → Type 0
 HolderTells n v = IfSome (held_of n v.holdings.held) (IsHeldNode v.terms)
 
--- a node that is out isn't the root, and isn't marked live
+-- a node that is out isn't the root, and no lock of it is marked live
 abbrev pub OutTells : ℕ → Log → Type 0
-OutTells n v =
-    IsTrue (is_among v.holdings.out n) → (n ≢ 0) × (marked_in v.holdings.held n ≡ false)
+OutTells n v = IsTrue (is_among v.holdings.out n)
+    → (n ≢ 0) × AllByRecursion (λ h. h.node ≡ n → h.mark ≡ None) v.holdings.held
 
 -- What a caller knows of the tree by what it holds: there is a lawful one in which each node that it
 -- holds marked live is live with its settled content, and none that it has out is.
