@@ -14,6 +14,7 @@ use Rattle.tree_shape.specs.declared.pair.Pair.{Pair}
 use Rattle.reg_model.specs.History.{state_after, state_at}
 use Rattle.tree_shape.specs.NodeData.{Body, Pairs, Entries, Link, frame_of, pairs_in}
 use Rattle.tree_shape.specs.Trees.{Contents, Branch, branches, branches_from}
+use Rattle.tree_shape.specs.declared.limits.TheConstants.{HIGHEST_LEVEL}
 use Rattle.tree_shape.specs.Lawful.{IsTree, IsOrderedAs, FitsParent}
 use Rattle.word_rule.specs.declared.log.Role.{Role}
 use Rattle.word_rule.specs.declared.log.Role.TheVariants as role
@@ -36,13 +37,13 @@ use Rattle.word_rule.proofs.Answering.{Told, answered}
 use Rattle.word_rule.proofs.Refusals.{query_at, query_answers}
 use Rattle.word_rule.proofs.Facts.{within, decided, set_twice}
 use Rattle.word_rule.proofs.Each.{all_map}
-use Rattle.word_rule.specs.Sights.{sight_of, without_sight, loaded_word, place_of, low_of, place_between, is_loaded_as, named_place, pairs_in_sight, place_under, or_mark, mark_child, sight_begun, sights_after_version, receipts_after_version, after_node_version, try_receipts, is_leaf_for, query_receipt, with_receipts}
+use Rattle.word_rule.specs.Sights.{sight_of, without_sight, loaded_word, place_of, low_of, place_between, is_loaded_as, named_place, pairs_in_sight, place_under, or_mark, mark_child, sight_begun, sights_after_begin, sights_after_version, receipts_after_version, after_node_begin, after_node_version, try_receipts, is_leaf_for, query_receipt, with_receipts}
 use Rattle.word_rule.specs.Held.{held_of}
 use Rattle.word_rule.specs.Callers.{total, start, IsAlone, IsLockedAt}
 use Rattle.word_rule.specs.Nodes.{Shadow, NodesHold, HeldBy, IsOpen, IsPlaced}
 use Rattle.word_rule.specs.Observations.{Stands, AreInside, AreOfNode, SightHolds}
 use Rattle.word_rule.specs.TableInvariant.{TableInvariant}
-use Rattle.word_rule.specs.Plays.{Seated, loads_version}
+use Rattle.word_rule.specs.Plays.{Seated, begins_sight, loads_version}
 use Rattle.word_rule.proofs.Memories.{load_version_at, content_length}
 use Rattle.word_rule.proofs.Spells.{reads_pairs, eqb_true}
 use Rattle.word_rule.proofs.Standing.{even_is_open, stands_spells, version_locked}
@@ -255,6 +256,14 @@ module _ (t : Terms) (words : NodeWords) (views : List Log) (history : List Upda
       same_or_not (no ne) (yes e) = rw (ne_eqb s.version found ne, eq-eqb (found % 2) 0 e) (begins n found inside is e, kept n cs all)
       same_or_not (no ne) (no odd) = rw (ne_eqb s.version found ne, ne_eqb (found % 2) 0 odd) all
 
+  -- and where one is begun anew
+  begun_anew : (n found : ℕ) → n < t.nodes → words.versions n ≡ found → (cs : List NodeSight) → AllByRecursion (SightHolds t words history shadow) cs → AllByRecursion (SightHolds t words history shadow) (sights_after_begin n found cs)
+  begun_anew n found inside is cs all = go (ℕ_discrete (found % 2) 0)
+    where
+      go : Dec (found % 2 ≡ 0) → AllByRecursion (SightHolds t words history shadow) (if found % 2 == 0 then (sight_begun n found ∷ without_sight n cs) else cs)
+      go (yes e) = rw (eq-eqb (found % 2) 0 e) (begins n found inside is e, kept n cs all)
+      go (no odd) = rw (ne_eqb (found % 2) 0 odd) all
+
   live_inside : (k : ℕ) → IsTrue (shadow.live k) → k < t.nodes
   live_inside k alive = go (nat_lt k t.nodes) refl
     where
@@ -268,6 +277,7 @@ module _ (t : Terms) (words : NodeWords) (views : List Log) (history : List Upda
     placed = placed;
     ordered = r.lawful.tree.ordered n alive;
     filled = r.lawful.filled n alive;
+    height = λ root. subst (λ k. (shadow.settled k).level ≤ HIGHEST_LEVEL) (sym root) r.lawful.tree.height;
     places = λ k. frame_of (shadow.settled k);
     own = refl;
     children = kids (branches ((shadow.settled n).level - 1) (shadow.settled n)) (law.live shadow.settled shadow.live n r.lawful.tree alive) (law.never_root shadow.settled shadow.live n r.lawful.tree alive);
@@ -414,3 +424,32 @@ module _ (t : Terms) (slots id : ℕ) (me : Seated) (caller : me.0.role ≡ role
       (subst (λ j. Allows Holds slots id me (4 + 36 * n) (λ x. x) (loads_version u b j (step slots (4 + 36 * n) 0 0 none) me)) (sym node)
       (subst (λ j. Allows Holds slots id me (4 + 36 * n) (λ x. x) (loads_version u j n (step slots (4 + 36 * n) 0 0 none) me)) (sym asked)
       (subst (λ j. Allows Holds slots id me (4 + 36 * n) (λ x. x) (loads_version j a n (step slots (4 + 36 * n) 0 0 none) me)) same (loads_node_version law a n inside))))
+
+  -- A sight of a node begins anew.
+  pub begins_node_sight : ChildrenLaw → (n : ℕ) → n < t.nodes → Allows Holds slots id me (4 + 36 * n) (λ k. k) (begins_sight n (step slots (4 + 36 * n) 0 0 none) me)
+  begins_node_sight law n inside s r deep here small =
+      let found : ℕ = get_or s.words (4 + 36 * n) 0 in
+      let w : Log = after_node_begin n found me.0 in
+      let m : Memory = memory_of t s.words in
+      let callers : ℕ = total (λ u. u.made) s.views + 1 in
+      let o = r.memory.observations id me.0 here in
+      let at = load_version_at t s.words n inside in
+      let sights = begun_anew t m.nodes s.views r.memory.history r.memory.shadow r.memory.nodes law n found inside at me.0.sights.nodes o.sights in (
+        w,
+        keeps,
+        tt,
+        quiet t s.words s.views r id me.0 w here (ap is_spent caller) (4 + 36 * n) (record { terms = refl; role = refl; past = refl; receipts = refl; allowance = refl; made = refl; lineage = refl }) refl refl
+            (busy me.0 w caller) (r.memory.nodes.holdings id me.0 here) (λ _ h. h) (λ _. refl)
+            (observations_own t m r.memory.history callers r.memory.shadow me.0 w (load_of me.0 (4 + 36 * n) found ∷ []) (record { own = refl; turns = omega arith; loads = refl }) sights o.copies (of_version t slots id me caller s r n, tt) ((omega arith, omega arith), tt) o)
+            (λ alone. still_after_load s.words me.0 w (load_of me.0 (4 + 36 * n) found) refl refl refl (r.alone id me.0 here alone)),
+        (
+          refl,
+          subst (λ k. IfSome (held_of n me.0.holdings.held) (λ h. IsLockedAt h.version k)) at (version_locked t m.nodes s.views r.memory.history r.memory.shadow r.memory.nodes id me.0 n here),
+          told_alone t s.words s.views r id me.0 here n inside,
+        ),
+      )
+
+  pub begins_sight_of : ChildrenLaw → (n k place : ℕ) → k ≡ n → place ≡ 4 + 36 * n → n < t.nodes → Allows Holds slots id me place (λ x. x) (begins_sight k (step slots place 0 0 none) me)
+  begins_sight_of law n k place node is inside =
+      subst (λ p. Allows Holds slots id me p (λ x. x) (begins_sight k (step slots p 0 0 none) me)) (sym is)
+      (subst (λ j. Allows Holds slots id me (4 + 36 * n) (λ x. x) (begins_sight j (step slots (4 + 36 * n) 0 0 none) me)) (sym node) (begins_node_sight law n inside))

@@ -1,5 +1,5 @@
 -- What steps on nodes tell.
-use Rattle.std.specs.Prelude.{◌≡◌, ◌≢◌, ℕ, ◌-◌, ◌<◌, ◌%◌, false, IsTrue, List, [], length, IfSome}
+use Rattle.std.specs.Prelude.{◌≡◌, ◌≢◌, ℕ, ◌-◌, ◌<◌, ◌≤◌, ◌%◌, false, IsTrue, List, [], length, IfSome}
 use Rattle.std.specs.Prelude.{Bool, IsSome, Some, None}
 use Rattle.std.specs.List.{AllByRecursion}
 use Rattle.reg_model.specs.History.{state_after}
@@ -8,6 +8,7 @@ use Rattle.tree_shape.specs.NodeData.{NodeData, Link, frame_of}
 use Rattle.tree_shape.specs.Trees.{Contents, branches}
 use Rattle.tree_shape.specs.Lawful.{IsFilled, IsLawfulTree, IsOrdered}
 use Rattle.tree_shape.specs.Numbers.{is_among}
+use Rattle.tree_shape.specs.declared.limits.TheConstants.{HIGHEST_LEVEL}
 use Rattle.tree_shape.specs.declared.node.Frame.{Frame}
 use Rattle.word_rule.specs.declared.log.Terms.{Terms}
 use Rattle.word_rule.specs.declared.log.Holding.{Holding}
@@ -30,6 +31,7 @@ pub record IsLiveNode (t : Terms) (n : ℕ) (s : NodeData) (f : Frame) : Type 0 
   pub placed : IsPlaced s f
   pub ordered : IsOrdered s
   pub filled : IsFilled n s
+  pub height : n ≡ 0 → s.level ≤ HIGHEST_LEVEL
   pub places : ℕ → Frame
   pub own : places n ≡ frame_of s
   pub children : AllByRecursion

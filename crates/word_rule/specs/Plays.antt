@@ -8,7 +8,8 @@ use Rattle.word_rule.specs.declared.log.Log.{Log}
 use Rattle.word_rule.specs.declared.log.LoaderHolding.{LoaderHolding}
 use Rattle.word_rule.specs.declared.log.Ask.{Ask}
 use Rattle.word_rule.specs.Places.{ALLOWANCE, node_place}
-use Rattle.word_rule.specs.Sights.{after_node_version, after_node_load, after_copy_load}
+use Rattle.word_rule.specs.Sights.{after_node_begin, after_node_version, after_node_load}
+use Rattle.word_rule.specs.Sights.{after_copy_load}
 use Rattle.word_rule.specs.Steps.{after_node_lock, after_head_load, after_copy_store, AfterPublish}
 use Rattle.word_rule.specs.Steps.{HeadStored, IsHeldWord}
 use Rattle.word_rule.specs.Commits.{AfterCommit}
@@ -97,6 +98,12 @@ abbrev pub loads_version : Terms → Ask → ℕ → Stepped → Seated → ℕ 
 loads_version t ask n st me found me' =
     (me' ≡ (after_node_version ask n found me.0, me.1)) × (me.0.terms ≡ t)
     × SightTells n found me.0 × NodeWasLocked n me found × AloneTells n found me.0
+
+-- a sight of a node was begun anew
+abbrev pub begins_sight : ℕ → Stepped → Seated → ℕ → Seated → Type 0
+begins_sight n st me found me' =
+    (me' ≡ (after_node_begin n found me.0, me.1)) × NodeWasLocked n me found
+    × AloneTells n found me.0
 
 -- a node was taken at a version
 abbrev pub TakesNode : ℕ → ℕ → Seated → Seated → Type 0

@@ -151,6 +151,16 @@ after_node_version a n found v =
       };
     }
 
+-- The version of a node was loaded to begin a sight of it anew: what there was is forgotten.
+abbrev pub sights_after_begin : ℕ → ℕ → List NodeSight → List NodeSight
+sights_after_begin n found sights =
+    if found % 2 == 0 then (sight_begun n found ∷ without_sight n sights) else sights
+
+abbrev pub after_node_begin : ℕ → ℕ → Log → Log
+after_node_begin n found v = record (after_load (node_place n) found v) {
+  sights = record v.sights { nodes = sights_after_begin n found v.sights.nodes };
+}
+
 -- a word joins the sight of its node
 abbrev pub with_word : ℕ → ℕ → ℕ → NodeSight → NodeSight
 with_word n at value s =

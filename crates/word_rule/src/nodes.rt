@@ -9,7 +9,7 @@ ghost use Rattle.word_rule.specs.NodeTells.{AloneTells, HeldTells, HolderTells, 
 ghost use Rattle.word_rule.specs.NodeTells.{OutTells, SightTells};
 ghost use Rattle.word_rule.specs.Places.{node_place};
 ghost use Rattle.word_rule.specs.Plays.{TakesNode};
-ghost use Rattle.word_rule.specs.Sights.{after_node_load, after_node_version};
+ghost use Rattle.word_rule.specs.Sights.{after_node_begin, after_node_load, after_node_version};
 ghost use Rattle.word_rule.specs.Steps.{MayRelease, MayStore, after_node_release};
 ghost use Rattle.word_rule.specs.Steps.{after_node_release_same, after_node_store};
 ghost use Rattle.word_rule.specs.VersionLocks.{NodeTaken};
@@ -17,8 +17,8 @@ ghost use Rattle.word_rule.specs.VersionLocks.{NodeTaken};
 use crate::caller::Caller;
 use crate::log::{Ask, Log, Role};
 use crate::rule::{
-    AtNode, GrabsNode, LoadsNode, LoadsVersion, LocksNode, ReleasesNode, ReleasesSameNode,
-    StoresNode,
+    AtNode, BeginsSight, GrabsNode, LoadsNode, LoadsVersion, LocksNode, ReleasesNode,
+    ReleasesSameNode, StoresNode,
 };
 use crate::words::{LOCKED, VERSION, Words};
 use atomic_table::Seat;
@@ -72,6 +72,37 @@ impl Words {
         ensures alone { AloneTells node result me.old.log }
     {
         self.load_version_for::<Brand>(&mut me.seat, node, ask)
+    }
+
+    fn begin_sight_for<N: AtNode>(&self, seat: &mut Seat<(), Log>, node: u32) -> u64
+        requires table { seat.old.table_id ≡ self.now.table }
+        requires about { N.node ≡ node }
+        requires inside { node < self.now.terms.nodes }
+        requires caller { seat.old.me.0.role ≡ Role.Caller }
+        ensures same { (seat.new.table_id ≡ seat.old.table_id) × (seat.new.id ≡ seat.old.id)
+            × (seat.new.me.1 ≡ seat.old.me.1) }
+        ensures log { seat.new.me.0 ≡ after_node_begin N.node result seat.old.me.0 }
+        ensures held { IfSome (held_of N.node seat.old.me.0.holdings.held)
+            (λ h. IsLockedAt h.version result) }
+        ensures alone { AloneTells N.node result seat.old.me.0 }
+    {
+        laws::children();
+        self.table
+            .shared
+            .load::<BeginsSight<N>>(seat, place_of(node))
+    }
+
+    /// Loads the version word of a node, and begins a sight of it where it isn't locked: whatever
+    /// was loaded of the node before is forgotten.
+    pub fn begin_sight(&self, me: &mut Caller, node: u32) -> u64
+        requires table { me.old.table ≡ self.now.table }
+        requires inside { node < self.now.terms.nodes }
+        ensures log { me.new ≡ record me.old { log = after_node_begin node result me.old.log } }
+        ensures held { IfSome (held_of node me.old.log.holdings.held)
+            (λ h. IsLockedAt h.version result) }
+        ensures alone { AloneTells node result me.old.log }
+    {
+        self.begin_sight_for::<Brand>(&mut me.seat, node)
     }
 
     fn load_node_for<N: AtNode>(&self, seat: &mut Seat<(), Log>, node: u32, at: u32) -> u64

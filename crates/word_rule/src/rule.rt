@@ -160,6 +160,16 @@ impl<N: AtNode> Play<(), Log> for LoadsVersion<N> {
     ghost then = { loads_version N.terms N.ask N.node };
 }
 
+pub(crate) struct BeginsSight<N> {
+    node: PhantomData<N>,
+}
+
+impl<N: AtNode> Play<(), Log> for BeginsSight<N> {
+    ghost use Rattle.word_rule.specs.Plays.{begins_sight};
+
+    ghost then = { begins_sight N.node };
+}
+
 pub(crate) struct LoadsNode<N> {
     node: PhantomData<N>,
 }

@@ -139,3 +139,16 @@ fn release_of_the_root(rt: HostRuntime) -> Result<(), Fail> {
     assert!(rt; words.load_version(&mut a, root, Ask::Nothing) == 4);
     Ok(())
 }
+
+#[test]
+fn a_sight_begins_anew(rt: HostRuntime) -> Result<(), Fail> {
+    let alloc = rt.alloc();
+    let (words, mut a) = Words::new(alloc, 4, 1, 1, Vec::new(alloc))?;
+    let root = LockId::Node { node: 0 };
+    assert!(rt; words.begin_sight(&mut a, 0) == 0 && words.load_node(&mut a, 0, 2) == 0);
+    assert!(rt; words.take(&mut a, root) == Ok(0));
+    assert!(rt; words.begin_sight(&mut a, 0) == 1);
+    assert!(rt; words.release(&mut a, root) == 1);
+    assert!(rt; words.begin_sight(&mut a, 0) == 4);
+    Ok(())
+}
