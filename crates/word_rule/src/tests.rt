@@ -148,7 +148,7 @@ fn a_sight_begins_anew(rt: HostRuntime) -> Result<(), Fail> {
     assert!(rt; words.begin_sight(&mut a, 0) == 0 && words.load_node(&mut a, 0, 2) == 0);
     assert!(rt; words.take(&mut a, root) == Ok(0));
     assert!(rt; words.begin_sight(&mut a, 0) == 1);
-    assert!(rt; words.release(&mut a, root) == 1);
-    assert!(rt; words.begin_sight(&mut a, 0) == 4);
+    assert!(rt; words.release_same(&mut a, root) == 1);
+    assert!(rt; words.begin_sight(&mut a, 0) == 0);
     Ok(())
 }

@@ -67,7 +67,7 @@ impl Model for Words {
 
     ghost invariant = { λ w. (w.table.shared.key.value ≡ w.made)
         × (w.table.shared.table_id.words ≡ word_count (terms_of w.made))
-        × (w.table.shared.table_id.slots ≡ 0) × (w.made.nodes ≤ 16384) };
+        × (w.table.shared.table_id.slots ≡ 0) × (w.made.nodes ≤ 16384) × (4 ≤ w.made.nodes) };
 }
 
 impl Words {
@@ -75,6 +75,7 @@ impl Words {
     pub fn nodes(&self) -> u32
         ensures value { result ≡ self.now.terms.nodes }
         ensures few { result ≤ 16384 }
+        ensures some { 4 ≤ result }
     {
         self.made.nodes
     }

@@ -19,4 +19,4 @@ pub invariant_of-result : goal.invariant_of-result
 invariant_of-result c =
     let t : Terms = record { nodes = c.args.nodes; loads = c.args.loads; payloads = c.args.payloads; fixed = c.args.fixed.items } in
     let told = c.in_ok-table.ensures in
-    (ap (λ k. k.value) told.5 ∙ c.of-key.ensures, told.0 ∙ (ap length (c.as_slice.ensures.value ∙ c.in_ok-words.ensures) ∙ initial_length t), told.1, c.requires.nodes.1)
+    (ap (λ k. k.value) told.5 ∙ c.of-key.ensures, told.0 ∙ (ap length (c.as_slice.ensures.value ∙ c.in_ok-words.ensures) ∙ initial_length t), told.1, c.requires.nodes.1, c.requires.nodes.0)
