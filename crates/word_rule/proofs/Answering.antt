@@ -18,7 +18,7 @@ use Rattle.word_rule.specs.Memory.{Memory, memory_of}
 use Rattle.word_rule.specs.Logs.{is_spent, weight, turns}
 use Rattle.word_rule.specs.Sights.{with_receipts}
 use Rattle.word_rule.specs.Callers.{total, CallersHold, LogHolds, IsRecord, AtLoader, LoaderLock, dones_in}
-use Rattle.word_rule.specs.Observations.{WasFull, ObservationsHold}
+use Rattle.word_rule.specs.Observations.{WasFull, ObservationsHold, last_moment}
 use Rattle.word_rule.specs.TableInvariant.{TableInvariant}
 use Rattle.word_rule.proofs.Refusals.{HoldsNow, answer_record}
 use Rattle.word_rule.proofs.Facts.{total_same, after_step}
@@ -28,22 +28,22 @@ use Rattle.word_rule.proofs.NodesFrame.{nodes_same}
 use Rattle.word_rule.proofs.Frames.{table_step}
 use Rattle.word_rule.proofs.Joins.{record_later}
 
--- what is asked is answered by one such receipt, or by none
-abbrev pub Told : Terms → List Update → List Receipt → Type 0
-Told t history rs = (rs ≡ []) ⊎ ((r : Receipt) × ((rs ≡ r ∷ []) × HoldsNow t history r))
+-- what is asked is answered by one such receipt, which comes after a log's own, or by none
+abbrev pub Told : Terms → List Update → List Receipt → List Receipt → Type 0
+Told t history own rs = (rs ≡ []) ⊎ ((r : Receipt) × ((rs ≡ r ∷ []) × HoldsNow t history (last_moment 0 own) r))
 
 -- they go on a record
-pub told_record : (t : Terms) (past history : List Update) (callers : ℕ) (own rs : List Receipt) → IsPrefix past history → Told t history rs → IsRecord t past callers own → IsRecord t history callers (own ++ rs)
+pub told_record : (t : Terms) (past history : List Update) (callers : ℕ) (own rs : List Receipt) → IsPrefix past history → Told t history own rs → IsRecord t past callers own → IsRecord t history callers (own ++ rs)
 told_record t past history callers own rs longer told h = ⊎_elim
     (λ (none_more : rs ≡ []). subst (IsRecord t history callers) (sym (ap (λ xs. own ++ xs) none_more ∙ append-nil own)) (record_later t past history callers callers longer own h))
-    (λ (one : (x : Receipt) × ((rs ≡ x ∷ []) × HoldsNow t history x)). subst (λ xs. IsRecord t history callers (own ++ xs)) (sym one.1.0) (answer_record t past history callers own one.0 one.1.1 longer h))
+    (λ (one : (x : Receipt) × ((rs ≡ x ∷ []) × HoldsNow t history (last_moment 0 own) x)). subst (λ xs. IsRecord t history callers (own ++ xs)) (sym one.1.0) (answer_record t past history callers own one.0 one.1.1 longer h))
     told
 
 -- no number is among them
-pub told_numbers : (t : Terms) (history : List Update) (own rs : List Receipt) (n : ℕ) → Told t history rs → count_by (has_number n) (own ++ rs) ≡ count_by (has_number n) own
+pub told_numbers : (t : Terms) (history : List Update) (own rs : List Receipt) (n : ℕ) → Told t history own rs → count_by (has_number n) (own ++ rs) ≡ count_by (has_number n) own
 told_numbers t history own rs n told = ⊎_elim
     (λ (none_more : rs ≡ []). ap (count_by (has_number n)) (ap (λ xs. own ++ xs) none_more ∙ append-nil own))
-    (λ (one : (x : Receipt) × ((rs ≡ x ∷ []) × HoldsNow t history x)).
+    (λ (one : (x : Receipt) × ((rs ≡ x ∷ []) × HoldsNow t history (last_moment 0 own) x)).
     let none : has_number n one.0 ≡ false = ap (λ u. is_some u && (moment one.0 == n)) one.1.1.accepts in
     ap (λ xs. count_by (has_number n) (own ++ xs)) one.1.0 ∙ (sum_by_push (λ x. once (has_number n x)) own one.0 ∙ (let z : once (has_number n one.0) ≡ 0 = ap once none in omega (arith, z))))
     told
@@ -60,7 +60,7 @@ all_ended t history callers most own rs [] e h = tt
 all_ended t history callers most own rs (l ∷ ls) e h = (ended t history callers own rs l e.0.1 h.0, all_ended t history callers most own rs ls e.1 h.1)
 
 -- A log that gets such receipts, and does nothing else.
-module _ (t : Terms) (words : List ℕ) (views : List Log) (r : TableInvariant t words views) (id : ℕ) (v : Log) (at : get_elem? views id ≡ some v) (caller : v.role ≡ role.Caller) (rs : List Receipt) (told : Told t v.past rs) where
+module _ (t : Terms) (words : List ℕ) (views : List Log) (r : TableInvariant t words views) (id : ℕ) (v : Log) (at : get_elem? views id ≡ some v) (caller : v.role ≡ role.Caller) (rs : List Receipt) (told : Told t v.past v.receipts.own rs) where
   abbrev m : Memory
   m = memory_of t words
 

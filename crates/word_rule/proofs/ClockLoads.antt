@@ -31,12 +31,16 @@ use Rattle.word_rule.specs.Logs.{is_spent, weight, turns, load_of}
 use Rattle.word_rule.specs.Sights.{after_clock, copies_after_clock, query_receipt, walk_receipts, with_clock}
 use Rattle.word_rule.specs.Callers.{total, CallersHold, LogHolds, IsMemberOf, AtLoader, LoaderLock, dones_in, start}
 use Rattle.word_rule.specs.Copies.{ListsAll, ListsMembers, CopySightHolds}
-use Rattle.word_rule.specs.Observations.{AreInside, SightHolds, WasFull, ObservationsHold, HadMembers, IsFullCount}
+use Rattle.word_rule.specs.Observations.{AreInside, SightHolds, WasFull, ObservationsHold, HadMembers, IsFullCount, last_moment}
 use Rattle.word_rule.specs.TableInvariant.{TableInvariant, IsStill}
 use Rattle.word_rule.specs.Clock.{IsSeen, ClockTells, MayAsk, AreAsked}
+use Rattle.word_rule.specs.TreeRefusals.{Appends, AppendsRefusal}
+use Rattle.reg_model.specs.declared.answer.Update.TheVariants as update
+use Rattle.reg_model.specs.Receipt.{IsRight}
 use Rattle.word_rule.specs.Steps.{IsRefusalOf, MayRefuse, Refuses}
 use Rattle.word_rule.specs.declared.log.LoaderHolding.{LoaderHolding}
 use Rattle.word_rule.proofs.CopyStores.{loader_held}
+use Rattle.word_rule.proofs.TreeRefusals.{ShownLeaves, found_there, held_inside, registered_ordered, register_refused, deregister_refused}
 use Rattle.word_rule.proofs.Answering.{Told, told_record, told_numbers, all_ended}
 use Rattle.word_rule.proofs.Refusals.{HoldsNow, query_at, query_answers, refusal}
 use Rattle.word_rule.specs.Plays.{Seated, loads_clock}
@@ -55,15 +59,6 @@ pub record LeafLaw : Type 0 where
   pub kind : (f : Contents) (live : ℕ → Bool) (n : ℕ) → IsTree f live → IsTrue (live n) → IsLeaf (f n) ↔ ((f n).level ≡ 0)
   pub entries : (f : Contents) (live : ℕ → Bool) (leaf : ℕ) (m : Member) → IsTree f live → IsTrue (live leaf) → IsLeaf (f leaf) → Contains (entries_of (f leaf)) m ↔ (HasEntry f live m × LiesInFences m.span (f leaf))
   pub found : (f : Contents) (live : ℕ → Bool) (leaf pc : ℕ) (m : Member) → IsTree f live → IsTrue (live leaf) → IsLeaf (f leaf) → IsInFences pc (f leaf) → (member_at pc (entries_of (f leaf)) ≡ Some m) ↔ (HasEntry f live m × IsTrue (contains m.span pc))
-
--- what is found is there, and contains the address
-found_there : (pc : ℕ) (members : List Member) (m : Member) → member_at pc members ≡ Some m → Contains members m × (contains m.span pc ≡ true)
-found_there pc [] m e = absurd (none-some m e)
-found_there pc (x ∷ members) m e = go (contains x.span pc) refl (found_there pc members m)
-  where
-    go : (b : Bool) → contains x.span pc ≡ b → (member_at pc members ≡ Some m → Contains members m × (contains m.span pc ≡ true)) → Contains (x ∷ members) m × (contains m.span pc ≡ true)
-    go true is rest = let same : x ≡ m = same_Some _ _ (rw is at e) in ((0, omega arith, same), subst (λ (z : Member). contains z.span pc ≡ true) same is)
-    go false is rest = let r = rest (rw is at e) in ((suc r.0.0, (let l = r.0.1 in omega (arith, l)), r.0.2), r.1)
 
 -- A search that finds exactly those that are there and contain the address finds what any search
 -- among them does.
@@ -109,30 +104,71 @@ module _ (law : LeafLaw) (t : Terms) (slots id : ℕ) (me : Seated) (caller : me
     low = r.memory.callers.updates
 
     -- the receipt of a walk
-    walked : (pc : ℕ) (o : Option CopySight) → Told t r.memory.history (walk_receipts (record me.0 { past = r.memory.history }) (get_or s.words 0 0) pc o)
+    walked : (pc : ℕ) (o : Option CopySight) → Told t r.memory.history me.0.receipts.own (walk_receipts (record me.0 { past = r.memory.history }) (get_or s.words 0 0) pc o)
     walked pc None = inl refl
     walked pc (Some g) = go (g.guard == upper (get_or s.words 0 0))
       where
-        go : (b : Bool) → Told t r.memory.history (if b then (query_receipt half.Loaded (record me.0 { past = r.memory.history }) pc (lower (get_or s.words 0 0)) ∷ []) else [])
-        go true = inr (query_at t r.memory.history half.Loaded pc (length r.memory.history), ((λ i. query_at (terms i) r.memory.history half.Loaded pc (low i) ∷ []), query_answers t r.memory.history half.Loaded pc))
+        go : (b : Bool) → Told t r.memory.history me.0.receipts.own (if b then (query_receipt half.Loaded (record me.0 { past = r.memory.history }) pc (lower (get_or s.words 0 0)) ∷ []) else [])
+        go true = inr (query_at t r.memory.history half.Loaded pc (length r.memory.history), ((λ i. query_at (terms i) r.memory.history half.Loaded pc (low i) ∷ []), query_answers t r.memory.history half.Loaded pc _))
         go false = inl refl
 
     -- the receipt of a refusal by what the active copy lists
-    refused : (u : Update) → IsSomeAnd me.0.loader (MayRefuse t u) → (x : Receipt) × (IsRefusalOf u (state_after (start me.0.terms) r.memory.history) (lower (get_or s.words 0 0)) x × HoldsNow t r.memory.history x)
+    refused : (u : Update) → IsSomeAnd me.0.loader (MayRefuse t u) → (x : Receipt) × (IsRefusalOf u (state_after (start me.0.terms) r.memory.history) (lower (get_or s.words 0 0)) x × HoldsNow t r.memory.history (last_moment 0 me.0.receipts.own) x)
     refused u may =
         let h = some_with me.0.loader (MayRefuse t u) may in
         let mine = loader_held m r.memory.callers.holder id me.0.loader h.0 h.1.0 (r.memory.callers.at_loader id me.0 at) in
         let copy : h.0.active ≡ m.copies (upper (get_or s.words 0 0) % 2) = mine.1.active in
         let listed : ListsAll (m.copies (upper (get_or s.words 0 0) % 2)) (state_after (start t) r.memory.history).loaded = r.memory.active in
         let members_are : h.1.1.0 ≡ listed.members = lists_same (m.copies (upper (get_or s.words 0 0) % 2)) h.1.1.0 listed.members (subst (λ ws. ListsMembers ws h.1.1.0) copy h.1.1.1.0) listed.lists in
-        let told = refusal t r.memory.history r.memory.callers.terms r.memory.callers.lawful r.memory.callers.members listed.members listed.lists.ascending listed.same u (subst (Refuses t u) members_are h.1.1.1.1) in
+        let told = refusal t r.memory.history (last_moment 0 me.0.receipts.own) r.memory.callers.terms r.memory.callers.lawful r.memory.callers.members listed.members listed.lists.ascending listed.same u (subst (Refuses t u) members_are h.1.1.1.1) in
         (told.0, (subst (λ k. IsRefusalOf u (state_after (start k) r.memory.history) (lower (get_or s.words 0 0)) told.0) (sym terms) (subst (λ k. IsRefusalOf u (state_after (start t) r.memory.history) k told.0) (sym low) told.1.0), told.1.1))
 
-    pub asked : (b : Ask) → MayAsk t b me.0 → (rs : List Receipt) × (AreAsked b (get_or s.words 0 0) me.0.sights.copies (record me.0 { past = r.memory.history }) rs × Told t r.memory.history rs)
-    asked ask.Nothing q = ([], (refl, inl refl))
-    asked (ask.Registered pc) q = (_, (refl, inr (query_at t r.memory.history half.Registered pc (length r.memory.history), ((λ i. query_at (terms i) r.memory.history half.Registered pc (low i) ∷ []), query_answers t r.memory.history half.Registered pc))))
-    asked (ask.Loaded pc) q = (_, (refl, walked pc me.0.sights.copies))
-    asked (ask.Refused u) q = let x = refused u q in (x.0 ∷ [], ((x.0, (refl, x.1.0)), inr (x.0, (refl, x.1.1))))
+    -- a live leaf's entries are the members of now inside its fences
+    inside_now : (n : ℕ) → IsTrue (r.memory.shadow.live n) → (r.memory.shadow.settled n).level ≡ 0 → AreInside (state_after (start t) r.memory.history).registered (r.memory.shadow.settled n)
+    inside_now n live level =
+        let tree = r.memory.nodes.lawful.tree in
+        let is_leaf = (law.kind r.memory.shadow.settled r.memory.shadow.live n tree live).1 level in (
+          (λ x.
+              let leaf = law.entries r.memory.shadow.settled r.memory.shadow.live n x tree live is_leaf in (
+                (λ c. let d = leaf.0 c in ((r.memory.nodes.entries x).0 d.0, d.1.0, d.1.1)),
+                (λ c. leaf.1 ((r.memory.nodes.entries x).1 c.0, (c.1, c.2))),
+              )),
+          (λ pc inside. searched pc (entries_of (r.memory.shadow.settled n)) (state_after (start t) r.memory.history).registered (λ x.
+              let leaf = law.found r.memory.shadow.settled r.memory.shadow.live n pc x tree live is_leaf inside in (
+                (λ e. let d = leaf.0 e in ((r.memory.nodes.entries x).0 d.0, d.1)),
+                (λ c. leaf.1 ((r.memory.nodes.entries x).1 c.0, c.1)),
+              ))),
+        )
+
+    -- what its held leaves show
+    leaves : ShownLeaves t r.memory.history me.0
+    leaves = record {
+      disjoint = (lawful_history (start t) r.memory.history (start_lawful t r.memory.callers.terms) r.memory.callers.lawful).registered;
+      ordered = registered_ordered t m.nodes s.views r.memory.history r.memory.shadow r.memory.nodes;
+      inside = held_inside t m.nodes s.views r.memory.history r.memory.shadow r.memory.nodes inside_now id me.0 at;
+      callers = total (λ v. v.made) s.views + 1;
+      full = (r.memory.observations id me.0 at).full;
+    }
+
+    appended : (x : Receipt) → IsRight (state_after (start me.0.terms) r.memory.history) x → (y : Receipt) → x ≡ y → Appends y me.0 (after_clock (get_or s.words 0 0) r.memory.history (x ∷ []) me.0)
+    appended x right y same = record { own = ap (λ z. me.0.receipts.own ++ z ∷ []) same; right = subst (IsRight (state_after (start me.0.terms) r.memory.history)) same right }
+
+    pub asked : (b : Ask) → MayAsk t b me.0 → (rs : List Receipt) × (AreAsked b (get_or s.words 0 0) me.0.sights.copies (record me.0 { past = r.memory.history }) rs × (Told t r.memory.history me.0.receipts.own rs × AppendsRefusal b (get_or s.words 0 0) me.0 (after_clock (get_or s.words 0 0) r.memory.history rs me.0)))
+    asked ask.Nothing q = ([], (refl, (inl refl, tt)))
+    asked (ask.Registered pc) q = (_, (refl, (inr (query_at t r.memory.history half.Registered pc (length r.memory.history), ((λ i. query_at (terms i) r.memory.history half.Registered pc (low i) ∷ []), query_answers t r.memory.history half.Registered pc _)), tt)))
+    asked (ask.Loaded pc) q = (_, (refl, (walked pc me.0.sights.copies, tt)))
+    asked (ask.Refused (update.Load n)) q = let x = refused (update.Load n) q in (x.0 ∷ [], ((x.0, (refl, x.1.0)), (inr (x.0, (refl, x.1.1)), tt)))
+    asked (ask.Refused (update.Unload base)) q = let x = refused (update.Unload base) q in (x.0 ∷ [], ((x.0, (refl, x.1.0)), (inr (x.0, (refl, x.1.1)), tt)))
+    asked (ask.Refused (update.Register n)) q =
+        let x = register_refused t r.memory.history me.0 (lower (get_or s.words 0 0)) low terms leaves n q in (
+          x.0 ∷ [],
+          (
+            (x.0, (refl, x.1.right)),
+            (inr (x.0, (refl, x.1.holds)), ((λ other h. appended x.0 x.1.right.3 _ (x.1.overlap other h)), (λ h. appended x.0 x.1.right.3 _ (x.1.full h)))),
+          ),
+        )
+    asked (ask.Refused (update.Deregister base)) q =
+        let x = deregister_refused t r.memory.history me.0 (lower (get_or s.words 0 0)) low terms leaves base q in (_, ((_, (refl, x.0)), (inr (_, (refl, x.1)), λ h. record { own = refl; right = x.0.3 })))
 
     abbrev receipts : List Receipt
     receipts = (asked a may).0
@@ -140,8 +176,8 @@ module _ (law : LeafLaw) (t : Terms) (slots id : ℕ) (me : Seated) (caller : me
     abbrev w : Log
     w = after_clock (get_or s.words 0 0) r.memory.history (asked a may).0 me.0
 
-    told : Told t r.memory.history (asked a may).0
-    told = (asked a may).1.1
+    told : Told t r.memory.history me.0.receipts.own (asked a may).0
+    told = (asked a may).1.1.0
 
     made_same : total (λ v. v.made) (set s.views id w) ≡ total (λ v. v.made) s.views
     made_same = total_same (λ v. v.made) s.views id me.0 w at refl
@@ -176,7 +212,7 @@ module _ (law : LeafLaw) (t : Terms) (slots id : ℕ) (me : Seated) (caller : me
           lineages = lineages_over s.views c.lineages id me.0 w at refl refl (λ gone. absurd (true≢false (sym gone ∙ stands)));
         }
 
-    -- where the clock is loaded, a live leaf's entries are the members of then
+    -- where the clock is loaded, a sight that stands knows the members of then
     clocked : (g : NodeSight) → SightHolds t m.nodes r.memory.history r.memory.shadow g → SightHolds t m.nodes r.memory.history r.memory.shadow (with_clock (lower (get_or s.words 0 0)) g)
     clocked g h = record {
       within = h.within;
@@ -188,21 +224,8 @@ module _ (law : LeafLaw) (t : Terms) (slots id : ℕ) (me : Seated) (caller : me
       clock = λ stand. (
         (let l = low in omega (arith, l)),
         λ live level.
-            let tree = r.memory.nodes.lawful.tree in
-            let is_leaf = (law.kind r.memory.shadow.settled r.memory.shadow.live g.node tree live).1 level in
             let now : state_at (start t) r.memory.history (lower (get_or s.words 0 0)) ≡ state_after (start t) r.memory.history = ap (state_after (start t)) (take_all (lower (get_or s.words 0 0)) r.memory.history (let l = low in omega (arith, l))) in
-            subst (λ st. AreInside st.registered (r.memory.shadow.settled g.node)) (sym now) (
-              (λ x.
-                  let leaf = law.entries r.memory.shadow.settled r.memory.shadow.live g.node x tree live is_leaf in (
-                    (λ c. let d = leaf.0 c in ((r.memory.nodes.entries x).0 d.0, d.1.0, d.1.1)),
-                    (λ c. leaf.1 ((r.memory.nodes.entries x).1 c.0, (c.1, c.2))),
-                  )),
-              (λ pc inside. searched pc (entries_of (r.memory.shadow.settled g.node)) (state_after (start t) r.memory.history).registered (λ x.
-                  let leaf = law.found r.memory.shadow.settled r.memory.shadow.live g.node pc x tree live is_leaf inside in (
-                    (λ e. let d = leaf.0 e in ((r.memory.nodes.entries x).0 d.0, d.1)),
-                    (λ c. leaf.1 ((r.memory.nodes.entries x).1 c.0, c.1)),
-                  ))),
-            ),
+            subst (λ st. AreInside st.registered (r.memory.shadow.settled g.node)) (sym now) (inside_now g.node live level),
       );
     }
 
@@ -293,7 +316,7 @@ module _ (law : LeafLaw) (t : Terms) (slots id : ℕ) (me : Seated) (caller : me
     }
 
   pub loads_the_clock : Allows Rule slots id me 0 (λ n. n) (loads_clock t a (step slots 0 0 0 none) me)
-  loads_the_clock s r deep at small = (w s r at, keeps, tt, kept_table s r at, ((r.memory.history, (asked s r at a may).0, (tells s r at, (asked s r at a may).1.0, refl)), refl))
+  loads_the_clock s r deep at small = (w s r at, keeps, tt, kept_table s r at, ((r.memory.history, (asked s r at a may).0, (tells s r at, (asked s r at a may).1.0, refl)), refl, (asked s r at a may).1.1.1))
 
   -- the same, told of terms that are known to be these
   pub loads_clock_of : (u : Terms) → t ≡ u → Allows Rule slots id me 0 (λ n. n) (loads_clock u a (step slots 0 0 0 none) me)

@@ -30,6 +30,7 @@ pub mod Answering
 pub mod NodeVersions
 pub mod Holders
 pub mod WordLoads
+pub mod TreeRefusals
 pub mod ClockLoads
 pub mod InitialCallers
 pub mod InitialTable

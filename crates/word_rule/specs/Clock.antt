@@ -1,5 +1,5 @@
 -- What a load of the clock tells, and what it makes of its caller's log.
-use Rattle.std.specs.Prelude.{◌≡◌, ℕ, ◌≤◌, ◌%◌, List, [], ◌∷◌, length, Option, IfSome}
+use Rattle.std.specs.Prelude.{◌≡◌, ℕ, ◌≤◌, ◌%◌, ◌⊎◌, List, [], ◌∷◌, length, Option, IfSome}
 use Rattle.std.specs.Prelude.{IsSomeAnd}
 use Rattle.std.specs.List.{AllByRecursion}
 use mathlib.Core.List.{IsPrefix}
@@ -9,6 +9,7 @@ use Rattle.reg_model.specs.declared.span.Member.{Member}
 use Rattle.reg_model.specs.declared.answer.Half.TheVariants as half
 use Rattle.reg_model.specs.declared.answer.Receipt.{Receipt}
 use Rattle.reg_model.specs.declared.answer.Update.{Update}
+use Rattle.reg_model.specs.declared.answer.Update.TheVariants as update
 use Rattle.word_rule.specs.declared.log.Ask.{Ask}
 use Rattle.word_rule.specs.declared.log.Ask.TheVariants as ask
 use Rattle.word_rule.specs.declared.log.CopySight.{CopySight}
@@ -19,6 +20,7 @@ use Rattle.word_rule.specs.Callers.{AreTerms, IsAlone, IsMemberOf, publications,
 use Rattle.word_rule.specs.Copies.{AreOfCopy, ListsAll}
 use Rattle.word_rule.specs.Sights.{after_clock, query_receipt, walk_receipts}
 use Rattle.word_rule.specs.Steps.{IsRefusalOf, MayRefuse}
+use Rattle.word_rule.specs.TreeRefusals.{ShowsFull, ShowsNone, ShowsOverlap}
 
 -- The words of a copy that lists these members, no more than may be loaded, and has all words of
 -- the sight as they were loaded.
@@ -50,9 +52,13 @@ pub record ClockTells (t : Terms) (found : ℕ) (v : Log) (past : List Update) :
   -- where nobody else can step, nothing was accepted since
   pub alone : IsAlone v.lineage → past ≡ v.past
 
--- what a load of the clock asks for: a refusal, that the active copy and the fixed members refuse
--- the update, under the loader's lock
+-- What a load of the clock asks for: the refusal of an update of the tree, that held live leaves show
+-- it; of one of the loader's, that the active copy and the fixed members refuse it, under the
+-- loader's lock.
 abbrev pub MayAsk : Terms → Ask → Log → Type 0
+MayAsk t (ask.Refused (update.Register m)) v =
+    ((other : Member) × ShowsOverlap m other v) ⊎ ShowsFull m v
+MayAsk t (ask.Refused (update.Deregister base)) v = ShowsNone base v
 MayAsk t (ask.Refused u) v = IsSomeAnd v.loader (MayRefuse t u)
 MayAsk t _ v = Unit {0}
 

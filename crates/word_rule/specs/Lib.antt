@@ -12,6 +12,7 @@ pub mod Sights
 pub mod Copies
 pub mod Steps
 pub mod Commits
+pub mod TreeRefusals
 pub mod Clock
 pub mod Plays
 pub mod CallerInvariant

@@ -16,6 +16,7 @@ use Rattle.word_rule.specs.Commits.{AfterCommit}
 use Rattle.word_rule.specs.Steps.{after_node_release, after_node_release_same, after_node_store}
 use Rattle.word_rule.specs.declared.log.Terms.{Terms}
 use Rattle.word_rule.specs.Clock.{AfterClock}
+use Rattle.word_rule.specs.TreeRefusals.{AppendsRefusal}
 use Rattle.word_rule.specs.Held.{held_of}
 use Rattle.word_rule.specs.NodeTells.{AloneTells, HeldTells, HolderTells, IsTakenNode, OutTells, KnowsTree}
 use Rattle.word_rule.specs.NodeTells.{SightTells}
@@ -80,7 +81,8 @@ loads_copy st me found me' =
 
 -- the clock was loaded
 abbrev pub loads_clock : Terms → Ask → Stepped → Seated → ℕ → Seated → Type 0
-loads_clock t ask st me found me' = AfterClock t ask found me.0 me'.0 × (me'.1 ≡ me.1)
+loads_clock t ask st me found me' =
+    AfterClock t ask found me.0 me'.0 × (me'.1 ≡ me.1) × AppendsRefusal ask found me.0 me'.0
 
 -- a word of a node was loaded
 abbrev pub loads_node : ℕ → ℕ → Stepped → Seated → ℕ → Seated → Type 0

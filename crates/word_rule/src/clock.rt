@@ -6,6 +6,7 @@ ghost use Rattle.word_rule.specs.Steps.{AfterPublish, IsHeldWord, MayPublish, Ma
 ghost use Rattle.word_rule.specs.Steps.{after_copy_store};
 ghost use Rattle.word_rule.specs.Sights.{after_copy_load};
 ghost use Rattle.word_rule.specs.Clock.{AfterClock, MayAsk};
+ghost use Rattle.word_rule.specs.TreeRefusals.{AppendsRefusal};
 
 use crate::caller::Caller;
 use crate::log::{Ask, Log, Role};
@@ -31,6 +32,7 @@ impl Words {
         ensures same { (seat.new.table_id ≡ seat.old.table_id) × (seat.new.id ≡ seat.old.id)
             × (seat.new.me.1 ≡ seat.old.me.1) }
         ensures log { AfterClock A.terms A.ask result seat.old.me.0 seat.new.me.0 }
+        ensures refusal { AppendsRefusal A.ask result seat.old.me.0 seat.new.me.0 }
     {
         let _ = ask;
         laws::leaf_fences();
@@ -43,6 +45,7 @@ impl Words {
         requires table { me.old.table ≡ self.now.table }
         requires ask { MayAsk self.now.terms ask me.old.log }
         ensures log { AfterClock self.now.terms ask result me.old.log me.new.log }
+        ensures refusal { AppendsRefusal ask result me.old.log me.new.log }
         ensures rest { me.new ≡ record me.old { log = me.new.log } }
     {
         let found = self.load_clock_for::<Brand>(&mut me.seat, ask);
