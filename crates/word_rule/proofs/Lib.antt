@@ -31,6 +31,7 @@ pub mod NodeVersions
 pub mod Holders
 pub mod WordLoads
 pub mod TreeRefusals
+pub mod HeldLeaves
 pub mod ClockLoads
 pub mod InitialCallers
 pub mod InitialTable

@@ -18,7 +18,6 @@ use Rattle.tree_shape.specs.declared.limits.TheConstants.{HIGHEST_LEVEL}
 use Rattle.tree_shape.specs.Lawful.{IsTree, IsOrderedAs, FitsParent}
 use Rattle.word_rule.specs.declared.log.Role.{Role}
 use Rattle.word_rule.specs.declared.log.Role.TheVariants as role
-use Rattle.word_rule.specs.declared.log.Holding.{Holding}
 use Rattle.word_rule.specs.declared.log.Ask.TheVariants as ask
 use Rattle.word_rule.specs.declared.log.Terms.{Terms}
 use Rattle.word_rule.specs.declared.log.LoadedWord.{LoadedWord}

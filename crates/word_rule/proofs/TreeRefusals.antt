@@ -1,5 +1,5 @@
 -- What held live leaves show of the registered members, and the refusals that follow from it.
-use Rattle.std.proofs.Common.{◌≡◌, ℕ, zero, suc, ◌+◌, ◌≤◌, ◌==◌, ◌⊎◌, inl, inr, ⊎_elim, List, [], ◌∷◌, ◌++◌, length, get_or, max, Contains, sym, refl, ap, ◌∙◌, subst, arith, Bool, true, false, true≢false, IsTrue, Option, Some, None, IsNone, IfSome, is_some}
+use Rattle.std.proofs.Common.{◌≡◌, ℕ, zero, suc, ◌+◌, ◌≤◌, ◌==◌, ◌⊎◌, ⊎_elim, List, [], ◌∷◌, ◌++◌, length, get_or, max, Contains, sym, refl, ap, ◌∙◌, subst, arith, Bool, true, false, true≢false, IsTrue, Option, Some, None, IsNone, IfSome, is_some}
 use Rattle.std.specs.List.{AllByRecursion}
 use Rattle.std.proofs.lemmas.List.Elements.{All-contains, Contains-get_or, Contains-append_left, Contains-append_right, Contains-append_cases}
 use Rattle.std.proofs.lemmas.Option.{none-some, same_Some}
@@ -7,7 +7,7 @@ use native.Mathlib.Decide.{dec_le}
 use mathlib.Core.Option.{some}
 use lib.ListN.{get_elem?}
 use Rattle.reg_model.specs.SpanData.{SpanData, Overlaps, contains}
-use Rattle.reg_model.specs.State.{State, AreDisjoint, IsFree, IsLowestOverlap, at_base}
+use Rattle.reg_model.specs.State.{AreDisjoint, IsFree, IsLowestOverlap, at_base}
 use Rattle.reg_model.specs.History.{state_after}
 use Rattle.reg_model.specs.Query.{member_at}
 use Rattle.reg_model.specs.declared.span.Member.{Member}
@@ -20,7 +20,7 @@ use Rattle.reg_model.specs.declared.answer.Receipt.TheVariants as receipt
 use Rattle.reg_model.proofs.Histories.{member_at-contains}
 use Rattle.reg_model.proofs.Spans.{contains_from, contains_bounds}
 use Rattle.segment_array.specs.Ascending.{AscendFrom}
-use Rattle.tree_shape.specs.NodeData.{NodeData, Body, Pairs, Entries, Link, AreNeighbours, IsInFences, entries_in, entries_of}
+use Rattle.tree_shape.specs.NodeData.{NodeData, Body, Pairs, Entries, Link, IsInFences, entries_in, entries_of}
 use Rattle.tree_shape.specs.Trees.{Contents}
 use Rattle.tree_shape.specs.Lawful.{IsOrderedAs}
 use Rattle.tree_shape.specs.declared.node.Frame.{Frame}
@@ -48,20 +48,6 @@ found_there pc (x ∷ members) m e = go (contains x.span pc) refl (found_there p
     go : (b : Bool) → contains x.span pc ≡ b → (member_at pc members ≡ Some m → Contains members m × (contains m.span pc ≡ true)) → Contains (x ∷ members) m × (contains m.span pc ≡ true)
     go true is rest = let same : x ≡ m = same_Some _ _ (rw is at e) in ((0, omega arith, same), subst (λ (z : Member). contains z.span pc ≡ true) same is)
     go false is rest = let r = rest (rw is at e) in ((suc r.0.0, (let l = r.0.1 in omega (arith, l)), r.0.2), r.1)
-
--- ---- leaves that together contain addresses
-
--- one leaf
-pub contained_by_one : (f : Contents) (n first last : ℕ) → (f n).low ≤ first → last ≤ (f n).high → (pc : ℕ) → first ≤ pc → pc ≤ last → IsInOne f (n ∷ []) pc
-contained_by_one f n first last low high pc from to = inl (omega (arith, low, from), omega (arith, high, to))
-
--- a leaf with the leaf on its right
-pub contained_by_two : (f : Contents) (n k first last : ℕ) → AreNeighbours (f n) (f k) → (f n).low ≤ first → last ≤ (f k).high → (pc : ℕ) → first ≤ pc → pc ≤ last → IsInOne f (n ∷ k ∷ []) pc
-contained_by_two f n k first last next low high pc from to = go (dec_le pc (f n).high)
-  where
-    go : Dec (pc ≤ (f n).high) → IsInOne f (n ∷ k ∷ []) pc
-    go (yes left) = inl (omega (arith, low, from), left)
-    go (no right) = inr (inl ((let fence = next.fence in omega (arith, fence, right)), omega (arith, high, to)))
 
 -- ---- entries of leaves, and members
 
