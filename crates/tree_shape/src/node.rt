@@ -158,7 +158,7 @@ impl Node {
     }
 
     /// The entries of a leaf, and none of another node.
-    pub(crate) fn entries(&self) -> &[Member]
+    pub fn entries(&self) -> &[Member]
         ensures value { result.now ≡ entries_of self.now }
         ensures count { length (entries_of self.now) ≤ ENTRIES }
     {
@@ -169,7 +169,7 @@ impl Node {
     }
 
     /// The pairs of an inner node, and none of another.
-    pub(crate) fn pairs(&self) -> &[Pair]
+    pub fn pairs(&self) -> &[Pair]
         ensures value { result.now ≡ pairs_of self.now }
         ensures count { length (pairs_of self.now) ≤ PAIRS }
     {
