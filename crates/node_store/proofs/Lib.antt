@@ -6,4 +6,6 @@ pub mod Stores
 pub mod Sighted
 pub mod HeldWords
 pub mod HeldWrites
+pub mod Settled
 pub mod Giving
+pub mod Outs

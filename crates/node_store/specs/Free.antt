@@ -1,10 +1,12 @@
 -- What taking a node off the free list, and giving one back, make of a caller.
 use Rattle.std.specs.Prelude.{◌≡◌, ◌≢◌, ℕ, Bool, true, ◌==◌, Option, Some, None, Result, Ok, Err}
-use Rattle.std.specs.Prelude.{if◌then◌else◌}
+use Rattle.std.specs.Prelude.{false, List, ◌∷◌, IsSome, IsSomeAnd, option_map, if◌then◌else◌}
+use Rattle.std.specs.List.{AllByRecursion}
 use Rattle.word_rule.specs.CallerData.{CallerData}
-use Rattle.word_rule.specs.Held.{held_of}
+use Rattle.word_rule.specs.Exchange.{exchange, nothing_reached}
+use Rattle.word_rule.specs.Held.{all_but, held_of}
 use Rattle.word_rule.specs.Sights.{after_node_load}
-use Rattle.word_rule.specs.Spelling.{node_word}
+use Rattle.word_rule.specs.Spelling.{node_word, SpellsNode}
 use Rattle.word_rule.specs.Steps.{after_give, after_head_load, after_node_release}
 use Rattle.word_rule.specs.Steps.{after_node_store, after_take}
 use Rattle.word_rule.specs.declared.log.Holding.{Holding}
@@ -50,6 +52,30 @@ after_setting n at value v =
 abbrev pub after_linking : ℕ → ℕ → Log → Log
 after_linking n head v =
     after_node_store n 6 head (after_head_load head (after_setting n 2 0 (after_setting n 1 2 v)))
+
+-- no live node that is held differs from its settled content
+abbrev pub IsSettled : Log → Type 0
+IsSettled v = AllByRecursion (λ h. IsSome h.mark → SpellsNode h.words h.settled) v.holdings.held
+
+-- What giving a node back leaves of a log where nothing that is held is changed: the other nodes
+-- that are out stay out, and the other locks stay, but that those without a mark settle.
+pub record LeavesOthers (n : ℕ) (v w : Log) : Type 0 where
+  pub out : w.holdings.out ≡ all_but n v.holdings.out
+  pub held : (m : ℕ) → m ≢ n → held_of m w.holdings.held
+      ≡ option_map (exchange nothing_reached nothing_reached) (held_of m v.holdings.held)
+  pub settled : IsSettled w
+
+-- A caller that holds the root, in which it stored nothing, holds each node that it has out, and has
+-- changed nothing.
+pub record HoldsAllOut (v : Log) : Type 0 where
+  pub root : IsSomeAnd (held_of 0 v.holdings.held) (λ h. h.stored ≡ false)
+  pub held : AllByRecursion (λ n. IsSome (held_of n v.holdings.held)) v.holdings.out
+  pub settled : IsSettled v
+
+-- the nodes that are out after a take
+abbrev pub with_taken : Option ℕ → List ℕ → List ℕ
+with_taken None out = out
+with_taken (Some n) out = n ∷ out
 
 -- A node that was out was given back: it was linked, then it became the head, and then it was let
 -- go with the next version.

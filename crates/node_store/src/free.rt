@@ -1,15 +1,17 @@
 //! Nodes that are taken off the free list and given back, by one writer at a time: under the root's
 //! lock.
-ghost use Rattle.std.specs.Prelude.{◌≡◌, ◌*◌, ◌<◌, ◌≤◌, Some, None, length, IsSome, IsTrue};
+ghost use Rattle.std.specs.Prelude.{◌≡◌, ◌+◌, ◌*◌, ◌<◌, ◌≤◌, Some, None, length, IsSome, IsTrue};
 ghost use Rattle.tree_shape.specs.Numbers.{is_among};
 ghost use Rattle.word_rule.specs.CallerData.{surplus};
 ghost use Rattle.word_rule.specs.Held.{held_of};
 ghost use Rattle.word_rule.specs.NodeTells.{HolderTells, OutTells};
-ghost use Rattle.node_store.specs.Free.{GivesFree, IsFreeTaken, after_setting};
+ghost use Rattle.node_store.specs.Free.{GivesFree, IsFreeTaken, IsSettled, LeavesOthers};
+ghost use Rattle.node_store.specs.Free.{after_setting};
 
 use crate::locking::{Busy, Locking};
 use crate::locks::wake_after;
 use crate::reading::FREE;
+use word_rule::exchange::exchange_decided;
 use word_rule::{Caller, LockId, Words};
 
 /// The words of a free node: its kind, its level, and what links it to the next.
@@ -74,7 +76,10 @@ pub fn give_free(words: &Words, me: &mut Caller, node: u32)
     ensures unlocked { held_of node me.new.log.holdings.held ≡ None }
     ensures first { me.new.log.holdings.head ≡ Some node }
     ensures root { IsSome (held_of 0 me.new.log.holdings.held) }
+    ensures spends { surplus me.old ≡ surplus me.new + 1 }
+    ensures others { IsSettled me.old.log → LeavesOthers node me.old.log me.new.log }
 {
+    exchange_decided();
     set_word(words, me, node, KIND, FREE);
     set_word(words, me, node, LEVEL, 0);
     let head = words.load_head(me);

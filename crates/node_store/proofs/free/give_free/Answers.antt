@@ -1,15 +1,21 @@
-use Rattle.std.proofs.Common.{◌≡◌, ◌<◌, ◌^◌, IfSome, IsSome, None, Some, ap, refl, sym, subst, ◌∙◌, arith}
+use Rattle.std.proofs.Common.{◌≡◌, ◌+◌, ◌<◌, ◌^◌, IfSome, IsSome, IsTrue, None, Some, ap, refl, sym, subst, ◌∙◌, arith}
 use Rattle.word_rule.specs.CallerData.{CallerData, surplus}
 use Rattle.word_rule.specs.Held.{held_of}
 use Rattle.word_rule.specs.Steps.{HeadStored, MayRelease, MayStore, MayStoreHead, after_give, after_head_load, after_node_release}
-use Rattle.node_store.specs.Free.{after_linking, after_setting}
-use Rattle.node_store.proofs.Giving.{given_me, given_surplus, gone_after, head_after, held_then, is_given, linked_me, may_let_go, may_link, may_store_head, root_after, root_then}
+use Rattle.tree_shape.specs.Numbers.{is_among}
+use Rattle.node_store.specs.Free.{LeavesOthers, after_linking, after_setting}
+use Rattle.node_store.proofs.Giving.{given_me, given_surplus, gone_after, head_after, held_then, is_given, linked_me, may_let_go, may_link, may_store_head, others_stay, out_then, root_after, root_then, surplus_after}
 use Rattle.node_store.proofs.free.give_free.Goals as goal
 
 pub set_word-requires-2-clause-held : goal.set_word-requires-2-clause-held
 set_word-requires-2-clause-held c =
     subst (λ (k : CallerData). IsSome (held_of c.args.node k.log.holdings.held)) (sym c.set_word.ensures.log)
     (held_then c.args.node c.args.me.now.log c.requires.root c.requires.held c.requires.out c.set_word.ensures.holder c.set_word.ensures.out)
+
+pub set_word-requires-2-clause-out : goal.set_word-requires-2-clause-out
+set_word-requires-2-clause-out c =
+    subst (λ (k : CallerData). IsTrue (is_among k.log.holdings.out c.args.node)) (sym c.set_word.ensures.log)
+    (out_then c.args.node c.args.me.now.log c.requires.root c.requires.held c.requires.out c.set_word.ensures.holder c.set_word.ensures.out)
 
 pub store_node-requires-clause-may : goal.store_node-requires-clause-may
 store_node-requires-clause-may c =
@@ -65,5 +71,8 @@ returns c =
       gives = (head, let_go);
       unlocked = subst (λ (z : CallerData). held_of n z.log.holdings.held ≡ None) (sym let_go) (gone_after n v);
       first = subst (λ (z : CallerData). z.log.holdings.head ≡ Some n) (sym let_go) (head_after n n v other refl);
+      spends = (let s = given_surplus n head k in let more = surplus_after n (record k { log = v }) (subst (λ m. 0 < m) (sym s) c.requires.surplus) in
+          sym s ∙ (more ∙ ap (λ (z : CallerData). surplus z + 1) (sym let_go)));
+      others = λ settled. subst (λ (z : CallerData). LeavesOthers n k.log z.log) (sym let_go) (others_stay n k.log c.requires.root c.requires.held c.requires.out c.set_word.ensures.holder c.set_word.ensures.out head short c.exchange_decided.ensures settled);
       root = subst (λ (z : CallerData). IsSome (held_of 0 z.log.holdings.held)) (sym let_go) (root_after n v other (root_then n k.log c.requires.root c.requires.held c.requires.out c.set_word.ensures.holder c.set_word.ensures.out head short));
     }
