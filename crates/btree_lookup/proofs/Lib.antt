@@ -1,0 +1,4 @@
+pub mod Loading
+pub mod Sighting
+pub mod Pairs
+pub mod Leaves

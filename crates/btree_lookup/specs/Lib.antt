@@ -1,0 +1,4 @@
+pub mod Loads
+pub mod Ways
+pub mod Tries
+pub mod Visits

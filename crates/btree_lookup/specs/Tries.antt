@@ -1,0 +1,60 @@
+-- What a try of the tree makes of its caller.
+use Rattle.std.specs.Prelude.{◌≡◌, ℕ, ◌≤◌, List, [], ◌∷◌, length, Contains, IfSome, Result, Ok, Err}
+use mathlib.Core.List.{IsPrefix}
+use Rattle.reg_model.specs.History.{state_at}
+use Rattle.reg_model.specs.Query.{query}
+use Rattle.reg_model.specs.Receipt.{member_of, stamp_of}
+use Rattle.reg_model.specs.declared.answer.Again.{Again}
+use Rattle.reg_model.specs.declared.answer.Found.{Found}
+use Rattle.reg_model.specs.declared.answer.Half.TheVariants.{Registered}
+use Rattle.reg_model.specs.declared.answer.Receipt.{Receipt}
+use Rattle.reg_model.specs.declared.answer.Receipt.TheVariants.{Query}
+use Rattle.reg_model.specs.declared.answer.Update.{Update}
+use Rattle.word_rule.specs.declared.log.LoadedWord.{LoadedWord}
+use Rattle.word_rule.specs.declared.log.Sights.{Sights}
+use Rattle.word_rule.specs.declared.log.Terms.{Terms}
+use Rattle.word_rule.specs.CallerData.{CallerData}
+use Rattle.word_rule.specs.Callers.{IsMemberOf, start}
+use Rattle.word_rule.specs.Places.{CLOCK, lower}
+use Rattle.btree_lookup.specs.Loads.{after_try, loaded_at}
+use Rattle.btree_lookup.specs.Ways.{AreLed, IsCause}
+
+-- the stamp is the lower half of a clock that was loaded
+abbrev pub IsClockOf : List LoadedWord → ℕ → Type 0
+IsClockOf loaded stamp =
+    (clock : ℕ) × (Contains loaded (loaded_at CLOCK clock) × (lower clock ≡ stamp))
+
+-- The answer of a try at the end of which this much is seen. Found: it is the registered half's at
+-- the stamp, which is that of a clock that was loaded, and the length of all that is seen; the
+-- member may be made known. Again: these loads have the cause.
+abbrev pub IsTryAnswer : Terms → ℕ → List Update → List LoadedWord → Result Found Again → Type 0
+IsTryAnswer t pc past loaded (Ok found) =
+    (stamp_of found ≡ length past) × IsClockOf loaded (stamp_of found)
+    × (query Registered pc (state_at (start t) past (stamp_of found)) ≡ member_of found)
+    × IfSome (member_of found) (IsMemberOf t)
+IsTryAnswer t pc past loaded (Err again) = IsCause t loaded again
+
+-- the receipt of an answer, and none where there is none
+abbrev pub receipts_of_try : ℕ → Result Found Again → List Receipt
+receipts_of_try pc (Ok found) = Query Registered pc found ∷ []
+receipts_of_try pc (Err again) = []
+
+-- A try of the tree: it makes these loads, 245 at most, each of the clock or of a node that the
+-- loads before it lead to; and of the log nothing changes but what is seen, the loads, the sights
+-- and, with an answer, its receipt.
+pub record Tries (t : Terms) (pc : ℕ) (k k' : CallerData)
+    (result : Result Found Again) : Type 0 where
+  pub loaded : List LoadedWord
+  pub past : List Update
+  pub sights : Sights
+  pub begins : IsPrefix k.log.past past
+  pub led : AreLed pc [] loaded
+  pub few : length loaded ≤ 245
+  pub answer : IsTryAnswer t pc past loaded result
+  pub log : k' ≡ record k {
+    log = after_try loaded past sights (receipts_of_try pc result) k.log;
+  }
+
+-- a try that found no answer
+abbrev pub Fails : Terms → ℕ → CallerData → Again → CallerData → Type 0
+Fails t pc k again k' = Tries t pc k k' (Err again)

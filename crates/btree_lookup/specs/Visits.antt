@@ -1,0 +1,139 @@
+-- A lookup on its way: what its log keeps of the node that it visits, and what the words that it
+-- loaded of the node say, where they are the node's.
+use Rattle.std.specs.Prelude.{◌≡◌, ◌≢◌, ℕ, ◌+◌, ◌*◌, ◌-◌, ◌^◌, ◌<◌, ◌≤◌, ◌⊎◌, List, [], length}
+use Rattle.std.specs.Prelude.{Contains, IfSome, Option, Some, None, option_map}
+use Rattle.reg_model.specs.Query.{member_at}
+use Rattle.reg_model.specs.declared.span.Member.{Member}
+use Rattle.tree_shape.specs.NodeData.{NodeData, IsInFences, entries_of}
+use Rattle.tree_shape.specs.declared.node.Frame.{Frame}
+use Rattle.word_rule.specs.declared.log.LoadedWord.{LoadedWord}
+use Rattle.word_rule.specs.declared.log.Log.{Log}
+use Rattle.word_rule.specs.declared.log.NodeSight.{NodeSight}
+use Rattle.word_rule.specs.declared.log.Sights.{Sights}
+use Rattle.word_rule.specs.declared.log.Terms.{Terms}
+use Rattle.word_rule.specs.CallerData.{CallerData}
+use Rattle.word_rule.specs.Held.{held_of}
+use Rattle.word_rule.specs.NodeTells.{IsLiveNode}
+use Rattle.word_rule.specs.Observations.{AreOfNode}
+use Rattle.word_rule.specs.Places.{TOP, node_place}
+use Rattle.word_rule.specs.Spelling.{SpellsNode}
+use Rattle.word_rule.specs.Sights.{loaded_word, place_of, place_under, sight_of}
+use Rattle.btree_lookup.specs.Loads.{after_looks, loaded_at, loaded_of}
+use Rattle.btree_lookup.specs.Ways.{AreLed, IsLed}
+use Rattle.btree_lookup.specs.declared.entry.Begun.{Begun}
+use Rattle.btree_lookup.specs.declared.entry.Entry.{Entry}
+use Rattle.btree_lookup.specs.declared.visit.Visit.{Visit}
+
+-- the address is inside a place's fences
+abbrev pub Holds : Frame → ℕ → Type 0
+Holds place pc = (place.low ≤ pc) × (pc ≤ place.high)
+
+-- A caller k that began a try is now k'. It made these loads alone, which lead to the node that it
+-- visits; its sight of the node has the visit's version and level, and a place for the address.
+-- While levels fall by one with each node, so many loads of the node leave enough for the rest.
+pub record Sees (t : Terms) (pc : ℕ) (k : CallerData) (visit : Visit) (used : ℕ)
+    (k' : CallerData) : Type 0 where
+  pub loaded : List LoadedWord
+  pub sights : Sights
+  pub log : k' ≡ record k { log = after_looks loaded sights k.log }
+  pub led : AreLed pc [] loaded
+  pub few : length loaded + 19 * visit.level ≤ 230 + used
+  pub way : IsLed pc loaded visit.node
+  pub within : visit.node < t.nodes
+  pub free : held_of visit.node k.log.holdings.held ≡ None
+  pub version : Contains loaded (loaded_at (node_place visit.node) visit.version)
+  pub sight : NodeSight
+  pub found : sight_of visit.node sights.nodes ≡ Some sight
+  pub same : sight.version ≡ visit.version
+  pub place : Frame
+  pub placed : place_of sight ≡ Some place
+  pub level : place.level ≡ visit.level
+  pub inside : Holds place pc
+
+-- the same where no child was loaded yet
+pub record Way (t : Terms) (pc : ℕ) (k : CallerData) (visit : Visit) (k' : CallerData) : Type 0 where
+  pub sees : Sees t pc k visit 0 k'
+  pub fresh : (i : ℕ) → loaded_word (6 + 2 * i) sees.sight.words ≡ None
+
+-- its count was loaded, and so many separators, each below the address
+pub record SeesBelow (t : Terms) (pc : ℕ) (k : CallerData) (visit : Visit) (count slot : ℕ)
+    (k' : CallerData) : Type 0 where
+  pub sees : Sees t pc k visit (1 + slot) k'
+  pub counted : loaded_word 5 sees.sight.words ≡ Some count
+  pub below : (i : ℕ) → i < slot → (s : ℕ) × ((loaded_word (7 + 2 * i) sees.sight.words ≡ Some s)
+      × Contains sees.loaded (loaded_of visit.node (7 + 2 * i) s) × (s < pc))
+  pub fresh : (i : ℕ) → loaded_word (6 + 2 * i) sees.sight.words ≡ None
+
+-- Words of the node that a sight is of: they have each word that was loaded, spell this content, and
+-- where the sight has a place, the node is live there.
+pub record Agrees (t : Terms) (s : NodeSight) (shape : NodeData) : Type 0 where
+  pub words : List ℕ
+  pub spells : SpellsNode words shape
+  pub loaded_so : AreOfNode words s.words
+  pub live : IfSome (place_of s) (IsLiveNode t s.node shape)
+
+-- the child that the address leads to: where the node's version is found now, the child gets a
+-- place one level down that holds the address
+pub record SeesChild (t : Terms) (pc : ℕ) (k : CallerData) (visit : Visit) (child : ℕ)
+    (k' : CallerData) : Type 0 where
+  pub sees : Sees t pc k visit 17 k'
+  pub other : child ≢ visit.node
+  pub below : child ≢ 0
+  pub way : IsLed pc sees.loaded child
+  pub next : Frame
+  pub placed : place_under child sees.sight (place_of sees.sight) ≡ Some next
+  pub level : next.level + 1 ≡ visit.level
+  pub inside : Holds next pc
+
+-- what was loaded is of no node, so that the version isn't found again
+pub record SeesNone (t : Terms) (pc : ℕ) (k : CallerData) (visit : Visit)
+    (k' : CallerData) : Type 0 where
+  pub sees : Sees t pc k visit 17 k'
+  pub never : (shape : NodeData) → Agrees t sees.sight shape → ⊥
+
+-- The count was loaded, and the bases of so many entries, each at or below the address, the last
+-- one this.
+pub record SeesBases (t : Terms) (pc : ℕ) (k : CallerData) (visit : Visit) (count begun base : ℕ)
+    (k' : CallerData) : Type 0 where
+  pub sees : Sees t pc k visit (1 + begun) k'
+  pub counted : loaded_word 5 sees.sight.words ≡ Some count
+  pub below : (i : ℕ) → i < begun
+      → (b : ℕ) × ((loaded_word (6 + 3 * i) sees.sight.words ≡ Some b) × (b ≤ pc))
+  pub last : (i : ℕ) → i + 1 ≡ begun → loaded_word (6 + 3 * i) sees.sight.words ≡ Some base
+
+-- of so many entries none is left, or the next one begins above the address
+abbrev pub IsPast : ℕ → ℕ → ℕ → List LoadedWord → Type 0
+IsPast pc count begun words =
+    (count ≡ begun) ⊎ ((b : ℕ) × ((loaded_word (6 + 3 * begun) words ≡ Some b) × (pc < b)))
+
+-- the entries that begin at or below the address
+pub record SeesBegun (t : Terms) (pc : ℕ) (k : CallerData) (visit : Visit) (begun : Begun)
+    (k' : CallerData) : Type 0 where
+  pub sees : Sees t pc k visit 11 k'
+  pub count : ℕ
+  pub counted : loaded_word 5 sees.sight.words ≡ Some count
+  pub few : begun.count ≤ count
+  pub below : (i : ℕ) → i < begun.count
+      → (b : ℕ) × ((loaded_word (6 + 3 * i) sees.sight.words ≡ Some b) × (b ≤ pc))
+  pub last : (i : ℕ) → i + 1 ≡ begun.count
+      → loaded_word (6 + 3 * i) sees.sight.words ≡ Some begun.base
+  pub past : count ≤ 10 → IsPast pc count begun.count sees.sight.words
+
+-- the member that an entry is, where it has a span and a payload of 32 bits
+abbrev pub entry_member : Entry → Member
+entry_member e = record {
+  span = record { first = e.base; last = e.base + e.size - 1 };
+  payload = e.payload;
+}
+
+abbrev pub IsEntry : Entry → Type 0
+IsEntry e = (1 ≤ e.size) × (e.base + e.size ≤ TOP) × (e.payload < 2 ^ 32)
+
+-- Whatever node has the words that were loaded: it is a leaf whose fences hold the address, and
+-- this is its entry that contains the address.
+pub record SeesEntry (t : Terms) (pc : ℕ) (k : CallerData) (visit : Visit) (entry : Option Entry)
+    (k' : CallerData) : Type 0 where
+  pub sees : Sees t pc k visit 13 k'
+  pub found : (shape : NodeData) → Agrees t sees.sight shape
+      → (member_at pc (entries_of shape) ≡ option_map entry_member entry)
+      × IfSome entry IsEntry × (shape.level ≡ 0) × IsInFences pc shape

@@ -1,0 +1,99 @@
+//! The search of a leaf.
+//!
+//! Nothing that is loaded is trusted: the leaf may be stored into meanwhile. What a search found is
+//! said of the leaf that has the words that were loaded.
+ghost use Rattle.std.specs.Prelude.{◌≡◌, ℕ, ◌<◌, ◌≤◌, Some};
+ghost use Rattle.word_rule.specs.CallerData.{CallerData};
+ghost use Rattle.btree_lookup.specs.Visits.{IsEntry, SeesBegun, SeesEntry, Way, entry_member};
+
+use crate::visit::{COUNT, Visit};
+use reg_model::{Member, Span};
+use tree_shape::ENTRIES;
+use word_rule::{Caller, Words};
+
+/// The words of a leaf: those of an entry are its base, its size and its payload, and the next
+/// entry stands three words on.
+const BASE: u32 = 6;
+
+const SIZE: u32 = 7;
+
+const PAYLOAD: u32 = 8;
+
+const ENTRY_WORDS: u32 = 3;
+
+/// How many entries begin at or below an address, and where the last of them begins.
+#[derive(Clone, Copy)]
+pub struct Begun {
+    pub count: u32,
+    pub base: u64,
+}
+
+/// What the words of a leaf say of an entry.
+#[derive(Clone, Copy)]
+pub struct Entry {
+    pub base: u64,
+    pub size: u64,
+    pub payload: u64,
+}
+
+impl Entry {
+    /// The member that is meant. None where there is no such span or payload, as no leaf has it.
+    pub fn member(self) -> Option<Member>
+        ensures { IsEntry self → result ≡ Some (entry_member self) }
+    {
+        let span = Span::new(self.base, self.size)?;
+        if self.payload > u32::MAX as u64 {
+            return None;
+        }
+        let payload = self.payload as u32;
+        Some(Member { span, payload })
+    }
+}
+
+/// The entries that begin at or below the address: they stand before the others.
+fn begun_at(words: &Words, me: &mut Caller, visit: Visit, pc: u64) -> Begun
+    requires table { me.old.table ≡ words.now.table }
+    requires inside { visit.node < words.now.terms.nodes }
+    ensures table { me.new.table ≡ me.old.table }
+    ensures few { result.count ≤ 10 }
+    ensures below { result.base ≤ pc }
+    ensures begun { (k : CallerData) → Way words.now.terms pc k visit me.old
+        → SeesBegun words.now.terms pc k visit result me.new }
+{
+    let count = words.load_node(me, visit.node, COUNT).min(ENTRIES as u64) as u32;
+    let mut base = 0;
+    for begun in 0..count {
+        let next = words.load_node(me, visit.node, BASE + ENTRY_WORDS * begun);
+        if next > pc {
+            return Begun { count: begun, base };
+        }
+        base = next;
+    }
+    Begun { count, base }
+}
+
+/// The entry that contains the address: the last one that begins at or below it, where it is long
+/// enough.
+pub fn entry_at(words: &Words, me: &mut Caller, visit: Visit, pc: u64) -> Option<Entry>
+    requires table { me.old.table ≡ words.now.table }
+    requires inside { visit.node < words.now.terms.nodes }
+    ensures table { me.new.table ≡ me.old.table }
+    ensures entry { (k : CallerData) → visit.level ≡ 0 → Way words.now.terms pc k visit me.old
+        → SeesEntry words.now.terms pc k visit result me.new }
+{
+    let Begun { count, base } = begun_at(words, me, visit, pc);
+    if count == 0 {
+        return None;
+    }
+    let place = ENTRY_WORDS * (count - 1);
+    let size = words.load_node(me, visit.node, SIZE + place);
+    if pc - base >= size {
+        return None;
+    }
+    let payload = words.load_node(me, visit.node, PAYLOAD + place);
+    Some(Entry {
+        base,
+        size,
+        payload,
+    })
+}

@@ -1,0 +1,20 @@
+//! The registered half of a lookup over the shared words.
+//!
+//! A try takes no lock and stores nothing. It goes down from the root by single loads: the version
+//! of a node, its count, separators up to the first that is at least the address, and the child;
+//! then the child's version, and the parent's again. At the leaf it loads bases up to the first
+//! above the address, the clock, and the leaf's version again. Where each version was found again,
+//! what was read is the tree's at the clock; else the try says which word it found changed or
+//! locked.
+//!
+//! The layer above word_rule, which has the single steps, says what a version that is found again
+//! tells, and appends the receipt.
+#![tactic(auto)]
+
+mod entry;
+mod lookup;
+#[cfg(test)]
+mod tests;
+mod visit;
+
+pub use lookup::try_find;

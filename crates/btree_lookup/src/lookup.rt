@@ -1,0 +1,67 @@
+//! A try to look an address up in the tree.
+ghost use Rattle.std.specs.Prelude.{◌≡◌, ℕ, ◌+◌, ◌<◌, ◌≤◌, [], length, IfSome, IsOk, option_map};
+ghost use Rattle.reg_model.specs.Receipt.{member_of, stamp_of};
+ghost use Rattle.word_rule.specs.CallerData.{CallerData};
+ghost use Rattle.word_rule.specs.Callers.{IsAlone};
+ghost use Rattle.btree_lookup.specs.Tries.{Tries};
+ghost use Rattle.btree_lookup.specs.Visits.{IsEntry, Way, entry_member};
+
+use crate::entry::{self, Entry};
+use crate::visit::{self, Visit};
+use reg_model::{Again, Found};
+use word_rule::{Ask, Caller, LockId, Words};
+
+/// What the clock's lower half counts up to.
+const LOWER: u64 = 1 << 32;
+
+/// The answer at a stamp.
+fn answer(entry: Option<Entry>, stamp: u32) -> Found
+    ensures stamp { stamp_of result ≡ stamp }
+    ensures member { IfSome entry IsEntry
+        → member_of result ≡ option_map entry_member entry }
+{
+    match entry {
+        Some(entry) => match entry.member() {
+            Some(member) => Found::Hit { member, stamp },
+            None => Found::Miss { stamp },
+        },
+        None => Found::Miss { stamp },
+    }
+}
+
+/// What the leaf says, where its version is found again after the clock was loaded.
+fn leaf(words: &Words, me: &mut Caller, visit: Visit, pc: u64) -> Result<Found, Again>
+    requires table { me.old.table ≡ words.now.table }
+    requires inside { visit.node < words.now.terms.nodes }
+    ensures table { me.new.table ≡ me.old.table }
+    ensures tries { (k : CallerData) → visit.level ≡ 0 → Way words.now.terms pc k visit me.old
+        → Tries words.now.terms pc k me.new result }
+    ensures alone { (k : CallerData) → Way words.now.terms pc k visit me.old
+        → IsAlone k.log.lineage → k.log.holdings.held ≡ [] → IsOk result }
+{
+    let entry = entry::entry_at(words, me, visit, pc);
+    let clock = words.load_clock(me, Ask::Nothing);
+    let lock = LockId::Node { node: visit.node };
+    let second = words.load_version(me, lock, Ask::Registered { pc });
+    if second != visit.version {
+        return Err(visit::changed(words, visit, second));
+    }
+    Ok(answer(entry, (clock % LOWER) as u32))
+}
+
+/// Looks an address up once among the registered members: the one that contains it, at the stamp
+/// of a load of the clock in this call. Again where a version was found changed or locked on the
+/// way. It takes no lock, stores nothing and waits for nobody.
+pub fn try_find(words: &Words, me: &mut Caller, pc: u64) -> Result<Found, Again>
+    requires table { me.old.table ≡ words.now.table }
+    ensures tries { Tries words.now.terms pc me.old me.new result }
+    ensures alone { IsAlone me.old.log.lineage → me.old.log.holdings.held ≡ [] → IsOk result }
+    ensures writes { me.new.log.trace.writes ≡ me.old.log.trace.writes }
+    ensures few { length me.new.log.trace.loads ≤ length me.old.log.trace.loads + 500 }
+{
+    let mut visit = visit::root(words, me)?;
+    while visit.level > 0 {
+        visit = visit::descend(words, me, visit, pc)?;
+    }
+    leaf(words, me, visit, pc)
+}

@@ -1,0 +1,165 @@
+//! The way down from the root, a node at a time.
+//!
+//! A sight of each node is begun when its version is first loaded. It is marked live when the
+//! parent's version is found again, since the parent then still named the node. Nothing that was
+//! loaded of a node is trusted before its own version is found again.
+ghost use Rattle.std.specs.Prelude.{◌≡◌, ℕ, ◌+◌, ◌<◌, ◌≤◌, [], IfOk, IfErr, IfSome, IsNone, IsOk};
+ghost use Rattle.reg_model.specs.declared.answer.Again.TheVariants.{Changed, Locked};
+ghost use Rattle.word_rule.specs.CallerData.{CallerData};
+ghost use Rattle.word_rule.specs.Callers.{IsAlone};
+ghost use Rattle.word_rule.specs.Places.{TOP, node_place};
+ghost use Rattle.btree_lookup.specs.Tries.{Fails};
+ghost use Rattle.btree_lookup.specs.Visits.{SeesChild, SeesNone, Way};
+
+use reg_model::Again;
+use tree_shape::PAIRS;
+use tree_shape::limits::HIGHEST_LEVEL;
+use word_rule::{Ask, Caller, LockId, Words};
+
+/// Where the nodes begin in the table, and the words of one.
+const FIRST_NODE: u32 = 4;
+
+const NODE_WORDS: u32 = 36;
+
+/// The words of a node: its level and its count, and of an inner one the first child and the first
+/// separator. The next pair stands two words on.
+const LEVEL: u32 = 2;
+
+pub const COUNT: u32 = 5;
+
+const CHILD: u32 = 6;
+
+const SEPARATOR: u32 = 7;
+
+const PAIR_WORDS: u32 = 2;
+
+/// A node on the way down: the version with which the sight of it began, and its level.
+#[derive(Clone, Copy)]
+pub struct Visit {
+    pub node: u32,
+    pub version: u64,
+    pub level: u64,
+}
+
+/// Where the version word of a node stands. There are few nodes, so it is a number of 32 bits.
+fn version_word(words: &Words, node: u32) -> u32
+    requires { node < words.now.terms.nodes }
+    ensures { result ≡ node_place node }
+{
+    let _few = words.nodes();
+    FIRST_NODE + NODE_WORDS * node
+}
+
+/// A node's version was found locked.
+fn locked(words: &Words, node: u32, seen: u64) -> Again
+    requires { node < words.now.terms.nodes }
+    ensures { result ≡ Locked (node_place node) seen }
+{
+    Again::Locked {
+        word: version_word(words, node),
+        seen,
+    }
+}
+
+/// A node's version is another one than that of the visit.
+pub fn changed(words: &Words, visit: Visit, second: u64) -> Again
+    requires { visit.node < words.now.terms.nodes }
+    ensures { result ≡ Changed (node_place visit.node) visit.version second }
+{
+    Again::Changed {
+        word: version_word(words, visit.node),
+        first: visit.version,
+        second,
+    }
+}
+
+/// The root, where a lookup begins.
+pub fn root(words: &Words, me: &mut Caller) -> Result<Visit, Again>
+    requires table { me.old.table ≡ words.now.table }
+    ensures table { me.new.table ≡ me.old.table }
+    ensures inside { IfOk result (λ visit. visit.node < words.now.terms.nodes) }
+    ensures ok { (pc : ℕ) → pc ≤ TOP
+        → IfOk result (λ visit. Way words.now.terms pc me.old visit me.new) }
+    ensures err { (pc : ℕ) → IfErr result (λ again. Fails words.now.terms pc me.old again me.new) }
+    ensures alone { IsAlone me.old.log.lineage → me.old.log.holdings.held ≡ [] → IsOk result }
+{
+    let _some = words.nodes();
+    let version = words.begin_sight(me, 0);
+    if version % 2 != 0 {
+        return Err(locked(words, 0, version));
+    }
+    let level = words.load_node(me, 0, LEVEL);
+    let visit = Visit {
+        node: 0,
+        version,
+        level,
+    };
+    if level > HIGHEST_LEVEL as u64 {
+        let second = words.load_version(me, LockId::Node { node: 0 }, Ask::Nothing);
+        return Err(changed(words, visit, second));
+    }
+    Ok(visit)
+}
+
+/// The child of the first pair whose separator is at least the address. None where there is no such
+/// pair, or where it names no other node below the root: then the version has changed.
+fn child_for(words: &Words, me: &mut Caller, visit: Visit, pc: u64) -> Option<u32>
+    requires table { me.old.table ≡ words.now.table }
+    requires inside { visit.node < words.now.terms.nodes }
+    ensures table { me.new.table ≡ me.old.table }
+    ensures inside { IfSome result (λ child. child < words.now.terms.nodes) }
+    ensures child { (k : CallerData) → 0 < visit.level → Way words.now.terms pc k visit me.old
+        → IfSome result (λ child. SeesChild words.now.terms pc k visit child me.new) }
+    ensures none { (k : CallerData) → 0 < visit.level → Way words.now.terms pc k visit me.old
+        → IsNone result → SeesNone words.now.terms pc k visit me.new }
+{
+    let count = words.load_node(me, visit.node, COUNT);
+    if count > PAIRS as u64 {
+        return None;
+    }
+    for slot in 0..count as u32 {
+        if pc <= words.load_node(me, visit.node, SEPARATOR + PAIR_WORDS * slot) {
+            let child = words.load_node(me, visit.node, CHILD + PAIR_WORDS * slot);
+            if child == 0 || child == visit.node as u64 || child >= words.nodes() as u64 {
+                return None;
+            }
+            return Some(child as u32);
+        }
+    }
+    None
+}
+
+/// From a node to the child that the address leads to.
+pub fn descend(words: &Words, me: &mut Caller, visit: Visit, pc: u64) -> Result<Visit, Again>
+    requires table { me.old.table ≡ words.now.table }
+    requires inside { visit.node < words.now.terms.nodes }
+    requires above { 0 < visit.level }
+    ensures table { me.new.table ≡ me.old.table }
+    ensures inside { IfOk result (λ next. next.node < words.now.terms.nodes) }
+    ensures level { IfOk result (λ next. next.level + 1 ≡ visit.level) }
+    ensures ok { (k : CallerData) → Way words.now.terms pc k visit me.old
+        → IfOk result (λ next. Way words.now.terms pc k next me.new) }
+    ensures err { (k : CallerData) → Way words.now.terms pc k visit me.old
+        → IfErr result (λ again. Fails words.now.terms pc k again me.new) }
+    ensures alone { (k : CallerData) → Way words.now.terms pc k visit me.old
+        → IsAlone k.log.lineage → k.log.holdings.held ≡ [] → IsOk result }
+{
+    let lock = LockId::Node { node: visit.node };
+    let Some(node) = child_for(words, me, visit, pc) else {
+        let second = words.load_version(me, lock, Ask::Nothing);
+        return Err(changed(words, visit, second));
+    };
+    let version = words.begin_sight(me, node);
+    if version % 2 != 0 {
+        return Err(locked(words, node, version));
+    }
+    let second = words.load_version(me, lock, Ask::Nothing);
+    if second != visit.version {
+        return Err(changed(words, visit, second));
+    }
+    Ok(Visit {
+        node,
+        version,
+        level: visit.level - 1,
+    })
+}
