@@ -159,9 +159,14 @@ module _ (t : Terms) (pc : ℕ) (k : CallerData) (visit : Visit) where
 
       below_there : (i : ℕ) → i < slot → (s : ℕ) × ((loaded_word (7 + 2 * i) words ≡ Some s) × Contains with_child.loaded (loaded_of visit.node (7 + 2 * i) s) × (s < pc))
       below_there i l =
-          let b = w.below i l in
-          (b.0, (word_other (6 + 2 * slot) child (7 + 2 * i) then_sees.sight.words (λ e. omega (arith, e)) ∙ (word_other (7 + 2 * slot) separator (7 + 2 * i) w.sees.sight.words (λ e. omega (arith, e, l)) ∙ b.1.0),
-            Contains-append_left then_sees.loaded (loaded_of visit.node (6 + 2 * slot) child ∷ []) (loaded_of visit.node (7 + 2 * i) b.0) (Contains-append_left w.sees.loaded (loaded_of visit.node (7 + 2 * slot) separator ∷ []) (loaded_of visit.node (7 + 2 * i) b.0) b.1.1), b.1.2))
+          let b = w.below i l in (
+            b.0,
+            (
+              word_other (6 + 2 * slot) child (7 + 2 * i) then_sees.sight.words (λ e. omega (arith, e)) ∙ (word_other (7 + 2 * slot) separator (7 + 2 * i) w.sees.sight.words (λ e. omega (arith, e, l)) ∙ b.1.0),
+              Contains-append_left then_sees.loaded (loaded_of visit.node (6 + 2 * slot) child ∷ []) (loaded_of visit.node (7 + 2 * i) b.0) (Contains-append_left w.sees.loaded (loaded_of visit.node (7 + 2 * slot) separator ∷ []) (loaded_of visit.node (7 + 2 * i) b.0) b.1.1),
+              b.1.2,
+            ),
+          )
 
       -- the place that the pair gives
       named_at : (d i more : ℕ) → i + d ≡ slot → d < more → named_place child w.sees.place words i more ≡ place_between w.sees.place (low_of w.sees.place slot words) (loaded_word (7 + 2 * slot) words)
@@ -198,11 +203,15 @@ module _ (t : Terms) (pc : ℕ) (k : CallerData) (visit : Visit) where
         sees = all;
         other = other;
         below = not_root;
-        way = inr (visit.node, slot, record {
-          named = last_loaded then_sees.loaded (loaded_of visit.node (6 + 2 * slot) child);
-          separator = (separator, (Contains-append_left then_sees.loaded (loaded_of visit.node (6 + 2 * slot) child ∷ []) (loaded_of visit.node (7 + 2 * slot) separator) (last_loaded w.sees.loaded (loaded_of visit.node (7 + 2 * slot) separator)), at_least));
-          before = λ i l. let b = below_there i l in (b.0, (b.1.1, b.1.2));
-        });
+        way = inr (
+          visit.node,
+          slot,
+          record {
+            named = last_loaded then_sees.loaded (loaded_of visit.node (6 + 2 * slot) child);
+            separator = (separator, (Contains-append_left then_sees.loaded (loaded_of visit.node (6 + 2 * slot) child ∷ []) (loaded_of visit.node (7 + 2 * slot) separator) (last_loaded w.sees.loaded (loaded_of visit.node (7 + 2 * slot) separator)), at_least));
+            before = λ i l. let b = below_there i l in (b.0, (b.1.1, b.1.2));
+          },
+        );
         next = next;
         placed = gives;
         level = (let l = w.sees.level in omega (arith, l, above));
@@ -221,17 +230,16 @@ module _ (t : Terms) (pc : ℕ) (k : CallerData) (visit : Visit) where
               let b = branch_there (λ x. (x.child < t.nodes) × (x.child ≢ 0) × (inner.live.places x.child ≡ x.frame)) a.words (shape.level - 1) 0 slot (node_word a.words 5) shape.low inner.pairs inner.read (omega (arith, number, slots)) kids in
               let at_slot : 6 + 2 * (0 + slot) ≡ 6 + 2 * slot = omega arith in
               let is_child : b.0.child ≡ child = b.1.1 ∙ (ap (node_word a.words) at_slot ∙ loaded_is a.words words (6 + 2 * slot) child a.loaded_so child_there) in
-              by_wrong wrong b.1.0.0 b.1.0.1 is_child (ap (λ (f : Frame). f.level) b.1.0.2 ∙ b.1.2) (ap (λ (f : Frame). f.level) inner.live.own) inner.level inner.live.places b.0.child
+              by_wrong wrong b.0.child inner.live.places b.1.0.0 b.1.0.1 is_child (ap (λ (f : Frame). f.level) b.1.0.2 ∙ b.1.2) (ap (λ (f : Frame). f.level) inner.live.own) shape.level inner.level
             where
               same_node : all.sight.node ≡ visit.node
               same_node = node_of_sight visit.node all.sights.nodes all.sight all.found
 
-              by_wrong : (child ≡ 0) ⊎ ((child ≡ visit.node) ⊎ (t.nodes ≤ child)) → {x : ℕ} → x < t.nodes → x ≢ 0 → x ≡ child → {places : ℕ → Frame} → (places x).level ≡ shape.level - 1 → (places all.sight.node).level ≡ shape.level → 0 < shape.level → (ℕ → Frame) → ℕ → ⊥
-              by_wrong (inl zero') inside not_root e one own positive _ _ = not_root (e ∙ zero')
-              by_wrong (inr (inl self)) {x} inside not_root e {places} one own positive _ _ =
-                  let same : x ≡ all.sight.node = e ∙ (self ∙ sym same_node) in
-                  let levels : shape.level - 1 ≡ shape.level = sym one ∙ (ap (λ n. (places n).level) same ∙ own) in omega (arith, levels, positive)
-              by_wrong (inr (inr large)) inside not_root e one own positive _ _ = omega (arith, inside, e, large)
+              by_wrong : (child ≡ 0) ⊎ ((child ≡ visit.node) ⊎ (t.nodes ≤ child)) → (x : ℕ) (places : ℕ → Frame) → x < t.nodes → x ≢ 0 → x ≡ child → {level : ℕ} → (places x).level ≡ level - 1 → (places all.sight.node).level ≡ level → (own : ℕ) → 0 < level → ⊥
+              by_wrong (inl root) x places inside not_root e one self level positive = not_root (e ∙ root)
+              by_wrong (inr (inl same)) x places inside not_root e one self level positive =
+                  let is : (places x).level ≡ (places all.sight.node).level = ap (λ n. (places n).level) (e ∙ (same ∙ sym same_node)) in omega (arith, is, one, self, positive)
+              by_wrong (inr (inr large)) x places inside not_root e one self level positive = omega (arith, inside, e, large)
 
   -- no node has so many pairs
   pub count_wrong : (k1 : CallerData) (count : ℕ) → SeesBelow t pc k visit count 0 k1 → 15 < count → 0 < visit.level → SeesNone t pc k visit k1

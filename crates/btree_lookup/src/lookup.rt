@@ -36,8 +36,8 @@ fn leaf(words: &Words, me: &mut Caller, visit: Visit, pc: u64) -> Result<Found, 
     ensures table { me.new.table ≡ me.old.table }
     ensures tries { (k : CallerData) → visit.level ≡ 0 → Way words.now.terms pc k visit me.old
         → Tries words.now.terms pc k me.new result }
-    ensures alone { (k : CallerData) → Way words.now.terms pc k visit me.old
-        → IsAlone k.log.lineage → k.log.holdings.held ≡ [] → IsOk result }
+    ensures alone { (k : CallerData) → visit.level ≡ 0 → Way words.now.terms pc k visit me.old
+        → IsAlone k.log.lineage → IsOk result }
 {
     let entry = entry::entry_at(words, me, visit, pc);
     let clock = words.load_clock(me, Ask::Nothing);

@@ -1,0 +1,159 @@
+-- The step of a lookup from a node to its child, from what its loads of versions tell.
+use Rattle.std.proofs.Common.{◌≡◌, ◌≢◌, ℕ, zero, suc, ◌+◌, ◌*◌, ◌-◌, ◌%◌, ◌<◌, ◌≤◌, ◌==◌, ◌⊎◌, Bool, true, false, cond, List, [], ◌∷◌, ◌++◌, length, length-append, map, option_map, Option, Some, None, IfSome, IfOk, IfErr, IsOk, Contains, inl, inr, refl, ap, sym, ◌∙◌, subst, arith, append-nil, nat_eq, eq-eqb, ne_eqb, not, if◌then◌else◌}
+use Rattle.std.specs.List.{AllByRecursion}
+use Rattle.std.proofs.lemmas.Bool.{eqb-true}
+use Rattle.std.proofs.lemmas.Option.{none-some, same_Some}
+use Rattle.std.proofs.lemmas.List.{append_assoc}
+use Rattle.std.proofs.lemmas.List.Elements.{Contains-append_left}
+use mathlib.Core.List.{IsPrefix}
+use native.Mathlib.Decide.{ℕ_discrete}
+use Rattle.reg_model.specs.declared.answer.Again.{Again}
+use Rattle.reg_model.specs.declared.answer.Again.TheVariants.{Changed, Locked}
+use Rattle.reg_model.specs.declared.answer.Update.{Update}
+use Rattle.tree_shape.specs.NodeData.{NodeData}
+use Rattle.tree_shape.specs.declared.node.Frame.{Frame}
+use Rattle.word_rule.specs.declared.log.Ask.TheVariants as ask
+use Rattle.word_rule.specs.declared.log.Holding.{Holding}
+use Rattle.word_rule.specs.declared.log.LoadEvent.{LoadEvent}
+use Rattle.word_rule.specs.declared.log.LoadedWord.{LoadedWord}
+use Rattle.word_rule.specs.declared.log.LockId.TheVariants as lock
+use Rattle.word_rule.specs.declared.log.Log.{Log}
+use Rattle.word_rule.specs.declared.log.NodeSight.{NodeSight}
+use Rattle.word_rule.specs.declared.log.Sights.{Sights}
+use Rattle.word_rule.specs.declared.log.Terms.{Terms}
+use Rattle.word_rule.specs.CallerData.{CallerData}
+use Rattle.word_rule.specs.Callers.{IsAlone, IsLockedAt}
+use Rattle.word_rule.specs.Held.{held_of}
+use Rattle.word_rule.specs.Logs.{load_of, turns}
+use Rattle.word_rule.specs.NodeTells.{AloneTells, IsLiveNode, IsOfNode, SightTells}
+use Rattle.word_rule.specs.Places.{TOP, node_place}
+use Rattle.word_rule.specs.Sights.{after_node_begin, after_node_load, after_node_version, loaded_word, mark_child, or_mark, place_of, place_under, sight_begun, sight_of, sights_after_begin, sights_after_version, with_word, without_sight}
+use Rattle.word_rule.specs.VersionLocks.{LockAloneTells, VersionTells, after_version}
+use Rattle.btree_lookup.specs.Loads.{after_looks, after_try, load_events, loaded_at, loaded_of}
+use Rattle.btree_lookup.specs.Tries.{Fails, Tries}
+use Rattle.btree_lookup.specs.Visits.{Agrees, Sees, SeesChild, SeesNone, Way}
+use Rattle.btree_lookup.specs.Ways.{AreLed, IsCause, IsLed}
+use Rattle.btree_lookup.specs.declared.visit.Visit.{Visit}
+use Rattle.btree_lookup.proofs.Loading.{come_in_order, last_loaded, led_more, looked, nothing_looked, sight_loaded, sights_then, still_led, version_led, version_loaded, word_loaded}
+use Rattle.btree_lookup.proofs.Sighting.{changed_sight, joined, node_of_sight, sight_joined, word_here, word_other}
+use Rattle.btree_lookup.proofs.Visiting.{fails_so, none_held, still_found}
+
+-- the sights of other nodes, where one was taken out
+without_other : (n m : ℕ) → m ≢ n → (sights : List NodeSight) → sight_of m (without_sight n sights) ≡ sight_of m sights
+without_other n m far [] = refl
+without_other n m far (s ∷ sights) = go (nat_eq s.node n) refl (without_other n m far sights)
+  where
+    go : (b : Bool) → nat_eq s.node n ≡ b → sight_of m (without_sight n sights) ≡ sight_of m sights → sight_of m (if not b then s ∷ without_sight n sights else without_sight n sights) ≡ cond (s.node == m) (Some s) (sight_of m sights)
+    go true e later = later ∙ sym (ap (λ b. cond b (Some s) (sight_of m sights)) (ne_eqb s.node m (λ same. far (sym same ∙ eqb-true s.node n e))))
+    go false e later = ap (cond (s.node == m) (Some s)) later
+
+mark_keeps : (parent s : NodeSight) → (mark_child parent s).node ≡ s.node
+mark_keeps parent s = go (s.node == parent.node)
+  where
+    go : (b : Bool) → (if b then s else record s { mark = or_mark (place_under s.node parent (place_of parent)) s.mark }).node ≡ s.node
+    go true = refl
+    go false = refl
+
+module _ (t : Terms) (pc : ℕ) (k : CallerData) (visit : Visit) (child : ℕ) (k1 : CallerData) (c : SeesChild t pc k visit child k1) (inside : child < t.nodes) (version : ℕ) (k2 : CallerData)
+    (begun : k2 ≡ record k1 { log = after_node_begin child version k1.log }) where
+  abbrev s : Sees t pc k visit 17 k1
+  s = c.sees
+
+  abbrev first : LoadedWord
+  first = loaded_at (node_place child) version
+
+  abbrev sights : Sights
+  sights = record s.sights { nodes = sights_after_begin child version s.sights.nodes }
+
+  child_begun : k2 ≡ looked (s.loaded ++ first ∷ []) sights k
+  child_begun = begun ∙ (ap (λ (z : CallerData). record z { log = after_node_begin child version z.log }) s.log ∙ sight_loaded k s.loaded s.sights child version)
+
+  child_led : AreLed pc [] (s.loaded ++ first ∷ [])
+  child_led = led_more pc [] s.loaded first s.led (version_led pc s.loaded child version c.way)
+
+  pub child_locked : version % 2 ≢ 0 → Fails t pc k (Locked (node_place child) version) k2
+  child_locked odd =
+      let len = length-append s.loaded (first ∷ []) in let few = s.few in
+      fails_so t pc k k2 (s.loaded ++ first ∷ []) sights (Locked (node_place child) version) child_begun child_led (let l = c.level in omega (arith, len, few, l)) (child, (inside, refl, omega (arith, odd), last_loaded s.loaded first))
+
+  pub child_unlocked : IsAlone k.log.lineage → k.log.holdings.held ≡ [] → AloneTells child version k1.log → version % 2 ≡ 0
+  child_unlocked alone nothing tells = (subst (λ (z : CallerData). AloneTells child version z.log) s.log tells alone).0 nothing
+
+  module _ (even : version % 2 ≡ 0) where
+    nodes_are : sights.nodes ≡ sight_begun child version ∷ without_sight child s.sights.nodes
+    nodes_are = ap (λ b. if b then (sight_begun child version ∷ without_sight child s.sights.nodes) else s.sights.nodes) (eq-eqb (version % 2) 0 even)
+
+    -- the sight of the parent is as it was
+    parent_there : sight_of visit.node sights.nodes ≡ Some s.sight
+    parent_there =
+        ap (sight_of visit.node) nodes_are
+        ∙ (ap (λ b. cond b (Some (sight_begun child version)) (sight_of visit.node (without_sight child s.sights.nodes))) (ne_eqb child visit.node c.other)
+        ∙ (without_other child visit.node (λ e. c.other (sym e)) s.sights.nodes ∙ s.found))
+
+    child_there : sight_of child sights.nodes ≡ Some (sight_begun child version)
+    child_there = ap (sight_of child) nodes_are ∙ ap (λ b. cond b (Some (sight_begun child version)) (sight_of child (without_sight child s.sights.nodes))) (eq-eqb child child refl)
+
+    module _ (found : ℕ) (k3 : CallerData) (looks : k3 ≡ record k2 { log = after_node_version ask.Nothing visit.node found k2.log }) where
+      abbrev second : LoadedWord
+      second = loaded_at (node_place visit.node) found
+
+      abbrev loaded : List LoadedWord
+      loaded = (s.loaded ++ first ∷ []) ++ second ∷ []
+
+      parent_looked : k3 ≡ looked loaded (sights_then visit.node found sights) k
+      parent_looked = looks ∙ (ap (λ (z : CallerData). record z { log = after_node_version ask.Nothing visit.node found z.log }) child_begun ∙ version_loaded k (s.loaded ++ first ∷ []) sights visit.node found)
+
+      all_led : AreLed pc [] loaded
+      all_led = led_more pc [] (s.loaded ++ first ∷ []) second child_led (version_led pc (s.loaded ++ first ∷ []) visit.node found (still_led pc s.loaded (first ∷ []) visit.node s.way))
+
+      count : length loaded ≡ length s.loaded + 2
+      count = let a = length-append (s.loaded ++ first ∷ []) (second ∷ []) in let b = length-append s.loaded (first ∷ []) in omega (arith, a, b)
+
+      pub parent_changed : visit.version ≢ found → Fails t pc k (Changed (node_place visit.node) visit.version found) k3
+      parent_changed other =
+          let few = s.few in let c' = count in let l = c.level in
+          fails_so t pc k k3 loaded (sights_then visit.node found sights) (Changed (node_place visit.node) visit.version found) parent_looked all_led (omega (arith, few, c', l))
+          (visit.node, (s.within, refl, other, come_in_order (loaded_at (node_place visit.node) visit.version) second (s.loaded ++ first ∷ []) (Contains-append_left s.loaded (first ∷ []) (loaded_at (node_place visit.node) visit.version) s.version)))
+
+      pub parent_alone : IsAlone k.log.lineage → AloneTells visit.node found k2.log → visit.version ≡ found
+      parent_alone alone tells = still_found k (s.loaded ++ first ∷ []) sights visit.node visit.version found (Contains-append_left s.loaded (first ∷ []) (loaded_at (node_place visit.node) visit.version) s.version) alone (subst (λ (z : CallerData). AloneTells visit.node found z.log) child_begun tells)
+
+      module _ (same : found ≡ visit.version) (held : IfSome (held_of child k1.log.holdings.held) (λ h. IsLockedAt h.version version)) where
+        abbrev marked : NodeSight
+        marked = record (sight_begun child version) { mark = Some c.next }
+
+        marks : mark_child s.sight (sight_begun child version) ≡ marked
+        marks =
+            ap (λ b. if b then sight_begun child version else record (sight_begun child version) { mark = or_mark (place_under child s.sight (place_of s.sight)) None }) (ne_eqb child s.sight.node (λ e. c.other (e ∙ node_of_sight visit.node s.sights.nodes s.sight s.found)))
+            ∙ ap (λ o. record (sight_begun child version) { mark = or_mark o None }) c.placed
+
+        then_nodes : sights_after_version visit.node found (sight_of visit.node sights.nodes) sights.nodes ≡ map (mark_child s.sight) sights.nodes
+        then_nodes =
+            ap (λ o. sights_after_version visit.node found o sights.nodes) parent_there
+            ∙ ap (λ b. if b then map (mark_child s.sight) sights.nodes else (if found % 2 == 0 then (sight_begun visit.node found ∷ without_sight visit.node sights.nodes) else sights.nodes)) (eq-eqb s.sight.version found (s.same ∙ sym same))
+
+        marked_there : sight_of child (sights_then visit.node found sights).nodes ≡ Some marked
+        marked_there = ap (sight_of child) then_nodes ∙ (changed_sight child (mark_child s.sight) (mark_keeps s.sight) sights.nodes ∙ (ap (option_map (mark_child s.sight)) child_there ∙ ap Some marks))
+
+        pub child_visited : (level : ℕ) → level + 1 ≡ visit.level → Way t pc k (record { node = child; version = version; level = level }) k3
+        child_visited level one = record {
+          sees = record {
+            loaded = loaded;
+            sights = sights_then visit.node found sights;
+            log = parent_looked;
+            led = all_led;
+            few = (let few = s.few in let c' = count in omega (arith, few, c', one));
+            way = still_led pc (s.loaded ++ first ∷ []) (second ∷ []) child (still_led pc s.loaded (first ∷ []) child c.way);
+            within = inside;
+            free = none_held (held_of child k.log.holdings.held) version (subst (λ (z : CallerData). IfSome (held_of child z.log.holdings.held) (λ h. IsLockedAt h.version version)) s.log held) even;
+            version = Contains-append_left (s.loaded ++ first ∷ []) (second ∷ []) first (last_loaded s.loaded first);
+            sight = marked;
+            found = marked_there;
+            same = refl;
+            place = c.next;
+            placed = ap (λ b. if b then None else Some c.next) (ne_eqb child 0 c.below);
+            level = (let l = c.level in omega (arith, l, one));
+            inside = c.inside;
+          };
+          fresh = λ i. refl;
+        }
