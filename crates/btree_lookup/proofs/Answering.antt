@@ -169,7 +169,7 @@ module _ (t : Terms) (pc : ℕ) (k : CallerData) (visit : Visit) (bottom : visit
     }
 
     module _ (same : found ≡ visit.version) (told : VersionTells t (lock.Node visit.node) found k2.log) where
-      terms : k.log.terms ≡ t
+      pub terms : k.log.terms ≡ t
       terms = subst (λ (z : CallerData). z.log.terms ≡ t) then_is told.0
 
       of_node : IsOfNode t past leaf_sight

@@ -36,6 +36,8 @@ fn leaf(words: &Words, me: &mut Caller, visit: Visit, pc: u64) -> Result<Found, 
     ensures table { me.new.table ≡ me.old.table }
     ensures tries { (k : CallerData) → visit.level ≡ 0 → Way words.now.terms pc k visit me.old
         → Tries words.now.terms pc k me.new result }
+    ensures terms { (k : CallerData) → visit.level ≡ 0 → Way words.now.terms pc k visit me.old
+        → IsOk result → k.log.terms ≡ words.now.terms }
     ensures alone { (k : CallerData) → visit.level ≡ 0 → Way words.now.terms pc k visit me.old
         → IsAlone k.log.lineage → IsOk result }
 {
@@ -55,6 +57,7 @@ fn leaf(words: &Words, me: &mut Caller, visit: Visit, pc: u64) -> Result<Found, 
 pub fn try_find(words: &Words, me: &mut Caller, pc: u64) -> Result<Found, Again>
     requires table { me.old.table ≡ words.now.table }
     ensures tries { Tries words.now.terms pc me.old me.new result }
+    ensures terms { IsOk result → me.old.log.terms ≡ words.now.terms }
     ensures alone { IsAlone me.old.log.lineage → me.old.log.holdings.held ≡ [] → IsOk result }
     ensures writes { me.new.log.trace.writes ≡ me.old.log.trace.writes }
     ensures few { length me.new.log.trace.loads ≤ length me.old.log.trace.loads + 500 }

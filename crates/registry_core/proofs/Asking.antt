@@ -1,15 +1,17 @@
 -- Queries one after another.
-use Rattle.std.proofs.Common.{◌≡◌, ℕ, ◌<◌, ◌≤◌, List, [], ◌∷◌, ◌++◌, length, length-append, sym, refl, ap, subst, ◌∙◌, arith, append-nil, append_assoc, Option, Some, None, MatchOption, Ok, Err}
+use Rattle.std.proofs.Common.{◌≡◌, ℕ, zero, suc, ◌<◌, ◌≤◌, Contains, List, [], ◌∷◌, ◌++◌, length, length-append, sym, refl, ap, subst, ◌∙◌, arith, append-nil, append_assoc, Option, Some, None, MatchOption, Ok, Err}
 use Rattle.std.specs.List.{AllByRecursion}
 use Rattle.std.proofs.lemmas.List.Elements.{Contains-append_left, Contains-append_right}
 use mathlib.Core.List.{IsPrefix}
 use Rattle.array_publish.specs.Lookup.{LooksUp, after_lookup}
+use Rattle.btree_lookup.specs.Loads.{load_events}
+use Rattle.btree_lookup.specs.Tries.{Tries}
 use Rattle.reg_model.specs.Chain.{HoldsAlways}
 use Rattle.reg_model.specs.State.{State}
 use Rattle.reg_model.specs.Receipt.{AreInOrder, Holds, accepted, moment}
 use Rattle.reg_model.specs.declared.answer.Again.{Again}
 use Rattle.reg_model.specs.declared.answer.Found.{Found}
-use Rattle.reg_model.specs.declared.answer.Half.TheVariants.{Loaded}
+use Rattle.reg_model.specs.declared.answer.Half.TheVariants.{Loaded, Registered}
 use Rattle.reg_model.specs.declared.answer.Receipt.{Receipt}
 use Rattle.reg_model.specs.declared.answer.Receipt.TheVariants.{Query}
 use Rattle.reg_model.specs.declared.answer.Update.{Update}
@@ -18,6 +20,7 @@ use Rattle.word_rule.specs.Callers.{start}
 use Rattle.word_rule.specs.Places.{CLOCK}
 use Rattle.word_rule.specs.Logs.{load_of}
 use Rattle.word_rule.specs.declared.log.LoadEvent.{LoadEvent}
+use Rattle.word_rule.specs.declared.log.LoadedWord.{LoadedWord}
 use Rattle.word_rule.specs.declared.log.Log.{Log}
 use Rattle.word_rule.specs.declared.log.Sights.{Sights}
 use Rattle.word_rule.specs.declared.log.Terms.{Terms}
@@ -163,4 +166,50 @@ queries_answer t pc found b c l =
       stamped = ((last, (Contains-append_right (load_of b.log CLOCK l.first ∷ l.between) (last ∷ []) last (0, omega arith, refl), refl, sym l.answer.1)), tt);
       order = (omega (arith, n, m, s), tt);
       log = l.log ∙ (λ i. record b { log = after_lookup loads l.past l.sights (l.answer.4 i) b.log });
+    }
+
+-- ---- the registered half
+
+-- a try of the tree that isn't answered
+pub tries_again : (t : Terms) (pc : ℕ) (again : Again) (b c : CallerData) → Tries t pc b c (Err again) → Queries t [] b c
+tries_again t pc again b c l = record {
+  past = l.past;
+  loads = load_events b.log l.loaded;
+  sights = l.sights;
+  begins = l.begins;
+  hold = tt;
+  stamped = tt;
+  order = tt;
+  log = l.log;
+}
+
+-- the load of a word that was loaded
+event_of : (v : Log) (loaded : List LoadedWord) (w : LoadedWord) → Contains loaded w → Contains (load_events v loaded) (load_of v w.at w.value)
+event_of v [] w (k, l, e) = absurd (omega (arith, l))
+event_of v (x ∷ loaded) w (zero, l, e) = (0, omega arith, ap (λ (z : LoadedWord). load_of v z.at z.value) e)
+event_of v (x ∷ loaded) w (suc k, l, e) = let r = event_of v loaded w (k, omega (arith, l), e) in (suc r.0, (let l' = r.1 in omega (arith, l')), r.2)
+
+-- the one that is answered
+pub tries_answer : (t : Terms) (pc : ℕ) (found : Found) (b c : CallerData) → Tries t pc b c (Ok found) → Queries t (Query Registered pc found ∷ []) b c
+tries_answer t pc found b c l =
+    let n = prefix_length b.log.past l.past l.begins in let m = l.answer.0 in
+    record {
+      past = l.past;
+      loads = load_events b.log l.loaded;
+      sights = l.sights;
+      begins = l.begins;
+      hold = (
+        record {
+          always = λ nodes callers since. record {
+            within = omega (arith, m);
+            numbered = tt;
+            right = l.answer.2;
+            filled = tt;
+          };
+        },
+        tt,
+      );
+      stamped = ((load_of b.log CLOCK l.answer.1.0, (event_of b.log l.loaded record { at = CLOCK; value = l.answer.1.0 } l.answer.1.1.0, refl, l.answer.1.1.1)), tt);
+      order = (omega (arith, n, m), tt);
+      log = l.log;
     }

@@ -2,31 +2,31 @@
 ghost use Rattle.std.specs.Prelude.{◌≡◌, ◌∷◌, []};
 ghost use Rattle.reg_model.specs.declared.answer.Half.TheVariants as half;
 ghost use Rattle.reg_model.specs.declared.answer.Receipt.TheVariants as receipt;
-ghost use Rattle.reg_model.specs.declared.answer.Found.TheVariants.{Miss};
-ghost use Rattle.reg_model.specs.Receipt.{stamp_of};
 ghost use Rattle.registry_core.specs.Queries.{Queries, IsKnown};
 
 use array_publish::try_object;
+use btree_lookup::try_find;
 use crossbeam_utils::Backoff;
 use reg_model::Found;
 use std::sync::Wait;
-use word_rule::{Ask, Caller, Words};
+use word_rule::{Caller, Words};
 
-/// What the clock's lower half counts up to.
-const LOWER: u64 = 1 << 32;
-
-/// The registered half at one load of the clock: a miss, since nothing registers.
-pub(crate) fn registered_at(words: &Words, me: &mut Caller, pc: u64) -> Found
+/// The registered half: it is tried until a try is answered, with a pause after each that isn't.
+pub(crate) fn registered_at<R: Wait>(rt: &R, words: &Words, me: &mut Caller, pc: u64) -> Found
     requires table { me.old.table ≡ words.now.table }
     ensures queries { Queries words.now.terms (receipt.Query half.Registered pc result ∷ []) me.old
         me.new }
-    ensures miss { result ≡ Miss (stamp_of result) }
+    ensures known { IsKnown words.now.terms result }
     ensures terms { me.old.log.terms ≡ words.now.terms }
 {
-    let clock = words.load_clock(me, Ask::Registered { pc });
-    Found::Miss {
-        stamp: (clock % LOWER) as u32,
+    let backoff = Backoff::new();
+    for _ in rt.forever() {
+        match try_find(words, me, pc) {
+            Ok(found) => return found,
+            Err(_) => backoff.snooze(),
+        }
     }
+    unreachable!()
 }
 
 /// The loader's half: it is tried until a try is answered, with a pause after each that isn't.

@@ -3,6 +3,7 @@ ghost use Rattle.std.specs.Prelude.{◌≡◌, ◌^◌, ◌<◌, ◌≤◌, ◌�
 ghost use Rattle.std.specs.List.{AllByRecursion};
 ghost use Rattle.array_publish.specs.Lookup.{LooksUp};
 ghost use Rattle.array_publish.specs.Update.{IsFreeAgain, LoadsMember, UnloadsMember};
+ghost use Rattle.btree_lookup.specs.Tries.{Tries};
 ghost use Rattle.reg_model.specs.Chain.{Chain};
 ghost use Rattle.reg_model.specs.Receipt.{IsPlace, receipts_of_place};
 ghost use Rattle.reg_model.specs.SpanData.{IsSpan};
@@ -19,6 +20,7 @@ ghost use Rattle.registry_core.specs.Rounds.{IsBetweenRounds};
 
 use crate::lookup::{loaded_at, registered_at};
 use array_publish::try_object;
+use btree_lookup::try_find;
 use reg_model::laws::receipts_stay;
 use reg_model::{Again, Found, Loading, Member, NoMemory, Place, Removed};
 use std::alloc::Global;
@@ -105,6 +107,16 @@ impl Registry {
         array_publish::unload(rt, &self.words, me, base)
     }
 
+    /// Looks an address up once among the registered members. Again where the tree was changed or
+    /// locked on the way. It takes no lock, stores nothing and waits for nobody.
+    pub fn try_registered(&self, me: &mut Caller, pc: u64) -> Result<Found, Again>
+        requires table { me.old.table ≡ self.now.table }
+        ensures tries { Tries self.now.terms pc me.old me.new result }
+        ensures alone { IsAlone me.old.log.lineage → me.old.log.holdings.held ≡ [] → IsOk result }
+    {
+        try_find(&self.words, me, pc)
+    }
+
     /// Looks an address up once among the fixed and the loaded members. Again where the loader
     /// published meanwhile. It takes no lock, stores nothing and waits for nobody.
     pub fn try_loaded(&self, me: &mut Caller, pc: u64) -> Result<Found, Again>
@@ -127,7 +139,7 @@ impl Registry {
     {
         // What the registered half answered goes on to hold; a law that takes no step.
         receipts_stay();
-        let registered = registered_at(&self.words, me, pc);
+        let registered = registered_at(rt, &self.words, me, pc);
         match registered {
             Found::Hit { .. } => Place {
                 registered,

@@ -1,7 +1,7 @@
 use Rattle.std.proofs.Common.{◌≡◌, ◌∙◌, sym, ap, subst}
 use Rattle.word_rule.specs.CallerData.{CallerData}
 use Rattle.btree_lookup.specs.Tries.{Fails}
-use Rattle.btree_lookup.proofs.Answering.{leaf_alone, leaf_changed, leaf_entry, leaf_found}
+use Rattle.btree_lookup.proofs.Answering.{leaf_alone, leaf_changed, leaf_entry, leaf_found, terms}
 use Rattle.btree_lookup.proofs.lookup.leaf.Goals as goal
 
 pub returns-then-second-visit-clause-tries : goal.returns-then-second-visit-clause-tries
@@ -23,3 +23,8 @@ returns-clause-tries c k bottom way =
     (c.answer.ensures.member (leaf_entry c.args.words.now.terms c.args.pc k c.args.visit bottom c.entry_at-entry.result c.entry_at-entry.new.me w c.load_clock-clock.result c.load_clock-clock.new.me c.load_clock-clock.ensures.log c.load_clock-clock.ensures.rest
     c.load_version-second.result c.load_version-second.new.me c.load_version-second.ensures.log c.if-second-visit.false c.load_version-second.ensures.tells))
     c.answer.ensures.stamp
+
+pub returns-clause-terms : goal.returns-clause-terms
+returns-clause-terms c k bottom way _ =
+    terms c.args.words.now.terms c.args.pc k c.args.visit bottom c.entry_at-entry.result c.entry_at-entry.new.me (c.entry_at-entry.ensures.entry k bottom way) c.load_clock-clock.result c.load_clock-clock.new.me c.load_clock-clock.ensures.log c.load_clock-clock.ensures.rest
+    c.load_version-second.result c.load_version-second.new.me c.load_version-second.ensures.log c.if-second-visit.false c.load_version-second.ensures.tells

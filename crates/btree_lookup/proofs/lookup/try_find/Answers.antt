@@ -29,3 +29,6 @@ returns-clause-writes c = writes_same c.args.words.now.terms c.args.pc c.args.me
 
 pub returns-clause-few : goal.returns-clause-few
 returns-clause-few c = few_loads c.args.words.now.terms c.args.pc c.args.me.now c.leaf.new.me _ (c.leaf.ensures.tries c.args.me.now (omega (arith, c.loop-visit-test.false)) c.loop-visit.invariant.way)
+
+pub returns-clause-terms : goal.returns-clause-terms
+returns-clause-terms c = c.leaf.ensures.terms c.args.me.now (omega (arith, c.loop-visit-test.false)) c.loop-visit.invariant.way
