@@ -36,7 +36,7 @@ use Rattle.word_rule.specs.Places.{CLOCK, lower, node_place}
 use Rattle.word_rule.specs.Sights.{after_clock, after_node_version, copies_after_clock, found_at, is_leaf_for, place_of, query_receipt, receipts_after_version, sight_of, sights_after_version, try_receipts, with_clock}
 use Rattle.word_rule.specs.VersionLocks.{VersionTells}
 use Rattle.btree_lookup.specs.Loads.{after_looks, after_try, load_events, loaded_at}
-use Rattle.btree_lookup.specs.Tries.{Fails, Tries}
+use Rattle.btree_lookup.specs.Tries.{EndsAgain, TriesTree}
 use Rattle.btree_lookup.specs.Visits.{Agrees, IsEntry, Sees, SeesEntry, entry_member}
 use Rattle.btree_lookup.specs.Ways.{AreLed}
 use Rattle.btree_lookup.specs.declared.entry.Entry.{Entry}
@@ -59,10 +59,10 @@ found_is (Hit m stamp) = refl
 found_is (Miss stamp) = refl
 
 -- what a whole try leaves as it was
-pub writes_same : (t : Terms) (pc : ℕ) (k k' : CallerData) (result : _) → Tries t pc k k' result → k'.log.trace.writes ≡ k.log.trace.writes
+pub writes_same : (t : Terms) (pc : ℕ) (k k' : CallerData) (result : _) → TriesTree t pc k k' result → k'.log.trace.writes ≡ k.log.trace.writes
 writes_same t pc k k' result h = ap (λ (z : CallerData). z.log.trace.writes) h.log
 
-pub few_loads : (t : Terms) (pc : ℕ) (k k' : CallerData) (result : _) → Tries t pc k k' result → length k'.log.trace.loads ≤ length k.log.trace.loads + 500
+pub few_loads : (t : Terms) (pc : ℕ) (k k' : CallerData) (result : _) → TriesTree t pc k k' result → length k'.log.trace.loads ≤ length k.log.trace.loads + 500
 few_loads t pc k k' result h =
     let is = ap (λ (z : CallerData). length z.log.trace.loads) h.log in
     let sum = length-append k.log.trace.loads (load_events k.log h.loaded) in
@@ -156,7 +156,7 @@ module _ (t : Terms) (pc : ℕ) (k : CallerData) (visit : Visit) (bottom : visit
     receipts_at = ap (receipts_after_version then_caller.log (ask.Registered pc) found) leaf_there ∙ ap (λ v. if v == found then try_receipts then_caller.log (ask.Registered pc) leaf_sight (Some (lower clock)) else []) s.same
 
     -- the leaf's version has changed
-    pub leaf_changed : visit.version ≢ found → Fails t pc k (Changed (node_place visit.node) visit.version found) k3
+    pub leaf_changed : visit.version ≢ found → EndsAgain t pc k (Changed (node_place visit.node) visit.version found) k3
     leaf_changed other = record {
       loaded = loaded;
       past = past;
@@ -208,7 +208,7 @@ module _ (t : Terms) (pc : ℕ) (k : CallerData) (visit : Visit) (bottom : visit
       known (Some m) e = found_known (IsMemberOf t) pc (state_after (start t) past).registered m tells.entries e
 
       -- the answer is that of the state at the stamp
-      pub leaf_found : (found' : Found) → member_of found' ≡ option_map entry_member entry → stamp_of found' ≡ lower clock → Tries t pc k k3 (Ok found')
+      pub leaf_found : (found' : Found) → member_of found' ≡ option_map entry_member entry → stamp_of found' ≡ lower clock → TriesTree t pc k k3 (Ok found')
       leaf_found found' member stamp = record {
         loaded = loaded;
         past = past;

@@ -30,7 +30,7 @@ use Rattle.word_rule.specs.Places.{TOP, node_place}
 use Rattle.word_rule.specs.Sights.{after_node_begin, after_node_load, after_node_version, loaded_word, mark_child, or_mark, place_of, place_under, sight_begun, sight_of, sights_after_begin, sights_after_version, with_word, without_sight}
 use Rattle.word_rule.specs.VersionLocks.{LockAloneTells, VersionTells, after_version}
 use Rattle.btree_lookup.specs.Loads.{after_looks, after_try, load_events, loaded_at, loaded_of}
-use Rattle.btree_lookup.specs.Tries.{Fails, Tries}
+use Rattle.btree_lookup.specs.Tries.{EndsAgain, TriesTree}
 use Rattle.btree_lookup.specs.Visits.{Agrees, Sees, SeesChild, SeesNone, Way}
 use Rattle.btree_lookup.specs.Ways.{AreLed, IsCause, IsLed}
 use Rattle.btree_lookup.specs.declared.visit.Visit.{Visit}
@@ -71,7 +71,7 @@ module _ (t : Terms) (pc : ℕ) (k : CallerData) (visit : Visit) (child : ℕ) (
   child_led : AreLed pc [] (s.loaded ++ first ∷ [])
   child_led = led_more pc [] s.loaded first s.led (version_led pc s.loaded child version c.way)
 
-  pub child_locked : version % 2 ≢ 0 → Fails t pc k (Locked (node_place child) version) k2
+  pub child_locked : version % 2 ≢ 0 → EndsAgain t pc k (Locked (node_place child) version) k2
   child_locked odd =
       let len = length-append s.loaded (first ∷ []) in let few = s.few in
       fails_so t pc k k2 (s.loaded ++ first ∷ []) sights (Locked (node_place child) version) child_begun child_led (let l = c.level in omega (arith, len, few, l)) (child, (inside, refl, omega (arith, odd), last_loaded s.loaded first))
@@ -109,7 +109,7 @@ module _ (t : Terms) (pc : ℕ) (k : CallerData) (visit : Visit) (child : ℕ) (
       count : length loaded ≡ length s.loaded + 2
       count = let a = length-append (s.loaded ++ first ∷ []) (second ∷ []) in let b = length-append s.loaded (first ∷ []) in omega (arith, a, b)
 
-      pub parent_changed : visit.version ≢ found → Fails t pc k (Changed (node_place visit.node) visit.version found) k3
+      pub parent_changed : visit.version ≢ found → EndsAgain t pc k (Changed (node_place visit.node) visit.version found) k3
       parent_changed other =
           let few = s.few in let c' = count in let l = c.level in
           fails_so t pc k k3 loaded (sights_then visit.node found sights) (Changed (node_place visit.node) visit.version found) parent_looked all_led (omega (arith, few, c', l))

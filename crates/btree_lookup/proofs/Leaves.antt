@@ -20,7 +20,7 @@ use Rattle.word_rule.specs.Places.{TOP}
 use Rattle.word_rule.specs.Sights.{after_node_load, loaded_word, place_of}
 use Rattle.word_rule.specs.Spelling.{body_of_kind, entries_at, entry_at, is_entry_at, is_short, node_word, pairs_at}
 use Rattle.word_rule.proofs.Spells.{reads}
-use Rattle.btree_lookup.specs.Visits.{Agrees, IsEntry, IsPast, Sees, SeesBases, SeesBegun, SeesEntry, Way, entry_member}
+use Rattle.btree_lookup.specs.Visits.{Agrees, IsEntry, IsBeyond, Sees, SeesBases, SeesBegun, SeesEntry, Way, entry_member}
 use Rattle.btree_lookup.specs.declared.entry.Begun.{Begun}
 use Rattle.btree_lookup.specs.declared.entry.Entry.{Entry}
 use Rattle.btree_lookup.specs.declared.visit.Visit.{Visit}
@@ -237,7 +237,7 @@ module _ (t : Terms) (pc : ℕ) (k : CallerData) (visit : Visit) where
     beyond : (node_word a.words 5 ≡ begun.count) ⊎ (pc < node_word a.words (6 + 3 * begun.count))
     beyond = go (w.past (let n = number in let f = leaf.few in omega (arith, n, f)))
       where
-        go : IsPast pc w.count begun.count w.sees.sight.words → (node_word a.words 5 ≡ begun.count) ⊎ (pc < node_word a.words (6 + 3 * begun.count))
+        go : IsBeyond pc w.count begun.count w.sees.sight.words → (node_word a.words 5 ≡ begun.count) ⊎ (pc < node_word a.words (6 + 3 * begun.count))
         go (inl e) = inl (number ∙ e)
         go (inr b) = inr (let is = loaded_is a.words s.sight.words (6 + 3 * begun.count) b.0 a.loaded_so (kept (6 + 3 * begun.count) b.0 b.1.0 (inr (begun.count, refl))) in let h = b.1.1 in omega (arith, is, h))
 

@@ -20,7 +20,7 @@ use Rattle.word_rule.specs.Sights.{after_node_load, is_loaded_as, loaded_word, l
 use Rattle.word_rule.specs.Spelling.{is_short, node_word, pair_at, pairs_at}
 use Rattle.word_rule.proofs.Spells.{reads_pairs}
 use Rattle.btree_lookup.specs.Loads.{loaded_of}
-use Rattle.btree_lookup.specs.Visits.{Agrees, Holds, Sees, SeesBelow, SeesChild, SeesNone, Way}
+use Rattle.btree_lookup.specs.Visits.{Agrees, HoldsAddress, Sees, SeesBelow, SeesChild, SeesNone, Way}
 use Rattle.btree_lookup.specs.declared.visit.Visit.{Visit}
 use Rattle.btree_lookup.proofs.Loading.{last_loaded}
 use Rattle.btree_lookup.proofs.Sighting.{at_most, one_more, word_here, word_other, node_of_sight}

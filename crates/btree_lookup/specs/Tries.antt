@@ -42,7 +42,7 @@ receipts_of_try pc (Err again) = []
 -- A try of the tree: it makes these loads, 245 at most, each of the clock or of a node that the
 -- loads before it lead to; and of the log nothing changes but what is seen, the loads, the sights
 -- and, with an answer, its receipt.
-pub record Tries (t : Terms) (pc : ℕ) (k k' : CallerData)
+pub record TriesTree (t : Terms) (pc : ℕ) (k k' : CallerData)
     (result : Result Found Again) : Type 0 where
   pub loaded : List LoadedWord
   pub past : List Update
@@ -56,5 +56,5 @@ pub record Tries (t : Terms) (pc : ℕ) (k k' : CallerData)
   }
 
 -- a try that found no answer
-abbrev pub Fails : Terms → ℕ → CallerData → Again → CallerData → Type 0
-Fails t pc k again k' = Tries t pc k k' (Err again)
+abbrev pub EndsAgain : Terms → ℕ → CallerData → Again → CallerData → Type 0
+EndsAgain t pc k again k' = TriesTree t pc k k' (Err again)

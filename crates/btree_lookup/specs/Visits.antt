@@ -25,8 +25,8 @@ use Rattle.btree_lookup.specs.declared.entry.Entry.{Entry}
 use Rattle.btree_lookup.specs.declared.visit.Visit.{Visit}
 
 -- the address is inside a place's fences
-abbrev pub Holds : Frame → ℕ → Type 0
-Holds place pc = (place.low ≤ pc) × (pc ≤ place.high)
+abbrev pub HoldsAddress : Frame → ℕ → Type 0
+HoldsAddress place pc = (place.low ≤ pc) × (pc ≤ place.high)
 
 -- A caller k that began a try is now k'. It made these loads alone, which lead to the node that it
 -- visits; its sight of the node has the visit's version and level, and a place for the address.
@@ -48,7 +48,7 @@ pub record Sees (t : Terms) (pc : ℕ) (k : CallerData) (visit : Visit) (used : 
   pub place : Frame
   pub placed : place_of sight ≡ Some place
   pub level : place.level ≡ visit.level
-  pub inside : Holds place pc
+  pub inside : HoldsAddress place pc
 
 -- the same where no child was loaded yet
 pub record Way (t : Terms) (pc : ℕ) (k : CallerData) (visit : Visit) (k' : CallerData) : Type 0 where
@@ -83,7 +83,7 @@ pub record SeesChild (t : Terms) (pc : ℕ) (k : CallerData) (visit : Visit) (ch
   pub next : Frame
   pub placed : place_under child sees.sight (place_of sees.sight) ≡ Some next
   pub level : next.level + 1 ≡ visit.level
-  pub inside : Holds next pc
+  pub inside : HoldsAddress next pc
 
 -- what was loaded is of no node, so that the version isn't found again
 pub record SeesNone (t : Terms) (pc : ℕ) (k : CallerData) (visit : Visit)
@@ -102,8 +102,8 @@ pub record SeesBases (t : Terms) (pc : ℕ) (k : CallerData) (visit : Visit) (co
   pub last : (i : ℕ) → i + 1 ≡ begun → loaded_word (6 + 3 * i) sees.sight.words ≡ Some base
 
 -- of so many entries none is left, or the next one begins above the address
-abbrev pub IsPast : ℕ → ℕ → ℕ → List LoadedWord → Type 0
-IsPast pc count begun words =
+abbrev pub IsBeyond : ℕ → ℕ → ℕ → List LoadedWord → Type 0
+IsBeyond pc count begun words =
     (count ≡ begun) ⊎ ((b : ℕ) × ((loaded_word (6 + 3 * begun) words ≡ Some b) × (pc < b)))
 
 -- the entries that begin at or below the address
@@ -117,7 +117,7 @@ pub record SeesBegun (t : Terms) (pc : ℕ) (k : CallerData) (visit : Visit) (be
       → (b : ℕ) × ((loaded_word (6 + 3 * i) sees.sight.words ≡ Some b) × (b ≤ pc))
   pub last : (i : ℕ) → i + 1 ≡ begun.count
       → loaded_word (6 + 3 * i) sees.sight.words ≡ Some begun.base
-  pub past : count ≤ 10 → IsPast pc count begun.count sees.sight.words
+  pub past : count ≤ 10 → IsBeyond pc count begun.count sees.sight.words
 
 -- the member that an entry is, where it has a span and a payload of 32 bits
 abbrev pub entry_member : Entry → Member

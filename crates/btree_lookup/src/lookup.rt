@@ -3,7 +3,7 @@ ghost use Rattle.std.specs.Prelude.{◌≡◌, ℕ, ◌+◌, ◌<◌, ◌≤◌,
 ghost use Rattle.reg_model.specs.Receipt.{member_of, stamp_of};
 ghost use Rattle.word_rule.specs.CallerData.{CallerData};
 ghost use Rattle.word_rule.specs.Callers.{IsAlone};
-ghost use Rattle.btree_lookup.specs.Tries.{Tries};
+ghost use Rattle.btree_lookup.specs.Tries.{TriesTree};
 ghost use Rattle.btree_lookup.specs.Visits.{IsEntry, Way, entry_member};
 
 use crate::entry::{self, Entry};
@@ -35,7 +35,7 @@ fn leaf(words: &Words, me: &mut Caller, visit: Visit, pc: u64) -> Result<Found, 
     requires inside { visit.node < words.now.terms.nodes }
     ensures table { me.new.table ≡ me.old.table }
     ensures tries { (k : CallerData) → visit.level ≡ 0 → Way words.now.terms pc k visit me.old
-        → Tries words.now.terms pc k me.new result }
+        → TriesTree words.now.terms pc k me.new result }
     ensures terms { (k : CallerData) → visit.level ≡ 0 → Way words.now.terms pc k visit me.old
         → IsOk result → k.log.terms ≡ words.now.terms }
     ensures alone { (k : CallerData) → visit.level ≡ 0 → Way words.now.terms pc k visit me.old
@@ -56,7 +56,7 @@ fn leaf(words: &Words, me: &mut Caller, visit: Visit, pc: u64) -> Result<Found, 
 /// way. It takes no lock, stores nothing and waits for nobody.
 pub fn try_find(words: &Words, me: &mut Caller, pc: u64) -> Result<Found, Again>
     requires table { me.old.table ≡ words.now.table }
-    ensures tries { Tries words.now.terms pc me.old me.new result }
+    ensures tries { TriesTree words.now.terms pc me.old me.new result }
     ensures terms { IsOk result → me.old.log.terms ≡ words.now.terms }
     ensures alone { IsAlone me.old.log.lineage → me.old.log.holdings.held ≡ [] → IsOk result }
     ensures writes { me.new.log.trace.writes ≡ me.old.log.trace.writes }

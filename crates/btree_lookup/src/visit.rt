@@ -8,7 +8,7 @@ ghost use Rattle.reg_model.specs.declared.answer.Again.TheVariants.{Changed, Loc
 ghost use Rattle.word_rule.specs.CallerData.{CallerData};
 ghost use Rattle.word_rule.specs.Callers.{IsAlone};
 ghost use Rattle.word_rule.specs.Places.{TOP, node_place};
-ghost use Rattle.btree_lookup.specs.Tries.{Fails};
+ghost use Rattle.btree_lookup.specs.Tries.{EndsAgain};
 ghost use Rattle.btree_lookup.specs.Visits.{SeesChild, SeesNone, Way};
 
 use reg_model::Again;
@@ -80,7 +80,7 @@ pub fn root(words: &Words, me: &mut Caller) -> Result<Visit, Again>
     ensures inside { IfOk result (λ visit. visit.node < words.now.terms.nodes) }
     ensures ok { (pc : ℕ) → pc ≤ TOP
         → IfOk result (λ visit. Way words.now.terms pc me.old visit me.new) }
-    ensures err { (pc : ℕ) → IfErr result (λ again. Fails words.now.terms pc me.old again me.new) }
+    ensures err { (pc : ℕ) → IfErr result (λ again. EndsAgain words.now.terms pc me.old again me.new) }
     ensures alone { IsAlone me.old.log.lineage → me.old.log.holdings.held ≡ [] → IsOk result }
 {
     let _some = words.nodes();
@@ -140,7 +140,7 @@ pub fn descend(words: &Words, me: &mut Caller, visit: Visit, pc: u64) -> Result<
     ensures ok { (k : CallerData) → Way words.now.terms pc k visit me.old
         → IfOk result (λ next. Way words.now.terms pc k next me.new) }
     ensures err { (k : CallerData) → Way words.now.terms pc k visit me.old
-        → IfErr result (λ again. Fails words.now.terms pc k again me.new) }
+        → IfErr result (λ again. EndsAgain words.now.terms pc k again me.new) }
     ensures alone { (k : CallerData) → Way words.now.terms pc k visit me.old
         → IsAlone k.log.lineage → k.log.holdings.held ≡ [] → IsOk result }
 {

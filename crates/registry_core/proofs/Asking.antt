@@ -5,7 +5,7 @@ use Rattle.std.proofs.lemmas.List.Elements.{Contains-append_left, Contains-appen
 use mathlib.Core.List.{IsPrefix}
 use Rattle.array_publish.specs.Lookup.{LooksUp, after_lookup}
 use Rattle.btree_lookup.specs.Loads.{load_events}
-use Rattle.btree_lookup.specs.Tries.{Tries}
+use Rattle.btree_lookup.specs.Tries.{TriesTree}
 use Rattle.reg_model.specs.Chain.{HoldsAlways}
 use Rattle.reg_model.specs.State.{State}
 use Rattle.reg_model.specs.Receipt.{AreInOrder, Holds, accepted, moment}
@@ -171,7 +171,7 @@ queries_answer t pc found b c l =
 -- ---- the registered half
 
 -- a try of the tree that isn't answered
-pub tries_again : (t : Terms) (pc : ℕ) (again : Again) (b c : CallerData) → Tries t pc b c (Err again) → Queries t [] b c
+pub tries_again : (t : Terms) (pc : ℕ) (again : Again) (b c : CallerData) → TriesTree t pc b c (Err again) → Queries t [] b c
 tries_again t pc again b c l = record {
   past = l.past;
   loads = load_events b.log l.loaded;
@@ -190,7 +190,7 @@ event_of v (x ∷ loaded) w (zero, l, e) = (0, omega arith, ap (λ (z : LoadedWo
 event_of v (x ∷ loaded) w (suc k, l, e) = let r = event_of v loaded w (k, omega (arith, l), e) in (suc r.0, (let l' = r.1 in omega (arith, l')), r.2)
 
 -- the one that is answered
-pub tries_answer : (t : Terms) (pc : ℕ) (found : Found) (b c : CallerData) → Tries t pc b c (Ok found) → Queries t (Query Registered pc found ∷ []) b c
+pub tries_answer : (t : Terms) (pc : ℕ) (found : Found) (b c : CallerData) → TriesTree t pc b c (Ok found) → Queries t (Query Registered pc found ∷ []) b c
 tries_answer t pc found b c l =
     let n = prefix_length b.log.past l.past l.begins in let m = l.answer.0 in
     record {

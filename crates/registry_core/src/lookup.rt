@@ -21,10 +21,10 @@ pub(crate) fn registered_at<R: Wait>(rt: &R, words: &Words, me: &mut Caller, pc:
 {
     let backoff = Backoff::new();
     for _ in rt.forever() {
-        match try_find(words, me, pc) {
-            Ok(found) => return found,
-            Err(_) => backoff.snooze(),
+        if let Ok(found) = try_find(words, me, pc) {
+            return found;
         }
+        backoff.snooze();
     }
     unreachable!()
 }

@@ -3,7 +3,7 @@ ghost use Rattle.std.specs.Prelude.{◌≡◌, ◌^◌, ◌<◌, ◌≤◌, ◌�
 ghost use Rattle.std.specs.List.{AllByRecursion};
 ghost use Rattle.array_publish.specs.Lookup.{LooksUp};
 ghost use Rattle.array_publish.specs.Update.{IsFreeAgain, LoadsMember, UnloadsMember};
-ghost use Rattle.btree_lookup.specs.Tries.{Tries};
+ghost use Rattle.btree_lookup.specs.Tries.{TriesTree};
 ghost use Rattle.reg_model.specs.Chain.{Chain};
 ghost use Rattle.reg_model.specs.Receipt.{IsPlace, receipts_of_place};
 ghost use Rattle.reg_model.specs.SpanData.{IsSpan};
@@ -111,7 +111,7 @@ impl Registry {
     /// locked on the way. It takes no lock, stores nothing and waits for nobody.
     pub fn try_registered(&self, me: &mut Caller, pc: u64) -> Result<Found, Again>
         requires table { me.old.table ≡ self.now.table }
-        ensures tries { Tries self.now.terms pc me.old me.new result }
+        ensures tries { TriesTree self.now.terms pc me.old me.new result }
         ensures alone { IsAlone me.old.log.lineage → me.old.log.holdings.held ≡ [] → IsOk result }
     {
         try_find(&self.words, me, pc)

@@ -1,11 +1,12 @@
 ghost use Rattle.std.specs.Prelude.{◌≡◌, ◌<◌, IfSome, None};
 
 use crate::Registry;
-use reg_model::{Found, Loading, Member, Place, Removed, Span};
+use node_store::{check, lock, peek, unlock};
+use reg_model::{Again, Found, Loading, Member, Place, Removed, Span};
 use std::sync::Wait;
 use std::test::Fail;
 use std::thread::{Threads, join};
-use word_rule::Caller;
+use word_rule::{Caller, LockId};
 
 // So many addresses from a base on, with a payload.
 fn member(base: u64, size: u64, payload: u32) -> Option<Member>
@@ -156,5 +157,33 @@ fn two_threads_load_find_and_unload(rt: HostRuntime) -> Result<(), Fail> {
     };
     let alone = a.alone();
     assert!(rt; alone && a.seen() == 4);
+    Ok(())
+}
+
+#[test]
+fn a_try_beside_a_locked_root(rt: HostRuntime) -> Result<(), Fail> {
+    let alloc = rt.alloc();
+    let (registry, mut a) = Registry::new(alloc, 4, 1, 1, Vec::new(alloc))?;
+    let mut b = registry.words().split(alloc, &mut a, 1)?;
+    let mut watcher = registry.words().split(alloc, &mut a, 1)?;
+    let root = LockId::Node { node: 0 };
+    let Ok(sight) = peek(registry.words(), &mut watcher, 0) else {
+        panic!(rt; "nobody has the root")
+    };
+    assert!(rt; sight.version == 0);
+    lock(&rt, registry.words(), &mut a, root);
+    let locked = Again::Locked { word: 4, seen: 1 };
+    assert!(rt; registry.try_registered(&mut b, 5) == Err(locked));
+    unlock(&rt, registry.words(), &mut a, root);
+    let changed = Again::Changed {
+        word: 4,
+        first: 0,
+        second: 4,
+    };
+    let Err(again) = check(registry.words(), &mut watcher, &sight) else {
+        panic!(rt; "it was let go with the next version")
+    };
+    assert!(rt; again == changed);
+    assert!(rt; registry.try_registered(&mut b, 5) == Ok(Found::Miss { stamp: 0 }));
     Ok(())
 }

@@ -1,12 +1,12 @@
 use Rattle.std.proofs.Common.{◌≡◌, ◌∙◌, sym, ap, subst}
 use Rattle.word_rule.specs.CallerData.{CallerData}
-use Rattle.btree_lookup.specs.Tries.{Fails}
+use Rattle.btree_lookup.specs.Tries.{EndsAgain}
 use Rattle.btree_lookup.proofs.Answering.{leaf_alone, leaf_changed, leaf_entry, leaf_found, terms}
 use Rattle.btree_lookup.proofs.lookup.leaf.Goals as goal
 
 pub returns-then-second-visit-clause-tries : goal.returns-then-second-visit-clause-tries
 returns-then-second-visit-clause-tries c k bottom way =
-    subst (λ a. Fails c.args.words.now.terms c.args.pc k a c.load_version-second.new.me) (sym c.changed.ensures)
+    subst (λ a. EndsAgain c.args.words.now.terms c.args.pc k a c.load_version-second.new.me) (sym c.changed.ensures)
     (leaf_changed c.args.words.now.terms c.args.pc k c.args.visit bottom c.entry_at-entry.result c.entry_at-entry.new.me (c.entry_at-entry.ensures.entry k bottom way) c.load_clock-clock.result c.load_clock-clock.new.me c.load_clock-clock.ensures.log c.load_clock-clock.ensures.rest
     c.load_version-second.result c.load_version-second.new.me c.load_version-second.ensures.log (λ e. c.if-second-visit.true (sym e)))
 

@@ -1,6 +1,6 @@
 use Rattle.std.proofs.Common.{◌≡◌, ◌≢◌, ◌+◌, ◌-◌, ◌%◌, ◌<◌, ◌≤◌, ◌∙◌, IfSome, is_some, sym, ap, subst, arith}
 use Rattle.word_rule.specs.CallerData.{CallerData}
-use Rattle.btree_lookup.specs.Tries.{Fails}
+use Rattle.btree_lookup.specs.Tries.{EndsAgain}
 use Rattle.btree_lookup.specs.Visits.{SeesChild}
 use Rattle.btree_lookup.proofs.Visiting.{alone_same, fails_changed, never_again}
 use Rattle.btree_lookup.proofs.Descending.{child_locked, child_unlocked, child_visited, parent_alone, parent_changed}
@@ -9,7 +9,7 @@ use Rattle.btree_lookup.proofs.visit.descend.Goals as goal
 pub returns-in_default-clause-err : goal.returns-in_default-clause-err
 returns-in_default-clause-err c k way =
     let none = c.child_for.ensures.none k c.requires.above way (ap is_some c.in_default.is) in let above = c.requires.above in
-    subst (λ a. Fails c.args.words.now.terms c.args.pc k a c.load_version-second.new.me) (sym c.changed.ensures)
+    subst (λ a. EndsAgain c.args.words.now.terms c.args.pc k a c.load_version-second.new.me) (sym c.changed.ensures)
     (fails_changed c.args.words.now.terms c.args.pc k c.args.visit 17 c.child_for.new.me none.sees c.load_version-second.new.me c.load_version-second.result (omega (arith, above)) c.load_version-second.ensures.log
     (never_again c.args.words.now.terms c.args.pc k c.args.visit 17 c.child_for.new.me none.sees c.load_version-second.result none.never c.load_version-second.ensures.tells))
 
@@ -23,7 +23,7 @@ pub returns-then-version-ne0-clause-err : goal.returns-then-version-ne0-clause-e
 returns-then-version-ne0-clause-err c k way =
     let child = subst (λ o. IfSome o (λ child. SeesChild c.args.words.now.terms c.args.pc k c.args.visit child c.child_for.new.me)) c.in-Some.is (c.child_for.ensures.child k c.requires.above way) in
     let inside = subst (λ o. IfSome o (λ child. child < c.args.words.now.terms.nodes)) c.in-Some.is c.child_for.ensures.inside in
-    subst (λ a. Fails c.args.words.now.terms c.args.pc k a c.begin_sight-version.new.me) (sym c.locked.ensures)
+    subst (λ a. EndsAgain c.args.words.now.terms c.args.pc k a c.begin_sight-version.new.me) (sym c.locked.ensures)
     (child_locked c.args.words.now.terms c.args.pc k c.args.visit c.in-Some.node c.child_for.new.me child inside c.begin_sight-version.result c.begin_sight-version.new.me c.begin_sight-version.ensures.log c.if-version-ne0.true)
 
 pub returns-then-version-ne0-clause-alone : goal.returns-then-version-ne0-clause-alone
@@ -36,7 +36,7 @@ pub returns-then-second-visit-clause-err : goal.returns-then-second-visit-clause
 returns-then-second-visit-clause-err c k way =
     let child = subst (λ o. IfSome o (λ child. SeesChild c.args.words.now.terms c.args.pc k c.args.visit child c.child_for.new.me)) c.in-Some.is (c.child_for.ensures.child k c.requires.above way) in
     let inside = subst (λ o. IfSome o (λ child. child < c.args.words.now.terms.nodes)) c.in-Some.is c.child_for.ensures.inside in
-    subst (λ a. Fails c.args.words.now.terms c.args.pc k a c.load_version-second-2.new.me) (sym c.changed-then-second-visit.ensures)
+    subst (λ a. EndsAgain c.args.words.now.terms c.args.pc k a c.load_version-second-2.new.me) (sym c.changed-then-second-visit.ensures)
     (parent_changed c.args.words.now.terms c.args.pc k c.args.visit c.in-Some.node c.child_for.new.me child inside c.begin_sight-version.result c.begin_sight-version.new.me c.begin_sight-version.ensures.log (omega (arith, c.if-version-ne0.false)) c.load_version-second-2.result c.load_version-second-2.new.me c.load_version-second-2.ensures.log (λ e. c.if-second-visit.true (sym e)))
 
 pub returns-then-second-visit-clause-alone : goal.returns-then-second-visit-clause-alone

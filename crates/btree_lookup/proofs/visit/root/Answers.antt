@@ -1,19 +1,19 @@
 use Rattle.std.proofs.Common.{◌≡◌, ◌≢◌, ◌%◌, ◌<◌, ◌≤◌, ◌∙◌, sym, ap, subst, arith}
 use Rattle.word_rule.specs.CallerData.{CallerData}
-use Rattle.btree_lookup.specs.Tries.{Fails}
+use Rattle.btree_lookup.specs.Tries.{EndsAgain}
 use Rattle.btree_lookup.proofs.Visiting.{root_alone, root_changed, root_locked, root_never, root_seen}
 use Rattle.btree_lookup.proofs.visit.root.Goals as goal
 
 pub returns-then-version-ne0-clause-err : goal.returns-then-version-ne0-clause-err
 returns-then-version-ne0-clause-err c pc =
     let some = c.nodes-some.ensures.some in let nodes = c.nodes-some.ensures.value in
-    subst (λ a. Fails c.args.words.now.terms pc c.args.me.now a c.begin_sight-version.new.me) (sym c.locked.ensures)
+    subst (λ a. EndsAgain c.args.words.now.terms pc c.args.me.now a c.begin_sight-version.new.me) (sym c.locked.ensures)
     (root_locked c.args.words.now.terms c.args.me.now (omega (arith, some, nodes)) c.begin_sight-version.result c.begin_sight-version.new.me c.begin_sight-version.ensures.log pc c.if-version-ne0.true)
 
 pub returns-then-level-clause-err : goal.returns-then-level-clause-err
 returns-then-level-clause-err c pc =
     let some = c.nodes-some.ensures.some in let nodes = c.nodes-some.ensures.value in
-    subst (λ a. Fails c.args.words.now.terms pc c.args.me.now a c.load_version-second.new.me) (sym c.changed.ensures)
+    subst (λ a. EndsAgain c.args.words.now.terms pc c.args.me.now a c.load_version-second.new.me) (sym c.changed.ensures)
     (root_changed c.args.words.now.terms c.args.me.now (omega (arith, some, nodes)) c.begin_sight-version.result c.begin_sight-version.new.me c.begin_sight-version.ensures.log (omega (arith, c.if-version-ne0.false)) c.begin_sight-version.ensures.held
     c.load_node-level.result c.load_node-level.new.me c.load_node-level.ensures.log c.load_version-second.new.me c.load_version-second.result c.if-level.true c.load_version-second.ensures.log c.load_version-second.ensures.tells pc)
 
