@@ -1,0 +1,282 @@
+-- Steps on nodes on the way down, and what is held after each.
+use Rattle.std.proofs.Common.{◌≡◌, ◌≢◌, ℕ, zero, suc, ◌+◌, ◌-◌, ◌<◌, ◌≤◌, List, [], ◌∷◌, length, get_or, sym, refl, ap, ◌∙◌, subst, arith, Bool, true, false, ◌==◌, not, nat_le, true≢false, Option, Some, None, IfSome, IsSome, IsSomeAnd, eq-eqb, ne_eqb, Contains, if◌then◌else◌, cond}
+use Rattle.std.proofs.lemmas.Option.{same_Some}
+use Rattle.std.proofs.lemmas.Bool.{leb-true, leb-false}
+use Rattle.std.specs.List.{AllByRecursion}
+use native.Mathlib.Decide.{ℕ_discrete}
+use Rattle.tree_shape.specs.declared.pair.Pair.{Pair}
+use Rattle.tree_shape.specs.declared.node.Frame.{Frame}
+use Rattle.tree_shape.specs.Decisions.{is_entries}
+use Rattle.tree_shape.specs.NodeData.{NodeData, Body, Pairs, Entries, Link, InOrder, InOrderAs, IsInFences, IsInner, pairs_of, pairs_in, slot_for}
+use Rattle.tree_shape.specs.Lawful.{IsFilledAs, IsOrderedAs}
+use Rattle.tree_shape.specs.Trees.{Branch, branches, branches_from}
+use Rattle.word_rule.specs.CallerData.{CallerData}
+use Rattle.word_rule.specs.declared.log.Holding.{Holding}
+use Rattle.word_rule.specs.declared.log.Holdings.{Holdings}
+use Rattle.word_rule.specs.declared.log.LockId.TheVariants as lock
+use Rattle.word_rule.specs.declared.log.Log.{Log}
+use Rattle.word_rule.specs.declared.log.Terms.{Terms}
+use Rattle.word_rule.specs.Held.{held_of, without_lock}
+use Rattle.word_rule.specs.NodeTells.{IsLiveNode}
+use Rattle.word_rule.specs.Spelling.{spelled, SpellsNode}
+use Rattle.word_rule.specs.Steps.{after_node_release_same, mark_at_lock, place_by, place_by_held, place_in, first_mark}
+use Rattle.node_store.specs.Holding.{ReadsHeld}
+use Rattle.node_store.specs.Locking.{Locks}
+use Rattle.node_store.specs.Sights.{after_words}
+use Rattle.btree_change.specs.Paths.{HoldsPath, IsCleanLock, HasChildFor, StepsOnNodes}
+
+-- the first slot for an address leads to a child whose fences hold it
+pub slot_branch : (level low pc : ℕ) (pairs : List Pair) (d : Pair) → low ≤ pc → slot_for pc pairs < length pairs
+    → (b : Branch) × (Contains (branches_from level low pairs) b × (b.child ≡ (get_or pairs (slot_for pc pairs) d).child) × (b.frame.low ≤ pc) × (pc ≤ b.frame.high))
+slot_branch level low pc [] d least inside = absurd (omega (arith, inside))
+slot_branch level low pc (p ∷ pairs) d least inside = go (nat_le pc p.separator) refl inside (λ more less. slot_branch level (p.separator + 1) pc pairs d more less)
+  where
+    go : (b : Bool) → nat_le pc p.separator ≡ b → (if b then 0 else (slot_for pc pairs + 1)) < suc (length pairs)
+        → (p.separator + 1 ≤ pc → slot_for pc pairs < length pairs → (x : Branch) × (Contains (branches_from level (p.separator + 1) pairs) x × (x.child ≡ (get_or pairs (slot_for pc pairs) d).child) × (x.frame.low ≤ pc) × (pc ≤ x.frame.high)))
+        → (x : Branch) × (Contains (branches_from level low (p ∷ pairs)) x × (x.child ≡ (get_or (p ∷ pairs) (if b then 0 else (slot_for pc pairs + 1)) d).child) × (x.frame.low ≤ pc) × (pc ≤ x.frame.high))
+    go true is inside later = (record { child = p.child; frame = record { level = level; low = low; high = p.separator } }, ((0, omega arith, refl), refl, least, leb-true pc p.separator is))
+    go false is inside later =
+        let above = leb-false pc p.separator is in
+        let rest = later (omega (arith, above)) (omega (arith, inside)) in
+        let next : slot_for pc pairs + 1 ≡ suc (slot_for pc pairs) = omega arith in
+        (rest.0, ((suc rest.1.0.0, (let l = rest.1.0.1 in omega (arith, l)), rest.1.0.2), rest.1.1 ∙ ap (λ k. (get_or (p ∷ pairs) k d).child) (sym next), rest.1.2, rest.1.3))
+
+-- a filled node in order is in order from address 0 on
+pub in_order : (n : ℕ) (s : NodeData) → IsOrderedAs s s.body → IsFilledAs n s.body → InOrder s
+in_order n s = go s.body
+  where
+    go : (body : Body) → IsOrderedAs s body → IsFilledAs n body → InOrderAs s body
+    go (Entries entries) ordered filled = ordered.1
+    go (Pairs []) ordered filled = absurd (few n filled.0)
+      where
+        few : (k : ℕ) → (if k == 0 then 2 else 6) ≤ 0 → ⊥
+        few k h = elim (ℕ_discrete k 0) [
+          | yes e ↦ absurd (let l : 2 ≤ 0 = rw (eq-eqb k 0 e) at h in omega (arith, l))
+          | no ne ↦ absurd (let l : 6 ≤ 0 = rw (ne_eqb k 0 ne) at h in omega (arith, l))
+        ]
+    go (Pairs (p ∷ pairs)) ordered filled = (omega arith, ordered.1.1)
+    go (Link next) ordered filled = absurd ordered
+
+-- a node above the leaves is an inner one
+pub is_inner : (s : NodeData) → IsOrderedAs s s.body → 0 < s.level → IsInner s × (is_entries s.body ≡ false)
+is_inner s = go s.body refl
+  where
+    go : (body : Body) → s.body ≡ body → IsOrderedAs s body → 0 < s.level → (s.body ≡ Pairs (pairs_of s)) × (is_entries s.body ≡ false)
+    go (Entries entries) e ordered above = absurd (let z = ordered.0 in omega (arith, z, above))
+    go (Pairs pairs) e ordered above = (e ∙ ap Pairs (ap pairs_in (sym e)), ap is_entries e)
+    go (Link next) e ordered above = absurd ordered
+
+-- what is marked has its place
+pub live_of : (t : Terms) (n : ℕ) (s : NodeData) (h : Holding) → IsCleanLock t n s h → (f : Frame) × ((h.mark ≡ Some f) × IsLiveNode t n s f)
+live_of t n s h c = go h.mark refl c.marked c.live
+  where
+    go : (o : Option Frame) → h.mark ≡ o → IsSome o → IfSome o (IsLiveNode t n s) → (f : Frame) × ((h.mark ≡ Some f) × IsLiveNode t n s f)
+    go None e is live = absurd (true≢false (sym is))
+    go (Some f) e is live = (f, (e, live))
+
+-- what holds of an item of a list
+pub all_there : {A : Type 0} (P : A → Type 0) (xs : List A) (x : A) → AllByRecursion P xs → Contains xs x → P x
+all_there P [] x all c = absurd (let l = c.1 in omega (arith, l))
+all_there P (y ∷ xs) x all (zero, l, e) = subst P e all.0
+all_there P (y ∷ xs) x all (suc k, l, e) = all_there P xs x all.1 (k, omega (arith, l), e)
+
+-- a child that is there is found, and all that are found have its place
+found_child : (c : ℕ) (places : ℕ → Frame) (bs : List Branch) (b : Branch) → AllByRecursion (λ x. places x.child ≡ x.frame) bs → Contains bs b → b.child ≡ c → place_in c bs ≡ Some (places c)
+found_child c places [] b all there is = absurd (let l = there.1 in omega (arith, l))
+found_child c places (x ∷ bs) b all there is = go (ℕ_discrete x.child c) there (λ later. found_child c places bs b all.1 later is)
+  where
+    go : Dec (x.child ≡ c) → Contains (x ∷ bs) b → (Contains bs b → place_in c bs ≡ Some (places c)) → place_in c (x ∷ bs) ≡ Some (places c)
+    go (yes e) there rest = rw (eq-eqb x.child c e) (ap Some (sym all.0 ∙ ap places e))
+    go (no ne) (zero, l, e) rest = absurd (ne (ap (λ (z : Branch). z.child) e ∙ is))
+    go (no ne) (suc k, l, e) rest = rw (ne_eqb x.child c ne) (rest (k, omega (arith, l), e))
+
+weaken : (t : Terms) (places : ℕ → Frame) (bs : List Branch) → AllByRecursion (λ b. (b.child < t.nodes) × (b.child ≢ 0) × (places b.child ≡ b.frame)) bs → AllByRecursion (λ x. places x.child ≡ x.frame) bs
+weaken t places [] all = tt
+weaken t places (b ∷ bs) all = (all.0.2, weaken t places bs all.1)
+
+-- what a child is, seen from a live node
+pub record IsChildOf (t : Terms) (n : ℕ) (s : NodeData) (pc c : ℕ) : Type 0 where
+  pub frame : Frame
+  pub placed : place_in c (branches (s.level - 1) s) ≡ Some frame
+  pub low : frame.low ≤ pc
+  pub high : pc ≤ frame.high
+  pub level : frame.level ≡ s.level - 1
+  pub within : c < t.nodes
+  pub never_root : c ≢ 0
+  pub never_parent : c ≢ n
+
+level_of : (level low : ℕ) (pairs : List Pair) (b : Branch) → Contains (branches_from level low pairs) b → b.frame.level ≡ level
+level_of level low [] b c = absurd (let l = c.1 in omega (arith, l))
+level_of level low (p ∷ pairs) b (zero, l, e) = ap (λ (z : Branch). z.frame.level) (sym e)
+level_of level low (p ∷ pairs) b (suc k, l, e) = level_of level (p.separator + 1) pairs b (k, omega (arith, l), e)
+
+pub child_of : (t : Terms) (n : ℕ) (s : NodeData) (f : Frame) (pc c : ℕ) → IsLiveNode t n s f → 0 < s.level → HasChildFor s pc c → IsChildOf t n s pc c
+child_of t n s f pc c live above (b, (there, is, low, high)) =
+    let told = all_there (λ x. (x.child < t.nodes) × (x.child ≢ 0) × (live.places x.child ≡ x.frame)) (branches (s.level - 1) s) b live.children there in
+    let frame : live.places c ≡ b.frame = ap live.places (sym is) ∙ told.2 in
+    let level : b.frame.level ≡ s.level - 1 = level_of (s.level - 1) s.low (pairs_of s) b there in record {
+      frame = b.frame;
+      placed = found_child c live.places (branches (s.level - 1) s) b (weaken t live.places (branches (s.level - 1) s) live.children) there is ∙ ap Some frame;
+      low = low;
+      high = high;
+      level = level;
+      within = subst (λ k. k < t.nodes) is told.0;
+      never_root = λ e. told.1 (is ∙ e);
+      never_parent = λ e. (let same : s.level ≡ b.frame.level = ap (λ (z : Frame). z.level) (sym live.own ∙ (ap live.places (sym e) ∙ frame)) in omega (arith, same, level, above));
+    }
+
+-- steps on nodes, one after another
+pub steps_then : (k l m : CallerData) → StepsOnNodes k l → StepsOnNodes l m → StepsOnNodes k m
+steps_then k l m a b = record {
+  table = b.table ∙ a.table;
+  left = b.left ∙ a.left;
+  terms = b.terms ∙ a.terms;
+  role = b.role ∙ a.role;
+  past = b.past ∙ a.past;
+  budget = b.budget ∙ a.budget;
+  receipts = b.receipts ∙ a.receipts;
+  loader = b.loader ∙ a.loader;
+  made = b.made ∙ a.made;
+  lineage = b.lineage ∙ a.lineage;
+}
+
+pub steps_equal : (k l m : CallerData) → m ≡ l → StepsOnNodes k l → StepsOnNodes k m
+steps_equal k l m is a = subst (StepsOnNodes k) (sym is) a
+
+pub steps_none : (k : CallerData) → StepsOnNodes k k
+steps_none k = record { table = refl; left = refl; terms = refl; role = refl; past = refl; budget = refl; receipts = refl; loader = refl; made = refl; lineage = refl }
+
+pub steps_of_take : (n : ℕ) (k k' : CallerData) → Locks (lock.Node n) k k' → StepsOnNodes k k'
+steps_of_take n k k' (more, marks, nodes, version, settled, words, (tries, taken, is)) =
+    subst (StepsOnNodes k) (sym is) (record { table = refl; left = refl; terms = refl; role = refl; past = refl; budget = refl; receipts = refl; loader = refl; made = refl; lineage = refl })
+
+pub steps_of_letting_go : (n : ℕ) (k k' : CallerData) → k' ≡ record k { log = after_node_release_same n k.log } → StepsOnNodes k k'
+steps_of_letting_go n k k' is =
+    subst (StepsOnNodes k) (sym is) (record { table = refl; left = refl; terms = refl; role = refl; past = refl; budget = refl; receipts = refl; loader = refl; made = refl; lineage = refl })
+
+pub steps_of_words : (n : ℕ) (words : List ℕ) (count : ℕ) (k : CallerData) → StepsOnNodes k (record k { log = after_words n words count k.log })
+unfolding after_words
+steps_of_words n words zero k = steps_none k
+steps_of_words n words (suc count) k = let rest = steps_of_words n words count k in record {
+  table = refl;
+  left = refl;
+  terms = rest.terms;
+  role = rest.role;
+  past = rest.past;
+  budget = rest.budget;
+  receipts = rest.receipts;
+  loader = rest.loader;
+  made = rest.made;
+  lineage = rest.lineage;
+}
+
+pub steps_of_read : (n : ℕ) (k k' : CallerData) (s : NodeData) → ReadsHeld n k k' s → StepsOnNodes k k'
+steps_of_read n k k' s reads = go (held_of n k.log.holdings.held) reads
+  where
+    go : (o : Option Holding) → IsSomeAnd o (λ h. SpellsNode h.words s × (k' ≡ record k { log = after_words n h.words 35 k.log })) → StepsOnNodes k k'
+    go None r = absurd r
+    go (Some h) r = subst (StepsOnNodes k) (sym r.1) (steps_of_words n h.words 35 k)
+
+-- a child was locked
+pub record IsTakenBelow (t : Terms) (n c : ℕ) (s : NodeData) (pc : ℕ) (path : List Holding) (holdings : Holdings) : Type 0 where
+  pub new : Holding
+  pub content : NodeData
+  pub held : holdings.held ≡ new ∷ path
+  pub here : IsCleanLock t c content new
+  pub inside : IsInFences pc content
+  pub level : content.level ≡ s.level - 1
+  pub out : holdings.out ≡ []
+
+pub taken_below : (t : Terms) (n c : ℕ) (s : NodeData) (pc : ℕ) (k k' : CallerData) → k.log.terms ≡ t → (path : HoldsPath t n s k.log.holdings) → IsChildOf t n s pc c → Locks (lock.Node c) k k' → IsTakenBelow t n c s pc (path.lock ∷ path.above) k'.log.holdings
+taken_below t n c s pc k k' terms path child (more, marks, nodes, version, settled, words, (tries, taken, is)) =
+    subst (λ (z : CallerData). IsTakenBelow t n c s pc (path.lock ∷ path.above) z.log.holdings) (sym is) (record {
+      new = record { node = c; version = version; settled = settled; words = words; stored = false; mark = mark_at_lock c settled k.log.holdings.held };
+      content = settled;
+      held = ap (λ hs. record { node = c; version = version; settled = settled; words = words; stored = false; mark = mark_at_lock c settled k.log.holdings.held } ∷ hs) path.held;
+      here = record {
+        node = refl;
+        settled = refl;
+        spells = taken.spells;
+        clean = refl;
+        marked = subst IsSome (sym mark_is) refl;
+        live = subst (λ o. IfSome o (IsLiveNode t c settled)) (sym mark_is) live;
+      };
+      inside = (let a = live.placed.1 in let b = live.placed.2 in let l = child.low in let h = child.high in (omega (arith, a, l), omega (arith, b, h)));
+      level = live.placed.0 ∙ child.level;
+      out = path.out;
+    })
+  where
+    own : (f : Frame) × ((path.lock.mark ≡ Some f) × IsLiveNode t n s f)
+    own = live_of t n s path.lock path.here
+
+    by_lock : place_by_held c (path.lock ∷ path.above) ≡ Some child.frame
+    by_lock =
+        let e : place_by c path.lock.mark path.lock ≡ Some child.frame = rw own.1.0 (ap (λ z. place_in c (branches (z.level - 1) z)) path.here.settled ∙ child.placed) in
+        ap (λ o. first_mark o (place_by_held c path.above)) e
+
+    mark_is : mark_at_lock c settled k.log.holdings.held ≡ Some child.frame
+    mark_is = rw (ne_eqb c 0 child.never_root) (ap (place_by_held c) path.held ∙ by_lock)
+
+    live : IsLiveNode t c settled child.frame
+    live = subst (λ z. IsLiveNode z c settled child.frame) terms (subst (λ o. IfSome o (IsLiveNode k.log.terms c settled)) mark_is taken.live)
+
+-- where the node above is the root it stays held
+pub below_root : (t : Terms) (c : ℕ) (s : NodeData) (pc : ℕ) (holdings holdings' : Holdings) → 0 < s.level → c < t.nodes → c ≢ 0 → (path : HoldsPath t 0 s holdings) → (b : IsTakenBelow t 0 c s pc (path.lock ∷ path.above) holdings') → HoldsPath t c b.content holdings'
+below_root t zero s pc holdings holdings' above within far path b = absurd (far refl)
+below_root t (suc c) s pc holdings holdings' above within far path b =
+    let own = live_of t 0 s path.lock path.here in record {
+      within = within;
+      lock = b.new;
+      above = path.lock ∷ path.above;
+      held = b.held;
+      here = b.here;
+      root = (
+        path.lock,
+        (
+          ap (λ hs. path.lock ∷ hs) path.root,
+          record {
+            node = path.here.node;
+            spells = subst (SpellsNode path.lock.words) (sym path.here.settled) path.here.spells;
+            inner = ap (λ z. is_entries z.body) path.here.settled ∙ (is_inner s own.1.1.ordered above).1;
+            clean = path.here.clean;
+          },
+        ),
+      );
+      out = b.out;
+    }
+
+-- a node below the root is let go of
+drop_middle : (n c : ℕ) (new h root : Holding) → new.node ≡ c → h.node ≡ n → root.node ≡ 0 → c ≢ n → n ≢ 0 → without_lock n (new ∷ h ∷ root ∷ []) ≡ new ∷ root ∷ []
+drop_middle n c new h root is_c is_n is_0 far never =
+    let a : (new.node == n) ≡ false = ne_eqb new.node n (λ e. far (sym is_c ∙ e)) in
+    let b : (h.node == n) ≡ true = eq-eqb h.node n is_n in
+    let d : (root.node == n) ≡ false = ne_eqb root.node n (λ e. never (sym e ∙ is_0)) in
+    ap (λ z. cond (not z) (new ∷ without_lock n (h ∷ root ∷ [])) (without_lock n (h ∷ root ∷ []))) a
+    ∙ (ap (λ z. new ∷ cond (not z) (h ∷ without_lock n (root ∷ [])) (without_lock n (root ∷ []))) b
+    ∙ ap (λ z. new ∷ cond (not z) (root ∷ []) []) d)
+
+pub below_other : (t : Terms) (n c : ℕ) (s : NodeData) (pc : ℕ) (holdings : Holdings) (v : Log) → c < t.nodes → c ≢ 0 → c ≢ n → n ≢ 0 → (path : HoldsPath t n s holdings) → (b : IsTakenBelow t n c s pc (path.lock ∷ path.above) v.holdings) → HoldsPath t c b.content (after_node_release_same n v).holdings
+below_other t zero c s pc holdings v within far never_parent never path b = absurd (never refl)
+below_other t (suc n) zero s pc holdings v within far never_parent never path b = absurd (far refl)
+below_other t (suc n) (suc c) s pc holdings v within far never_parent never path b =
+    let root = path.root in record {
+      within = within;
+      lock = b.new;
+      above = root.0 ∷ [];
+      held = ap (without_lock (suc n)) (b.held ∙ ap (λ hs. b.new ∷ path.lock ∷ hs) root.1.0) ∙ drop_middle (suc n) (suc c) b.new path.lock root.0 b.here.node path.here.node root.1.1.node never_parent never;
+      here = b.here;
+      root = (root.0, (refl, root.1.1));
+      out = b.out;
+    }
+
+-- what is read is what is held
+pub read_path : (t : Terms) (n : ℕ) (s shape : NodeData) (k k' : CallerData) → HoldsPath t n s k.log.holdings → ReadsHeld n k k' shape → k'.log.holdings ≡ k.log.holdings → s ≡ shape
+read_path t n s shape k k' path reads same =
+    let found : held_of n k.log.holdings.held ≡ Some path.lock = ap (held_of n) path.held ∙ rw (eq-eqb path.lock.node n path.here.node) refl in
+    let told = subst (λ o. IsSomeAnd o (λ h. SpellsNode h.words shape × (k' ≡ record k { log = after_words n h.words 35 k.log }))) found reads in
+    same_Some _ _ (sym path.here.spells ∙ told.0)
+
+pub may_read : (t : Terms) (n : ℕ) (s : NodeData) (k : CallerData) → HoldsPath t n s k.log.holdings → IsSomeAnd (held_of n k.log.holdings.held) (λ h. IsSome (spelled h.words))
+may_read t n s k path =
+    let found : held_of n k.log.holdings.held ≡ Some path.lock = ap (held_of n) path.held ∙ rw (eq-eqb path.lock.node n path.here.node) refl in
+    subst (λ o. IsSomeAnd o (λ h. IsSome (spelled h.words))) (sym found) (subst IsSome (sym path.here.spells) refl)

@@ -1,0 +1,7 @@
+pub mod LeafCommits
+pub mod Descending
+pub mod Descents
+pub mod Storing
+pub mod Putting
+pub mod LettingGo
+pub mod Refusing

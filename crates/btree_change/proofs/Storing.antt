@@ -1,0 +1,127 @@
+-- The stores that write a held node keep all else of the log; the node's lock has the new words.
+use Rattle.std.proofs.Common.{◌≡◌, ◌≢◌, ℕ, zero, suc, List, [], ◌∷◌, ◌++◌, sym, refl, ap, ◌∙◌, subst, Bool, true, false, ◌==◌, ◌&&◌, Option, Some, None, IsSomeAnd, eq-eqb, ne_eqb, if◌then◌else◌, cond}
+use Rattle.std.proofs.lemmas.Option.{same_Some}
+use Rattle.std.specs.Option.{option_to_list}
+use Rattle.std.specs.List.{AllByRecursion}
+use native.Mathlib.Decide.{ℕ_discrete}
+use Rattle.tree_shape.specs.NodeData.{NodeData}
+use Rattle.word_rule.specs.CallerData.{CallerData}
+use Rattle.word_rule.specs.declared.log.Holding.{Holding}
+use Rattle.word_rule.specs.declared.log.Log.{Log}
+use Rattle.word_rule.specs.Held.{edited, held_of, marked_in}
+use Rattle.word_rule.specs.Exchange.{settle}
+use Rattle.word_rule.specs.Spelling.{node_word, SpellsNode}
+use Rattle.word_rule.specs.Steps.{after_node_store, frees, store_in, stored_log}
+use Rattle.node_store.specs.declared.writing.Store.{Store}
+use Rattle.node_store.specs.Holding.{SpellsHeld, WritesHeld, after_node_stores}
+use Rattle.node_store.specs.Sights.{after_words}
+use Rattle.node_store.specs.Writing.{kind_of_body, place_in_turn, store_in_turn, store_of, stores, stores_upto, wanted_node_word}
+use Rattle.btree_change.specs.Paths.{StepsOnNodes}
+use Rattle.btree_change.proofs.Descending.{steps_equal, steps_none, steps_of_words, steps_then}
+
+-- what is stored is what is wanted there
+abbrev IsWanted : NodeData → Store → Type 0
+IsWanted s x = wanted_node_word s x.at ≡ Some x.value
+
+all_more : {A : Type 0} (P : A → Type 0) (xs ys : List A) → AllByRecursion P xs → AllByRecursion P ys → AllByRecursion P (xs ++ ys)
+all_more P [] ys h i = i
+all_more P (x ∷ xs) ys h i = (h.0, all_more P xs ys h.1 i)
+
+turn_wanted : (s : NodeData) (words : List ℕ) (turn : ℕ) → AllByRecursion (IsWanted s) (option_to_list (store_in_turn s words turn))
+turn_wanted s words turn = go (wanted_node_word s (place_in_turn turn)) refl
+  where
+    by_test : (value : ℕ) → wanted_node_word s (place_in_turn turn) ≡ Some value → (b : Bool) → AllByRecursion (IsWanted s) (option_to_list (if b then None else Some record { at = place_in_turn turn; value = value }))
+    by_test value e true = tt
+    by_test value e false = (e, tt)
+
+    go : (o : Option ℕ) → wanted_node_word s (place_in_turn turn) ≡ o → AllByRecursion (IsWanted s) (option_to_list (store_of words (place_in_turn turn) o))
+    go None e = tt
+    go (Some value) e = by_test value e (node_word words (place_in_turn turn) == value)
+
+all_wanted : (s : NodeData) (words : List ℕ) (turns : ℕ) → AllByRecursion (IsWanted s) (stores_upto s words turns)
+all_wanted s words zero = tt
+all_wanted s words (suc turn) = all_more (IsWanted s) (stores_upto s words turn) (option_to_list (store_in_turn s words turn)) (all_wanted s words turn) (turn_wanted s words turn)
+
+-- a node that isn't to be free is freed by no store
+no_free : (s : NodeData) (x : Store) (n : ℕ) (v : Log) → kind_of_body s.body ≢ 2 → IsWanted s x → frees n x.at x.value v ≡ false
+no_free s x n v kind wanted = go (ℕ_discrete x.at 1)
+  where
+    and_false : (b : Bool) → (b && false) ≡ false
+    and_false true = refl
+    and_false false = refl
+
+    go : Dec (x.at ≡ 1) → frees n x.at x.value v ≡ false
+    go (no ne) = ap (λ b. (b && (x.value == 2)) && marked_in v.holdings.held n) (ne_eqb x.at 1 ne)
+    go (yes e) =
+        let value : kind_of_body s.body ≡ x.value = same_Some _ _ (subst (λ k. wanted_node_word s k ≡ Some x.value) e wanted) in
+        ap (λ b. ((x.at == 1) && b) && marked_in v.holdings.held n) (ne_eqb x.value 2 (λ two. kind (value ∙ two))) ∙ ap (λ b. b && marked_in v.holdings.held n) (and_false (x.at == 1))
+
+-- the lock of the node, changed by stores, and the others as they were
+pub record KeepsLocks (h : Holding) (above : List Holding) (v w : Log) : Type 0 where
+  pub lock : Holding
+  pub held : w.holdings.held ≡ lock ∷ above
+  pub node : lock.node ≡ h.node
+  pub mark : lock.mark ≡ h.mark
+  pub settled : lock.settled ≡ h.settled
+  pub out : w.holdings.out ≡ v.holdings.out
+  pub head : w.holdings.head ≡ v.holdings.head
+  pub same : (k : CallerData) → StepsOnNodes (record k { log = v }) (record k { log = w })
+
+edited_above : (n : ℕ) (f : Holding → Holding) (above : List Holding) → AllByRecursion (λ a. a.node ≢ n) above → edited n f above ≡ above
+edited_above n f [] far = refl
+edited_above n f (a ∷ above) far = (λ i. cond (ne_eqb a.node n far.0 i) (f a) a ∷ edited_above n f above far.1 i)
+
+stored_keeps : (s : NodeData) (n : ℕ) (xs : List Store) (h : Holding) (above : List Holding) (v : Log) → kind_of_body s.body ≢ 2 → AllByRecursion (IsWanted s) xs → h.node ≡ n → AllByRecursion (λ a. a.node ≢ n) above → v.holdings.held ≡ h ∷ above → KeepsLocks h above v (after_node_stores n xs v)
+unfolding after_node_stores
+stored_keeps s n [] h above v kind wanted is far held = record { lock = h; held = held; node = refl; mark = refl; settled = refl; out = refl; head = refl; same = λ k. steps_none (record k { log = v }) }
+stored_keeps s n (x ∷ xs) h above v kind wanted is far held =
+    let plain : after_node_store n x.at x.value v ≡ stored_log n x.at x.value v = ap (λ b. if b then settle None (stored_log n x.at x.value v) else stored_log n x.at x.value v) (no_free s x n v kind wanted.0) in
+    let one : (stored_log n x.at x.value v).holdings.held ≡ store_in x.at x.value h ∷ above =
+    ap (edited n (store_in x.at x.value)) held ∙ (λ i. cond (eq-eqb h.node n is i) (store_in x.at x.value h) h ∷ edited_above n (store_in x.at x.value) above far i) in
+    let rest = stored_keeps s n xs (store_in x.at x.value h) above (stored_log n x.at x.value v) kind wanted.1 is far one in
+    subst (λ z. KeepsLocks h above v (after_node_stores n xs z)) (sym plain) (record {
+      lock = rest.lock;
+      held = rest.held;
+      node = rest.node;
+      mark = rest.mark;
+      settled = rest.settled;
+      out = rest.out;
+      head = rest.head;
+      same = λ k. steps_then (record k { log = v }) (record k { log = stored_log n x.at x.value v }) (record k { log = after_node_stores n xs (stored_log n x.at x.value v) })
+          (record { table = refl; left = refl; terms = refl; role = refl; past = refl; budget = refl; receipts = refl; loader = refl; made = refl; lineage = refl }) (rest.same k);
+    })
+
+words_holdings : (n : ℕ) (words : List ℕ) (count : ℕ) (v : Log) → (after_words n words count v).holdings ≡ v.holdings
+unfolding after_words
+words_holdings n words zero v = refl
+words_holdings n words (suc count) v = words_holdings n words count v
+
+-- A held node was written, and isn't free: its lock spells it, and all else is as it was.
+pub record IsWritten (s : NodeData) (h : Holding) (above : List Holding) (k k' : CallerData) : Type 0 where
+  pub lock : Holding
+  pub held : k'.log.holdings.held ≡ lock ∷ above
+  pub node : lock.node ≡ h.node
+  pub mark : lock.mark ≡ h.mark
+  pub settled : lock.settled ≡ h.settled
+  pub spells : SpellsNode lock.words s
+  pub out : k'.log.holdings.out ≡ k.log.holdings.out
+  pub same : StepsOnNodes k k'
+
+pub written_so : (s : NodeData) (n : ℕ) (h : Holding) (above : List Holding) (k k' : CallerData) → kind_of_body s.body ≢ 2 → h.node ≡ n → AllByRecursion (λ a. a.node ≢ n) above → k.log.holdings.held ≡ h ∷ above → WritesHeld n s k k' → SpellsHeld n s k'.log → IsWritten s h above k k'
+written_so s n h above k k' kind is far held writes spells =
+    let found : held_of n k.log.holdings.held ≡ Some h = ap (held_of n) held ∙ ap (λ b. cond b (Some h) (held_of n above)) (eq-eqb h.node n is) in
+    let equal = subst (λ o. IsSomeAnd o (λ (z : Holding). k' ≡ record k { log = after_node_stores n (stores s z.words) (after_words n z.words 35 k.log) })) found writes in
+    let loaded = words_holdings n h.words 35 k.log in
+    let kept = stored_keeps s n (stores s h.words) h above (after_words n h.words 35 k.log) kind (all_wanted s h.words 35) is far (ap (λ hs. hs.held) loaded ∙ held) in
+    let now : k'.log.holdings.held ≡ kept.lock ∷ above = ap (λ (z : CallerData). z.log.holdings.held) equal ∙ kept.held in
+    let found' : held_of n k'.log.holdings.held ≡ Some kept.lock = ap (held_of n) now ∙ ap (λ b. cond b (Some kept.lock) (held_of n above)) (eq-eqb kept.lock.node n (kept.node ∙ is)) in record {
+      lock = kept.lock;
+      held = now;
+      node = kept.node;
+      mark = kept.mark;
+      settled = kept.settled;
+      spells = subst (λ o. IsSomeAnd o (λ (z : Holding). SpellsNode z.words s)) found' spells;
+      out = ap (λ (z : CallerData). z.log.holdings.out) equal ∙ (kept.out ∙ ap (λ hs. hs.out) loaded);
+      same = steps_equal k (record k { log = after_node_stores n (stores s h.words) (after_words n h.words 35 k.log) }) k' equal
+          (steps_then k (record k { log = after_words n h.words 35 k.log }) (record k { log = after_node_stores n (stores s h.words) (after_words n h.words 35 k.log) }) (steps_of_words n h.words 35 k) (kept.same k));
+    }

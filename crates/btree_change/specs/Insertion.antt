@@ -1,0 +1,134 @@
+-- What the insertion of a member makes of its caller.
+use Rattle.std.specs.Prelude.{◌≡◌, ℕ, ◌-◌, ◌&&◌, Bool, List, [], ◌∷◌, ◌++◌, length, nat_le}
+use Rattle.std.specs.Prelude.{nat_lt, ◌<◌, Option, Some, None}
+use mathlib.Core.List.{IsPrefix}
+use Rattle.reg_model.specs.History.{state_after}
+use Rattle.reg_model.specs.State.{IsLowestOverlap}
+use Rattle.reg_model.specs.declared.answer.Inserted.{Inserted}
+use Rattle.reg_model.specs.declared.answer.Inserted.TheVariants as inserted
+use Rattle.reg_model.specs.declared.answer.Receipt.TheVariants as receipt
+use Rattle.reg_model.specs.declared.answer.Update.{Update}
+use Rattle.reg_model.specs.declared.answer.Update.TheVariants as update
+use Rattle.reg_model.specs.declared.span.Member.{Member}
+use Rattle.tree_shape.specs.NodeData.{NodeData, entries_of}
+use Rattle.tree_shape.specs.declared.limits.TheConstants.{ENTRIES}
+use Rattle.word_rule.specs.CallerData.{CallerData}
+use Rattle.word_rule.specs.Callers.{start}
+use Rattle.word_rule.specs.declared.log.Holding.{Holding}
+use Rattle.word_rule.specs.declared.log.Holdings.{Holdings}
+use Rattle.word_rule.specs.declared.log.Terms.{Terms}
+use Rattle.word_rule.specs.Spelling.{SpellsNode}
+use Rattle.btree_change.specs.Paths.{HoldsNothing, IsAbove, StepsOnNodes}
+
+-- A caller holds a node that settled as its words spell it, and the root where that is another.
+pub record HoldsSettled (n : ℕ) (holdings : Holdings) : Type 0 where
+  pub lock : Holding
+  pub above : List Holding
+  pub held : holdings.held ≡ lock ∷ above
+  pub node : lock.node ≡ n
+  pub spells : SpellsNode lock.words lock.settled
+  pub root : IsAbove n above
+  pub out : holdings.out ≡ []
+
+-- A member was put into a held leaf and committed, with this number.
+pub record PutsMember (m : Member) (n number : ℕ) (k k' : CallerData) : Type 0 where
+  pub table : k'.table ≡ k.table
+  pub left : k'.left ≡ k.left
+  pub terms : k'.log.terms ≡ k.log.terms
+  pub role : k'.log.role ≡ k.log.role
+  pub loader : k'.log.loader ≡ k.log.loader
+  pub made : k'.log.made ≡ k.log.made
+  pub lineage : k'.log.lineage ≡ k.log.lineage
+  pub before : List Update
+  pub begins : IsPrefix k.log.past before
+  pub past : k'.log.past ≡ before ++ update.Register m ∷ []
+  pub number_is : number ≡ length k'.log.past
+  pub receipts : k'.log.receipts ≡ record k.log.receipts {
+    own = k.log.receipts.own ++ receipt.Register m (inserted.Done number) ∷ [];
+  }
+  pub budget : k'.log.budget ≡ record k.log.budget { allowance = k.log.budget.allowance - 1 }
+  pub holds : HoldsSettled n k'.log.holdings
+
+-- whether a leaf has room for a member, and a high fence at or above its last address
+abbrev pub is_place_for : NodeData → Member → Bool
+is_place_for s m = nat_le m.span.last s.high && nat_lt (length (entries_of s)) ENTRIES
+
+-- A node that settled was let go of with the next version, and the root with it.
+pub record LetsGoOfSettled (k k' : CallerData) : Type 0 where
+  pub table : k'.table ≡ k.table
+  pub left : k'.left ≡ k.left
+  pub terms : k'.log.terms ≡ k.log.terms
+  pub role : k'.log.role ≡ k.log.role
+  pub past : k'.log.past ≡ k.log.past
+  pub budget : k'.log.budget ≡ record k.log.budget { credit = k.log.budget.credit - 1 }
+  pub receipts : k'.log.receipts ≡ k.log.receipts
+  pub loader : k'.log.loader ≡ k.log.loader
+  pub made : k'.log.made ≡ k.log.made
+  pub lineage : k'.log.lineage ≡ k.log.lineage
+  pub nothing : HoldsNothing k'.log.holdings
+
+-- The answer to an insertion is right, where `seen` was the history before and `past` is it
+-- afterwards.
+abbrev pub IsRightInsertion : Terms → Member → List Update → List Update → Inserted → Type 0
+IsRightInsertion t m seen past (inserted.Done number) = (before : List Update)
+    × (IsPrefix seen before × (past ≡ before ++ update.Register m ∷ []) × (number ≡ length past))
+IsRightInsertion t m seen past (inserted.Overlap other stamp) = IsPrefix seen past
+    × (stamp ≡ length past)
+    × IsLowestOverlap m.span (state_after (start t) past).registered other
+IsRightInsertion t m seen past (inserted.Full stamp) = ⊥
+IsRightInsertion t m seen past inserted.Spent = ⊥
+
+-- what an accepted insertion takes of an allowance, and its release of a credit
+abbrev pub taken_by : Inserted → ℕ
+taken_by (inserted.Done number) = 1
+taken_by _ = 0
+
+-- A member was refused under the lock of a leaf.
+pub record RefusesMember (t : Terms) (m : Member) (answer : Inserted) (k k' : CallerData) : Type 0
+  where
+    pub table : k'.table ≡ k.table
+    pub left : k'.left ≡ k.left
+    pub terms : k'.log.terms ≡ k.log.terms
+    pub role : k'.log.role ≡ k.log.role
+    pub budget : k'.log.budget ≡ k.log.budget
+    pub loader : k'.log.loader ≡ k.log.loader
+    pub made : k'.log.made ≡ k.log.made
+    pub lineage : k'.log.lineage ≡ k.log.lineage
+    pub holdings : k'.log.holdings ≡ k.log.holdings
+    pub right : IsRightInsertion t m k.log.past k'.log.past answer
+    pub none_taken : taken_by answer ≡ 0
+    pub receipts : k'.log.receipts ≡ record k.log.receipts {
+      own = k.log.receipts.own ++ receipt.Register m answer ∷ [];
+    }
+
+-- An insertion that was begun was answered, as the state is after all that is seen then: one
+-- receipt more. No lock is held, no node is out, and nothing else of the caller changed but what it
+-- has loaded.
+pub record AnswersInsertion (t : Terms) (m : Member) (answer : Inserted) (k k' : CallerData)
+    : Type 0 where
+  pub table : k'.table ≡ k.table
+  pub left : k'.left ≡ k.left
+  pub terms : k'.log.terms ≡ k.log.terms
+  pub role : k'.log.role ≡ k.log.role
+  pub loader : k'.log.loader ≡ k.log.loader
+  pub made : k'.log.made ≡ k.log.made
+  pub lineage : k'.log.lineage ≡ k.log.lineage
+  pub right : IsRightInsertion t m k.log.past k'.log.past answer
+  pub receipts : k'.log.receipts ≡ record k.log.receipts {
+    own = k.log.receipts.own ++ receipt.Register m answer ∷ [];
+  }
+  pub budget : k'.log.budget ≡ record {
+    allowance = k.log.budget.allowance - taken_by answer;
+    credit = k.log.budget.credit - taken_by answer;
+  }
+
+-- a caller that began an update call
+abbrev pub call_begun : CallerData → CallerData
+call_begun k = record k { left = k.left - 1 }
+
+-- An insertion was begun, and answered; or it found no place, and is still begun. Spent where no
+-- update call is left, and then nothing was done.
+abbrev pub InsertsInPlace : Terms → Member → CallerData → CallerData → Option Inserted → Type 0
+InsertsInPlace t m k k' None = (0 < k.left) × StepsOnNodes (call_begun k) k'
+InsertsInPlace t m k k' (Some inserted.Spent) = (k.left ≡ 0) × (k' ≡ k)
+InsertsInPlace t m k k' (Some answer) = (0 < k.left) × AnswersInsertion t m answer (call_begun k) k'

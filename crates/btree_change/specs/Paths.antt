@@ -1,0 +1,70 @@
+-- The way of an update down the tree, by what its caller holds.
+use Rattle.std.specs.Prelude.{◌≡◌, ℕ, zero, suc, ◌-◌, ◌<◌, ◌≤◌, false, List, [], ◌∷◌, IfSome, IsSome, Contains}
+use Rattle.tree_shape.specs.Decisions.{is_entries}
+use Rattle.tree_shape.specs.NodeData.{NodeData}
+use Rattle.tree_shape.specs.Trees.{Branch, branches}
+use Rattle.word_rule.specs.CallerData.{CallerData}
+use Rattle.word_rule.specs.declared.log.Holding.{Holding}
+use Rattle.word_rule.specs.declared.log.Holdings.{Holdings}
+use Rattle.word_rule.specs.declared.log.Terms.{Terms}
+use Rattle.word_rule.specs.NodeTells.{IsLiveNode}
+use Rattle.word_rule.specs.Spelling.{SpellsNode}
+
+-- The lock of a live node under which nothing was stored: the node is this one.
+pub record IsCleanLock (t : Terms) (n : ℕ) (s : NodeData) (h : Holding) : Type 0 where
+  pub node : h.node ≡ n
+  pub settled : h.settled ≡ s
+  pub spells : SpellsNode h.words s
+  pub clean : h.stored ≡ false
+  pub marked : IsSome h.mark
+  pub live : IfSome h.mark (IsLiveNode t n s)
+
+-- the lock of the root, an inner node that wasn't changed
+pub record IsRootLock (h : Holding) : Type 0 where
+  pub node : h.node ≡ 0
+  pub spells : SpellsNode h.words h.settled
+  pub inner : is_entries h.settled.body ≡ false
+  pub clean : h.stored ≡ false
+
+-- what is held above a node of the way down: nothing above the root, else the root
+abbrev pub IsAbove : ℕ → List Holding → Type 0
+IsAbove zero above = above ≡ []
+IsAbove (suc n) above = (root : Holding) × ((above ≡ root ∷ []) × IsRootLock root)
+
+-- A caller on its way down holds a node, and the root where that is another; no node is out.
+pub record HoldsPath (t : Terms) (n : ℕ) (s : NodeData) (holdings : Holdings) : Type 0 where
+  pub within : n < t.nodes
+  pub lock : Holding
+  pub above : List Holding
+  pub held : holdings.held ≡ lock ∷ above
+  pub here : IsCleanLock t n s lock
+  pub root : IsAbove n above
+  pub out : holdings.out ≡ []
+
+-- no node is held, and none is out
+abbrev pub HoldsNothing : Holdings → Type 0
+HoldsNothing holdings = (holdings.held ≡ []) × (holdings.out ≡ [])
+
+-- an address leads from a node to this child: it is one of the node's, and its fences hold it
+abbrev pub HasChildFor : NodeData → ℕ → ℕ → Type 0
+HasChildFor s pc child = (b : Branch) × (Contains (branches (s.level - 1) s) b × (b.child ≡ child)
+    × (b.frame.low ≤ pc) × (pc ≤ b.frame.high))
+
+-- What steps on nodes leave of their caller: its calls, its receipts and its names are as they were.
+pub record StepsOnNodes (k k' : CallerData) : Type 0 where
+  pub table : k'.table ≡ k.table
+  pub left : k'.left ≡ k.left
+  pub terms : k'.log.terms ≡ k.log.terms
+  pub role : k'.log.role ≡ k.log.role
+  pub past : k'.log.past ≡ k.log.past
+  pub budget : k'.log.budget ≡ k.log.budget
+  pub receipts : k'.log.receipts ≡ k.log.receipts
+  pub loader : k'.log.loader ≡ k.log.loader
+  pub made : k'.log.made ≡ k.log.made
+  pub lineage : k'.log.lineage ≡ k.log.lineage
+
+-- All that was held was let go of.
+pub record LetsGoOfPath (k k' : CallerData) : Type 0 where
+  pub same : StepsOnNodes k k'
+  pub held : k'.log.holdings.held ≡ []
+  pub out : k'.log.holdings.out ≡ k.log.holdings.out

@@ -1,0 +1,17 @@
+//! Changes of the registered half over the shared words.
+//!
+//! An update goes down the tree from the root, and locks each node while it holds its parent. At
+//! the leaf it either tells that it is refused, or writes the leaf and commits: that one step makes
+//! it part of the history. How locks are got, by waiting or by one try, is a parameter.
+//!
+//! The layer above node_store, which reads and writes held nodes, and word_rule, which has the
+//! single steps. It takes from tree_shape what a change of nodes makes of the tree.
+#![tactic(auto)]
+
+mod descent;
+mod insertion;
+mod leaf;
+#[cfg(test)]
+mod tests;
+
+pub use insertion::{insert_in_place, insert_in_place_by, try_insert_in_place};
