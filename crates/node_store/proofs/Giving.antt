@@ -334,10 +334,10 @@ module _ (n : ℕ) (v : Log) (root : IsSome (held_of 0 v.holdings.held)) (held :
         let free = settles_free law (after_give n linked) all in record {
           out = ap (λ (u : Log). u.holdings.out) free ∙ ap (all_but n) stays.out;
           held = λ m far.
-          ap (λ (u : Log). held_of m (without_lock n u.holdings.held)) free
-          ∙ (without_far n m far (map (exchange nothing_reached nothing_reached) linked.holdings.held)
-          ∙ (held_changed m (exchange nothing_reached nothing_reached) (λ h. refl) linked.holdings.held
-          ∙ ap (option_map (exchange nothing_reached nothing_reached)) (stays.others m far)));
+              ap (λ (u : Log). held_of m (without_lock n u.holdings.held)) free
+              ∙ (without_far n m far (map (exchange nothing_reached nothing_reached) linked.holdings.held)
+              ∙ (held_changed m (exchange nothing_reached nothing_reached) (λ h. refl) linked.holdings.held
+              ∙ ap (option_map (exchange nothing_reached nothing_reached)) (stays.others m far)));
           settled = subst (λ (u : Log). AllByRecursion (λ h. IsSome h.mark → SpellsNode h.words h.settled) (without_lock n u.holdings.held)) (sym free)
               (without_settled n (map (exchange nothing_reached nothing_reached) linked.holdings.held) (freed_settled linked.holdings.held all));
         }

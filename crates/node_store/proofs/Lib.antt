@@ -8,4 +8,3 @@ pub mod HeldWords
 pub mod HeldWrites
 pub mod Settled
 pub mod Giving
-pub mod Outs

@@ -1,6 +1,6 @@
 -- What taking a node off the free list, and giving one back, make of a caller.
 use Rattle.std.specs.Prelude.{◌≡◌, ◌≢◌, ℕ, Bool, true, ◌==◌, Option, Some, None, Result, Ok, Err}
-use Rattle.std.specs.Prelude.{false, List, ◌∷◌, IsSome, IsSomeAnd, option_map, if◌then◌else◌}
+use Rattle.std.specs.Prelude.{IsSome, option_map, if◌then◌else◌}
 use Rattle.std.specs.List.{AllByRecursion}
 use Rattle.word_rule.specs.CallerData.{CallerData}
 use Rattle.word_rule.specs.Exchange.{exchange, nothing_reached}
@@ -64,18 +64,6 @@ pub record LeavesOthers (n : ℕ) (v w : Log) : Type 0 where
   pub held : (m : ℕ) → m ≢ n → held_of m w.holdings.held
       ≡ option_map (exchange nothing_reached nothing_reached) (held_of m v.holdings.held)
   pub settled : IsSettled w
-
--- A caller that holds the root, in which it stored nothing, holds each node that it has out, and has
--- changed nothing.
-pub record HoldsAllOut (v : Log) : Type 0 where
-  pub root : IsSomeAnd (held_of 0 v.holdings.held) (λ h. h.stored ≡ false)
-  pub held : AllByRecursion (λ n. IsSome (held_of n v.holdings.held)) v.holdings.out
-  pub settled : IsSettled v
-
--- the nodes that are out after a take
-abbrev pub with_taken : Option ℕ → List ℕ → List ℕ
-with_taken None out = out
-with_taken (Some n) out = n ∷ out
 
 -- A node that was out was given back: it was linked, then it became the head, and then it was let
 -- go with the next version.

@@ -8,8 +8,6 @@
 #![tactic(auto)]
 
 mod free;
-#[cfg(test)]
-mod free_tests;
 mod held;
 mod locking;
 mod locks;

@@ -22,8 +22,8 @@ store_node-requires-clause-may c =
     let n = c.args.node in
     let head = c.load_head-head.result in
     let me = c.load_head-head.ensures.log
-        ∙ (ap (λ (k : CallerData). record k { log = after_head_load head k.log }) c.set_word-2.ensures.log
-        ∙ ap (λ (k : CallerData). record k { log = after_head_load head (after_setting n 2 0 k.log) }) c.set_word.ensures.log) in
+    ∙ (ap (λ (k : CallerData). record k { log = after_head_load head k.log }) c.set_word-2.ensures.log
+    ∙ ap (λ (k : CallerData). record k { log = after_head_load head (after_setting n 2 0 k.log) }) c.set_word.ensures.log) in
     subst (λ (k : CallerData). MayStore n k.log) (sym me)
     (may_link n c.args.me.now.log c.requires.root c.requires.held c.requires.out c.set_word.ensures.holder c.set_word.ensures.out head)
 
