@@ -1,5 +1,6 @@
 -- The way of an update down the tree, by what its caller holds.
-use Rattle.std.specs.Prelude.{◌≡◌, ℕ, zero, suc, ◌-◌, ◌<◌, ◌≤◌, false, List, [], ◌∷◌, IfSome, IsSome, Contains}
+use Rattle.std.specs.Prelude.{◌≡◌, ℕ, zero, suc, ◌-◌, ◌<◌, ◌≤◌, false, List, [], ◌∷◌, IfSome}
+use Rattle.std.specs.Prelude.{IsSome, Contains}
 use Rattle.tree_shape.specs.Decisions.{is_entries}
 use Rattle.tree_shape.specs.NodeData.{NodeData}
 use Rattle.tree_shape.specs.Trees.{Branch, branches}
@@ -50,7 +51,8 @@ abbrev pub HasChildFor : NodeData → ℕ → ℕ → Type 0
 HasChildFor s pc child = (b : Branch) × (Contains (branches (s.level - 1) s) b × (b.child ≡ child)
     × (b.frame.low ≤ pc) × (pc ≤ b.frame.high))
 
--- What steps on nodes leave of their caller: its calls, its receipts and its names are as they were.
+-- What steps on nodes leave of their caller: its calls, its receipts and its names are as they
+-- were.
 pub record StepsOnNodes (k k' : CallerData) : Type 0 where
   pub table : k'.table ≡ k.table
   pub left : k'.left ≡ k.left

@@ -3,7 +3,8 @@ ghost use Rattle.std.specs.Prelude.{◌≡◌, ℕ, ◌-◌, ◌^◌, ◌<◌, �
 ghost use Rattle.tree_shape.specs.NodeData.{InOrder, IsInFences, IsInner};
 ghost use Rattle.word_rule.specs.Callers.{IsIdle};
 ghost use Rattle.node_store.specs.Locking.{IsBusy, Locks};
-ghost use Rattle.btree_change.specs.Paths.{HoldsNothing, HoldsPath, HasChildFor, LetsGoOfPath, StepsOnNodes};
+ghost use Rattle.btree_change.specs.Paths.{HasChildFor, HoldsNothing, HoldsPath, LetsGoOfPath};
+ghost use Rattle.btree_change.specs.Paths.{StepsOnNodes};
 
 use node_store::{Busy, Locking, read_held};
 use tree_shape::{Node, inner_slot};
