@@ -13,3 +13,10 @@ returns-in-Miss-clause-calls g c = (
   query_received _ _ _ _ _ _ c.registered_at-registered.ensures.queries,
   (c.loaded_at.new.me, query_received _ _ _ _ _ _ c.loaded_at.ensures.queries, refl),
 )
+
+pub returns-in-Hit-clause-calls : goal.returns-in-Hit-clause-calls
+returns-in-Hit-clause-calls g c = (
+  c.registered_at-registered.new.me,
+  query_received _ _ _ _ _ _ c.registered_at-registered.ensures.queries,
+  refl,
+)
