@@ -21,24 +21,23 @@ use denote.Steps.{nothing}
 use denote.Struct.Struct.{within}
 use denote.Struct.Owning.{shape}
 use Rattle.std.specs.Prelude.{Some}
-use Rattle.libc.specs.Heap.{chunk}
 use Rattle.core.proofs.alloc.Calls.{token}
 use Rattle.std_alloc.specs.Box.Ownership.{box_owns}
 use Rattle.std_alloc.proofs.BoxSteps.Form.{Bx, R, τ}
 use Rattle.std_heap.specs.contracts.Global as Heap
 use Rattle.std_heap.specs.contracts.GlobalAllocator.TheImpl.{ghosts, dict}
 use Rattle.std_heap.proofs.Global.TheLaws as heap
-use Rattle.frames_c.specs.contracts.handle.Held as Held
-use Rattle.frames_c.proofs.handle.Held.TheLaws as held
+use Rattle.frames_c.specs.contracts.share.SectionShare as Share
+use Rattle.frames_c.proofs.share.SectionShare.TheLaws as share
 use Rattle.frames_c.specs.contracts.handle.SectionHandle as Handle
 use Rattle.frames_c.specs.contracts.parts.Parts as Parts
-use Rattle.frames_c.specs.Handles.{handle_owns}
+use Rattle.frames_c.specs.Handles.{frees, handle_owns}
 
 abbrev pub E : Bx
-E = record { row = Held.the_row; laws = held.the_row_laws; al = record { row = Heap.the_row; laws = heap.the_row_laws; g = ghosts; d = dict; drops = impl [] tnil dnil } }
+E = record { row = Share.the_row; laws = share.the_row_laws; al = record { row = Heap.the_row; laws = heap.the_row_laws; g = ghosts; d = dict; drops = impl [] tnil dnil } }
 
 abbrev pub FromParts : Slot 0
-FromParts = plain (λ _. Parts.the_row Held.the_row Heap.the_row ghosts)
+FromParts = plain (λ _. Parts.the_row Share.the_row Heap.the_row ghosts)
 
 abbrev pub FromHandle : Slot 0
 FromHandle = plain (λ _. Handle.the_row)
@@ -54,19 +53,19 @@ abbrev pub pointer : ℕ → ℕ → Val
 pointer b o = vstruct (vcons (vptr b o) vnil)
 
 module _ {M : Type 1} {𝓤 : Ura M} {𝓛 : Logic 𝓤} {K : Type 0} {Γ : List (Item 𝓤)} {G : Goal 𝓤 𝓛.H} where
-  pub handle_out : K → (d : H.Denot) (vs : List Val) (x : Held.the_row.Denot) → d.held ≡ Some x
+  pub handle_out : K → (d : H.Denot) (vs : List Val) (x : Share.the_row.Denot) → d.held ≡ Some x
       → ((b o : ℕ) → d.at ≡ block_ptr b o → vs ≡ pointer b o ∷ []
-      → Seq K 𝓛 (‵ (part_at (R E) full_share x b o) ∷ ‵ (chunk (bare (τ E)) (block_ptr b o)) ∷ Γ) G)
+      → Seq K 𝓛 (‵ (part_at (R E) full_share x b o) ∷ ‵ (frees (bare (τ E)) (block_ptr b o)) ∷ Γ) G)
       → Seq K 𝓛 (‵ (H.own_val d vs) ∷ Γ) G
   handle_out t d vs x is k =
       fsplit t $ fpick t (λ vss. fsplit t $ feq_l t (λ ev. fsplit t $ feq_l t (λ ep. drop t $
       rewrite t 0 (λ h. ‵ (handle_owns d.at h)) is refl $
-      in_a_block t d.at (λ p. box_owns chunk (R E) p x) (fst∗ 𝓤 (never 𝓤) (sem 𝓛 (chunk (bare (τ E)) null_ptr))) (λ b o e. fsplit t $ k b o e
+      in_a_block t d.at (λ p. box_owns frees (R E) p x) (fst∗ 𝓤 (never 𝓤) (sem 𝓛 (frees (bare (τ E)) null_ptr))) (λ b o e. fsplit t $ k b o e
       (subst (λ (p : Ptr). vs ≡ vstruct (of_list (ptr_val p ∷ [])) ∷ []) e
       (subst (λ (ps : List Val). vs ≡ vstruct (of_list (ps ++ [])) ∷ []) ep ev))))))
 
-  pub handle_in : K → (at : Ptr) (b o : ℕ) (x : Held.the_row.Denot) → at ≡ block_ptr b o
-      → Step K 𝓛 (‵ (H.own_val (record { at = at; held = Some x }) (pointer b o ∷ [])) ∷ Γ) G (‵ (part_at (R E) full_share x b o) ∷ ‵ (chunk (bare (τ E)) (block_ptr b o)) ∷ Γ) G
+  pub handle_in : K → (at : Ptr) (b o : ℕ) (x : Share.the_row.Denot) → at ≡ block_ptr b o
+      → Step K 𝓛 (‵ (H.own_val (record { at = at; held = Some x }) (pointer b o ∷ [])) ∷ Γ) G (‵ (part_at (R E) full_share x b o) ∷ ‵ (frees (bare (τ E)) (block_ptr b o)) ∷ Γ) G
   handle_in t at b o x e = step (λ s.
       fjoin t $ rewrite t 0 (λ (p : Ptr). ‵ (handle_owns p (Some x))) (sym e) refl $
       nothing t $ feq_i t (List Val) (vptr b o ∷ []) (ptr_val at ∷ []) (ap (λ (p : Ptr). ptr_val p ∷ []) (sym e)) $ fjoin t $

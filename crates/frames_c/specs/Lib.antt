@@ -1,1 +1,5 @@
 pub mod Handles
+pub mod Held
+pub mod Refusals
+pub mod Loads
+pub mod Fdes

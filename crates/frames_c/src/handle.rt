@@ -1,22 +1,15 @@
-//! The handle of a section, as C keeps it: one pointer. What stands behind it is known to the logic
+//! The handle of a section, as C keeps it: one pointer. What it leads to is known to the logic
 //! alone.
 
-ghost use Rattle.std.specs.Prelude.{◌≡◌, Option, Some, IfOk};
-ghost use Rattle.std.specs.Arc.{arc_value};
-ghost use Rattle.frames_c.specs.declared.handle.Held.{Held};
+ghost use Rattle.std.specs.Prelude.{◌≡◌, Option, Some};
+ghost use Rattle.frame_parse.specs.Sections.{SectionData};
+ghost use Rattle.frames_c.specs.Held.{IsHeld};
 ghost use Rattle.frames_c.specs.Handles.{held_coded, handle_owns};
 
 use crate::parts::Parts;
-use frame_parse::Section;
-use std::alloc::{AllocError, Global};
+use crate::share::SectionShare;
+use std::alloc::Global;
 use std::marker::{Model, Send};
-use std::sync::Arc;
-
-/// What a handle leads to.
-#[derive(Drop)]
-pub struct Held {
-    pub(crate) section: Arc<Section, Global>,
-}
 
 /// A share of a section, or nothing. To let one go frees nothing: so one that is written over has to
 /// hold nothing.
@@ -24,43 +17,43 @@ pub struct Held {
 #[derive(Drop)]
 pub struct SectionHandle {
     at: *mut u8,
-    pub ghost held: { Option Held } by { held_coded },
+    pub ghost held: { Option SectionData } by { held_coded },
 }
 
 impl Model for SectionHandle {
-    ghost also_owns = { λ s. handle_owns s.at s.held };
+    ghost also_owns = { λ h. handle_owns h.at h.held };
 }
 
 impl SectionHandle {
-    /// A handle of what is held.
-    pub(crate) fn of(held: Box<Held, Global>) -> SectionHandle
-        ensures { result.held ≡ Some held.value }
+    /// A handle of a share.
+    pub(crate) fn of(share: Box<SectionShare, Global>) -> SectionHandle
+        ensures { result.held ≡ Some share.value }
     {
-        SectionHandle::of_parts(Parts::of(held))
+        SectionHandle::of_parts(Parts::of(share))
     }
 
-    /// What it holds. From here on the handle is nothing.
-    pub(crate) fn open(self, alloc: Global) -> Box<Held, Global>
-        requires { (held : Held) × (self.held ≡ Some held) }
+    /// The share. From here on the handle is nothing.
+    pub(crate) fn open(self, alloc: Global) -> Box<SectionShare, Global>
+        requires { IsHeld self.held }
         ensures { self.held ≡ Some result.value }
     {
         self.into_parts(alloc).into_box()
     }
 
-    fn of_parts(parts: Parts<Held, Global>) -> SectionHandle
+    fn of_parts(parts: Parts<SectionShare, Global>) -> SectionHandle
         ensures { result.held ≡ Some parts.value }
     {
         let Parts { ptr, alloc: _ } = parts;
         SectionHandle { at: ptr as *mut u8 }
     }
 
-    fn into_parts(self, alloc: Global) -> Parts<Held, Global>
-        requires { (held : Held) × (self.held ≡ Some held) }
+    fn into_parts(self, alloc: Global) -> Parts<SectionShare, Global>
+        requires { IsHeld self.held }
         ensures { self.held ≡ Some result.value }
     {
         let SectionHandle { at } = self;
         Parts {
-            ptr: at as *mut Held,
+            ptr: at as *mut SectionShare,
             alloc,
         }
     }

@@ -11,14 +11,14 @@ use Rattle.std.specs.Prelude.{Option, Some, None}
 use Rattle.std.proofs.Crossing as heap
 use Rattle.std_alloc.proofs.SendSync.{quiet, lies}
 use Rattle.std_heap.proofs.Handle.{handle}
-use Rattle.frames_c.specs.contracts.handle.Held as Held
-use Rattle.frames_c.proofs.handle.Held.TheSendSync.{the_send as held}
+use Rattle.frames_c.specs.contracts.share.SectionShare as Share
+use Rattle.frames_c.proofs.share.SectionShare.TheSendSync.{the_send as share}
 use Rattle.frames_c.specs.contracts.handle.SectionHandle.{the_row, the_type}
 use Rattle.frames_c.specs.Handles.{handle_owns}
 
-owned : (at : Ptr) (h : Option Held.the_row.Denot) → Keyless (handle_owns at h)
+owned : (at : Ptr) (h : Option Share.the_row.Denot) → Keyless (handle_owns at h)
 owned at None = tt
-owned at (Some x) = (lies Held.the_row held at x, heap.frees.frees handle (raw (lone Held.the_row.mir)) at)
+owned at (Some x) = (lies Share.the_row share at x, heap.frees.frees handle (raw (lone Share.the_row.mir)) at)
 
 pub send : IsSend the_row
 send =

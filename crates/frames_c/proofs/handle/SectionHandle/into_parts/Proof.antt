@@ -26,7 +26,7 @@ use Rattle.core.proofs.alloc.Calls.{handle_tells}
 use Rattle.std.specs.Prelude.{Some}
 use Rattle.std_alloc.proofs.BoxSteps.Form.{D, B, P, word, box_typed}
 use Rattle.std_alloc.proofs.BoxSteps.Steps.{box_in}
-use Rattle.frames_c.specs.declared.handle.Held.{Held}
+use Rattle.frame_parse.specs.Sections.{SectionData}
 use Rattle.frames_c.proofs.Boxes.{E, H as Handle, FromHandle, FromHeap, pointer, handle_out}
 use Rattle.frames_c.specs.contracts.handle.SectionHandle.into_parts as F
 use Rattle.frames_c.specs.contracts.handle.SectionHandle.into_parts.Key.{name as #self}
@@ -45,8 +45,8 @@ module _ {M : Type 1} {𝓤 : Ura M} (𝓛 : Logic 𝓤) (at_mem : Memory → SP
       let Post = (walk_of 𝓛 F.ended stayed (F.clauses 𝓛 at_mem run)).post z in
       let self = z.0.3.0 in let alloc = z.0.3.1.0 in
       let To = type_at (F.signature).result tt in
-      qed 𝓛 ((‵ ftrue ⊛ ‵ (fsep (Handle.own_val self z.0.4.0) (fsep ((P E).own_val alloc z.0.4.1.0) ftrue))) ∷ raw (fact 𝓤 ((held : Held) × (self.held ≡ Some held))) ∷ []) ∵
-      move ! (1 ∷ []) $ heard ! ((held : Held) × (self.held ≡ Some held)) (λ has. split ! $ drop ! $ fsplit ! $
+      qed 𝓛 ((‵ ftrue ⊛ ‵ (fsep (Handle.own_val self z.0.4.0) (fsep ((P E).own_val alloc z.0.4.1.0) ftrue))) ∷ raw (fact 𝓤 ((section : SectionData) × (self.held ≡ Some section))) ∷ []) ∵
+      move ! (1 ∷ []) $ heard ! ((section : SectionData) × (self.held ≡ Some section)) (λ has. split ! $ drop ! $ fsplit ! $
       let v : D E = record { ptr = self.at; alloc = alloc; value = has.0 } in
       let made : To.Denot = record { ptr = v.ptr; alloc = v.alloc; value = v.value } in
       handle_out ! self z.0.4.0 has.0 has.1 (λ b o e ws. move ! (2 ∷ []) $ fsplit ! $ handle_tells E.al ! alloc z.0.4.1.0 (λ hv ea fa.

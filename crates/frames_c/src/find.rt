@@ -1,0 +1,91 @@
+//! The FDE of an address.
+
+ghost use Rattle.std.specs.Prelude.{◌≡◌, ◌<◌, ◌^◌, length};
+ghost use Rattle.std.specs.Option.{option_map, unwrap_or};
+ghost use Rattle.frame_parse.specs.Sections.{first_cover};
+ghost use Rattle.frames_c.specs.Held.{IsHeld, IsVacant, held_section};
+ghost use Rattle.frames_c.specs.Fdes.{fde_told, flag, is_there};
+
+use crate::handle::SectionHandle;
+use frame_parse::{Fde, Section};
+use std::alloc::Global;
+
+/// An FDE. What it hasn't is 0, and its flag too.
+#[repr(C)]
+#[derive(Clone, Copy, Debug, PartialEq, Eq)]
+pub struct FramesFde {
+    pub first: u64,
+    pub range: u64,
+    pub lsda: u64,
+    pub personality: u64,
+    pub has_lsda: u8,
+    pub has_personality: u8,
+    pub signal: u8,
+    /// The place of its first byte among those of the section.
+    pub place: u32,
+}
+
+impl FramesFde {
+    fn of(fde: &Fde<'_>) -> FramesFde
+        requires { fde.now.entry.start < 2 ^ 32 }
+        ensures { result ≡ fde_told fde.now.entry }
+    {
+        let (lsda, personality) = (fde.lsda(), fde.personality());
+        FramesFde {
+            first: fde.first(),
+            range: fde.range(),
+            lsda: lsda.unwrap_or(0),
+            personality: personality.unwrap_or(0),
+            has_lsda: flag(lsda.is_some()),
+            has_personality: flag(personality.is_some()),
+            signal: flag(fde.signal()),
+            place: fde.place() as u32,
+        }
+    }
+}
+
+fn flag(holds: bool) -> u8
+    ensures { result ≡ flag holds }
+{
+    u8::from(holds)
+}
+
+/// Writes the FDE of an address, where there is one.
+fn find(section: &Section, pc: u64, out: &mut FramesFde) -> bool
+    requires { length section.now.bytes < 2 ^ 32 }
+    ensures found { result ≡ is_there (first_cover pc section.now.fdes) }
+    ensures fde { out.new
+        ≡ unwrap_or (option_map fde_told (first_cover pc section.now.fdes)) out.old }
+{
+    section.known();
+    match section.fde_at(pc) {
+        None => false,
+        Some(fde) => {
+            *out = FramesFde::of(&fde);
+            true
+        }
+    }
+}
+
+/// The first FDE in order of bytes that covers an address; false where none does, and then nothing
+/// is written.
+#[unsafe(no_mangle)]
+pub extern "C" fn frames_c_find(
+    alloc: Global,
+    section: SectionHandle,
+    pc: u64,
+    out: &mut FramesFde,
+    back: &mut SectionHandle,
+) -> bool
+    requires held { IsHeld section.held }
+    requires back { IsVacant back.old.held }
+    ensures back { back.new.held ≡ section.held }
+    ensures found { result ≡ is_there (first_cover pc (held_section section.held).fdes) }
+    ensures fde { out.new ≡ unwrap_or
+        (option_map fde_told (first_cover pc (held_section section.held).fdes)) out.old }
+{
+    let share = section.open(alloc);
+    let found = find(share.section(), pc, out);
+    *back = SectionHandle::of(share);
+    found
+}

@@ -1,0 +1,122 @@
+//! Sections are read, shared and freed.
+
+ghost use Rattle.std.specs.Prelude.{◌≡◌, true, false, length, IfOk, IfErr, IfSome};
+ghost use Rattle.frames_c.specs.Held.{IsHeld, IsVacant, held_section};
+ghost use Rattle.frames_c.specs.Loads.{IsLoaded, LeadsToLoaded};
+ghost use Rattle.frames_c.specs.Refusals.{IsLoadFault, IsToldRefusal};
+
+use crate::handle::SectionHandle;
+use crate::refusal::{FramesRefusal, LoadFault};
+use crate::share::{LoadedSection, SectionShare};
+use frame_parse::{FrameFault, Section};
+use std::alloc::Global;
+
+/// The section of bytes at an address, in a box of its own.
+fn load(alloc: Global, address: u64, bytes: &[u8]) -> Result<Box<SectionShare, Global>, LoadFault>
+    ensures loaded { IfOk result (λ share. IsLoaded address bytes.now share.value) }
+    ensures fault { IfErr result (IsLoadFault address bytes.now) }
+{
+    if bytes.len() > u32::MAX as usize {
+        return Err(LoadFault::Long);
+    }
+    let section = match Section::read(alloc, address, bytes) {
+        Ok(section) => section,
+        Err(fault) => return Err(LoadFault::Frames(fault)),
+    };
+    let share = match SectionShare::new(alloc, LoadedSection::new(section)) {
+        Ok(share) => share,
+        Err(_) => return Err(LoadFault::Frames(FrameFault::NoMemory)),
+    };
+    match Box::new(alloc, share) {
+        Ok(boxed) => Ok(boxed),
+        Err(_) => Err(LoadFault::Frames(FrameFault::NoMemory)),
+    }
+}
+
+/// Reads the section whose bytes stand at an address. The bytes are copied.
+#[unsafe(no_mangle)]
+pub extern "C" fn frames_c_read(
+    alloc: Global,
+    address: u64,
+    bytes: &[u8],
+    refusal: &mut FramesRefusal,
+    out: &mut SectionHandle,
+) -> bool
+    requires out { IsVacant out.old.held }
+    ensures section { result ≡ true → LeadsToLoaded address bytes.now out.new.held }
+    ensures unrefused { result ≡ true → refusal.new ≡ refusal.old }
+    ensures refusal { result ≡ false → IsToldRefusal address bytes.now refusal.new }
+    ensures nothing { result ≡ false → IsVacant out.new.held }
+{
+    match load(alloc, address, bytes) {
+        Ok(share) => {
+            *out = SectionHandle::of(share);
+            true
+        }
+        Err(fault) => {
+            *refusal = FramesRefusal::of_load(fault);
+            false
+        }
+    }
+}
+
+/// Frees a share. The section goes with its last one.
+#[unsafe(no_mangle)]
+pub extern "C" fn frames_c_free(alloc: Global, section: SectionHandle)
+    requires { IsHeld section.held }
+{
+    drop(section.open(alloc));
+}
+
+/// Another share of the section, for another thread; false where memory runs out.
+#[unsafe(no_mangle)]
+pub extern "C" fn frames_c_share(
+    alloc: Global,
+    section: SectionHandle,
+    out: &mut SectionHandle,
+    back: &mut SectionHandle,
+) -> bool
+    requires held { IsHeld section.held }
+    requires out { IsVacant out.old.held }
+    requires back { IsVacant back.old.held }
+    ensures back { back.new.held ≡ section.held }
+    ensures shared { result ≡ true → out.new.held ≡ section.held }
+    ensures nothing { result ≡ false → IsVacant out.new.held }
+{
+    let share = section.open(alloc);
+    let shared = match another(alloc, &share) {
+        Some(other) => {
+            *out = SectionHandle::of(other);
+            true
+        }
+        None => false,
+    };
+    *back = SectionHandle::of(share);
+    shared
+}
+
+/// How many FDEs a section has.
+#[unsafe(no_mangle)]
+pub extern "C" fn frames_c_count(
+    alloc: Global,
+    section: SectionHandle,
+    back: &mut SectionHandle,
+) -> usize
+    requires held { IsHeld section.held }
+    requires back { IsVacant back.old.held }
+    ensures back { back.new.held ≡ section.held }
+    ensures count { result ≡ length (held_section section.held).fdes }
+{
+    let share = section.open(alloc);
+    let count = share.section().count();
+    *back = SectionHandle::of(share);
+    count
+}
+
+/// Another share in a box of its own; none where memory runs out.
+fn another(alloc: Global, share: &SectionShare) -> Option<Box<SectionShare, Global>>
+    ensures { IfSome result (λ other. other.value ≡ share.now) }
+{
+    let other = share.another().ok()?;
+    Box::new(alloc, other).ok()
+}
