@@ -3,3 +3,7 @@ pub mod Held
 pub mod Refusals
 pub mod Loads
 pub mod Fdes
+pub mod Rows
+pub mod MemoryHandles
+pub mod Recorded
+pub mod FrameSteps

@@ -4,12 +4,20 @@
 mod find;
 mod handle;
 mod load;
+mod memory;
 mod parts;
+mod record;
 mod refusal;
+mod row;
 mod share;
+mod step;
 
 pub use find::{FramesFde, frames_c_find};
 pub use handle::SectionHandle;
 pub use load::{frames_c_count, frames_c_free, frames_c_read, frames_c_share};
+pub use memory::MemoryHandle;
+pub use record::{frames_c_memory, frames_c_memory_free, frames_c_memory_push};
 pub use refusal::FramesRefusal;
+pub use row::{FramesRow, frames_c_row};
 pub use share::{LoadedSection, SectionShare};
+pub use step::{FramesFrame, frames_c_step};

@@ -1,0 +1,127 @@
+//! The row of an address.
+
+ghost use Rattle.std.specs.Prelude.{◌≡◌, length, true, false};
+ghost use Rattle.frame_parse.specs.Sections.{FdeData};
+ghost use Rattle.frame_rows.specs.RowAt.{IsRowAt};
+ghost use Rattle.frame_rows.specs.Rules.{rule_told, cfa_rule_told};
+ghost use Rattle.unwind_step.specs.Backtrace.{fde_in};
+ghost use Rattle.frames_c.specs.Held.{IsHeld, IsVacant, held_section};
+ghost use Rattle.frames_c.specs.Fdes.{is_there};
+ghost use Rattle.frames_c.specs.Rows.{rule_kind, rule_number, cfa_kind, cfa_column, cfa_offset};
+ghost use Rattle.frames_c.specs.Rows.{AreToldRules, IsToldRow, IsRowOf, AnswersRow};
+
+use crate::handle::SectionHandle;
+use frame_parse::{Fde, Section};
+use frame_rows::{CfaRule, Row, Rule, row_at};
+use std::alloc::Global;
+
+/// How the CFA and the columns 0 to 16 are found: for each the kind of its rule, and its number.
+#[repr(C)]
+#[derive(Clone, Copy, Debug, PartialEq, Eq)]
+pub struct FramesRow {
+    pub cfa: u64,
+    pub cfa_column: u64,
+    pub cfa_offset: u64,
+    pub rules: [u64; 17],
+    pub numbers: [u64; 17],
+}
+
+/// The kind of a rule, and its number.
+#[inline(always)]
+fn told(rule: &Rule<'_>) -> (u64, u64)
+    ensures kind { result.0 ≡ rule_kind (rule_told (λ e. e.bytes.now) rule.now) }
+    ensures number { result.1 ≡ rule_number (rule_told (λ e. e.bytes.now) rule.now) }
+{
+    match rule {
+        Rule::Unset => (0, 0),
+        Rule::Undefined => (1, 0),
+        Rule::Same => (2, 0),
+        Rule::Offset { by } => (3, *by),
+        Rule::ValOffset { by } => (4, *by),
+        Rule::Register { column } => (5, *column as u64),
+        Rule::Expression { .. } => (6, 0),
+        Rule::ValExpression { .. } => (7, 0),
+    }
+}
+
+/// Writes the rules of all columns. By slices, and not inlined: a loop over arrays would be unrolled
+/// whole.
+#[inline(never)]
+fn tell_columns(row: &Row<'_>, kinds: &mut [u64], numbers: &mut [u64])
+    requires kinds { length kinds.old ≡ 17 }
+    requires numbers { length numbers.old ≡ 17 }
+    ensures told { AreToldRules row.now 17 kinds.new numbers.new }
+    ensures kinds { length kinds.new ≡ 17 }
+    ensures numbers { length numbers.new ≡ 17 }
+{
+    for column in 0..17usize {
+        let (kind, number) = told(&row.rule(column));
+        kinds[column] = kind;
+        numbers[column] = number;
+    }
+}
+
+/// The kind of the CFA's rule, its column and its offset.
+fn told_cfa(rule: &CfaRule<'_>) -> (u64, u64, u64)
+    ensures kind { result.0 ≡ cfa_kind (cfa_rule_told (λ e. e.bytes.now) rule.now) }
+    ensures column { result.1 ≡ cfa_column (cfa_rule_told (λ e. e.bytes.now) rule.now) }
+    ensures offset { result.2 ≡ cfa_offset (cfa_rule_told (λ e. e.bytes.now) rule.now) }
+{
+    match rule {
+        CfaRule::Missing => (0, 0, 0),
+        CfaRule::Offset { column, by } => (1, *column as u64, *by),
+        CfaRule::Expression { .. } => (2, 0, 0),
+    }
+}
+
+/// Writes a row.
+fn tell(row: &Row<'_>, out: &mut FramesRow)
+    ensures { IsToldRow row.now out.new }
+{
+    let (kind, column, offset) = told_cfa(&row.cfa());
+    out.cfa = kind;
+    out.cfa_column = column;
+    out.cfa_offset = offset;
+    tell_columns(row, &mut out.rules, &mut out.numbers);
+}
+
+/// Writes the row of an FDE at an address.
+fn write_row(fde: &Fde<'_>, pc: u64, out: &mut FramesRow)
+    ensures { IsRowOf fde.now pc out.new }
+{
+    tell(&row_at(fde, pc), out);
+}
+
+/// Writes the row of an address, where an FDE covers it.
+pub(crate) fn row_in(section: &Section, pc: u64, out: &mut FramesRow) -> bool
+    ensures { AnswersRow (fde_in pc section.now) pc result out.old out.new }
+{
+    match section.fde_at(pc) {
+        None => false,
+        Some(fde) => {
+            write_row(&fde, pc, out);
+            true
+        }
+    }
+}
+
+/// The row of an address by the first FDE in order of bytes that covers it; false where none does,
+/// and then nothing is written.
+#[unsafe(no_mangle)]
+pub extern "C" fn frames_c_row(
+    alloc: Global,
+    section: SectionHandle,
+    pc: u64,
+    out: &mut FramesRow,
+    back: &mut SectionHandle,
+) -> bool
+    requires held { IsHeld section.held }
+    requires back { IsVacant back.old.held }
+    ensures back { back.new.held ≡ section.held }
+    ensures row { AnswersRow (fde_in pc (held_section section.held)) pc result out.old out.new }
+{
+    let share = section.open(alloc);
+    let found = row_in(share.section(), pc, out);
+    *back = SectionHandle::of(share);
+    found
+}

@@ -1,0 +1,109 @@
+//! One frame of a stack from another.
+
+ghost use Rattle.std.specs.Prelude.{◌≡◌, length};
+ghost use Rattle.std.specs.Option.{unwrap_or};
+ghost use Rattle.frame_parse.specs.Sections.{FdeData};
+ghost use Rattle.unwind_step.specs.Backtrace.{fde_in};
+ghost use Rattle.unwind_step.specs.NextFrame.{IsNextFrame};
+ghost use Rattle.frames_c.specs.Held.{IsHeld, IsVacant, held_section};
+ghost use Rattle.frames_c.specs.Recorded.{IsRecorded, HasNone, recorded_in};
+ghost use Rattle.frames_c.specs.FrameSteps.{frame_look, outcome_told, frame_after, AnswersStep};
+
+use crate::handle::SectionHandle;
+use crate::memory::MemoryHandle;
+use frame_expr::{Memory, Regs};
+use frame_parse::Section;
+use std::alloc::Global;
+use unwind_step::{Stepped, step};
+
+/// The registers of a frame, in the columns of x86-64.
+#[repr(C)]
+#[derive(Clone, Copy, Debug, PartialEq, Eq)]
+pub struct FramesFrame {
+    pub columns: [u64; 17],
+    /// Column 16 is the address of the frame's instruction, and not one to which a call returns.
+    pub at_instruction: u64,
+    /// The address at which eight bytes were wanted.
+    pub missing: u64,
+}
+
+impl FramesFrame {
+    /// Where the frame is looked up: a call may be the last instruction of its function.
+    fn look(&self) -> u64
+        ensures { result ≡ frame_look self.now }
+    {
+        let pc = self.columns[16];
+        if self.at_instruction == 0 {
+            pc.wrapping_sub(1)
+        } else {
+            pc
+        }
+    }
+
+    /// What comes of it: 0 where it became the frame before.
+    fn take(&mut self, outcome: Stepped, signal: bool) -> u64
+        ensures outcome { result ≡ outcome_told outcome }
+        ensures frame { self.new ≡ frame_after signal outcome self.old }
+    {
+        match outcome {
+            Stepped::Frame { regs } => {
+                let columns = regs.columns;
+                self.columns = columns;
+                self.at_instruction = u64::from(signal);
+                0
+            }
+            Stepped::NoRow => 2,
+            Stepped::Undefined => 3,
+            Stepped::NoBytes { address } => {
+                self.missing = address;
+                4
+            }
+        }
+    }
+}
+
+/// Makes of a frame the one before it.
+fn step_in(section: &Section, memory: &Memory, frame: &mut FramesFrame) -> u64
+    ensures { AnswersStep section.now memory.now frame.old result frame.new }
+{
+    let look = frame.look();
+    match section.fde_at(look) {
+        None => 1,
+        Some(fde) => {
+            let regs = Regs {
+                columns: frame.columns,
+            };
+            let outcome = step(&fde, look, &regs, memory);
+            frame.take(outcome, fde.signal())
+        }
+    }
+}
+
+/// Makes of a frame the one before it, by the section and the recorded memory. What came of it: 0
+/// the frame, 1 no FDE covers the address, 2 no row leads to a frame, 3 it was the outermost, 4
+/// bytes were wanted that weren't recorded. The registers change where it is 0 alone.
+#[unsafe(no_mangle)]
+pub extern "C" fn frames_c_step(
+    alloc: Global,
+    section: SectionHandle,
+    memory: MemoryHandle,
+    frame: &mut FramesFrame,
+    back: &mut SectionHandle,
+    memory_back: &mut MemoryHandle,
+) -> u64
+    requires held { IsHeld section.held }
+    requires recorded { IsRecorded memory.held }
+    requires back { IsVacant back.old.held }
+    requires memory_back { HasNone memory_back.old.held }
+    ensures back { back.new.held ≡ section.held }
+    ensures memory_back { memory_back.new.held ≡ memory.held }
+    ensures step { AnswersStep (held_section section.held) (recorded_in memory.held)
+        frame.old result frame.new }
+{
+    let share = section.open(alloc);
+    let recorded = memory.open(alloc);
+    let outcome = step_in(share.section(), &recorded, frame);
+    *memory_back = MemoryHandle::of(recorded);
+    *back = SectionHandle::of(share);
+    outcome
+}
