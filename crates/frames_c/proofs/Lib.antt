@@ -1,3 +1,4 @@
 mod Boxes
 mod Covers
 mod MemoryBoxes
+mod Tables

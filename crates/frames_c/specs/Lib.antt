@@ -7,3 +7,5 @@ pub mod Rows
 pub mod MemoryHandles
 pub mod Recorded
 pub mod FrameSteps
+pub mod TableEntries
+pub mod Batches

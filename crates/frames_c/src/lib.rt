@@ -1,6 +1,7 @@
 //! Frames for C and C++: sections of `.eh_frame` behind a handle that C keeps.
 #![tactic(auto)]
 
+mod batch;
 mod find;
 mod handle;
 mod load;
@@ -11,7 +12,9 @@ mod refusal;
 mod row;
 mod share;
 mod step;
+mod table;
 
+pub use batch::frames_c_rows;
 pub use find::{FramesFde, frames_c_find};
 pub use handle::SectionHandle;
 pub use load::{frames_c_count, frames_c_free, frames_c_read, frames_c_share};
@@ -21,3 +24,4 @@ pub use refusal::FramesRefusal;
 pub use row::{FramesRow, frames_c_row};
 pub use share::{LoadedSection, SectionShare};
 pub use step::{FramesFrame, frames_c_step};
+pub use table::{FramesEntry, frames_c_search, frames_c_table};

@@ -1,0 +1,64 @@
+//! The rows of many addresses at once.
+
+ghost use Rattle.std.specs.Prelude.{◌≡◌, ◌≢◌, ◌<◌, ℕ, length, true, false, slice_index};
+ghost use Rattle.unwind_step.specs.Backtrace.{fde_in};
+ghost use Rattle.frames_c.specs.Held.{IsHeld, IsVacant, held_section};
+ghost use Rattle.frames_c.specs.Batches.{no_row, IsBatchRow, AreRowsBelow, AnswersRows};
+
+use crate::handle::SectionHandle;
+use crate::row::{FramesRow, row_in};
+use frame_parse::Section;
+use std::alloc::Global;
+
+/// The row of an address that no FDE covers, in a batch.
+const NO_ROW: FramesRow = FramesRow {
+    cfa: 3,
+    cfa_column: 0,
+    cfa_offset: 0,
+    rules: [0; 17],
+    numbers: [0; 17],
+};
+
+/// Writes the row of an address, or that no FDE covers it.
+fn write_row(section: &Section, pc: u64, out: &mut FramesRow)
+    ensures { IsBatchRow section.now pc out.new }
+{
+    if !row_in(section, pc, out) {
+        *out = NO_ROW;
+    }
+}
+
+/// Writes the row of each address in its place.
+fn write_rows(section: &Section, pcs: &[u64], rows: &mut [FramesRow])
+    requires { length rows.old ≡ length pcs.now }
+    ensures rows { AreRowsBelow (length pcs.now) section.now pcs.now rows.new }
+    ensures length { length rows.new ≡ length pcs.now }
+{
+    for index in 0..pcs.len() {
+        write_row(section, pcs[index], &mut rows[index]);
+    }
+}
+
+/// The rows of many addresses, each in the place of its address. One that no FDE covers has a CFA
+/// rule of kind 3. False where there aren't as many rows as addresses, and then nothing is written.
+#[unsafe(no_mangle)]
+pub extern "C" fn frames_c_rows(
+    alloc: Global,
+    section: SectionHandle,
+    pcs: &[u64],
+    rows: &mut [FramesRow],
+    back: &mut SectionHandle,
+) -> bool
+    requires held { IsHeld section.held }
+    requires back { IsVacant back.old.held }
+    ensures back { back.new.held ≡ section.held }
+    ensures rows { AnswersRows (held_section section.held) pcs.now rows.old result rows.new }
+{
+    let fits = rows.len() == pcs.len();
+    let share = section.open(alloc);
+    if fits {
+        write_rows(share.section(), pcs, rows);
+    }
+    *back = SectionHandle::of(share);
+    fits
+}
