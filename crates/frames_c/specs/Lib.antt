@@ -9,3 +9,4 @@ pub mod Recorded
 pub mod FrameSteps
 pub mod TableEntries
 pub mod Batches
+pub mod HeaderAnswers

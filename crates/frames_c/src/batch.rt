@@ -7,7 +7,7 @@ ghost use Rattle.frames_c.specs.Batches.{no_row, IsBatchRow, AreRowsBelow, Answe
 
 use crate::handle::SectionHandle;
 use crate::row::{FramesRow, row_in};
-use frame_parse::Section;
+use crate::share::LoadedSection;
 use std::alloc::Global;
 
 /// The row of an address that no FDE covers, in a batch.
@@ -20,7 +20,7 @@ const NO_ROW: FramesRow = FramesRow {
 };
 
 /// Writes the row of an address, or that no FDE covers it.
-fn write_row(section: &Section, pc: u64, out: &mut FramesRow)
+fn write_row(section: &LoadedSection, pc: u64, out: &mut FramesRow)
     ensures { IsBatchRow section.now pc out.new }
 {
     if !row_in(section, pc, out) {
@@ -29,7 +29,7 @@ fn write_row(section: &Section, pc: u64, out: &mut FramesRow)
 }
 
 /// Writes the row of each address in its place.
-fn write_rows(section: &Section, pcs: &[u64], rows: &mut [FramesRow])
+fn write_rows(section: &LoadedSection, pcs: &[u64], rows: &mut [FramesRow])
     requires { length rows.old ≡ length pcs.now }
     ensures rows { AreRowsBelow (length pcs.now) section.now pcs.now rows.new }
     ensures length { length rows.new ≡ length pcs.now }
@@ -57,7 +57,7 @@ pub extern "C" fn frames_c_rows(
     let fits = rows.len() == pcs.len();
     let share = section.open(alloc);
     if fits {
-        write_rows(share.section(), pcs, rows);
+        write_rows(share.loaded(), pcs, rows);
     }
     *back = SectionHandle::of(share);
     fits

@@ -1,13 +1,14 @@
 //! The FDE of an address.
 
-ghost use Rattle.std.specs.Prelude.{◌≡◌, ◌<◌, ◌^◌, length};
+ghost use Rattle.std.specs.Prelude.{◌≡◌, ◌<◌, ◌^◌};
 ghost use Rattle.std.specs.Option.{option_map, unwrap_or};
 ghost use Rattle.frame_parse.specs.Sections.{first_cover};
 ghost use Rattle.frames_c.specs.Held.{IsHeld, IsVacant, held_section};
 ghost use Rattle.frames_c.specs.Fdes.{fde_told, flag, is_there};
 
 use crate::handle::SectionHandle;
-use frame_parse::{Fde, Section};
+use crate::share::LoadedSection;
+use frame_parse::Fde;
 use std::alloc::Global;
 
 /// An FDE. What it hasn't is 0, and its flag too.
@@ -51,13 +52,11 @@ fn flag(holds: bool) -> u8
 }
 
 /// Writes the FDE of an address, where there is one.
-fn find(section: &Section, pc: u64, out: &mut FramesFde) -> bool
-    requires { length section.now.bytes < 2 ^ 32 }
+fn find(section: &LoadedSection, pc: u64, out: &mut FramesFde) -> bool
     ensures found { result ≡ is_there (first_cover pc section.now.fdes) }
     ensures fde { out.new
         ≡ unwrap_or (option_map fde_told (first_cover pc section.now.fdes)) out.old }
 {
-    section.known();
     match section.fde_at(pc) {
         None => false,
         Some(fde) => {
@@ -85,7 +84,7 @@ pub extern "C" fn frames_c_find(
         (option_map fde_told (first_cover pc (held_section section.held).fdes)) out.old }
 {
     let share = section.open(alloc);
-    let found = find(share.section(), pc, out);
+    let found = find(share.loaded(), pc, out);
     *back = SectionHandle::of(share);
     found
 }

@@ -4,6 +4,7 @@
 mod batch;
 mod find;
 mod handle;
+mod header;
 mod load;
 mod memory;
 mod parts;
@@ -17,6 +18,7 @@ mod table;
 pub use batch::frames_c_rows;
 pub use find::{FramesFde, frames_c_find};
 pub use handle::SectionHandle;
+pub use header::{FramesHeader, frames_c_read_with_header};
 pub use load::{frames_c_count, frames_c_free, frames_c_read, frames_c_share};
 pub use memory::MemoryHandle;
 pub use record::{frames_c_memory, frames_c_memory_free, frames_c_memory_push};

@@ -1,6 +1,8 @@
 //! Sections are read, shared and freed.
 
 ghost use Rattle.std.specs.Prelude.{◌≡◌, true, false, length, IfOk, IfErr, IfSome};
+ghost use Rattle.frame_parse.specs.declared.fault.FrameFault.TheVariants.{NoMemory};
+ghost use Rattle.frames_c.specs.declared.refusal.LoadFault.TheVariants.{Frames};
 ghost use Rattle.frames_c.specs.Held.{IsHeld, IsVacant, held_section};
 ghost use Rattle.frames_c.specs.Loads.{IsLoaded, LeadsToLoaded};
 ghost use Rattle.frames_c.specs.Refusals.{IsLoadFault, IsToldRefusal};
@@ -11,19 +13,29 @@ use crate::share::{LoadedSection, SectionShare};
 use frame_parse::{FrameFault, Section};
 use std::alloc::Global;
 
-/// The section of bytes at an address, in a box of its own.
-fn load(alloc: Global, address: u64, bytes: &[u8]) -> Result<Box<SectionShare, Global>, LoadFault>
-    ensures loaded { IfOk result (λ share. IsLoaded address bytes.now share.value) }
+/// The section of bytes at an address.
+pub(crate) fn read_section(alloc: Global, address: u64, bytes: &[u8]) -> Result<Section, LoadFault>
+    ensures read { IfOk result (IsLoaded address bytes.now) }
     ensures fault { IfErr result (IsLoadFault address bytes.now) }
 {
     if bytes.len() > u32::MAX as usize {
         return Err(LoadFault::Long);
     }
-    let section = match Section::read(alloc, address, bytes) {
-        Ok(section) => section,
-        Err(fault) => return Err(LoadFault::Frames(fault)),
-    };
-    let share = match SectionShare::new(alloc, LoadedSection::new(section)) {
+    match Section::read(alloc, address, bytes) {
+        Ok(section) => Ok(section),
+        Err(fault) => Err(LoadFault::Frames(fault)),
+    }
+}
+
+/// The first share of a section, in a box of its own.
+pub(crate) fn shared(
+    alloc: Global,
+    loaded: LoadedSection,
+) -> Result<Box<SectionShare, Global>, LoadFault>
+    ensures share { IfOk result (λ share. share.value ≡ loaded) }
+    ensures fault { IfErr result (λ f. f ≡ Frames NoMemory) }
+{
+    let share = match SectionShare::new(alloc, loaded) {
         Ok(share) => share,
         Err(_) => return Err(LoadFault::Frames(FrameFault::NoMemory)),
     };
@@ -31,6 +43,14 @@ fn load(alloc: Global, address: u64, bytes: &[u8]) -> Result<Box<SectionShare, G
         Ok(boxed) => Ok(boxed),
         Err(_) => Err(LoadFault::Frames(FrameFault::NoMemory)),
     }
+}
+
+fn load(alloc: Global, address: u64, bytes: &[u8]) -> Result<Box<SectionShare, Global>, LoadFault>
+    ensures loaded { IfOk result (λ share. IsLoaded address bytes.now share.value) }
+    ensures fault { IfErr result (IsLoadFault address bytes.now) }
+{
+    let section = read_section(alloc, address, bytes)?;
+    shared(alloc, LoadedSection::new(section, None))
 }
 
 /// Reads the section whose bytes stand at an address. The bytes are copied.
@@ -108,7 +128,7 @@ pub extern "C" fn frames_c_count(
     ensures count { result ≡ length (held_section section.held).fdes }
 {
     let share = section.open(alloc);
-    let count = share.section().count();
+    let count = share.loaded().section().count();
     *back = SectionHandle::of(share);
     count
 }

@@ -11,7 +11,8 @@ ghost use Rattle.frames_c.specs.Rows.{rule_kind, rule_number, cfa_kind, cfa_colu
 ghost use Rattle.frames_c.specs.Rows.{AreToldRules, IsToldRow, IsRowOf, AnswersRow};
 
 use crate::handle::SectionHandle;
-use frame_parse::{Fde, Section};
+use crate::share::LoadedSection;
+use frame_parse::Fde;
 use frame_rows::{CfaRule, Row, Rule, row_at};
 use std::alloc::Global;
 
@@ -93,7 +94,7 @@ fn write_row(fde: &Fde<'_>, pc: u64, out: &mut FramesRow)
 }
 
 /// Writes the row of an address, where an FDE covers it.
-pub(crate) fn row_in(section: &Section, pc: u64, out: &mut FramesRow) -> bool
+pub(crate) fn row_in(section: &LoadedSection, pc: u64, out: &mut FramesRow) -> bool
     ensures { AnswersRow (fde_in pc section.now) pc result out.old out.new }
 {
     match section.fde_at(pc) {
@@ -121,7 +122,7 @@ pub extern "C" fn frames_c_row(
     ensures row { AnswersRow (fde_in pc (held_section section.held)) pc result out.old out.new }
 {
     let share = section.open(alloc);
-    let found = row_in(share.section(), pc, out);
+    let found = row_in(share.loaded(), pc, out);
     *back = SectionHandle::of(share);
     found
 }

@@ -1,42 +1,64 @@
 //! What the handle of a section leads to.
 
-ghost use Rattle.std.specs.Prelude.{◌≡◌, ◌<◌, ◌^◌, IfOk, length};
+ghost use Rattle.std.specs.Prelude.{◌≡◌, ◌<◌, ◌^◌, IfOk, IfSome, length};
+ghost use Rattle.std.specs.Option.{option_map};
+ghost use Rattle.eh_hdr.specs.Tables.{IsSortedTable};
+ghost use Rattle.frame_parse.specs.Sections.{first_cover};
 
-use frame_parse::Section;
+use eh_hdr::SearchTable;
+use frame_parse::{Fde, Section};
 use std::alloc::{AllocError, Global};
 use std::marker::Model;
 use std::sync::Arc;
 
-/// A section whose places are numbers of four bytes.
+/// A section whose places are numbers of four bytes, and the table of its header, where it was read
+/// with one.
 #[derive(Drop)]
 pub struct LoadedSection {
     section: Section,
+    table: Option<SearchTable>,
 }
 
 impl Model for LoadedSection {
-    ghost use Rattle.std.specs.Prelude.{◌<◌, ◌^◌, length};
+    ghost use Rattle.std.specs.Prelude.{◌<◌, ◌^◌, length, IfSome};
+    ghost use Rattle.eh_hdr.specs.Tables.{IsSortedTable};
     ghost use Rattle.frame_parse.specs.Sections.{SectionData};
 
     ghost Value = { SectionData };
 
     ghost view = { λ l. l.section };
 
-    ghost invariant = { λ l. length l.section.bytes < 2 ^ 32 };
+    ghost invariant = { λ l. (length l.section.bytes < 2 ^ 32)
+        × IfSome l.table (IsSortedTable l.section.fdes) };
 }
 
 impl LoadedSection {
-    pub(crate) fn new(section: Section) -> LoadedSection
-        requires { length section.bytes < 2 ^ 32 }
+    pub(crate) fn new(section: Section, table: Option<SearchTable>) -> LoadedSection
+        requires short { length section.bytes < 2 ^ 32 }
+        requires table { IfSome table (IsSortedTable section.fdes) }
         ensures { result ≡ section }
     {
-        LoadedSection { section }
+        LoadedSection { section, table }
     }
 
     pub(crate) fn section(&self) -> &Section
-        ensures section { result.now ≡ self.now }
-        ensures short { length result.now.bytes < 2 ^ 32 }
+        ensures { result.now ≡ self.now }
     {
         &self.section
+    }
+
+    /// The first FDE in order of bytes that covers an address, by the table where there is one.
+    pub(crate) fn fde_at(&self, pc: u64) -> Option<Fde<'_>>
+        ensures entry { option_map (λ f. f.entry) result ≡ first_cover pc self.now.fdes }
+        ensures section { IfSome result
+            (λ f. (f.section ≡ self.now.address) × (f.bytes ≡ self.now.bytes)) }
+        ensures place { IfSome result (λ f. f.entry.start < 2 ^ 32) }
+    {
+        self.section.known();
+        match &self.table {
+            None => self.section.fde_at(pc),
+            Some(table) => table.fde_at(&self.section, pc),
+        }
     }
 }
 
@@ -74,10 +96,9 @@ impl SectionShare {
         Ok(SectionShare { loaded })
     }
 
-    pub(crate) fn section(&self) -> &Section
-        ensures section { result.now ≡ self.now }
-        ensures short { length result.now.bytes < 2 ^ 32 }
+    pub(crate) fn loaded(&self) -> &LoadedSection
+        ensures { result.now ≡ self.now }
     {
-        self.loaded.section()
+        &self.loaded
     }
 }

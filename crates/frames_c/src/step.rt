@@ -12,7 +12,7 @@ ghost use Rattle.frames_c.specs.FrameSteps.{frame_look, outcome_told, frame_afte
 use crate::handle::SectionHandle;
 use crate::memory::MemoryHandle;
 use frame_expr::{Memory, Regs};
-use frame_parse::Section;
+use crate::share::LoadedSection;
 use std::alloc::Global;
 use unwind_step::{Stepped, step};
 
@@ -63,7 +63,7 @@ impl FramesFrame {
 }
 
 /// Makes of a frame the one before it.
-fn step_in(section: &Section, memory: &Memory, frame: &mut FramesFrame) -> u64
+fn step_in(section: &LoadedSection, memory: &Memory, frame: &mut FramesFrame) -> u64
     ensures { AnswersStep section.now memory.now frame.old result frame.new }
 {
     let look = frame.look();
@@ -102,7 +102,7 @@ pub extern "C" fn frames_c_step(
 {
     let share = section.open(alloc);
     let recorded = memory.open(alloc);
-    let outcome = step_in(share.section(), &recorded, frame);
+    let outcome = step_in(share.loaded(), &recorded, frame);
     *memory_back = MemoryHandle::of(recorded);
     *back = SectionHandle::of(share);
     outcome

@@ -115,7 +115,7 @@ pub extern "C" fn frames_c_table(
         entries.new }
 {
     let share = section.open(alloc);
-    let (made, entries_made) = table(share.section(), entries);
+    let (made, entries_made) = table(share.loaded().section(), entries);
     *count = entries_made;
     *back = SectionHandle::of(share);
     made

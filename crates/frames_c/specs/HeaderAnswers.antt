@@ -1,0 +1,35 @@
+-- What came of a header, as C is told.
+use Rattle.std.specs.Prelude.{◌≡◌, ◌⊎◌, ℕ, List, Option, Some}
+use Rattle.eh_hdr.specs.Headers.{IsHeader, IsRefusedHeader}
+use Rattle.eh_hdr.specs.declared.fault.HeaderFault.{HeaderFault}
+use Rattle.eh_hdr.specs.declared.fault.HeaderFault.TheVariants as faults
+use Rattle.eh_hdr.specs.declared.table.TableEntry.{TableEntry}
+use Rattle.frame_parse.specs.Sections.{SectionData}
+use Rattle.frames_c.specs.declared.header.FramesHeader.{FramesHeader}
+
+abbrev pub header_accepted : FramesHeader
+header_accepted = record { accepted = 1; kind = 0; at = 0 }
+
+-- a refusal by its kind and its place
+abbrev pub header_refused : HeaderFault → FramesHeader
+header_refused faults.NoMemory = record { accepted = 0; kind = 0; at = 0 }
+header_refused (faults.Short at) = record { accepted = 0; kind = 1; at = at }
+header_refused (faults.Version at) = record { accepted = 0; kind = 2; at = at }
+header_refused (faults.Encoding at) = record { accepted = 0; kind = 3; at = at }
+header_refused (faults.Section at) = record { accepted = 0; kind = 4; at = at }
+header_refused (faults.Count at) = record { accepted = 0; kind = 5; at = at }
+header_refused (faults.Fde at) = record { accepted = 0; kind = 6; at = at }
+header_refused (faults.Order at) = record { accepted = 0; kind = 7; at = at }
+header_refused (faults.Overlap at) = record { accepted = 0; kind = 8; at = at }
+
+-- the bytes begin with a header of this section, or this is their first refusal, or memory ran out
+abbrev pub IsTold : ℕ → SectionData → List ℕ → FramesHeader → Type 0
+IsTold address section bytes told =
+    ((t : Option (List TableEntry)) × IsHeader address section bytes t × (told ≡ header_accepted))
+    ⊎ ((f : HeaderFault) × ((f ≡ faults.NoMemory) ⊎ IsRefusedHeader address section bytes f)
+    × (told ≡ header_refused f))
+
+-- the same of the section to which a handle leads
+abbrev pub LeadsWithHeader : ℕ → List ℕ → Option SectionData → FramesHeader → Type 0
+LeadsWithHeader address bytes held told =
+    (section : SectionData) × (held ≡ Some section) × IsTold address section bytes told

@@ -1,0 +1,139 @@
+//! A section with its header is read in one call.
+
+ghost use Rattle.std.specs.Prelude.{◌≡◌, ◌⊎◌, ◌<◌, ◌^◌, length, true, false, IfOk, IfErr};
+ghost use Rattle.eh_hdr.specs.Headers.{IsHeader, IsRefusedHeader};
+ghost use Rattle.eh_hdr.specs.Tables.{IsSortedTable};
+ghost use Rattle.eh_hdr.specs.declared.fault.HeaderFault.TheVariants.{NoMemory};
+ghost use Rattle.frame_parse.specs.Sections.{SectionData};
+ghost use Rattle.frames_c.specs.Held.{IsVacant};
+ghost use Rattle.frames_c.specs.Loads.{IsLoaded, LeadsToLoaded};
+ghost use Rattle.frames_c.specs.Refusals.{IsLoadFault, IsToldRefusal};
+ghost use Rattle.frames_c.specs.HeaderAnswers.{header_refused, IsTold, LeadsWithHeader};
+
+use crate::handle::SectionHandle;
+use crate::load::{read_section, shared};
+use crate::refusal::FramesRefusal;
+use crate::share::LoadedSection;
+use eh_hdr::{Header, HeaderFault, SearchTable};
+use frame_parse::Section;
+use std::alloc::Global;
+
+/// What came of a header: whether it is accepted, else the kind of its refusal and the place that is
+/// refused.
+#[repr(C)]
+#[derive(Clone, Copy, Debug, PartialEq, Eq)]
+pub struct FramesHeader {
+    pub accepted: u64,
+    pub kind: u64,
+    pub at: u64,
+}
+
+impl FramesHeader {
+    fn refused(fault: HeaderFault) -> FramesHeader
+        ensures { result ≡ header_refused fault }
+    {
+        let (kind, at) = match fault {
+            HeaderFault::NoMemory => (0, 0),
+            HeaderFault::Short { at } => (1, at),
+            HeaderFault::Version { at } => (2, at),
+            HeaderFault::Encoding { at } => (3, at),
+            HeaderFault::Section { at } => (4, at),
+            HeaderFault::Count { at } => (5, at),
+            HeaderFault::Fde { at } => (6, at),
+            HeaderFault::Order { at } => (7, at),
+            HeaderFault::Overlap { at } => (8, at),
+        };
+        FramesHeader {
+            accepted: 0,
+            kind,
+            at: at as u64,
+        }
+    }
+}
+
+/// The table of a section's header.
+fn read_table(
+    alloc: Global,
+    address: u64,
+    bytes: &[u8],
+    section: &Section,
+) -> Result<SearchTable, HeaderFault>
+    ensures found { IfOk result (IsHeader address section.now bytes.now) }
+    ensures sorted { IfOk result (IsSortedTable section.now.fdes) }
+    ensures refused { IfErr result (λ f. (f ≡ NoMemory)
+        ⊎ IsRefusedHeader address section.now bytes.now f) }
+{
+    match Header::read(alloc, address, bytes, section) {
+        Ok(header) => Ok(header.into_table()),
+        Err(fault) => Err(fault),
+    }
+}
+
+/// A section with the table of its header, where the header is accepted. What came of that is told.
+fn with_table(
+    alloc: Global,
+    section: Section,
+    address: u64,
+    bytes: &[u8],
+    told: &mut FramesHeader,
+) -> LoadedSection
+    requires { length section.bytes < 2 ^ 32 }
+    ensures section { result ≡ section }
+    ensures told { IsTold address section bytes.now told.new }
+{
+    match read_table(alloc, address, bytes, &section) {
+        Ok(table) => {
+            *told = FramesHeader {
+                accepted: 1,
+                kind: 0,
+                at: 0,
+            };
+            LoadedSection::new(section, Some(table))
+        }
+        Err(fault) => {
+            *told = FramesHeader::refused(fault);
+            LoadedSection::new(section, None)
+        }
+    }
+}
+
+/// Reads the section whose bytes stand at an address, and then the header at another, whose table
+/// serves the lookups. What came of the header is told where there is a section. Where the header is
+/// refused, the section's own order serves.
+#[unsafe(no_mangle)]
+pub extern "C" fn frames_c_read_with_header(
+    alloc: Global,
+    address: u64,
+    bytes: &[u8],
+    header_address: u64,
+    header: &[u8],
+    refusal: &mut FramesRefusal,
+    told: &mut FramesHeader,
+    out: &mut SectionHandle,
+) -> bool
+    requires out { IsVacant out.old.held }
+    ensures section { result ≡ true → LeadsToLoaded address bytes.now out.new.held }
+    ensures header { result ≡ true
+        → LeadsWithHeader header_address header.now out.new.held told.new }
+    ensures refusal { result ≡ false → IsToldRefusal address bytes.now refusal.new }
+    ensures nothing { result ≡ false → IsVacant out.new.held }
+{
+    let section = match read_section(alloc, address, bytes) {
+        Ok(section) => section,
+        Err(fault) => {
+            *refusal = FramesRefusal::of_load(fault);
+            return false;
+        }
+    };
+    let loaded = with_table(alloc, section, header_address, header, told);
+    match shared(alloc, loaded) {
+        Ok(share) => {
+            *out = SectionHandle::of(share);
+            true
+        }
+        Err(fault) => {
+            *refusal = FramesRefusal::of_load(fault);
+            false
+        }
+    }
+}
