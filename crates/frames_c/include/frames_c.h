@@ -1,21 +1,22 @@
-/* Sections of .eh_frame for C and C++.
+/* Sections of .eh_frame for C and C++: FDEs, rows, and one frame from another.
  *
- * Every answer below is proved to be the one that the comment beside it says, for every call whose
- * caller keeps to what follows. Nothing checks a caller: what C owes is C's.
+ * Each answer below is proved to be what the comment beside it says, for every call whose caller
+ * keeps to what follows. Nothing checks that: it is what C owes.
  *
- *   - `bytes` and other arrays are readable for their length, and nobody writes them while the call
- *     runs. An array of length 0 still has an address that isn't null.
- *   - What a pointer is named for writing leads to (`out`, `back`, `refusal`, ..) is writable, aligned,
- *     and apart from everything else that the call is given.
- *   - A section is one pointer, and C owns it from the call that wrote it until `frames_c_free`. A
- *     call takes it by value and gives it back through `back`: while the call runs C holds nothing.
- *     Never pass one that was freed or passed and not given back, and never read what it leads to.
- *   - Each share of a section is used by one thread at a time; with one share for each thread they
- *     don't meet. A share goes from one thread to another in order: by a lock, or by a thread's start
- *     or join.
- *   - malloc, realloc and free are those of the program. `frames_c_read`, `frames_c_share` and
- *     `frames_c_free` call them, so none of these is called in a signal handler, or in the forked child
- *     of a process with threads. No other call here takes or frees memory, or waits.
+ *   - An array is readable for its length, and nobody writes it while the call runs. One of length
+ *     0 has an address too, which isn't null.
+ *   - What a call writes (`out`, `back`, `refusal`, `told`, `frame`, `entries`, `rows`, `count`) is
+ *     writable, aligned, and apart from all else that the call is given. What it holds before
+ *     doesn't matter, but for the registers of a frame, and for a handle: that holds nothing.
+ *   - A section, and recorded memory, is one pointer. C owns it from the call that wrote it until it
+ *     is freed. A call takes it by value and gives it back through `back`, which may be the same
+ *     variable: frames_c_count(section, &section). Never pass one that was freed, or passed and not
+ *     given back, and never read or copy what it leads to.
+ *   - Each share of a section is used by one thread at a time. Threads with a share each don't meet.
+ *     A share goes from one thread to another in order: by a lock, or by a thread's start or join.
+ *   - malloc, realloc and free are those of the program, and don't fail but by NULL. The calls that
+ *     read, share, record or free call them: none of these in a signal handler, or in the forked
+ *     child of a process with threads. No other call takes memory, frees it, or waits.
  */
 #ifndef FRAMES_C_H
 #define FRAMES_C_H
@@ -28,7 +29,9 @@
 extern "C" {
 #endif
 
-/* A share of a section, or nothing. */
+/* ---- sections ---------------------------------------------------------------------------------- */
+
+/* A share of a section, or nothing: {0}. */
 typedef struct {
   void *at;
 } frames_section;
@@ -42,24 +45,67 @@ typedef struct {
   uint64_t detail;
 } frames_refusal;
 
-enum {
-  FRAMES_NO_MEMORY = 0,    /* memory ran out, which says nothing of the bytes           */
-  FRAMES_SHORT = 1,        /* a record, a field, a text, data or a block isn't whole    */
-  FRAMES_TOO_WIDE = 2,     /* a LEB128 number doesn't fit 64 bits                       */
-  FRAMES_ENCODING = 3,     /* a pointer encoding isn't accepted in its place            */
-  FRAMES_NO_CIE = 4,       /* the record doesn't lead back to an earlier CIE            */
-  FRAMES_VERSION = 5,      /* the version of a CIE is neither 1 nor 3                   */
-  FRAMES_AUGMENTATION = 6, /* the augmentation isn't one that is known                  */
-  FRAMES_COLUMN = 7,       /* a column above 16, or another return column than 16       */
-  FRAMES_RANGE = 8,        /* a range is negative or leads past the last address        */
-  FRAMES_OPCODE = 9,       /* no instruction begins with the byte                       */
-  FRAMES_LOCATION = 10,    /* the location moves in a CIE, back, or past the last one   */
-  FRAMES_REMEMBER = 11,    /* a state is restored that wasn't remembered, or a ninth is */
-  FRAMES_OPERATION = 12,   /* no operation of an expression begins with the byte        */
-  FRAMES_DEPTH = 13,       /* an operation finds too few numbers, or leaves too many    */
-  FRAMES_CFA_RULE = 14,    /* a part of a CFA rule that isn't a column plus an offset   */
-  FRAMES_TOO_LONG = 15     /* 2^32 bytes or more                                        */
+enum frames_refusal_kind {
+  FRAMES_NO_MEMORY = 0,    /* memory ran out, which says nothing of the bytes            */
+  FRAMES_SHORT = 1,        /* a record, a field, a text, data or a block isn't whole     */
+  FRAMES_TOO_WIDE = 2,     /* a LEB128 number doesn't fit 64 bits                        */
+  FRAMES_ENCODING = 3,     /* a pointer encoding isn't accepted in its place             */
+  FRAMES_NO_CIE = 4,       /* the record doesn't lead back to an earlier CIE             */
+  FRAMES_VERSION = 5,      /* the version of a CIE is neither 1 nor 3                    */
+  FRAMES_AUGMENTATION = 6, /* the augmentation isn't one that is known                   */
+  FRAMES_COLUMN = 7,       /* a column above 16, or another return column than 16        */
+  FRAMES_RANGE = 8,        /* a range is negative or leads past the last address         */
+  FRAMES_OPCODE = 9,       /* no instruction begins with the byte                        */
+  FRAMES_LOCATION = 10,    /* the location moves in a CIE, back, or past the last address */
+  FRAMES_REMEMBER = 11,    /* a state is restored that wasn't remembered, or a ninth is  */
+  FRAMES_OPERATION = 12,   /* no operation of an expression begins with the byte         */
+  FRAMES_DEPTH = 13,       /* an operation finds too few numbers, or leaves too many     */
+  FRAMES_CFA_RULE = 14,    /* a part of a CFA rule that isn't a column plus an offset    */
+  FRAMES_TOO_LONG = 15     /* the section has 2^32 bytes or more                         */
 };
+
+/* Reads the section whose bytes stand at an address; the bytes are copied. True: `out` has the first
+ * share. False: `refusal` says why there is none, the first in order of bytes. */
+bool frames_c_read(uint64_t address, const uint8_t *bytes, size_t length, frames_refusal *refusal,
+                   frames_section *out);
+
+/* What came of a header. `kind` and `at`, the place that is refused, are 0 where it is accepted. */
+typedef struct {
+  uint64_t accepted;
+  uint64_t kind;
+  uint64_t at;
+} frames_header;
+
+enum frames_header_kind {
+  FRAMES_HEADER_NO_MEMORY = 0, /* memory ran out, which says nothing of the bytes          */
+  FRAMES_HEADER_SHORT = 1,     /* a field isn't whole                                      */
+  FRAMES_HEADER_VERSION = 2,   /* the version isn't 1                                      */
+  FRAMES_HEADER_ENCODING = 3,  /* other encodings than linkers write                       */
+  FRAMES_HEADER_SECTION = 4,   /* the pointer doesn't lead to the section                  */
+  FRAMES_HEADER_COUNT = 5,     /* there aren't as many entries as FDEs                     */
+  FRAMES_HEADER_FDE = 6,       /* an entry doesn't name an FDE with its first address      */
+  FRAMES_HEADER_ORDER = 7,     /* an entry's location isn't above that of the entry before */
+  FRAMES_HEADER_OVERLAP = 8    /* the FDE of the entry before reaches past the location    */
+};
+
+/* The same with the header (.eh_frame_hdr) at another address, whose table then serves the lookups.
+ * Where there is a section, `told` says what came of the header. A header that is refused changes no
+ * answer: the section's own order serves. */
+bool frames_c_read_with_header(uint64_t address, const uint8_t *bytes, size_t length,
+                               uint64_t header_address, const uint8_t *header,
+                               size_t header_length, frames_refusal *refusal, frames_header *told,
+                               frames_section *out);
+
+/* Another share of the same section, which is freed by itself. False: memory ran out. */
+bool frames_c_share(frames_section section, frames_section *out, frames_section *back);
+
+/* Frees a share, and the section with its last one. */
+void frames_c_free(frames_section section);
+
+/* How many FDEs there are. */
+size_t frames_c_count(frames_section section, frames_section *back);
+
+/* ---- FDEs -------------------------------------------------------------------------------------- */
 
 /* An FDE. What it hasn't is 0, and its flag too. `place` is that of its first byte, the first of its
  * length, among the bytes of the section. */
@@ -74,24 +120,114 @@ typedef struct {
   uint32_t place;
 } frames_fde;
 
-/* Reads the section whose bytes stand at an address; the bytes are copied. True: `out` has the first
- * share. False: `refusal` says why there is none, the first in order of bytes, and `out` is as it was.
- * `out` holds no share before. */
-bool frames_c_read(uint64_t address, const uint8_t *bytes, size_t length, frames_refusal *refusal,
-                   frames_section *out);
-
-/* Another share of the same section, which is freed by itself. False: memory ran out. `out` holds no
- * share before. */
-bool frames_c_share(frames_section section, frames_section *out, frames_section *back);
-
-/* Frees a share, and the section with its last one. */
-void frames_c_free(frames_section section);
-
-/* How many FDEs there are. */
-size_t frames_c_count(frames_section section, frames_section *back);
-
 /* The first FDE in order of bytes that covers an address. False: none does, and `out` is as it was. */
 bool frames_c_find(frames_section section, uint64_t pc, frames_fde *out, frames_section *back);
+
+/* The addresses of an FDE, and the place of its first byte. */
+typedef struct {
+  uint64_t first;
+  uint64_t range;
+  uint64_t place;
+} frames_entry;
+
+enum frames_table_made {
+  FRAMES_TABLE_MADE = 0,   /* the first `count` entries are a table                       */
+  FRAMES_TABLE_ROOM = 1,   /* there is less room than the section has FDEs: none written  */
+  FRAMES_TABLE_SHARED = 2  /* two FDEs share an address, so that no table finds the first */
+};
+
+/* Writes the FDEs that aren't empty in order of their first addresses. Where it is 2, the entries are
+ * all there, and are no table. */
+uint64_t frames_c_table(frames_section section, frames_entry *entries, size_t room, size_t *count,
+                        frames_section *back);
+
+/* The entry of a table that has an address: the one of the FDE that the section finds. False: none
+ * has, and `out` is as it was. Any number of threads search the same entries. Whatever the entries
+ * are, one that is written is one of them and has the address. */
+bool frames_c_search(const frames_entry *entries, size_t count, uint64_t pc, frames_entry *out);
+
+/* ---- rows -------------------------------------------------------------------------------------- */
+
+/* How the CFA and the columns 0 to 16 of the frame before are found: the registers of x86-64 by their
+ * DWARF numbers, and 16 the return address. */
+typedef struct {
+  uint64_t cfa;
+  uint64_t cfa_column;
+  uint64_t cfa_offset;
+  uint64_t rules[17];
+  uint64_t numbers[17];
+} frames_row;
+
+enum frames_cfa {
+  FRAMES_CFA_MISSING = 0,    /* no instruction says it                       */
+  FRAMES_CFA_OFFSET = 1,     /* the column plus the offset, modulo 2^64      */
+  FRAMES_CFA_EXPRESSION = 2, /* the value of an expression                   */
+  FRAMES_CFA_NO_FDE = 3      /* in a batch: no FDE covers the address        */
+};
+
+enum frames_rule {
+  FRAMES_UNSET = 0,          /* no instruction says it                       */
+  FRAMES_UNDEFINED = 1,
+  FRAMES_SAME = 2,
+  FRAMES_OFFSET = 3,         /* saved at the CFA plus the number             */
+  FRAMES_VAL_OFFSET = 4,     /* the CFA plus the number                      */
+  FRAMES_REGISTER = 5,       /* saved in the column with the number          */
+  FRAMES_EXPRESSION = 6,     /* saved at the value of an expression          */
+  FRAMES_VAL_EXPRESSION = 7  /* the value of an expression                   */
+};
+
+/* The row of an address. False: no FDE covers it, and `out` is as it was. */
+bool frames_c_row(frames_section section, uint64_t pc, frames_row *out, frames_section *back);
+
+/* The rows of many addresses, each in the place of its address. False: there aren't as many rows as
+ * addresses, and none is written. */
+bool frames_c_rows(frames_section section, const uint64_t *pcs, size_t count, frames_row *rows,
+                   size_t room, frames_section *back);
+
+/* ---- frames ------------------------------------------------------------------------------------ */
+
+/* Recorded memory, or nothing: {0}. One thread at a time uses it. */
+typedef struct {
+  void *at;
+} frames_memory;
+
+/* Memory without any region. False: memory ran out. */
+bool frames_c_memory(frames_memory *out);
+
+enum frames_recorded {
+  FRAMES_RECORDED = 0,
+  FRAMES_REGION_EMPTY = 1,    /* there are no bytes                             */
+  FRAMES_REGION_END = 2,      /* they reach past the last address               */
+  FRAMES_REGION_ORDER = 3,    /* they aren't above the region before            */
+  FRAMES_REGION_NO_MEMORY = 4 /* memory ran out                                 */
+};
+
+/* Records the bytes from an address on, above all that are recorded; they are copied. */
+uint64_t frames_c_memory_push(frames_memory memory, uint64_t address, const uint8_t *bytes,
+                              size_t length, frames_memory *back);
+
+void frames_c_memory_free(frames_memory memory);
+
+/* A frame: its registers, and whether column 16 is the address of its instruction (1: the innermost
+ * frame, or one that a signal interrupted) or one to which a call returns (0). It is looked up at
+ * column 16, or one below it. `missing` is the address at which eight bytes were wanted. */
+typedef struct {
+  uint64_t columns[17];
+  uint64_t at_instruction;
+  uint64_t missing;
+} frames_frame;
+
+enum frames_step {
+  FRAMES_FRAME = 0,      /* the frame is now the one before it                      */
+  FRAMES_NO_FDE = 1,     /* no FDE covers the address                               */
+  FRAMES_NO_ROW = 2,     /* no rule for the CFA, or none for the return address     */
+  FRAMES_OUTERMOST = 3,  /* the return address is undefined: there is none before   */
+  FRAMES_NO_BYTES = 4    /* the eight bytes at `missing` aren't recorded            */
+};
+
+/* Makes of a frame the one that called it. Where it isn't 0, the registers are as they were. */
+uint64_t frames_c_step(frames_section section, frames_memory memory, frames_frame *frame,
+                       frames_section *back, frames_memory *memory_back);
 
 #ifdef __cplusplus
 }
