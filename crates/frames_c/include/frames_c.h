@@ -8,12 +8,13 @@
  *   - What a call writes (`out`, `back`, `refusal`, `told`, `frame`, `entries`, `rows`, `count`) is
  *     writable, aligned, and apart from all else that the call is given. What it holds before
  *     doesn't matter, but for the registers of a frame, and for a handle: that holds nothing.
- *   - A section, and recorded memory, is one pointer. C owns it from the call that wrote it until it
- *     is freed. A call takes it by value and gives it back through `back`, which may be the same
+ *   - A section, and recorded memory, is one pointer. C owns it from the call that wrote it until
+ *     it is freed. A call takes it by value and gives it back through `back`, which may be the same
  *     variable: frames_c_count(section, &section). Never pass one that was freed, or passed and not
  *     given back, and never read or copy what it leads to.
- *   - Each share of a section is used by one thread at a time. Threads with a share each don't meet.
- *     A share goes from one thread to another in order: by a lock, or by a thread's start or join.
+ *   - Each share of a section is used by one thread at a time. Threads with a share each don't
+ *     meet. A share goes from one thread to another in order: by a lock, or by a thread's start or
+ *     join.
  *   - malloc, realloc and free are those of the program, and don't fail but by NULL. The calls that
  *     read, share, record or free call them: none of these in a signal handler, or in the forked
  *     child of a process with threads. No other call takes memory, frees it, or waits.
@@ -29,7 +30,7 @@
 extern "C" {
 #endif
 
-/* ---- sections ---------------------------------------------------------------------------------- */
+/* ---- sections -------------------------------------------------------------------------------- */
 
 /* A share of a section, or nothing: {0}. */
 typedef struct {
@@ -64,8 +65,8 @@ enum frames_refusal_kind {
   FRAMES_TOO_LONG = 15     /* the section has 2^32 bytes or more                         */
 };
 
-/* Reads the section whose bytes stand at an address; the bytes are copied. True: `out` has the first
- * share. False: `refusal` says why there is none, the first in order of bytes. */
+/* Reads the section whose bytes stand at an address; the bytes are copied. True: `out` has the
+ * first share. False: `refusal` says why there is none, the first in order of bytes. */
 bool frames_c_read(uint64_t address, const uint8_t *bytes, size_t length, frames_refusal *refusal,
                    frames_section *out);
 
@@ -88,9 +89,9 @@ enum frames_header_kind {
   FRAMES_HEADER_OVERLAP = 8    /* the FDE of the entry before reaches past the location    */
 };
 
-/* The same with the header (.eh_frame_hdr) at another address, whose table then serves the lookups.
- * Where there is a section, `told` says what came of the header. A header that is refused changes no
- * answer: the section's own order serves. */
+/* The same with the header (.eh_frame_hdr) at another address, whose table then serves the
+ * lookups. Where there is a section, `told` says what came of the header. A header that is
+ * refused changes no answer: the section's own order serves. */
 bool frames_c_read_with_header(uint64_t address, const uint8_t *bytes, size_t length,
                                uint64_t header_address, const uint8_t *header,
                                size_t header_length, frames_refusal *refusal, frames_header *told,
@@ -105,10 +106,10 @@ void frames_c_free(frames_section section);
 /* How many FDEs there are. */
 size_t frames_c_count(frames_section section, frames_section *back);
 
-/* ---- FDEs -------------------------------------------------------------------------------------- */
+/* ---- FDEs ------------------------------------------------------------------------------------ */
 
-/* An FDE. What it hasn't is 0, and its flag too. `place` is that of its first byte, the first of its
- * length, among the bytes of the section. */
+/* An FDE. What it hasn't is 0, and its flag too. `place` is that of its first byte, the first of
+ * its length, among the bytes of the section. */
 typedef struct {
   uint64_t first;
   uint64_t range;
@@ -120,7 +121,8 @@ typedef struct {
   uint32_t place;
 } frames_fde;
 
-/* The first FDE in order of bytes that covers an address. False: none does, and `out` is as it was. */
+/* The first FDE in order of bytes that covers an address. False: none does, and `out` is as it
+ * was. */
 bool frames_c_find(frames_section section, uint64_t pc, frames_fde *out, frames_section *back);
 
 /* The addresses of an FDE, and the place of its first byte. */
@@ -136,8 +138,8 @@ enum frames_table_made {
   FRAMES_TABLE_SHARED = 2  /* two FDEs share an address, so that no table finds the first */
 };
 
-/* Writes the FDEs that aren't empty in order of their first addresses. Where it is 2, the entries are
- * all there, and are no table. */
+/* Writes the FDEs that aren't empty in order of their first addresses. Where it is 2, the
+ * entries are all there, and are no table. */
 uint64_t frames_c_table(frames_section section, frames_entry *entries, size_t room, size_t *count,
                         frames_section *back);
 
@@ -146,10 +148,10 @@ uint64_t frames_c_table(frames_section section, frames_entry *entries, size_t ro
  * are, one that is written is one of them and has the address. */
 bool frames_c_search(const frames_entry *entries, size_t count, uint64_t pc, frames_entry *out);
 
-/* ---- rows -------------------------------------------------------------------------------------- */
+/* ---- rows ------------------------------------------------------------------------------------ */
 
-/* How the CFA and the columns 0 to 16 of the frame before are found: the registers of x86-64 by their
- * DWARF numbers, and 16 the return address. */
+/* How the CFA and the columns 0 to 16 of the frame before are found: the registers of x86-64 by
+ * their DWARF numbers, and 16 the return address. */
 typedef struct {
   uint64_t cfa;
   uint64_t cfa_column;
@@ -184,7 +186,7 @@ bool frames_c_row(frames_section section, uint64_t pc, frames_row *out, frames_s
 bool frames_c_rows(frames_section section, const uint64_t *pcs, size_t count, frames_row *rows,
                    size_t room, frames_section *back);
 
-/* ---- frames ------------------------------------------------------------------------------------ */
+/* ---- frames ---------------------------------------------------------------------------------- */
 
 /* Recorded memory, or nothing: {0}. One thread at a time uses it. */
 typedef struct {

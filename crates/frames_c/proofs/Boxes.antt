@@ -21,7 +21,6 @@ use denote.Steps.{nothing}
 use denote.Struct.Struct.{within}
 use denote.Struct.Owning.{shape}
 use Rattle.std.specs.Prelude.{Some}
-use Rattle.core.proofs.alloc.Calls.{token}
 use Rattle.std_alloc.specs.Box.Ownership.{box_owns}
 use Rattle.std_alloc.proofs.BoxSteps.Form.{Bx, R, τ}
 use Rattle.std_heap.specs.contracts.Global as Heap
@@ -31,7 +30,7 @@ use Rattle.frames_c.specs.contracts.share.SectionShare as Share
 use Rattle.frames_c.proofs.share.SectionShare.TheLaws as share
 use Rattle.frames_c.specs.contracts.handle.SectionHandle as Handle
 use Rattle.frames_c.specs.contracts.parts.Parts as Parts
-use Rattle.frames_c.specs.Handles.{frees, handle_owns}
+use Rattle.frames_c.specs.Handles.{frees_block, handle_owns}
 
 abbrev pub E : Bx
 E = record { row = Share.the_row; laws = share.the_row_laws; al = record { row = Heap.the_row; laws = heap.the_row_laws; g = ghosts; d = dict; drops = impl [] tnil dnil } }
@@ -55,17 +54,17 @@ pointer b o = vstruct (vcons (vptr b o) vnil)
 module _ {M : Type 1} {𝓤 : Ura M} {𝓛 : Logic 𝓤} {K : Type 0} {Γ : List (Item 𝓤)} {G : Goal 𝓤 𝓛.H} where
   pub handle_out : K → (d : H.Denot) (vs : List Val) (x : Share.the_row.Denot) → d.held ≡ Some x
       → ((b o : ℕ) → d.at ≡ block_ptr b o → vs ≡ pointer b o ∷ []
-      → Seq K 𝓛 (‵ (part_at (R E) full_share x b o) ∷ ‵ (frees (bare (τ E)) (block_ptr b o)) ∷ Γ) G)
+      → Seq K 𝓛 (‵ (part_at (R E) full_share x b o) ∷ ‵ (frees_block (bare (τ E)) (block_ptr b o)) ∷ Γ) G)
       → Seq K 𝓛 (‵ (H.own_val d vs) ∷ Γ) G
   handle_out t d vs x is k =
       fsplit t $ fpick t (λ vss. fsplit t $ feq_l t (λ ev. fsplit t $ feq_l t (λ ep. drop t $
       rewrite t 0 (λ h. ‵ (handle_owns d.at h)) is refl $
-      in_a_block t d.at (λ p. box_owns frees (R E) p x) (fst∗ 𝓤 (never 𝓤) (sem 𝓛 (frees (bare (τ E)) null_ptr))) (λ b o e. fsplit t $ k b o e
+      in_a_block t d.at (λ p. box_owns frees_block (R E) p x) (fst∗ 𝓤 (never 𝓤) (sem 𝓛 (frees_block (bare (τ E)) null_ptr))) (λ b o e. fsplit t $ k b o e
       (subst (λ (p : Ptr). vs ≡ vstruct (of_list (ptr_val p ∷ [])) ∷ []) e
       (subst (λ (ps : List Val). vs ≡ vstruct (of_list (ps ++ [])) ∷ []) ep ev))))))
 
   pub handle_in : K → (at : Ptr) (b o : ℕ) (x : Share.the_row.Denot) → at ≡ block_ptr b o
-      → Step K 𝓛 (‵ (H.own_val (record { at = at; held = Some x }) (pointer b o ∷ [])) ∷ Γ) G (‵ (part_at (R E) full_share x b o) ∷ ‵ (frees (bare (τ E)) (block_ptr b o)) ∷ Γ) G
+      → Step K 𝓛 (‵ (H.own_val (record { at = at; held = Some x }) (pointer b o ∷ [])) ∷ Γ) G (‵ (part_at (R E) full_share x b o) ∷ ‵ (frees_block (bare (τ E)) (block_ptr b o)) ∷ Γ) G
   handle_in t at b o x e = step (λ s.
       fjoin t $ rewrite t 0 (λ (p : Ptr). ‵ (handle_owns p (Some x))) (sym e) refl $
       nothing t $ feq_i t (List Val) (vptr b o ∷ []) (ptr_val at ∷ []) (ap (λ (p : Ptr). ptr_val p ∷ []) (sym e)) $ fjoin t $

@@ -2,8 +2,8 @@
 use Rattle.std.specs.Prelude.{◌⊎◌, slice_get, slice_set}
 use Rattle.std.proofs.lemmas.Option.{slice_get-get_or}
 use Rattle.std.proofs.lemmas.List.{take_more_set, append-nil}
-use Rattle.std.proofs.Common.{map, take, Option, ◌≡◌, ℕ, zero, suc, ◌+◌, ◌-◌, ◌*◌, ◌<◌, ◌≤◌, Bool, cond, List, [], ◌∷◌, ◌++◌, length, get_or, true, false, Some, None, nat_le, nat_lt, refl, sym, ap, subst, ◌∙◌, arith, inl, inr, leb-true, leb-false, ltb-true, le-ltb}
-use Rattle.std.proofs.lemmas.Bool.{and_parts, and_left, and_right, and_from, cases_lt, lt-leb, le-leb, lt-ltb}
+use Rattle.std.proofs.Common.{map, take, ◌≡◌, ℕ, zero, suc, ◌+◌, ◌-◌, ◌<◌, ◌≤◌, Bool, cond, List, [], ◌∷◌, ◌++◌, length, get_or, true, false, Some, None, nat_le, nat_lt, refl, sym, ap, subst, ◌∙◌, arith, inl, inr, leb-true, leb-false, ltb-true, le-ltb}
+use Rattle.std.proofs.lemmas.Bool.{and_parts, and_left, and_right, cases_lt, lt-leb, lt-ltb}
 use Rattle.std.proofs.lemmas.List.Elements.{filter_more, All-cons, All-nil}
 use Rattle.std.proofs.lemmas.List.Sorted.{Contains-permutation, All-permutation}
 use Rattle.std.specs.List.{All, Contains, find, filter}
@@ -152,7 +152,7 @@ pub more_told : (fdes : List FdeRecord) (i : ℕ) (f : FdeRecord) → i < length
 more_told fdes i f lt is =
     let more = filter_more (λ (x : FdeRecord). nat_lt 0 x.range) fdes i f lt in
     let at : filter (λ (x : FdeRecord). nat_lt 0 x.range) (take (i + 1) fdes) ≡ filter (λ (x : FdeRecord). nat_lt 0 x.range) (take i fdes) ++ cond (nat_lt 0 f.range) (f ∷ []) [] =
-        subst (λ (x : FdeRecord). filter (λ (y : FdeRecord). nat_lt 0 y.range) (take (i + 1) fdes) ≡ filter (λ (y : FdeRecord). nat_lt 0 y.range) (take i fdes) ++ cond (nat_lt 0 x.range) (x ∷ []) []) is more in
+    subst (λ (x : FdeRecord). filter (λ (y : FdeRecord). nat_lt 0 y.range) (take (i + 1) fdes) ≡ filter (λ (y : FdeRecord). nat_lt 0 y.range) (take i fdes) ++ cond (nat_lt 0 x.range) (x ∷ []) []) is more in
     ap (map entry_told) at ∙ told_behind (filter (λ (x : FdeRecord). nat_lt 0 x.range) (take i fdes)) (nat_lt 0 f.range) f
   where
     told_behind : (xs : List FdeRecord) (b : Bool) (x : FdeRecord) → map entry_told (xs ++ cond b (x ∷ []) []) ≡ map entry_told xs ++ cond b (entry_told x ∷ []) []
@@ -219,8 +219,8 @@ found_told pc fdes es p h (inr (f, is, has, here)) =
     let (i, lt, at) = Contains-permutation (entries_told fdes) es (entry_told f) p has in
     let e = entry_told f in
     rw is (find-here pc es i e lt (subst (λ k. entry_has pc k ≡ true) (sym at) here) (λ j below.
-        refuted (entry_has pc (get_or es j e)) (λ other.
-        within_both pc (get_or es j e) (get_or es i e) other (subst (λ k. entry_has pc k ≡ true) (sym at) here) (apart es j i e h below lt)))
+    refuted (entry_has pc (get_or es j e)) (λ other.
+    within_both pc (get_or es j e) (get_or es i e) other (subst (λ k. entry_has pc k ≡ true) (sym at) here) (apart es j i e h below lt)))
     ∙ ap (λ k. Some k) at)
 
 -- a table whose entries are apart finds what the section does

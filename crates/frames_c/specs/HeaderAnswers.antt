@@ -23,8 +23,8 @@ header_refused (faults.Order at) = record { accepted = 0; kind = 7; at = at }
 header_refused (faults.Overlap at) = record { accepted = 0; kind = 8; at = at }
 
 -- the bytes begin with a header of this section, or this is their first refusal, or memory ran out
-abbrev pub IsTold : ℕ → SectionData → List ℕ → FramesHeader → Type 0
-IsTold address section bytes told =
+abbrev pub IsHeaderTold : ℕ → SectionData → List ℕ → FramesHeader → Type 0
+IsHeaderTold address section bytes told =
     ((t : Option (List TableEntry)) × IsHeader address section bytes t × (told ≡ header_accepted))
     ⊎ ((f : HeaderFault) × ((f ≡ faults.NoMemory) ⊎ IsRefusedHeader address section bytes f)
     × (told ≡ header_refused f))
@@ -32,4 +32,4 @@ IsTold address section bytes told =
 -- the same of the section to which a handle leads
 abbrev pub LeadsWithHeader : ℕ → List ℕ → Option SectionData → FramesHeader → Type 0
 LeadsWithHeader address bytes held told =
-    (section : SectionData) × (held ≡ Some section) × IsTold address section bytes told
+    (section : SectionData) × (held ≡ Some section) × IsHeaderTold address section bytes told

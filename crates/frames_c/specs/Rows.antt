@@ -1,12 +1,10 @@
 -- Rows, as C is told: in numbers.
-use Rattle.std.specs.Prelude.{◌≡◌, ℕ, ◌<◌, List, length, Option, Some, None, Bool, true, false, slice_index, slice_index_or}
-use Rattle.std.specs.List.{AllZip}
-use Rattle.frame_parse.specs.Sections.{SectionData, FdeData}
+use Rattle.std.specs.Prelude.{◌≡◌, ℕ, ◌<◌, List, Option, Some, None, Bool, true, false, slice_index, slice_index_or}
+use Rattle.frame_parse.specs.Sections.{FdeData}
 use Rattle.frame_rows.specs.declared.rule.RuleWith.TheVariants as rules
 use Rattle.frame_rows.specs.declared.rule.CfaRuleWith.TheVariants as cfas
 use Rattle.frame_rows.specs.RowAt.{IsRowAt}
 use Rattle.frame_rows.specs.Rules.{RowData, RuleData, CfaRuleData}
-use Rattle.unwind_step.specs.Backtrace.{fde_in}
 use Rattle.frames_c.specs.declared.row.FramesRow.{FramesRow}
 
 -- the kind of a column's rule, and its number; an expression has none
@@ -31,20 +29,20 @@ rule_number (rules.Expression e) = 0
 rule_number (rules.ValExpression e) = 0
 
 -- the same of the CFA's, which may have a column and an offset
-abbrev pub cfa_kind : CfaRuleData → ℕ
-cfa_kind cfas.Missing = 0
-cfa_kind (cfas.Offset q n) = 1
-cfa_kind (cfas.Expression e) = 2
+abbrev pub cfa_rule_kind : CfaRuleData → ℕ
+cfa_rule_kind cfas.Missing = 0
+cfa_rule_kind (cfas.Offset q n) = 1
+cfa_rule_kind (cfas.Expression e) = 2
 
-abbrev pub cfa_column : CfaRuleData → ℕ
-cfa_column cfas.Missing = 0
-cfa_column (cfas.Offset q n) = q
-cfa_column (cfas.Expression e) = 0
+abbrev pub cfa_rule_column : CfaRuleData → ℕ
+cfa_rule_column cfas.Missing = 0
+cfa_rule_column (cfas.Offset q n) = q
+cfa_rule_column (cfas.Expression e) = 0
 
-abbrev pub cfa_offset : CfaRuleData → ℕ
-cfa_offset cfas.Missing = 0
-cfa_offset (cfas.Offset q n) = n
-cfa_offset (cfas.Expression e) = 0
+abbrev pub cfa_rule_offset : CfaRuleData → ℕ
+cfa_rule_offset cfas.Missing = 0
+cfa_rule_offset (cfas.Offset q n) = n
+cfa_rule_offset (cfas.Expression e) = 0
 
 -- the rule of a column
 abbrev pub column_rule : RowData → ℕ → RuleData
@@ -57,9 +55,9 @@ pub record AreToldRules (row : RowData) (count : ℕ) (kinds numbers : List ℕ)
 
 -- a row with its seventeen columns
 pub record IsToldRow (row : RowData) (told : FramesRow) : Type 0 where
-  pub cfa : told.cfa ≡ cfa_kind row.cfa
-  pub column : told.cfa_column ≡ cfa_column row.cfa
-  pub offset : told.cfa_offset ≡ cfa_offset row.cfa
+  pub cfa : told.cfa ≡ cfa_rule_kind row.cfa
+  pub column : told.cfa_column ≡ cfa_rule_column row.cfa
+  pub offset : told.cfa_offset ≡ cfa_rule_offset row.cfa
   pub columns : AreToldRules row 17 told.rules told.numbers
 
 -- the row of an address, where an FDE covers it

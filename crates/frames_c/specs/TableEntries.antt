@@ -1,5 +1,5 @@
 -- The FDEs of a section as a plain table, and what is found in one.
-use Rattle.std.specs.Prelude.{◌≡◌, ℕ, zero, suc, ◌+◌, ◌<◌, List, [], ◌∷◌, length, map, take, Bool, true, false, Option, Some, None, nat_le, nat_lt, ◌&&◌}
+use Rattle.std.specs.Prelude.{◌≡◌, ℕ, zero, suc, ◌+◌, ◌<◌, List, [], ◌∷◌, length, map, take, Bool, true, false, Option, Some, nat_le, nat_lt, ◌&&◌}
 use Rattle.std.specs.List.{Contains, find, filter}
 use Rattle.std.specs.List.Sorted.{IsPermutation, IsNonDecreasingBy}
 use Rattle.std.specs.Option.{option_map}

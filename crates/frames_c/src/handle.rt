@@ -11,8 +11,8 @@ use crate::share::SectionShare;
 use std::alloc::Global;
 use std::marker::{Model, Send};
 
-/// A share of a section, or nothing. To let one go frees nothing: so one that is written over has to
-/// hold nothing.
+/// A share of a section, or nothing. To let one go frees nothing: so one that is written over has
+/// to hold nothing.
 #[repr(C)]
 #[derive(Drop)]
 pub struct SectionHandle {

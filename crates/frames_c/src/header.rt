@@ -8,7 +8,7 @@ ghost use Rattle.frame_parse.specs.Sections.{SectionData};
 ghost use Rattle.frames_c.specs.Held.{IsVacant};
 ghost use Rattle.frames_c.specs.Loads.{IsLoaded, LeadsToLoaded};
 ghost use Rattle.frames_c.specs.Refusals.{IsLoadFault, IsToldRefusal};
-ghost use Rattle.frames_c.specs.HeaderAnswers.{header_refused, IsTold, LeadsWithHeader};
+ghost use Rattle.frames_c.specs.HeaderAnswers.{header_refused, IsHeaderTold, LeadsWithHeader};
 
 use crate::handle::SectionHandle;
 use crate::load::{read_section, shared};
@@ -18,8 +18,8 @@ use eh_hdr::{Header, HeaderFault, SearchTable};
 use frame_parse::Section;
 use std::alloc::Global;
 
-/// What came of a header: whether it is accepted, else the kind of its refusal and the place that is
-/// refused.
+/// What came of a header: whether it is accepted, else the kind of its refusal and the place that
+/// is refused.
 #[repr(C)]
 #[derive(Clone, Copy, Debug, PartialEq, Eq)]
 pub struct FramesHeader {
@@ -79,7 +79,7 @@ fn with_table(
 ) -> LoadedSection
     requires { length section.bytes < 2 ^ 32 }
     ensures section { result ≡ section }
-    ensures told { IsTold address section bytes.now told.new }
+    ensures told { IsHeaderTold address section bytes.now told.new }
 {
     match read_table(alloc, address, bytes, &section) {
         Ok(table) => {
@@ -98,8 +98,8 @@ fn with_table(
 }
 
 /// Reads the section whose bytes stand at an address, and then the header at another, whose table
-/// serves the lookups. What came of the header is told where there is a section. Where the header is
-/// refused, the section's own order serves.
+/// serves the lookups. What came of the header is told where there is a section. Where the header
+/// is refused, the section's own order serves.
 #[unsafe(no_mangle)]
 pub extern "C" fn frames_c_read_with_header(
     alloc: Global,

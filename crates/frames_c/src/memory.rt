@@ -10,8 +10,8 @@ use frame_expr::Memory;
 use std::alloc::Global;
 use std::marker::{Model, Send};
 
-/// Recorded memory, or nothing. To let one go frees nothing: so one that is written over has to hold
-/// nothing.
+/// Recorded memory, or nothing. To let one go frees nothing: so one that is written over has to
+/// hold nothing.
 #[repr(C)]
 #[derive(Drop)]
 pub struct MemoryHandle {

@@ -5,8 +5,8 @@ ghost use Rattle.frames_c.specs.Refusals.{refusal_told, load_told};
 
 use frame_parse::FrameFault;
 
-/// A refusal: its kind, the place of the record's first byte, the place that is refused, and the byte
-/// or the column that is, where the kind has one.
+/// A refusal: its kind, the place of the record's first byte, the place that is refused, and the
+/// byte or the column that is, where the kind has one.
 #[repr(C)]
 #[derive(Clone, Copy, Debug, PartialEq, Eq)]
 pub struct FramesRefusal {

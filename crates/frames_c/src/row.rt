@@ -7,7 +7,8 @@ ghost use Rattle.frame_rows.specs.Rules.{rule_told, cfa_rule_told};
 ghost use Rattle.unwind_step.specs.Backtrace.{fde_in};
 ghost use Rattle.frames_c.specs.Held.{IsHeld, IsVacant, held_section};
 ghost use Rattle.frames_c.specs.Fdes.{is_there};
-ghost use Rattle.frames_c.specs.Rows.{rule_kind, rule_number, cfa_kind, cfa_column, cfa_offset};
+ghost use Rattle.frames_c.specs.Rows.{rule_kind, rule_number, cfa_rule_kind, cfa_rule_column};
+ghost use Rattle.frames_c.specs.Rows.{cfa_rule_offset};
 ghost use Rattle.frames_c.specs.Rows.{AreToldRules, IsToldRow, IsRowOf, AnswersRow};
 
 use crate::handle::SectionHandle;
@@ -45,8 +46,8 @@ fn told(rule: &Rule<'_>) -> (u64, u64)
     }
 }
 
-/// Writes the rules of all columns. By slices, and not inlined: a loop over arrays would be unrolled
-/// whole.
+/// Writes the rules of all columns. By slices, and not inlined: a loop over arrays would be
+/// unrolled whole.
 #[inline(never)]
 fn tell_columns(row: &Row<'_>, kinds: &mut [u64], numbers: &mut [u64])
     requires kinds { length kinds.old ≡ 17 }
@@ -64,9 +65,9 @@ fn tell_columns(row: &Row<'_>, kinds: &mut [u64], numbers: &mut [u64])
 
 /// The kind of the CFA's rule, its column and its offset.
 fn told_cfa(rule: &CfaRule<'_>) -> (u64, u64, u64)
-    ensures kind { result.0 ≡ cfa_kind (cfa_rule_told (λ e. e.bytes.now) rule.now) }
-    ensures column { result.1 ≡ cfa_column (cfa_rule_told (λ e. e.bytes.now) rule.now) }
-    ensures offset { result.2 ≡ cfa_offset (cfa_rule_told (λ e. e.bytes.now) rule.now) }
+    ensures kind { result.0 ≡ cfa_rule_kind (cfa_rule_told (λ e. e.bytes.now) rule.now) }
+    ensures column { result.1 ≡ cfa_rule_column (cfa_rule_told (λ e. e.bytes.now) rule.now) }
+    ensures offset { result.2 ≡ cfa_rule_offset (cfa_rule_told (λ e. e.bytes.now) rule.now) }
 {
     match rule {
         CfaRule::Missing => (0, 0, 0),

@@ -11,8 +11,8 @@ ghost use Rattle.frames_c.specs.FrameSteps.{frame_look, outcome_told, frame_afte
 
 use crate::handle::SectionHandle;
 use crate::memory::MemoryHandle;
-use frame_expr::{Memory, Regs};
 use crate::share::LoadedSection;
+use frame_expr::{Memory, Regs};
 use std::alloc::Global;
 use unwind_step::{Stepped, step};
 

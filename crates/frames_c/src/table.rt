@@ -149,13 +149,10 @@ fn where_begun(number: usize, begun: bool) -> usize
 }
 
 /// The entry of a table that has an address; false where none has, and then nothing is written. It
-/// takes no section. Whatever the entries are, one that is written is one of them and has the address.
+/// takes no section. Whatever the entries are, one that is written is one of them and has the
+/// address.
 #[unsafe(no_mangle)]
-pub extern "C" fn frames_c_search(
-    entries: &[FramesEntry],
-    pc: u64,
-    out: &mut FramesEntry,
-) -> bool
+pub extern "C" fn frames_c_search(entries: &[FramesEntry], pc: u64, out: &mut FramesEntry) -> bool
     ensures { (found : Option FramesEntry) × IsSearched entries.now pc found
         × (result ≡ is_there found) × (out.new ≡ unwrap_or found out.old) }
 {

@@ -1,4 +1,4 @@
-use Rattle.std.proofs.Common.{◌≡◌, ◌/◌, false, true, sym, subst, ap, ◌∙◌, get_or, arith}
+use Rattle.std.proofs.Common.{◌≡◌, ◌/◌, false, sym, subst, ◌∙◌, get_or, arith}
 use Rattle.frames_c.specs.declared.table.FramesEntry.{FramesEntry}
 use Rattle.frames_c.specs.TableEntries.{entry_has}
 use Rattle.frames_c.proofs.Tables.{any_default, half_left, found_here, found_none}

@@ -1,7 +1,6 @@
-use Rattle.std.proofs.Common.{◌≡◌, ◌++◌, List, length, take, drop, sym, subst, ◌∙◌, arith}
+use Rattle.std.proofs.Common.{◌≡◌, ◌++◌, length, take, drop, sym, subst, ◌∙◌, arith}
 use Rattle.std.proofs.lemmas.List.{length-take}
 use Rattle.std.proofs.Math.Seq.{take-append_seam}
-use Rattle.frames_c.specs.declared.table.FramesEntry.{FramesEntry}
 use Rattle.frames_c.proofs.Tables.{finds_as_section}
 use Rattle.frames_c.proofs.table.table.Goals as goal
 

@@ -1,7 +1,6 @@
 -- A handle of memory may go to another thread, since what it holds may.
 use mir.Raw.{raw}
 use denote.Memory.{lone}
-use base.Fml.{Fml}
 use base.Shift.{Keyless}
 use denote.RawPtr.{Ptr}
 use denote.Struct.Struct.{exits_of}

@@ -24,7 +24,7 @@ use denote.Triple.Table.{entered}
 use denote.Triple.Walked.{says, Stays, stay_dropped, walk_of, ends_at, Goes-dropped, walk_Meets}
 use Rattle.core.proofs.alloc.Calls.{handle_tells}
 use Rattle.std.specs.Prelude.{Some}
-use Rattle.std_alloc.proofs.BoxSteps.Form.{D, B, P, word, box_typed}
+use Rattle.std_alloc.proofs.BoxSteps.Form.{D, P, word, box_typed}
 use Rattle.std_alloc.proofs.BoxSteps.Steps.{box_in}
 use Rattle.frame_expr.specs.Regions.{RegionData}
 use Rattle.frames_c.proofs.MemoryBoxes.{E, H as Handle, FromHandle, FromHeap, pointer, memory_out}
