@@ -1,0 +1,109 @@
+// over: frames_c
+// The library for C as a peer of the harness's benches parse, rows and trace. A backtrace asks which
+// image has an address by one range alone, as the harness's other unwinders do.
+#include "frames_c.h"
+#include "product.h"
+#include <new>
+static_assert(sizeof(frames_row) == 37 * 8, "a row is out[37] of product_row");
+
+struct product_section { frames_section held; };
+struct product_memory { frames_memory held; };
+struct product_registry { uint64_t base, size; };
+struct product_caller { uint32_t left; };
+
+// a call takes a handle and gives it back
+static product_section *own(const product_section *s) { return const_cast<product_section *>(s); }
+static product_memory *own(const product_memory *m) { return const_cast<product_memory *>(m); }
+
+product_section *product_section_read(uint64_t address, const uint8_t *bytes, size_t length,
+                                      uint64_t fault[3]) {
+  frames_refusal refusal;
+  frames_section section = {nullptr};
+  if (frames_c_read(address, bytes, length, &refusal, &section))
+    return new product_section{section};
+  fault[0] = refusal.kind;
+  fault[1] = refusal.start;
+  fault[2] = refusal.at;
+  return nullptr;
+}
+void product_section_free(product_section *s) {
+  frames_c_free(s->held);
+  delete s;
+}
+uint64_t product_section_count(const product_section *s) {
+  return frames_c_count(s->held, &own(s)->held);
+}
+int product_row(const product_section *s, uint64_t pc, uint64_t out[37]) {
+  return frames_c_row(s->held, pc, reinterpret_cast<frames_row *>(out), &own(s)->held);
+}
+int product_fde(const product_section *s, uint64_t pc, uint64_t out[2]) {
+  frames_fde fde;
+  if (!frames_c_find(s->held, pc, &fde, &own(s)->held)) return 0;
+  out[0] = fde.first;
+  out[1] = fde.range;
+  return 1;
+}
+
+product_memory *product_memory_new(void) {
+  frames_memory memory = {nullptr};
+  return frames_c_memory(&memory) ? new product_memory{memory} : nullptr;
+}
+int product_memory_push(product_memory *m, uint64_t address, const uint8_t *bytes, size_t length) {
+  return (int)frames_c_memory_push(m->held, address, bytes, length, &m->held);
+}
+void product_memory_free(product_memory *m) {
+  frames_c_memory_free(m->held);
+  delete m;
+}
+product_registry *product_registry_new(uint32_t, uint32_t, uint32_t, product_caller **first) {
+  *first = new product_caller{1};
+  return new product_registry{0, 0};
+}
+uint32_t product_registry_close(product_registry *r, product_caller *first) {
+  delete r;
+  delete first;
+  return 1;
+}
+product_caller *product_caller_split(product_registry *, product_caller *, uint32_t give) {
+  return new product_caller{give};
+}
+void product_caller_join(product_registry *, product_caller *, product_caller *other) {
+  delete other;
+}
+uint32_t product_caller_left(product_caller *me) { return me->left; }
+int product_register(product_registry *r, product_caller *, uint64_t base, uint64_t size,
+                     uint32_t) {
+  *r = {base, size};
+  return 0;
+}
+int product_deregister(product_registry *r, product_caller *, uint64_t) {
+  *r = {0, 0};
+  return 0;
+}
+int product_try_registered(product_registry *r, product_caller *, uint64_t pc,
+                           uint32_t *payload) {
+  *payload = 0;
+  return pc - r->base < r->size;
+}
+uint32_t product_trace(product_registry *r, product_caller *me, product_section *const *sections,
+                       size_t, const uint64_t columns[17], const product_memory *memory,
+                       uint64_t *pcs, uint64_t *sps, uint32_t *end) {
+  frames_frame frame = {};
+  for (int column = 0; column < 17; column++) frame.columns[column] = columns[column];
+  frame.at_instruction = 1;
+  product_section *section = sections[0];
+  *end = 5;
+  for (uint32_t count = 0; count < 256; count++) {
+    pcs[count] = frame.columns[16];
+    sps[count] = frame.columns[7];
+    uint32_t payload;
+    uint64_t look = frame.columns[16] - !frame.at_instruction;
+    *end = 0;
+    if (!product_try_registered(r, me, look, &payload)) return count + 1;
+    uint64_t outcome =
+        frames_c_step(section->held, memory->held, &frame, &section->held, &own(memory)->held);
+    *end = (uint32_t)outcome;
+    if (outcome != FRAMES_FRAME) return count + 1;
+  }
+  return 256;
+}
