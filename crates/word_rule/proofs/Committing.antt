@@ -1,5 +1,6 @@
 -- A commit keeps the rule: the history has an update of the tree more, and what its caller changed settles.
-use Rattle.std.proofs.Common.{◌≡◌, ◌≢◌, ℕ, ◌+◌, ◌/◌, ◌%◌, ◌^◌, ◌<◌, ◌≤◌, ◌↔◌, List, [], ◌∷◌, ◌++◌, length, get_or, set, length-set, sym, refl, ap, ◌∙◌, subst, arith, Bool, false, Option, Some, None, Contains, if◌then◌else◌}
+use Rattle.std.proofs.Common.{◌≡◌, ◌≢◌, ℕ, ◌+◌, ◌/◌, ◌%◌, ◌^◌, ◌<◌, ◌≤◌, ◌↔◌, List, [], ◌∷◌, ◌++◌, length, get_or, set, length-set, sym, refl, ap, ◌∙◌, subst, arith, Bool, false, Option, Some, None, Contains, if◌then◌else◌, ◌==◌, IsSome, IsTrue, eq-eqb}
+use Rattle.std.specs.List.{AllByRecursion}
 use Rattle.std.proofs.lemmas.List.Sums.{sum_by_push, count_by-le-length}
 use mathlib.Core.Option.{none, some}
 use mathlib.Core.List.{IsPrefix}
@@ -7,13 +8,14 @@ use lib.ListN.{get_elem?}
 use Rattle.atomic_table.specs.Table.{step, keeps, Allows}
 use Rattle.atomic_table.proofs.Lists.{set_here}
 use Rattle.reg_model.specs.SpanData.{Overlaps}
-use Rattle.reg_model.specs.State.{State}
+use Rattle.reg_model.specs.State.{State, at_base}
 use Rattle.reg_model.specs.History.{Fits, after, state_after}
 use Rattle.reg_model.specs.declared.span.Member.{Member}
 use Rattle.reg_model.specs.declared.answer.Update.{Update}
 use Rattle.reg_model.specs.declared.answer.Receipt.{Receipt}
 use Rattle.reg_model.proofs.Histories.{state_after-append}
 use Rattle.tree_shape.specs.Numbers.{once, is_among}
+use Rattle.tree_shape.specs.NodeData.{entries_of}
 use Rattle.tree_shape.specs.Trees.{Contents, HasEntry, entries}
 use Rattle.tree_shape.specs.Lawful.{IsLawfulTree}
 use Rattle.tree_shape.specs.LocalChange.{EntriesBecome}
@@ -28,7 +30,7 @@ use Rattle.word_rule.specs.Logs.{is_spent}
 use Rattle.word_rule.specs.Exchange.{IsLawfulExchange, after_exchange, group_of, settle_free, top_of}
 use Rattle.word_rule.specs.Steps.{IsDone, after_update}
 use Rattle.word_rule.specs.Commits.{AfterCommit, MayCommit, after_commit}
-use Rattle.word_rule.specs.Callers.{total, CallersHold, AtLoader, LoaderLock, is_of_loader, start}
+use Rattle.word_rule.specs.Callers.{IsMemberOf, total, CallersHold, AtLoader, LoaderLock, is_of_loader, start}
 use Rattle.word_rule.specs.Nodes.{Shadow, NodesHold}
 use Rattle.word_rule.specs.Copies.{ListsAll, ActiveCopy}
 use Rattle.word_rule.specs.Observations.{ObservationsHold}
@@ -42,7 +44,11 @@ use Rattle.word_rule.proofs.NodeLoads.{OrderLaw}
 use Rattle.word_rule.proofs.ObservationsFrame.{observations_over}
 use Rattle.word_rule.proofs.Frames.{Sit, table_step, still_after_turn}
 use Rattle.word_rule.proofs.Accepting.{Accepts, answered, callers_after, few_updates, observations_received}
-use Rattle.word_rule.proofs.TreeUpdates.{ascending_apart, tree_fits}
+use Rattle.word_rule.proofs.Each.{all_map}
+use Rattle.word_rule.proofs.Spells.{eqb_true}
+use Rattle.word_rule.proofs.Holders.{marked_live}
+use Rattle.word_rule.proofs.Listings.{registered_members}
+use Rattle.word_rule.proofs.TreeUpdates.{ascending_apart, ascending_same, finds_only, tree_fits}
 use Rattle.word_rule.proofs.Exchanges.{DecidedLaw, exchange_decides}
 use Rattle.word_rule.proofs.Exchanging.{ChangeLaws, settled', live', entries_after, lawful_after}
 use Rattle.word_rule.proofs.Settling.{OnSettling, nodes, sights}
@@ -184,6 +190,21 @@ module _ (t : Terms) (slots id : ℕ) (me : Seated) (caller : me.0.role ≡ role
           (λ j v _ there. over v (r.memory.observations j v there)));
     }) (λ _. still_after_turn (set s.words 0 (get_or s.words 0 0 + 1)) me.0 w (omega arith) refl (r.memory.observations id me.0 at).earlier)
 
+    -- an entry of the tree is the member registered at its base
+    registered_at : (x : Member) → HasEntry r.memory.shadow.settled r.memory.shadow.live x → at_base x.span.first before.registered ≡ Some x
+    registered_at x has =
+        let tree = r.memory.nodes.lawful.tree in
+        let listed : (y : Member) → Contains before.registered y → Contains (entries r.memory.shadow.settled) y = λ y c. (order.members r.memory.shadow.settled r.memory.shadow.live y tree).1 ((r.memory.nodes.entries y).1 c) in
+        let there = (r.memory.nodes.entries x).0 has in
+        finds_only (λ y. y.span.first == x.span.first) before.registered x there (eq-eqb x.span.first x.span.first refl)
+        (λ y c is. ascending_same 0 (entries r.memory.shadow.settled) (order.ascending r.memory.shadow.settled r.memory.shadow.live tree).0 y x (listed y c) (listed x there) (eqb_true y.span.first x.span.first is))
+
+    entries_told : AllByRecursion (λ h. IsSome h.mark → (x : Member) → Contains (entries_of h.settled) x → at_base x.span.first before.registered ≡ Some x) me.0.holdings.held
+    entries_told =
+        all_map (λ h. IsSome h.mark → IsTrue (r.memory.shadow.live h.node) × (r.memory.shadow.settled h.node ≡ h.settled)) (λ h. IsSome h.mark → (x : Member) → Contains (entries_of h.settled) x → at_base x.span.first before.registered ≡ Some x)
+        (λ h k marked x there. registered_at x (h.node, ((k marked).0, subst (λ z. Contains (entries_of z) x) (sym (k marked).1) there))) me.0.holdings.held
+        (marked_live t (memory_of t s.words).nodes s.views r.memory.history r.memory.shadow r.memory.nodes id me.0 at)
+
     -- what settles is the exchange, since it is lawful
     settled_so : w ≡ after_commit u r.memory.history answer_of.0 me.0
     settled_so = ap (λ b. after_update u r.memory.history answer_of.0 (if b then after_exchange me.0 top group else settle_free me.0)) (sym may.lawful)
@@ -193,7 +214,13 @@ module _ (t : Terms) (slots id : ℕ) (me : Seated) (caller : me.0.role ≡ role
       r.memory.history,
       answer_of.0,
       (
-        record { begins = (r.memory.callers.each id me.0 at).begins; number = low; room = small },
+        record {
+          begins = (r.memory.callers.each id me.0 at).begins;
+          number = low;
+          room = small;
+          members = subst (λ k. AllByRecursion (IsMemberOf k) (state_after (start k) r.memory.history).registered) (sym terms) (registered_members t (start t) r.memory.history r.memory.callers.members tt);
+          entries = subst (λ k. AllByRecursion (λ h. IsSome h.mark → (x : Member) → Contains (entries_of h.settled) x → at_base x.span.first (state_after (start k) r.memory.history).registered ≡ Some x) me.0.holdings.held) (sym terms) entries_told;
+        },
         subst (λ k. IsDone u (length r.memory.history + 1) (state_after (start k) r.memory.history) answer_of.0) (sym terms) answer_of.1.is_done,
         settled_so,
       ),

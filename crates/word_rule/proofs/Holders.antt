@@ -3,6 +3,7 @@ use Rattle.std.proofs.Common.{◌≡◌, ℕ, ◌<◌, ◌≤◌, List, length, 
 use mathlib.Core.Option.{some}
 use lib.ListN.{get_elem?}
 use Rattle.reg_model.specs.declared.answer.Update.{Update}
+use Rattle.std.specs.List.{AllByRecursion}
 use Rattle.tree_shape.specs.declared.node.Frame.{Frame}
 use Rattle.tree_shape.specs.Numbers.{once, times}
 use Rattle.word_rule.specs.declared.log.Terms.{Terms}
@@ -62,16 +63,20 @@ module _ (t : Terms) (words : NodeWords) (views : List Log) (history : List Upda
         live = live h mine.0 h.mark mine.0.marked;
       }
 
+  -- what is marked is live, and is as it settled
+  pub marked_live : AllByRecursion (λ h. IsSome h.mark → IsTrue (shadow.live h.node) × (shadow.settled h.node ≡ h.settled)) u.holdings.held
+  marked_live = all_map (HoldsNode t words shadow j) (λ h. IsSome h.mark → IsTrue (shadow.live h.node) × (shadow.settled h.node ≡ h.settled)) (λ h k is. (by_mark h h.mark is k.marked, sym k.settled)) u.holdings.held (r.holdings j u at).each
+    where
+      by_mark : (h : Holding) (o : Option Frame) → IsSome o → IfSome o (λ f. IsTrue (shadow.live h.node) × IsPlaced h.settled f) → IsTrue (shadow.live h.node)
+      by_mark h None is told = absurd (true≢false (sym is))
+      by_mark h (Some f) is told = told.0
+
   -- the tree that the invariant has is one that the log knows
   pub knows_tree : KnowsTree u.holdings
   knows_tree = record {
     contents = shadow.settled;
     live = shadow.live;
     lawful = r.lawful;
-    marked = all_map (HoldsNode t words shadow j) (λ h. IsSome h.mark → IsTrue (shadow.live h.node) × (shadow.settled h.node ≡ h.settled)) (λ h k is. (by_mark h h.mark is k.marked, sym k.settled)) u.holdings.held (r.holdings j u at).each;
+    marked = marked_live;
     dead = λ n out. out_is_dead n (ltb_true 0 (times n u.holdings.out) out);
   }
-    where
-      by_mark : (h : Holding) (o : Option Frame) → IsSome o → IfSome o (λ f. IsTrue (shadow.live h.node) × IsPlaced h.settled f) → IsTrue (shadow.live h.node)
-      by_mark h None is told = absurd (true≢false (sym is))
-      by_mark h (Some f) is told = told.0

@@ -1,5 +1,6 @@
 -- What an update of the tree makes of its entries, it makes of the registered members.
-use Rattle.std.proofs.Common.{◌≡◌, ◌≢◌, ℕ, suc, zero, ◌+◌, ◌≤◌, ◌↔◌, List, [], ◌∷◌, ◌++◌, get_or, sym, ap, ◌∙◌, subst, refl, inl, inr, ⊎_elim, arith, ◌==◌, not, true≢false, false, Some, Contains, eq-eqb, ne_eqb}
+use Rattle.std.proofs.Common.{◌≡◌, ◌≢◌, ℕ, suc, zero, ◌+◌, ◌≤◌, ◌↔◌, List, [], ◌∷◌, ◌++◌, get_or, sym, ap, ◌∙◌, subst, refl, inl, inr, ⊎_elim, arith, ◌==◌, not, true≢false, false, Some, Contains, eq-eqb, ne_eqb, Bool, true, if◌then◌else◌}
+use Rattle.std.specs.List.{find}
 use Rattle.std.proofs.lemmas.List.Elements.{Contains-append_left, Contains-get_or, Contains-push, Contains-push_cases}
 use Rattle.reg_model.specs.SpanData.{Overlaps}
 use Rattle.reg_model.specs.State.{State}
@@ -53,3 +54,26 @@ tree_fits s (update.Deregister base) before now same become apart =
     )
 tree_fits s (update.Load m) before now same become apart = absurd become
 tree_fits s (update.Unload base) before now same become apart = absurd become
+
+-- two members of a list that ascends that begin at one address are one
+pub ascending_same : (low : ℕ) (xs : List Member) → AscendFrom low xs → (x y : Member) → Contains xs x → Contains xs y → x.span.first ≡ y.span.first → x ≡ y
+ascending_same low [] h x y c d is = absurd (let l = c.1 in omega (arith, l))
+ascending_same low (z ∷ xs) h x y (zero, l, e) (zero, k, f) is = sym e ∙ f
+ascending_same low (z ∷ xs) h x y (zero, l, e) (suc j, k, f) is =
+    let a = above (z.span.last + 1) xs h.2 y (j, omega (arith, k), f) in let b = h.1 in let same : z.span.first ≡ x.span.first = ap (λ (w : Member). w.span.first) e in absurd (omega (arith, a, b, same, is))
+ascending_same low (z ∷ xs) h x y (suc i, l, e) (zero, k, f) is =
+    let a = above (z.span.last + 1) xs h.2 x (i, omega (arith, l), e) in let b = h.1 in let same : z.span.first ≡ y.span.first = ap (λ (w : Member). w.span.first) f in absurd (omega (arith, a, b, same, is))
+ascending_same low (z ∷ xs) h x y (suc i, l, e) (suc j, k, f) is = ascending_same (z.span.last + 1) xs h.2 x y (i, omega (arith, l), e) (j, omega (arith, k), f) is
+
+-- a search for what one member alone has finds it
+pub finds_only : (p : Member → Bool) (xs : List Member) (m : Member) → Contains xs m → p m ≡ true → ((x : Member) → Contains xs x → p x ≡ true → x ≡ m) → find p xs ≡ Some m
+finds_only p [] m there is only = absurd (let l = there.1 in omega (arith, l))
+finds_only p (y ∷ xs) m there is only = go (p y) refl there (λ c. finds_only p xs m c is (λ x d a. only x (longer x d) a))
+  where
+    longer : (x : Member) → Contains xs x → Contains (y ∷ xs) x
+    longer x (k, l, e) = (suc k, omega (arith, l), e)
+
+    go : (b : Bool) → p y ≡ b → Contains (y ∷ xs) m → (Contains xs m → find p xs ≡ Some m) → (if b then Some y else find p xs) ≡ Some m
+    go true q h rest = ap Some (only y (0, omega arith, refl) q)
+    go false q (zero, l, e) rest = absurd (true≢false (sym is ∙ (ap p (sym e) ∙ q)))
+    go false q (suc k, l, e) rest = rest (k, omega (arith, l), e)

@@ -1,14 +1,18 @@
 -- The commit of an update of the tree: what it asks for, what it tells, and what it makes of a log.
-use Rattle.std.specs.Prelude.{◌≡◌, ℕ, ◌+◌, ◌<◌, List, length, Some, IsTrue}
+use Rattle.std.specs.Prelude.{◌≡◌, ℕ, ◌+◌, ◌<◌, Contains, List, length, Some, IsSome, IsTrue}
+use Rattle.std.specs.List.{AllByRecursion}
 use mathlib.Core.List.{IsPrefix}
 use Rattle.reg_model.specs.History.{state_after}
+use Rattle.reg_model.specs.State.{at_base}
+use Rattle.reg_model.specs.declared.span.Member.{Member}
 use Rattle.reg_model.specs.declared.answer.Update.{Update}
 use Rattle.reg_model.specs.declared.answer.Receipt.{Receipt}
+use Rattle.tree_shape.specs.NodeData.{entries_of}
 use Rattle.word_rule.specs.declared.log.Log.{Log}
 use Rattle.word_rule.specs.declared.log.Terms.{Terms}
 use Rattle.word_rule.specs.Places.{ALLOWANCE, lower}
 use Rattle.word_rule.specs.Exchange.{is_lawful, settle}
-use Rattle.word_rule.specs.Callers.{IsOfTerms, start}
+use Rattle.word_rule.specs.Callers.{IsMemberOf, IsOfTerms, start}
 use Rattle.word_rule.specs.Steps.{IsDone, after_update}
 
 -- A commit asks for one of the update calls that were begun, for a member that may be made known,
@@ -24,6 +28,12 @@ pub record CommitTells (found : ℕ) (v : Log) (before : List Update) : Type 0 w
   pub begins : IsPrefix v.past before
   pub number : lower found ≡ length before
   pub room : length before < ALLOWANCE
+  pub members : AllByRecursion (IsMemberOf v.terms) (state_after (start v.terms) before).registered
+  -- each entry of a leaf that is held live is the member registered at its base
+  pub entries : AllByRecursion (λ h. IsSome h.mark → (m : Member)
+      → Contains (entries_of h.settled) m
+      → at_base m.span.first (state_after (start v.terms) before).registered ≡ Some m)
+      v.holdings.held
 
 -- The update of the tree was accepted, and what the caller changed settled.
 abbrev pub after_commit : Update → List Update → Receipt → Log → Log
