@@ -1,5 +1,5 @@
 -- A node that is out is made free, put onto the free list, and let go.
-use Rattle.std.proofs.Common.{◌≡◌, ◌≢◌, ℕ, zero, suc, ◌+◌, ◌-◌, ◌*◌, ◌^◌, ◌<◌, ◌≤◌, ◌⊎◌, inl, inr, rules, Bool, true, false, cond, true≢false, ◌&&◌, ◌==◌, not, List, [], ◌∷◌, length, map, Option, Some, None, IfSome, IsSome, IsSomeAnd, IsTrue, is_some, option_map, set, length-set, nat_eq, nat_lt, if◌then◌else◌, refl, ap, sym, ◌∙◌, subst, arith, ne_eqb, get_or-set_same, get_or-set_other}
+use Rattle.std.proofs.Common.{◌≡◌, ◌≢◌, ℕ, ◌+◌, ◌-◌, ◌*◌, ◌^◌, ◌<◌, ◌≤◌, ◌⊎◌, inr, Bool, true, false, cond, true≢false, ◌&&◌, ◌==◌, not, List, [], ◌∷◌, length, map, Option, Some, None, IfSome, IsSome, IsSomeAnd, IsTrue, is_some, option_map, set, length-set, nat_eq, if◌then◌else◌, refl, ap, sym, ◌∙◌, subst, arith, ne_eqb, get_or-set_same, get_or-set_other}
 use Rattle.std.proofs.lemmas.Bool.{eqb-true, lt-ltb}
 use Rattle.std.proofs.lemmas.Option.{none-some, cond_some}
 use Rattle.std.specs.List.{AllByRecursion}
@@ -21,7 +21,7 @@ use Rattle.node_store.proofs.HeldWrites.{and_false, held_changed, held_edited, p
 use Rattle.node_store.proofs.Settled.{ExchangeLaw, freed_settled, settles_free, without_settled}
 
 -- A log has a node out that it holds, whose words are these, and holds the root.
-record HasOut (n : ℕ) (words : List ℕ) (hs : Holdings) : Type 0 where
+pub record HasOut (n : ℕ) (words : List ℕ) (hs : Holdings) : Type 0 where
   pub holding : Holding
   pub is : held_of n hs.held ≡ Some holding
   pub words_are : holding.words ≡ words
@@ -45,7 +45,7 @@ still_held m f keeps held is = subst IsSome (sym (held_changed m f keeps held)) 
 never_frees : (n at value : ℕ) (words : List ℕ) (v : Log) → HasOut n words v.holdings → frees n at value v ≡ false
 never_frees n at value words v h = ap (λ b. (at == 1) && (value == 2) && b) (ap is_marked h.is ∙ ap is_some h.unmarked) ∙ and_false ((at == 1) && (value == 2))
 
-out_stored : (n at value : ℕ) (words : List ℕ) (v : Log) → HasOut n words v.holdings → HasOut n (set words (at - 1) value) (after_node_store n at value v).holdings
+pub out_stored : (n at value : ℕ) (words : List ℕ) (v : Log) → HasOut n words v.holdings → HasOut n (set words (at - 1) value) (after_node_store n at value v).holdings
 out_stored n at value words v h =
     let free = never_frees n at value words v h in
     let has : HasOut n (set words (at - 1) value) (stored_log n at value v).holdings = record {
@@ -81,19 +81,19 @@ setting n at value words v low high wide h = go (nat_eq (held_word n at v) value
     go false e = (set words (at - 1) value, (out_stored n at value words (after_node_load n at (held_word n at v) v) h, set_sets at value words low high wide))
 
 -- no lock of the node is marked, and each other one that is spells what settled
-abbrev Apart : ℕ → List Holding → Type 0
+abbrev pub Apart : ℕ → List Holding → Type 0
 Apart n held = AllByRecursion (λ h. (IsSome h.mark → SpellsNode h.words h.settled) × (h.node ≡ n → h.mark ≡ None)) held
 
-apart : (n : ℕ) (held : List Holding) → AllByRecursion (λ h. IsSome h.mark → SpellsNode h.words h.settled) held → AllByRecursion (λ h. h.node ≡ n → h.mark ≡ None) held → Apart n held
+pub apart : (n : ℕ) (held : List Holding) → AllByRecursion (λ h. IsSome h.mark → SpellsNode h.words h.settled) held → AllByRecursion (λ h. h.node ≡ n → h.mark ≡ None) held → Apart n held
 apart n [] settled unmarked = tt
 apart n (h ∷ held) settled unmarked = ((settled.0, unmarked.0), apart n held settled.1 unmarked.1)
 
-apart_settled : (n : ℕ) (held : List Holding) → Apart n held → AllByRecursion (λ h. IsSome h.mark → SpellsNode h.words h.settled) held
+pub apart_settled : (n : ℕ) (held : List Holding) → Apart n held → AllByRecursion (λ h. IsSome h.mark → SpellsNode h.words h.settled) held
 apart_settled n [] all = tt
 apart_settled n (h ∷ held) all = (all.0.0, apart_settled n held all.1)
 
 -- what steps on the node leave as it was
-record Stays (n : ℕ) (v w : Log) : Type 0 where
+pub record Stays (n : ℕ) (v w : Log) : Type 0 where
   pub out : w.holdings.out ≡ v.holdings.out
   pub others : (m : ℕ) → m ≢ n → held_of m w.holdings.held ≡ held_of m v.holdings.held
   pub apart : Apart n v.holdings.held → Apart n w.holdings.held
@@ -117,7 +117,7 @@ edited_apart n at value (h ∷ held) all = (go (nat_eq h.node n) refl, edited_ap
     go true e = (λ marked. absurd (true≢false (sym marked ∙ ap is_some (all.0.1 (eqb-true h.node n e)))), all.0.1)
     go false e = all.0
 
-stays_stored : (n at value : ℕ) (words : List ℕ) (v : Log) → HasOut n words v.holdings → Stays n v (after_node_store n at value v)
+pub stays_stored : (n at value : ℕ) (words : List ℕ) (v : Log) → HasOut n words v.holdings → Stays n v (after_node_store n at value v)
 stays_stored n at value words v h =
     let plain : Stays n v (stored_log n at value v) = record { out = refl; others = λ m far. edited_far n at value m far v.holdings.held; apart = edited_apart n at value v.holdings.held } in
     subst (Stays n v) (sym (plain_store n at value v (never_frees n at value words v h))) plain
@@ -143,7 +143,7 @@ word_set n at value found k k1 k2 held told other loaded stored = go (held_of n 
         ∙ ap (λ b. record k { log = if b then after_node_load n at (held_word n at k.log) k.log else after_node_store n at value (after_node_load n at (held_word n at k.log) k.log) }) (sym (ap (λ w. w == value) word ∙ ne_eqb found value other)))
 
 -- stores leave what a caller may still do
-stored_budget : (n at value : ℕ) (v : Log) → (after_node_store n at value v).budget ≡ v.budget
+pub stored_budget : (n at value : ℕ) (v : Log) → (after_node_store n at value v).budget ≡ v.budget
 stored_budget n at value v = go (frees n at value v)
   where
     settled : (b : Bool) → (if b then after_exchange (stored_log n at value v) (top_of (stored_log n at value v) None) (is_among (group_of (stored_log n at value v) None)) else settle_free (stored_log n at value v)).budget ≡ v.budget
@@ -240,7 +240,7 @@ pub given_surplus : (n head : ℕ) (k : CallerData) → surplus (record k { log 
 given_surplus n head k = ap (λ (b : Budget). b.credit - 64 * k.left) (linking_budget n head k.log)
 
 module _ (n : ℕ) (v : Log) (root : IsSome (held_of 0 v.holdings.held)) (held : IsSome (held_of n v.holdings.held)) (out : IsTrue (is_among v.holdings.out n)) (told : HolderTells n v) (unmarked : OutTells n v) where
-  first : (words : List ℕ) × (HasOut n words v.holdings × (length words ≡ 35))
+  pub first : (words : List ℕ) × (HasOut n words v.holdings × (length words ≡ 35))
   first = go (held_of n v.holdings.held) refl held told
     where
       each_unmarked : (hs : List Holding) (h : Holding) → held_of n hs ≡ Some h → AllByRecursion (λ z. z.node ≡ n → z.mark ≡ None) hs → h.mark ≡ None

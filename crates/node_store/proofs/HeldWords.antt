@@ -6,7 +6,6 @@ use Rattle.word_rule.specs.declared.log.Log.{Log}
 use Rattle.word_rule.specs.declared.log.Holding.{Holding}
 use Rattle.word_rule.specs.Held.{held_of}
 use Rattle.word_rule.specs.NodeTells.{HeldTells, HolderTells, IsHeldNode, IsLiveNode}
-use Rattle.tree_shape.specs.declared.node.Frame.{Frame}
 use Rattle.word_rule.specs.Places.{TOP}
 use Rattle.word_rule.specs.Spelling.{node_word, is_short, pairs_at, entries_at, body_of_kind, spelled, SpellsNode}
 use Rattle.word_rule.specs.CallerData.{CallerData}

@@ -8,3 +8,4 @@ pub mod HeldWords
 pub mod HeldWrites
 pub mod Settled
 pub mod Giving
+pub mod OutNodes

@@ -1,16 +1,14 @@
 -- Where no live node that is held was changed, nothing of the tree settles.
-use Rattle.std.proofs.Common.{◌≡◌, ◌≢◌, ℕ, ◌-◌, Bool, true, false, cond, true≢false, ◌&&◌, ◌||◌, ◌==◌, not, List, [], ◌∷◌, map, Option, Some, None, IsSome, is_some, option_map, set, nat_eq, if◌then◌else◌, refl, ap, sym, ◌∙◌, subst}
-use Rattle.std.proofs.lemmas.Bool.{eqb-true}
+use Rattle.std.proofs.Common.{◌≡◌, ℕ, Bool, true, false, true≢false, ◌&&◌, ◌||◌, ◌==◌, not, List, [], ◌∷◌, map, Option, None, IsSome, is_some, if◌then◌else◌, refl, ap, sym, ◌∙◌}
 use Rattle.std.specs.Bool.{Decides}
 use Rattle.std.specs.List.{AllByRecursion, filter}
 use Rattle.tree_shape.specs.Numbers.{is_among}
 use Rattle.tree_shape.proofs.Deciding.{same_shape_decides}
 use Rattle.reg_model.specs.declared.answer.Update.{Update}
-use Rattle.tree_shape.specs.NodeData.{NodeData}
 use Rattle.word_rule.specs.declared.log.Log.{Log}
 use Rattle.word_rule.specs.declared.log.Holding.{Holding}
-use Rattle.word_rule.specs.Exchange.{IsLawfulExchange, after_exchange, are_spelled, changed_of, exchange, group_of, is_changed, is_lawful, node_of, nothing_reached, settle, settle_free, top_of}
-use Rattle.word_rule.specs.Held.{held_of, now_of, without_lock}
+use Rattle.word_rule.specs.Exchange.{IsLawfulExchange, after_exchange, are_spelled, exchange, group_of, is_changed, is_lawful, node_of, nothing_reached, settle, settle_free, top_of}
+use Rattle.word_rule.specs.Held.{now_of, without_lock}
 use Rattle.word_rule.specs.Spelling.{spelled, SpellsNode}
 use Rattle.node_store.specs.Free.{IsSettled}
 

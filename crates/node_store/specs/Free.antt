@@ -1,6 +1,6 @@
 -- What taking a node off the free list, and giving one back, make of a caller.
-use Rattle.std.specs.Prelude.{◌≡◌, ◌≢◌, ℕ, Bool, true, ◌==◌, Option, Some, None, Result, Ok, Err}
-use Rattle.std.specs.Prelude.{IsSome, option_map, if◌then◌else◌}
+use Rattle.std.specs.Prelude.{◌≡◌, ◌≢◌, ℕ, Bool, true, false, ◌==◌, Option, Some, None, Result, Ok}
+use Rattle.std.specs.Prelude.{Err, IsSome, IsSomeAnd, option_map, if◌then◌else◌}
 use Rattle.std.specs.List.{AllByRecursion}
 use Rattle.word_rule.specs.CallerData.{CallerData}
 use Rattle.word_rule.specs.Exchange.{exchange, nothing_reached}
@@ -70,3 +70,10 @@ pub record LeavesOthers (n : ℕ) (v w : Log) : Type 0 where
 abbrev pub GivesFree : ℕ → CallerData → CallerData → Type 0
 GivesFree n k k' = (head : ℕ)
     × (k' ≡ record k { log = after_node_release n (after_give n (after_linking n head k.log)) })
+
+-- What a caller has between two such steps: the root is held with nothing stored in it, and so is
+-- each node that is out; no live node is changed.
+pub record HoldsOut (v : Log) : Type 0 where
+  pub root : IsSomeAnd (held_of 0 v.holdings.held) (λ h. h.stored ≡ false)
+  pub out : AllByRecursion (λ n. IsSome (held_of n v.holdings.held)) v.holdings.out
+  pub settled : IsSettled v

@@ -8,6 +8,8 @@
 #![tactic(auto)]
 
 mod free;
+#[cfg(test)]
+mod free_tests;
 mod held;
 mod locking;
 mod locks;
@@ -18,6 +20,8 @@ mod sight;
 #[cfg(test)]
 mod tests;
 #[cfg(test)]
+mod whole_tests;
+#[cfg(test)]
 mod word_tests;
 mod writing;
 
@@ -27,4 +31,4 @@ pub use locking::{Busy, Locking, Once, Trying, Waiting};
 pub use locks::{lock, unlock, unlock_same};
 pub use reading::{CONTENT_WORDS, node_of};
 pub use sight::{Sight, check, peek};
-pub use writing::{Store, TURNS, store_in_turn, wanted_word, write_over};
+pub use writing::Store;

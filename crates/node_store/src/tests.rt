@@ -1,9 +1,8 @@
-ghost use Rattle.std.specs.Prelude.{◌≡◌, ◌+◌, ◌*◌, ◌≤◌, ◌<◌, [], None, IsSome, length};
-ghost use Rattle.word_rule.specs.Held.{held_of};
+ghost use Rattle.std.specs.Prelude.{◌≡◌, ◌*◌, ◌≤◌, ◌<◌, None, IsSome};
 ghost use Rattle.word_rule.specs.CallerData.{surplus};
 ghost use Rattle.node_store.specs.Locking.{Turns};
 
-use crate::{Locking, Once, Trying, Waiting, lock, take_free, unlock};
+use crate::{Locking, Once, Trying, Waiting, lock, unlock};
 use std::sync::Wait;
 use std::test::Fail;
 use std::thread::{self, Threads, join};
@@ -213,45 +212,5 @@ fn a_lock_that_is_taken_is_busy(rt: HostRuntime) -> Result<(), Fail> {
     assert!(rt; waiting.take(&words, &mut a, id));
     waiting.let_go_same(&words, &mut a, id);
     assert!(rt; words.load_version(&mut b, id, Ask::Nothing) == 4);
-    Ok(())
-}
-
-// Takes the next free node by one try, and answers none also where it is locked.
-fn take_next(words: &Words, me: &mut Caller) -> Option<u32>
-    requires table { me.old.table ≡ words.now.table }
-    requires root { IsSome (held_of 0 me.old.log.holdings.held) }
-    requires room { length me.old.log.holdings.out < 4 }
-    ensures table { me.new.table ≡ me.old.table }
-    ensures root { IsSome (held_of 0 me.new.log.holdings.held) }
-    ensures out { length me.new.log.holdings.out ≤ length me.old.log.holdings.out + 1 }
-{
-    match take_free(&Once, words, me) {
-        Ok(node) => node,
-        Err(_) => None,
-    }
-}
-
-// Takes three nodes and looks for a fourth.
-fn take_all(words: &Words, me: &mut Caller) -> bool
-    requires table { me.old.table ≡ words.now.table }
-    requires root { IsSome (held_of 0 me.old.log.holdings.held) }
-    requires out { length me.old.log.holdings.out ≡ 0 }
-{
-    let first = take_next(words, me);
-    let second = take_next(words, me);
-    let third = take_next(words, me);
-    let fourth = take_next(words, me);
-    first == Some(1) && second == Some(2) && third == Some(3) && fourth == None
-}
-
-#[test]
-fn free_nodes_are_given_out_in_turn(rt: HostRuntime) -> Result<(), Fail> {
-    let alloc = rt.alloc();
-    let (words, mut a) = Words::new(alloc, 4, 1, 1, Vec::new(alloc))?;
-    let Ok(_) = words.take(&mut a, LockId::Node { node: 0 }) else {
-        panic!(rt; "nobody else is here")
-    };
-    let all = take_all(&words, &mut a);
-    assert!(rt; all);
     Ok(())
 }

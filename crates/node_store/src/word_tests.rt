@@ -1,7 +1,8 @@
-use crate::{
-    CONTENT_WORDS, Store, check, node_of, peek, read_held, store_in_turn, wanted_word, write_held,
-    write_over,
-};
+ghost use Rattle.std.specs.Prelude.{◌≡◌};
+ghost use Rattle.node_store.specs.Writing.{Write, after_stores, stores};
+
+use crate::writing::{TURNS, node_fits, store_in_turn, wanted_word, writes};
+use crate::{CONTENT_WORDS, Store, check, node_of, peek, read_held, write_held};
 use reg_model::{Again, Member, Span};
 use std::test::Fail;
 use tree_shape::{Content, Node, Pair, put_entry};
@@ -86,6 +87,20 @@ fn words_of_an_inner_node(rt: HostRuntime) -> Result<(), Fail> {
     assert!(rt; wanted_word(&node, 6) == Some(3) && wanted_word(&node, 7) == Some(0x140f));
     assert!(rt; wanted_word(&node, 8) == Some(2) && wanted_word(&node, 10).is_none());
     Ok(())
+}
+
+// Writes a node over old words. Only words that differ are stored, each once.
+fn write_over(words: &mut [u64; CONTENT_WORDS], node: &Node)
+    ensures stores { words.new ≡ after_stores (stores node.now words.old) words.old }
+    ensures write { Write node.now words.old (stores node.now words.old) }
+{
+    node_fits(node);
+    writes();
+    for turn in 0..TURNS {
+        if let Some(store) = store_in_turn(words, node, turn) {
+            words[store.at as usize - 1] = store.value;
+        }
+    }
 }
 
 #[test]

@@ -10,7 +10,6 @@ ghost use Rattle.word_rule.specs.Spelling.{node_word, SpellsNode};
 ghost use Rattle.node_store.specs.Writing.{wanted_node_word, kind_of_body, count_of};
 ghost use Rattle.node_store.specs.Writing.{item_words, pair_words, entry_words};
 ghost use Rattle.node_store.specs.Writing.{FitsWords, Write, place_in_turn, store_in_turn, stores};
-ghost use Rattle.node_store.specs.Writing.{after_stores};
 ghost use Rattle.tree_shape.specs.NodeData.{NodeData};
 ghost use Rattle.word_rule.specs.Places.{CONTENT_WORDS};
 
@@ -21,7 +20,7 @@ use reg_model::Member;
 use tree_shape::{Content, Node, Pair};
 
 /// The turns of a write: each word after the version has one.
-pub const TURNS: u32 = 35;
+pub(crate) const TURNS: u32 = 35;
 
 // The last turn, which is that of the count.
 const LAST_TURN: u32 = 34;
@@ -135,7 +134,7 @@ fn item_word(node: &Node, at: usize) -> Option<u64>
 }
 
 /// What the word of a node with this number is to be. None where any will do.
-pub fn wanted_word(node: &Node, at: u32) -> Option<u64>
+pub(crate) fn wanted_word(node: &Node, at: u32) -> Option<u64>
     requires { 1 ≤ at }
     ensures { result ≡ wanted_node_word node.now at }
 {
@@ -164,7 +163,7 @@ fn place_in_turn(turn: u32) -> u32
 }
 
 /// The store of a turn, where the word whose turn it is isn't yet as it is to be.
-pub fn store_in_turn(words: &[u64; CONTENT_WORDS], node: &Node, turn: u32) -> Option<Store>
+pub(crate) fn store_in_turn(words: &[u64; CONTENT_WORDS], node: &Node, turn: u32) -> Option<Store>
     requires { turn < 35 }
     ensures { result ≡ store_in_turn node.now words.now turn }
 {
@@ -181,17 +180,3 @@ pub(crate) fn writes()
     ensures { (s : NodeData) (words : List ℕ) → length words ≡ CONTENT_WORDS → FitsWords s
         → Write s words (stores s words) }
 {}
-
-/// Writes a node over old words. Only words that differ are stored, each once.
-pub fn write_over(words: &mut [u64; CONTENT_WORDS], node: &Node)
-    ensures stores { words.new ≡ after_stores (stores node.now words.old) words.old }
-    ensures write { Write node.now words.old (stores node.now words.old) }
-{
-    node_fits(node);
-    writes();
-    for turn in 0..TURNS {
-        if let Some(store) = store_in_turn(words, node, turn) {
-            words[store.at as usize - 1] = store.value;
-        }
-    }
-}

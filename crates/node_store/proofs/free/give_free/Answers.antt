@@ -1,10 +1,10 @@
-use Rattle.std.proofs.Common.{◌≡◌, ◌+◌, ◌<◌, ◌^◌, IfSome, IsSome, IsTrue, None, Some, ap, refl, sym, subst, ◌∙◌, arith}
+use Rattle.std.proofs.Common.{◌≡◌, ◌+◌, ◌<◌, ◌^◌, IsSome, IsTrue, None, Some, ap, refl, sym, subst, ◌∙◌, arith}
 use Rattle.word_rule.specs.CallerData.{CallerData, surplus}
 use Rattle.word_rule.specs.Held.{held_of}
-use Rattle.word_rule.specs.Steps.{HeadStored, MayRelease, MayStore, MayStoreHead, after_give, after_head_load, after_node_release}
+use Rattle.word_rule.specs.Steps.{MayRelease, MayStore, MayStoreHead, after_give, after_head_load, after_node_release}
 use Rattle.tree_shape.specs.Numbers.{is_among}
 use Rattle.node_store.specs.Free.{LeavesOthers, after_linking, after_setting}
-use Rattle.node_store.proofs.Giving.{given_me, given_surplus, gone_after, head_after, held_then, is_given, linked_me, may_let_go, may_link, may_store_head, others_stay, out_then, root_after, root_then, surplus_after}
+use Rattle.node_store.proofs.Giving.{given_me, given_surplus, gone_after, head_after, held_then, linked_me, may_let_go, may_link, may_store_head, others_stay, out_then, root_after, root_then, surplus_after}
 use Rattle.node_store.proofs.free.give_free.Goals as goal
 
 pub set_word-requires-2-clause-held : goal.set_word-requires-2-clause-held

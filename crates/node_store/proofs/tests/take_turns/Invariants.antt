@@ -1,4 +1,4 @@
-use Rattle.std.proofs.Common.{◌≡◌, ◌+◌, ◌*◌, ◌≤◌}
+use Rattle.std.proofs.Common.{◌+◌, ◌≤◌}
 use Rattle.word_rule.specs.CallerData.{surplus}
 use Rattle.node_store.specs.Locking.{Turns}
 use Rattle.node_store.proofs.tests.take_turns.Given as goal

@@ -1,7 +1,7 @@
 use Rattle.std.proofs.Common.{◌≡◌, length}
 use Rattle.word_rule.specs.Places.{CONTENT_WORDS}
 use Rattle.node_store.specs.Writing.{after_stores, stores_upto}
-use Rattle.node_store.proofs.writing.write_over.Given as goal
+use Rattle.node_store.proofs.word_tests.write_over.Given as goal
 
 -- the stores of the turns so far
 abbrev pub invariant-loop-turn : goal.invariant-loop-turn

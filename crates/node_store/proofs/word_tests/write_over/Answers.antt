@@ -2,8 +2,8 @@ use Rattle.std.proofs.Common.{ap, ◌∙◌, sym}
 use Rattle.std.specs.Option.{option_to_list}
 use Rattle.node_store.specs.Writing.{after_stores}
 use Rattle.node_store.proofs.Stores.{turn_made}
-use Rattle.node_store.proofs.writing.write_over.Goals as goal
-use Rattle.node_store.proofs.writing.write_over.Goals.{in-Some, in_default}
+use Rattle.node_store.proofs.word_tests.write_over.Goals as goal
+use Rattle.node_store.proofs.word_tests.write_over.Goals.{in-Some, in_default}
 
 pub loop-turn-preserved : goal.loop-turn-preserved
 loop-turn-preserved c =
