@@ -14,12 +14,7 @@ ghost use Rattle.btree_lookup.specs.Visits.{SeesChild, SeesNone, Way};
 use reg_model::Again;
 use tree_shape::PAIRS;
 use tree_shape::limits::HIGHEST_LEVEL;
-use word_rule::{Ask, Caller, LockId, Words};
-
-/// Where the nodes begin in the table, and the words of one.
-const FIRST_NODE: u32 = 4;
-
-const NODE_WORDS: u32 = 36;
+use word_rule::{Ask, Caller, FIRST_NODE, LockId, NODE_WORDS, Words};
 
 /// The words of a node: its level and its count, and of an inner one the first child and the first
 /// separator. The next pair stands two words on.
@@ -47,7 +42,7 @@ fn version_word(words: &Words, node: u32) -> u32
     ensures { result ≡ node_place node }
 {
     let _few = words.nodes();
-    FIRST_NODE + NODE_WORDS * node
+    FIRST_NODE as u32 + NODE_WORDS as u32 * node
 }
 
 /// A node's version was found locked.
