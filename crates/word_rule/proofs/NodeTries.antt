@@ -3,6 +3,7 @@ use Rattle.std.proofs.Common.{◌≡◌, ◌≢◌, ℕ, zero, suc, ◌+◌, ◌
 use Rattle.std.proofs.lemmas.Nat.{or_disjoint}
 use Rattle.std.specs.Int.Bits.{or_add_and}
 use lib.Bits.{and_mask}
+use Rattle.std.proofs.lemmas.Option.{none-some}
 use Rattle.std.specs.List.{AllByRecursion}
 use mathlib.Core.Option.{none, some}
 use native.Mathlib.Decide.{ℕ_discrete}
@@ -35,7 +36,7 @@ use Rattle.word_rule.specs.Plays.{Seated, locks_node, grabs_node, marks}
 use Rattle.word_rule.proofs.Each.{all_map}
 use Rattle.word_rule.proofs.Memories.{load_version_at, content_length, by_same}
 use Rattle.word_rule.proofs.Spells.{spells_free}
-use Rattle.word_rule.proofs.Standing.{even_is_open}
+use Rattle.word_rule.proofs.Standing.{even_is_open, held_by}
 use Rattle.word_rule.proofs.Frames.{Sit}
 use Rattle.word_rule.proofs.NodesFrame.{holder_stays}
 use Rattle.word_rule.proofs.HeadPlays.{RootLaw}
@@ -107,12 +108,17 @@ module _ (t : Terms) (slots id : ℕ) (me : Seated) (caller : me.0.role ≡ role
         let free : r.memory.shadow.holder n ≡ None = even_is_open t (memory_of t s.words).nodes s.views r.memory.history r.memory.shadow r.memory.nodes n (ap (λ k. k % 2) hit ∙ even) in
         let spells : SpellsNode ((memory_of t s.words).nodes.contents n) (r.memory.shadow.settled n) = (subst (IsOpen ((memory_of t s.words).nodes.versions n) ((memory_of t s.words).nodes.contents n) (r.memory.shadow.settled n)) free (r.memory.nodes.unlocked n inside)).1 in record {
           within = subst (λ k. n < k.nodes) (sym terms) inside;
+          new = not_held (held_of n me.0.holdings.held) refl free;
           wide = content_length t s.words r.wide n inside;
           spells = spells;
           free = λ head other. spells_free ((memory_of t s.words).nodes.contents n) (r.memory.shadow.settled n) spells (first_is_free n head other);
           live = subst (λ k. IfSome (mark_at_lock n (r.memory.shadow.settled n) me.0.holdings.held) (IsLiveNode k n (r.memory.shadow.settled n))) (sym terms) (each_live (mark_at_lock n (r.memory.shadow.settled n) me.0.holdings.held) (marks_live n));
         }
       where
+        not_held : (o : Option Holding) → held_of n me.0.holdings.held ≡ o → r.memory.shadow.holder n ≡ None → held_of n me.0.holdings.held ≡ None
+        not_held None e free = e
+        not_held (Some h) e free = let l = held_by t (memory_of t s.words).nodes s.views r.memory.history r.memory.shadow r.memory.nodes id me.0 n h at e in absurd (none-some id (sym free ∙ (ap r.memory.shadow.holder (sym l.1) ∙ l.0.is_holder)))
+
         each_live : (o : Option Frame) → IfSome o (λ f. IsTrue (r.memory.shadow.live n) × IsPlaced (r.memory.shadow.settled n) f) → IfSome o (IsLiveNode t n (r.memory.shadow.settled n))
         each_live None told = tt
         each_live (Some f) told = is_live_node t (memory_of t s.words).nodes s.views r.memory.history r.memory.shadow r.memory.nodes children n f told.0 told.1
