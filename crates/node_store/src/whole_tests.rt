@@ -1,14 +1,16 @@
-ghost use Rattle.std.specs.Prelude.{◌≡◌, ◌+◌, ◌*◌, ◌^◌, ◌<◌, ◌≤◌, [], true, IsTrue};
+ghost use Rattle.std.specs.Prelude.{◌≡◌, ◌+◌, ◌*◌, ◌<◌, ◌≤◌, [], true, IsTrue};
 ghost use Rattle.tree_shape.specs.Numbers.{is_among};
 ghost use Rattle.word_rule.specs.CallerData.{surplus};
 ghost use Rattle.node_store.specs.Free.{HoldsOut, IsSettled};
 
 use crate::free_tests::{gives, takes};
-use crate::{check, lock, peek, unlock_same, write_held};
+use crate::reading::{ENTRY_WORDS, FIRST};
+use crate::{CONTENT_WORDS, Sight, check, lock, peek, unlock_same, write_held};
+use reg_model::{Member, Span};
 use std::sync::Wait;
 use std::test::Fail;
 use std::thread::{Threads, join};
-use tree_shape::{Content, Node};
+use tree_shape::{Content, ENTRIES, Node};
 use word_rule::{Caller, LockId, Words};
 
 const ROOT: LockId = LockId::Node { node: 0 };
@@ -26,34 +28,47 @@ const KIND: u32 = 1;
 
 const FREE: u64 = 2;
 
-// By how much the high fence is above the low one.
+// By how much the high fence is above the low one, and the size of each entry.
 const WIDTH: u64 = 7;
 
-// Writes both fences of a free node that was taken.
-fn write_fences(words: &Words, me: &mut Caller, node: u32, low: u64) -> bool
+// A leaf whose fences and entries all say the same number.
+fn full_leaf(low: u32) -> Option<Node> {
+    let span = Span::new(low as u64, WIDTH)?;
+    let entry = Member { span, payload: low };
+    Some(Node {
+        level: 0,
+        low: low as u64,
+        high: low as u64 + WIDTH,
+        content: Content::Leaf {
+            count: ENTRIES as u32,
+            entries: [entry; ENTRIES],
+        },
+    })
+}
+
+// Writes a free node that was taken.
+fn write_taken(words: &Words, me: &mut Caller, node: u32, content: &Node) -> bool
     requires table { me.old.table ≡ words.now.table }
     requires inside { node < words.now.terms.nodes }
     requires holds { HoldsOut me.old.log }
     requires out { IsTrue (is_among me.old.log.holdings.out node) }
-    requires low { low < 2 ^ 63 }
     ensures table { me.new.table ≡ me.old.table }
     ensures surplus { surplus me.new ≡ surplus me.old }
     ensures holds { HoldsOut me.new.log }
     ensures out { me.new.log.holdings.out ≡ me.old.log.holdings.out }
 {
-    let content = Node::empty_leaf(low, low + WIDTH);
     let kind = words.load_node(me, node, KIND);
-    write_held(words, me, node, &content);
+    write_held(words, me, node, content);
     kind == FREE
 }
 
-// Takes node 1 under the root's lock, writes it and puts it back.
-fn write_one(words: &Words, me: &mut Caller, low: u64) -> bool
+// Takes node 1 under the root's lock, writes it and puts it back. It is free then, and its other
+// words are as they were written.
+fn write_one(words: &Words, me: &mut Caller, content: &Node) -> bool
     requires table { me.old.table ≡ words.now.table }
     requires nodes { words.now.terms.nodes ≡ 4 }
     requires holds { HoldsOut me.old.log }
     requires out { me.old.log.holdings.out ≡ [] }
-    requires low { low < 2 ^ 63 }
     requires surplus { 0 < surplus me.old }
     ensures table { me.new.table ≡ me.old.table }
     ensures surplus { surplus me.old ≤ surplus me.new + 1 }
@@ -63,7 +78,7 @@ fn write_one(words: &Words, me: &mut Caller, low: u64) -> bool
     if !takes(words, me, Some(1)) {
         return false;
     }
-    let was_free = write_fences(words, me, 1, low);
+    let was_free = write_taken(words, me, 1, content);
     gives(words, me, 1);
     was_free
 }
@@ -93,12 +108,11 @@ fn unlock_root<R: Wait>(rt: &R, words: &Words, me: &mut Caller)
     unlock_same(rt, words, me, ROOT);
 }
 
-fn turn<R: Wait>(rt: &R, words: &Words, me: &mut Caller, low: u64) -> bool
+fn turn<R: Wait>(rt: &R, words: &Words, me: &mut Caller, content: &Node) -> bool
     requires table { me.old.table ≡ words.now.table }
     requires nodes { words.now.terms.nodes ≡ 4 }
     requires settled { IsSettled me.old.log }
     requires out { me.old.log.holdings.out ≡ [] }
-    requires low { low < 2 ^ 63 }
     requires surplus { 0 < surplus me.old }
     ensures table { me.new.table ≡ me.old.table }
     ensures surplus { surplus me.old ≤ surplus me.new + 1 }
@@ -106,7 +120,7 @@ fn turn<R: Wait>(rt: &R, words: &Words, me: &mut Caller, low: u64) -> bool
     ensures out { result ≡ true → me.new.log.holdings.out ≡ [] }
 {
     lock_root(rt, words, me);
-    let done = write_one(words, me, low);
+    let done = write_one(words, me, content);
     unlock_root(rt, words, me);
     done
 }
@@ -117,21 +131,40 @@ fn write_often<R: Wait>(rt: &R, words: &Words, mut me: Caller, first: u32) -> bo
     requires nodes { words.now.terms.nodes ≡ 4 }
     requires settled { IsSettled me.log }
     requires out { me.log.holdings.out ≡ [] }
+    requires first { first ≤ 1_000_000 }
     requires surplus { 1000 ≤ surplus me }
 {
     for step in 0..TURNS {
-        if !turn(rt, words, &mut me, first as u64 + step as u64) {
+        let Some(content) = full_leaf(first + step) else {
+            return false;
+        };
+        if !turn(rt, words, &mut me, &content) {
             return false;
         }
     }
     true
 }
 
-// Whether a node is free, and its fences are the first ones or were written as one pair.
-fn is_whole(node: &Node) -> bool {
+// Whether all entries that were written last say this number.
+fn is_filled(words: &[u64; CONTENT_WORDS], low: u64) -> bool {
+    for slot in 1..ENTRIES {
+        if words[FIRST + ENTRY_WORDS * slot - 1] != low
+            || words[FIRST + ENTRY_WORDS * slot + 1] != low
+        {
+            return false;
+        }
+    }
+    true
+}
+
+// Whether a node is free, and its fences and its other words are the first ones or were written
+// by one write.
+fn is_whole(sight: &Sight, node: &Node) -> bool {
     let at_first = node.low == 0 && node.high == u64::MAX;
     let pair = node.low.checked_add(WIDTH) == Some(node.high);
-    matches!(node.content, Content::Free { .. }) && (at_first || pair)
+    matches!(node.content, Content::Free { .. })
+        && (at_first || pair)
+        && is_filled(&sight.words, node.low)
 }
 
 // Looks at node 1: the version of a sight that was checked, and whether it was whole.
@@ -146,7 +179,7 @@ fn look(words: &Words, me: &mut Caller) -> Option<(u64, bool)>
     let Ok(node) = check(words, me, &sight) else {
         return None;
     };
-    Some((sight.version, is_whole(&node)))
+    Some((sight.version, is_whole(&sight, &node)))
 }
 
 // Looks at node 1 until both are done, and says whether each sight that was checked was whole.
