@@ -8,7 +8,7 @@ use Rattle.event_script.specs.Digits.{hex}
 use Rattle.event_script.specs.Fields.{pieces, is_printable}
 use Rattle.event_script.specs.Statements.{word_of, kind_of_statement, statement_fields, statement_line, HasForm}
 use Rattle.event_script.specs.Spelling.{statement_text, statements_text}
-use Rattle.event_script.specs.Draft.{DraftData, may_come, is_ended, is_unbuilt, with_statement}
+use Rattle.event_script.specs.Draft.{DraftData, may_come, is_ended, with_statement}
 use Rattle.event_script.specs.Reading.{◌>=>◌, statement_of, added, by_word, after_line, at_line, after_lines}
 use Rattle.event_script.specs.declared.script.Event.TheVariants as event
 use Rattle.event_script.specs.declared.reader.fault.Reason.{Reason}
@@ -29,7 +29,6 @@ use Rattle.event_script.proofs.Sections.{section_visible, digits_visible}
 -- the line may come, and no reason speaks against it
 pub record CanAdd (known : DraftData) (s : Statement) : Type 0 where
   pub may : may_come known.stage (kind_of_statement s) ≡ true
-  pub built : is_unbuilt known (kind_of_statement s) ≡ false
   pub form : HasForm s
   pub is : added known s ≡ Ok (with_statement known s)
 
@@ -72,10 +71,9 @@ word_added known s can =
     let k = kind_of_statement s in
     let fields = statement_fields s in
     let say = λ (k : Kind). statement_of k fields >=> λ s. added known s in
-    let given = λ (k : Kind). cond (may_come known.stage k) (cond (is_unbuilt known k) (Err reason.Unbuilt) (say k)) (Err reason.Word) in
+    let given = λ (k : Kind). cond (may_come known.stage k) (say k) (Err reason.Word) in
     ap (λ (o : Option Kind). ok_or o reason.Word >=> given) (word_again k)
-    ∙ cond-true (may_come known.stage k) (cond (is_unbuilt known k) (Err reason.Unbuilt) (say k)) (Err reason.Word) can.may
-    ∙ cond-false (is_unbuilt known k) (Err reason.Unbuilt) (say k) can.built
+    ∙ cond-true (may_come known.stage k) (say k) (Err reason.Word) can.may
     ∙ ap (λ (r : Result Statement Reason). r >=> λ s. added known s) (said_again s can.form)
     ∙ can.is
 

@@ -1,9 +1,9 @@
 -- Scripts and the lines before a bad one: some script begins with these, and none with the bad one too.
-use Rattle.std.proofs.Common.{◌≡◌, ◌≢◌, inr, ℕ, suc, ◌+◌, ◌-◌, ◌≤◌, zero, Bool, true, false, true≢false, cond, eqb, List, [], ◌∷◌, ◌++◌, length, take, Result, Ok, Err, refl, sym, ap, subst, ◌∙◌, append_assoc, append-nil, length-append, arith}
+use Rattle.std.proofs.Common.{◌≡◌, ◌≢◌, inr, ℕ, suc, ◌+◌, ◌-◌, ◌≤◌, zero, Bool, true, false, cond, eqb, List, [], ◌∷◌, ◌++◌, length, take, Result, Ok, Err, refl, sym, ap, subst, ◌∙◌, append_assoc, append-nil, length-append, arith}
 use Rattle.std.specs.List.{All, AllByRecursion}
 use Rattle.std.proofs.lemmas.Bool.{eqb-false}
 use Rattle.std.proofs.lemmas.Grind.{flat_map-append}
-use Rattle.event_script.specs.ScriptData.{ScriptData, SnapshotData, Counts, counts_of, IsSnapshot, IsRunnable, IsBuilt}
+use Rattle.event_script.specs.ScriptData.{ScriptData, SnapshotData, Counts, counts_of, IsSnapshot, IsRunnable}
 use Rattle.event_script.specs.Fields.{with_first, pieces}
 use Rattle.event_script.specs.Spelling.{statement_text, statements_text, body_statements, script_text}
 use Rattle.event_script.specs.Draft.{DraftData, nothing_known, with_statement}
@@ -90,7 +90,7 @@ bad_line known number line others rest why missing unended is last e =
     by (Err other) judged next more e = cc
 
 pub none_begins : (bytes : List ℕ) (number : ℕ) (why : Reason) → IsFirstBad bytes number why → why ≢ reason.Missing → why ≢ reason.Unended → BeginsScript (take number (pieces 10 bytes)) → ⊥
-none_begins bytes number why bad missing unended (s, others, run, built, text) =
+none_begins bytes number why bad missing unended (s, others, run, text) =
     let front = bad.before in
     let line = bad.line in
     let whole_front : (front ++ line ∷ []) ++ bad.others ≡ pieces 10 bytes = append_assoc front (line ∷ []) bad.others ∙ sym bad.cut in
@@ -101,7 +101,7 @@ none_begins bytes number why bad missing unended (s, others, run, built, text) =
     ap (pieces 10) (text ∙ ap (λ (x : List (List ℕ)). lines_text x ++ others) taken)
     ∙ lines_cut (front ++ line ∷ []) others (both_without front line without.0 without.1)
     ∙ append_assoc front (line ∷ []) (pieces 10 others) in
-    let read = outcome_complete (script_text s) s (record { text = refl; runnable = run; built = built }) in
+    let read = outcome_complete (script_text s) s (record { text = refl; runnable = run }) in
     bad_line bad.known (1 + length front) line bad.others others why missing unended bad.bad (whole s)
     (sym (ap (after_lines nothing_known 1) cut ∙ reads_lines nothing_known bad.known front 1 line (pieces 10 others) bad.good) ∙ read)
   where
@@ -116,7 +116,6 @@ record CanEnd (known : DraftData) : Type 0 where
   script : ScriptData
   more : List Statement
   runnable : IsRunnable script
-  built : IsBuilt script
   is : body_statements script ++ statement.End ∷ [] ≡ statements_so_far known ++ more
 
 -- the least script: nothing stands in it
@@ -138,9 +137,6 @@ least_runs nodes loads some_nodes some_loads = record {
   unwinds = omega arith;
 }
 
-least_built : (nodes loads : ℕ) → IsBuilt (least nodes loads)
-least_built nodes loads has = absurd (true≢false (sym has))
-
 module _ (script : ScriptData) (snapshot : SnapshotData) (threads : List (List Event)) (events : List Event) (totals : Totals) where
   abbrev so_far : Stage → DraftData
   so_far stage = record { stage = stage; script = script; snapshot = snapshot; threads = threads; events = events; totals = totals }
@@ -148,35 +144,27 @@ module _ (script : ScriptData) (snapshot : SnapshotData) (threads : List (List E
   abbrev with_all : List SnapshotData → List (List (List Event)) → ScriptData
   with_all snapshots rounds = record script { snapshots = snapshots; rounds = rounds }
 
-  -- with these rounds it is a script that can be run
-  record CanRun (s : ScriptData) : Type 0 where
-    runnable : IsRunnable s
-    built : IsBuilt s
-
   with_rounds : (at : Stage) (snapshots : List SnapshotData) (rounds : List (List (List Event))) → (length snapshots ≤ 4096) × All IsSnapshot snapshots → (4 ≤ script.nodes) × (script.nodes ≤ 16384) → (1 ≤ script.loads) × (script.loads ≤ 1024) → Sound (so_far at) → Totalled totals rounds
-      → AreRounds (record { images = length script.images; snapshots = length snapshots }) rounds → CanRun (with_all snapshots rounds)
+      → AreRounds (record { images = length script.images; snapshots = length snapshots }) rounds → IsRunnable (with_all snapshots rounds)
   with_rounds at snapshots rounds some nodes loads s t are = record {
-    runnable = record {
-      nodes = nodes;
-      loads = loads;
-      images = (s.count, s.spans);
-      sections = (s.each, s.sections);
-      fixed = s.fixed;
-      snapshots = some;
-      rounds = (are.few, are.each);
-      unwinds = (let few = t.few in omega (arith, ap (λ (x : Totals). x.unwinds) t.is));
-    };
-    built = λ has. t.serial (ap (λ (x : Totals). x.has_registration) t.is ∙ has);
+    nodes = nodes;
+    loads = loads;
+    images = (s.count, s.spans);
+    sections = (s.each, s.sections);
+    fixed = s.fixed;
+    snapshots = some;
+    rounds = (are.few, are.each);
+    unwinds = (let few = t.few in omega (arith, ap (λ (x : Totals). x.unwinds) t.is));
   }
 
   -- the lines so far, and then the last one
-  ends_with : (at : Stage) (snapshots : List SnapshotData) (rounds : List (List (List Event))) → body_statements (with_all snapshots rounds) ≡ statements_so_far (so_far at) → CanRun (with_all snapshots rounds) → CanEnd (so_far at)
-  ends_with at snapshots rounds is can = record { script = with_all snapshots rounds; more = statement.End ∷ []; runnable = can.runnable; built = can.built; is = ap (λ (x : List Statement). x ++ statement.End ∷ []) is }
+  ends_with : (at : Stage) (snapshots : List SnapshotData) (rounds : List (List (List Event))) → body_statements (with_all snapshots rounds) ≡ statements_so_far (so_far at) → IsRunnable (with_all snapshots rounds) → CanEnd (so_far at)
+  ends_with at snapshots rounds is can = record { script = with_all snapshots rounds; more = statement.End ∷ []; runnable = can; is = ap (λ (x : List Statement). x ++ statement.End ∷ []) is }
 
   can_end : (at : Stage) → Sound (so_far at) → CanEnd (so_far at)
-  can_end stage.Version s = record { script = least 4 1; more = body_statements (least 4 1) ++ statement.End ∷ []; runnable = least_runs 4 1 (omega arith, omega arith) (omega arith, omega arith); built = least_built 4 1; is = refl }
-  can_end stage.Nodes s = record { script = least 4 1; more = statement.Nodes 4 ∷ statement.Loads 1 ∷ statement.End ∷ []; runnable = least_runs 4 1 (omega arith, omega arith) (omega arith, omega arith); built = least_built 4 1; is = refl }
-  can_end stage.Loads s = record { script = least script.nodes 1; more = statement.Loads 1 ∷ statement.End ∷ []; runnable = least_runs script.nodes 1 s.nodes (omega arith, omega arith); built = least_built script.nodes 1; is = refl }
+  can_end stage.Version s = record { script = least 4 1; more = body_statements (least 4 1) ++ statement.End ∷ []; runnable = least_runs 4 1 (omega arith, omega arith) (omega arith, omega arith); is = refl }
+  can_end stage.Nodes s = record { script = least 4 1; more = statement.Nodes 4 ∷ statement.Loads 1 ∷ statement.End ∷ []; runnable = least_runs 4 1 (omega arith, omega arith) (omega arith, omega arith); is = refl }
+  can_end stage.Loads s = record { script = least script.nodes 1; more = statement.Loads 1 ∷ statement.End ∷ []; runnable = least_runs script.nodes 1 s.nodes (omega arith, omega arith); is = refl }
   can_end stage.Images s = ends_with stage.Images script.snapshots script.rounds refl (with_rounds stage.Images script.snapshots script.rounds s.snapshots s.nodes s.loads s s.totals (early_rounds (counts_of script) script.rounds s.shape.0))
   can_end stage.Fixed s = ends_with stage.Fixed script.snapshots script.rounds refl (with_rounds stage.Fixed script.snapshots script.rounds s.snapshots s.nodes s.loads s s.totals (early_rounds (counts_of script) script.rounds s.shape.0))
   can_end stage.Snapshots s =
@@ -192,7 +180,7 @@ module _ (script : ScriptData) (snapshot : SnapshotData) (threads : List (List E
       ends_with stage.Thread script.snapshots rounds refl (with_rounds stage.Thread script.snapshots rounds s.snapshots s.nodes s.loads s s.totals (thread_rounds script snapshot threads events totals s))
   can_end stage.Ended s =
       let can = with_rounds stage.Ended script.snapshots script.rounds s.snapshots s.nodes s.loads s s.totals (record { few = s.shape; each = s.rounds }) in
-      record { script = script; more = []; runnable = can.runnable; built = can.built; is = sym (append-nil (body_statements script ++ statement.End ∷ [])) }
+      record { script = script; more = []; runnable = can; is = sym (append-nil (body_statements script ++ statement.End ∷ [])) }
 
 -- good lines are the text of what they make known
 record HasText (known last : DraftData) (lines : List (List ℕ)) : Type 0 where
@@ -221,7 +209,6 @@ some_begins bytes number why bad =
       ends.script,
       statements_text ends.more,
       ends.runnable,
-      ends.built,
       ap statements_text ends.is ∙ flat_map-append statement_text (statements_so_far bad.known) ends.more
           ∙ ap (λ (x : List ℕ). x ++ statements_text ends.more) made.text
           ∙ ap (λ (x : List (List ℕ)). lines_text x ++ statements_text ends.more) (sym taken),

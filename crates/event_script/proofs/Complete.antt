@@ -57,11 +57,11 @@ module _ (nodes loads : ℕ) where
   adds_first low high least most =
       let nodes_known : DraftData = with_statement nothing_known (statement.Version 1) in
       let loads_known : DraftData = with_statement nodes_known (statement.Nodes nodes) in (
-        record { may = refl; built = refl; form = omega arith; is = refl },
+        record { may = refl; form = omega arith; is = refl },
         (
-          record { may = refl; built = refl; form = omega arith; is = cond-true (leb 4 nodes && leb nodes 16384) (good loads_known) (Err reason.Limit) (and_from _ _ (le-leb 4 nodes low) (le-leb nodes 16384 high)) },
+          record { may = refl; form = omega arith; is = cond-true (leb 4 nodes && leb nodes 16384) (good loads_known) (Err reason.Limit) (and_from _ _ (le-leb 4 nodes low) (le-leb nodes 16384 high)) },
           (
-            record { may = refl; built = refl; form = omega arith; is = cond-true (leb 1 loads && leb loads 1024) (good (with_statement loads_known (statement.Loads loads))) (Err reason.Limit) (and_from _ _ (le-leb 1 loads least) (le-leb loads 1024 most)) },
+            record { may = refl; form = omega arith; is = cond-true (leb 1 loads && leb loads 1024) (good (with_statement loads_known (statement.Loads loads))) (Err reason.Limit) (and_from _ _ (le-leb 1 loads least) (le-leb loads 1024 most)) },
             refl,
           ),
         ),
@@ -117,7 +117,6 @@ module _ (nodes loads : ℕ) where
         let top = is.below_top in
         record {
           may = refl;
-          built = refl;
           form = (omega arith, omega arith, omega arith, whole.address, whole.bytes);
           is = image_good ∙ sym (ap (λ (given : Result SectionData FrameFault). good (with_image image_known this (contents_or_none section.address section.bytes given))) section_known);
         }
@@ -166,7 +165,6 @@ module _ (nodes loads : ℕ) where
         let fixed_if : SpanData → Result DraftData Reason = λ span. cond (is_above (last_fixed images front) span) (Ok next) (Err reason.Fixed) in
         record {
           may = may;
-          built = refl;
           form = omega arith;
           is = ap (λ (o : Option SpanData). ok_or o reason.Name >=> fixed_if) (found_span images image named)
               ∙ cond-true (is_above (last_fixed images front) (span_of images image)) (good next) (Err reason.Fixed) above;
@@ -216,7 +214,6 @@ module _ (nodes loads : ℕ) where
           let so_far = length (snapshots_at start front snapshot) in
           record {
             may = may;
-            built = refl;
             form = (omega arith, count, small);
             is = cond-true (eqb fields.number so_far) (cond (ltb so_far 4096) (good next) (Err reason.Limit)) (Err reason.Order) (eq-eqb _ _ number)
                 ∙ cond-true (ltb so_far 4096) (good next) (Err reason.Limit) (lt-ltb _ _ room);
@@ -230,7 +227,6 @@ module _ (nodes loads : ℕ) where
           let test = leb (recorded_bytes snapshot.memory + length region.bytes) 65536 in
           record {
             may = refl;
-            built = refl;
             form = (let top = accepted.1 in omega arith, are, accepted.0);
             is = ap (λ (r : Result SnapshotData Reason). r >=> λ x. good (with_stacks stage.Snapshots front x)) (
                 cond-true test (cond (accepts snapshot.memory region) (Ok grown) (Err reason.Region)) (Err reason.Limit) (le-leb _ _ few)
@@ -316,7 +312,7 @@ script_adds bytes s is =
     let all_stacks : snapshots_at stacks.last stacks.so_far stacks.snapshot ≡ s.snapshots = stacks.all ∙ ap (λ (x : List SnapshotData). x ++ s.snapshots) none in
     let at_stacks = at s.nodes s.loads stacks.last s.images s.sections s.fixed stacks.so_far stacks.snapshot in
     let opened = early_open s.nodes s.loads s.images s.sections few s.fixed s.snapshots some stacks.last stacks.so_far stacks.snapshot stacks.early all_stacks in
-    let rounds = adds_rounds s.nodes s.loads s.images s.sections few s.fixed s.snapshots some at_stacks [] s.rounds opened (record { few = run.unwinds; serial = is.built }) (omega (arith, run.rounds.0)) are in
+    let rounds = adds_rounds s.nodes s.loads s.images s.sections few s.fixed s.snapshots some at_stacks [] s.rounds opened run.unwinds (omega (arith, run.rounds.0)) are in
     let front = first_statements s.nodes s.loads ++ image_statements 0 s.images s.sections in
     let one = adds_then nothing_known at_first at_images (first_statements s.nodes s.loads) (image_statements 0 s.images s.sections) first images in
     let two = adds_then nothing_known at_images at_fixed front (map statement.Fixed s.fixed) one fixed in

@@ -225,7 +225,6 @@ same_number known text reason.After reason.After e p q = refl
 same_number known text reason.Unended reason.Unended e p q = refl
 same_number known text reason.Byte reason.Byte e p q = refl
 same_number known text reason.Word reason.Word e p q = refl
-same_number known text reason.Unbuilt reason.Unbuilt e p q = refl
 same_number known text reason.Fields reason.Fields e p q = refl
 same_number known text reason.Spelling reason.Spelling e p q = refl
 same_number known text reason.Order reason.Order e p q = refl

@@ -12,7 +12,7 @@ use Rattle.event_script.specs.ScriptData.{ImageData, SnapshotData, recorded_byte
 use Rattle.event_script.specs.Fields.{pieces, is_printable}
 use Rattle.event_script.specs.Statements.{word_of, forms, kind_of_statement, statement_fields, AreFields}
 use Rattle.event_script.specs.Spelling.{Line}
-use Rattle.event_script.specs.Draft.{DraftData, may_come, is_ended, is_unbuilt, snapshots_so_far, threads_so_far, rounds_so_far, with_image, with_statement}
+use Rattle.event_script.specs.Draft.{DraftData, may_come, is_ended, snapshots_so_far, threads_so_far, rounds_so_far, with_image, with_statement}
 use Rattle.frame_expr.specs.Regions.{RegionData}
 use Rattle.event_script.specs.declared.reader.statement.SnapshotFields.{SnapshotFields}
 use Rattle.event_script.specs.Reasons.{LineText, IsOfKind, Says, SaysSome, IsOutOfOrder, IsUnwindTooMany, IsOutsideLimit, IsNoSpan, HasBadSection, IsNameless, IsNotAbove, IsNoRegion, IsReason, IsGood}
@@ -32,7 +32,7 @@ use Rattle.event_script.proofs.Spoken.{same_kind, says_one, spoken, fields_fit, 
 use Rattle.event_script.proofs.Sections.{section_bad, section_refused}
 use Rattle.event_script.proofs.Fixed.{found_span, above_low, too_low}
 use Rattle.event_script.proofs.Recorded.{accepted_false, accepted_true}
-use Rattle.event_script.proofs.Passed.{Judged, Passed, pass_after, pass_byte, pass_fields, pass_fixed, pass_limit, pass_missing, pass_name, pass_none, pass_order, pass_region, pass_section, pass_span, pass_spelling, pass_unbuilt, pass_unended, pass_word, refused}
+use Rattle.event_script.proofs.Passed.{Judged, Passed, pass_after, pass_byte, pass_fields, pass_fixed, pass_limit, pass_missing, pass_name, pass_none, pass_order, pass_region, pass_section, pass_span, pass_spelling, pass_unended, pass_word, refused}
 
 -- ---- what a line says is judged
 
@@ -348,20 +348,15 @@ module _ (known : DraftData) (line : List ℕ) where
         wrong_line reason.Spelling (count, refute) = refused known here reason.Spelling (pass_fields known here passed (of_kind k fields is (λ k fields. length fields ≢ length (forms k)) (λ other. other count))) (k, fields, is, may, refute)
         wrong_line _ refute = absurd refute
 
-    built_line : (k : Kind) (fields : Line) → pieces 32 line ≡ word_of k ∷ fields → may_come known.stage k ≡ true → Passed known here 6 → (t : Bool) → is_unbuilt known k ≡ t → Judged known here (cond t (Err reason.Unbuilt) (statement_of k fields >=> λ s. added known s))
-    built_line k fields is may passed true e = refused known here reason.Unbuilt passed (k, fields, is, may, e)
-    built_line k fields is may passed false e =
-        spoken_line k fields is may (pass_unbuilt known here passed (of_kind k fields is (λ k fields. is_unbuilt known k ≡ true) (λ may. true≢false (sym may ∙ e)))) (statement_of k fields) refl
-
-    kind_line : (k : Kind) (fields : Line) → pieces 32 line ≡ word_of k ∷ fields → (t : Bool) → may_come known.stage k ≡ t → Judged known here (cond t (cond (is_unbuilt known k) (Err reason.Unbuilt) (statement_of k fields >=> λ s. added known s)) (Err reason.Word))
-    kind_line k fields is true may = built_line k fields is may (pass_word known here before (λ refute. refute k fields is may)) (is_unbuilt known k) refl
+    kind_line : (k : Kind) (fields : Line) → pieces 32 line ≡ word_of k ∷ fields → (t : Bool) → may_come known.stage k ≡ t → Judged known here (cond t (statement_of k fields >=> λ s. added known s) (Err reason.Word))
+    kind_line k fields is true may = spoken_line k fields is may (pass_word known here before (λ refute. refute k fields is may)) (statement_of k fields) refl
     kind_line k fields is false may = refused known here reason.Word before no_kind
       where
         no_kind : (other : Kind) (others : Line) → pieces 32 line ≡ word_of other ∷ others → may_come known.stage other ≡ true → ⊥
         no_kind other others other_is can = true≢false (sym can ∙ ap (may_come known.stage) (same_kind other k others fields (sym other_is ∙ is)).0 ∙ may)
 
     word_line : (word : List ℕ) (fields : Line) → pieces 32 line ≡ word ∷ fields → (o : Option Kind) → kind_of word ≡ o
-        → Judged known here (ok_or o reason.Word >=> λ k. cond (may_come known.stage k) (cond (is_unbuilt known k) (Err reason.Unbuilt) (statement_of k fields >=> λ s. added known s)) (Err reason.Word))
+        → Judged known here (ok_or o reason.Word >=> λ k. cond (may_come known.stage k) (statement_of k fields >=> λ s. added known s) (Err reason.Word))
     word_line word fields is (Some k) e = kind_line k fields (is ∙ ap (λ (w : List ℕ). w ∷ fields) (kind_word word k (ap (λ (o : Option Kind). ok_or o reason.Word) e))) (may_come known.stage k) refl
     word_line word fields is None e = refused known here reason.Word before no_kind
       where

@@ -1,14 +1,14 @@
 -- Lines that were read, one after another: what is read is a script.
-use Rattle.std.proofs.Common.{◌≡◌, ℕ, ◌+◌, Bool, true, false, true≢false, cond, List, [], ◌∷◌, ◌++◌, Result, Ok, Err, refl, sym, ap, subst, ◌∙◌, append_assoc, append-nil, arith}
+use Rattle.std.proofs.Common.{◌≡◌, ℕ, ◌+◌, Bool, true, false, cond, List, [], ◌∷◌, ◌++◌, Result, Ok, Err, refl, sym, ap, subst, ◌∙◌, append_assoc, append-nil, arith}
 use Rattle.std.specs.Option.{ok_or}
 use Rattle.std.proofs.lemmas.Grind.{flat_map-append}
 use Rattle.std.proofs.lemmas.List.Elements.{All-from_recursion}
 use Rattle.reg_model.specs.SpanData.{IsSpan}
-use Rattle.event_script.specs.ScriptData.{IsSectionOf, AreSerial}
+use Rattle.event_script.specs.ScriptData.{IsSectionOf}
 use Rattle.event_script.specs.Statements.{kind_of_statement, statement_fields}
 use Rattle.event_script.specs.Spelling.{Line, spelling_of, statement_text, statements_text, script_text, IsScript}
 use Rattle.event_script.specs.Fields.{pieces, is_printable}
-use Rattle.event_script.specs.Draft.{DraftData, nothing_known, may_come, is_ended, is_unbuilt, rounds_at, rounds_so_far}
+use Rattle.event_script.specs.Draft.{DraftData, nothing_known, may_come, is_ended, rounds_at, rounds_so_far}
 use Rattle.event_script.specs.Reasons.{Says}
 use Rattle.event_script.specs.Refusal.{whole_line}
 use Rattle.event_script.specs.Reading.{kind_of, statement_of, added, by_word, after_line, at_end, BadLine, at_line, after_lines, outcome}
@@ -30,7 +30,6 @@ pub record LineRead (known next : DraftData) (line : List ℕ) : Type 0 where
   pub statement : Statement
   pub says : Says (whole_line line) statement
   pub may : may_come known.stage (kind_of_statement statement) ≡ true
-  pub built : is_unbuilt known (kind_of_statement statement) ≡ false
   pub is : added known statement ≡ Ok next
 
 module _ (known next : DraftData) (line : List ℕ) where
@@ -40,15 +39,13 @@ module _ (known next : DraftData) (line : List ℕ) where
   words_read (word ∷ fields) is e =
       let k = bind_ok (ok_or (kind_of word) reason.Word) _ next e in
       let may = guard_then (may_come known.stage k.0) reason.Word _ next k.2 in
-      let built = guard_else (is_unbuilt known k.0) reason.Unbuilt _ next may.1 in
-      let s = bind_ok (statement_of k.0 fields) (λ s. added known s) next built.1 in
+      let s = bind_ok (statement_of k.0 fields) (λ s. added known s) next may.1 in
       let is_spoken = spoken k.0 fields s.0 s.1 in
       let same = (same_kind k.0 (kind_of_statement s.0) fields (statement_fields s.0) is_spoken.line).0 in
       record {
         statement = s.0;
         says = record { line = is ∙ ap (λ (w : List ℕ). w ∷ fields) (kind_word word k.0 k.1) ∙ is_spoken.line; form = is_spoken.form };
         may = sym (ap (may_come known.stage) same) ∙ may.0;
-        built = sym (ap (is_unbuilt known) same) ∙ built.0;
         is = s.2;
       }
 
@@ -60,7 +57,7 @@ module _ (known next : DraftData) (line : List ℕ) where
       words_read (pieces 32 line) refl printable.1
 
   pub line_sound : Sound known → (r : LineRead known next line) → Step known next r.statement
-  line_sound s r = statement_sound known.script known.snapshot known.threads known.events known.totals known.stage r.statement next r.may r.built r.says.form s r.is
+  line_sound s r = statement_sound known.script known.snapshot known.threads known.events known.totals known.stage r.statement next r.may r.says.form s r.is
 
 -- the text of a line that says this
 pub said_text : (line : List ℕ) (s : Statement) → Says (whole_line line) s → statement_text s ≡ line ++ 10 ∷ []
@@ -130,7 +127,7 @@ at_first = record {
   rounds = no_rounds (record { images = 0; snapshots = 0 });
   threads = no_threads (record { images = 0; snapshots = 0 });
   events = no_events (record { images = 0; snapshots = 0 });
-  totals = record { is = refl; few = omega arith; serial = λ has. absurd (true≢false (sym has)) };
+  totals = record { is = refl; few = omega arith };
   shape = (refl, refl, refl, refl, refl, refl);
 }
 
@@ -156,7 +153,6 @@ script_from known text e = by known.stage refl e.is_last
             rounds = (shape, s.rounds);
             unwinds = (let few = s.totals.few in omega (arith, ap (λ (t : Totals). t.unwinds) totals));
           };
-          built = λ has. subst AreSerial here (s.totals.serial (ap (λ (t : Totals). t.has_registration) totals ∙ has));
         }
     by _ same is_last = absurd cc
 

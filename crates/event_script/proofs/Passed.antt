@@ -52,19 +52,17 @@ module _ (known : DraftData) (text : LineText) where
       at reason.Byte e = refute
       at _ e = absurd (omega arith)
 
-  pub pass_word : Passed 5 → Not reason.Word → Passed 6
-  pass_word before refute = one_more 5 before at
+  -- no reason has the number 6
+  pub pass_word : Passed 5 → Not reason.Word → Passed 7
+  pass_word before refute = one_more 6 (one_more 5 before at) none
     where
       at : (other : Reason) → number_in_table other ≡ 5 → Not other
       at reason.Word e = refute
       at _ e = absurd (omega arith)
 
-  pub pass_unbuilt : Passed 6 → Not reason.Unbuilt → Passed 7
-  pass_unbuilt before refute = one_more 6 before at
-    where
-      at : (other : Reason) → number_in_table other ≡ 6 → Not other
-      at reason.Unbuilt e = refute
-      at _ e = absurd (omega arith)
+      none : (other : Reason) → number_in_table other ≡ 6 → Not other
+      none reason.Missing e = absurd (omega arith)
+      none _ e = absurd (omega arith)
 
   pub pass_fields : Passed 7 → Not reason.Fields → Passed 8
   pass_fields before refute = one_more 7 before at

@@ -21,7 +21,7 @@ use Rattle.event_script.specs.declared.reader.statement.Statement.{Statement}
 use Rattle.event_script.specs.declared.reader.statement.Statement.TheVariants as statement
 use Rattle.event_script.specs.declared.reader.totals.Totals.{Totals}
 use Rattle.event_script.proofs.EventTotals.{totals_of, totals_round, totals_thread, totals_event}
-use Rattle.event_script.proofs.Standing.{CanStand, event_built, event_room, thread_built, round_built}
+use Rattle.event_script.proofs.Standing.{CanStand, event_room}
 use Rattle.event_script.proofs.Added.{Adds, CanAdd, adds_then}
 
 abbrev good : DraftData → Result DraftData Reason
@@ -109,7 +109,6 @@ module _ (nodes loads : ℕ) (images : List SpanData) (sections : List SectionDa
         let test = ltb (length front) 4096 && has_room known.totals e in
         record {
           may = event_may e;
-          built = event_built rounds threads front e events others later can known refl;
           form = event_form e is;
           is = cond-true test (cond (is_named counts e) (good next) (Err reason.Name)) (Err reason.Limit) (and_from _ _ (lt-ltb _ _ room) (event_room rounds threads front e events others later can))
               ∙ cond-true (is_named counts e) (good next) (Err reason.Name) (event_named e is);
@@ -134,13 +133,12 @@ module _ (nodes loads : ℕ) (images : List SpanData) (sections : List SectionDa
     adds : Adds known statements last
 
   module _ (rounds : List (List (List Event))) (later : List (List (List Event))) where
-    thread_can : (known : DraftData) (threads : List (List Event)) (events : List Event) (others : List (List Event)) → IsOpenRound rounds threads known → CanStand (rounds ++ (threads ++ events ∷ others) ∷ later) → length threads < 16 → CanAdd known statement.Thread
+    thread_can : (known : DraftData) (threads : List (List Event)) → IsOpenRound rounds threads known → length threads < 16 → CanAdd known statement.Thread
     unfolding added
-    thread_can known threads events others is can room =
+    thread_can known threads is room =
         let few : ltb (length (threads_so_far known)) 16 ≡ true = lt-ltb _ _ (omega (arith, ap length is.so_far)) in
         record {
           may = is.may_begin;
-          built = ap (λ (d : DraftData). d.totals.has_registration) is.after ∙ thread_built rounds threads events others later can;
           form = tt;
           is = cond-true (ltb (length (threads_so_far known)) 16) (good (with_statement known statement.Thread)) (Err reason.Limit) few;
         }
@@ -157,26 +155,25 @@ module _ (nodes loads : ℕ) (images : List SpanData) (sections : List SectionDa
         record {
           last = rest.last;
           opened = subst (λ (x : List (List Event)). IsOpen (rounds ++ x ∷ []) rest.last) regrouped rest.opened;
-          adds = adds_then known (in_thread rounds front events) rest.last (statement.Thread ∷ map statement.Event events) (thread_statements threads) (thread_can known front events threads is can (omega arith), happen) rest.adds;
+          adds = adds_then known (in_thread rounds front events) rest.last (statement.Thread ∷ map statement.Event events) (thread_statements threads) (thread_can known front is (omega arith), happen) rest.adds;
         }
 
   -- ---- the rounds, and the last line
 
-  round_can : (known : DraftData) (rounds : List (List (List Event))) (threads : List (List Event)) (later : List (List (List Event))) → IsOpen rounds known → CanStand (rounds ++ threads ∷ later) → length rounds < 64 → CanAdd known statement.Round
+  round_can : (known : DraftData) (rounds : List (List (List Event))) → IsOpen rounds known → length rounds < 64 → CanAdd known statement.Round
   unfolding added
-  round_can known rounds threads later is can room =
+  round_can known rounds is room =
       let after = is.after stage.Round in
       let few : ltb (length (rounds_so_far known)) 64 ≡ true = lt-ltb _ _ (omega (arith, ap (λ (d : DraftData). length d.script.rounds) after)) in
       record {
         may = is.may_begin;
-        built = ap (λ (d : DraftData). d.totals.has_registration) after ∙ round_built rounds threads later can;
         form = tt;
         is = cond-true (ltb (length (rounds_so_far known)) 64) (good (with_statement known statement.Round)) (Err reason.Limit) few;
       }
 
   end_can : (known : DraftData) (rounds : List (List (List Event))) → IsOpen rounds known → CanAdd known statement.End
   unfolding added
-  end_can known rounds is = record { may = is.may_end; built = refl; form = tt; is = refl }
+  end_can known rounds is = record { may = is.may_end; form = tt; is = refl }
 
   pub adds_rounds : (known : DraftData) (front rounds : List (List (List Event))) → IsOpen front known → CanStand (front ++ rounds) → length front + length rounds ≤ 64 → AllByRecursion (IsRound counts) rounds → Adds known (round_statements rounds ++ statement.End ∷ []) (ended (front ++ rounds))
   adds_rounds known front [] is can room are = (end_can known front is, is.after stage.Ended ∙ ap ended (sym (append-nil front)))
@@ -188,6 +185,6 @@ module _ (nodes loads : ℕ) (images : List SpanData) (sections : List SectionDa
       let run = adds_threads front rounds (in_round front) [] threads (round_open front) can (omega arith) each in
       let first = subst (λ (d : DraftData). Adds d (thread_statements threads) run.last) (sym begun) run.adds in
       let rest = adds_rounds run.last (front ++ threads ∷ []) rounds run.opened (subst CanStand (sym regrouped) can) (omega (arith, length-append front (threads ∷ []))) are.1 in
-      let lines = adds_then known run.last (ended ((front ++ threads ∷ []) ++ rounds)) (statement.Round ∷ thread_statements threads) (round_statements rounds ++ statement.End ∷ []) (round_can known front threads rounds is can (omega arith), first) rest in
+      let lines = adds_then known run.last (ended ((front ++ threads ∷ []) ++ rounds)) (statement.Round ∷ thread_statements threads) (round_statements rounds ++ statement.End ∷ []) (round_can known front is (omega arith), first) rest in
       let last = subst (λ (x : List (List (List Event))). Adds known ((statement.Round ∷ thread_statements threads) ++ (round_statements rounds ++ statement.End ∷ [])) (ended x)) regrouped lines in
       subst (λ (x : List Statement). Adds known x (ended (front ++ threads ∷ rounds))) (sym (append_assoc (statement.Round ∷ thread_statements threads) (round_statements rounds) (statement.End ∷ []))) last

@@ -1,8 +1,8 @@
 -- What is read is spelled so: each good line says what it adds.
-use Rattle.std.proofs.Common.{◌≡◌, ℕ, ◌+◌, ◌-◌, ◌^◌, ◌<◌, ◌≤◌, true, false, cond, ◌&&◌, eqb, ltb, leb, List, [], ◌∷◌, ◌++◌, length, map, Result, Ok, Err, refl, sym, ap, ap₂, subst, ◌∙◌, append_assoc, eqb-true, ltb-true, leb-true, arith, length-append}
+use Rattle.std.proofs.Common.{◌≡◌, ℕ, ◌+◌, ◌-◌, ◌^◌, ◌<◌, ◌≤◌, true, cond, ◌&&◌, eqb, ltb, leb, List, [], ◌∷◌, ◌++◌, length, map, Result, Ok, Err, refl, sym, ap, ap₂, subst, ◌∙◌, append_assoc, eqb-true, ltb-true, leb-true, arith, length-append}
 use Rattle.std.specs.List.{slice_get, All}
 use Rattle.std.specs.Option.{ok_or}
-use Rattle.std.proofs.lemmas.Bool.{and_parts, or_parts, ltb-false}
+use Rattle.std.proofs.lemmas.Bool.{and_parts}
 use Rattle.std.proofs.lemmas.List.Elements.{All-push}
 use Rattle.hex.specs.Hex.{IsBytes}
 use Rattle.reg_model.specs.SpanData.{SpanData, IsSpan}
@@ -11,10 +11,10 @@ use Rattle.frame_parse.specs.Reading.{section_of}
 use Rattle.frame_parse.specs.declared.fault.FrameFault.{FrameFault}
 use Rattle.frame_expr.specs.Regions.{RegionData}
 use Rattle.event_script.specs.declared.reader.statement.SnapshotFields.{SnapshotFields}
-use Rattle.event_script.specs.ScriptData.{ScriptData, ImageData, SnapshotData, Counts, counts_of, IsSnapshot, recorded_bytes, IsSectionOf, AreFixed, IsEvent, IsThread, IsRound, is_registration}
-use Rattle.event_script.specs.Statements.{kind_of_event, kind_of_statement, HasForm}
+use Rattle.event_script.specs.ScriptData.{ScriptData, ImageData, SnapshotData, Counts, counts_of, IsSnapshot, recorded_bytes, IsSectionOf, AreFixed, IsEvent, IsThread, IsRound}
+use Rattle.event_script.specs.Statements.{kind_of_statement, HasForm}
 use Rattle.event_script.specs.Spelling.{image_data, image_statements, snapshot_lines, snapshot_statements, round_statements}
-use Rattle.event_script.specs.Draft.{DraftData, may_come, has_second, is_unbuilt, span_from, with_image, with_statement}
+use Rattle.event_script.specs.Draft.{DraftData, may_come, span_from, with_image, with_statement}
 use Rattle.event_script.specs.Reading.{section_or, image_added, last_fixed, is_above, fixed_added, snapshot_added, accepts, region_added, memory_added, is_named, has_room, added}
 use Rattle.event_script.specs.declared.script.Event.{Event}
 use Rattle.event_script.specs.declared.script.Event.TheVariants as event
@@ -270,21 +270,21 @@ module _ (script : ScriptData) (snapshot : SnapshotData) (threads : List (List E
       ap top (ap (λ (x : List Statement). part_with snapshots ++ x) is ∙ sym (append_assoc (part_with snapshots) (round_statements old) (line ∷ [])))
 
   -- after a snapshot, before the first round, after a round without threads, and after a thread
-  round_after_snapshots : (next : DraftData) → totals.has_registration ≡ false → Sound (as_of stage.Snapshots) → cond (ltb (length script.rounds) 64) (Ok (with_statement (as_of stage.Snapshots) statement.Round)) (Err reason.Limit) ≡ Ok next → Step (as_of stage.Snapshots) next statement.Round
-  round_after_snapshots next built s e =
+  round_after_snapshots : (next : DraftData) → Sound (as_of stage.Snapshots) → cond (ltb (length script.rounds) 64) (Ok (with_statement (as_of stage.Snapshots) statement.Round)) (Err reason.Limit) ≡ Ok next → Step (as_of stage.Snapshots) next statement.Round
+  round_after_snapshots next s e =
       let made = with_statement (as_of stage.Snapshots) statement.Round in
       let few = guard_last (ltb (length script.rounds) 64) reason.Limit made next e in
       same_step _ made next _ few.1 (record {
-        sound = record { each = s.each; sections = s.sections; nodes = s.nodes; loads = s.loads; count = s.count; spans = s.spans; fixed = s.fixed; snapshots = open_snapshots (s.shape.2, s.shape.3) s.snapshots; rounds = none_over counts_open s.shape.0; threads = no_threads counts_open; events = no_events counts_open; totals = totalled_round totals script.rounds built s.totals; shape = ltb-true _ _ few.0 };
+        sound = record { each = s.each; sections = s.sections; nodes = s.nodes; loads = s.loads; count = s.count; spans = s.spans; fixed = s.fixed; snapshots = open_snapshots (s.shape.2, s.shape.3) s.snapshots; rounds = none_over counts_open s.shape.0; threads = no_threads counts_open; events = no_events counts_open; totals = totalled_round totals script.rounds s.totals; shape = ltb-true _ _ few.0 };
         statements = one_more with_open script.rounds (script.rounds ++ [] ∷ []) statement.Round (rounds_push script.rounds []);
       })
 
-  round_sound : (next : DraftData) → totals.has_registration ≡ false → Sound (as_of stage.Fixed) → cond (ltb (length script.rounds) 64) (Ok (with_statement (as_of stage.Fixed) statement.Round)) (Err reason.Limit) ≡ Ok next → Step (as_of stage.Fixed) next statement.Round
-  round_sound next built s e =
+  round_sound : (next : DraftData) → Sound (as_of stage.Fixed) → cond (ltb (length script.rounds) 64) (Ok (with_statement (as_of stage.Fixed) statement.Round)) (Err reason.Limit) ≡ Ok next → Step (as_of stage.Fixed) next statement.Round
+  round_sound next s e =
       let made = with_statement (as_of stage.Fixed) statement.Round in
       let few = guard_last (ltb (length script.rounds) 64) reason.Limit made next e in
       same_step _ made next _ few.1 (record {
-        sound = record { each = s.each; sections = s.sections; nodes = s.nodes; loads = s.loads; count = s.count; spans = s.spans; fixed = s.fixed; snapshots = s.snapshots; rounds = s.rounds; threads = no_threads counts; events = no_events counts; totals = totalled_round totals script.rounds built s.totals; shape = ltb-true _ _ few.0 };
+        sound = record { each = s.each; sections = s.sections; nodes = s.nodes; loads = s.loads; count = s.count; spans = s.spans; fixed = s.fixed; snapshots = s.snapshots; rounds = s.rounds; threads = no_threads counts; events = no_events counts; totals = totalled_round totals script.rounds s.totals; shape = ltb-true _ _ few.0 };
         statements = one_more script.snapshots script.rounds (script.rounds ++ [] ∷ []) statement.Round (rounds_push script.rounds []);
       })
 
@@ -301,39 +301,39 @@ module _ (script : ScriptData) (snapshot : SnapshotData) (threads : List (List E
   pub thread_rounds : Sound (as_of stage.Thread) → AreRounds counts with_thread
   thread_rounds s = round_push counts script.rounds (threads ++ events ∷ []) s.shape.0 s.rounds (thread_push counts threads events s.shape.1 s.threads s.events)
 
-  round_after_round : (next : DraftData) → totals.has_registration ≡ false → Sound (as_of stage.Round) → cond (ltb (length with_round) 64) (Ok (with_statement (as_of stage.Round) statement.Round)) (Err reason.Limit) ≡ Ok next → Step (as_of stage.Round) next statement.Round
-  round_after_round next built s e =
+  round_after_round : (next : DraftData) → Sound (as_of stage.Round) → cond (ltb (length with_round) 64) (Ok (with_statement (as_of stage.Round) statement.Round)) (Err reason.Limit) ≡ Ok next → Step (as_of stage.Round) next statement.Round
+  round_after_round next s e =
       let made = with_statement (as_of stage.Round) statement.Round in
       let few = guard_last (ltb (length with_round) 64) reason.Limit made next e in
       same_step _ made next _ few.1 (record {
-        sound = record { each = s.each; sections = s.sections; nodes = s.nodes; loads = s.loads; count = s.count; spans = s.spans; fixed = s.fixed; snapshots = s.snapshots; rounds = (round_rounds s).each; threads = no_threads counts; events = no_events counts; totals = totalled_round totals with_round built s.totals; shape = ltb-true _ _ few.0 };
+        sound = record { each = s.each; sections = s.sections; nodes = s.nodes; loads = s.loads; count = s.count; spans = s.spans; fixed = s.fixed; snapshots = s.snapshots; rounds = (round_rounds s).each; threads = no_threads counts; events = no_events counts; totals = totalled_round totals with_round s.totals; shape = ltb-true _ _ few.0 };
         statements = one_more script.snapshots with_round (with_round ++ [] ∷ []) statement.Round (rounds_push with_round []);
       })
 
-  round_after_thread : (next : DraftData) → totals.has_registration ≡ false → Sound (as_of stage.Thread) → cond (ltb (length with_thread) 64) (Ok (with_statement (as_of stage.Thread) statement.Round)) (Err reason.Limit) ≡ Ok next → Step (as_of stage.Thread) next statement.Round
-  round_after_thread next built s e =
+  round_after_thread : (next : DraftData) → Sound (as_of stage.Thread) → cond (ltb (length with_thread) 64) (Ok (with_statement (as_of stage.Thread) statement.Round)) (Err reason.Limit) ≡ Ok next → Step (as_of stage.Thread) next statement.Round
+  round_after_thread next s e =
       let made = with_statement (as_of stage.Thread) statement.Round in
       let few = guard_last (ltb (length with_thread) 64) reason.Limit made next e in
       same_step _ made next _ few.1 (record {
-        sound = record { each = s.each; sections = s.sections; nodes = s.nodes; loads = s.loads; count = s.count; spans = s.spans; fixed = s.fixed; snapshots = s.snapshots; rounds = (thread_rounds s).each; threads = no_threads counts; events = no_events counts; totals = totalled_round totals with_thread built s.totals; shape = ltb-true _ _ few.0 };
+        sound = record { each = s.each; sections = s.sections; nodes = s.nodes; loads = s.loads; count = s.count; spans = s.spans; fixed = s.fixed; snapshots = s.snapshots; rounds = (thread_rounds s).each; threads = no_threads counts; events = no_events counts; totals = totalled_round totals with_thread s.totals; shape = ltb-true _ _ few.0 };
         statements = one_more script.snapshots with_thread (with_thread ++ [] ∷ []) statement.Round (rounds_push with_thread []);
       })
 
-  thread_sound : (next : DraftData) → totals.has_registration ≡ false → Sound (as_of stage.Round) → cond (ltb (length threads) 16) (Ok (with_statement (as_of stage.Round) statement.Thread)) (Err reason.Limit) ≡ Ok next → Step (as_of stage.Round) next statement.Thread
-  thread_sound next built s e =
+  thread_sound : (next : DraftData) → Sound (as_of stage.Round) → cond (ltb (length threads) 16) (Ok (with_statement (as_of stage.Round) statement.Thread)) (Err reason.Limit) ≡ Ok next → Step (as_of stage.Round) next statement.Thread
+  thread_sound next s e =
       let made = with_statement (as_of stage.Round) statement.Thread in
       let few = guard_last (ltb (length threads) 16) reason.Limit made next e in
       same_step _ made next _ few.1 (record {
-        sound = record { each = s.each; sections = s.sections; nodes = s.nodes; loads = s.loads; count = s.count; spans = s.spans; fixed = s.fixed; snapshots = s.snapshots; rounds = s.rounds; threads = s.threads; events = no_events counts; totals = totalled_thread totals script.rounds threads built s.totals; shape = (s.shape, ltb-true _ _ few.0) };
+        sound = record { each = s.each; sections = s.sections; nodes = s.nodes; loads = s.loads; count = s.count; spans = s.spans; fixed = s.fixed; snapshots = s.snapshots; rounds = s.rounds; threads = s.threads; events = no_events counts; totals = totalled_thread totals script.rounds threads s.totals; shape = (s.shape, ltb-true _ _ few.0) };
         statements = one_more script.snapshots with_round (script.rounds ++ (threads ++ [] ∷ []) ∷ []) statement.Thread (thread_begins script.rounds threads);
       })
 
-  next_thread_sound : (next : DraftData) → totals.has_registration ≡ false → Sound (as_of stage.Thread) → cond (ltb (length (threads ++ events ∷ [])) 16) (Ok (with_statement (as_of stage.Thread) statement.Thread)) (Err reason.Limit) ≡ Ok next → Step (as_of stage.Thread) next statement.Thread
-  next_thread_sound next built s e =
+  next_thread_sound : (next : DraftData) → Sound (as_of stage.Thread) → cond (ltb (length (threads ++ events ∷ [])) 16) (Ok (with_statement (as_of stage.Thread) statement.Thread)) (Err reason.Limit) ≡ Ok next → Step (as_of stage.Thread) next statement.Thread
+  next_thread_sound next s e =
       let made = with_statement (as_of stage.Thread) statement.Thread in
       let few = guard_last (ltb (length (threads ++ events ∷ [])) 16) reason.Limit made next e in
       same_step _ made next _ few.1 (record {
-        sound = record { each = s.each; sections = s.sections; nodes = s.nodes; loads = s.loads; count = s.count; spans = s.spans; fixed = s.fixed; snapshots = s.snapshots; rounds = s.rounds; threads = thread_push counts threads events s.shape.1 s.threads s.events; events = no_events counts; totals = totalled_thread totals script.rounds (threads ++ events ∷ []) built s.totals; shape = (s.shape.0, ltb-true _ _ few.0) };
+        sound = record { each = s.each; sections = s.sections; nodes = s.nodes; loads = s.loads; count = s.count; spans = s.spans; fixed = s.fixed; snapshots = s.snapshots; rounds = s.rounds; threads = thread_push counts threads events s.shape.1 s.threads s.events; events = no_events counts; totals = totalled_thread totals script.rounds (threads ++ events ∷ []) s.totals; shape = (s.shape.0, ltb-true _ _ few.0) };
         statements = one_more script.snapshots with_thread (script.rounds ++ ((threads ++ events ∷ []) ++ [] ∷ []) ∷ []) statement.Thread (thread_begins script.rounds (threads ++ events ∷ []));
       })
 
@@ -346,24 +346,10 @@ module _ (script : ScriptData) (snapshot : SnapshotData) (threads : List (List E
   event_is (event.Find pc) named form = form
   event_is (event.Unwind stack) named form = ltb-true stack (length script.snapshots) named
 
-  first_ones : has_second (as_of stage.Thread) ≡ false → (length with_thread ≤ 1) × (length (threads ++ events ∷ []) ≤ 1)
-  first_ones built =
-      let parts = or_parts (ltb 1 (length with_thread)) (ltb 1 (length (threads ++ events ∷ []))) built in
-      (ltb-false 1 (length with_thread) parts.0, ltb-false 1 (length (threads ++ events ∷ [])) parts.1)
-
-  -- where a registration can be run, one thread of one round has begun
-  begun_alone : (e : Event) → is_unbuilt (as_of stage.Thread) (kind_of_event e) ≡ false → is_registration e ≡ true → (length with_thread ≤ 1) × (length (threads ++ events ∷ []) ≤ 1)
-  begun_alone (event.Register image) built is = first_ones built
-  begun_alone (event.Deregister base) built is = first_ones built
-  begun_alone (event.Load image) built is = absurd cc
-  begun_alone (event.Unload base) built is = absurd cc
-  begun_alone (event.Find pc) built is = absurd cc
-  begun_alone (event.Unwind stack) built is = absurd cc
-
-  event_sound : (happens : Event) (next : DraftData) → is_unbuilt (as_of stage.Thread) (kind_of_event happens) ≡ false → HasForm (statement.Event happens) → Sound (as_of stage.Thread)
+  event_sound : (happens : Event) (next : DraftData) → HasForm (statement.Event happens) → Sound (as_of stage.Thread)
       → cond (ltb (length events) 4096 && has_room totals happens) (cond (is_named counts happens) (Ok (with_statement (as_of stage.Thread) (statement.Event happens))) (Err reason.Name)) (Err reason.Limit) ≡ Ok next
       → Step (as_of stage.Thread) next (statement.Event happens)
-  event_sound happens next built form s e =
+  event_sound happens next form s e =
       let made = with_statement (as_of stage.Thread) (statement.Event happens) in
       let limit = guard_then (ltb (length events) 4096 && has_room totals happens) reason.Limit _ next e in
       let room = and_parts (ltb (length events) 4096) (has_room totals happens) limit.0 in
@@ -383,7 +369,7 @@ module _ (script : ScriptData) (snapshot : SnapshotData) (threads : List (List E
           rounds = s.rounds;
           threads = s.threads;
           events = (omega (arith, length-append events (happens ∷ [])), All-push (IsEvent counts) events happens so_far.1 (event_is happens named.0 form));
-          totals = totalled_event totals script.rounds threads events s.totals happens room.1 (begun_alone happens built);
+          totals = totalled_event totals script.rounds threads events s.totals happens room.1;
           shape = s.shape;
         };
         statements = one_more script.snapshots with_thread (script.rounds ++ (threads ++ (events ++ happens ∷ []) ∷ []) ∷ []) (statement.Event happens) (event_comes script.rounds threads events happens);
@@ -419,35 +405,35 @@ module _ (script : ScriptData) (snapshot : SnapshotData) (threads : List (List E
   })
 
   -- ---- a line of any kind
-  pub statement_sound : (at : Stage) (s : Statement) (next : DraftData) → may_come at (kind_of_statement s) ≡ true → is_unbuilt (as_of at) (kind_of_statement s) ≡ false → HasForm s → Sound (as_of at) → added (as_of at) s ≡ Ok next → Step (as_of at) next s
+  pub statement_sound : (at : Stage) (s : Statement) (next : DraftData) → may_come at (kind_of_statement s) ≡ true → HasForm s → Sound (as_of at) → added (as_of at) s ≡ Ok next → Step (as_of at) next s
   unfolding added
-  statement_sound stage.Version (statement.Version version) next may built form s e = version_sound version next s e
-  statement_sound stage.Nodes (statement.Nodes nodes) next may built form s e = nodes_sound nodes next s e
-  statement_sound stage.Loads (statement.Loads loads) next may built form s e = loads_sound loads next s e
-  statement_sound stage.Images (statement.Image image) next may built form s e = image_sound image next form s e
-  statement_sound stage.Images (statement.Fixed image) next may built form s e = from_images next _ (fixed_sound image next (may_be_fixed s) e)
-  statement_sound stage.Images (statement.Snapshot fields) next may built form s e = from_images next _ (snapshot_sound fields next form (may_be_fixed s) e)
-  statement_sound stage.Images statement.Round next may built form s e = from_images next _ (round_sound next built (may_be_fixed s) e)
-  statement_sound stage.Images statement.End next may built form s e = from_images next _ (end_fixed next (may_be_fixed s) (ok_is _ next e))
-  statement_sound stage.Fixed (statement.Fixed image) next may built form s e = fixed_sound image next s e
-  statement_sound stage.Fixed (statement.Snapshot fields) next may built form s e = snapshot_sound fields next form s e
-  statement_sound stage.Fixed statement.Round next may built form s e = round_sound next built s e
-  statement_sound stage.Fixed statement.End next may built form s e = end_fixed next s (ok_is _ next e)
-  statement_sound stage.Snapshots (statement.Snapshot fields) next may built form s e = next_snapshot_sound fields next form s e
-  statement_sound stage.Snapshots (statement.Memory region) next may built form s e = memory_sound region next form s e
-  statement_sound stage.Snapshots statement.Round next may built form s e = round_after_snapshots next built s e
-  statement_sound stage.Snapshots statement.End next may built form s e = end_snapshots next s (ok_is _ next e)
-  statement_sound stage.Round statement.Round next may built form s e = round_after_round next built s e
-  statement_sound stage.Round statement.Thread next may built form s e = thread_sound next built s e
-  statement_sound stage.Round statement.End next may built form s e = end_round next s (ok_is _ next e)
-  statement_sound stage.Thread statement.Round next may built form s e = round_after_thread next built s e
-  statement_sound stage.Thread statement.Thread next may built form s e = next_thread_sound next built s e
-  statement_sound stage.Thread (statement.Event happens) next may built form s e = event_sound happens next built form s e
-  statement_sound stage.Thread statement.End next may built form s e = end_thread next s (ok_is _ next e)
-  statement_sound _ (statement.Event (event.Register image)) next may built form s e = absurd cc
-  statement_sound _ (statement.Event (event.Deregister base)) next may built form s e = absurd cc
-  statement_sound _ (statement.Event (event.Load image)) next may built form s e = absurd cc
-  statement_sound _ (statement.Event (event.Unload base)) next may built form s e = absurd cc
-  statement_sound _ (statement.Event (event.Find pc)) next may built form s e = absurd cc
-  statement_sound _ (statement.Event (event.Unwind stack)) next may built form s e = absurd cc
-  statement_sound _ _ next may built form s e = absurd cc
+  statement_sound stage.Version (statement.Version version) next may form s e = version_sound version next s e
+  statement_sound stage.Nodes (statement.Nodes nodes) next may form s e = nodes_sound nodes next s e
+  statement_sound stage.Loads (statement.Loads loads) next may form s e = loads_sound loads next s e
+  statement_sound stage.Images (statement.Image image) next may form s e = image_sound image next form s e
+  statement_sound stage.Images (statement.Fixed image) next may form s e = from_images next _ (fixed_sound image next (may_be_fixed s) e)
+  statement_sound stage.Images (statement.Snapshot fields) next may form s e = from_images next _ (snapshot_sound fields next form (may_be_fixed s) e)
+  statement_sound stage.Images statement.Round next may form s e = from_images next _ (round_sound next (may_be_fixed s) e)
+  statement_sound stage.Images statement.End next may form s e = from_images next _ (end_fixed next (may_be_fixed s) (ok_is _ next e))
+  statement_sound stage.Fixed (statement.Fixed image) next may form s e = fixed_sound image next s e
+  statement_sound stage.Fixed (statement.Snapshot fields) next may form s e = snapshot_sound fields next form s e
+  statement_sound stage.Fixed statement.Round next may form s e = round_sound next s e
+  statement_sound stage.Fixed statement.End next may form s e = end_fixed next s (ok_is _ next e)
+  statement_sound stage.Snapshots (statement.Snapshot fields) next may form s e = next_snapshot_sound fields next form s e
+  statement_sound stage.Snapshots (statement.Memory region) next may form s e = memory_sound region next form s e
+  statement_sound stage.Snapshots statement.Round next may form s e = round_after_snapshots next s e
+  statement_sound stage.Snapshots statement.End next may form s e = end_snapshots next s (ok_is _ next e)
+  statement_sound stage.Round statement.Round next may form s e = round_after_round next s e
+  statement_sound stage.Round statement.Thread next may form s e = thread_sound next s e
+  statement_sound stage.Round statement.End next may form s e = end_round next s (ok_is _ next e)
+  statement_sound stage.Thread statement.Round next may form s e = round_after_thread next s e
+  statement_sound stage.Thread statement.Thread next may form s e = next_thread_sound next s e
+  statement_sound stage.Thread (statement.Event happens) next may form s e = event_sound happens next form s e
+  statement_sound stage.Thread statement.End next may form s e = end_thread next s (ok_is _ next e)
+  statement_sound _ (statement.Event (event.Register image)) next may form s e = absurd cc
+  statement_sound _ (statement.Event (event.Deregister base)) next may form s e = absurd cc
+  statement_sound _ (statement.Event (event.Load image)) next may form s e = absurd cc
+  statement_sound _ (statement.Event (event.Unload base)) next may form s e = absurd cc
+  statement_sound _ (statement.Event (event.Find pc)) next may form s e = absurd cc
+  statement_sound _ (statement.Event (event.Unwind stack)) next may form s e = absurd cc
+  statement_sound _ _ next may form s e = absurd cc

@@ -1,6 +1,6 @@
 -- A script as far as its lines have come: which lines may come, and what each adds.
-use Rattle.std.specs.Prelude.{ℕ, ◌+◌, ◌-◌, List, [], ◌∷◌, ◌++◌, length, Bool, true, false, ◌||◌}
-use Rattle.std.specs.Prelude.{nat_lt, Result, Ok, Err, replicate}
+use Rattle.std.specs.Prelude.{ℕ, ◌+◌, ◌-◌, List, [], ◌∷◌, ◌++◌, Bool, true, false}
+use Rattle.std.specs.Prelude.{Result, Ok, Err, replicate}
 use Rattle.reg_model.specs.SpanData.{SpanData}
 use Rattle.frame_parse.specs.Sections.{SectionData}
 use Rattle.frame_parse.specs.Reading.{section_of}
@@ -44,7 +44,7 @@ no_snapshot = record { regs = record { columns = replicate 17 0 }; memory = [] }
 
 -- what no events come to
 abbrev pub no_totals : Totals
-no_totals = record { has_registration = false; unwinds = 0 }
+no_totals = record { unwinds = 0 }
 
 -- before the first line
 abbrev pub nothing_known : DraftData
@@ -128,9 +128,7 @@ rounds_so_far known = rounds_at known.stage known.script.rounds known.threads kn
 
 -- what events come to, with one more
 abbrev pub with_event : Totals → Event → Totals
-with_event totals (event.Register image) = record totals { has_registration = true }
-with_event totals (event.Deregister base) = record totals { has_registration = true }
-with_event totals (event.Unwind snapshot) = record totals { unwinds = totals.unwinds + 1 }
+with_event totals (event.Unwind snapshot) = record { unwinds = totals.unwinds + 1 }
 with_event totals _ = totals
 
 -- the span of an image
@@ -203,21 +201,3 @@ with_statement known (statement.Event event) = record known {
   totals = with_event known.totals event;
 }
 with_statement known statement.End = after_round known stage.Ended
-
--- ---- what can't be run
-
--- A second `round` line came, or a second `thread` line: the threads of the round that goes on are
--- all threads, where it is the first round.
-abbrev pub has_second : DraftData → Bool
-has_second known =
-    nat_lt 1 (length (rounds_so_far known)) || nat_lt 1 (length (threads_so_far known))
-
--- Lines that can't be run after what the lines before made known: a registration after a second
--- `round` or `thread` line, and one of these after a registration, which makes it a second one,
--- since registrations stand in a thread of a round.
-abbrev pub is_unbuilt : DraftData → Kind → Bool
-is_unbuilt known kind.Register = has_second known
-is_unbuilt known kind.Deregister = has_second known
-is_unbuilt known kind.Round = known.totals.has_registration
-is_unbuilt known kind.Thread = known.totals.has_registration
-is_unbuilt known _ = false

@@ -5,7 +5,7 @@ use Rattle.frame_parse.specs.declared.fault.FrameFault.{FrameFault}
 use Rattle.frame_parse.specs.declared.fault.FrameFault.TheVariants as section
 use Rattle.event_script.specs.declared.reader.fault.Reason.{Reason}
 use Rattle.event_script.specs.declared.reader.fault.Reason.TheVariants.{Missing, After, Unended}
-use Rattle.event_script.specs.declared.reader.fault.Reason.TheVariants.{Byte, Word, Unbuilt, Fields}
+use Rattle.event_script.specs.declared.reader.fault.Reason.TheVariants.{Byte, Word, Fields}
 use Rattle.event_script.specs.declared.reader.fault.Reason.TheVariants.{Spelling, Order, Limit}
 use Rattle.event_script.specs.declared.reader.fault.Reason.TheVariants.{Span, Section, Name, Fixed}
 use Rattle.event_script.specs.declared.reader.fault.Reason.TheVariants.{Region}
@@ -40,7 +40,6 @@ reason_text After = codes "after"
 reason_text Unended = codes "unended"
 reason_text Byte = codes "byte"
 reason_text Word = codes "word"
-reason_text Unbuilt = codes "unbuilt"
 reason_text Fields = codes "fields"
 reason_text Spelling = codes "spelling"
 reason_text Order = codes "order"

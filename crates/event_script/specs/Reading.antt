@@ -24,7 +24,7 @@ use Rattle.event_script.specs.ScriptData.{counts_of}
 use Rattle.event_script.specs.Fields.{pieces, is_printable, decimal_in, hex_in, section_bytes}
 use Rattle.event_script.specs.Fields.{hex_bytes_in, all_hex_in}
 use Rattle.event_script.specs.Statements.{word_of}
-use Rattle.event_script.specs.Draft.{DraftData, nothing_known, may_come, is_ended, is_unbuilt}
+use Rattle.event_script.specs.Draft.{DraftData, nothing_known, may_come, is_ended}
 use Rattle.event_script.specs.Draft.{snapshots_so_far, threads_so_far, rounds_so_far}
 use Rattle.event_script.specs.Draft.{with_image, with_statement}
 use Rattle.event_script.specs.declared.script.Event.{Event}
@@ -261,9 +261,7 @@ unfoldable pub by_word : DraftData → List (List ℕ) → Result DraftData Reas
 by_word known [] = Err reason.Word
 by_word known (word ∷ fields) =
     ok_or (kind_of word) reason.Word >=> λ kind.
-    if may_come known.stage kind
-    then (if is_unbuilt known kind then Err reason.Unbuilt else spoken_added known kind fields)
-    else Err reason.Word
+    if may_come known.stage kind then spoken_added known kind fields else Err reason.Word
 
 -- what is known after a line, which stands here without its line feed
 unfoldable pub after_line : DraftData → List ℕ → Result DraftData Reason

@@ -15,7 +15,7 @@ use Rattle.event_script.specs.Statements.{word_of, forms, AreFields, statement_l
 use Rattle.event_script.specs.Spelling.{Line}
 use Rattle.frame_expr.specs.Regions.{Accepts}
 use Rattle.event_script.specs.ScriptData.{recorded_bytes}
-use Rattle.event_script.specs.Draft.{DraftData, may_come, is_ended, is_unbuilt, snapshots_so_far}
+use Rattle.event_script.specs.Draft.{DraftData, may_come, is_ended, snapshots_so_far}
 use Rattle.event_script.specs.Draft.{threads_so_far, rounds_so_far}
 use Rattle.event_script.specs.declared.script.Event.{Event}
 use Rattle.event_script.specs.declared.script.Event.TheVariants as event
@@ -118,14 +118,13 @@ IsNoRegion known _ = ⊥
 
 -- ---- the table
 
--- its number in the table
+-- its number in the table, which has no sixth any more
 abbrev pub number_in_table : Reason → ℕ
 number_in_table reason.Missing = 1
 number_in_table reason.After = 2
 number_in_table reason.Unended = 3
 number_in_table reason.Byte = 4
 number_in_table reason.Word = 5
-number_in_table reason.Unbuilt = 6
 number_in_table reason.Fields = 7
 number_in_table reason.Spelling = 8
 number_in_table reason.Order = 9
@@ -152,9 +151,6 @@ SpeaksAgainst reason.Byte known text = is_printable text.bytes ≡ false
 SpeaksAgainst reason.Word known text =
     (kind : Kind) (fields : Line) → fields_of text ≡ word_of kind ∷ fields
     → may_come known.stage kind ≡ true → ⊥
--- it can't be run after the lines before
-SpeaksAgainst reason.Unbuilt known text =
-    IsOfKind known text (λ kind fields. is_unbuilt known kind ≡ true)
 -- the number of fields is wrong; an empty field counts as a field
 SpeaksAgainst reason.Fields known text =
     IsOfKind known text (λ kind fields. length fields ≢ length (forms kind))

@@ -1,7 +1,7 @@
 -- The first bad line of a text.
 use Rattle.std.specs.Prelude.{◌≡◌, ◌≢◌, ◌⊎◌, ℕ, ◌+◌, List, [], ◌∷◌, ◌++◌, length, true, false}
 use Rattle.std.specs.List.{flat_map}
-use Rattle.event_script.specs.ScriptData.{ScriptData, IsRunnable, IsBuilt}
+use Rattle.event_script.specs.ScriptData.{ScriptData, IsRunnable}
 use Rattle.event_script.specs.Spelling.{script_text, IsScript}
 use Rattle.event_script.specs.Fields.{pieces}
 use Rattle.event_script.specs.Draft.{DraftData, nothing_known, is_ended, with_statement}
@@ -61,5 +61,5 @@ lines_text lines = flat_map (λ line. line ++ 10 ∷ []) lines
 -- some script's text begins with these lines
 abbrev pub BeginsScript : List (List ℕ) → Type 0
 BeginsScript lines =
-    (s : ScriptData) × (others : List ℕ) × IsRunnable s × IsBuilt s
+    (s : ScriptData) × (others : List ℕ) × IsRunnable s
     × (script_text s ≡ lines_text lines ++ others)

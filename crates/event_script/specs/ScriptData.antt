@@ -1,7 +1,7 @@
 -- Scripts as plain data, and their limits.
 use Rattle.std.specs.Prelude.{◌≡◌, ℕ, ◌+◌, ◌^◌, ◌<◌, ◌≤◌, List, [], ◌∷◌, length, map, All}
 use Rattle.std.specs.Prelude.{Bool, true, false, unwrap_or, slice_get, count_by}
-use Rattle.std.specs.List.{list_any, sum_by}
+use Rattle.std.specs.List.{sum_by}
 use Rattle.reg_model.specs.SpanData.{SpanData, IsSpan}
 use Rattle.hex.specs.Hex.{IsBytes}
 use Rattle.frame_expr.specs.Regions.{RegionData, AreRegions}
@@ -52,19 +52,9 @@ IsThread counts events = (length events ≤ MOST_EVENTS) × All (IsEvent counts)
 abbrev pub IsRound : Counts → List (List Event) → Type 0
 IsRound counts threads = (length threads ≤ MOST_THREADS) × All (IsThread counts) threads
 
--- the event registers an image, or removes what is registered
-abbrev pub is_registration : Event → Bool
-is_registration (Register image) = true
-is_registration (Deregister base) = true
-is_registration _ = false
-
 abbrev pub is_unwind : Event → Bool
 is_unwind (Unwind snapshot) = true
 is_unwind _ = false
-
--- some event of some thread of some round is a registration
-abbrev pub has_registrations : List (List (List Event)) → Bool
-has_registrations rounds = list_any (list_any (list_any is_registration)) rounds
 
 -- how many events of all threads of all rounds unwind
 abbrev pub count_unwinds : List (List (List Event)) → ℕ
@@ -119,15 +109,6 @@ pub record IsRunnable (s : ScriptData) : Type 0 where
   pub snapshots : (length s.snapshots ≤ MOST_SNAPSHOTS) × All IsSnapshot s.snapshots
   pub rounds : (length s.rounds ≤ MOST_ROUNDS) × All (IsRound (counts_of s)) s.rounds
   pub unwinds : count_unwinds s.rounds ≤ MOST_UNWINDS
-
--- one round of one thread at the most
-pub record AreSerial (rounds : List (List (List Event))) : Type 0 where
-  pub few : length rounds ≤ 1
-  pub small : All (λ threads. length threads ≤ 1) rounds
-
--- What can be run: a script with a registration has one round of one thread at the most.
-abbrev pub IsBuilt : ScriptData → Type 0
-IsBuilt s = has_registrations s.rounds ≡ true → AreSerial s.rounds
 
 -- what the line of an image says: its number, its span by base and size, and its section by address
 -- and bytes

@@ -4,7 +4,7 @@ use Rattle.std.specs.List.{flat_map}
 use Rattle.frame_parse.specs.Sections.{SectionData}
 use Rattle.reg_model.specs.SpanData.{SpanData}
 use Rattle.event_script.specs.declared.limits.TheConstants.{VERSION}
-use Rattle.event_script.specs.ScriptData.{ScriptData, ImageData, SnapshotData, IsRunnable, IsBuilt}
+use Rattle.event_script.specs.ScriptData.{ScriptData, ImageData, SnapshotData, IsRunnable}
 use Rattle.event_script.specs.Statements.{statement_line}
 use Rattle.event_script.specs.declared.script.Event.{Event}
 use Rattle.event_script.specs.declared.reader.statement.Statement.{Statement}
@@ -86,4 +86,3 @@ script_text s = statements_text (body_statements s ++ statement.End ∷ [])
 pub record IsScript (bytes : List ℕ) (s : ScriptData) : Type 0 where
   pub text : bytes ≡ script_text s
   pub runnable : IsRunnable s
-  pub built : IsBuilt s

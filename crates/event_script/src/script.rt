@@ -1,9 +1,5 @@
 //! What a script says: the images, the recorded stacks, and the events of each thread.
 
-ghost use Rattle.std.specs.Prelude.{◌≡◌, ℕ, List};
-ghost use Rattle.std.specs.List.{list_any};
-ghost use Rattle.event_script.specs.ScriptData.{is_registration, has_registrations};
-
 use frame_expr::{Memory, Regs};
 use frame_parse::Section;
 use reg_model::Span;
@@ -41,15 +37,6 @@ pub enum Event {
     Unwind { snapshot: u32 },
 }
 
-impl Event {
-    /// Whether it registers an image, or removes what is registered.
-    pub fn is_registration(&self) -> bool
-        ensures { result ≡ is_registration self.now }
-    {
-        matches!(self, Event::Register { .. } | Event::Deregister { .. })
-    }
-}
-
 /// The events of one thread, in order.
 #[derive(Drop)]
 pub struct Thread {
@@ -65,15 +52,6 @@ impl Model for Thread {
     ghost view = { λ thread. thread.events.items };
 }
 
-impl Thread {
-    /// Whether one of its events is a registration.
-    pub fn has_registrations(&self) -> bool
-        ensures { result ≡ list_any is_registration self.now }
-    {
-        self.events.iter().any(|event| event.is_registration())
-    }
-}
-
 /// The threads that run side by side, and end before the next round begins.
 #[derive(Drop)]
 pub struct Round {
@@ -87,15 +65,6 @@ impl Model for Round {
     ghost Value = { List (List Event) };
 
     ghost view = { λ round. round.threads.items };
-}
-
-impl Round {
-    /// Whether one of its threads has a registration.
-    pub fn has_registrations(&self) -> bool
-        ensures { result ≡ list_any (list_any is_registration) self.now }
-    {
-        self.threads.iter().any(|thread| thread.has_registrations())
-    }
 }
 
 /// A script, all of whose numbers are within their limits and all of whose events name an image
@@ -142,13 +111,4 @@ impl Model for Script {
           snapshots = s.snapshots.items;
           rounds = s.rounds.items;
         }) };
-}
-
-impl Script {
-    /// Whether one of its rounds has a registration.
-    pub fn has_registrations(&self) -> bool
-        ensures { result ≡ has_registrations self.now.rounds }
-    {
-        self.rounds.iter().any(|round| round.has_registrations())
-    }
 }

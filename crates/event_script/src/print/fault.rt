@@ -32,7 +32,6 @@ fn put_reason(text: &mut String, reason: Reason) -> Result<(), AllocError>
         Reason::Unended => text.push_str("unended"),
         Reason::Byte => text.push_str("byte"),
         Reason::Word => text.push_str("word"),
-        Reason::Unbuilt => text.push_str("unbuilt"),
         Reason::Fields => text.push_str("fields"),
         Reason::Spelling => text.push_str("spelling"),
         Reason::Order => text.push_str("order"),

@@ -7,7 +7,6 @@ ghost use Rattle.event_script.specs.declared.limits.TheConstants.{MOST_SECTION_B
 ghost use Rattle.event_script.specs.declared.reader.kinds.Stage.TheVariants as stage;
 ghost use Rattle.event_script.specs.declared.reader.statement.Statement.TheVariants as statement;
 ghost use Rattle.event_script.specs.Draft.{no_snapshot, nothing_known, threads_so_far};
-ghost use Rattle.event_script.specs.Draft.{rounds_so_far, has_second, is_unbuilt};
 ghost use Rattle.event_script.specs.Draft.{after_snapshot, after_round, with_statement};
 ghost use Rattle.event_script.specs.Reading.{GivesLine, LeavesDraft, spoken_added, section_or};
 ghost use Rattle.event_script.specs.Reading.{image_added, last_fixed, is_above, fixed_added};
@@ -337,44 +336,6 @@ impl Draft {
         }
     }
 
-    /// How many rounds have begun.
-    fn round_count(&self) -> usize
-        ensures { result ≡ length (rounds_so_far self.now) }
-    {
-        match self.stage {
-            Stage::Round | Stage::Thread => self.rounds.len() + 1,
-            _ => self.rounds.len(),
-        }
-    }
-
-    /// How many threads have begun of the round that goes on.
-    fn thread_count(&self) -> usize
-        ensures { result ≡ length (threads_so_far self.now) }
-    {
-        match self.stage {
-            Stage::Thread => self.threads.len() + 1,
-            _ => self.threads.len(),
-        }
-    }
-
-    /// Whether a second round has begun, or a second thread.
-    fn has_second(&self) -> bool
-        ensures { result ≡ has_second self.now }
-    {
-        self.round_count() > 1 || self.thread_count() > 1
-    }
-
-    /// Whether a line of the kind can't be run, after those before it.
-    fn is_unbuilt(&self, kind: Kind) -> bool
-        ensures { result ≡ is_unbuilt self.now kind }
-    {
-        match kind {
-            Kind::Register | Kind::Deregister => self.has_second(),
-            Kind::Round | Kind::Thread => self.totals.has_registration,
-            _ => false,
-        }
-    }
-
     /// Adds what a line of the kind says with the fields that follow its word.
     fn read_fields(&mut self, alloc: Global, kind: Kind, rest: &[u8]) -> Result<(), LineFault>
         ensures { LeavesDraft self.new result (spoken_added self.old kind (fields_after rest.now)) }
@@ -398,9 +359,6 @@ impl Draft {
         let kind = kind_of(word).ok_or(Reason::Word)?;
         if !may_come(self.stage, kind) {
             return Err(Reason::Word.into());
-        }
-        if self.is_unbuilt(kind) {
-            return Err(Reason::Unbuilt.into());
         }
         self.read_fields(alloc, kind, rest)
     }

@@ -19,8 +19,6 @@ pub enum Reason {
     Byte,
     /// Its first field can't start a line here.
     Word,
-    /// It can't be run after the lines before it.
-    Unbuilt,
     /// The number of fields is wrong.
     Fields,
     /// A field isn't spelled as its kind.

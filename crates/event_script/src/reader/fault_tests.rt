@@ -5,17 +5,12 @@ use super::*;
 use frame_parse::FrameFault;
 
 /// Texts with their first bad line and its reason.
-const BAD: [(&[u8], u32, Reason); 15] = [
+const BAD: [(&[u8], u32, Reason); 14] = [
     (b"", 1, Reason::Missing),
     (b"frames 1\nnodes 4\nloads 1\nend\nend\n", 5, Reason::After),
     (b"frames 1", 1, Reason::Unended),
     (b"frames\t1\n", 1, Reason::Byte),
     (b"Frames 1\n", 1, Reason::Word),
-    (
-        b"frames 1\nnodes 4\nloads 1\nround\nthread\nthread\nderegister 0\n",
-        7,
-        Reason::Unbuilt,
-    ),
     (b"frames 1 \n", 1, Reason::Fields),
     (b"frames 01\n", 1, Reason::Spelling),
     (

@@ -6,7 +6,7 @@ use crate::script::Event;
 use frame_expr::Regs;
 use std::test::Fail;
 
-/// Each kind of line that can be run: the cases one_range, loaded_and_fixed and
+/// Each kind of line: the cases one_range, loaded_and_fixed and
 /// call_is_last_instruction in one.
 const ALL_LINES: &[u8] = b"frames 1\nnodes 16\nloads 2\nimage 0 1000 20 0 -\n\
 image 1 1010 20 0 -\nimage 2 3000 10 0 -\nfixed 0\nfixed 2\n\
@@ -21,9 +21,11 @@ const SECTION: (&[u8], usize) = (
     80,
 );
 
-/// Rounds and threads: the order of lines of the case loader_in_three_rounds.
+/// Rounds and threads: the order of lines of the case loader_in_three_rounds, of which a second
+/// thread registers.
 const ROUNDS: &[u8] = b"frames 1\nnodes 16\nloads 8\nimage 0 1000 30 0 -\nround\nthread\nload 0\n\
-round\nthread\nfind 1010\nthread\nfind 1020\nfind 1040\nround\nthread\nunload 1000\nend\n";
+round\nthread\nfind 1010\nthread\nregister 0\nfind 1040\nround\nthread\nunload 1000\n\
+deregister 1000\nend\n";
 
 #[test]
 fn a_script_is_what_its_lines_say(rt: HostRuntime) -> Result<(), Fail> {
@@ -97,12 +99,5 @@ fn what_was_read_prints_back(rt: HostRuntime) -> Result<(), Fail> {
         let printed = print_script(rt.alloc(), &script)?;
         assert_eq!(rt; printed.as_slice(), text);
     }
-    Ok(())
-}
-
-#[test]
-fn registrations_are_told(rt: HostRuntime) -> Result<(), Fail> {
-    assert!(rt; read(rt.alloc(), ALL_LINES)?.has_registrations());
-    assert!(rt; !read(rt.alloc(), ROUNDS)?.has_registrations());
     Ok(())
 }

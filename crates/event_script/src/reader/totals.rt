@@ -7,11 +7,9 @@ ghost use Rattle.event_script.specs.Reading.{has_room};
 use crate::limits::MOST_UNWINDS;
 use crate::script::Event;
 
-/// What the limits and the order of lines want to know of all events so far.
+/// What the limits want to know of all events so far.
 #[derive(Clone, Copy)]
 pub struct Totals {
-    /// Whether one of them registers or deregisters.
-    pub has_registration: bool,
     /// How many of them unwind.
     pub unwinds: usize,
 }
@@ -21,10 +19,7 @@ impl Totals {
     pub fn new() -> Self
         ensures { result ≡ no_totals }
     {
-        Totals {
-            has_registration: false,
-            unwinds: 0,
-        }
+        Totals { unwinds: 0 }
     }
 
     /// Whether a script may have one more such event.
@@ -43,7 +38,6 @@ impl Totals {
         ensures { self.new ≡ with_event self.old event }
     {
         match event {
-            Event::Register { .. } | Event::Deregister { .. } => self.has_registration = true,
             Event::Unwind { .. } => self.unwinds += 1,
             _ => {}
         }
