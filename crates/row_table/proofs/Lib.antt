@@ -1,0 +1,5 @@
+pub mod Searches
+pub mod Walks
+pub mod Spans
+pub mod Growth
+pub mod Lookups

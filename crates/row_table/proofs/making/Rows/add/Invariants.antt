@@ -1,0 +1,14 @@
+use Rattle.std.proofs.Common.{length}
+use Rattle.row_table.proofs.Spans.{HasSpans}
+use Rattle.row_table.proofs.Walks.{GoesOn, IsBase}
+use Rattle.row_table.proofs.making.Rows.add.Given as goal
+
+abbrev pub invariant-loop-step : goal.invariant-loop-step
+invariant-loop-step l = record {
+  on : GoesOn l.fde l.base l.program l.location l.row l.kept;
+  base : IsBase l.fde l.base;
+  spans : HasSpans l.fde l.fn.self l.self l.location;
+}
+
+abbrev pub decreases-loop-step : goal.decreases-loop-step
+decreases-loop-step l = length l.program.rest.bytes

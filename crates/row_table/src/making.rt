@@ -1,0 +1,90 @@
+//! Rows in the order in which the instructions of FDEs leave them.
+
+ghost use Rattle.std.specs.Prelude.{◌≡◌, [], IfOk, length};
+ghost use Rattle.row_table.specs.Tables.{IsPushed, IsAdded};
+
+use crate::distinct_rows::DistinctRows;
+use crate::fault::TableFault;
+use crate::kept_rows::KeptRows;
+use frame_parse::{Fde, PlacedInstruction, steps_are_ordered};
+use frame_rows::{PlacedRow, initial_row};
+use std::alloc::{AllocError, Global};
+use std::marker::Model;
+
+/// Rows one after another: where each begins, and its number among those that differ.
+#[derive(Drop)]
+pub(crate) struct Rows {
+    pub(crate) starts: Vec<u64>,
+    pub(crate) numbers: Vec<u16>,
+    pub(crate) distinct: DistinctRows,
+}
+
+impl Model for Rows {
+    ghost use Rattle.row_table.specs.Tables.{RowsData};
+
+    ghost Value = { RowsData };
+
+    ghost view = { λ r. record {
+      starts = r.starts.items;
+      numbers = r.numbers.items;
+      distinct = r.distinct;
+    } };
+}
+
+impl Rows {
+    pub(crate) fn new(alloc: Global) -> Result<Rows, AllocError>
+        ensures { IfOk result (λ r. r ≡ record { starts = []; numbers = []; distinct = [] }) }
+    {
+        Ok(Rows {
+            starts: Vec::new(alloc),
+            numbers: Vec::new(alloc),
+            distinct: DistinctRows::new(alloc)?,
+        })
+    }
+
+    /// How many there are.
+    pub(crate) fn len(&self) -> usize
+        ensures { result ≡ length self.now.starts }
+    {
+        self.starts.len()
+    }
+
+    /// Adds a row, from an address on.
+    fn push(&mut self, start: u64, row: &PlacedRow) -> Result<(), TableFault>
+        ensures { IfOk result (λ _. IsPushed self.old start row.now self.new) }
+    {
+        let number = self.distinct.number_of(row)?;
+        self.starts.push(start)?;
+        self.numbers.push(number)?;
+        Ok(())
+    }
+
+    /// Adds the rows of an FDE: each begins where the location moves, and the last one holds from
+    /// there on. `kept` is room for those that it remembers.
+    pub(crate) fn add(&mut self, fde: &Fde<'_>, kept: &mut KeptRows) -> Result<(), TableFault>
+        requires { length self.old.numbers ≡ length self.old.starts }
+        ensures { IfOk result (λ _. IsAdded self.old fde.now self.new) }
+    {
+        steps_are_ordered();
+        kept.clear();
+        let base = initial_row(fde);
+        let mut row = base;
+        let mut location = fde.first();
+        let mut program = fde.placed_program();
+        while let Some(step) = program.next() {
+            match step.instruction {
+                PlacedInstruction::Advance => {
+                    if step.location > location {
+                        self.push(location, &row)?;
+                        location = step.location;
+                    }
+                }
+                PlacedInstruction::Remember => kept.keep(&row),
+                PlacedInstruction::RestoreState => row = kept.take_back(),
+                instruction => row.apply(&base, instruction),
+            }
+        }
+        self.push(location, &row)?;
+        Ok(())
+    }
+}

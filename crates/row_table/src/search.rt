@@ -1,0 +1,36 @@
+//! The row of an address among those of an FDE.
+
+ghost use Rattle.std.specs.Prelude.{◌≡◌, ◌+◌, ◌<◌, ◌≤◌, ◌^◌, ℕ, length, get_or, if◌then◌else◌};
+
+/// All of a number where something holds, else 0, without a branch: the processor would guess wrong
+/// half of the time.
+#[inline(always)]
+fn where_holds(number: usize, holds: bool) -> usize
+    requires { number < 2 ^ 63 }
+    ensures { result ≡ (if holds then number else 0) }
+{
+    (number << u32::from(holds)) - number
+}
+
+/// The place of the greatest start up to an address, of those that ascend from one place up to
+/// another; the first is up to it.
+pub(crate) fn last_start(starts: &[u64], from: usize, end: usize, pc: u64) -> usize
+    requires some { from < end }
+    requires within { end ≤ length starts.now }
+    requires first { get_or starts.now from 0 ≤ pc }
+    requires ascending { (j k : ℕ) → from ≤ j → j < k → k < end
+        → get_or starts.now j 0 < get_or starts.now k 0 }
+    ensures from { from ≤ result }
+    ensures within { result < end }
+    ensures reached { get_or starts.now result 0 ≤ pc }
+    ensures last { result + 1 < end → pc < get_or starts.now (result + 1) 0 }
+{
+    let mut base = from;
+    let mut size = end - from;
+    'halves: while size > 1 {
+        let half = size / 2;
+        base += where_holds(half, starts[base + half] <= pc);
+        size -= half;
+    }
+    base
+}

@@ -1,0 +1,94 @@
+//! Tables, and their lookup.
+
+ghost use Rattle.std.specs.Prelude.{◌≡◌, None, IfOk, MatchOption};
+ghost use Rattle.frame_parse.specs.Sections.{first_cover};
+ghost use Rattle.row_table.specs.Tables.{IsFound, IsTableOf};
+
+use crate::fault::TableFault;
+use crate::kept_rows::KeptRows;
+use crate::lent_row::LentRow;
+use crate::making::Rows;
+use crate::search::last_start;
+use frame_parse::{Fde, Section};
+use frame_rows::{PlacedRow, placed_rows_are_rows};
+use std::alloc::Global;
+use std::marker::Model;
+
+/// The FDE of an address, and its row there.
+#[derive(Drop)]
+pub struct FoundRow<'t> {
+    pub fde: Fde<'t>,
+    pub row: LentRow<'t>,
+}
+
+/// The rows of a section, which is kept elsewhere.
+#[derive(Drop)]
+pub struct RowTable {
+    begins: Vec<usize>,
+    starts: Vec<u64>,
+    numbers: Vec<u16>,
+    distinct: Vec<PlacedRow>,
+}
+
+impl Model for RowTable {
+    ghost use Rattle.row_table.specs.Tables.{TableData};
+
+    ghost Value = { TableData };
+
+    ghost view = { λ t. record {
+      begins = t.begins.items;
+      rows = record {
+        starts = t.starts.items;
+        numbers = t.numbers.items;
+        distinct = t.distinct.items;
+      };
+    } };
+}
+
+impl RowTable {
+    /// The rows of a section. It takes some ten bytes for each, and a row for each that differs.
+    pub fn of(alloc: Global, section: &Section) -> Result<RowTable, TableFault>
+        ensures { IfOk result (IsTableOf section.now) }
+    {
+        let mut kept = KeptRows::new();
+        let mut rows = Rows::new(alloc)?;
+        let mut begins = Vec::with_capacity(alloc, section.count())?;
+        begins.push(0)?;
+        for index in 0..section.count() {
+            rows.add(&section.fde(index), &mut kept)?;
+            begins.push(rows.len())?;
+        }
+        let Rows {
+            starts,
+            numbers,
+            distinct,
+        } = rows;
+        Ok(RowTable {
+            begins,
+            starts,
+            numbers,
+            distinct: distinct.into_rows(),
+        })
+    }
+
+    /// The first FDE in order of bytes that covers an address, and its row there: what the section's
+    /// `fde_at` finds, and `row_at` makes of it. None where no FDE covers the address. It takes no
+    /// memory.
+    pub fn row_at<'t>(&'t self, section: &'t Section, pc: u64) -> Option<FoundRow<'t>>
+        requires { IsTableOf section.now self.now }
+        ensures { MatchOption result (first_cover pc section.now.fdes ≡ None)
+            (λ found. IsFound section.now pc found.fde found.row) }
+    {
+        let number = section.number_at(pc)?;
+        let fde = section.fde(number);
+        placed_rows_are_rows(&fde);
+        let from = self.begins[number];
+        let end = self.begins[number + 1];
+        let place = last_start(&self.starts, from, end, pc);
+        let placed = &self.distinct[self.numbers[place] as usize];
+        Some(FoundRow {
+            row: LentRow::new(section.bytes(), placed),
+            fde,
+        })
+    }
+}
