@@ -16,3 +16,6 @@ mod table;
 pub use fault::TableFault;
 pub use lent_row::LentRow;
 pub use table::{FoundRow, RowTable};
+
+#[cfg(test)]
+mod tests;

@@ -1,0 +1,112 @@
+//! Tables of sections answer as the sections themselves, at every address.
+
+ghost use Rattle.std.specs.Prelude.{◌≤◌, length};
+ghost use Rattle.row_table.specs.Tables.{IsTableOf};
+
+use super::*;
+use frame_parse::Section;
+use frame_rows::{CfaRule, Row, row_at};
+use std::alloc::Global;
+use std::test::*;
+
+mod data;
+
+use data::*;
+
+fn read(alloc: Global, address: u64, bytes: &[u8]) -> Result<Section, Fail>
+    requires { length bytes.now ≤ 65536 }
+{
+    Ok(
+        Section::read(alloc, address, bytes)
+            .ok()
+            .ok_or("the bytes are a section")?,
+    )
+}
+
+fn same_rules(found: &LentRow<'_>, row: &Row<'_>) -> bool {
+    for column in 0..18 {
+        if found.rule(column) != row.rule(column) {
+            return false;
+        }
+    }
+    found.cfa() == row.cfa()
+}
+
+/// Whether the table answers as its section at an address.
+fn answers_alike(section: &Section, table: &RowTable, pc: u64) -> bool
+    requires { IsTableOf section.now table.now }
+{
+    match (section.fde_at(pc), table.row_at(section, pc)) {
+        (None, None) => true,
+        (Some(fde), Some(found)) => {
+            fde.place() == found.fde.place() && same_rules(&found.row, &row_at(&fde, pc))
+        }
+        _ => false,
+    }
+}
+
+/// Whether a table of the section answers as it does at so many addresses from the first one on.
+fn alike(alloc: Global, section: &Section, first: u64, count: u64) -> bool {
+    match RowTable::of(alloc, section) {
+        Err(_) => false,
+        Ok(table) => {
+            for index in 0..count {
+                if !answers_alike(section, &table, first.wrapping_add(index)) {
+                    return false;
+                }
+            }
+            true
+        }
+    }
+}
+
+#[test]
+fn a_shared_library(rt: HostRuntime) -> Result<(), Fail> {
+    let section = read(rt.alloc(), 0x2048, &PCPROFILE)?;
+    assert!(rt; alike(rt.alloc(), &section, 0xfff, 0x400));
+    Ok(())
+}
+
+#[test]
+fn early_returns(rt: HostRuntime) -> Result<(), Fail> {
+    let section = read(rt.alloc(), 0x40_2000, &CALLS)?;
+    assert!(rt; alike(rt.alloc(), &section, 0x40_0fff, 0x500));
+    Ok(())
+}
+
+#[test]
+fn restored_expressions(rt: HostRuntime) -> Result<(), Fail> {
+    let section = read(rt.alloc(), 0x2000, &RESTORED)?;
+    assert!(rt; alike(rt.alloc(), &section, 0xfff, 0x12));
+    Ok(())
+}
+
+/// The CFA's offset at an address.
+fn offset_at(section: &Section, table: &RowTable, pc: u64) -> Option<u64>
+    requires { IsTableOf section.now table.now }
+{
+    match table.row_at(section, pc) {
+        None => None,
+        Some(found) => match found.row.cfa() {
+            CfaRule::Offset { by, .. } => Some(by),
+            _ => None,
+        },
+    }
+}
+
+/// Of two FDEs at one address the first in order of bytes has it.
+#[test]
+fn two_fdes_at_one_address(rt: HostRuntime) -> Result<(), Fail> {
+    let section = read(rt.alloc(), 0x2000, &TWICE)?;
+    assert!(rt; alike(rt.alloc(), &section, 0xfff, 0x22));
+    let Ok(table) = RowTable::of(rt.alloc(), &section) else {
+        return Err("a table")?;
+    };
+    assert_eq!(rt; offset_at(&section, &table, 0xfff), None);
+    assert_eq!(rt; offset_at(&section, &table, 0x1000), Some(8));
+    assert_eq!(rt; offset_at(&section, &table, 0x1003), Some(8));
+    assert_eq!(rt; offset_at(&section, &table, 0x1004), Some(24));
+    assert_eq!(rt; offset_at(&section, &table, 0x1010), Some(32));
+    assert_eq!(rt; offset_at(&section, &table, 0x1020), None);
+    Ok(())
+}
