@@ -8,7 +8,7 @@ use Rattle.frame_parse.specs.Sections.{FdeData, SectionData}
 use Rattle.frame_rows.specs.declared.placed_row.PlacedRow.{PlacedRow}
 use Rattle.frame_rows.specs.RowAt.{IsPlacedRowAt}
 use Rattle.frame_rows.specs.Rows.{unset}
-use Rattle.row_table.specs.Tables.{RowsData, row_in, AreRowsOf, IsFdeOf, HasRowsOf, IsTableOf, IsExtended, IsAdded}
+use Rattle.row_table.specs.Tables.{RowsData, row_in, AreRowsOf, IsFdeOf, HasRowsOf, IsRowTableOf, IsExtended, IsAdded}
 
 -- rows that come after those of an FDE leave them as they are
 rows_stay : (f : FdeData) (old new : RowsData) (from end : ℕ) → length old.numbers ≡ length old.starts → IsExtended old new → AreRowsOf f old from end → AreRowsOf f new from end
@@ -89,7 +89,7 @@ abbrev rows_of : List ℕ → List ℕ → List PlacedRow → RowsData
 rows_of starts numbers distinct = record { starts = starts; numbers = numbers; distinct = distinct }
 
 pub all_fdes : (s : SectionData) (n : ℕ) (begins starts numbers : List ℕ) (kept distinct : List PlacedRow) (r : RowsData) → HasRowsOf s n (record { begins = begins; rows = r }) → n ≡ length s.fdes
-    → rows_of starts numbers kept ≡ r → distinct ≡ kept → IsTableOf s (record { begins = begins; rows = record { starts = starts; numbers = numbers; distinct = distinct } })
+    → rows_of starts numbers kept ≡ r → distinct ≡ kept → IsRowTableOf s (record { begins = begins; rows = record { starts = starts; numbers = numbers; distinct = distinct } })
 all_fdes s n begins starts numbers kept distinct r has count was are =
     let rows : r ≡ rows_of starts numbers distinct = sym was ∙ ap (rows_of starts numbers) (sym are) in
     let whole : HasRowsOf s n (record { begins = begins; rows = rows_of starts numbers distinct }) = subst (λ (k : RowsData). HasRowsOf s n (record { begins = begins; rows = k })) rows has in

@@ -10,7 +10,7 @@ use Rattle.frame_rows.specs.Expressions.{HasExpressions}
 use Rattle.frame_rows.specs.RowAt.{IsRowAt, IsPlacedRowAt}
 use Rattle.frame_rows.specs.Rows.{unset}
 use Rattle.frame_rows.specs.Rules.{RowData, lent_row}
-use Rattle.row_table.specs.Tables.{RowsData, TableData, row_in, AreRowsOf, IsFdeOf, IsTableOf, IsFound}
+use Rattle.row_table.specs.Tables.{RowsData, TableData, row_in, AreRowsOf, IsFdeOf, IsRowTableOf, IsFound}
 
 chosen_covers : (pc : ℕ) (b : Bool) (f g : FdeRecord) (o : Option FdeRecord) → covers pc g ≡ b → cond b (Some g) o ≡ Some f → (o ≡ Some f → covers pc f ≡ true) → covers pc f ≡ true
 chosen_covers pc true f g o here e later = let same : g ≡ f = cc in subst (λ (k : FdeRecord). covers pc k ≡ true) same here
@@ -29,7 +29,7 @@ pub record IsThere (s : SectionData) (pc : ℕ) (f : FdeData) (r : RowsData) (fr
   pub even : length r.numbers ≡ length r.starts
   pub are : AreRowsOf f r from end
 
-pub there : (s : SectionData) (t : TableData) (pc number from end : ℕ) (f : FdeData) → IsTableOf s t → slice_get s.fdes number ≡ first_cover pc s.fdes → number < length s.fdes → IsFdeOf s number f
+pub there : (s : SectionData) (t : TableData) (pc number from end : ℕ) (f : FdeData) → IsRowTableOf s t → slice_get s.fdes number ≡ first_cover pc s.fdes → number < length s.fdes → IsFdeOf s number f
     → from ≡ get_or t.begins number from → end ≡ get_or t.begins (number + 1) end → IsThere s pc f t.rows from end
 there s t pc number from end f table found within is from_is end_is =
     let cover : first_cover pc s.fdes ≡ Some f.entry = sym found ∙ is.entry in

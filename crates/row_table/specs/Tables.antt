@@ -60,8 +60,8 @@ pub record HasRowsOf (s : SectionData) (n : ℕ) (t : TableData) : Type 0 where
       → AreRowsOf f t.rows (get_or t.begins i 0) (get_or t.begins (i + 1) 0)
 
 -- it has the rows of all
-abbrev pub IsTableOf : SectionData → TableData → Type 0
-IsTableOf s t = HasRowsOf s (length s.fdes) t
+abbrev pub IsRowTableOf : SectionData → TableData → Type 0
+IsRowTableOf s t = HasRowsOf s (length s.fdes) t
 
 -- ---- one row more, and the rows of one FDE more
 

@@ -2,7 +2,7 @@
 
 ghost use Rattle.std.specs.Prelude.{◌≡◌, None, IfOk, MatchOption};
 ghost use Rattle.frame_parse.specs.Sections.{first_cover};
-ghost use Rattle.row_table.specs.Tables.{IsFound, IsTableOf};
+ghost use Rattle.row_table.specs.Tables.{IsFound, IsRowTableOf};
 
 use crate::fault::TableFault;
 use crate::kept_rows::KeptRows;
@@ -48,7 +48,7 @@ impl Model for RowTable {
 impl RowTable {
     /// The rows of a section. It takes some ten bytes for each, and a row for each that differs.
     pub fn of(alloc: Global, section: &Section) -> Result<RowTable, TableFault>
-        ensures { IfOk result (IsTableOf section.now) }
+        ensures { IfOk result (IsRowTableOf section.now) }
     {
         let mut kept = KeptRows::new();
         let mut rows = Rows::new(alloc)?;
@@ -75,7 +75,7 @@ impl RowTable {
     /// `fde_at` finds, and `row_at` makes of it. None where no FDE covers the address. It takes no
     /// memory.
     pub fn row_at<'t>(&'t self, section: &'t Section, pc: u64) -> Option<FoundRow<'t>>
-        requires { IsTableOf section.now self.now }
+        requires { IsRowTableOf section.now self.now }
         ensures { MatchOption result (first_cover pc section.now.fdes ≡ None)
             (λ found. IsFound section.now pc found.fde found.row) }
     {

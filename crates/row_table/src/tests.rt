@@ -1,7 +1,7 @@
 //! Tables of sections answer as the sections themselves, at every address.
 
 ghost use Rattle.std.specs.Prelude.{◌≤◌, length};
-ghost use Rattle.row_table.specs.Tables.{IsTableOf};
+ghost use Rattle.row_table.specs.Tables.{IsRowTableOf};
 
 use super::*;
 use frame_parse::Section;
@@ -34,7 +34,7 @@ fn same_rules(found: &LentRow<'_>, row: &Row<'_>) -> bool {
 
 /// Whether the table answers as its section at an address.
 fn answers_alike(section: &Section, table: &RowTable, pc: u64) -> bool
-    requires { IsTableOf section.now table.now }
+    requires { IsRowTableOf section.now table.now }
 {
     match (section.fde_at(pc), table.row_at(section, pc)) {
         (None, None) => true,
@@ -83,7 +83,7 @@ fn restored_expressions(rt: HostRuntime) -> Result<(), Fail> {
 
 /// The CFA's offset at an address.
 fn offset_at(section: &Section, table: &RowTable, pc: u64) -> Option<u64>
-    requires { IsTableOf section.now table.now }
+    requires { IsRowTableOf section.now table.now }
 {
     match table.row_at(section, pc) {
         None => None,
