@@ -31,7 +31,8 @@ answered_none k = record {
   left = sym (add-zero k.left);
   own = λ i. with_own (sym (append-nil k.log.receipts.own) i) k.log.receipts;
   loader = refl;
-  holdings = refl;
+  held = refl;
+  out = refl;
   lineage = refl;
   made = refl;
 }
@@ -47,7 +48,8 @@ answered_both a b c front back p q = record {
   left = let n = count_both is_of_update front back in let x = p.left in let y = q.left in omega (arith, n, x, y);
   own = q.own ∙ (ap (λ (r : Receipts). with_own (r.own ++ back) r) p.own ∙ (λ i. with_own (append_assoc a.log.receipts.own front back i) a.log.receipts));
   loader = q.loader ∙ p.loader;
-  holdings = q.holdings ∙ p.holdings;
+  held = q.held ∙ p.held;
+  out = q.out ∙ p.out;
   lineage = q.lineage ∙ p.lineage;
   made = q.made ∙ p.made;
 }
@@ -65,7 +67,8 @@ query_received t which pc found a b q =
       left = sym left ∙ sym (add-zero b.left);
       own = ap (λ (k : CallerData). k.log.receipts) q.log;
       loader = ap (λ (k : CallerData). k.log.loader) q.log;
-      holdings = ap (λ (k : CallerData). k.log.holdings) q.log;
+      held = ap (λ (k : CallerData). k.log.holdings.held) q.log;
+      out = ap (λ (k : CallerData). k.log.holdings.out) q.log;
       lineage = ap (λ (k : CallerData). k.log.lineage) q.log;
       made = ap (λ (k : CallerData). k.log.made) q.log;
     }

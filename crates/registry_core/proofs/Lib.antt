@@ -3,3 +3,4 @@ pub mod Meetings
 pub mod Counting
 pub mod Following
 pub mod Rounding
+pub mod Updating

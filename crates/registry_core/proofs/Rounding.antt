@@ -118,8 +118,8 @@ new_may_join w gives k is =
 
 idle_still : (rs : List Receipt) (k c : CallerData) → Answered rs k c → IsIdle k.log → IsIdle c.log
 idle_still rs k c a i = record {
-  held = ap (λ h. h.held) a.holdings ∙ i.held;
-  out = ap (λ h. h.out) a.holdings ∙ i.out;
+  held = a.held ∙ i.held;
+  out = a.out ∙ i.out;
   loader = a.loader ∙ i.loader;
 }
 

@@ -4,6 +4,8 @@ use Rattle.std.specs.Prelude.{count_by}
 use Rattle.std.specs.List.{AllByRecursion}
 use mathlib.Core.List.{IsPrefix}
 use Rattle.reg_model.specs.Chain.{IsBetween}
+use Rattle.reg_model.specs.declared.answer.Inserted.{Inserted}
+use Rattle.reg_model.specs.declared.answer.Inserted.TheVariants as inserted
 use Rattle.reg_model.specs.declared.answer.Loading.{Loading}
 use Rattle.reg_model.specs.declared.answer.Loading.TheVariants as loading
 use Rattle.reg_model.specs.declared.answer.Receipt.{Receipt}
@@ -20,7 +22,8 @@ is_of_update _ = true
 
 -- The caller's calls were answered with these receipts, which are all that its own gained. Their
 -- stamps and numbers are from what was seen before to what is seen now; each update took one of the
--- update calls. The caller holds what it held, and nobody was split off or joined.
+-- update calls. The caller holds the locks and has the nodes out that it held and had, and nobody
+-- was split off or joined.
 pub record Answered (receipts : List Receipt) (k k' : CallerData) : Type 0 where
   pub table : k'.table ≡ k.table
   pub terms : k'.log.terms ≡ k.log.terms
@@ -29,7 +32,8 @@ pub record Answered (receipts : List Receipt) (k k' : CallerData) : Type 0 where
   pub left : k.left ≡ k'.left + count_by is_of_update receipts
   pub own : k'.log.receipts ≡ record k.log.receipts { own = k.log.receipts.own ++ receipts }
   pub loader : k'.log.loader ≡ k.log.loader
-  pub holdings : k'.log.holdings ≡ k.log.holdings
+  pub held : k'.log.holdings.held ≡ k.log.holdings.held
+  pub out : k'.log.holdings.out ≡ k.log.holdings.out
   pub lineage : k'.log.lineage ≡ k.log.lineage
   pub made : k'.log.made ≡ k.log.made
 
@@ -37,7 +41,17 @@ pub record Answered (receipts : List Receipt) (k k' : CallerData) : Type 0 where
 abbrev pub Receives : CallerData → Receipt → CallerData → Type 0
 Receives k r k' = Answered (r ∷ []) k k'
 
--- the receipts of a load: none where no call was left, else that of the answer
+-- the receipts of a registration: none where no call was left, else that of the answer
+abbrev pub receipts_of_register : Member → Inserted → List Receipt
+receipts_of_register m inserted.Spent = []
+receipts_of_register m answer = receipt.Register m answer ∷ []
+
+-- the same of a removal of what is registered
+abbrev pub receipts_of_deregister : ℕ → Removed → List Receipt
+receipts_of_deregister base removed.Spent = []
+receipts_of_deregister base answer = receipt.Deregister base answer ∷ []
+
+-- the receipts of a load
 abbrev pub receipts_of_load : Member → Loading → List Receipt
 receipts_of_load m loading.Spent = []
 receipts_of_load m answer = receipt.Load m answer ∷ []

@@ -7,8 +7,9 @@
 //! thread of a round, and joins them in order; then it is alone, and has each number of the history
 //! once (`specs/Rounds`, `laws`).
 //!
-//! The layer above btree_lookup, which has lookups of the registered half, array_publish, which has
-//! the loader's half, and word_rule, which has the words and the callers. Nothing registers yet.
+//! The layer above btree_lookup, which has lookups of the registered half, btree_change, which has
+//! its updates, array_publish, which has the loader's half, and word_rule, which has the words and
+//! the callers.
 #![tactic(auto)]
 
 pub mod laws;

@@ -1,19 +1,25 @@
 //! The registry, and its calls.
-ghost use Rattle.std.specs.Prelude.{◌≡◌, ◌^◌, ◌<◌, ◌≤◌, ◌↔◌, [], length, None, IfOk, IsOk};
+ghost use Rattle.std.specs.Prelude.{◌≡◌, ◌^◌, ◌<◌, ◌≤◌, ◌↔◌, [], length, None, IfOk, IfErr, IsOk};
 ghost use Rattle.std.specs.List.{AllByRecursion};
 ghost use Rattle.array_publish.specs.Lookup.{LooksUp};
 ghost use Rattle.array_publish.specs.Update.{IsFreeAgain, LoadsMember, UnloadsMember};
+ghost use Rattle.btree_change.specs.Insertion.{AnswersInsertion, Inserts};
+ghost use Rattle.btree_change.specs.Removal.{AnswersRemoval, Removes};
+ghost use Rattle.btree_change.specs.Updates.{GivesUp};
 ghost use Rattle.btree_lookup.specs.Tries.{TriesTree};
 ghost use Rattle.reg_model.specs.Chain.{Chain};
 ghost use Rattle.reg_model.specs.Receipt.{IsPlace, receipts_of_place};
 ghost use Rattle.reg_model.specs.SpanData.{IsSpan};
+ghost use Rattle.reg_model.specs.declared.answer.Inserted.TheVariants as inserted;
 ghost use Rattle.reg_model.specs.declared.answer.Loading.TheVariants as loading;
 ghost use Rattle.reg_model.specs.declared.answer.Removed.TheVariants as removed;
 ghost use Rattle.segment_array.specs.Ascending.{AscendFrom};
+ghost use Rattle.word_rule.specs.CallerData.{due, surplus};
 ghost use Rattle.word_rule.specs.Callers.{IsAlone, IsIdle, IsWhole};
 ghost use Rattle.word_rule.specs.Logs.{first_log};
-ghost use Rattle.word_rule.specs.Places.{ALLOWANCE};
-ghost use Rattle.registry_core.specs.Calls.{Answered, Receives, receipts_of_load};
+ghost use Rattle.word_rule.specs.Places.{ALLOWANCE, CALL_CREDIT};
+ghost use Rattle.registry_core.specs.Calls.{Answered, Receives, receipts_of_deregister};
+ghost use Rattle.registry_core.specs.Calls.{receipts_of_load, receipts_of_register};
 ghost use Rattle.registry_core.specs.Calls.{receipts_of_unload};
 ghost use Rattle.registry_core.specs.Queries.{IsKnownPlace, Queries};
 ghost use Rattle.registry_core.specs.Rounds.{IsBetweenRounds};
@@ -21,8 +27,9 @@ ghost use Rattle.registry_core.specs.Rounds.{IsBetweenRounds};
 use crate::lookup::{loaded_at, registered_at};
 use array_publish::try_object;
 use btree_lookup::try_find;
+use node_store::Busy;
 use reg_model::laws::receipts_stay;
-use reg_model::{Again, Found, Loading, Member, NoMemory, Place, Removed};
+use reg_model::{Again, Found, Inserted, Loading, Member, NoMemory, Place, Removed};
 use std::alloc::Global;
 use std::marker::Model;
 use std::sync::Wait;
@@ -79,6 +86,62 @@ impl Registry {
         ensures { result.now ≡ self.now }
     {
         &self.words
+    }
+
+    /// Registers a member. Spent where the caller may begin no more update calls. It waits for the
+    /// locks of nodes.
+    pub fn register<R: Wait>(&self, rt: &R, me: &mut Caller, member: Member) -> Inserted
+        requires table { me.old.table ≡ self.now.table }
+        requires idle { IsIdle me.old.log }
+        requires payload { member.payload < self.now.terms.payloads }
+        ensures answer { Inserts self.now.terms member me.old me.new result }
+        ensures answered { Answered (receipts_of_register member result) me.old me.new }
+        ensures spent { (result ≡ inserted.Spent) ↔ (me.old.left ≡ 0) }
+    {
+        btree_change::insert(rt, &self.words, me, member)
+    }
+
+    /// Removes the registered member that begins at an address, and names it. Spent where the
+    /// caller may begin no more update calls. It waits for the locks of nodes.
+    pub fn deregister<R: Wait>(&self, rt: &R, me: &mut Caller, base: u64) -> Removed
+        requires table { me.old.table ≡ self.now.table }
+        requires idle { IsIdle me.old.log }
+        ensures answer { Removes self.now.terms base me.old me.new result }
+        ensures answered { Answered (receipts_of_deregister base result) me.old me.new }
+        ensures spent { (result ≡ removed.Spent) ↔ (me.old.left ≡ 0) }
+    {
+        btree_change::remove(rt, &self.words, me, base)
+    }
+
+    /// Registers a member as `register` does, for an update call that was begun, or answers Busy
+    /// where a lock on the way is taken: then the call is still begun, and may be tried again. It
+    /// waits for nobody.
+    pub fn try_register(&self, me: &mut Caller, member: Member) -> Result<Inserted, Busy>
+        requires table { me.old.table ≡ self.now.table }
+        requires idle { IsIdle me.old.log }
+        requires begun { 0 < due me.old }
+        requires surplus { CALL_CREDIT ≤ surplus me.old }
+        requires payload { member.payload < self.now.terms.payloads }
+        ensures answer { IfOk result
+            (λ answer. AnswersInsertion self.now.terms member answer me.old me.new) }
+        ensures busy { IfErr result (λ e. GivesUp me.old me.new) }
+    {
+        btree_change::try_insert(&self.words, me, member)
+    }
+
+    /// Removes a registered member as `deregister` does, for an update call that was begun, or
+    /// answers Busy where a lock on the way is taken: then the call is still begun, and may be
+    /// tried again. It waits for nobody.
+    pub fn try_deregister(&self, me: &mut Caller, base: u64) -> Result<Removed, Busy>
+        requires table { me.old.table ≡ self.now.table }
+        requires idle { IsIdle me.old.log }
+        requires begun { 0 < due me.old }
+        requires surplus { CALL_CREDIT ≤ surplus me.old }
+        ensures answer { IfOk result
+            (λ answer. AnswersRemoval self.now.terms base answer me.old me.new) }
+        ensures busy { IfErr result (λ e. GivesUp me.old me.new) }
+    {
+        btree_change::try_remove(&self.words, me, base)
     }
 
     /// Loads a member. Spent where the caller may begin no more update calls. It waits for the

@@ -1,0 +1,8 @@
+use Rattle.registry_core.proofs.Updating.{removed_answered, removed_spent}
+use Rattle.registry_core.proofs.registry.Registry.deregister.Goals as goal
+
+pub returns-clause-answered : goal.returns-clause-answered
+returns-clause-answered g c = removed_answered _ _ _ _ _ c.requires.idle c.remove.ensures.answer
+
+pub returns-clause-spent : goal.returns-clause-spent
+returns-clause-spent g c = removed_spent _ _ _ _ _ c.remove.ensures.answer
