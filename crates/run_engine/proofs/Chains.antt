@@ -1,5 +1,5 @@
--- Chains of calls, one after another and in parts.
-use Rattle.std.proofs.Common.{◌≡◌, List, [], ◌∷◌, ◌++◌, refl, sym, ◌∙◌, ap, subst}
+-- Chains of calls, one after another.
+use Rattle.std.proofs.Common.{◌≡◌, List, [], ◌∷◌, ◌++◌, sym, ◌∙◌, ap, subst}
 use Rattle.std.specs.List.{flat_map}
 use Rattle.std.proofs.lemmas.List.{append-nil}
 use Rattle.std.proofs.lemmas.List.Concat.{flat_map-append}
@@ -10,12 +10,6 @@ module _ {S : Type 0} (step : S → Receipt → S → Type 0) where
   pub Chain-append : (a b c : S) (xs ys : List Receipt) → Chain step a xs b → Chain step b ys c → Chain step a (xs ++ ys) c
   Chain-append a b c [] ys front back = (let P : S → Type 0 = λ s. Chain step s ys c in subst P front back)
   Chain-append a b c (x ∷ xs) ys (mid, call, front) back = (mid, call, Chain-append mid b c xs ys front back)
-
-  pub Chain-parts : (a c : S) (xs ys : List Receipt) → Chain step a (xs ++ ys) c → (b : S) × (Chain step a xs b × Chain step b ys c)
-  Chain-parts a c [] ys chain = (a, (refl, chain))
-  Chain-parts a c (x ∷ xs) ys (mid, call, chain) =
-      let parts = Chain-parts mid c xs ys chain in
-      (parts.0, ((mid, call, parts.1.0), parts.1.1))
 
   -- one more item, each of which has receipts of its own
   pub Chain-push : {X : Type 0} (f : X → List Receipt) (a b c : S) (xs : List X) (x : X) → Chain step a (flat_map f xs) b → Chain step b (f x) c → Chain step a (flat_map f (xs ++ x ∷ [])) c

@@ -5,13 +5,11 @@ pub mod Lines
 pub mod Played
 pub mod Lists
 pub mod Chains
-pub mod Traces
 pub mod Sharing
 pub mod Teams
 pub mod ManyRounds
 pub mod SharedLawfulness
 pub mod Opening
 pub mod Lawfulness
-pub mod Unfilled
 pub mod Endings
 pub mod Words

@@ -1,9 +1,6 @@
 -- The journal of threads over one registry is lawful, whatever the order of their calls was.
-use Rattle.std.proofs.Common.{◌≡◌, ℕ, List, [], ◌∷◌, ◌++◌, Bool, true, false, length, map, get_or, ◌<◌, refl, sym, ◌∙◌, ap, subst}
-use Rattle.std.specs.List.{All, AllByRecursion, AllZip, flat_map, list_any}
-use Rattle.std.proofs.lemmas.Bool.{false≢true}
-use Rattle.std.proofs.lemmas.List.Folds.{list_any_at}
-use Rattle.std.proofs.lemmas.List.Elements.{All-cons, All-from_recursion, All-head, All-tail}
+use Rattle.std.proofs.Common.{◌≡◌, ℕ, List, [], ◌∷◌, ◌++◌, length, map, refl, sym, ◌∙◌, ap, subst}
+use Rattle.std.specs.List.{AllByRecursion, AllZip, flat_map}
 use Rattle.reg_model.specs.SpanData.{SpanData}
 use Rattle.reg_model.specs.History.{IsHistory}
 use Rattle.reg_model.specs.Receipt.{IsAtNumber}
@@ -16,16 +13,11 @@ use Rattle.word_rule.specs.Logs.{first_log}
 use Rattle.word_rule.specs.declared.log.Log.{Log}
 use Rattle.word_rule.specs.declared.log.Terms.{Terms}
 use Rattle.registry_core.specs.Rounds.{all_receipts}
-use Rattle.event_script.specs.ScriptData.{ScriptData, SnapshotData, has_registrations, is_registration}
-use Rattle.frame_parse.specs.Sections.{SectionData}
+use Rattle.event_script.specs.ScriptData.{ScriptData}
 use Rattle.event_script.specs.JournalData.{JournalData}
-use Rattle.event_script.specs.Lawful.{AnswersEvent, IsLawfulJournal, in_one, receipts_of, thread_receipts}
-use Rattle.event_script.specs.declared.script.Event.{Event}
-use Rattle.event_script.specs.declared.script.Event.TheVariants as event
+use Rattle.event_script.specs.Lawful.{IsLawfulJournal, in_one, receipts_of, thread_receipts}
 use Rattle.event_script.specs.declared.journal.Answer.{Answer}
-use Rattle.event_script.specs.declared.journal.Answer.TheVariants.{Load, Unload, Find, Unwind}
-use Rattle.run_engine.specs.Outcome.{IsUnfilled}
-use Rattle.run_engine.specs.Played.{IsRightAnswer, RegistersNothing}
+use Rattle.run_engine.specs.Played.{IsRightAnswer}
 use Rattle.run_engine.specs.Shared.{IsAfterRounds, script_terms}
 use Rattle.run_engine.proofs.Lawfulness.{answered_play, events_answered, records_lawful, traces_unfolded}
 use Rattle.run_engine.proofs.ManyRounds.{in_one_flat}
@@ -89,54 +81,3 @@ receipts_joined {T} {U} images answers_of threads_of rounds updates k k' none af
     after.joined
     ∙ (ap (λ joined. joined ++ flat_map (λ (round : List (List Receipt)). round) lists) none
     ∙ ap (λ all. flat_map (λ (round : List (List Receipt)). round) all) (sym (receipts_held images answers_of threads_of rounds updates)))
-
--- ---- scripts that register nothing
-
-nothing_registered : (happens : Event) → is_registration happens ≡ false → RegistersNothing happens
-nothing_registered (event.Register image) none = false≢true (sym none)
-nothing_registered (event.Deregister base) none = false≢true (sym none)
-nothing_registered (event.Load image) none = tt
-nothing_registered (event.Unload base) none = tt
-nothing_registered (event.Find pc) none = tt
-nothing_registered (event.Unwind number) none = tt
-
--- none of the items has it
-one_of : {A : Type 0} (p : A → Bool) (P : A → Type 0) → ((x : A) → p x ≡ false → P x) → (xs : List A) → list_any p xs ≡ false → (k : ℕ) (d : A) → k < length xs → (b : Bool) → p (get_or xs k d) ≡ b → P (get_or xs k d)
-one_of p P from xs none k d within false is = from (get_or xs k d) is
-one_of p P from xs none k d within true is = absurd (false≢true (sym none ∙ list_any_at p xs k d within is))
-
-none_of : {A : Type 0} (p : A → Bool) (P : A → Type 0) → ((x : A) → p x ≡ false → P x) → (xs : List A) → list_any p xs ≡ false → All P xs
-none_of p P from xs none = λ k d within. one_of p P from xs none k d within (p (get_or xs k d)) refl
-
-pub none_registers : (rounds : List (List (List Event))) → has_registrations rounds ≡ false → All (All (All RegistersNothing)) rounds
-none_registers =
-    none_of (list_any (list_any is_registration)) (All (All RegistersNothing))
-    (none_of (list_any is_registration) (All RegistersNothing)
-    (none_of is_registration RegistersNothing nothing_registered))
-
--- so no answer says that a tree is full
-answer_unfilled : (happens : Event) (answer : Answer) → AnswersEvent happens answer → RegistersNothing happens → IsUnfilled answer
-answer_unfilled (event.Load image) (Load asked answer) is none = tt
-answer_unfilled (event.Unload base) (Unload asked answer) is none = tt
-answer_unfilled (event.Find pc) (Find asked place) is none = tt
-answer_unfilled (event.Unwind number) (Unwind asked trace) is none = tt
-answer_unfilled (event.Register image) answer is none = absurd none
-answer_unfilled (event.Deregister base) answer is none = absurd none
-answer_unfilled _ _ is none = absurd is
-
-beside : {A B : Type 0} (R : A → B → Type 0) (P : A → Type 0) (Q : B → Type 0) → ((a : A) (b : B) → R a b → P a → Q b) → (xs : List A) (ys : List B) → AllZip R xs ys → All P xs → All Q ys
-beside R P Q from [] [] zip all = All-from_recursion Q [] tt
-beside R P Q from (x ∷ xs) (y ∷ ys) zip all = All-cons Q y ys (from x y zip.0 (All-head P x xs all)) (beside R P Q from xs ys zip.1 (All-tail P x xs all))
-beside R P Q from [] (y ∷ ys) zip all = absurd zip
-beside R P Q from (x ∷ xs) [] zip all = absurd zip
-
-pub shared_unfilled : (events : List (List (List Event))) (rounds : List (List (List Answer))) → AllZip (AllZip (AllZip AnswersEvent)) events rounds → All (All (All RegistersNothing)) events → All (All (All IsUnfilled)) rounds
-shared_unfilled =
-    beside (AllZip (AllZip AnswersEvent)) (All (All RegistersNothing)) (All (All IsUnfilled))
-    (beside (AllZip AnswersEvent) (All RegistersNothing) (All IsUnfilled)
-    (beside AnswersEvent RegistersNothing IsUnfilled answer_unfilled))
-
-pub play_unfilled : {T U : Type 0} (answers_of : T → List Answer) (threads_of : U → List T) (sections : List SectionData) (snapshots : List SnapshotData) (events : List (List (List Event))) (rounds : List U) → AllZip (λ threads round. AllZip (λ events thread. AllZip (IsRightAnswer sections snapshots) events (answers_of thread)) threads (threads_of round)) events rounds → All (All (All RegistersNothing)) events → All (All (All IsUnfilled)) (map (λ round. map answers_of (threads_of round)) rounds)
-play_unfilled {T} {U} answers_of threads_of sections snapshots events rounds answered none =
-    let played : List (List (List Answer)) = map (λ round. map answers_of (threads_of round)) rounds in
-    shared_unfilled events played (events_answered sections snapshots events played (answered_play (IsRightAnswer sections snapshots) answers_of threads_of events rounds answered)) none

@@ -1,5 +1,5 @@
 -- What calls of a shared registry make of their caller.
-use Rattle.std.proofs.Common.{◌≡◌, ℕ, ◌+◌, ◌≤◌, List, [], ◌∷◌, Option, Some, None, Result, Ok, Err, IfOk, OnErr, refl, sym, ◌∙◌, ap, ap₂, count_by, arith}
+use Rattle.std.proofs.Common.{◌≡◌, ℕ, ◌+◌, ◌≤◌, List, [], ◌∷◌, Option, Some, None, Result, Ok, Err, IfOk, OnErr, refl, sym, ◌∙◌, ap, count_by, arith}
 use Rattle.reg_model.specs.SpanData.{SpanData}
 use Rattle.reg_model.specs.Chain.{Chain}
 use Rattle.reg_model.specs.Receipt.{receipts_of_place}
@@ -17,7 +17,7 @@ use Rattle.event_script.specs.declared.script.Event.TheVariants as event
 use Rattle.event_script.specs.declared.journal.Answer.{Answer}
 use Rattle.event_script.specs.declared.journal.Answer.TheVariants.{Register, Deregister, Load, Unload, Find, Unwind}
 use Rattle.run_engine.specs.Played.{updates_of}
-use Rattle.run_engine.specs.Shared.{SharedPlayerData, AnswersPlaying, SharedStep, IsReady}
+use Rattle.run_engine.specs.Shared.{SharedPlayerData, AnswersPlaying, IsReady}
 use Rattle.run_engine.proofs.Chains.{Chain-append}
 
 -- ---- queries
@@ -31,17 +31,6 @@ goes_calls old new (line ∷ lines) (mid, answers, goes) =
 pub goes_registry : (old new : SharedPlayerData) (lines : List FrameLine) → GoesThrough AnswersPlaying old lines new → new.registry ≡ old.registry
 goes_registry old new [] is = ap (λ (p : SharedPlayerData). p.registry) (sym is)
 goes_registry old new (line ∷ lines) (mid, answers, goes) = goes_registry mid new lines goes ∙ answers.0
-
--- calls of a player are those of its caller
-pub player_calls : (a b : SharedPlayerData) (receipts : List Receipt) → b.registry ≡ a.registry → Chain Receives a.me receipts b.me → Chain SharedStep a receipts b
-player_calls a b [] same is = ap₂ (λ (registry : WordsData) (me : CallerData). record { registry = registry; me = me }) same is
-player_calls a b (r ∷ receipts) same (mid, call, chain) =
-    let next : SharedPlayerData = record { registry = a.registry; me = mid } in
-    (next, (refl, call), player_calls next b receipts same chain)
-
-pub caller_calls : (a b : SharedPlayerData) (receipts : List Receipt) → Chain SharedStep a receipts b → Chain Receives a.me receipts b.me
-caller_calls a b [] is = ap (λ (p : SharedPlayerData). p.me) is
-caller_calls a b (r ∷ receipts) (mid, call, chain) = (mid.me, call.1, caller_calls mid b receipts chain)
 
 -- ---- how many update calls an event takes
 
@@ -76,10 +65,19 @@ still_ready bound registry registry' receipts k k' same answered ready = record 
   table = answered.table ∙ (ready.table ∙ ap (λ (w : WordsData). w.table) (sym same));
   terms = answered.terms ∙ (ready.terms ∙ ap (λ (w : WordsData). w.terms) (sym same));
   payloads = ap (λ (w : WordsData). w.terms.payloads) same ∙ ready.payloads;
-  loader = answered.loader ∙ ready.loader;
+  idle = record {
+    held = answered.held ∙ ready.idle.held;
+    out = answered.out ∙ ready.idle.out;
+    loader = answered.loader ∙ ready.idle.loader;
+  };
 }
 
 -- what follows of a value, and of there being none
 pub either_way : {X E : Type 0} (r : Result X E) (P : X → Type 0) (Q : Type 0) (R : Type 0) → ((x : X) → P x → R) → (Q → R) → IfOk r P → OnErr r Q → R
 either_way (Ok x) P Q R ok err p q = ok x p
 either_way (Err e) P Q R ok err p q = err q
+
+-- what follows of two facts about a value, if there is one
+pub both_ok : {X E : Type 0} (r : Result X E) (P Q R : X → Type 0) → ((x : X) → P x → Q x → R x) → IfOk r P → IfOk r Q → IfOk r R
+both_ok (Ok x) P Q R from p q = from x p q
+both_ok (Err e) P Q R from p q = tt

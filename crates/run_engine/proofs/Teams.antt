@@ -11,7 +11,7 @@ use Rattle.registry_core.specs.Rounds.{AreAnswered, IsAfterRound, IsSplitOff, af
 use Rattle.event_script.specs.ScriptData.{Counts, IsRound, IsThread}
 use Rattle.event_script.specs.declared.script.Event.{Event}
 use Rattle.event_script.specs.declared.script.Event.TheVariants.{Register, Deregister, Load, Unload, Find, Unwind}
-use Rattle.run_engine.specs.Played.{RegistersNothing, updates_in, updates_of}
+use Rattle.run_engine.specs.Played.{updates_in, updates_of}
 use Rattle.run_engine.specs.Shared.{AreManned, IsReady}
 
 -- ---- the last one and those before it
@@ -45,7 +45,7 @@ split_manned bound registry k (events ∷ threads) (c ∷ callers) ready all =
           table = new.table ∙ ready.table;
           terms = new.terms ∙ ready.terms;
           payloads = ready.payloads;
-          loader = new.idle.loader;
+          idle = new.idle;
         },
         omega (arith, left),
       ),
@@ -84,13 +84,6 @@ count_fits events happens i n k few so_far here =
     let one = event_once happens in
     omega (arith, few, so_far, here, front, short, one)
 
--- the updates of a thread are few
-pub enough_left : (events : List Event) (room : ℕ) → length events ≤ 4096 → 4096 ≤ room → updates_in events ≤ room
-enough_left events room few room_is = (let count = few_updates events in omega (arith, few, room_is, count))
-
-pub still_left : (events : List Event) (a b : ℕ) → length events ≤ 4096 → a ≤ b + updates_in events → a ≤ b + 4096
-still_left events a b few left = (let count = few_updates events in omega (arith, few, left, count))
-
 sum_more : (n : ℕ) (ns : List ℕ) → sum (n ∷ ns) ≡ n + sum ns
 sum_more n ns = sum_by-cons (λ (k : ℕ). k) n ns
 
@@ -121,7 +114,7 @@ after_ready bound registry lists k k' after ready = record {
   table = after.table ∙ ready.table;
   terms = after.terms ∙ ready.terms;
   payloads = ready.payloads;
-  loader = after.between.idle.loader;
+  idle = after.between.idle;
 }
 
 -- ---- a round: splitting off, the threads' calls, joining
@@ -163,15 +156,13 @@ given_room counts threads gives room round given enough =
 pub record LastParts (counts : Counts) (bound : ℕ) (registry : WordsData) (threads : List (List Event)) (before : List CallerData) (me : CallerData) (thread : List Event) : Type 0 where
   pub whole : threads ≡ take (length threads - 1) threads ++ thread ∷ []
   pub front : IsRound counts (take (length threads - 1) threads)
-  pub front_registers : All (All RegistersNothing) (take (length threads - 1) threads)
   pub front_manned : AreManned bound registry (take (length threads - 1) threads) before
   pub last : IsThread counts thread
-  pub last_registers : All RegistersNothing thread
   pub ready : IsReady bound registry me
   pub left : updates_in thread ≤ me.left
 
-pub last_parts : (counts : Counts) (bound : ℕ) (registry : WordsData) (threads : List (List Event)) (callers before : List CallerData) (me : CallerData) (thread : List Event) → 1 ≤ length threads → IsRound counts threads → All (All RegistersNothing) threads → AreManned bound registry threads callers → callers ≡ before ++ me ∷ [] → thread ≡ get_or threads (length threads - 1) thread → LastParts counts bound registry threads before me thread
-last_parts counts bound registry threads callers before me thread some round registers manned split is =
+pub last_parts : (counts : Counts) (bound : ℕ) (registry : WordsData) (threads : List (List Event)) (callers before : List CallerData) (me : CallerData) (thread : List Event) → 1 ≤ length threads → IsRound counts threads → AreManned bound registry threads callers → callers ≡ before ++ me ∷ [] → thread ≡ get_or threads (length threads - 1) thread → LastParts counts bound registry threads before me thread
+last_parts counts bound registry threads callers before me thread some round manned split is =
     let n = length threads - 1 in
     let within : n < length threads = omega (arith, some) in
     let next : n + 1 ≡ length threads = omega (arith, some) in
@@ -184,14 +175,11 @@ last_parts counts bound registry threads callers before me thread some round reg
     let short = length-take n threads in
     let few = round.0 in
     let T : List Event → Type 0 = λ events. IsThread counts events in
-    let N : List Event → Type 0 = λ events. All RegistersNothing events in
     record {
       whole = whole;
       front = (omega (arith, short, few, some), All-take (IsThread counts) n threads round.1);
-      front_registers = All-take (All RegistersNothing) n threads registers;
       front_manned = parts.0;
       last = subst T (sym is) (All-get_or (IsThread counts) threads n thread within round.1);
-      last_registers = subst N (sym is) (All-get_or (All RegistersNothing) threads n thread within registers);
       ready = parts.1.0;
       left = parts.1.1;
     }

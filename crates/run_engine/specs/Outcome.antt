@@ -1,5 +1,5 @@
 -- What a run writes, and when it ends how.
-use Rattle.std.specs.Prelude.{◌≡◌, ◌⊎◌, ℕ, ◌<◌, ◌≤◌, List, [], ◌∷◌, length, All, Option, IfSome}
+use Rattle.std.specs.Prelude.{◌≡◌, ◌⊎◌, ℕ, ◌<◌, ◌≤◌, List, [], ◌∷◌, length, Option, IfSome}
 use Rattle.std.specs.Prelude.{codes}
 use Rattle.event_script.specs.ScriptData.{ScriptData}
 use Rattle.event_script.specs.Spelling.{IsScript}
@@ -7,9 +7,6 @@ use Rattle.event_script.specs.Refusal.{IsFirstBad}
 use Rattle.event_script.specs.FaultText.{fault_text}
 use Rattle.event_script.specs.declared.reader.fault.Reason.{Reason}
 use Rattle.event_script.specs.JournalData.{JournalData}
-use Rattle.event_script.specs.declared.journal.Answer.{Answer}
-use Rattle.event_script.specs.declared.journal.Answer.TheVariants as answer
-use Rattle.reg_model.specs.declared.answer.Inserted.TheVariants as inserted
 use Rattle.event_script.specs.Lawful.{IsLawfulJournal}
 use Rattle.event_script.specs.Text.{journal_text}
 use Rattle.run_engine.specs.Ports.{Rose, Gains, GainsPart}
@@ -31,19 +28,13 @@ too_long_line = codes "script too long\n"
 abbrev pub limit : ℕ
 limit = 8388608
 
--- the answer doesn't say that the tree is full
-abbrev pub IsUnfilled : Answer → Type 0
-IsUnfilled (answer.Register image (inserted.Full stamp)) = ⊥
-IsUnfilled _ = Unit {0}
-
 -- The text is that of a lawful journal of a script, the one that the source's bytes spell, where it
--- tells them. Lists have room, so no answer is Full.
+-- tells them.
 pub record IsAnswer (input : Option (List ℕ)) (text : List ℕ) : Type 0 where
   pub script : ScriptData
   pub journal : JournalData
   pub spelled : IfSome input (λ bytes. (length bytes ≤ limit) × IsScript bytes script)
   pub lawful : IsLawfulJournal script journal
-  pub unfilled : All (All (All IsUnfilled)) journal.rounds
   pub text_is : text ≡ journal_text journal
 
 -- The text tells of a bad line, the first one of the source's bytes, where it tells them, and of

@@ -1,14 +1,12 @@
 -- What playing a script gives: few answers, each of which can be written.
-use Rattle.std.specs.Prelude.{◌≡◌, ℕ, ◌-◌, ◌^◌, ◌≤◌, List, length, All}
+use Rattle.std.specs.Prelude.{◌≡◌, ℕ, ◌≤◌, List, length, All}
 use Rattle.std.specs.List.{sum_by}
-use Rattle.reg_model.specs.PlainRegistryData.{PlainRegistryData}
 use Rattle.reg_model.specs.SpanData.{SpanData}
 use Rattle.frame_parse.specs.Sections.{SectionData}
 use Rattle.event_script.specs.ScriptData.{SnapshotData}
 use Rattle.event_script.specs.Lawful.{AnswersEvent, IsUnfolded}
 use Rattle.event_script.specs.Text.{IsPrintable}
 use Rattle.event_script.specs.declared.script.Event.{Event}
-use Rattle.event_script.specs.declared.script.Event.TheVariants.{Register, Deregister}
 use Rattle.event_script.specs.declared.script.Event.TheVariants.{Find, Unwind}
 use Rattle.event_script.specs.declared.journal.Answer.{Answer}
 
@@ -31,10 +29,6 @@ IsRightAnswer sections snapshots event answer =
 abbrev pub AreImages : List SpanData → List SectionData → Type 0
 AreImages images sections = (length images ≤ 4096) × (length sections ≡ length images)
 
--- how many more updates may be asked of a registry over plain lists
-abbrev pub updates_left : PlainRegistryData → ℕ
-updates_left registry = 2 ^ 26 - registry.updates
-
 -- how many updates an event asks for, and the events of a thread
 abbrev pub updates_of : Event → ℕ
 updates_of (Find pc) = 0
@@ -43,9 +37,3 @@ updates_of _ = 1
 
 abbrev pub updates_in : List Event → ℕ
 updates_in events = sum_by updates_of events
-
--- the event leaves the registered ranges alone
-abbrev pub RegistersNothing : Event → Type 0
-RegistersNothing (Register image) = ⊥
-RegistersNothing (Deregister base) = ⊥
-RegistersNothing _ = Unit {0}

@@ -1,5 +1,5 @@
 -- The registry that threads share, as one of them sees it.
-use Rattle.std.specs.Prelude.{◌≡◌, ℕ, ◌+◌, ◌≤◌, List, ◌++◌, length, None}
+use Rattle.std.specs.Prelude.{◌≡◌, ℕ, ◌+◌, ◌≤◌, List, ◌++◌, length}
 use Rattle.std.specs.List.{AllZip, flat_map}
 use base.Fml.{GName}
 use Rattle.reg_model.specs.Chain.{Chain, made_count}
@@ -10,7 +10,7 @@ use Rattle.registry_core.specs.Calls.{Receives}
 use Rattle.registry_core.specs.Queries.{Queries}
 use Rattle.registry_core.specs.Rounds.{IsBetweenRounds}
 use Rattle.word_rule.specs.CallerData.{CallerData, WordsData}
-use Rattle.word_rule.specs.Callers.{start}
+use Rattle.word_rule.specs.Callers.{IsIdle, start}
 use Rattle.word_rule.specs.declared.log.Terms.{Terms}
 use Rattle.event_script.specs.Lawful.{AreInRounds, RoundsHold, fixed_members, in_one}
 use Rattle.event_script.specs.ScriptData.{ScriptData}
@@ -45,17 +45,13 @@ abbrev pub AnswersPlaying : SharedPlayerData → ℕ → Place → SharedPlayerD
 AnswersPlaying old pc place new =
     (new.registry ≡ old.registry) × IsAskedOf old.registry old.me pc place new.me
 
--- one call of it is one of its caller
-abbrev pub SharedStep : SharedPlayerData → Receipt → SharedPlayerData → Type 0
-SharedStep old r new = (new.registry ≡ old.registry) × Receives old.me r new.me
-
--- The caller is one of this registry, whose payloads are the numbers below a bound, and doesn't hold
--- the loader's lock.
+-- The caller is one of this registry, whose payloads are the numbers below a bound. It holds no lock,
+-- and has no node out.
 pub record IsReady (bound : ℕ) (registry : WordsData) (me : CallerData) : Type 0 where
   pub table : me.table ≡ registry.table
   pub terms : me.log.terms ≡ registry.terms
   pub payloads : registry.terms.payloads ≡ bound
-  pub loader : me.log.loader ≡ None
+  pub idle : IsIdle me.log
 
 -- Each thread has a caller that is ready, with at least as many update calls as it has updates.
 abbrev pub AreManned : ℕ → WordsData → List (List Event) → List CallerData → Type 0

@@ -1,6 +1,6 @@
 //! Runs a script from bytes to bytes.
 //!
-//! Above the scripts (`event_script`) and the registry (`reg_model`), below the program. `run`
+//! Above the scripts (`event_script`) and the registry (`registry_core`), below the program. `run`
 //! takes a source to its end, reads the script, plays its rounds against the registry, and writes
 //! the journal. What it promises is in its contract: where it answers Done, the text is that of a
 //! lawful journal of the script. Sources and sinks are traits, so that the promise speaks of bytes
@@ -9,14 +9,12 @@
 
 mod gate;
 mod memory;
-mod plain;
-mod play;
-mod player;
 mod ports;
 mod reading;
 mod rounds;
 mod running;
 mod scripts;
+mod setting;
 mod shared;
 mod status;
 #[cfg(test)]

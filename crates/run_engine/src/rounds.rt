@@ -6,11 +6,11 @@ ghost use Rattle.event_script.specs.Lawful.{receipts_of};
 ghost use Rattle.event_script.specs.ScriptData.{IsRound, IsThread};
 ghost use Rattle.registry_core.specs.Rounds.{IsAfterRound, IsBetweenRounds};
 ghost use Rattle.run_engine.specs.Played.{AreImages, IsPlayedThread, IsRightAnswer};
-ghost use Rattle.run_engine.specs.Played.{RegistersNothing, updates_in, updates_of};
+ghost use Rattle.run_engine.specs.Played.{updates_in, updates_of};
 ghost use Rattle.run_engine.specs.Shared.{IsAfterRounds, IsReady};
 
 use crate::gate::Gate;
-use crate::player::Setting;
+use crate::setting::Setting;
 use crate::threads::{PlayedRound, Team, play_threads};
 use event_script::{Answer, Event, Round, Thread};
 use reg_model::NoMemory;
@@ -80,7 +80,6 @@ fn play_round<R: Threads + Wait + Sync, G: Gate + Sync>(
       images = length setting.images.now;
       snapshots = length setting.snapshots.now;
     }) round.threads.now }
-    requires may_play { All (All RegistersNothing) round.threads.now }
     requires ready { IsReady (length setting.images.now) registry.now me.old }
     requires between { IsBetweenRounds me.old }
     requires left { 65536 ≤ me.old.left }
@@ -125,7 +124,6 @@ pub fn play_shared<R: Threads + Wait + Sync, G: Gate + Sync>(
       images = length setting.images.now;
       snapshots = length setting.snapshots.now;
     })) rounds.now }
-    requires may_play { All (All (All RegistersNothing)) rounds.now }
     requires ready { IsReady (length setting.images.now) registry.now me.old }
     requires between { IsBetweenRounds me.old }
     requires left { 65536 * length rounds.now ≤ me.old.left }

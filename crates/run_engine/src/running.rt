@@ -36,8 +36,8 @@ pub fn run<R: Threads + Wait + Sync, S: Source, K: Sink, G: Gate + Sync>(
 ) -> Status
     requires { S.can_read source.old }
 
-    // The journal theorem: the text of one lawful journal of the script that was read, of which no
-    // answer is Full.
+    // The journal theorem: the text of one lawful journal of the script that was read, whatever the
+    // order in which its threads are answered.
     ensures done { result ≡ Status.Done
         → Writes (map string_bytes words.now) (S.remaining source.old) Status.Done
         (K.written sink.old) (K.written sink.new) }

@@ -1,19 +1,16 @@
 //! Plays a script against a registry that its threads share.
 
-ghost use Rattle.std.specs.Prelude.{◌≡◌, All, IfOk, OnOk, flat_map, false, length};
+ghost use Rattle.std.specs.Prelude.{◌≡◌, IfOk, OnOk, flat_map};
 ghost use Rattle.event_script.specs.Lawful.{IsLawfulJournal, thread_receipts};
-ghost use Rattle.event_script.specs.ScriptData.{has_registrations};
 ghost use Rattle.registry_core.specs.Rounds.{IsBetweenRounds};
-ghost use Rattle.run_engine.specs.Outcome.{IsUnfilled};
 ghost use Rattle.run_engine.specs.Played.{IsPlayed};
 ghost use Rattle.run_engine.specs.Shared.{script_terms};
 ghost use Rattle.word_rule.specs.Logs.{first_log};
 ghost use Rattle.word_rule.specs.Places.{ALLOWANCE};
 
 use crate::gate::Gate;
-use crate::play::{members_of, play};
-use crate::player::Setting;
 use crate::rounds::play_shared;
+use crate::setting::{Setting, members_of};
 use event_script::{Journal, Script};
 use reg_model::NoMemory;
 use reg_model::laws::numbers_tell_histories;
@@ -24,8 +21,8 @@ use std::sync::Wait;
 use std::thread::Threads;
 use word_rule::Caller;
 
-/// Plays a script that registers nothing: the threads of each round side by side, each round when
-/// the one before it has ended. The caller comes back with the receipts of all of them.
+/// Plays a script: the threads of each round side by side, each round when the one before it has
+/// ended. The caller comes back with the receipts of all of them.
 pub fn run_script<R: Threads + Wait + Sync, G: Gate + Sync>(
     rt: &R,
     alloc: Global,
@@ -34,7 +31,6 @@ pub fn run_script<R: Threads + Wait + Sync, G: Gate + Sync>(
     me: &mut Caller,
     gate: &G,
 ) -> Result<Journal, NoMemory>
-    requires registers { has_registrations script.now.rounds ≡ false }
     requires terms { registry.now.terms ≡ script_terms script.now }
     requires caller { me.old
         ≡ record {
@@ -44,7 +40,6 @@ pub fn run_script<R: Threads + Wait + Sync, G: Gate + Sync>(
         } }
     requires between { IsBetweenRounds me.old }
     ensures lawful { IfOk result (λ journal. IsLawfulJournal script.now journal) }
-    ensures unfilled { IfOk result (λ journal. All (All (All IsUnfilled)) journal.rounds) }
     ensures played { IfOk result (λ journal. IsPlayed journal.rounds) }
     ensures between { OnOk result (IsBetweenRounds me.new) }
     ensures receipts { IfOk result (λ journal. me.new.log.receipts.joined
@@ -63,8 +58,7 @@ pub fn run_script<R: Threads + Wait + Sync, G: Gate + Sync>(
     Ok(Journal { rounds, updates })
 }
 
-/// Plays a script against a new registry: against one that its threads share, or, where it
-/// registers something, against one over plain lists.
+/// Plays a script against a new registry, which its threads share.
 pub fn play_script<R: Threads + Wait + Sync, G: Gate + Sync>(
     rt: &R,
     alloc: Global,
@@ -72,12 +66,8 @@ pub fn play_script<R: Threads + Wait + Sync, G: Gate + Sync>(
     script: &Script,
 ) -> Result<Journal, NoMemory>
     ensures lawful { IfOk result (λ journal. IsLawfulJournal script.now journal) }
-    ensures unfilled { IfOk result (λ journal. All (All (All IsUnfilled)) journal.rounds) }
     ensures played { IfOk result (λ journal. IsPlayed journal.rounds) }
 {
-    if script.has_registrations() {
-        return play(rt, alloc, gate, script);
-    }
     let fixed = members_of(alloc, &script.images, &script.fixed)?;
     let images = script.images.len() as u32;
     let (registry, mut me) = Registry::new(alloc, script.nodes, script.loads, images, fixed)?;

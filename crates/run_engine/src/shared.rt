@@ -8,11 +8,10 @@ ghost use Rattle.event_script.specs.declared.journal.Answer.TheVariants as answe
 ghost use Rattle.reg_model.specs.Chain.{Chain};
 ghost use Rattle.reg_model.specs.Receipt.{IsPlace};
 ghost use Rattle.registry_core.specs.Calls.{Receives};
-ghost use Rattle.run_engine.specs.Played.{AreImages, IsRightAnswer, RegistersNothing, updates_of};
-ghost use Rattle.run_engine.specs.Shared.{AnswersPlaying, AnswersShared, IsReady, SharedStep};
+ghost use Rattle.run_engine.specs.Played.{AreImages, IsRightAnswer, updates_of};
+ghost use Rattle.run_engine.specs.Shared.{AnswersPlaying, AnswersShared, IsReady};
 
-use crate::plain::member_of;
-use crate::player::{Player, Setting};
+use crate::setting::{Setting, member_of};
 use event_script::{Answer, Event};
 use reg_model::{NoMemory, Place};
 use registry_core::Registry;
@@ -105,6 +104,37 @@ impl<'a> SharedPlayer<'a> {
     }
 
     /// Plays one event.
+    pub fn play<R: Wait>(
+        &mut self,
+        rt: &R,
+        alloc: Global,
+        setting: Setting<'_>,
+        event: Event,
+    ) -> Result<Answer, NoMemory>
+        requires images { AreImages setting.images.now setting.sections.now }
+        requires event { IsEvent (record {
+          images = length setting.images.now;
+          snapshots = length setting.snapshots.now;
+        }) event }
+        requires left { updates_of event ≤ self.old.me.left }
+        requires ready { IsReady (length setting.images.now) self.old.registry self.old.me }
+        ensures answered { IfOk result
+            (λ answer. IsRightAnswer setting.entry.sections.now setting.entry.snapshots.now event
+            answer) }
+        ensures calls { IfOk result
+            (λ answer. Chain Receives self.old.me (receipts_of setting.entry.images.now answer)
+            self.new.me) }
+        ensures printable { IfOk result IsPrintable }
+        ensures left { IfOk result (λ _. self.old.me.left ≤ self.new.me.left + updates_of event) }
+        ensures ready { IfOk result
+            (λ _. IsReady (length setting.entry.images.now) self.new.registry self.new.me) }
+    {
+        // The law that this rests on; it takes no step.
+        calls_follow();
+        self.play_event(rt, alloc, setting, event)
+    }
+
+    /// The event's own calls.
     fn play_event<R: Wait>(
         &mut self,
         rt: &R,
@@ -117,7 +147,6 @@ impl<'a> SharedPlayer<'a> {
           images = length setting.images.now;
           snapshots = length setting.snapshots.now;
         }) event }
-        requires may_play { RegistersNothing event }
         requires left { updates_of event ≤ self.old.me.left }
         requires ready { IsReady (length setting.images.now) self.old.registry self.old.me }
         ensures answered { IfOk result
@@ -130,6 +159,15 @@ impl<'a> SharedPlayer<'a> {
         ensures printable { IfOk result IsPrintable }
     {
         Ok(match event {
+            Event::Register { image } => {
+                let member = member_of(setting.images, image);
+                let answer = self.registry.register(rt, &mut self.me, member);
+                Answer::Register { image, answer }
+            }
+            Event::Deregister { base } => {
+                let answer = self.registry.deregister(rt, &mut self.me, base);
+                Answer::Deregister { base, answer }
+            }
             Event::Load { image } => {
                 let member = member_of(setting.images, image);
                 let answer = self.registry.load(rt, &mut self.me, member);
@@ -147,7 +185,6 @@ impl<'a> SharedPlayer<'a> {
                 let trace = self.unwind(rt, alloc, setting, snapshot)?;
                 Answer::Unwind { snapshot, trace }
             }
-            Event::Register { .. } | Event::Deregister { .. } => unreachable!(),
         })
     }
 
@@ -189,27 +226,5 @@ impl Finder for SharedPlayer<'_> {
 
     fn find<R: Wait>(&mut self, rt: &R, pc: u64) -> Place {
         self.registry.find(rt, &mut self.me, pc)
-    }
-}
-
-impl Player for SharedPlayer<'_> {
-    ghost step = { SharedStep };
-
-    ghost may_play = { RegistersNothing };
-
-    ghost left = { λ p. p.me.left };
-
-    ghost is_below = { λ bound p. IsReady bound p.registry p.me };
-
-    fn play<R: Wait>(
-        &mut self,
-        rt: &R,
-        alloc: Global,
-        setting: Setting<'_>,
-        event: Event,
-    ) -> Result<Answer, NoMemory> {
-        // The law that this rests on; it takes no step.
-        calls_follow();
-        self.play_event(rt, alloc, setting, event)
     }
 }

@@ -3,16 +3,17 @@
 ghost use Rattle.std.specs.Prelude.{◌≤◌, All, IfOk, flat_map, length, map};
 ghost use Rattle.std.specs.List.{AllZip};
 ghost use Rattle.std.specs.Thread.{IsSync};
+ghost use Rattle.reg_model.specs.Chain.{Chain};
 ghost use Rattle.event_script.specs.Lawful.{receipts_of};
 ghost use Rattle.event_script.specs.ScriptData.{IsRound, IsThread};
-ghost use Rattle.registry_core.specs.Calls.{Answered};
+ghost use Rattle.registry_core.specs.Calls.{Answered, Receives};
 ghost use Rattle.registry_core.specs.Rounds.{AreAnswered};
 ghost use Rattle.run_engine.specs.Played.{AreImages, IsPlayedThread, IsRightAnswer};
-ghost use Rattle.run_engine.specs.Played.{RegistersNothing, updates_in};
+ghost use Rattle.run_engine.specs.Played.{updates_in};
 ghost use Rattle.run_engine.specs.Shared.{AreManned, IsReady};
 
 use crate::gate::Gate;
-use crate::player::{Setting, ThreadNumber, play_thread};
+use crate::setting::Setting;
 use crate::shared::SharedPlayer;
 use event_script::{Answer, Event, Thread};
 use reg_model::NoMemory;
@@ -22,6 +23,50 @@ use std::alloc::Global;
 use std::sync::Wait;
 use std::thread::{Threads, join};
 use word_rule::Caller;
+
+/// Which thread of which round, both counted from 1.
+#[derive(Clone, Copy, Debug, PartialEq, Eq)]
+pub struct ThreadNumber {
+    pub round: u32,
+    pub thread: u32,
+}
+
+/// Plays the events of one thread, in order.
+fn play_thread<R: Wait, G: Gate>(
+    rt: &R,
+    alloc: Global,
+    gate: &G,
+    number: ThreadNumber,
+    setting: Setting<'_>,
+    player: &mut SharedPlayer<'_>,
+    events: &[Event],
+) -> Result<Vec<Answer>, NoMemory>
+    requires images { AreImages setting.images.now setting.sections.now }
+    requires thread { IsThread (record {
+      images = length setting.images.now;
+      snapshots = length setting.snapshots.now;
+    }) events.now }
+    requires left { updates_in events.now ≤ player.old.me.left }
+    requires ready { IsReady (length setting.images.now) player.old.registry player.old.me }
+    ensures answered { IfOk result
+        (λ answers. AllZip (IsRightAnswer setting.entry.sections.now setting.entry.snapshots.now)
+        events.now answers.items) }
+    ensures calls { IfOk result
+        (λ answers. Chain Receives player.old.me
+        (flat_map (receipts_of setting.entry.images.now) answers.items) player.new.me) }
+    ensures played { IfOk result (λ answers. IsPlayedThread answers.items) }
+{
+    let ThreadNumber { round, thread } = number;
+    let mut answers = Vec::new(alloc);
+    for (index, event) in events.iter().enumerate() {
+        let count = index as u32 + 1;
+        gate.pass(rt, round, thread, count, None);
+        let answer = player.play(rt, alloc, setting, *event)?;
+        gate.pass(rt, round, thread, count, Some(&answer));
+        answers.push(answer)?;
+    }
+    Ok(answers)
+}
 
 /// Those who play a round: one caller of the registry for each thread.
 #[derive(Drop)]
@@ -59,7 +104,6 @@ fn play_alone<R: Wait, G: Gate>(
       images = length setting.images.now;
       snapshots = length setting.snapshots.now;
     }) events.now }
-    requires may_play { All RegistersNothing events.now }
     requires ready { IsReady (length setting.images.now) player.registry player.me }
     requires left { updates_in events.now ≤ player.me.left }
     ensures answered { IfOk result
@@ -94,7 +138,6 @@ pub fn play_threads<R: Threads + Wait + Sync, G: Gate + Sync>(
       images = length setting.images.now;
       snapshots = length setting.snapshots.now;
     }) threads.now }
-    requires may_play { All (All RegistersNothing) threads.now }
     requires manned { AreManned (length setting.images.now) team.registry.now threads.now
         team.callers.items }
     ensures answered { IfOk result
@@ -138,7 +181,7 @@ pub fn play_threads<R: Threads + Wait + Sync, G: Gate + Sync>(
         || -> Result<PlayedRound, NoMemory>
             requires { IsSync R.row × IsSync G.row × AreImages images.now sections.now × IsRound
                 (record { images = length images.now; snapshots = length snapshots.now })
-                before.now × All (All RegistersNothing) before.now × AreManned
+                before.now × AreManned
                 (length images.now) registry.now before.now callers.items }
             ensures answered { IfOk result
                 (λ played. AllZip
@@ -163,7 +206,7 @@ pub fn play_threads<R: Threads + Wait + Sync, G: Gate + Sync>(
         || -> Result<PlayedThread, NoMemory>
             requires { IsSync R.row × IsSync G.row × AreImages images.now sections.now × IsThread
                 (record { images = length images.now; snapshots = length snapshots.now })
-                events.now × All RegistersNothing events.now × IsReady (length images.now)
+                events.now × IsReady (length images.now)
                 registry.now me × (updates_in events.now ≤ me.left) }
             ensures answered { IfOk result
                 (λ played. AllZip (IsRightAnswer sections.entry.now snapshots.entry.now)

@@ -48,7 +48,6 @@ returns-in-Err-Failed-write_journal-clause-ends g c =
             journal = c.in-Ok-play_script.journal;
             spelled = IfSome-same _ bytes.items P (c.in-Ok.ensures.all within) (short, rw (← c.deref.ensures.value) c.in-Ok-read.ensures.ok);
             lawful = c.in-Ok-play_script.ensures.lawful;
-            unfilled = c.in-Ok-play_script.ensures.unfilled;
             text_is = refl;
           },
         ),
@@ -72,7 +71,6 @@ returns-clause-ends g c =
           journal = c.in-Ok-play_script.journal;
           spelled = IfSome-same _ bytes.items P (c.in-Ok.ensures.all within) (short, rw (← c.deref.ensures.value) c.in-Ok-read.ensures.ok);
           lawful = c.in-Ok-play_script.ensures.lawful;
-          unfilled = c.in-Ok-play_script.ensures.unfilled;
           text_is = refl;
         },
       ),

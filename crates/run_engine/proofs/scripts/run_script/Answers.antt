@@ -3,7 +3,7 @@ use Rattle.word_rule.specs.CallerData.{CallerData}
 use Rattle.word_rule.specs.Logs.{first_log}
 use Rattle.run_engine.specs.Shared.{script_terms}
 use Rattle.run_engine.proofs.Played.{played_play}
-use Rattle.run_engine.proofs.SharedLawfulness.{none_registers, play_unfilled, receipts_joined, shared_lawful}
+use Rattle.run_engine.proofs.SharedLawfulness.{receipts_joined, shared_lawful}
 use Rattle.run_engine.proofs.scripts.run_script.Goals as goal
 
 pub returns-clause-lawful : goal.returns-clause-lawful
@@ -15,10 +15,6 @@ returns-clause-lawful g c =
     (rw (← c.deref-2.ensures.value, ← c.deref-3.ensures.value, ← c.deref-4.ensures.value) c.in_ok-rounds.ensures.answered)
     (rw (← c.deref.ensures.value) c.in_ok-rounds.ensures.after)
     c.seen-updates.ensures)
-
-pub returns-clause-unfilled : goal.returns-clause-unfilled
-returns-clause-unfilled g c =
-    play_unfilled (λ thread. thread.items) (λ round. round.items) c.deref-2.result.now c.deref-3.result.now c.deref-4.result.now c.in_ok-rounds.rounds.items c.in_ok-rounds.ensures.answered (rw c.deref-4.ensures.value (none_registers c.script.inside.rounds.items (rw (← c.script.view_is) at c.requires.registers)))
 
 pub returns-clause-played : goal.returns-clause-played
 returns-clause-played g c = played_play (λ thread. thread.items) (λ round. round.items) c.in_ok-rounds.rounds.items c.in_ok-rounds.ensures.played

@@ -16,12 +16,12 @@ join-others-requires-after_bounds g t c κs within =
     let threads = c.args.threads.now in
     let events : c.deref-events.result.now ≡ c.thread-item.result = c.deref-events.ensures.value ∙ c.thread.view_is in
     let least = c.in-len1-up.len_at_least in
-    let parts = last_parts _ _ _ threads c.args.team.callers.items c.pop.new.self.items c.in-Some.me c.thread-item.result (omega (arith, least)) c.requires.round c.requires.may_play c.requires.manned c.in-Some.ensures.items c.thread-item.is in
+    let parts = last_parts _ _ _ threads c.args.team.callers.items c.pop.new.self.items c.in-Some.me c.thread-item.result (omega (arith, least)) c.requires.round c.requires.manned c.in-Some.ensures.items c.thread-item.is in
     let parts' = rw (← events) at parts in
     let short : length (take (length threads - 1) threads) ≡ length threads - 1 = length-take-le (length threads - 1) threads (omega arith) in
     let falls = c.decreases in (
-      (search (rules, arith), ((λ a m. m), ((λ a m. m), ((search rules, search rules, c.requires.images, parts.front, parts.front_registers, parts.front_manned), (search rules, search rules))))),
-      (search rules, search rules, c.requires.images, parts'.last, parts'.last_registers, parts.ready, parts'.left),
+      (search (rules, arith), ((λ a m. m), ((λ a m. m), ((search rules, search rules, c.requires.images, parts.front, parts.front_manned), (search rules, search rules))))),
+      (search rules, search rules, c.requires.images, parts'.last, parts.ready, parts'.left),
     )
 
 pub returns-clause-answered : goal.returns-clause-answered
@@ -29,7 +29,7 @@ returns-clause-answered g t c =
     let threads = c.args.threads.now in
     let events : c.deref-events.result.now ≡ c.thread-item.result = c.deref-events.ensures.value ∙ c.thread.view_is in
     let least = c.in-len1-up.len_at_least in
-    let parts = last_parts _ _ _ threads c.args.team.callers.items c.pop.new.self.items c.in-Some.me c.thread-item.result (omega (arith, least)) c.requires.round c.requires.may_play c.requires.manned c.in-Some.ensures.items c.thread-item.is in
+    let parts = last_parts _ _ _ threads c.args.team.callers.items c.pop.new.self.items c.in-Some.me c.thread-item.result (omega (arith, least)) c.requires.round c.requires.manned c.in-Some.ensures.items c.thread-item.is in
     let first : AllZip (λ (events : List Event) thread. AllZip (IsRightAnswer c.args.setting.sections.now c.args.setting.snapshots.now) events thread.items) (take (length threads - 1) threads) c.in_ok-others.others.answers.items = search rules in
     let second : AllZip (IsRightAnswer c.args.setting.sections.now c.args.setting.snapshots.now) c.deref-events.result.now c.in_ok-own.own.answers.items = search rules in
     let E : List Event → Type 0 = λ es. AllZip (IsRightAnswer c.args.setting.sections.now c.args.setting.snapshots.now) es c.in_ok-own.own.answers.items in

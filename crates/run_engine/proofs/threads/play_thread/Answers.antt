@@ -1,6 +1,7 @@
 use Rattle.std.proofs.Common.{arith}
 use Rattle.std.proofs.lemmas.List.{take_more}
 use Rattle.std.proofs.lemmas.List.Elements.{All-push}
+use Rattle.registry_core.specs.Calls.{Receives}
 use Rattle.event_script.specs.Lawful.{receipts_of}
 use Rattle.run_engine.specs.Played.{IsRightAnswer}
 use Rattle.event_script.specs.Text.{IsPrintable}
@@ -8,7 +9,7 @@ use Rattle.event_script.specs.declared.script.Event.TheVariants.{Register}
 use Rattle.run_engine.proofs.Lists.{AllZip-more, AllZip-front}
 use Rattle.run_engine.proofs.Chains.{Chain-push}
 use Rattle.run_engine.proofs.Teams.{left_next}
-use Rattle.run_engine.proofs.player.play_thread.Goals as goal
+use Rattle.run_engine.proofs.threads.play_thread.Goals as goal
 
 pub loop-index-preserved : goal.loop-index-preserved
 loop-index-preserved g c =
@@ -17,9 +18,9 @@ loop-index-preserved g c =
     let before = c.loop-index.invariant in
     rw c.in_ok-push.ensures.items (record {
       answered = rw (take_more c.args.events.now c.loop-index.index (Register 0) c.loop-index-test.true) (AllZip-more (IsRightAnswer c.args.setting.sections.now c.args.setting.snapshots.now) _ answers _ answer before.answered c.in_ok-answer.ensures.answered);
-      calls = Chain-push g.P.Player.step (receipts_of c.args.setting.images.now) _ _ _ answers answer before.calls c.in_ok-answer.ensures.calls;
+      calls = Chain-push Receives (receipts_of c.args.setting.images.now) _ _ _ answers answer before.calls c.in_ok-answer.ensures.calls;
       printable = All-push IsPrintable answers answer before.printable c.in_ok-answer.ensures.printable;
-      is_below = c.in_ok-answer.ensures.is_below;
+      ready = c.in_ok-answer.ensures.ready;
       left = left_next c.args.events.now c.loop-index.index _ _ _ c.loop-index-test.true before.left c.in_ok-answer.ensures.left;
     })
 

@@ -4,7 +4,7 @@ use Rattle.std.proofs.lemmas.Option.{slice_get_read}
 use Rattle.reg_model.specs.SpanData.{SpanData}
 use Rattle.reg_model.specs.declared.span.Member.{Member}
 use Rattle.event_script.specs.Lawful.{image_member}
-use Rattle.run_engine.proofs.plain.member_of.Goals as goal
+use Rattle.run_engine.proofs.setting.member_of.Goals as goal
 
 member_is : (images : List SpanData) (number : ℕ) (span : SpanData) → number < length images → span ≡ get_or images number span → image_member images number ≡ record { span = span; payload = number }
 member_is images number span lt is =

@@ -2,7 +2,7 @@ use Rattle.std.proofs.Common.{List, [], ◌∷◌, ◌++◌, map, get_or, take, 
 use Rattle.std.proofs.lemmas.List.{map-append, take_more}
 use Rattle.reg_model.specs.declared.span.Member.{Member}
 use Rattle.event_script.specs.Lawful.{image_member}
-use Rattle.run_engine.proofs.play.members_of.Goals as goal
+use Rattle.run_engine.proofs.setting.members_of.Goals as goal
 
 pub loop-number-preserved : goal.loop-number-preserved
 loop-number-preserved c =

@@ -1,6 +1,6 @@
 use Rattle.std.proofs.Common.{◌≡◌, take, map}
 use Rattle.event_script.specs.Lawful.{image_member}
-use Rattle.run_engine.proofs.play.members_of.Given as goal
+use Rattle.run_engine.proofs.setting.members_of.Given as goal
 
 -- the members so far
 abbrev pub invariant-loop-number : goal.invariant-loop-number
