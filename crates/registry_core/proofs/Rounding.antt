@@ -116,7 +116,7 @@ new_may_join w gives k is =
 
 -- ---- what callers whose calls were answered may do
 
-idle_still : (rs : List Receipt) (k c : CallerData) → Answered rs k c → IsIdle k.log → IsIdle c.log
+pub idle_still : (rs : List Receipt) (k c : CallerData) → Answered rs k c → IsIdle k.log → IsIdle c.log
 idle_still rs k c a i = record {
   held = a.held ∙ i.held;
   out = a.out ∙ i.out;

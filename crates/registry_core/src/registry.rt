@@ -97,6 +97,7 @@ impl Registry {
         ensures answer { Inserts self.now.terms member me.old me.new result }
         ensures answered { Answered (receipts_of_register member result) me.old me.new }
         ensures spent { (result ≡ inserted.Spent) ↔ (me.old.left ≡ 0) }
+        ensures idle { IsIdle me.new.log }
     {
         btree_change::insert(rt, &self.words, me, member)
     }
@@ -109,6 +110,7 @@ impl Registry {
         ensures answer { Removes self.now.terms base me.old me.new result }
         ensures answered { Answered (receipts_of_deregister base result) me.old me.new }
         ensures spent { (result ≡ removed.Spent) ↔ (me.old.left ≡ 0) }
+        ensures idle { IsIdle me.new.log }
     {
         btree_change::remove(rt, &self.words, me, base)
     }

@@ -1,3 +1,4 @@
+use Rattle.registry_core.proofs.Rounding.{idle_still}
 use Rattle.registry_core.proofs.Updating.{inserted_answered, inserted_spent}
 use Rattle.registry_core.proofs.registry.Registry.register.Goals as goal
 
@@ -6,3 +7,6 @@ returns-clause-answered g c = inserted_answered _ _ _ _ _ c.requires.idle c.inse
 
 pub returns-clause-spent : goal.returns-clause-spent
 returns-clause-spent g c = inserted_spent _ _ _ _ _ c.insert.ensures.answer
+
+pub returns-clause-idle : goal.returns-clause-idle
+returns-clause-idle g c = idle_still _ _ _ (inserted_answered _ _ _ _ _ c.requires.idle c.insert.ensures.answer) c.requires.idle
