@@ -1,10 +1,13 @@
 //! Runs over sources and sinks in memory, and over some of the tests' own.
 
 mod cases;
+mod churn;
 mod devices;
 mod endings;
 mod gated;
 mod side_by_side;
+mod slow_reader;
+mod trees;
 
 use crate::{MemorySink, MemorySource, NoGate, Status, run};
 use std::alloc::Global;

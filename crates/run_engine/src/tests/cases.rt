@@ -10,7 +10,7 @@ use std::test::Fail;
 use std::thread::Threads;
 
 /// Runs a script, and looks whether its journal is this one.
-fn plays(
+pub fn plays(
     rt: &(impl Abort + Threads + Wait + Sync),
     alloc: Global,
     script: &[&str],
