@@ -1,3 +1,4 @@
+pub mod Settling
 pub mod LeafCommits
 pub mod Descending
 pub mod Descents

@@ -1,9 +1,9 @@
 -- What the insertion of a member makes of its caller.
 use Rattle.std.specs.Prelude.{◌≡◌, ℕ, ◌-◌, ◌&&◌, Bool, List, [], ◌∷◌, ◌++◌, length, nat_le}
-use Rattle.std.specs.Prelude.{nat_lt, ◌<◌, Option, Some, None}
+use Rattle.std.specs.Prelude.{nat_lt, ◌<◌}
 use mathlib.Core.List.{IsPrefix}
 use Rattle.reg_model.specs.History.{state_after}
-use Rattle.reg_model.specs.State.{IsLowestOverlap}
+use Rattle.reg_model.specs.State.{IsFree, IsLowestOverlap}
 use Rattle.reg_model.specs.declared.answer.Inserted.{Inserted}
 use Rattle.reg_model.specs.declared.answer.Inserted.TheVariants as inserted
 use Rattle.reg_model.specs.declared.answer.Receipt.TheVariants as receipt
@@ -18,7 +18,9 @@ use Rattle.word_rule.specs.declared.log.Holding.{Holding}
 use Rattle.word_rule.specs.declared.log.Holdings.{Holdings}
 use Rattle.word_rule.specs.declared.log.Terms.{Terms}
 use Rattle.word_rule.specs.Spelling.{SpellsNode}
-use Rattle.btree_change.specs.Paths.{HoldsNothing, IsAbove, StepsOnNodes}
+use Rattle.word_rule.specs.TreeRefusals.{HadNoRoom}
+use Rattle.btree_change.specs.Paths.{HoldsNothing, IsAbove}
+use Rattle.btree_change.specs.Updates.{AnswersUpdate}
 
 -- A caller holds a node that settled as its words spell it, and the root where that is another.
 pub record HoldsSettled (n : ℕ) (holdings : Holdings) : Type 0 where
@@ -67,16 +69,20 @@ pub record LetsGoOfSettled (k k' : CallerData) : Type 0 where
   pub lineage : k'.log.lineage ≡ k.log.lineage
   pub nothing : HoldsNothing k'.log.holdings
 
--- The answer to an insertion is right, where `seen` was the history before and `past` is it
--- afterwards.
-abbrev pub IsRightInsertion : Terms → Member → List Update → List Update → Inserted → Type 0
-IsRightInsertion t m seen past (inserted.Done number) = (before : List Update)
-    × (IsPrefix seen before × (past ≡ before ++ update.Register m ∷ []) × (number ≡ length past))
-IsRightInsertion t m seen past (inserted.Overlap other stamp) = IsPrefix seen past
-    × (stamp ≡ length past)
-    × IsLowestOverlap m.span (state_after (start t) past).registered other
-IsRightInsertion t m seen past (inserted.Full stamp) = ⊥
-IsRightInsertion t m seen past inserted.Spent = ⊥
+-- The answer to an insertion is right, where `k` was its caller when the call was begun and k' is it
+-- afterwards. Full has its cause among the caller's loads.
+abbrev pub IsRightInsertion : Terms → Member → CallerData → CallerData → Inserted → Type 0
+IsRightInsertion t m k k' (inserted.Done number) = (before : List Update)
+    × (IsPrefix k.log.past before × (k'.log.past ≡ before ++ update.Register m ∷ [])
+    × (number ≡ length k'.log.past))
+IsRightInsertion t m k k' (inserted.Overlap other stamp) = IsPrefix k.log.past k'.log.past
+    × (stamp ≡ length k'.log.past)
+    × IsLowestOverlap m.span (state_after (start t) k'.log.past).registered other
+IsRightInsertion t m k k' (inserted.Full stamp) = IsPrefix k.log.past k'.log.past
+    × (stamp ≡ length k'.log.past)
+    × IsFree m.span (state_after (start t) k'.log.past).registered
+    × HadNoRoom m.span.first (length k.log.receipts.own) k'.log.trace.loads
+IsRightInsertion t m k k' inserted.Spent = ⊥
 
 -- what an accepted insertion takes of an allowance, and its release of a credit
 abbrev pub taken_by : Inserted → ℕ
@@ -95,40 +101,24 @@ pub record RefusesMember (t : Terms) (m : Member) (answer : Inserted) (k k' : Ca
     pub made : k'.log.made ≡ k.log.made
     pub lineage : k'.log.lineage ≡ k.log.lineage
     pub holdings : k'.log.holdings ≡ k.log.holdings
-    pub right : IsRightInsertion t m k.log.past k'.log.past answer
+    pub right : IsRightInsertion t m k k' answer
     pub none_taken : taken_by answer ≡ 0
     pub receipts : k'.log.receipts ≡ record k.log.receipts {
       own = k.log.receipts.own ++ receipt.Register m answer ∷ [];
     }
 
--- An insertion that was begun was answered, as the state is after all that is seen then: one
--- receipt more. No lock is held, no node is out, and nothing else of the caller changed but what it
--- has loaded.
+-- An insertion that was begun was answered, as the state is after all that is seen then.
 pub record AnswersInsertion (t : Terms) (m : Member) (answer : Inserted) (k k' : CallerData)
     : Type 0 where
-  pub table : k'.table ≡ k.table
-  pub left : k'.left ≡ k.left
-  pub terms : k'.log.terms ≡ k.log.terms
-  pub role : k'.log.role ≡ k.log.role
-  pub loader : k'.log.loader ≡ k.log.loader
-  pub made : k'.log.made ≡ k.log.made
-  pub lineage : k'.log.lineage ≡ k.log.lineage
-  pub right : IsRightInsertion t m k.log.past k'.log.past answer
-  pub receipts : k'.log.receipts ≡ record k.log.receipts {
-    own = k.log.receipts.own ++ receipt.Register m answer ∷ [];
-  }
-  pub budget : k'.log.budget ≡ record {
-    allowance = k.log.budget.allowance - taken_by answer;
-    credit = k.log.budget.credit - taken_by answer;
-  }
+  pub right : IsRightInsertion t m k k' answer
+  pub call : AnswersUpdate (receipt.Register m answer) (taken_by answer) k k'
 
 -- a caller that began an update call
 abbrev pub call_begun : CallerData → CallerData
 call_begun k = record k { left = k.left - 1 }
 
--- An insertion was begun, and answered; or it found no place, and is still begun. Spent where no
--- update call is left, and then nothing was done.
-abbrev pub InsertsInPlace : Terms → Member → CallerData → CallerData → Option Inserted → Type 0
-InsertsInPlace t m k k' None = (0 < k.left) × StepsOnNodes (call_begun k) k'
-InsertsInPlace t m k k' (Some inserted.Spent) = (k.left ≡ 0) × (k' ≡ k)
-InsertsInPlace t m k k' (Some answer) = (0 < k.left) × AnswersInsertion t m answer (call_begun k) k'
+-- An insertion was begun, and answered. Spent where no update call is left, and then nothing was
+-- done.
+abbrev pub Inserts : Terms → Member → CallerData → CallerData → Inserted → Type 0
+Inserts t m k k' inserted.Spent = (k.left ≡ 0) × (k' ≡ k)
+Inserts t m k k' answer = (0 < k.left) × AnswersInsertion t m answer (call_begun k) k'

@@ -1,2 +1,4 @@
 pub mod Paths
+pub mod Updates
 pub mod Insertion
+pub mod Removal

@@ -1,5 +1,5 @@
 -- The way of an update down the tree, by what its caller holds.
-use Rattle.std.specs.Prelude.{◌≡◌, ℕ, zero, suc, ◌-◌, ◌<◌, ◌≤◌, false, List, [], ◌∷◌, IfSome}
+use Rattle.std.specs.Prelude.{◌≡◌, ℕ, zero, suc, ◌-◌, ◌<◌, ◌≤◌, Bool, false, List, [], ◌∷◌, IfSome}
 use Rattle.std.specs.Prelude.{IsSome, Contains}
 use Rattle.tree_shape.specs.Decisions.{is_entries}
 use Rattle.tree_shape.specs.NodeData.{NodeData}
@@ -19,6 +19,17 @@ pub record IsCleanLock (t : Terms) (n : ℕ) (s : NodeData) (h : Holding) : Type
   pub clean : h.stored ≡ false
   pub marked : IsSome h.mark
   pub live : IfSome h.mark (IsLiveNode t n s)
+
+-- The lock of a live node that has settled: the node is this one, and a word was stored under the
+-- lock or none was.
+pub record IsSettledLock (t : Terms) (n : ℕ) (s : NodeData) (changed : Bool) (h : Holding) : Type 0
+  where
+    pub node : h.node ≡ n
+    pub settled : h.settled ≡ s
+    pub spells : SpellsNode h.words s
+    pub stored : h.stored ≡ changed
+    pub marked : IsSome h.mark
+    pub live : IfSome h.mark (IsLiveNode t n s)
 
 -- the lock of the root, an inner node that wasn't changed
 pub record IsRootLock (h : Holding) : Type 0 where

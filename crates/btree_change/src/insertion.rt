@@ -5,7 +5,7 @@ ghost use Rattle.tree_shape.specs.NodeData.{IsInFences, entries_of};
 ghost use Rattle.word_rule.specs.CallerData.{due, surplus};
 ghost use Rattle.word_rule.specs.Callers.{IsIdle};
 ghost use Rattle.btree_change.specs.Paths.{HoldsNothing, HoldsPath, StepsOnNodes};
-ghost use Rattle.btree_change.specs.Insertion.{AnswersInsertion, HoldsSettled, InsertsInPlace};
+ghost use Rattle.btree_change.specs.Insertion.{HoldsSettled};
 ghost use Rattle.btree_change.specs.Insertion.{LetsGoOfSettled, RefusesMember, is_place_for};
 
 use crate::descent::{Held, leaf_at, let_go_of_path};
@@ -63,83 +63,3 @@ fn refused(words: &Words, me: &mut Caller, leaf: &Held, member: &Member) -> Opti
     })
 }
 
-/// Registers a member where its leaf has room and its fences hold the span, for an update call that
-/// was begun. The overlapping member with the least first address is named, where the leaf has it.
-/// None where neither is so: then nothing was done. Busy where a lock on the way was found taken
-/// and `locking` gives up: the call is still begun, and nothing was done.
-pub fn insert_in_place_by<L: Locking>(
-    locking: &L,
-    words: &Words,
-    me: &mut Caller,
-    member: Member,
-) -> Result<Option<Inserted>, Busy>
-    requires table { me.old.table ≡ words.now.table }
-    requires idle { IsIdle me.old.log }
-    requires begun { 0 < due me.old }
-    requires surplus { 0 < surplus me.old }
-    requires payload { member.payload < words.now.terms.payloads }
-    ensures answer { IfOk result (λ told. IfSome told (λ answer.
-        AnswersInsertion words.now.terms member answer me.old me.new)) }
-    ensures no_place { IfOk result (λ told. IfNone told (StepsOnNodes me.old me.new)) }
-    ensures busy { IfErr result (λ e. StepsOnNodes me.old me.new × (L.gives_up ≡ true)) }
-    ensures nothing { HoldsNothing me.new.log.holdings }
-{
-    let leaf = leaf_at(locking, words, me, member.span.first())?;
-    if let Some(answer) = refused(words, me, &leaf, &member) {
-        let_go_of_path(locking, words, me, &leaf);
-        return Ok(Some(answer));
-    }
-    if !has_place(&leaf.content, &member) {
-        let_go_of_path(locking, words, me, &leaf);
-        return Ok(None);
-    }
-    let number = put_in_leaf(words, me, &leaf, &member);
-    let_go_of_leaf(locking, words, me, leaf.node);
-    Ok(Some(Inserted::Done { number }))
-}
-
-/// Registers a member as `insert_in_place_by` does, for an update call that was begun, or answers
-/// Busy where a lock on the way is taken: then nothing was done, and the call may be tried again.
-pub fn try_insert_in_place(
-    words: &Words,
-    me: &mut Caller,
-    member: Member,
-) -> Result<Option<Inserted>, Busy>
-    requires table { me.old.table ≡ words.now.table }
-    requires idle { IsIdle me.old.log }
-    requires begun { 0 < due me.old }
-    requires surplus { 0 < surplus me.old }
-    requires payload { member.payload < words.now.terms.payloads }
-    ensures answer { IfOk result (λ told. IfSome told (λ answer.
-        AnswersInsertion words.now.terms member answer me.old me.new)) }
-    ensures no_place { IfOk result (λ told. IfNone told (StepsOnNodes me.old me.new)) }
-    ensures busy { IfErr result (λ e. StepsOnNodes me.old me.new) }
-    ensures nothing { HoldsNothing me.new.log.holdings }
-{
-    insert_in_place_by(&Trying, words, me, member)
-}
-
-/// Registers a member where its leaf has room and its fences hold the span. The overlapping member
-/// with the least first address is named, where the leaf has it. None where neither is so: then the
-/// call is begun, and nothing else was done. Spent where the caller may begin no more update calls.
-/// It waits for the locks on the way.
-pub fn insert_in_place<R: Wait>(
-    rt: &R,
-    words: &Words,
-    me: &mut Caller,
-    member: Member,
-) -> Option<Inserted>
-    requires table { me.old.table ≡ words.now.table }
-    requires idle { IsIdle me.old.log }
-    requires payload { member.payload < words.now.terms.payloads }
-    ensures answer { InsertsInPlace words.now.terms member me.old me.new result }
-    ensures nothing { HoldsNothing me.new.log.holdings }
-{
-    if !me.use_one() {
-        return Some(Inserted::Spent);
-    }
-    match insert_in_place_by(&Waiting { rt }, words, me, member) {
-        Ok(told) => told,
-        Err(_) => unreachable!(),
-    }
-}

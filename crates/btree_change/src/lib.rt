@@ -11,7 +11,7 @@
 mod descent;
 mod insertion;
 mod leaf;
-#[cfg(test)]
-mod tests;
 
-pub use insertion::{insert_in_place, insert_in_place_by, try_insert_in_place};
+
+
+

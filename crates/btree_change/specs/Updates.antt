@@ -1,0 +1,40 @@
+-- What an update of the tree makes of its caller, whichever it is.
+use Rattle.std.specs.Prelude.{◌≡◌, ℕ, ◌+◌, ◌-◌, ◌≤◌, List, [], ◌∷◌, ◌++◌}
+use Rattle.reg_model.specs.declared.answer.Receipt.{Receipt}
+use Rattle.word_rule.specs.CallerData.{CallerData}
+use Rattle.word_rule.specs.Places.{CALL_CREDIT}
+use Rattle.btree_change.specs.Paths.{HoldsNothing}
+
+-- An update call that was begun was answered with this receipt, and took so many of the allowance:
+-- one where it was accepted. No lock is held and no node is out. Nothing else of the caller changed
+-- but what it has seen, loaded and stored, and its releases, of which a call has enough.
+pub record AnswersUpdate (r : Receipt) (taken : ℕ) (k k' : CallerData) : Type 0 where
+  pub table : k'.table ≡ k.table
+  pub left : k'.left ≡ k.left
+  pub terms : k'.log.terms ≡ k.log.terms
+  pub role : k'.log.role ≡ k.log.role
+  pub loader : k'.log.loader ≡ k.log.loader
+  pub made : k'.log.made ≡ k.log.made
+  pub lineage : k'.log.lineage ≡ k.log.lineage
+  pub receipts : k'.log.receipts ≡ record k.log.receipts {
+    own = k.log.receipts.own ++ r ∷ [];
+  }
+  pub allowance : k'.log.budget.allowance ≡ k.log.budget.allowance - taken
+  pub credit : k.log.budget.credit ≤ k'.log.budget.credit + CALL_CREDIT
+  pub nothing : HoldsNothing k'.log.holdings
+
+-- A lock was found taken, and the update gave up: the call is still begun, and no receipt was taken.
+-- Nodes that were split or joined on the way stay so, which changes no entry.
+pub record GivesUp (k k' : CallerData) : Type 0 where
+  pub table : k'.table ≡ k.table
+  pub left : k'.left ≡ k.left
+  pub terms : k'.log.terms ≡ k.log.terms
+  pub role : k'.log.role ≡ k.log.role
+  pub past : k'.log.past ≡ k.log.past
+  pub receipts : k'.log.receipts ≡ k.log.receipts
+  pub loader : k'.log.loader ≡ k.log.loader
+  pub made : k'.log.made ≡ k.log.made
+  pub lineage : k'.log.lineage ≡ k.log.lineage
+  pub allowance : k'.log.budget.allowance ≡ k.log.budget.allowance
+  pub credit : k.log.budget.credit ≤ k'.log.budget.credit + CALL_CREDIT
+  pub nothing : HoldsNothing k'.log.holdings
