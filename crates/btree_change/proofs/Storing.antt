@@ -1,5 +1,5 @@
 -- The stores that write a held node keep all else of the log; the node's lock has the new words.
-use Rattle.std.proofs.Common.{◌≡◌, ◌≢◌, ℕ, zero, suc, List, [], ◌∷◌, ◌++◌, sym, refl, ap, ◌∙◌, subst, Bool, true, false, ◌==◌, ◌&&◌, Option, Some, None, IsSomeAnd, eq-eqb, ne_eqb, if◌then◌else◌, cond}
+use Rattle.std.proofs.Common.{◌≡◌, ◌≢◌, ℕ, zero, suc, List, [], ◌∷◌, ◌++◌, ◌⊎◌, inl, inr, sym, refl, ap, ◌∙◌, subst, Bool, true, false, ◌==◌, ◌&&◌, Option, Some, None, IsSomeAnd, eq-eqb, ne_eqb, if◌then◌else◌, cond}
 use Rattle.std.proofs.lemmas.Option.{same_Some}
 use Rattle.std.specs.Option.{option_to_list}
 use Rattle.std.specs.List.{AllByRecursion}
@@ -10,7 +10,7 @@ use Rattle.word_rule.specs.declared.log.Holding.{Holding}
 use Rattle.word_rule.specs.declared.log.Log.{Log}
 use Rattle.word_rule.specs.Held.{edited, held_of, marked_in}
 use Rattle.word_rule.specs.Exchange.{settle}
-use Rattle.word_rule.specs.Spelling.{node_word, SpellsNode}
+use Rattle.word_rule.specs.Spelling.{node_word, spelled, SpellsNode}
 use Rattle.word_rule.specs.Steps.{after_node_store, frees, store_in, stored_log}
 use Rattle.node_store.specs.declared.writing.Store.{Store}
 use Rattle.node_store.specs.Holding.{SpellsHeld, WritesHeld, after_node_stores}
@@ -57,12 +57,14 @@ no_free s x n v kind wanted = go (ℕ_discrete x.at 1)
         ap (λ b. ((x.at == 1) && b) && marked_in v.holdings.held n) (ne_eqb x.value 2 (λ two. kind (value ∙ two))) ∙ ap (λ b. b && marked_in v.holdings.held n) (and_false (x.at == 1))
 
 -- the lock of the node, changed by stores, and the others as they were
-pub record KeepsLocks (h : Holding) (above : List Holding) (v w : Log) : Type 0 where
+pub record KeepsLocks (h : Holding) (before above : List Holding) (v w : Log) : Type 0 where
   pub lock : Holding
-  pub held : w.holdings.held ≡ lock ∷ above
+  pub held : w.holdings.held ≡ before ++ lock ∷ above
   pub node : lock.node ≡ h.node
   pub mark : lock.mark ≡ h.mark
   pub settled : lock.settled ≡ h.settled
+  pub stored : h.stored ≡ true → lock.stored ≡ true
+  pub kept : (lock.words ≡ h.words) ⊎ (lock.stored ≡ true)
   pub out : w.holdings.out ≡ v.holdings.out
   pub head : w.holdings.head ≡ v.holdings.head
   pub same : (k : CallerData) → StepsOnNodes (record k { log = v }) (record k { log = w })
@@ -71,20 +73,31 @@ edited_above : (n : ℕ) (f : Holding → Holding) (above : List Holding) → Al
 edited_above n f [] far = refl
 edited_above n f (a ∷ above) far = (λ i. cond (ne_eqb a.node n far.0 i) (f a) a ∷ edited_above n f above far.1 i)
 
-stored_keeps : (s : NodeData) (n : ℕ) (xs : List Store) (h : Holding) (above : List Holding) (v : Log) → kind_of_body s.body ≢ 2 → AllByRecursion (IsWanted s) xs → h.node ≡ n → AllByRecursion (λ a. a.node ≢ n) above → v.holdings.held ≡ h ∷ above → KeepsLocks h above v (after_node_stores n xs v)
+-- the lock among others is the one that is changed, and that is found
+pub edited_at : (n : ℕ) (f : Holding → Holding) (before : List Holding) (h : Holding) (above : List Holding) → h.node ≡ n → AllByRecursion (λ a. a.node ≢ n) before → AllByRecursion (λ a. a.node ≢ n) above → edited n f (before ++ h ∷ above) ≡ before ++ f h ∷ above
+edited_at n f [] h above is none far = (λ i. cond (eq-eqb h.node n is i) (f h) h ∷ edited_above n f above far i)
+edited_at n f (b ∷ before) h above is none far = (λ i. cond (ne_eqb b.node n none.0 i) (f b) b ∷ edited_at n f before h above is none.1 far i)
+
+pub found_at : (n : ℕ) (before : List Holding) (h : Holding) (above : List Holding) → h.node ≡ n → AllByRecursion (λ a. a.node ≢ n) before → held_of n (before ++ h ∷ above) ≡ Some h
+found_at n [] h above is none = ap (λ b. cond b (Some h) (held_of n above)) (eq-eqb h.node n is)
+found_at n (b ∷ before) h above is none = ap (λ z. cond z (Some b) (held_of n (before ++ h ∷ above))) (ne_eqb b.node n none.0) ∙ found_at n before h above is none.1
+
+stored_keeps : (s : NodeData) (n : ℕ) (xs : List Store) (h : Holding) (before above : List Holding) (v : Log) → kind_of_body s.body ≢ 2 → AllByRecursion (IsWanted s) xs → h.node ≡ n → AllByRecursion (λ a. a.node ≢ n) before → AllByRecursion (λ a. a.node ≢ n) above → v.holdings.held ≡ before ++ h ∷ above
+    → KeepsLocks h before above v (after_node_stores n xs v)
 unfolding after_node_stores
-stored_keeps s n [] h above v kind wanted is far held = record { lock = h; held = held; node = refl; mark = refl; settled = refl; out = refl; head = refl; same = λ k. steps_none (record k { log = v }) }
-stored_keeps s n (x ∷ xs) h above v kind wanted is far held =
+stored_keeps s n [] h before above v kind wanted is none far held = record { lock = h; held = held; node = refl; mark = refl; settled = refl; stored = λ e. e; kept = inl refl; out = refl; head = refl; same = λ k. steps_none (record k { log = v }) }
+stored_keeps s n (x ∷ xs) h before above v kind wanted is none far held =
     let plain : after_node_store n x.at x.value v ≡ stored_log n x.at x.value v = ap (λ b. if b then settle None (stored_log n x.at x.value v) else stored_log n x.at x.value v) (no_free s x n v kind wanted.0) in
-    let one : (stored_log n x.at x.value v).holdings.held ≡ store_in x.at x.value h ∷ above =
-    ap (edited n (store_in x.at x.value)) held ∙ (λ i. cond (eq-eqb h.node n is i) (store_in x.at x.value h) h ∷ edited_above n (store_in x.at x.value) above far i) in
-    let rest = stored_keeps s n xs (store_in x.at x.value h) above (stored_log n x.at x.value v) kind wanted.1 is far one in
-    subst (λ z. KeepsLocks h above v (after_node_stores n xs z)) (sym plain) (record {
+    let one : (stored_log n x.at x.value v).holdings.held ≡ before ++ store_in x.at x.value h ∷ above = ap (edited n (store_in x.at x.value)) held ∙ edited_at n (store_in x.at x.value) before h above is none far in
+    let rest = stored_keeps s n xs (store_in x.at x.value h) before above (stored_log n x.at x.value v) kind wanted.1 is none far one in
+    subst (λ z. KeepsLocks h before above v (after_node_stores n xs z)) (sym plain) (record {
       lock = rest.lock;
       held = rest.held;
       node = rest.node;
       mark = rest.mark;
       settled = rest.settled;
+      stored = λ _. rest.stored refl;
+      kept = inr (rest.stored refl);
       out = rest.out;
       head = rest.head;
       same = λ k. steps_then (record k { log = v }) (record k { log = stored_log n x.at x.value v }) (record k { log = after_node_stores n xs (stored_log n x.at x.value v) })
@@ -96,7 +109,46 @@ unfolding after_words
 words_holdings n words zero v = refl
 words_holdings n words (suc count) v = words_holdings n words count v
 
--- A held node was written, and isn't free: its lock spells it, and all else is as it was.
+-- A held node was written, and isn't free: its lock, wherever it stands, spells it, and all else is
+-- as it was. A word was stored where it spelled something else before.
+pub record IsRewritten (s : NodeData) (h : Holding) (before above : List Holding) (k k' : CallerData) : Type 0 where
+  pub lock : Holding
+  pub held : k'.log.holdings.held ≡ before ++ lock ∷ above
+  pub node : lock.node ≡ h.node
+  pub mark : lock.mark ≡ h.mark
+  pub settled : lock.settled ≡ h.settled
+  pub spells : SpellsNode lock.words s
+  pub stored : (old : NodeData) → SpellsNode h.words old → old ≢ s → lock.stored ≡ true
+  pub out : k'.log.holdings.out ≡ k.log.holdings.out
+  pub same : StepsOnNodes k k'
+
+pub rewritten_so : (s : NodeData) (n : ℕ) (h : Holding) (before above : List Holding) (k k' : CallerData) → kind_of_body s.body ≢ 2 → h.node ≡ n → AllByRecursion (λ a. a.node ≢ n) before → AllByRecursion (λ a. a.node ≢ n) above → k.log.holdings.held ≡ before ++ h ∷ above → WritesHeld n s k k' → SpellsHeld n s k'.log
+    → IsRewritten s h before above k k'
+rewritten_so s n h before above k k' kind is none far held writes spells =
+    let found : held_of n k.log.holdings.held ≡ Some h = ap (held_of n) held ∙ found_at n before h above is none in
+    let equal = subst (λ o. IsSomeAnd o (λ (z : Holding). k' ≡ record k { log = after_node_stores n (stores s z.words) (after_words n z.words 35 k.log) })) found writes in
+    let loaded = words_holdings n h.words 35 k.log in
+    let kept = stored_keeps s n (stores s h.words) h before above (after_words n h.words 35 k.log) kind (all_wanted s h.words 35) is none far (ap (λ hs. hs.held) loaded ∙ held) in
+    let now : k'.log.holdings.held ≡ before ++ kept.lock ∷ above = ap (λ (z : CallerData). z.log.holdings.held) equal ∙ kept.held in
+    let found' : held_of n k'.log.holdings.held ≡ Some kept.lock = ap (held_of n) now ∙ found_at n before kept.lock above (kept.node ∙ is) none in
+    let spelled_now : SpellsNode kept.lock.words s = subst (λ o. IsSomeAnd o (λ (z : Holding). SpellsNode z.words s)) found' spells in record {
+      lock = kept.lock;
+      held = now;
+      node = kept.node;
+      mark = kept.mark;
+      settled = kept.settled;
+      spells = spelled_now;
+      stored = λ old was differs. differ_stored kept.lock kept.kept spelled_now old was differs;
+      out = ap (λ (z : CallerData). z.log.holdings.out) equal ∙ (kept.out ∙ ap (λ hs. hs.out) loaded);
+      same = steps_equal k (record k { log = after_node_stores n (stores s h.words) (after_words n h.words 35 k.log) }) k' equal
+          (steps_then k (record k { log = after_words n h.words 35 k.log }) (record k { log = after_node_stores n (stores s h.words) (after_words n h.words 35 k.log) }) (steps_of_words n h.words 35 k) (kept.same k));
+    }
+  where
+    differ_stored : (lock : Holding) → (lock.words ≡ h.words) ⊎ (lock.stored ≡ true) → SpellsNode lock.words s → (old : NodeData) → SpellsNode h.words old → old ≢ s → lock.stored ≡ true
+    differ_stored lock (inl same) now old was differs = absurd (differs (same_Some _ _ (sym was ∙ (ap spelled (sym same) ∙ now))))
+    differ_stored lock (inr e) now old was differs = e
+
+-- the same of the lock that was taken last
 pub record IsWritten (s : NodeData) (h : Holding) (above : List Holding) (k k' : CallerData) : Type 0 where
   pub lock : Holding
   pub held : k'.log.holdings.held ≡ lock ∷ above
@@ -109,19 +161,4 @@ pub record IsWritten (s : NodeData) (h : Holding) (above : List Holding) (k k' :
 
 pub written_so : (s : NodeData) (n : ℕ) (h : Holding) (above : List Holding) (k k' : CallerData) → kind_of_body s.body ≢ 2 → h.node ≡ n → AllByRecursion (λ a. a.node ≢ n) above → k.log.holdings.held ≡ h ∷ above → WritesHeld n s k k' → SpellsHeld n s k'.log → IsWritten s h above k k'
 written_so s n h above k k' kind is far held writes spells =
-    let found : held_of n k.log.holdings.held ≡ Some h = ap (held_of n) held ∙ ap (λ b. cond b (Some h) (held_of n above)) (eq-eqb h.node n is) in
-    let equal = subst (λ o. IsSomeAnd o (λ (z : Holding). k' ≡ record k { log = after_node_stores n (stores s z.words) (after_words n z.words 35 k.log) })) found writes in
-    let loaded = words_holdings n h.words 35 k.log in
-    let kept = stored_keeps s n (stores s h.words) h above (after_words n h.words 35 k.log) kind (all_wanted s h.words 35) is far (ap (λ hs. hs.held) loaded ∙ held) in
-    let now : k'.log.holdings.held ≡ kept.lock ∷ above = ap (λ (z : CallerData). z.log.holdings.held) equal ∙ kept.held in
-    let found' : held_of n k'.log.holdings.held ≡ Some kept.lock = ap (held_of n) now ∙ ap (λ b. cond b (Some kept.lock) (held_of n above)) (eq-eqb kept.lock.node n (kept.node ∙ is)) in record {
-      lock = kept.lock;
-      held = now;
-      node = kept.node;
-      mark = kept.mark;
-      settled = kept.settled;
-      spells = subst (λ o. IsSomeAnd o (λ (z : Holding). SpellsNode z.words s)) found' spells;
-      out = ap (λ (z : CallerData). z.log.holdings.out) equal ∙ (kept.out ∙ ap (λ hs. hs.out) loaded);
-      same = steps_equal k (record k { log = after_node_stores n (stores s h.words) (after_words n h.words 35 k.log) }) k' equal
-          (steps_then k (record k { log = after_words n h.words 35 k.log }) (record k { log = after_node_stores n (stores s h.words) (after_words n h.words 35 k.log) }) (steps_of_words n h.words 35 k) (kept.same k));
-    }
+    let r = rewritten_so s n h [] above k k' kind is tt far held writes spells in record { lock = r.lock; held = r.held; node = r.node; mark = r.mark; settled = r.settled; spells = r.spells; out = r.out; same = r.same }
