@@ -23,7 +23,7 @@ use Rattle.word_rule.specs.Steps.{after_node_release_same, mark_at_lock, place_b
 use Rattle.node_store.specs.Holding.{ReadsHeld}
 use Rattle.node_store.specs.Locking.{Locks}
 use Rattle.node_store.specs.Sights.{after_words}
-use Rattle.btree_change.specs.Paths.{HoldsPath, IsCleanLock, HasChildFor, StepsOnNodes}
+use Rattle.btree_change.specs.Paths.{HasChildFor, StepsOnNodes}
 
 -- the first slot for an address leads to a child whose fences hold it
 pub slot_branch : (level low pc : ℕ) (pairs : List Pair) (d : Pair) → low ≤ pc → slot_for pc pairs < length pairs
@@ -66,14 +66,6 @@ is_inner s = go s.body refl
     go (Pairs pairs) e ordered above = (e ∙ ap Pairs (ap pairs_in (sym e)), ap is_entries e)
     go (Link next) e ordered above = absurd ordered
 
--- what is marked has its place
-pub live_of : (t : Terms) (n : ℕ) (s : NodeData) (h : Holding) → IsCleanLock t n s h → (f : Frame) × ((h.mark ≡ Some f) × IsLiveNode t n s f)
-live_of t n s h c = go h.mark refl c.marked c.live
-  where
-    go : (o : Option Frame) → h.mark ≡ o → IsSome o → IfSome o (IsLiveNode t n s) → (f : Frame) × ((h.mark ≡ Some f) × IsLiveNode t n s f)
-    go None e is live = absurd (true≢false (sym is))
-    go (Some f) e is live = (f, (e, live))
-
 -- what holds of an item of a list
 pub all_there : {A : Type 0} (P : A → Type 0) (xs : List A) (x : A) → AllByRecursion P xs → Contains xs x → P x
 all_there P [] x all c = absurd (let l = c.1 in omega (arith, l))
@@ -105,7 +97,7 @@ pub record IsChildOf (t : Terms) (n : ℕ) (s : NodeData) (pc c : ℕ) : Type 0 
   pub never_root : c ≢ 0
   pub never_parent : c ≢ n
 
-level_of : (level low : ℕ) (pairs : List Pair) (b : Branch) → Contains (branches_from level low pairs) b → b.frame.level ≡ level
+pub level_of : (level low : ℕ) (pairs : List Pair) (b : Branch) → Contains (branches_from level low pairs) b → b.frame.level ≡ level
 level_of level low [] b c = absurd (let l = c.1 in omega (arith, l))
 level_of level low (p ∷ pairs) b (zero, l, e) = ap (λ (z : Branch). z.frame.level) (sym e)
 level_of level low (p ∷ pairs) b (suc k, l, e) = level_of level (p.separator + 1) pairs b (k, omega (arith, l), e)
@@ -176,107 +168,3 @@ steps_of_read n k k' s reads = go (held_of n k.log.holdings.held) reads
     go : (o : Option Holding) → IsSomeAnd o (λ h. SpellsNode h.words s × (k' ≡ record k { log = after_words n h.words 35 k.log })) → StepsOnNodes k k'
     go None r = absurd r
     go (Some h) r = subst (StepsOnNodes k) (sym r.1) (steps_of_words n h.words 35 k)
-
--- a child was locked
-pub record IsTakenBelow (t : Terms) (n c : ℕ) (s : NodeData) (pc : ℕ) (path : List Holding) (holdings : Holdings) : Type 0 where
-  pub new : Holding
-  pub content : NodeData
-  pub held : holdings.held ≡ new ∷ path
-  pub here : IsCleanLock t c content new
-  pub inside : IsInFences pc content
-  pub level : content.level ≡ s.level - 1
-  pub out : holdings.out ≡ []
-
-pub taken_below : (t : Terms) (n c : ℕ) (s : NodeData) (pc : ℕ) (k k' : CallerData) → k.log.terms ≡ t → (path : HoldsPath t n s k.log.holdings) → IsChildOf t n s pc c → Locks (lock.Node c) k k' → IsTakenBelow t n c s pc (path.lock ∷ path.above) k'.log.holdings
-taken_below t n c s pc k k' terms path child (more, marks, nodes, version, settled, words, (tries, taken, is)) =
-    subst (λ (z : CallerData). IsTakenBelow t n c s pc (path.lock ∷ path.above) z.log.holdings) (sym is) (record {
-      new = record { node = c; version = version; settled = settled; words = words; stored = false; mark = mark_at_lock c settled k.log.holdings.held };
-      content = settled;
-      held = ap (λ hs. record { node = c; version = version; settled = settled; words = words; stored = false; mark = mark_at_lock c settled k.log.holdings.held } ∷ hs) path.held;
-      here = record {
-        node = refl;
-        settled = refl;
-        spells = taken.spells;
-        clean = refl;
-        marked = subst IsSome (sym mark_is) refl;
-        live = subst (λ o. IfSome o (IsLiveNode t c settled)) (sym mark_is) live;
-      };
-      inside = (let a = live.placed.1 in let b = live.placed.2 in let l = child.low in let h = child.high in (omega (arith, a, l), omega (arith, b, h)));
-      level = live.placed.0 ∙ child.level;
-      out = path.out;
-    })
-  where
-    own : (f : Frame) × ((path.lock.mark ≡ Some f) × IsLiveNode t n s f)
-    own = live_of t n s path.lock path.here
-
-    by_lock : place_by_held c (path.lock ∷ path.above) ≡ Some child.frame
-    by_lock =
-        let e : place_by c path.lock.mark path.lock ≡ Some child.frame = rw own.1.0 (ap (λ z. place_in c (branches (z.level - 1) z)) path.here.settled ∙ child.placed) in
-        ap (λ o. first_mark o (place_by_held c path.above)) e
-
-    mark_is : mark_at_lock c settled k.log.holdings.held ≡ Some child.frame
-    mark_is = rw (ne_eqb c 0 child.never_root) (ap (place_by_held c) path.held ∙ by_lock)
-
-    live : IsLiveNode t c settled child.frame
-    live = subst (λ z. IsLiveNode z c settled child.frame) terms (subst (λ o. IfSome o (IsLiveNode k.log.terms c settled)) mark_is taken.live)
-
--- where the node above is the root it stays held
-pub below_root : (t : Terms) (c : ℕ) (s : NodeData) (pc : ℕ) (holdings holdings' : Holdings) → 0 < s.level → c < t.nodes → c ≢ 0 → (path : HoldsPath t 0 s holdings) → (b : IsTakenBelow t 0 c s pc (path.lock ∷ path.above) holdings') → HoldsPath t c b.content holdings'
-below_root t zero s pc holdings holdings' above within far path b = absurd (far refl)
-below_root t (suc c) s pc holdings holdings' above within far path b =
-    let own = live_of t 0 s path.lock path.here in record {
-      within = within;
-      lock = b.new;
-      above = path.lock ∷ path.above;
-      held = b.held;
-      here = b.here;
-      root = (
-        path.lock,
-        (
-          ap (λ hs. path.lock ∷ hs) path.root,
-          record {
-            node = path.here.node;
-            spells = subst (SpellsNode path.lock.words) (sym path.here.settled) path.here.spells;
-            inner = ap (λ z. is_entries z.body) path.here.settled ∙ (is_inner s own.1.1.ordered above).1;
-            clean = path.here.clean;
-          },
-        ),
-      );
-      out = b.out;
-    }
-
--- a node below the root is let go of
-drop_middle : (n c : ℕ) (new h root : Holding) → new.node ≡ c → h.node ≡ n → root.node ≡ 0 → c ≢ n → n ≢ 0 → without_lock n (new ∷ h ∷ root ∷ []) ≡ new ∷ root ∷ []
-drop_middle n c new h root is_c is_n is_0 far never =
-    let a : (new.node == n) ≡ false = ne_eqb new.node n (λ e. far (sym is_c ∙ e)) in
-    let b : (h.node == n) ≡ true = eq-eqb h.node n is_n in
-    let d : (root.node == n) ≡ false = ne_eqb root.node n (λ e. never (sym e ∙ is_0)) in
-    ap (λ z. cond (not z) (new ∷ without_lock n (h ∷ root ∷ [])) (without_lock n (h ∷ root ∷ []))) a
-    ∙ (ap (λ z. new ∷ cond (not z) (h ∷ without_lock n (root ∷ [])) (without_lock n (root ∷ []))) b
-    ∙ ap (λ z. new ∷ cond (not z) (root ∷ []) []) d)
-
-pub below_other : (t : Terms) (n c : ℕ) (s : NodeData) (pc : ℕ) (holdings : Holdings) (v : Log) → c < t.nodes → c ≢ 0 → c ≢ n → n ≢ 0 → (path : HoldsPath t n s holdings) → (b : IsTakenBelow t n c s pc (path.lock ∷ path.above) v.holdings) → HoldsPath t c b.content (after_node_release_same n v).holdings
-below_other t zero c s pc holdings v within far never_parent never path b = absurd (never refl)
-below_other t (suc n) zero s pc holdings v within far never_parent never path b = absurd (far refl)
-below_other t (suc n) (suc c) s pc holdings v within far never_parent never path b =
-    let root = path.root in record {
-      within = within;
-      lock = b.new;
-      above = root.0 ∷ [];
-      held = ap (without_lock (suc n)) (b.held ∙ ap (λ hs. b.new ∷ path.lock ∷ hs) root.1.0) ∙ drop_middle (suc n) (suc c) b.new path.lock root.0 b.here.node path.here.node root.1.1.node never_parent never;
-      here = b.here;
-      root = (root.0, (refl, root.1.1));
-      out = b.out;
-    }
-
--- what is read is what is held
-pub read_path : (t : Terms) (n : ℕ) (s shape : NodeData) (k k' : CallerData) → HoldsPath t n s k.log.holdings → ReadsHeld n k k' shape → k'.log.holdings ≡ k.log.holdings → s ≡ shape
-read_path t n s shape k k' path reads same =
-    let found : held_of n k.log.holdings.held ≡ Some path.lock = ap (held_of n) path.held ∙ rw (eq-eqb path.lock.node n path.here.node) refl in
-    let told = subst (λ o. IsSomeAnd o (λ h. SpellsNode h.words shape × (k' ≡ record k { log = after_words n h.words 35 k.log }))) found reads in
-    same_Some _ _ (sym path.here.spells ∙ told.0)
-
-pub may_read : (t : Terms) (n : ℕ) (s : NodeData) (k : CallerData) → HoldsPath t n s k.log.holdings → IsSomeAnd (held_of n k.log.holdings.held) (λ h. IsSome (spelled h.words))
-may_read t n s k path =
-    let found : held_of n k.log.holdings.held ≡ Some path.lock = ap (held_of n) path.held ∙ rw (eq-eqb path.lock.node n path.here.node) refl in
-    subst (λ o. IsSomeAnd o (λ h. IsSome (spelled h.words))) (sym found) (subst IsSome (sym path.here.spells) refl)

@@ -1,4 +1,4 @@
--- One step down the tree, from what its calls ensure.
+-- The root, from what the calls that take and read it ensure.
 use Rattle.std.proofs.Common.{◌≡◌, ◌≢◌, ℕ, zero, suc, ◌<◌, List, [], ◌∷◌, sym, refl, ap, ◌∙◌, subst, arith, ◌≤◌, Option, Some, None, Bool, true, false, ◌++◌, ◌==◌, append-nil, if◌then◌else◌, IsTrue, IsSome, IsSomeAnd}
 use Rattle.tree_shape.specs.NodeData.{NodeData, IsInFences}
 use Rattle.word_rule.specs.CallerData.{CallerData}
@@ -18,93 +18,41 @@ use Rattle.word_rule.specs.declared.log.Terms.{Terms}
 use Rattle.word_rule.specs.Steps.{after_node_release_same}
 use Rattle.node_store.specs.Holding.{ReadsHeld}
 use Rattle.node_store.specs.Locking.{Locks}
-use Rattle.btree_change.specs.Paths.{HoldsNothing, HoldsPath, HasChildFor, StepsOnNodes}
-use Rattle.btree_change.proofs.Descending.{IsChildOf, IsTakenBelow, below_other, below_root, child_of, live_of, read_path, steps_of_letting_go, steps_of_read, steps_of_take, steps_then, taken_below}
-
--- After the child was taken, and a parent that isn't the root was let go of.
-pub record GoesDown (t : Terms) (c : ℕ) (s : NodeData) (pc : ℕ) (k k' : CallerData) : Type 0 where
-  pub content : NodeData
-  pub path : HoldsPath t c content k'.log.holdings
-  pub inside : IsInFences pc content
-  pub less : content.level < s.level
-  pub same : StepsOnNodes k k'
-
-module _ (t : Terms) (n c : ℕ) (s : NodeData) (pc : ℕ) (k k1 : CallerData) (terms : k.log.terms ≡ t) (path : HoldsPath t n s k.log.holdings) (above : 0 < s.level) (leads : HasChildFor s pc c) (locks : Locks (lock.Node c) k k1) where
-  child : IsChildOf t n s pc c
-  child = let own = live_of t n s path.lock path.here in child_of t n s own.0 pc c own.1.1 above leads
-
-  taken : IsTakenBelow t n c s pc (path.lock ∷ path.above) k1.log.holdings
-  taken = taken_below t n c s pc k k1 terms path child locks
-
-  lower : taken.content.level < s.level
-  lower = let l = taken.level in omega (arith, l, above)
-
-  -- below the root
-  pub goes_from_root : n ≡ 0 → GoesDown t c s pc k k1
-  goes_from_root root = record {
-    content = taken.content;
-    path = go n root path taken;
-    inside = taken.inside;
-    less = lower;
-    same = steps_of_take c k k1 locks;
-  }
-    where
-      go : (m : ℕ) → m ≡ 0 → (p : HoldsPath t m s k.log.holdings) → (b : IsTakenBelow t m c s pc (p.lock ∷ p.above) k1.log.holdings) → HoldsPath t c b.content k1.log.holdings
-      go zero e p b = below_root t c s pc k.log.holdings k1.log.holdings above child.within child.never_root p b
-      go (suc m) e p b = absurd (omega (arith, e))
-
-  -- below another node
-  pub goes_from_other : (k2 : CallerData) → n ≢ 0 → k2 ≡ record k1 { log = after_node_release_same n k1.log } → GoesDown t c s pc k k2
-  goes_from_other k2 never is = record {
-    content = taken.content;
-    path = subst (λ (z : CallerData). HoldsPath t c taken.content z.log.holdings) (sym is) (below_other t n c s pc k.log.holdings k1.log child.within child.never_root child.never_parent never path taken);
-    inside = taken.inside;
-    less = lower;
-    same = steps_then k k1 k2 (steps_of_take c k k1 locks) (steps_of_letting_go n k1 k2 is);
-  }
-
--- and after it was read
-pub went_down : (t : Terms) (c : ℕ) (s shape : NodeData) (pc : ℕ) (k k2 k3 : CallerData) → GoesDown t c s pc k k2 → ReadsHeld c k2 k3 shape → k3.log.holdings ≡ k2.log.holdings
-    → (HoldsPath t c shape k3.log.holdings × IsInFences pc shape × (shape.level < s.level)) × StepsOnNodes k k3
-went_down t c s shape pc k k2 k3 down reads same =
-    let is = read_path t c down.content shape k2 k3 down.path reads same in (
-      (
-        subst (λ hs. HoldsPath t c shape hs) (sym same) (subst (λ z. HoldsPath t c z k2.log.holdings) is down.path),
-        subst (IsInFences pc) is down.inside,
-        subst (λ z. z.level < s.level) is down.less,
-      ),
-      steps_then k k2 k3 down.same (steps_of_read c k2 k3 shape reads),
-    )
+use Rattle.btree_change.specs.Paths.{HoldsNothing, IsSettledLock, StepsOnNodes}
+use Rattle.btree_change.specs.Stands.{HoldsRoot}
+use Rattle.node_store.specs.Sights.{after_words}
+use Rattle.word_rule.specs.Spelling.{SpellsNode}
+use Rattle.std.proofs.lemmas.Option.{same_Some}
+use Rattle.btree_change.proofs.Descending.{steps_then}
 
 -- the root was locked and read, by one that held nothing
 pub at_the_root : (t : Terms) (shape : NodeData) (k k1 k2 k3 : CallerData) (found : ℕ) → 0 < t.nodes → k.log.terms ≡ t → HoldsNothing k.log.holdings → Locks (lock.Node 0) k k1 → KnowsTree k1.log.holdings → k2 ≡ record k1 { log = after_node_load 0 2 found k1.log } → ReadsHeld 0 k2 k3 shape → k3.log.holdings ≡ k2.log.holdings
-    → HoldsPath t 0 shape k3.log.holdings × ((pc : ℕ) → pc ≤ 18446744073709551615 → IsInFences pc shape)
+    → HoldsRoot t (record { node = 0; content = shape; changed = false }) k3.log.holdings
 at_the_root t shape k k1 k2 k3 found some_nodes terms nothing locks tree loads reads same = go locks
   where
-    go : Locks (lock.Node 0) k k1 → HoldsPath t 0 shape k3.log.holdings × ((pc : ℕ) → pc ≤ 18446744073709551615 → IsInFences pc shape)
+    go : Locks (lock.Node 0) k k1 → HoldsRoot t (record { node = 0; content = shape; changed = false }) k3.log.holdings
     go (more, marks, nodes, version, settled, words, (tries, taken, is)) =
         let place : Frame = record { level = settled.level; low = settled.low; high = settled.high } in
         let new : Holding = record { node = 0; version = version; settled = settled; words = words; stored = false; mark = Some place } in
         let held : k1.log.holdings.held ≡ new ∷ [] = ap (λ (z : CallerData). z.log.holdings.held) is ∙ ap (λ hs. new ∷ hs) nothing.0 in
-        let path1 : HoldsPath t 0 settled k1.log.holdings = record {
-          within = some_nodes;
-          lock = new;
-          above = [];
-          held = held;
-          here = record { node = refl; settled = refl; spells = taken.spells; clean = refl; marked = refl; live = subst (λ z. IsLiveNode z 0 settled place) terms taken.live };
-          root = refl;
-          out = ap (λ (z : CallerData). z.log.holdings.out) is ∙ nothing.1;
-        } in
         let kept : k2.log.holdings ≡ k1.log.holdings = ap (λ (z : CallerData). z.log.holdings) loads in
-        let path2 : HoldsPath t 0 settled k2.log.holdings = subst (HoldsPath t 0 settled) (sym kept) path1 in
-        let e = read_path t 0 settled shape k2 k3 path2 reads same in
+        let held2 : k2.log.holdings.held ≡ new ∷ [] = ap (λ hs. hs.held) kept ∙ held in
+        let found2 : held_of 0 k2.log.holdings.held ≡ Some new = ap (held_of 0) held2 in
+        let told2 = subst (λ o. IsSomeAnd o (λ h. SpellsNode h.words shape × (k3 ≡ record k2 { log = after_words 0 h.words 35 k2.log }))) found2 reads in
+        let e : settled ≡ shape = same_Some _ _ (sym taken.spells ∙ told2.0) in
         let told : IsTrue (tree.live 0) × (tree.contents 0 ≡ settled) = (subst (AllByRecursion (λ (h : Holding). IsSome h.mark → IsTrue (tree.live h.node) × (tree.contents h.node ≡ h.settled))) held tree.marked).0 refl in
         let content : tree.contents 0 ≡ shape = told.1 ∙ e in
-        let low : shape.low ≡ 0 = ap (λ (z : NodeData). z.low) (sym content) ∙ tree.lawful.tree.root_low in
-        let high : shape.high ≡ 18446744073709551615 = ap (λ (z : NodeData). z.high) (sym content) ∙ tree.lawful.tree.root_high in (
-          subst (HoldsPath t 0 shape) (sym same) (subst (λ z. HoldsPath t 0 z k2.log.holdings) e path2),
-          λ pc most. (omega (arith, low), omega (arith, high, most)),
-        )
+        let live : IsLiveNode t 0 settled place = subst (λ z. IsLiveNode z 0 settled place) terms taken.live in record {
+          within = some_nodes;
+          lock = new;
+          held = ap (λ hs. hs.held) same ∙ held2;
+          root = refl;
+          unchanged = refl;
+          here = subst (λ s. IsSettledLock t 0 s false new) e (record { node = refl; settled = refl; spells = taken.spells; stored = refl; marked = refl; live = live });
+          low = ap (λ (z : NodeData). z.low) (sym content) ∙ tree.lawful.tree.root_low;
+          high = ap (λ (z : NodeData). z.high) (sym content) ∙ tree.lawful.tree.root_high;
+          out = ap (λ hs. hs.out) same ∙ (ap (λ hs. hs.out) kept ∙ (ap (λ (z : CallerData). z.log.holdings.out) is ∙ nothing.1));
+        }
 
 pub may_read_root : (t : Terms) (k k1 k2 : CallerData) (found : ℕ) → Locks (lock.Node 0) k k1 → k2 ≡ record k1 { log = after_node_load 0 2 found k1.log } → IsSomeAnd (held_of 0 k2.log.holdings.held) (λ h. IsSome (spelled h.words))
 may_read_root t k k1 k2 found locks loads = go locks

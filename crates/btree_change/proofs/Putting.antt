@@ -1,5 +1,5 @@
 -- A member is put into a held leaf and committed.
-use Rattle.std.proofs.Common.{◌≡◌, ◌≢◌, ℕ, zero, suc, ◌-◌, ◌<◌, ◌≤◌, List, [], ◌∷◌, ◌++◌, length, length-append, sym, refl, ap, ◌∙◌, subst, arith, Bool, true, IsTrue, Some, IsSome, is_some, eq-eqb, ne_eqb, le-leb}
+use Rattle.std.proofs.Common.{◌≡◌, ◌≢◌, ℕ, zero, suc, ◌-◌, ◌<◌, ◌≤◌, List, [], ◌∷◌, ◌++◌, drop, length, length-append, sym, refl, ap, ◌∙◌, subst, arith, Bool, true, false, true≢false, IsTrue, Some, IsSome, is_some, eq-eqb, ne_eqb, le-leb}
 use Rattle.std.specs.List.{AllByRecursion}
 use mathlib.Core.List.{IsPrefix}
 use Rattle.reg_model.specs.SpanData.{IsSpan}
@@ -9,6 +9,7 @@ use Rattle.reg_model.specs.declared.answer.Receipt.TheVariants as receipt
 use Rattle.reg_model.specs.declared.answer.Update.TheVariants as update
 use Rattle.reg_model.specs.declared.span.Member.{Member}
 use Rattle.tree_shape.specs.Changes.{with_entry}
+use Rattle.tree_shape.specs.Decisions.{is_entries}
 use Rattle.tree_shape.specs.Lawful.{IsLawfulTree, IsOrderedAs}
 use Rattle.tree_shape.specs.LocalChange.{IsChangeOf, IsLawfulChange}
 use Rattle.tree_shape.specs.NodeData.{NodeData, Body, Entries, Pairs, Link, IsLeaf, entries_of, entries_in, frame_of}
@@ -21,29 +22,21 @@ use Rattle.word_rule.specs.Exchange.{is_lawful, is_leaf_at, settle}
 use Rattle.word_rule.specs.NodeTells.{KnowsTree}
 use Rattle.word_rule.specs.Steps.{after_update}
 use Rattle.word_rule.specs.declared.log.Holding.{Holding}
+use Rattle.word_rule.specs.declared.log.Holdings.{Holdings}
 use Rattle.word_rule.specs.declared.log.Log.{Log}
 use Rattle.word_rule.specs.declared.log.Terms.{Terms}
 use Rattle.word_rule.specs.declared.log.Budget.{Budget}
 use Rattle.word_rule.specs.declared.log.Receipts.{Receipts}
 use Rattle.word_rule.specs.Memory.{updated}
-use Rattle.btree_change.specs.Insertion.{PutsMember}
-use Rattle.btree_change.specs.Paths.{HoldsPath, IsAbove, StepsOnNodes}
-use Rattle.btree_change.proofs.Descending.{live_of}
+use Rattle.btree_change.specs.Insertion.{HoldsLeaf, IsInnerLock, PutsMember}
+use Rattle.btree_change.specs.Paths.{StepsOnNodes}
+use Rattle.btree_change.proofs.Lowering.{settled_live}
 use Rattle.btree_change.proofs.LeafCommits.{LeafLaws, StaysAs, lawful_commit, settled_after}
 use Rattle.btree_change.proofs.Storing.{IsWritten}
 
 -- the law of a put, as a change of the leaf alone
 abbrev pub PutLaw : Type 0
 PutLaw = (f : Contents) (live : ℕ → Bool) (leaf : ℕ) (member : Member) (g : Contents) → IsLawfulTree f live → IsPut f live leaf member g → IsChangeOf f live leaf (leaf ∷ []) [] g (Some (update.Register member)) (leaf ∷ [])
-
--- what is held above a node stays as it is
-pub above_far : (n : ℕ) (above : List Holding) → IsAbove n above → AllByRecursion (λ a. a.node ≢ n) above
-above_far zero above is = subst (AllByRecursion (λ (a : Holding). a.node ≢ zero)) (sym is) tt
-above_far (suc n) above (root, (is, lock)) = subst (AllByRecursion (λ (a : Holding). a.node ≢ suc n)) (sym is) ((λ e. (let z = lock.node in omega (arith, e, z))), tt)
-
-pub above_stays : (n m : ℕ) (above : List Holding) → m ≡ n → IsAbove n above → AllByRecursion (StaysAs m) above
-above_stays zero m above same is = subst (AllByRecursion (StaysAs m)) (sym is) tt
-above_stays (suc n) m above same (root, (is, lock)) = subst (AllByRecursion (StaysAs m)) (sym is) (record { far = λ e. (let z = lock.node in omega (arith, e, z, same)); spells = lock.spells; inner = lock.inner }, tt)
 
 -- a node of level 0 in order is a leaf
 pub leaf_at_zero : (s : NodeData) → IsOrderedAs s s.body → s.level ≡ 0 → IsLeaf s
@@ -54,7 +47,31 @@ leaf_at_zero s = go s.body refl
     go (Pairs pairs) e ordered zero_level = absurd (let z = ordered.0 in omega (arith, z, zero_level))
     go (Link next) e ordered zero_level = absurd ordered
 
-module _ (law : PutLaw) (laws : LeafLaws) (t : Terms) (n : ℕ) (s : NodeData) (m : Member) (k k1 k2 : CallerData) (path : HoldsPath t n s k1.log.holdings) (tree : KnowsTree k1.log.holdings) (level : s.level ≡ 0) (low : s.low ≤ m.span.first) (high : m.span.last ≤ s.high) (span : IsSpan m.span) (room : length (entries_of s) < 10)
+-- what is held above a leaf is of other nodes, and stays as it is
+pub leaf_far : (t : Terms) (n : ℕ) (s : NodeData) (changed : Bool) (holdings : Holdings) → (path : HoldsLeaf t (record { node = n; content = s; changed = changed }) holdings) → KnowsTree holdings → s.level ≡ 0 → AllByRecursion (λ (a : Holding). a.node ≢ n) path.above
+leaf_far t n s changed holdings path tree level = go path.above path.inner told.1
+  where
+    told : AllByRecursion (λ (h : Holding). IsSome h.mark → IsTrue (tree.live h.node) × (tree.contents h.node ≡ h.settled)) (path.lock ∷ path.above)
+    told = subst (AllByRecursion (λ (h : Holding). IsSome h.mark → IsTrue (tree.live h.node) × (tree.contents h.node ≡ h.settled))) path.held tree.marked
+
+    own : tree.contents n ≡ s
+    own = ap tree.contents (sym path.here.node) ∙ ((told.0 path.here.marked).1 ∙ path.here.settled)
+
+    is_leaf : is_entries s.body ≡ true
+    is_leaf = ap is_entries (leaf_at_zero s (settled_live t n s changed path.lock path.here).1.1.ordered level)
+
+    go : (held : List Holding) → AllByRecursion IsInnerLock held → AllByRecursion (λ (h : Holding). IsSome h.mark → IsTrue (tree.live h.node) × (tree.contents h.node ≡ h.settled)) held → AllByRecursion (λ (a : Holding). a.node ≢ n) held
+    go [] inner all = tt
+    go (a ∷ held) inner all = (
+      (λ e. true≢false (sym is_leaf ∙ (ap (λ (z : NodeData). is_entries z.body) (sym own ∙ (ap tree.contents (sym e) ∙ (all.0 inner.0.marked).1)) ∙ inner.0.inner))),
+      go held inner.1 all.1,
+    )
+
+pub above_stays : (n m : ℕ) (above : List Holding) → m ≡ n → AllByRecursion (λ (a : Holding). a.node ≢ n) above → AllByRecursion IsInnerLock above → AllByRecursion (StaysAs m) above
+above_stays n m [] same far inner = tt
+above_stays n m (a ∷ above) same far inner = (record { far = λ e. far.0 (e ∙ same); spells = inner.0.spells; inner = inner.0.inner }, above_stays n m above same far.1 inner.1)
+
+module _ (law : PutLaw) (laws : LeafLaws) (t : Terms) (n : ℕ) (s : NodeData) (changed : Bool) (m : Member) (k k1 k2 : CallerData) (path : HoldsLeaf t (record { node = n; content = s; changed = changed }) k1.log.holdings) (kept : k1.log.holdings ≡ k.log.holdings) (tree : KnowsTree k1.log.holdings) (level : s.level ≡ 0) (low : s.low ≤ m.span.first) (high : m.span.last ≤ s.high) (span : IsSpan m.span) (room : length (entries_of s) < 10)
     (free : IsFree m.span (entries_of s)) (written : IsWritten (record s { body = Entries (with_entry m (entries_of s)) }) path.lock path.above k1 k2) where
   abbrev now : NodeData
   now = record s { body = Entries (with_entry m (entries_of s)) }
@@ -66,7 +83,7 @@ module _ (law : PutLaw) (laws : LeafLaws) (t : Terms) (n : ℕ) (s : NodeData) (
   told = (subst (AllByRecursion (λ (h : Holding). IsSome h.mark → IsTrue (tree.live h.node) × (tree.contents h.node ≡ h.settled))) path.held tree.marked).0 path.here.marked
 
   is_leaf : IsLeaf s
-  is_leaf = leaf_at_zero s (live_of t n s path.lock path.here).1.1.ordered level
+  is_leaf = leaf_at_zero s (settled_live t n s changed path.lock path.here).1.1.ordered level
 
   -- the tree with the leaf changed
   abbrev after : Contents
@@ -104,7 +121,7 @@ module _ (law : PutLaw) (laws : LeafLaws) (t : Terms) (n : ℕ) (s : NodeData) (
   here = contents_here ∙ (sym path.here.settled ∙ sym written.settled)
 
   stays : AllByRecursion (StaysAs written.lock.node) path.above
-  stays = above_stays n written.lock.node path.above (written.node ∙ path.here.node) path.root
+  stays = above_stays n written.lock.node path.above (written.node ∙ path.here.node) (leaf_far t n s changed k1.log.holdings path tree level) path.inner
 
   abbrev exact : Log
   exact = record k2.log { holdings = record { held = written.lock ∷ path.above; out = []; head = k2.log.holdings.head } }
@@ -143,13 +160,9 @@ module _ (law : PutLaw) (laws : LeafLaws) (t : Terms) (n : ℕ) (s : NodeData) (
         number_is = counted;
         receipts = ap (λ z. z.receipts) log ∙ (answered ∙ ap (λ (rs : Receipts). record rs { own = rs.own ++ receipt.Register m (inserted.Done number) ∷ [] }) steps.receipts);
         budget = ap (λ z. z.budget) log ∙ ap (λ (b : Budget). record b { allowance = b.allowance - 1 }) steps.budget;
-        holds = record {
-          lock = record written.lock { settled = now; mark = Some (frame_of now) };
-          above = path.above;
-          held = ap (λ z. z.holdings.held) log;
-          node = written.node ∙ path.here.node;
-          spells = written.spells;
-          root = path.root;
-          out = ap (λ z. z.holdings.out) log;
-        };
+        lock = record written.lock { settled = now; mark = Some (frame_of now) };
+        held = ap (λ z. z.holdings.held) log ∙ ap (λ hs. record written.lock { settled = now; mark = Some (frame_of now) } ∷ hs) (ap (drop 1) (sym path.held ∙ ap (λ (hs : Holdings). hs.held) kept));
+        node = written.node ∙ path.here.node;
+        spells = written.spells;
+        out = ap (λ z. z.holdings.out) log;
       }

@@ -1,6 +1,6 @@
 -- What the insertion of a member makes of its caller.
-use Rattle.std.specs.Prelude.{◌≡◌, ℕ, ◌-◌, ◌&&◌, Bool, List, [], ◌∷◌, ◌++◌, length, nat_le}
-use Rattle.std.specs.Prelude.{nat_lt, ◌<◌}
+use Rattle.std.specs.Prelude.{◌≡◌, ℕ, ◌-◌, ◌<◌, false, IsSome, List, [], ◌∷◌, ◌++◌, drop, length}
+use Rattle.std.specs.List.{AllByRecursion}
 use mathlib.Core.List.{IsPrefix}
 use Rattle.reg_model.specs.History.{state_after}
 use Rattle.reg_model.specs.State.{IsFree, IsLowestOverlap}
@@ -10,26 +10,32 @@ use Rattle.reg_model.specs.declared.answer.Receipt.TheVariants as receipt
 use Rattle.reg_model.specs.declared.answer.Update.{Update}
 use Rattle.reg_model.specs.declared.answer.Update.TheVariants as update
 use Rattle.reg_model.specs.declared.span.Member.{Member}
-use Rattle.tree_shape.specs.NodeData.{NodeData, entries_of}
-use Rattle.tree_shape.specs.declared.limits.TheConstants.{ENTRIES}
+use Rattle.tree_shape.specs.Decisions.{is_entries}
 use Rattle.word_rule.specs.CallerData.{CallerData}
-use Rattle.word_rule.specs.Callers.{start}
+use Rattle.word_rule.specs.Callers.{IsMemberOf, start}
 use Rattle.word_rule.specs.declared.log.Holding.{Holding}
 use Rattle.word_rule.specs.declared.log.Holdings.{Holdings}
 use Rattle.word_rule.specs.declared.log.Terms.{Terms}
 use Rattle.word_rule.specs.Spelling.{SpellsNode}
 use Rattle.word_rule.specs.TreeRefusals.{HadNoRoom}
-use Rattle.btree_change.specs.Paths.{HoldsNothing, IsAbove}
+use Rattle.btree_change.specs.declared.descent.Held.{Held}
+use Rattle.btree_change.specs.Paths.{IsSettledLock}
 use Rattle.btree_change.specs.Updates.{AnswersUpdate}
 
--- A caller holds a node that settled as its words spell it, and the root where that is another.
-pub record HoldsSettled (n : ℕ) (holdings : Holdings) : Type 0 where
+-- the lock of an inner node that has settled
+pub record IsInnerLock (h : Holding) : Type 0 where
+  pub marked : IsSome h.mark
+  pub spells : SpellsNode h.words h.settled
+  pub inner : is_entries h.settled.body ≡ false
+
+-- A leaf is held that has settled, and inner nodes above it. No node is out.
+pub record HoldsLeaf (t : Terms) (leaf : Held) (holdings : Holdings) : Type 0 where
+  pub within : leaf.node < t.nodes
   pub lock : Holding
   pub above : List Holding
   pub held : holdings.held ≡ lock ∷ above
-  pub node : lock.node ≡ n
-  pub spells : SpellsNode lock.words lock.settled
-  pub root : IsAbove n above
+  pub here : IsSettledLock t leaf.node leaf.content leaf.changed lock
+  pub inner : AllByRecursion IsInnerLock above
   pub out : holdings.out ≡ []
 
 -- A member was put into a held leaf and committed, with this number.
@@ -49,25 +55,11 @@ pub record PutsMember (m : Member) (n number : ℕ) (k k' : CallerData) : Type 0
     own = k.log.receipts.own ++ receipt.Register m (inserted.Done number) ∷ [];
   }
   pub budget : k'.log.budget ≡ record k.log.budget { allowance = k.log.budget.allowance - 1 }
-  pub holds : HoldsSettled n k'.log.holdings
-
--- whether a leaf has room for a member, and a high fence at or above its last address
-abbrev pub is_place_for : NodeData → Member → Bool
-is_place_for s m = nat_le m.span.last s.high && nat_lt (length (entries_of s)) ENTRIES
-
--- A node that settled was let go of with the next version, and the root with it.
-pub record LetsGoOfSettled (k k' : CallerData) : Type 0 where
-  pub table : k'.table ≡ k.table
-  pub left : k'.left ≡ k.left
-  pub terms : k'.log.terms ≡ k.log.terms
-  pub role : k'.log.role ≡ k.log.role
-  pub past : k'.log.past ≡ k.log.past
-  pub budget : k'.log.budget ≡ record k.log.budget { credit = k.log.budget.credit - 1 }
-  pub receipts : k'.log.receipts ≡ k.log.receipts
-  pub loader : k'.log.loader ≡ k.log.loader
-  pub made : k'.log.made ≡ k.log.made
-  pub lineage : k'.log.lineage ≡ k.log.lineage
-  pub nothing : HoldsNothing k'.log.holdings
+  pub lock : Holding
+  pub held : k'.log.holdings.held ≡ lock ∷ drop 1 k.log.holdings.held
+  pub node : lock.node ≡ n
+  pub spells : SpellsNode lock.words lock.settled
+  pub out : k'.log.holdings.out ≡ []
 
 -- The answer to an insertion is right, where `k` was its caller when the call was begun and k' is it
 -- afterwards. Full has its cause among the caller's loads.
@@ -78,6 +70,7 @@ IsRightInsertion t m k k' (inserted.Done number) = (before : List Update)
 IsRightInsertion t m k k' (inserted.Overlap other stamp) = IsPrefix k.log.past k'.log.past
     × (stamp ≡ length k'.log.past)
     × IsLowestOverlap m.span (state_after (start t) k'.log.past).registered other
+    × IsMemberOf t other
 IsRightInsertion t m k k' (inserted.Full stamp) = IsPrefix k.log.past k'.log.past
     × (stamp ≡ length k'.log.past)
     × IsFree m.span (state_after (start t) k'.log.past).registered

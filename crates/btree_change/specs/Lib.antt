@@ -2,3 +2,8 @@ pub mod Paths
 pub mod Updates
 pub mod Insertion
 pub mod Removal
+pub mod Spines
+pub mod Splits
+pub mod Stands
+pub mod Far
+pub mod Roots

@@ -1,7 +1,6 @@
 -- The way of an update down the tree, by what its caller holds.
-use Rattle.std.specs.Prelude.{◌≡◌, ℕ, zero, suc, ◌-◌, ◌<◌, ◌≤◌, Bool, false, List, [], ◌∷◌, IfSome}
+use Rattle.std.specs.Prelude.{◌≡◌, ℕ, ◌-◌, ◌<◌, ◌≤◌, Bool, List, [], ◌∷◌, IfSome}
 use Rattle.std.specs.Prelude.{IsSome, Contains}
-use Rattle.tree_shape.specs.Decisions.{is_entries}
 use Rattle.tree_shape.specs.NodeData.{NodeData}
 use Rattle.tree_shape.specs.Trees.{Branch, branches}
 use Rattle.word_rule.specs.CallerData.{CallerData}
@@ -10,15 +9,6 @@ use Rattle.word_rule.specs.declared.log.Holdings.{Holdings}
 use Rattle.word_rule.specs.declared.log.Terms.{Terms}
 use Rattle.word_rule.specs.NodeTells.{IsLiveNode}
 use Rattle.word_rule.specs.Spelling.{SpellsNode}
-
--- The lock of a live node under which nothing was stored: the node is this one.
-pub record IsCleanLock (t : Terms) (n : ℕ) (s : NodeData) (h : Holding) : Type 0 where
-  pub node : h.node ≡ n
-  pub settled : h.settled ≡ s
-  pub spells : SpellsNode h.words s
-  pub clean : h.stored ≡ false
-  pub marked : IsSome h.mark
-  pub live : IfSome h.mark (IsLiveNode t n s)
 
 -- The lock of a live node that has settled: the node is this one, and a word was stored under the
 -- lock or none was.
@@ -31,27 +21,15 @@ pub record IsSettledLock (t : Terms) (n : ℕ) (s : NodeData) (changed : Bool) (
     pub marked : IsSome h.mark
     pub live : IfSome h.mark (IsLiveNode t n s)
 
--- the lock of the root, an inner node that wasn't changed
-pub record IsRootLock (h : Holding) : Type 0 where
-  pub node : h.node ≡ 0
-  pub spells : SpellsNode h.words h.settled
-  pub inner : is_entries h.settled.body ≡ false
-  pub clean : h.stored ≡ false
+-- the lock of a live node that has settled
+abbrev pub IsLiveLock : Terms → Holding → Type 0
+IsLiveLock t h = IsSettledLock t h.node h.settled h.stored h
 
--- what is held above a node of the way down: nothing above the root, else the root
-abbrev pub IsAbove : ℕ → List Holding → Type 0
-IsAbove zero above = above ≡ []
-IsAbove (suc n) above = (root : Holding) × ((above ≡ root ∷ []) × IsRootLock root)
-
--- A caller on its way down holds a node, and the root where that is another; no node is out.
-pub record HoldsPath (t : Terms) (n : ℕ) (s : NodeData) (holdings : Holdings) : Type 0 where
-  pub within : n < t.nodes
-  pub lock : Holding
-  pub above : List Holding
-  pub held : holdings.held ≡ lock ∷ above
-  pub here : IsCleanLock t n s lock
-  pub root : IsAbove n above
-  pub out : holdings.out ≡ []
+-- locks of live nodes that have settled, each of a level above the one before
+abbrev pub AreHigher : Terms → ℕ → List Holding → Type 0
+AreHigher t level [] = Unit {0}
+AreHigher t level (h ∷ held) =
+    IsLiveLock t h × (level < h.settled.level) × AreHigher t h.settled.level held
 
 -- no node is held, and none is out
 abbrev pub HoldsNothing : Holdings → Type 0
@@ -75,9 +53,3 @@ pub record StepsOnNodes (k k' : CallerData) : Type 0 where
   pub loader : k'.log.loader ≡ k.log.loader
   pub made : k'.log.made ≡ k.log.made
   pub lineage : k'.log.lineage ≡ k.log.lineage
-
--- All that was held was let go of.
-pub record LetsGoOfPath (k k' : CallerData) : Type 0 where
-  pub same : StepsOnNodes k k'
-  pub held : k'.log.holdings.held ≡ []
-  pub out : k'.log.holdings.out ≡ k.log.holdings.out

@@ -1,65 +1,220 @@
-//! The registration of a member where its leaf has room and its fences hold the span.
-ghost use Rattle.std.specs.Prelude.{◌≡◌, ◌<◌, true, IfNone, IfOk, IfErr, IfSome};
+//! The insertion of a member.
+ghost use Rattle.std.specs.Prelude.{◌≡◌, ◌<◌, ◌≤◌, true, IfOk, IfErr};
+ghost use Rattle.reg_model.specs.SpanData.{IsSpan};
 ghost use Rattle.reg_model.specs.State.{IsFree};
-ghost use Rattle.tree_shape.specs.NodeData.{IsInFences, entries_of};
+ghost use Rattle.tree_shape.specs.NodeData.{entries_of};
 ghost use Rattle.word_rule.specs.CallerData.{due, surplus};
 ghost use Rattle.word_rule.specs.Callers.{IsIdle};
-ghost use Rattle.btree_change.specs.Paths.{HoldsNothing, HoldsPath, StepsOnNodes};
-ghost use Rattle.btree_change.specs.Insertion.{HoldsSettled};
-ghost use Rattle.btree_change.specs.Insertion.{LetsGoOfSettled, RefusesMember, is_place_for};
+ghost use Rattle.word_rule.specs.Places.{CALL_CREDIT};
+ghost use Rattle.btree_change.specs.Insertion.{AnswersInsertion, Inserts};
+ghost use Rattle.btree_change.specs.Paths.{HoldsNothing};
+ghost use Rattle.btree_change.specs.Updates.{GivesUp};
+ghost use Rattle.btree_change.specs.Stands.{AnswersBelow, AnswersHere, GivesUpBelow, Stands};
+ghost use Rattle.btree_change.specs.Stands.{releases_at};
 
-use crate::descent::{Held, leaf_at, let_go_of_path};
-use crate::leaf::put_in_leaf;
+use crate::beyond::{Far, beyond_leaf};
+use crate::descent::{at_root, let_go_of};
+use crate::root::at_held_root;
+use crate::leaf::{full_here, put_in_leaf, refused};
+use crate::stand::{Outcome, Reply, Room, Stand, go_below, is_changed, place_of};
 use node_store::{Busy, Locking, Trying, Waiting};
-use reg_model::{Inserted, Member, Update};
+use reg_model::{Inserted, Member};
 use std::sync::Wait;
-use tree_shape::{ENTRIES, Node, first_overlap};
-use word_rule::exchange::exchange_decided;
-use word_rule::{Ask, Caller, LockId, Words};
+use word_rule::{Caller, Words};
 
-/// What the lower half of the clock counts up to.
-const LOWER: u64 = 1 << 32;
-
-/// Whether a leaf has room for a member, and fences that hold its span.
-fn has_place(leaf: &Node, member: &Member) -> bool
-    ensures { result ≡ is_place_for leaf.now member.now }
-{
-    member.span.last() <= leaf.high && leaf.entries().len() < ENTRIES
-}
-
-/// Lets go of a leaf in which a commit was made, and of the root.
-fn let_go_of_leaf<L: Locking>(locking: &L, words: &Words, me: &mut Caller, leaf: u32)
+/// Puts a member into its leaf, in which nothing overlaps it and whose fences hold its span, or says
+/// Full.
+fn in_place(words: &Words, me: &mut Caller, member: &Member, stand: &Stand) -> Outcome
     requires table { me.old.table ≡ words.now.table }
-    requires inside { leaf < words.now.terms.nodes }
-    requires held { HoldsSettled leaf me.old.log.holdings }
-    requires surplus { 0 < surplus me.old }
-    ensures { LetsGoOfSettled me.old me.new }
+    requires terms { me.old.log.terms ≡ words.now.terms }
+    requires stands { Stands words.now.terms member.now stand.now me.old.log }
+    requires level { stand.now.at.content.level ≡ 0 }
+    requires high { member.now.span.last ≤ stand.now.at.content.high }
+    requires free { IsFree member.now.span (entries_of stand.now.at.content) }
+    requires span { IsSpan member.now.span }
+    requires due { 0 < due me.old }
+    requires payload { member.now.payload < words.now.terms.payloads }
+    ensures { AnswersHere words.now.terms member.now stand.now.at.node result me.old me.new }
 {
-    exchange_decided();
-    locking.let_go(words, me, LockId::Node { node: leaf });
-    if leaf != 0 {
-        locking.let_go_same(words, me, LockId::Node { node: 0 });
+    match stand.room {
+        Room::NoneFree => Outcome {
+            answer: full_here(words, me, &stand.at, member),
+            changed: stand.at.changed,
+        },
+        Room::Splitting => {
+            let number = put_in_leaf(words, me, &stand.at, member);
+            Outcome {
+                answer: Inserted::Done { number },
+                changed: true,
+            }
+        }
     }
 }
 
-/// Tells that a member is refused where a held leaf has one that overlaps: the lowest.
-fn refused(words: &Words, me: &mut Caller, leaf: &Held, member: &Member) -> Option<Inserted>
+/// Answers an insertion that stands at a leaf in which nothing overlaps, and lets go of it.
+fn in_free_leaf<L: Locking>(
+    locking: &L,
+    words: &Words,
+    me: &mut Caller,
+    member: &Member,
+    stand: Stand,
+) -> Result<Reply, Busy>
     requires table { me.old.table ≡ words.now.table }
-    requires path { HoldsPath words.now.terms leaf.now.node leaf.now.content
-        me.old.log.holdings }
-    requires level { leaf.now.content.level ≡ 0 }
-    requires here { IsInFences member.now.span.first leaf.now.content }
-    ensures overlaps { IfSome result (λ answer. RefusesMember words.now.terms member.now answer
-        me.old me.new) }
-    ensures free { IfNone result (IsFree member.now.span (entries_of leaf.now.content)
-        × (me.new ≡ me.old)) }
+    requires terms { me.old.log.terms ≡ words.now.terms }
+    requires stands { Stands words.now.terms member.now stand me.old.log }
+    requires level { stand.at.content.level ≡ 0 }
+    requires free { IsFree member.now.span (entries_of stand.at.content) }
+    requires span { IsSpan member.now.span }
+    requires due { 0 < due me.old }
+    requires surplus { releases_at 0 ≤ surplus me.old }
+    requires payload { member.now.payload < words.now.terms.payloads }
+    ensures answer { IfOk result (λ reply. AnswersBelow words.now.terms member.now reply
+        (releases_at 0) me.old me.new) }
+    ensures busy { IfErr result (λ e. GivesUpBelow (releases_at 0) me.old me.new
+        × (L.gives_up ≡ true)) }
 {
-    let other = first_overlap(&leaf.content, &member.span)?;
-    let update = Update::Register { member: *member };
-    let clock = words.load_clock(me, Ask::Refused { update });
-    Some(Inserted::Overlap {
-        member: other,
-        stamp: (clock % LOWER) as u32,
-    })
+    match stand.beyond {
+        Some(beyond) => {
+            let far = Far {
+                leaf: stand.at,
+                beyond,
+                room: stand.room,
+            };
+            beyond_leaf(locking, words, me, member, far)
+        }
+        None => {
+            let outcome = in_place(words, me, member, &stand);
+            let_go_of(locking, words, me, stand.at.node, outcome.changed);
+            Ok(Reply {
+                answer: outcome.answer,
+                moved: 0,
+            })
+        }
+    }
 }
 
+/// Answers an insertion that stands at a leaf, and lets go of it.
+fn in_leaf<L: Locking>(
+    locking: &L,
+    words: &Words,
+    me: &mut Caller,
+    member: &Member,
+    stand: Stand,
+) -> Result<Reply, Busy>
+    requires table { me.old.table ≡ words.now.table }
+    requires terms { me.old.log.terms ≡ words.now.terms }
+    requires stands { Stands words.now.terms member.now stand me.old.log }
+    requires level { stand.at.content.level ≡ 0 }
+    requires span { IsSpan member.now.span }
+    requires due { 0 < due me.old }
+    requires surplus { releases_at 0 ≤ surplus me.old }
+    requires payload { member.now.payload < words.now.terms.payloads }
+    ensures answer { IfOk result (λ reply. AnswersBelow words.now.terms member.now reply
+        (releases_at 0) me.old me.new) }
+    ensures busy { IfErr result (λ e. GivesUpBelow (releases_at 0) me.old me.new
+        × (L.gives_up ≡ true)) }
+{
+    match refused(words, me, &stand.at, member) {
+        Some(answer) => {
+            let_go_of(locking, words, me, stand.at.node, stand.at.changed);
+            Ok(Reply { answer, moved: 0 })
+        }
+        None => in_free_leaf(locking, words, me, member, stand),
+    }
+}
+
+/// Answers an insertion that stands at a node, and lets go of it.
+pub(crate) fn below<L: Locking>(
+    locking: &L,
+    words: &Words,
+    me: &mut Caller,
+    member: &Member,
+    stand: Stand,
+) -> Result<Reply, Busy>
+    requires table { me.old.table ≡ words.now.table }
+    requires terms { me.old.log.terms ≡ words.now.terms }
+    requires stands { Stands words.now.terms member.now stand me.old.log }
+    requires span { IsSpan member.now.span }
+    requires due { 0 < due me.old }
+    requires surplus { releases_at stand.at.content.level ≤ surplus me.old }
+    requires payload { member.now.payload < words.now.terms.payloads }
+    ensures answer { IfOk result (λ reply. AnswersBelow words.now.terms member.now reply
+        (releases_at stand.at.content.level) me.old me.new) }
+    ensures busy { IfErr result (λ e. GivesUpBelow (releases_at stand.at.content.level) me.old me.new
+        × (L.gives_up ≡ true)) }
+{
+    if stand.at.content.level == 0 {
+        return in_leaf(locking, words, me, member, stand);
+    }
+    let place = place_of(&stand);
+    let passage = go_below(locking, words, me, member, stand)?;
+    let changed = passage.changed;
+    match below(locking, words, me, member, passage.stand) {
+        Ok(reply) => {
+            let changed = is_changed(changed, place.1, &reply);
+            let_go_of(locking, words, me, place.0, changed);
+            Ok(reply)
+        }
+        Err(busy) => {
+            let_go_of(locking, words, me, place.0, changed);
+            Err(busy)
+        }
+    }
+}
+
+/// Registers a member, for an update call that was begun: Done with the next number; Overlap with
+/// the lowest registered member that overlaps it; or Full where a node had to be split and none was
+/// free, or the root stands at its highest. Busy where a lock on the way was found taken and
+/// `locking` gives up: the call is still begun, and no entry was changed.
+pub fn insert_by<L: Locking>(
+    locking: &L,
+    words: &Words,
+    me: &mut Caller,
+    member: Member,
+) -> Result<Inserted, Busy>
+    requires table { me.old.table ≡ words.now.table }
+    requires idle { IsIdle me.old.log }
+    requires begun { 0 < due me.old }
+    requires surplus { CALL_CREDIT ≤ surplus me.old }
+    requires payload { member.payload < words.now.terms.payloads }
+    ensures answer { IfOk result (λ answer. AnswersInsertion words.now.terms member answer
+        me.old me.new) }
+    ensures busy { IfErr result (λ e. GivesUp me.old me.new × (L.gives_up ≡ true)) }
+{
+    let _base = member.span.first();
+    let root = at_root(locking, words, me)?;
+    at_held_root(locking, words, me, &member, root)
+}
+
+/// Registers a member as `insert_by` does, for an update call that was begun, or answers Busy where
+/// a lock on the way is taken: then the call may be tried again.
+pub fn try_insert(words: &Words, me: &mut Caller, member: Member) -> Result<Inserted, Busy>
+    requires table { me.old.table ≡ words.now.table }
+    requires idle { IsIdle me.old.log }
+    requires begun { 0 < due me.old }
+    requires surplus { CALL_CREDIT ≤ surplus me.old }
+    requires payload { member.payload < words.now.terms.payloads }
+    ensures answer { IfOk result (λ answer. AnswersInsertion words.now.terms member answer
+        me.old me.new) }
+    ensures busy { IfErr result (λ e. GivesUp me.old me.new) }
+{
+    insert_by(&Trying, words, me, member)
+}
+
+/// Registers a member. Spent where the caller may begin no more update calls. It waits for the
+/// locks on the way.
+pub fn insert<R: Wait>(rt: &R, words: &Words, me: &mut Caller, member: Member) -> Inserted
+    requires table { me.old.table ≡ words.now.table }
+    requires idle { IsIdle me.old.log }
+    requires payload { member.payload < words.now.terms.payloads }
+    ensures answer { Inserts words.now.terms member me.old me.new result }
+    ensures nothing { HoldsNothing me.new.log.holdings }
+{
+    if !me.use_one() {
+        return Inserted::Spent;
+    }
+    match insert_by(&Waiting { rt }, words, me, member) {
+        Ok(answer) => answer,
+        Err(_) => unreachable!(),
+    }
+}

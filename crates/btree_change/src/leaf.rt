@@ -1,18 +1,22 @@
-//! The change of one held leaf.
-ghost use Rattle.std.specs.Prelude.{◌≡◌, ◌<◌, ◌≤◌, length};
+//! The answers of an insertion at its leaf, and the change of it.
+ghost use Rattle.std.specs.Prelude.{◌≡◌, ◌<◌, ◌≤◌, IfNone, IfSome, length};
 ghost use Rattle.reg_model.specs.SpanData.{IsSpan};
 ghost use Rattle.reg_model.specs.State.{IsFree};
-ghost use Rattle.tree_shape.specs.NodeData.{entries_of};
+ghost use Rattle.tree_shape.specs.NodeData.{IsInFences, entries_of};
 ghost use Rattle.word_rule.specs.CallerData.{due};
-ghost use Rattle.btree_change.specs.Paths.{HoldsPath};
-ghost use Rattle.btree_change.specs.Insertion.{PutsMember};
+ghost use Rattle.word_rule.specs.TreeRefusals.{HadNoRoom};
+ghost use Rattle.btree_change.specs.Insertion.{HoldsLeaf, PutsMember, RefusesMember};
+ghost use Rattle.btree_change.specs.Stands.{StandsAt};
 
 use crate::descent::Held;
 use node_store::write_held;
-use reg_model::{Member, Update};
-use tree_shape::{ENTRIES, laws, put_entry};
+use reg_model::{Inserted, Member, Update};
+use tree_shape::{ENTRIES, first_overlap, laws, put_entry};
 use word_rule::exchange::exchange_decided;
-use word_rule::{Caller, Words};
+use word_rule::{Ask, Caller, Words};
+
+/// What the lower half of the clock counts up to.
+const LOWER: u64 = 1 << 32;
 
 /// The word of a node that has its count.
 const COUNT: u32 = 5;
@@ -22,9 +26,8 @@ const COUNT: u32 = 5;
 pub(crate) fn put_in_leaf(words: &Words, me: &mut Caller, at: &Held, member: &Member) -> u32
     requires table { me.old.table ≡ words.now.table }
     requires terms { me.old.log.terms ≡ words.now.terms }
-    requires path { HoldsPath words.now.terms at.now.node at.now.content
-        me.old.log.holdings }
-    requires leaf { at.now.content.level ≡ 0 }
+    requires leaf { HoldsLeaf words.now.terms at.now me.old.log.holdings }
+    requires level { at.now.content.level ≡ 0 }
     requires span { IsSpan member.now.span }
     requires low { at.now.content.low ≤ member.now.span.first }
     requires high { member.now.span.last ≤ at.now.content.high }
@@ -41,4 +44,49 @@ pub(crate) fn put_in_leaf(words: &Words, me: &mut Caller, at: &Held, member: &Me
     words.load_node(me, at.node, COUNT);
     write_held(words, me, at.node, &put_entry(&at.content, member));
     words.commit(me, Update::Register { member: *member })
+}
+
+/// Tells that a member is refused where a held leaf has one that overlaps: the lowest.
+pub(crate) fn refused(
+    words: &Words,
+    me: &mut Caller,
+    leaf: &Held,
+    member: &Member,
+) -> Option<Inserted>
+    requires table { me.old.table ≡ words.now.table }
+    requires stands { StandsAt words.now.terms leaf.now me.old.log.holdings }
+    requires level { leaf.now.content.level ≡ 0 }
+    requires here { IsInFences member.now.span.first leaf.now.content }
+    ensures overlaps { IfSome result (λ answer. RefusesMember words.now.terms member.now answer
+        me.old me.new) }
+    ensures free { IfNone result (IsFree member.now.span (entries_of leaf.now.content)
+        × (me.new ≡ me.old)) }
+{
+    let other = first_overlap(&leaf.content, &member.span)?;
+    let update = Update::Register { member: *member };
+    let clock = words.load_clock(me, Ask::Refused { update });
+    Some(Inserted::Overlap {
+        member: other,
+        stamp: (clock % LOWER) as u32,
+    })
+}
+
+/// Tells that there is no room for a member that overlaps nothing in its leaf, whose fences hold its
+/// span.
+pub(crate) fn full_here(words: &Words, me: &mut Caller, leaf: &Held, member: &Member) -> Inserted
+    requires table { me.old.table ≡ words.now.table }
+    requires stands { StandsAt words.now.terms leaf.now me.old.log.holdings }
+    requires level { leaf.now.content.level ≡ 0 }
+    requires here { IsInFences member.now.span.first leaf.now.content }
+    requires high { member.now.span.last ≤ leaf.now.content.high }
+    requires free { IsFree member.now.span (entries_of leaf.now.content) }
+    requires cause { HadNoRoom member.now.span.first (length me.old.log.receipts.own)
+        me.old.log.trace.loads }
+    ensures { RefusesMember words.now.terms member.now result me.old me.new }
+{
+    let update = Update::Register { member: *member };
+    let clock = words.load_clock(me, Ask::Refused { update });
+    Inserted::Full {
+        stamp: (clock % LOWER) as u32,
+    }
 }

@@ -8,10 +8,15 @@
 //! single steps. It takes from tree_shape what a change of nodes makes of the tree.
 #![tactic(auto)]
 
+mod beyond;
 mod descent;
+mod fence;
 mod insertion;
 mod leaf;
+mod lift;
+mod root;
+mod spines;
+mod split;
+mod stand;
 
-
-
-
+pub use insertion::{insert, insert_by, try_insert};

@@ -1,0 +1,335 @@
+-- An insertion at the root, and below a lifted one.
+use Rattle.std.proofs.Common.{◌≡◌, ◌≢◌, ℕ, ◌+◌, ◌-◌, ◌<◌, ◌≤◌, ◌⊎◌, inl, inr, List, [], ◌∷◌, ◌++◌, length, drop, append-nil, sym, refl, ap, ◌∙◌, subst, arith, Bool, true, false, true≢false, ◌==◌, Option, Some, None, IsSome, IfSome, is_some, Result, Ok, Err, IfOk, IfErr, eq-eqb, cond}
+use Rattle.std.specs.List.{AllByRecursion}
+use Rattle.reg_model.specs.SpanData.{IsSpan}
+use Rattle.reg_model.specs.declared.answer.Inserted.{Inserted}
+use Rattle.reg_model.specs.declared.answer.Receipt.TheVariants as receipt
+use Rattle.reg_model.specs.declared.span.Member.{Member}
+use Rattle.tree_shape.specs.NodeData.{NodeData, IsInFences}
+use Rattle.tree_shape.specs.Lawful.{IsOrdered}
+use Rattle.tree_shape.specs.Steps.{IsFull}
+use Rattle.tree_shape.specs.declared.node.Frame.{Frame}
+use Rattle.word_rule.specs.CallerData.{CallerData, surplus}
+use Rattle.word_rule.specs.Held.{held_of}
+use Rattle.word_rule.specs.NodeTells.{IsLiveNode}
+use Rattle.word_rule.specs.Spelling.{SpellsNode}
+use Rattle.word_rule.specs.declared.log.Holding.{Holding}
+use Rattle.word_rule.specs.declared.log.Holdings.{Holdings}
+use Rattle.word_rule.specs.declared.log.Log.{Log}
+use Rattle.word_rule.specs.declared.log.Terms.{Terms}
+use Rattle.btree_change.specs.declared.descent.Held.{Held}
+use Rattle.btree_change.specs.declared.lift.FullRoot.{FullRoot}
+use Rattle.btree_change.specs.declared.lift.TwoNodes.{TwoNodes}
+use Rattle.btree_change.specs.declared.split.Split.{Split}
+use Rattle.btree_change.specs.declared.stand.Reply.{Reply}
+use Rattle.btree_change.specs.declared.stand.Room.{Room}
+use Rattle.btree_change.specs.declared.stand.Stand.{Stand}
+use Rattle.reg_model.specs.declared.answer.Inserted.TheVariants as inserted
+use Rattle.btree_change.specs.Insertion.{AnswersInsertion, Inserts, call_begun, taken_by}
+use Rattle.btree_change.specs.Paths.{AreHigher, HoldsNothing, StepsOnNodes}
+use Rattle.btree_change.specs.Roots.{EndsInsertion, GivesUpWhole}
+use Rattle.btree_change.specs.Splits.{HoldsFullAlone, HoldsFullRoot, KeepsHeld, LiftsRoot, TakesTwo, with_release_less}
+use Rattle.btree_change.specs.Stands.{AnswersBelow, AreLeftAs, GivesUpBelow, HasWayOn, HoldsPair, HoldsRoot, LetsGo, MayGo, Reaches, SpendsCall, SpendsSteps, Stands, StandsAt, releases_at}
+use Rattle.btree_change.specs.Updates.{AnswersUpdate, GivesUp}
+use Rattle.btree_change.proofs.Lowering.{keeps_none, settled_live}
+use Rattle.btree_change.proofs.Spending.{own_same, right_after, right_before, spends_after, spends_before, spends_same, steps_after, surplus_after}
+
+-- the root alone is where an insertion stands
+pub root_stands : (t : Terms) (root : Held) (holdings : Holdings) → HoldsRoot t root holdings → StandsAt t root holdings
+root_stands t root holdings h = record {
+  within = subst (λ n. n < t.nodes) (sym h.root) h.within;
+  lock = h.lock;
+  above = [];
+  held = h.held;
+  here = h.here;
+  higher = tt;
+  apart = (tt, tt);
+  root = ap (λ b. is_some (cond b (Some h.lock) (held_of 0 []))) (eq-eqb h.lock.node 0 (h.here.node ∙ h.root));
+  out = h.out;
+}
+
+pub root_here : (t : Terms) (root : Held) (m : Member) (holdings : Holdings) → HoldsRoot t root holdings → IsSpan m.span → IsInFences m.span.first root.content
+root_here t root m holdings h span = let l = h.low in let u = h.high in let o = span.ordered in let b = span.below_top in (omega (arith, l), omega (arith, u, o, b))
+
+pub root_stand : (t : Terms) (root : Held) (way : Room) (m : Member) (v : Log) → HoldsRoot t root v.holdings → IsSpan m.span → HasWayOn way m.span.first root.content v → Stands t m (record { at = root; beyond = None; room = way }) v
+root_stand t root way m v h span on = record {
+  at = root_stands t root v.holdings h;
+  here = root_here t root m v.holdings h span;
+  reach = let u = h.high in let b = span.below_top in omega (arith, u, b);
+  way = on;
+}
+
+pub root_order : (t : Terms) (root : Held) (holdings : Holdings) → HoldsRoot t root holdings → IsOrdered root.content
+root_order t root holdings h = (settled_live t root.node root.content root.changed h.lock h.here).1.1.ordered
+
+pub root_kept : (t : Terms) (root : Held) (a b : Holdings) → b.held ≡ a.held → b.out ≡ a.out → HoldsRoot t root a → HoldsRoot t root b
+root_kept t root a b held out h = record { within = h.within; lock = h.lock; held = held ∙ h.held; root = h.root; unchanged = h.unchanged; here = h.here; low = h.low; high = h.high; out = out ∙ h.out }
+
+pub full_alone : (t : Terms) (root : Held) (m : Member) (holdings : Holdings) → HoldsRoot t root holdings → IsSpan m.span → IsFull root.content.body → HoldsFullAlone t root m.span.first holdings
+full_alone t root m holdings h span full = record {
+  is_root = h.root;
+  within = subst (λ n. n < t.nodes) (sym h.root) h.within;
+  lock = h.lock;
+  held = h.held;
+  here = h.here;
+  is_full = full;
+  on_way = root_here t root m holdings h span;
+  out = h.out;
+}
+
+pub level_most : (t : Terms) (m : Member) (stand : Stand) (v : Log) → Stands t m stand v → stand.at.node ≡ 0 → stand.at.content.level ≤ 12
+level_most t m stand v s root = (settled_live t stand.at.node stand.at.content stand.at.changed s.at.lock s.at.here).1.1.height root
+
+none_left : (moved : ℕ) (held : List Holding) → AreLeftAs moved [] held → held ≡ []
+none_left moved [] all = refl
+none_left moved (b ∷ held) all = absurd all
+
+-- it was answered there
+pub alone_ends : (t : Terms) (m : Member) (reply : Reply) (most : ℕ) (k k' : CallerData) → drop 1 k.log.holdings.held ≡ [] → most ≤ 37 → AnswersBelow t m reply most k k' → EndsInsertion t m reply.answer 37 k k'
+alone_ends t m reply most k k' alone few a = record {
+  right = a.right;
+  call = record {
+    table = a.call.table;
+    left = a.call.left;
+    terms = a.call.terms;
+    role = a.call.role;
+    loader = a.call.loader;
+    made = a.call.made;
+    lineage = a.call.lineage;
+    receipts = a.call.receipts;
+    allowance = a.call.allowance;
+    credit = let c = a.call.credit in omega (arith, c, few);
+  };
+  nothing = (none_left reply.moved k'.log.holdings.held (subst (λ hs. AreLeftAs reply.moved hs k'.log.holdings.held) alone a.above), a.out);
+}
+
+pub alone_gives_up : (most : ℕ) (k k' : CallerData) → drop 1 k.log.holdings.held ≡ [] → most ≤ 37 → GivesUpBelow most k k' → GivesUpWhole 37 k k'
+alone_gives_up most k k' alone few g = record {
+  steps = steps_after most 0 37 k k' k' (omega (arith, few)) g.steps (spends_same k' k' (record { table = refl; left = refl; terms = refl; role = refl; past = refl; budget = refl; receipts = refl; loader = refl; made = refl; lineage = refl }));
+  nothing = (g.held ∙ alone, g.out);
+}
+
+-- The root was lifted.
+module _ (t : Terms) (m : Member) (full : FullRoot) (k : CallerData) (held : HoldsFullRoot t full m.span.first k.log.holdings) (high : full.root.content.high ≡ 18446744073709551615) (span : IsSpan m.span) (split : Split) (k1 : CallerData) (lifts : LiftsRoot t full m.span.first split k k1) where
+  parent_node : split.parent.node ≡ 0
+  parent_node = ap (λ (h : Held). h.node) lifts.parent ∙ held.is_root
+
+  rest_is : drop 2 k1.log.holdings.held ≡ []
+  rest_is = ap (drop 2) lifts.held
+
+  abbrev pair_for : (hs : List Holding) → [] ≡ hs → HoldsPair t m.span.first split.parent split.way hs k1.log.holdings
+  pair_for hs e = record {
+    parent_within = subst (λ n. n < t.nodes) (held.is_root ∙ sym parent_node) held.root_within;
+    child_within = lifts.within;
+    lower = lifts.lower;
+    upper = lifts.upper;
+    held = lifts.held ∙ ap (λ xs. lifts.lower ∷ lifts.upper ∷ xs) e;
+    child_is = lifts.way_held;
+    parent_is = lifts.parent_held;
+    leads = lifts.leads;
+    here = lifts.here;
+    inner = let l = ap (λ (h : Held). h.content.level) lifts.parent in omega (arith, l);
+    higher = subst (λ xs. AreHigher t split.parent.content.level xs) e tt;
+    root = ap (λ b. is_some (cond b (Some lifts.upper) (held_of 0 hs))) (eq-eqb lifts.upper.node 0 (lifts.parent_held.node ∙ parent_node));
+    out = lifts.out;
+  }
+
+  pub lifted_reach : (pair : HoldsPair t m.span.first split.parent split.way (drop 2 k1.log.holdings.held) k1.log.holdings) × Reaches t m.span.last split.parent.content None pair.upper (drop 2 k1.log.holdings.held)
+  lifted_reach = (pair_for (drop 2 k1.log.holdings.held) (sym rest_is), (let h = ap (λ (h : Held). h.content.high) lifts.parent in let b = span.below_top in omega (arith, h, high, b)))
+
+  pub lifted_here : IsInFences m.span.first split.parent.content
+  lifted_here =
+      let h = ap (λ (h : Held). h.content.high) lifts.parent in let l = ap (λ (h : Held). h.content.low) lifts.parent in
+      let a = held.here.0 in let b = held.here.1 in (omega (arith, l, a), omega (arith, h, b))
+
+  pub lifted_level : split.way.content.level ≤ 12
+  lifted_level = let a = lifts.lower_level in let l = ap (λ (h : Held). h.content.level) lifts.parent in let t' = held.height in omega (arith, a, l, t')
+
+  pub lifted_steps : SpendsSteps 1 k k1
+  lifted_steps = let s = lifts.same in record {
+    call = record {
+      table = s.table;
+      left = s.left;
+      terms = s.terms;
+      role = s.role;
+      loader = s.loader;
+      made = s.made;
+      lineage = s.lineage;
+      receipts = s.receipts ∙ (λ i. record k.log.receipts { own = sym (append-nil k.log.receipts.own) i });
+      allowance = ap (λ b. b.allowance) s.budget ∙ omega arith;
+      credit = let e = ap (λ b. b.credit) s.budget in omega (arith, e);
+    };
+    past = s.past;
+  }
+
+  -- the insertion stands below it
+  module _ (k2 : CallerData) (same : StepsOnNodes k1 k2) (holdings : k2.log.holdings ≡ k1.log.holdings) where
+    pub lifted_two : SpendsSteps 1 k k2
+    lifted_two = steps_after 1 0 1 k k1 k2 (omega arith) lifted_steps (spends_same k1 k2 same)
+
+    above_is : drop 1 k2.log.holdings.held ≡ lifts.upper ∷ []
+    above_is = ap (λ (hs : Holdings). drop 1 hs.held) holdings ∙ ap (drop 1) lifts.held
+
+    module _ (reply : Reply) (most : ℕ) (k3 : CallerData) (few : most ≤ 37) (a : AnswersBelow t m reply most k2 k3) where
+      record OneLeft : Type 0 where
+        lock : Holding
+        is : k3.log.holdings.held ≡ lock ∷ []
+        node : lock.node ≡ 0
+        spells : SpellsNode lock.words lock.settled
+
+      one_left : OneLeft
+      one_left = go k3.log.holdings.held refl (subst (λ hs. AreLeftAs reply.moved hs k3.log.holdings.held) above_is a.above)
+        where
+          go : (hs : List Holding) → k3.log.holdings.held ≡ hs → AreLeftAs reply.moved (lifts.upper ∷ []) hs → OneLeft
+          go [] e all = absurd all
+          go (b ∷ hs) e all = record {
+            lock = b;
+            is = e ∙ ap (λ xs. b ∷ xs) (none_left reply.moved hs all.1);
+            node = all.0.node ∙ (lifts.parent_held.node ∙ parent_node);
+            spells = all.0.spells;
+          }
+
+      pub lifted_may_go : MayGo 0 true k3.log.holdings
+      lifted_may_go = record { lock = one_left.lock; above = []; held = one_left.is; is_node = one_left.node; stored = λ e. absurd (true≢false e); settled = (one_left.spells, tt); apart = (tt, tt) }
+
+      pub lifted_surplus : 39 ≤ surplus k → 0 < surplus k3
+      lifted_surplus enough = surplus_after (receipt.Register m reply.answer ∷ []) (taken_by reply.answer) 38 k k3 1 (spends_after 1 most 38 (receipt.Register m reply.answer ∷ []) (taken_by reply.answer) k k2 k3 (omega (arith, few)) lifted_two.call a.call) (omega (arith, enough))
+
+      pub lifted_ends : (k4 : CallerData) → LetsGo k3 k4 → EndsInsertion t m reply.answer 39 k k4
+      lifted_ends k4 goes = record {
+        right = right_after t m reply.answer k k2 k4 lifted_two.past (own_same 1 k k2 lifted_two) (right_before t m reply.answer k2 k3 k4 goes.steps.past (keeps_none k3 k4 goes.loads) a.right);
+        call = spends_after 1 38 39 (receipt.Register m reply.answer ∷ []) (taken_by reply.answer) k k2 k4 (omega arith) lifted_two.call
+            (spends_before most 1 38 (receipt.Register m reply.answer ∷ []) (taken_by reply.answer) k2 k3 k4 (omega (arith, few)) a.call goes.steps.call);
+        nothing = (goes.held ∙ ap (drop 1) one_left.is, goes.out ∙ a.out);
+      }
+
+    module _ (most : ℕ) (k3 : CallerData) (few : most ≤ 37) (g : GivesUpBelow most k2 k3) where
+      left_is : k3.log.holdings.held ≡ lifts.upper ∷ []
+      left_is = g.held ∙ above_is
+
+      pub gave_may_go : MayGo 0 true k3.log.holdings
+      gave_may_go = record { lock = lifts.upper; above = []; held = left_is; is_node = lifts.parent_held.node ∙ parent_node; stored = λ e. absurd (true≢false e); settled = (subst (SpellsNode lifts.upper.words) (sym lifts.parent_held.settled) lifts.parent_held.spells, tt); apart = (tt, tt) }
+
+      pub gave_surplus : 39 ≤ surplus k → 0 < surplus k3
+      gave_surplus enough = surplus_after [] 0 38 k k3 1 (steps_after 1 most 38 k k2 k3 (omega (arith, few)) lifted_two g.steps).call (omega (arith, enough))
+
+      pub lifted_gives_up : (k4 : CallerData) → LetsGo k3 k4 → GivesUpWhole 39 k k4
+      lifted_gives_up k4 goes = record {
+        steps = steps_after 1 38 39 k k2 k4 (omega arith) lifted_two (steps_after most 1 38 k2 k3 k4 (omega (arith, few)) g.steps goes.steps);
+        nothing = (goes.held ∙ ap (drop 1) left_is, goes.out ∙ g.out);
+      }
+
+-- two nodes were taken for the full root
+pub full_root : (t : Terms) (root : Held) (m : Member) (two : TwoNodes) (k k1 : CallerData) → k.log.terms ≡ t → HoldsRoot t root k.log.holdings → IsSpan m.span → IsFull root.content.body → root.content.level < 12 → TakesTwo two k k1 → HoldsFullRoot t (record { root = root; left = two.left; right = two.right }) m.span.first k1.log.holdings
+full_root t root m two k k1 terms h span full less takes = record {
+  is_root = h.root;
+  root_within = subst (λ n. n < t.nodes) (sym h.root) h.within;
+  left_within = subst (λ (z : Terms). two.left < z.nodes) terms takes.left_within;
+  right_within = subst (λ (z : Terms). two.right < z.nodes) terms takes.right_within;
+  different = takes.different;
+  right = takes.right;
+  left = takes.left;
+  upper = h.lock;
+  held = takes.held ∙ ap (λ hs. takes.right ∷ takes.left ∷ hs) h.held;
+  out = takes.out ∙ ap (λ ns. two.right ∷ two.left ∷ ns) h.out;
+  left_free = takes.left_free;
+  right_free = takes.right_free;
+  root = h.here;
+  here = root_here t root m k.log.holdings h span;
+  height = less;
+  is_full = full;
+}
+
+-- what the search for nodes takes
+pub kept_steps : (k k1 : CallerData) → KeepsHeld k k1 → SpendsSteps 1 k k1
+kept_steps k k1 kept = go kept.same
+  where
+    go : StepsOnNodes k k1 ⊎ StepsOnNodes (with_release_less k) k1 → SpendsSteps 1 k k1
+    go (inl s) = steps_after 0 0 1 k k1 k1 (omega arith) (spends_same k k1 s) (spends_same k1 k1 (record { table = refl; left = refl; terms = refl; role = refl; past = refl; budget = refl; receipts = refl; loader = refl; made = refl; lineage = refl }))
+    go (inr s) = record {
+      call = record {
+        table = s.table;
+        left = s.left;
+        terms = s.terms;
+        role = s.role;
+        loader = s.loader;
+        made = s.made;
+        lineage = s.lineage;
+        receipts = s.receipts ∙ (λ i. record k.log.receipts { own = sym (append-nil k.log.receipts.own) i });
+        allowance = ap (λ b. b.allowance) s.budget ∙ omega arith;
+        credit = let e = ap (λ b. b.credit) s.budget in omega (arith, e);
+      };
+      past = s.past;
+    }
+
+-- one part after another, to the end
+pub ends_after : (t : Terms) (m : Member) (answer : Inserted) (a b c : ℕ) (k l n : CallerData) → a + b ≤ c → SpendsSteps a k l → EndsInsertion t m answer b l n → EndsInsertion t m answer c k n
+ends_after t m answer a b c k l n sum s e = record {
+  right = right_after t m answer k l n s.past (own_same a k l s) e.right;
+  call = spends_after a b c (receipt.Register m answer ∷ []) (taken_by answer) k l n sum s.call e.call;
+  nothing = e.nothing;
+}
+
+pub gives_up_after : (a b c : ℕ) (k l n : CallerData) → a + b ≤ c → SpendsSteps a k l → GivesUpWhole b l n → GivesUpWhole c k n
+gives_up_after a b c k l n sum s g = record { steps = steps_after a b c k l n sum s g.steps; nothing = g.nothing }
+
+pub update_answered : (t : Terms) (m : Member) (answer : Inserted) (k l n : CallerData) → StepsOnNodes k l → EndsInsertion t m answer 64 l n → AnswersInsertion t m answer k n
+update_answered t m answer k l n same e =
+    let all = ends_after t m answer 0 64 64 k l n (omega arith) (spends_same k l same) e in record {
+      right = all.right;
+      call = record {
+        table = all.call.table;
+        left = all.call.left;
+        terms = all.call.terms;
+        role = all.call.role;
+        loader = all.call.loader;
+        made = all.call.made;
+        lineage = all.call.lineage;
+        receipts = all.call.receipts;
+        allowance = all.call.allowance;
+        credit = all.call.credit;
+        nothing = all.nothing;
+      };
+    }
+
+gives_so : (most : ℕ) (k n : CallerData) → most ≤ 64 → GivesUpWhole most k n → GivesUp k n
+gives_so most k n few g = record {
+  table = g.steps.call.table;
+  left = g.steps.call.left;
+  terms = g.steps.call.terms;
+  role = g.steps.call.role;
+  past = g.steps.past;
+  receipts = g.steps.call.receipts ∙ (λ i. record k.log.receipts { own = append-nil k.log.receipts.own i });
+  loader = g.steps.call.loader;
+  made = g.steps.call.made;
+  lineage = g.steps.call.lineage;
+  allowance = g.steps.call.allowance ∙ omega arith;
+  credit = let c = g.steps.call.credit in omega (arith, c, few);
+  nothing = g.nothing;
+}
+
+pub update_given_up : (k l n : CallerData) → StepsOnNodes k l → GivesUpWhole 64 l n → GivesUp k n
+update_given_up k l n same g = gives_so 64 k n (omega arith) (gives_up_after 0 64 64 k l n (omega arith) (spends_same k l same) g)
+
+pub root_busy : (k l : CallerData) → StepsOnNodes k l → HoldsNothing l.log.holdings → GivesUp k l
+root_busy k l same nothing = gives_so 0 k l (omega arith) (record { steps = spends_same k l same; nothing = nothing })
+
+pub root_gone : (t : Terms) (root : Held) (k k1 k2 : CallerData) → HoldsRoot t root k.log.holdings → KeepsHeld k k1 → LetsGo k1 k2 → GivesUpWhole 64 k k2
+root_gone t root k k1 k2 h kept goes = record {
+  steps = steps_after 1 1 64 k k1 k2 (omega arith) (kept_steps k k1 kept) goes.steps;
+  nothing = (goes.held ∙ ap (drop 1) (kept.held ∙ h.held), goes.out ∙ (kept.out ∙ h.out));
+}
+
+pub if_ok : {A E : Type 0} (P Q : A → Type 0) (r : Result A E) → ((a : A) → P a → Q a) → IfOk r P → IfOk r Q
+if_ok P Q (Ok a) f p = f a p
+if_ok P Q (Err e) f p = tt
+
+pub if_err : {A E : Type 0} (P Q : E → Type 0) (r : Result A E) → ((e : E) → P e → Q e) → IfErr r P → IfErr r Q
+if_err P Q (Ok a) f p = tt
+if_err P Q (Err e) f p = f e p
+
+pub inserts_so : (t : Terms) (m : Member) (answer : Inserted) (k k' : CallerData) → 0 < k.left → AnswersInsertion t m answer (call_begun k) k' → Inserts t m k k' answer
+inserts_so t m (inserted.Done number) k k' some a = (some, a)
+inserts_so t m (inserted.Overlap other stamp) k k' some a = (some, a)
+inserts_so t m (inserted.Full stamp) k k' some a = (some, a)
+inserts_so t m inserted.Spent k k' some a = absurd a.right

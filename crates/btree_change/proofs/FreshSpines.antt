@@ -1,0 +1,149 @@
+-- A spine in which nothing was stored is let go of, from its leaf up.
+use Rattle.std.proofs.Common.{◌≡◌, ◌≢◌, ℕ, zero, suc, ◌-◌, ◌<◌, List, [], ◌∷◌, ◌++◌, length, append_assoc, refl, ap, sym, ◌∙◌, subst, arith, false, Some, IsSome, IsSomeAnd, inl, inr, ne_eqb, cond}
+use Rattle.std.specs.List.{AllByRecursion}
+use Rattle.tree_shape.specs.declared.pair.Pair.{Pair}
+use Rattle.tree_shape.specs.NodeData.{NodeData, pairs_of}
+use Rattle.tree_shape.specs.Steps.{first_child}
+use Rattle.tree_shape.proofs.Times.{In, all_at}
+use Rattle.word_rule.specs.CallerData.{CallerData}
+use Rattle.word_rule.specs.declared.log.Holding.{Holding}
+use Rattle.word_rule.specs.declared.log.Holdings.{Holdings}
+use Rattle.word_rule.specs.declared.log.Terms.{Terms}
+use Rattle.word_rule.specs.Held.{held_of, without_lock}
+use Rattle.word_rule.specs.Spelling.{spelled}
+use Rattle.word_rule.specs.Steps.{after_node_release_same, head_without}
+use Rattle.node_store.specs.Holding.{ReadsHeld}
+use Rattle.btree_change.specs.Spines.{AreApart, HoldsFresh, IsFreshLock, IsLockAt, IsSpine}
+use Rattle.btree_change.proofs.LockedSpines.{found_head, may_read_found, reads_spelled, without_head}
+
+-- what holds of all of two lists
+pub all_parts : {A : Type 0} (P : A → Type 0) (xs ys : List A) → AllByRecursion P (xs ++ ys) → AllByRecursion P xs × AllByRecursion P ys
+all_parts P [] ys all = (tt, all)
+all_parts P (x ∷ xs) ys all = let rest = all_parts P xs ys all.1 in ((all.0, rest.0), rest.1)
+
+pub all_both : {A : Type 0} (P : A → Type 0) (xs ys : List A) → AllByRecursion P xs → AllByRecursion P ys → AllByRecursion P (xs ++ ys)
+all_both P [] ys a b = b
+all_both P (x ∷ xs) ys a b = (a.0, all_both P xs ys a.1 b)
+
+-- where each node is held once, no other lock is of a lock's node
+pub apart_mid : (xs : List Holding) (h : Holding) (ys : List Holding) → AreApart (xs ++ h ∷ ys) → AllByRecursion (λ (a : Holding). a.node ≢ h.node) xs × AllByRecursion (λ (a : Holding). a.node ≢ h.node) ys
+apart_mid [] h ys all = (tt, all.0)
+apart_mid (x ∷ xs) h ys all = let rest = apart_mid xs h ys all.1 in (((λ e. mid xs all.0 (sym e)), rest.0), rest.1)
+  where
+    mid : (zs : List Holding) → AllByRecursion (λ (a : Holding). a.node ≢ x.node) (zs ++ h ∷ ys) → h.node ≢ x.node
+    mid [] far = far.0
+    mid (z ∷ zs) far = mid zs far.1
+
+pub found_in : (held : List Holding) (h : Holding) → AreApart held → In h held → held_of h.node held ≡ Some h
+found_in [] h all there = absurd there
+found_in (a ∷ held) h all there = elim there [
+  | inl e ↦ subst (λ (z : Holding). held_of z.node (a ∷ held) ≡ Some z) e (found_head a.node a held refl)
+  | inr later ↦ ap (λ b. cond b (Some a) (held_of h.node held)) (ne_eqb a.node h.node (λ e. all_at (λ (x : Holding). x.node ≢ a.node) held h all.0 later (sym e))) ∙ found_in held h all.1 later
+]
+
+-- the topmost lock of a spine
+pub top_of : (child : ℕ → List Pair → ℕ) (n level : ℕ) (locks : List Holding) → level ≢ 0 → IsSpine child level n locks
+    → (h : Holding) × (lower : List Holding) × (IsLockAt n level h × (locks ≡ lower ++ h ∷ []) × IsSpine child (level - 1) (child 0 (pairs_of h.settled)) lower)
+top_of child n zero locks some s = absurd (some refl)
+top_of child n (suc level) locks some (h, lower, (at, is, below)) =
+    let e : suc level - 1 ≡ level = omega arith in (h, lower, (at, is, subst (λ k. IsSpine child k (child 0 (pairs_of h.settled)) lower) (sym e) below))
+
+pub leaf_of : (child : ℕ → List Pair → ℕ) (n level : ℕ) (locks : List Holding) → level ≡ 0 → IsSpine child level n locks → (h : Holding) × (IsLockAt n zero h × (locks ≡ h ∷ []))
+leaf_of child n level locks zero_level s = subst (λ k. IsSpine child k n locks) zero_level s
+
+-- the lock at the head was let go of
+pub let_go_head : (n : ℕ) (h : Holding) (base : List Holding) (k k' : CallerData) → k.log.holdings.held ≡ h ∷ base → h.node ≡ n → AllByRecursion (λ (a : Holding). a.node ≢ h.node) base → n ≢ 0 → k' ≡ record k { log = after_node_release_same n k.log } → k'.log.holdings ≡ record k.log.holdings { held = base }
+let_go_head n h base k k' held node far never is =
+    ap (λ (z : CallerData). z.log.holdings) is
+    ∙ (λ i. record k.log.holdings { held = (ap (without_lock n) held ∙ without_head n h base node (subst (λ m. AllByRecursion (λ (a : Holding). a.node ≢ m) base) node far)) i; head = head_is i })
+  where
+    head_is : head_without n k.log.holdings.head ≡ k.log.holdings.head
+    head_is = rw (ne_eqb n 0 never) refl
+
+module _ (t : Terms) (n level : ℕ) (k : CallerData) (s : HoldsFresh t n level k.log.holdings) (zero_level : level ≡ 0) where
+  leaf : (h : Holding) × (IsLockAt n zero h × (s.locks ≡ h ∷ []))
+  leaf = leaf_of first_child n level s.locks zero_level s.spine
+
+  leaf_held : k.log.holdings.held ≡ leaf.0 ∷ s.base
+  leaf_held = s.held ∙ ap (λ xs. xs ++ s.base) leaf.1.1
+
+  leaf_fresh : IsFreshLock t leaf.0
+  leaf_fresh = (subst (AllByRecursion (IsFreshLock t)) leaf.1.1 s.fresh).0
+
+  leaf_apart : AreApart (leaf.0 ∷ s.base)
+  leaf_apart = subst AreApart leaf_held s.apart
+
+  pub leaf_within : n < t.nodes
+  leaf_within = subst (λ m. m < t.nodes) leaf.1.0.0 leaf_fresh.within
+
+  pub leaf_clean : IsSomeAnd (held_of n k.log.holdings.held) (λ h. h.stored ≡ false)
+  leaf_clean = subst (λ o. IsSomeAnd o (λ (h : Holding). h.stored ≡ false)) (sym (ap (held_of n) leaf_held ∙ found_head n leaf.0 s.base leaf.1.0.0)) leaf_fresh.clean
+
+  pub leaf_let_go_of : (k' : CallerData) → k' ≡ record k { log = after_node_release_same n k.log } → k'.log.holdings ≡ record k.log.holdings { held = s.base }
+  leaf_let_go_of k' is = let_go_head n leaf.0 s.base k k' leaf_held leaf.1.0.0 leaf_apart.0 (λ e. leaf_fresh.never_root (leaf.1.0.0 ∙ e)) is
+
+module _ (t : Terms) (n level : ℕ) (k : CallerData) (s : HoldsFresh t n level k.log.holdings) (some : level ≢ 0) where
+  top : (h : Holding) × (lower : List Holding) × (IsLockAt n level h × (s.locks ≡ lower ++ h ∷ []) × IsSpine first_child (level - 1) (first_child 0 (pairs_of h.settled)) lower)
+  top = top_of first_child n level s.locks some s.spine
+
+  held_is : k.log.holdings.held ≡ top.1 ++ (top.0 ∷ s.base)
+  held_is = s.held ∙ (ap (λ xs. xs ++ s.base) top.2.1 ∙ append_assoc top.1 (top.0 ∷ []) s.base)
+
+  apart : AreApart (top.1 ++ (top.0 ∷ s.base))
+  apart = subst AreApart held_is s.apart
+
+  fresh_all : AllByRecursion (IsFreshLock t) top.1 × AllByRecursion (IsFreshLock t) (top.0 ∷ [])
+  fresh_all = all_parts (IsFreshLock t) top.1 (top.0 ∷ []) (subst (AllByRecursion (IsFreshLock t)) top.2.1 s.fresh)
+
+  fresh : IsFreshLock t top.0
+  fresh = fresh_all.1.0
+
+  there : (xs : List Holding) → In top.0 (xs ++ (top.0 ∷ s.base))
+  there [] = inl refl
+  there (x ∷ xs) = inr (there xs)
+
+  found : held_of n k.log.holdings.held ≡ Some top.0
+  found = ap (held_of n) held_is ∙ subst (λ m. held_of m (top.1 ++ (top.0 ∷ s.base)) ≡ Some top.0) top.2.0.0 (found_in (top.1 ++ (top.0 ∷ s.base)) top.0 apart (there top.1))
+
+  pub top_within : n < t.nodes
+  top_within = subst (λ m. m < t.nodes) top.2.0.0 fresh.within
+
+  pub may_read_top : IsSomeAnd (held_of n k.log.holdings.held) (λ z. IsSome (spelled z.words))
+  may_read_top = may_read_found n top.0.settled top.0 k found fresh.live.spells
+
+  module _ (k1 : CallerData) (shape : NodeData) (reads : ReadsHeld n k k1 shape) (same : k1.log.holdings ≡ k.log.holdings) where
+    is : top.0.settled ≡ shape
+    is = reads_spelled n top.0.settled shape top.0 k k1 found fresh.live.spells reads
+
+    pub top_pairs : 0 < length (pairs_of shape)
+    top_pairs = subst (λ (z : NodeData). 0 < length (pairs_of z)) is (fresh.pairs (let e = top.2.0.1 in omega (arith, e, some)))
+
+    pub fresh_below : (child : ℕ) → child ≡ first_child 0 (pairs_of shape) → HoldsFresh t child (level - 1) k1.log.holdings
+    fresh_below child e = record {
+      locks = top.1;
+      base = top.0 ∷ s.base;
+      held = ap (λ (z : Holdings). z.held) same ∙ held_is;
+      spine = subst (λ c. IsSpine first_child (level - 1) c top.1) (ap (λ (z : NodeData). first_child 0 (pairs_of z)) is ∙ sym e) top.2.2;
+      fresh = fresh_all.0;
+      apart = subst AreApart (sym (ap (λ (z : Holdings). z.held) same)) s.apart;
+    }
+
+    module _ (child : ℕ) (e : child ≡ first_child 0 (pairs_of shape)) (k2 : CallerData) (below : (spine : HoldsFresh t child (level - 1) k1.log.holdings) → k2.log.holdings ≡ record k1.log.holdings { held = spine.base }) where
+      left : k2.log.holdings ≡ record k.log.holdings { held = top.0 ∷ s.base }
+      unfolding fresh_below
+      left = below (fresh_below child e) ∙ ap (λ (z : Holdings). record z { held = top.0 ∷ s.base }) same
+
+      left_apart : AreApart (top.0 ∷ s.base)
+      left_apart = go top.1 apart
+        where
+          go : (xs : List Holding) → AreApart (xs ++ (top.0 ∷ s.base)) → AreApart (top.0 ∷ s.base)
+          go [] all = all
+          go (x ∷ xs) all = go xs all.1
+
+      pub top_clean : IsSomeAnd (held_of n k2.log.holdings.held) (λ h. h.stored ≡ false)
+      top_clean = subst (λ o. IsSomeAnd o (λ (h : Holding). h.stored ≡ false)) (sym (ap (λ (z : Holdings). held_of n z.held) left ∙ found_head n top.0 s.base top.2.0.0)) fresh.clean
+
+      pub top_let_go_of : (k3 : CallerData) → k3 ≡ record k2 { log = after_node_release_same n k2.log } → k3.log.holdings ≡ record k.log.holdings { held = s.base }
+      top_let_go_of k3 now =
+          let_go_head n top.0 s.base k2 k3 (ap (λ (z : Holdings). z.held) left) top.2.0.0 left_apart.0 (λ z. fresh.never_root (top.2.0.0 ∙ z)) now
+          ∙ ap (λ (z : Holdings). record z { held = s.base }) left

@@ -1,0 +1,256 @@
+-- The one free node that was taken for the full root is given back; or the root has the highest level.
+use Rattle.std.proofs.Common.{◌≡◌, ◌≢◌, ℕ, ◌+◌, ◌<◌, ◌≤◌, List, [], ◌∷◌, ◌++◌, length, drop, map, sym, refl, ap, ◌∙◌, subst, arith, Bool, true, false, ◌==◌, ◌&&◌, not, IsTrue, true≢false, Option, Some, None, IsSome, IfSome, is_some, inl, inr, ◌⊎◌, append_assoc, append-nil, eq-eqb, ne_eqb, if◌then◌else◌, cond}
+use Rattle.std.proofs.lemmas.Option.{none-some}
+use Rattle.std.specs.List.{AllByRecursion, filter}
+use Rattle.tree_shape.specs.NodeData.{NodeData, IsInFences}
+use Rattle.tree_shape.specs.Numbers.{is_among}
+use Rattle.word_rule.specs.CallerData.{CallerData}
+use Rattle.word_rule.specs.Exchange.{exchange, nothing_reached, settle, settle_free}
+use Rattle.word_rule.specs.Held.{all_but, edited, held_of, is_marked, marked_in, now_of, without_lock}
+use Rattle.word_rule.specs.Logs.{after_spending, load_of}
+use Rattle.word_rule.specs.NodeTells.{HeldTells, OutTells}
+use Rattle.word_rule.specs.Places.{HEAD, node_place}
+use Rattle.word_rule.specs.Sights.{after_node_load}
+use Rattle.word_rule.specs.Spelling.{node_word, spelled, SpellsNode}
+use Rattle.word_rule.specs.Steps.{after_give, after_head_load, after_node_release, after_node_release_same, after_node_store, frees, store_in, stored_log}
+use Rattle.word_rule.specs.TreeRefusals.{HadNoRoom}
+use Rattle.word_rule.specs.declared.log.Holding.{Holding}
+use Rattle.word_rule.specs.declared.log.LoadEvent.{LoadEvent}
+use Rattle.word_rule.specs.declared.log.Log.{Log}
+use Rattle.word_rule.specs.declared.log.Receipts.{Receipts}
+use Rattle.word_rule.specs.declared.log.Terms.{Terms}
+use Rattle.word_rule.proofs.Spells.{reads}
+use Rattle.node_store.specs.Free.{GivesFree, IsSettled, after_linking, after_setting, held_word}
+use Rattle.node_store.proofs.Settled.{settles_free}
+use Rattle.btree_change.specs.declared.descent.Held.{Held}
+use Rattle.btree_change.specs.declared.lift.TwoNodes.{TwoNodes}
+use Rattle.btree_change.specs.Paths.{StepsOnNodes}
+use Rattle.btree_change.specs.Splits.{GivesBack, HoldsFull, HoldsFullAlone, HoldsOneFree, KeepsHeld, StaysHeld, TakesRoom, TakesTwo, with_release_less}
+use Rattle.btree_change.proofs.Descending.{steps_none, steps_then}
+use Rattle.btree_change.proofs.Descents.{steps_of_load}
+use Rattle.btree_change.proofs.HeldParts.{AreFar, dropped, place_of_lock}
+use Rattle.btree_change.proofs.LeafCommits.{all_stay}
+use Rattle.btree_change.proofs.LettingGo.{ExchangeLaw}
+use Rattle.btree_change.proofs.Rooms.{found_there, is_full_count, more_loads}
+use Rattle.btree_change.proofs.SplitEnds.{less_release_then}
+use Rattle.btree_change.proofs.Storing.{edited_at, found_at}
+
+-- What steps on the node of the first lock, which isn't live, leave: the other locks, what is out,
+-- and the loads before.
+record IsAround (n : ℕ) (above : List Holding) (v w : Log) : Type 0 where
+  pub lock : Holding
+  pub held : w.holdings.held ≡ lock ∷ above
+  pub node : lock.node ≡ n
+  pub unmarked : lock.mark ≡ None
+  pub out : w.holdings.out ≡ v.holdings.out
+  pub more : List LoadEvent
+  pub loads : w.trace.loads ≡ v.trace.loads ++ more
+  pub same : (k : CallerData) → StepsOnNodes (record k { log = v }) (record k { log = w })
+
+around_then : (n : ℕ) (above : List Holding) (u v w : Log) → IsAround n above u v → IsAround n above v w → IsAround n above u w
+around_then n above u v w a b = record {
+  lock = b.lock;
+  held = b.held;
+  node = b.node;
+  unmarked = b.unmarked;
+  out = b.out ∙ a.out;
+  more = a.more ++ b.more;
+  loads = b.loads ∙ (ap (λ ls. ls ++ b.more) a.loads ∙ append_assoc u.trace.loads a.more b.more);
+  same = λ k. steps_then (record k { log = u }) (record k { log = v }) (record k { log = w }) (a.same k) (b.same k);
+}
+
+around_load : (n : ℕ) (above : List Holding) (u v : Log) (at found : ℕ) → IsAround n above u v → IsAround n above u (after_node_load n at found v)
+around_load n above u v at found a = around_then n above u v (after_node_load n at found v) a (record {
+  lock = a.lock;
+  held = a.held;
+  node = a.node;
+  unmarked = a.unmarked;
+  out = refl;
+  more = load_of v (node_place n + at) found ∷ [];
+  loads = refl;
+  same = λ k. record { table = refl; left = refl; terms = refl; role = refl; past = refl; budget = refl; receipts = refl; loader = refl; made = refl; lineage = refl };
+})
+
+around_head : (n : ℕ) (above : List Holding) (u v : Log) (found : ℕ) → IsAround n above u v → IsAround n above u (after_head_load found v)
+around_head n above u v found a = around_then n above u v (after_head_load found v) a (record {
+  lock = a.lock;
+  held = a.held;
+  node = a.node;
+  unmarked = a.unmarked;
+  out = refl;
+  more = load_of v HEAD found ∷ [];
+  loads = refl;
+  same = λ k. record { table = refl; left = refl; terms = refl; role = refl; past = refl; budget = refl; receipts = refl; loader = refl; made = refl; lineage = refl };
+})
+
+around_store : (n : ℕ) (above : List Holding) (u v : Log) (at value : ℕ) → AreFar n above → IsAround n above u v → IsAround n above u (after_node_store n at value v)
+around_store n above u v at value far a = around_then n above u v (after_node_store n at value v) a (subst (IsAround n above v) (sym plain) (record {
+  lock = store_in at value a.lock;
+  held = ap (edited n (store_in at value)) a.held ∙ edited_at n (store_in at value) [] a.lock above a.node tt far;
+  node = a.node;
+  unmarked = a.unmarked;
+  out = refl;
+  more = [];
+  loads = sym (append-nil v.trace.loads);
+  same = λ k. record { table = refl; left = refl; terms = refl; role = refl; past = refl; budget = refl; receipts = refl; loader = refl; made = refl; lineage = refl };
+}))
+  where
+    never : (b : Bool) → (b && false) ≡ false
+    never true = refl
+    never false = refl
+
+    dead : marked_in v.holdings.held n ≡ false
+    dead = ap is_marked (ap (held_of n) a.held ∙ found_at n [] a.lock above a.node tt) ∙ ap is_some a.unmarked
+
+    plain : after_node_store n at value v ≡ stored_log n at value v
+    plain = ap (λ b. if b then settle None (stored_log n at value v) else stored_log n at value v) (ap (λ b. (at == 1) && (value == 2) && b) dead ∙ never ((at == 1) && (value == 2)))
+
+around_setting : (n : ℕ) (above : List Holding) (u v : Log) (at value : ℕ) → AreFar n above → IsAround n above u v → IsAround n above u (after_setting n at value v)
+around_setting n above u v at value far a = go (held_word n at v == value)
+  where
+    go : (b : Bool) → IsAround n above u (if b then after_node_load n at (held_word n at v) v else after_node_store n at value (after_node_load n at (held_word n at v) v))
+    go true = around_load n above u v at (held_word n at v) a
+    go false = around_store n above u (after_node_load n at (held_word n at v) v) at value far (around_load n above u v at (held_word n at v) a)
+
+linked : (n head : ℕ) (above : List Holding) (v : Log) → AreFar n above → IsAround n above v v → IsAround n above v (after_linking n head v)
+linked n head above v far a =
+    let one = around_setting n above v v 1 2 far a in
+    let two = around_setting n above v (after_setting n 1 2 v) 2 0 far one in
+    around_store n above v (after_head_load head (after_setting n 2 0 (after_setting n 1 2 v))) 6 head far (around_head n above v (after_setting n 2 0 (after_setting n 1 2 v)) head two)
+
+-- a marked lock that has settled stays so where nothing is exchanged
+abbrev IsLiveSettled : Holding → Type 0
+IsLiveSettled a = IsSome a.mark × SpellsNode a.words a.settled
+
+still : (a : Holding) → IsLiveSettled a → exchange nothing_reached nothing_reached a ≡ a
+still a s = (λ i. record a { settled = (ap (λ b. if b then a.settled else now_of a (spelled a.words)) s.0) i })
+
+module _ (law : ExchangeLaw) (n head : ℕ) (h : Holding) (above : List Holding) (k : CallerData) (held : k.log.holdings.held ≡ h ∷ above) (node : h.node ≡ n) (unmarked : h.mark ≡ None) (far : AreFar n above) (live : AllByRecursion IsLiveSettled above) where
+  start : IsAround n above k.log k.log
+  start = record { lock = h; held = held; node = node; unmarked = unmarked; out = refl; more = []; loads = sym (append-nil k.log.trace.loads); same = λ z. steps_none (record z { log = k.log }) }
+
+  around : IsAround n above k.log (after_linking n head k.log)
+  around = linked n head above k.log far start
+
+  abbrev given : Log
+  given = after_give n (after_linking n head k.log)
+
+  all_marked : (locks : List Holding) → AllByRecursion IsLiveSettled locks → AllByRecursion (λ (a : Holding). IsSome a.mark → SpellsNode a.words a.settled) locks
+  all_marked [] all = tt
+  all_marked (a ∷ locks) all = ((λ _. all.0.1), all_marked locks all.1)
+
+  settled : IsSettled given
+  settled = subst (AllByRecursion (λ (a : Holding). IsSome a.mark → SpellsNode a.words a.settled)) (sym around.held) ((λ m. absurd (true≢false (sym m ∙ ap is_some around.unmarked))), all_marked above live)
+
+  free : settle None given ≡ settle_free given
+  free = settles_free law given settled
+
+  -- what is left
+  pub given_back : (k' : CallerData) → k' ≡ record k { log = after_node_release n (after_give n (after_linking n head k.log)) }
+      → (k'.log.holdings.held ≡ above) × (k'.log.holdings.out ≡ all_but n k.log.holdings.out) × ((more : List LoadEvent) × (k'.log.trace.loads ≡ k.log.trace.loads ++ more)) × StepsOnNodes (with_release_less k) k'
+  given_back k' is =
+      let whole : k' ≡ record k { log = record (after_node_release_same n (settle_free given)) { budget = after_spending given.budget } } = is ∙ ap (λ (u : Log). record k { log = record (after_node_release_same n u) { budget = after_spending u.budget } }) free in (
+        ap (λ (z : CallerData). z.log.holdings.held) whole
+            ∙ (ap (λ hs. without_lock n (map (exchange nothing_reached nothing_reached) hs)) around.held
+            ∙ (ap (λ hs. without_lock n (exchange nothing_reached nothing_reached around.lock ∷ hs)) (all_stay (exchange nothing_reached nothing_reached) IsLiveSettled still above live)
+            ∙ dropped n [] (exchange nothing_reached nothing_reached around.lock) above around.node tt far)),
+        ap (λ (z : CallerData). z.log.holdings.out) whole ∙ ap (all_but n) around.out,
+        (around.more, ap (λ (z : CallerData). z.log.trace.loads) whole ∙ around.loads),
+        subst (StepsOnNodes (with_release_less k)) (sym whole) (released (around.same k)),
+      )
+    where
+      released : StepsOnNodes k (record k { log = after_linking n head k.log }) → StepsOnNodes (with_release_less k) (record k { log = record (after_node_release_same n (settle_free given)) { budget = after_spending given.budget } })
+      released s = record { table = s.table; left = s.left; terms = s.terms; role = s.role; past = s.past; budget = ap after_spending s.budget; receipts = s.receipts; loader = s.loader; made = s.made; lineage = s.lineage }
+
+-- after a load of a word of the node
+pub gives_back : ExchangeLaw → (n found : ℕ) (k k1 k' : CallerData) → HoldsOneFree n k.log.holdings → k1 ≡ record k { log = after_node_load n 2 found k.log } → OutTells n k.log → GivesFree n k1 k' → GivesBack k k'
+gives_back law n found k k1 k' h load tells (head, is) =
+    let same : k1.log.holdings ≡ k.log.holdings = ap (λ (z : CallerData). z.log.holdings) load in
+    let unmarked = subst (AllByRecursion (λ (a : Holding). a.node ≡ n → a.mark ≡ None)) h.held (tells (subst (λ ns. IsTrue (is_among ns n)) (sym h.out) (rw (eq-eqb n n refl) refl))).1 in
+    let r = given_back law n head h.lock (h.root ∷ []) k1 (ap (λ hs. hs.held) same ∙ h.held) h.node (unmarked.0 h.node) ((λ e. h.never_root (sym e ∙ h.is_root)), tt) ((h.marked, h.spells), tt) k' is in record {
+      held = r.0 ∙ sym (ap (drop 1) h.held);
+      out = r.1 ∙ (ap (λ hs. all_but n hs.out) same ∙ (ap (all_but n) h.out ∙ ap (λ b. if not b then n ∷ [] else []) (eq-eqb n n refl)));
+      more = (load_of k.log (node_place n + 2) found ∷ []) ++ r.2.0;
+      loads = r.2.1 ∙ (ap (λ ls. ls ++ r.2.0) (ap (λ (z : CallerData). z.log.trace.loads) load) ∙ append_assoc k.log.trace.loads (load_of k.log (node_place n + 2) found ∷ []) r.2.0);
+      same = steps_then (with_release_less k) (with_release_less k1) k' (less_release_then k k1 (steps_of_load n 2 found k k1 load)) r.3;
+    }
+
+-- the root alone is a full node on the way
+abbrev pub full_alone : (t : Terms) (root : Held) (pc : ℕ) (k : CallerData) → HoldsFullAlone t root pc k.log.holdings → HoldsFull t root pc k.log.holdings
+full_alone t root pc k h = record {
+  lock = h.lock;
+  found = ap (held_of root.node) h.held ∙ found_at root.node [] h.lock [] h.here.node tt;
+  here = h.here;
+  is_full = h.is_full;
+  on_way = h.on_way;
+  within = h.within;
+  out = inl h.out;
+}
+
+-- the full root of the highest level
+pub highest : (t : Terms) (root : Held) (pc : ℕ) (k k1 k2 : CallerData) (count level : ℕ) → HoldsFullAlone t root pc k.log.holdings → root.content.level ≡ 12 → k1 ≡ record k { log = after_node_load root.node 5 count k.log } → HeldTells root.node 5 count k.log
+    → k2 ≡ record k1 { log = after_node_load root.node 2 level k1.log } → HeldTells root.node 2 level k1.log → StaysHeld k k2 × HadNoRoom pc (length k.log.receipts.own) k2.log.trace.loads
+highest t root pc k k1 k2 count level h top load1 tells1 load2 tells2 =
+    let full = full_alone t root pc k h in
+    let same : k1.log.holdings ≡ k.log.holdings = ap (λ (z : CallerData). z.log.holdings) load1 in
+    let whole : k2 ≡ record k { log = after_node_load root.node 2 level (after_node_load root.node 5 count k.log) } = load2 ∙ ap (λ (z : CallerData). record z { log = after_node_load root.node 2 level z.log }) load1 in
+    let count_event = load_of k.log (node_place root.node + 5) count in
+    let cause = load_of (after_node_load root.node 5 count k.log) (node_place root.node + 2) level in
+    let level_word : node_word h.lock.words 2 ≡ level = subst (λ o. IfSome o (λ (z : Holding). node_word z.words 2 ≡ level)) full.found (subst (λ hs. IfSome (held_of root.node hs.held) (λ (z : Holding). node_word z.words 2 ≡ level)) same tells2) in (
+      subst (StaysHeld k) (sym whole) (record { held = refl; out = refl; same = record { table = refl; left = refl; terms = refl; role = refl; past = refl; budget = refl; receipts = refl; loader = refl; made = refl; lineage = refl } }),
+      record {
+        before = k.log.trace.loads;
+        count = count_event;
+        between = [];
+        cause = cause;
+        behind = [];
+        in_order = ap (λ (z : CallerData). z.log.trace.loads) whole ∙ append_assoc k.log.trace.loads (count_event ∷ []) (cause ∷ []);
+        since = refl;
+        node = h.lock;
+        held = found_there root.node k.log.holdings.held h.lock full.found;
+        full = is_full_count t root pc k k1 count full load1 tells1;
+        on_way = subst (IsInFences pc) (sym h.here.settled) h.on_way;
+        last = tt;
+        stores = [];
+        stored = sym (append-nil k.log.trace.stores);
+        unstored = refl;
+        shut = inr (
+          ap (λ n. node_place n + 2) h.is_root,
+          sym level_word ∙ (sym (reads h.lock.words root.content h.here.spells).level ∙ top),
+          (h.lock, (found_there root.node k.log.holdings.held h.lock full.found, h.here.node ∙ h.is_root, subst (SpellsNode h.lock.words) (sym h.here.settled) h.here.spells, ap (λ (z : NodeData). z.level) h.here.settled ∙ top)),
+        );
+      },
+    )
+
+-- the first of two was found, and the second one not: it was given back
+pub kept_after : (t : Terms) (root : Held) (pc left : ℕ) (k k1 k2 k3 : CallerData) → HoldsFullAlone t root pc k.log.holdings → TakesRoom left k k1 → StaysHeld k1 k2 → GivesBack k2 k3 → KeepsHeld k k3
+kept_after t root pc left k k1 k2 k3 h one stays back = record {
+  held = back.held ∙ (ap (drop 1) stays.held ∙ ap (drop 1) one.held);
+  out = back.out ∙ sym h.out;
+  same = inr (steps_then (with_release_less k) (with_release_less k2) k3 (less_release_then k k2 (steps_then k k1 k2 one.same stays.same)) back.same);
+}
+
+-- where none was free then, the loads say so
+pub none_left : (t : Terms) (root : Held) (pc left : ℕ) (k k1 k2 k3 : CallerData) → HoldsFullAlone t root pc k.log.holdings → TakesRoom left k k1 → StaysHeld k1 k2 × HadNoRoom pc (length k1.log.receipts.own) k2.log.trace.loads → GivesBack k2 k3 → KeepsHeld k k3 × HadNoRoom pc (length k.log.receipts.own) k3.log.trace.loads
+none_left t root pc left k k1 k2 k3 h one (stays, cause) back = (
+  kept_after t root pc left k k1 k2 k3 h one stays back,
+  subst (HadNoRoom pc (length k.log.receipts.own)) (sym back.loads) (more_loads pc (length k.log.receipts.own) k2.log.trace.loads back.more (subst (λ (rs : Receipts). HadNoRoom pc (length rs.own) k2.log.trace.loads) one.same.receipts cause)),
+)
+
+-- both were found, the second one not held before
+pub two_taken : (t : Terms) (root : Held) (pc : ℕ) (two : TwoNodes) (k k1 k2 : CallerData) → HoldsFullAlone t root pc k.log.holdings → root.content.level ≢ 12 → TakesRoom two.left k k1 → TakesRoom two.right k1 k2 → held_of two.right k1.log.holdings.held ≡ None → (root.content.level < 12) × TakesTwo two k k2
+two_taken t root pc two k k1 k2 h below one next unheld = (
+  (let l = (place_of_lock t root.node root.content root.changed h.lock h.here).1.height h.is_root in omega (arith, l, below)),
+  record {
+    right = next.new;
+    left = one.new;
+    held = next.held ∙ ap (λ hs. next.new ∷ hs) one.held;
+    out = next.out ∙ ap (λ ns. two.right ∷ ns) one.out;
+    left_free = one.free;
+    right_free = next.free;
+    left_within = one.within;
+    right_within = subst (λ (z : Terms). two.right < z.nodes) one.same.terms next.within;
+    different = λ e. none-some one.new (sym unheld ∙ (ap (held_of two.right) one.held ∙ found_at two.right [] one.new k.log.holdings.held (one.free.node ∙ e) tt));
+    same = steps_then k k1 k2 one.same next.same;
+  },
+)

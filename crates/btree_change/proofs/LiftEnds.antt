@@ -1,0 +1,198 @@
+-- A lifted root settles when the half that isn't on the way is let go of: what is held then.
+use Rattle.std.proofs.Common.{◌≡◌, ◌≢◌, ℕ, ◌+◌, ◌-◌, ◌<◌, ◌≤◌, List, [], ◌∷◌, ◌++◌, map, sym, refl, ap, ◌∙◌, subst, arith, Bool, true, false, nat_le, Option, Some, None, IsSome, IfSome, Contains, if◌then◌else◌}
+use Rattle.std.proofs.lemmas.Bool.{leb-true, leb-false}
+use Rattle.tree_shape.specs.NodeData.{NodeData, IsInFences}
+use Rattle.tree_shape.specs.Numbers.{is_among}
+use Rattle.tree_shape.specs.Steps.{middle, middle_fence}
+use Rattle.tree_shape.specs.Trees.{Contents, branch}
+use Rattle.word_rule.specs.CallerData.{CallerData}
+use Rattle.word_rule.specs.declared.log.Holding.{Holding}
+use Rattle.word_rule.specs.declared.log.Holdings.{Holdings}
+use Rattle.word_rule.specs.declared.log.Log.{Log}
+use Rattle.word_rule.specs.declared.log.Terms.{Terms}
+use Rattle.word_rule.specs.Exchange.{exchange}
+use Rattle.word_rule.specs.Held.{held_of, without_lock}
+use Rattle.word_rule.specs.NodeTells.{HolderTells, IsLiveNode}
+use Rattle.word_rule.specs.Sights.{after_node_load}
+use Rattle.word_rule.specs.Spelling.{SpellsNode}
+use Rattle.word_rule.specs.Steps.{MayRelease, after_node_release}
+use Rattle.btree_change.specs.declared.descent.Held.{Held}
+use Rattle.btree_change.specs.declared.lift.FullRoot.{FullRoot}
+use Rattle.btree_change.specs.declared.split.Split.{Split}
+use Rattle.btree_change.specs.Paths.{HasChildFor, IsSettledLock, StepsOnNodes}
+use Rattle.btree_change.specs.Splits.{HasRoom, HoldsFullRoot, IsHeldAs, LiftsRoot, half_for, other_half, root_for, root_parts_for, with_release_less}
+use Rattle.btree_change.proofs.Descending.{steps_then}
+use Rattle.btree_change.proofs.Descents.{steps_of_load}
+use Rattle.btree_change.proofs.HeldParts.{AreFar, dropped, is_first, is_second, is_third, told_place}
+use Rattle.btree_change.proofs.Lifting.{IsLiftWritten}
+use Rattle.btree_change.proofs.Settling.{SettlingLaws, may_release, released, settled_group, settled_new}
+use Rattle.btree_change.proofs.SplitEnds.{less_release_then, settled_lock}
+use Rattle.btree_change.proofs.SplitParts.{are_halves}
+use Rattle.btree_change.proofs.Storing.{found_at}
+
+-- What is left of the halves, and what is said of the one on the way.
+record Ends (t : Terms) (full : FullRoot) (pc : ℕ) (held : List Holding) (upper : Holding) (way : Held) (other : ℕ) (k : CallerData) : Type 0 where
+  pub lock : Holding
+  pub left : without_lock other held ≡ lock ∷ upper ∷ []
+  pub node : lock.node ≡ way.node
+  pub settled : lock.settled ≡ way.content
+  pub spells : SpellsNode lock.words way.content
+  pub stored : lock.stored ≡ way.changed
+  pub marked : IsSome lock.mark
+  pub far : way.node ≢ full.root.node
+  pub within : way.node < t.nodes
+  pub may : MayRelease other k.log
+  pub here : IsInFences pc way.content
+  pub leads : HasChildFor (root_parts_for full).above pc way.node
+  pub lower : way.content.level < (root_parts_for full).above.level
+  pub room : HasRoom way.content.body
+
+module _ (laws : SettlingLaws) (t : Terms) (full : FullRoot) (pc : ℕ) (f : Contents) (live : ℕ → Bool) (g : Contents) (k k' : CallerData) (w : IsLiftWritten t full f live g k k') (hs : Holdings) (h : HoldsFullRoot t full pc hs) where
+  abbrev reached : List ℕ
+  reached = 0 ∷ full.left ∷ full.right ∷ []
+
+  abbrev v : Log
+  v = record k'.log { holdings = record { held = w.right ∷ w.left ∷ w.upper ∷ []; out = full.right ∷ full.left ∷ []; head = k'.log.holdings.head } }
+
+  v_is : v ≡ k'.log
+  v_is = (λ i. record k'.log { holdings = record { held = sym w.held i; out = sym w.out i; head = k'.log.holdings.head } })
+
+  abbrev right' : Holding
+  right' = settled_lock w.right (root_parts_for full).right
+
+  abbrev left' : Holding
+  left' = settled_lock w.left (root_parts_for full).left
+
+  abbrev upper' : Holding
+  upper' = settled_lock w.upper (root_parts_for full).above
+
+  settles : map (exchange (is_among (0 ∷ [])) (is_among reached)) (w.right ∷ w.left ∷ w.upper ∷ []) ≡ right' ∷ left' ∷ upper' ∷ []
+  settles = (λ i.
+      settled_new (0 ∷ []) reached w.right (root_parts_for full).right w.right_mark (ap (is_among reached) w.right_node ∙ is_third 0 full.left full.right []) w.right_spells i
+      ∷ settled_new (0 ∷ []) reached w.left (root_parts_for full).left w.left_mark (ap (is_among reached) w.left_node ∙ is_second 0 full.left (full.right ∷ [])) w.left_spells i
+      ∷ settled_group (0 ∷ []) reached w.upper (root_parts_for full).above (ap (is_among (0 ∷ [])) w.upper_zero ∙ is_first 0 []) (ap (is_among reached) w.upper_zero ∙ is_first 0 (full.left ∷ full.right ∷ [])) w.upper_spells i
+      ∷ [])
+
+  may_go : (n : ℕ) (a : Holding) (s : NodeData) → held_of n (w.right ∷ w.left ∷ w.upper ∷ []) ≡ Some a → SpellsNode a.words s → MayRelease n k'.log
+  may_go n a s found spells = subst (MayRelease n) v_is (may_release laws v f live 0 (0 ∷ []) (full.left ∷ full.right ∷ []) g reached w.change n a found (subst IsSome (sym spells) refl))
+
+  right_left : w.right.node ≢ full.left
+  right_left e = w.different (sym e ∙ w.right_node)
+
+  upper_left : w.upper.node ≢ full.left
+  upper_left e = w.left_zero (sym e ∙ w.upper_zero)
+
+  upper_right : w.upper.node ≢ full.right
+  upper_right e = w.right_zero (sym e ∙ w.upper_zero)
+
+  root_zero : full.root.node ≡ 0
+  root_zero = h.is_root
+
+  left_end : nat_le pc (middle_fence full.root.content) ≡ true → Ends t full pc (right' ∷ left' ∷ upper' ∷ []) upper' (record { node = full.left; content = (root_parts_for full).left; changed = true }) full.right k'
+  left_end e = record {
+    lock = left';
+    left = dropped full.right [] right' (left' ∷ upper' ∷ []) w.right_node tt ((λ z. w.different (sym w.left_node ∙ z)), (upper_right, tt));
+    node = w.left_node;
+    settled = refl;
+    spells = w.left_spells;
+    stored = w.left_stored;
+    marked = refl;
+    far = λ z. w.left_zero (z ∙ root_zero);
+    within = h.left_within;
+    may = may_go full.right w.right (root_parts_for full).right (found_at full.right [] w.right (w.left ∷ w.upper ∷ []) w.right_node tt) w.right_spells;
+    here = (h.here.0, leb-true pc (middle_fence full.root.content) e);
+    leads = (branch full.left ((root_parts_for full).above.level - 1) full.root.content.low (middle_fence full.root.content), ((0, omega arith, refl), refl, h.here.0, leb-true pc (middle_fence full.root.content) e));
+    lower = omega arith;
+    room = (are_halves full.root.content.body h.is_full).left_room;
+  }
+
+  right_end : nat_le pc (middle_fence full.root.content) ≡ false → Ends t full pc (right' ∷ left' ∷ upper' ∷ []) upper' (record { node = full.right; content = (root_parts_for full).right; changed = true }) full.left k'
+  right_end e =
+      let above : middle_fence full.root.content + 1 ≤ pc = (let z = leb-false pc (middle_fence full.root.content) e in omega (arith, z)) in record {
+        lock = right';
+        left = dropped full.left (right' ∷ []) left' (upper' ∷ []) w.left_node (right_left, tt) (upper_left, tt);
+        node = w.right_node;
+        settled = refl;
+        spells = w.right_spells;
+        stored = w.right_stored;
+        marked = refl;
+        far = λ z. w.right_zero (z ∙ root_zero);
+        within = h.right_within;
+        may = may_go full.left w.left (root_parts_for full).left (found_at full.left (w.right ∷ []) w.left (w.upper ∷ []) w.left_node (right_left, tt)) w.left_spells;
+        here = (above, h.here.1);
+        leads = (branch full.right ((root_parts_for full).above.level - 1) (middle_fence full.root.content + 1) full.root.content.high, ((1, omega arith, refl), refl, above, h.here.1));
+        lower = omega arith;
+        room = (are_halves full.root.content.body h.is_full).right_room;
+      }
+
+  ends : Ends t full pc (right' ∷ left' ∷ upper' ∷ []) upper' (half_for full.left full.right pc full.root.content) (other_half full.left full.right pc full.root.content) k'
+  ends = go (nat_le pc (middle_fence full.root.content)) refl
+    where
+      go : (b : Bool) → nat_le pc (middle_fence full.root.content) ≡ b → Ends t full pc (right' ∷ left' ∷ upper' ∷ []) upper' (if b then record { node = full.left; content = (root_parts_for full).left; changed = true } else record { node = full.right; content = (root_parts_for full).right; changed = true }) (if b then full.right else full.left) k'
+      go true e = left_end e
+      go false e = right_end e
+
+  pub may_let_go : MayRelease (other_half full.left full.right pc full.root.content) k'.log
+  may_let_go = ends.may
+
+  -- after the release
+  record IsReleased (lock : Holding) (k5 : CallerData) : Type 0 where
+    pub held : k5.log.holdings.held ≡ lock ∷ upper' ∷ []
+    pub out : k5.log.holdings.out ≡ []
+    pub same : StepsOnNodes (with_release_less k') k5
+
+  is_released : (k5 : CallerData) → k5 ≡ record k' { log = after_node_release (other_half full.left full.right pc full.root.content) k'.log } → IsReleased ends.lock k5
+  is_released k5 is =
+      let other = other_half full.left full.right pc full.root.content in
+      let log = ap (after_node_release other) (sym v_is) ∙ released laws v f live 0 (0 ∷ []) (full.left ∷ full.right ∷ []) g reached w.change other in
+      let whole = is ∙ ap (λ (z : Log). record k' { log = z }) log in record {
+        held = ap (λ (z : CallerData). z.log.holdings.held) whole ∙ (ap (without_lock other) settles ∙ ends.left);
+        out = ap (λ (z : CallerData). z.log.holdings.out) whole ∙ w.none;
+        same = subst (StepsOnNodes (with_release_less k')) (sym whole) (record { table = refl; left = refl; terms = refl; role = refl; past = refl; budget = refl; receipts = refl; loader = refl; made = refl; lineage = refl });
+      }
+
+  -- and after a load of both that are held
+  pub lift_so : k.log.terms ≡ t
+      → (k5 k6 k7 : CallerData) (split : Split) (found6 found7 : ℕ) → k5 ≡ record k' { log = after_node_release (other_half full.left full.right pc full.root.content) k'.log }
+      → split.way ≡ half_for full.left full.right pc full.root.content → split.parent ≡ root_for full
+      → k6 ≡ record k5 { log = after_node_load (half_for full.left full.right pc full.root.content).node 2 found6 k5.log } → HolderTells (half_for full.left full.right pc full.root.content).node k5.log
+      → k7 ≡ record k6 { log = after_node_load full.root.node 2 found7 k6.log } → HolderTells full.root.node k6.log
+      → LiftsRoot t full pc split k k7
+  lift_so terms k5 k6 k7 split found6 found7 is5 way_is parent_is is6 told6 is7 told7 =
+      let way = half_for full.left full.right pc full.root.content in
+      let r = is_released k5 is5 in
+      let steps5 : StepsOnNodes (with_release_less k) k5 = steps_then (with_release_less k) (with_release_less k') k5 (less_release_then k k' w.same) r.same in
+      let steps6 : StepsOnNodes (with_release_less k) k6 = steps_then (with_release_less k) k5 k6 steps5 (steps_of_load way.node 2 found6 k5 k6 is6) in
+      let steps7 : StepsOnNodes (with_release_less k) k7 = steps_then (with_release_less k) k6 k7 steps6 (steps_of_load full.root.node 2 found7 k6 k7 is7) in
+      let held6 : k6.log.holdings.held ≡ ends.lock ∷ upper' ∷ [] = ap (λ (z : CallerData). z.log.holdings.held) is6 ∙ r.held in
+      let found_way : held_of way.node k5.log.holdings.held ≡ Some ends.lock = ap (held_of way.node) r.held ∙ found_at way.node [] ends.lock (upper' ∷ []) ends.node tt in
+      let found_up : held_of full.root.node k6.log.holdings.held ≡ Some upper' = ap (held_of full.root.node) held6 ∙ found_at full.root.node (ends.lock ∷ []) upper' [] w.upper_node ((λ e. ends.far (sym ends.node ∙ e)), tt) in record {
+        lower = ends.lock;
+        upper = upper';
+        held = ap (λ (z : CallerData). z.log.holdings.held) is7 ∙ held6;
+        out = ap (λ (z : CallerData). z.log.holdings.out) is7 ∙ (ap (λ (z : CallerData). z.log.holdings.out) is6 ∙ r.out);
+        way_held = subst (λ z. IsHeldAs t z ends.lock) (sym way_is) (record {
+          node = ends.node;
+          settled = ends.settled;
+          spells = ends.spells;
+          stored = ends.stored;
+          marked = ends.marked;
+          live = told_place t way.node way.content ends.lock k5.log (steps5.terms ∙ terms) found_way ends.node ends.settled told6;
+        });
+        parent_held = subst (λ z. IsHeldAs t z upper') (sym parent_is) (record {
+          node = w.upper_node;
+          settled = refl;
+          spells = w.upper_spells;
+          stored = w.upper_stored;
+          marked = refl;
+          live = told_place t full.root.node (root_parts_for full).above upper' k6.log (steps6.terms ∙ terms) found_up w.upper_node refl told7;
+        });
+        way = way_is;
+        parent = parent_is;
+        within = subst (λ (z : Held). z.node < t.nodes) (sym way_is) ends.within;
+        here = subst (λ (z : Held). IsInFences pc z.content) (sym way_is) ends.here;
+        leads = subst (λ (z : Held). HasChildFor split.parent.content pc z.node) (sym way_is) (subst (λ (z : Held). HasChildFor z.content pc way.node) (sym parent_is) ends.leads);
+        lower_level = subst (λ (z : Held). z.content.level < split.parent.content.level) (sym way_is) (subst (λ (z : Held). way.content.level < z.content.level) (sym parent_is) ends.lower);
+        room = subst (λ (z : Held). HasRoom z.content.body) (sym way_is) ends.room;
+        same = steps7;
+      }

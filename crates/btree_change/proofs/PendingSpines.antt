@@ -1,0 +1,184 @@
+-- A spine that was written is let go of, from its leaf up: with the leaf, all that is held settles.
+use Rattle.std.proofs.Common.{◌≡◌, ◌≢◌, ℕ, zero, ◌+◌, ◌-◌, ◌*◌, ◌<◌, List, [], ◌∷◌, ◌++◌, length, map, append_assoc, refl, ap, sym, ◌∙◌, subst, arith, Bool, true, false, not, Some, None, IsSome, IsSomeAnd, IsTrue, eq-eqb, ne_eqb, cond, if◌then◌else◌}
+use Rattle.std.specs.List.{AllByRecursion}
+use Rattle.tree_shape.specs.declared.pair.Pair.{Pair}
+use Rattle.tree_shape.specs.NodeData.{NodeData, pairs_of}
+use Rattle.tree_shape.specs.Numbers.{is_among}
+use Rattle.tree_shape.specs.Steps.{first_child}
+use Rattle.word_rule.specs.CallerData.{CallerData, surplus}
+use Rattle.word_rule.specs.declared.log.Budget.{Budget}
+use Rattle.word_rule.specs.declared.log.Holding.{Holding}
+use Rattle.word_rule.specs.declared.log.Holdings.{Holdings}
+use Rattle.word_rule.specs.declared.log.Log.{Log}
+use Rattle.word_rule.specs.declared.log.Terms.{Terms}
+use Rattle.word_rule.specs.Exchange.{Differs, after_exchange, group_of, is_lawful, settle, settle_free, top_of}
+use Rattle.word_rule.specs.Held.{held_of, without_lock}
+use Rattle.word_rule.specs.Logs.{after_spending}
+use Rattle.word_rule.specs.Spelling.{spelled, SpellsNode}
+use Rattle.word_rule.specs.Steps.{MayRelease, after_node_release, after_node_release_same}
+use Rattle.node_store.specs.Holding.{ReadsHeld}
+use Rattle.btree_change.specs.Paths.{StepsOnNodes}
+use Rattle.btree_change.specs.Spines.{AreApart, IsLockAt, IsPending, IsReadable, IsSpine, KeepsLoads, LetsGoSettled}
+use Rattle.btree_change.proofs.Descending.{steps_of_read}
+use Rattle.btree_change.proofs.FreshSpines.{all_parts, apart_mid, leaf_of, top_of as top_below}
+use Rattle.btree_change.proofs.LettingGo.{ExchangeLaw, IsSettled, settles_nothing}
+use Rattle.btree_change.proofs.LockedSpines.{found_head, loads_same, may_read_found, reads_spelled}
+use Rattle.btree_change.proofs.WrittenSpines.{in_mid}
+
+pub loads_of_release : (n : ℕ) (k k' : CallerData) → k' ≡ record k { log = after_node_release n k.log } → KeepsLoads k k'
+loads_of_release n k k' is = loads_same k k' (ap (λ (z : CallerData). z.log.trace.loads) is ∙ go (is_lawful k.log None))
+  where
+    go : (b : Bool) → (if b then after_exchange k.log (top_of k.log None) (is_among (group_of k.log None)) else settle_free k.log).trace.loads ≡ k.log.trace.loads
+    go true = refl
+    go false = refl
+
+-- a node was let go of, where this is what settled
+released_so : (n : ℕ) (k k' : CallerData) (u : Log) → settle None k.log ≡ u → k' ≡ record k { log = after_node_release n k.log } → k' ≡ record k { log = record (after_node_release_same n u) { budget = after_spending u.budget } }
+released_so n k k' u settled is = is ∙ ap (λ (z : Log). record k { log = record (after_node_release_same n z) { budget = after_spending z.budget } }) settled
+
+-- the other locks stay, each with what it settled to
+without_settled : (settled : Holding → Holding) → ((h : Holding) → (settled h).node ≡ h.node) → (n : ℕ) (base : List Holding) → AllByRecursion (λ (a : Holding). a.node ≢ n) base → without_lock n (map settled base) ≡ map settled base
+without_settled settled keeps n [] far = refl
+without_settled settled keeps n (a ∷ base) far =
+    ap (λ b. cond (not b) (settled a ∷ without_lock n (map settled base)) (without_lock n (map settled base))) (ne_eqb (settled a).node n (λ e. far.0 (sym (keeps a) ∙ e)))
+    ∙ ap (λ hs. settled a ∷ hs) (without_settled settled keeps n base far.1)
+
+without_top : (settled : Holding → Holding) → ((h : Holding) → (settled h).node ≡ h.node) → (n : ℕ) (h : Holding) (base : List Holding) → h.node ≡ n → AllByRecursion (λ (a : Holding). a.node ≢ n) base → without_lock n (map settled (h ∷ base)) ≡ map settled base
+without_top settled keeps n h base is far =
+    ap (λ b. cond (not b) (settled h ∷ without_lock n (map settled base)) (without_lock n (map settled base))) (eq-eqb (settled h).node n (keeps h ∙ is)) ∙ without_settled settled keeps n base far
+
+map_settled : (settled : Holding → Holding) (hs : List Holding) → AllByRecursion (λ (h : Holding). SpellsNode (settled h).words (settled h).settled) hs → AllByRecursion IsSettled (map settled hs)
+map_settled settled [] all = tt
+map_settled settled (h ∷ hs) all = (all.0, map_settled settled hs all.1)
+
+module _ (t : Terms) (n level : ℕ) (k : CallerData) (p : IsPending t n level k.log.holdings) (zero_level : level ≡ 0) where
+  leaf : (h : Holding) × (IsLockAt n zero h × (p.locks ≡ h ∷ []))
+  leaf = leaf_of first_child n level p.locks zero_level p.spine
+
+  leaf_held : k.log.holdings.held ≡ leaf.0 ∷ p.base
+  leaf_held = p.held ∙ ap (λ xs. xs ++ p.base) leaf.1.1
+
+  leaf_each : IsReadable t leaf.0
+  leaf_each = (subst (AllByRecursion (IsReadable t)) leaf.1.1 p.each).0
+
+  leaf_far : AllByRecursion (λ (a : Holding). a.node ≢ n) p.base
+  leaf_far = subst (λ m. AllByRecursion (λ (a : Holding). a.node ≢ m) p.base) leaf.1.0.0 (subst AreApart leaf_held p.apart).0
+
+  pub leaf_inside : n < t.nodes
+  leaf_inside = subst (λ m. m < t.nodes) leaf.1.0.0 leaf_each.within
+
+  pub leaf_may : MayRelease n k.log
+  leaf_may = subst (λ o. IsSomeAnd o (λ (h : Holding). IsSome (spelled h.words) × (IsSome h.mark → Differs h → IsTrue (is_lawful k.log None)))) (sym (ap (held_of n) leaf_held ∙ found_head n leaf.0 p.base leaf.1.0.0))
+      (subst IsSome (sym leaf_each.spells) refl, λ marked differs. (p.settles k.log refl).0)
+
+  pub leaf_settles : (k' : CallerData) → k' ≡ record k { log = after_node_release n k.log } → LetsGoSettled p.settled p.base level k k'
+  leaf_settles k' is =
+      subst (LetsGoSettled p.settled p.base level k) (sym (released_so n k k' (record k.log { holdings = record k.log.holdings { held = map p.settled k.log.holdings.held; out = [] } }) (p.settles k.log refl).1 is)) (record {
+        table = refl;
+        left = refl;
+        terms = refl;
+        role = refl;
+        past = refl;
+        receipts = refl;
+        loader = refl;
+        made = refl;
+        lineage = refl;
+        budget = ap (λ x. record k.log.budget { credit = k.log.budget.credit - x }) (let e : 1 ≡ level + 1 = omega (arith, zero_level) in e);
+        held = ap (λ hs. without_lock n (map p.settled hs)) leaf_held ∙ without_top p.settled p.keeps n leaf.0 p.base leaf.1.0.0 leaf_far;
+        out = refl;
+      })
+
+module _ (t : Terms) (n level : ℕ) (k : CallerData) (p : IsPending t n level k.log.holdings) (some : level ≢ 0) where
+  top : (h : Holding) × (lower : List Holding) × (IsLockAt n level h × (p.locks ≡ lower ++ h ∷ []) × IsSpine first_child (level - 1) (first_child 0 (pairs_of h.settled)) lower)
+  top = top_below first_child n level p.locks some p.spine
+
+  held_is : k.log.holdings.held ≡ top.1 ++ (top.0 ∷ p.base)
+  held_is = p.held ∙ (ap (λ xs. xs ++ p.base) top.2.1 ∙ append_assoc top.1 (top.0 ∷ []) p.base)
+
+  apart : AreApart (top.1 ++ (top.0 ∷ p.base))
+  apart = subst AreApart held_is p.apart
+
+  each_all : AllByRecursion (IsReadable t) top.1 × AllByRecursion (IsReadable t) (top.0 ∷ [])
+  each_all = all_parts (IsReadable t) top.1 (top.0 ∷ []) (subst (AllByRecursion (IsReadable t)) top.2.1 p.each)
+
+  each : IsReadable t top.0
+  each = each_all.1.0
+
+  found : held_of n k.log.holdings.held ≡ Some top.0
+  found = ap (held_of n) held_is ∙ subst (λ m. held_of m (top.1 ++ (top.0 ∷ p.base)) ≡ Some top.0) top.2.0.0 (in_mid top.1 top.0 p.base apart)
+
+  pub top_inside : n < t.nodes
+  top_inside = subst (λ m. m < t.nodes) top.2.0.0 each.within
+
+  pub may_read_pending : IsSomeAnd (held_of n k.log.holdings.held) (λ z. IsSome (spelled z.words))
+  may_read_pending = may_read_found n each.content top.0 k found each.spells
+
+  far : AllByRecursion (λ (a : Holding). a.node ≢ n) p.base
+  far = subst (λ m. AllByRecursion (λ (a : Holding). a.node ≢ m) p.base) top.2.0.0 (apart_mid top.1 top.0 p.base apart).1
+
+  settled_all : AllByRecursion (λ (h : Holding). SpellsNode (p.settled h).words (p.settled h).settled) (top.0 ∷ p.base)
+  settled_all = (all_parts (λ (h : Holding). SpellsNode (p.settled h).words (p.settled h).settled) top.1 (top.0 ∷ p.base) (subst (AllByRecursion (λ (h : Holding). SpellsNode (p.settled h).words (p.settled h).settled)) held_is p.all)).1
+
+  module _ (k1 : CallerData) (shape : NodeData) (reads : ReadsHeld n k k1 shape) (same : k1.log.holdings ≡ k.log.holdings) where
+    is : each.content ≡ shape
+    is = reads_spelled n each.content shape top.0 k k1 found each.spells reads
+
+    pairs_is : pairs_of top.0.settled ≡ pairs_of shape
+    pairs_is = sym each.pairs ∙ ap pairs_of is
+
+    pub pending_pairs : 0 < length (pairs_of shape)
+    pending_pairs = subst (λ (ps : List Pair). 0 < length ps) pairs_is (each.some (let e = top.2.0.1 in omega (arith, e, some)))
+
+    steps1 : StepsOnNodes k k1
+    steps1 = steps_of_read n k k1 shape reads
+
+    pub surplus_below : level < surplus k → level - 1 < surplus k1
+    surplus_below enough = (let b = ap (λ (z : Budget). z.credit) steps1.budget in let l = steps1.left in let e = ap (λ z. 64 * z) l in omega (arith, enough, b, e))
+
+    pub pending_below : (child : ℕ) → child ≡ first_child 0 (pairs_of shape) → IsPending t child (level - 1) k1.log.holdings
+    pending_below child e = record {
+      settled = p.settled;
+      settles = λ v at. p.settles v (at ∙ same);
+      keeps = p.keeps;
+      all = subst (λ (z : Holdings). AllByRecursion (λ (h : Holding). SpellsNode (p.settled h).words (p.settled h).settled) z.held) (sym same) p.all;
+      locks = top.1;
+      base = top.0 ∷ p.base;
+      held = ap (λ (z : Holdings). z.held) same ∙ held_is;
+      spine = subst (λ c. IsSpine first_child (level - 1) c top.1) (ap (first_child 0) pairs_is ∙ sym e) top.2.2;
+      each = each_all.0;
+      apart = subst AreApart (sym (ap (λ (z : Holdings). z.held) same)) p.apart;
+    }
+
+    module _ (child : ℕ) (e : child ≡ first_child 0 (pairs_of shape)) (k2 : CallerData) (below : (spine : IsPending t child (level - 1) k1.log.holdings) → LetsGoSettled spine.settled spine.base (level - 1) k1 k2) where
+      gone : LetsGoSettled p.settled (top.0 ∷ p.base) (level - 1) k1 k2
+      unfolding pending_below
+      gone = below (pending_below child e)
+
+      pub top_may : MayRelease n k2.log
+      top_may = subst (λ o. IsSomeAnd o (λ (h : Holding). IsSome (spelled h.words) × (IsSome h.mark → Differs h → IsTrue (is_lawful k2.log None)))) (sym (ap (held_of n) gone.held ∙ found_head n (p.settled top.0) (map p.settled p.base) (p.keeps top.0 ∙ top.2.0.0)))
+          (subst IsSome (sym settled_all.0) refl, λ marked differs. absurd (differs settled_all.0))
+
+      pub top_surplus : level < surplus k → 0 < surplus k2
+      top_surplus enough = (let b = ap (λ (z : Budget). z.credit) steps1.budget in let c = ap (λ (z : Budget). z.credit) gone.budget in let l = ap (λ z. 64 * z) (gone.left ∙ steps1.left) in omega (arith, enough, b, c, l, some))
+
+      pub top_table : k2.table ≡ k.table
+      top_table = gone.table ∙ steps1.table
+
+      pub top_settles : ExchangeLaw → (k3 : CallerData) → k3 ≡ record k2 { log = after_node_release n k2.log } → LetsGoSettled p.settled p.base level k k3
+      top_settles law k3 now =
+          let none : settle None k2.log ≡ k2.log = settles_nothing law k2.log (subst (AllByRecursion IsSettled) (sym gone.held) (map_settled p.settled (top.0 ∷ p.base) settled_all)) in
+          subst (LetsGoSettled p.settled p.base level k) (sym (released_so n k2 k3 k2.log none now)) (record {
+            table = gone.table ∙ steps1.table;
+            left = gone.left ∙ steps1.left;
+            terms = gone.terms ∙ steps1.terms;
+            role = gone.role ∙ steps1.role;
+            past = gone.past ∙ steps1.past;
+            receipts = gone.receipts ∙ steps1.receipts;
+            loader = gone.loader ∙ steps1.loader;
+            made = gone.made ∙ steps1.made;
+            lineage = gone.lineage ∙ steps1.lineage;
+            budget = ap after_spending (gone.budget ∙ ap (λ (z : Budget). record z { credit = z.credit - (level - 1 + 1) }) steps1.budget)
+                ∙ ap (λ x. record k.log.budget { credit = x }) (let d : (k.log.budget.credit - (level - 1 + 1)) - 1 ≡ k.log.budget.credit - (level + 1) = omega (arith, some) in d);
+            held = ap (without_lock n) gone.held ∙ without_top p.settled p.keeps n top.0 p.base top.2.0.0 far;
+            out = gone.out;
+          })

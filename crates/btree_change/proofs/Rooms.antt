@@ -1,0 +1,167 @@
+-- A free node is taken for a full one; or none is free, and the loads say so.
+use Rattle.std.proofs.Common.{◌≡◌, ◌≢◌, ℕ, zero, suc, ◌+◌, ◌<◌, ◌≤◌, ◌⊎◌, inl, inr, List, [], ◌∷◌, ◌++◌, length, sym, refl, ap, ◌∙◌, subst, arith, Bool, true, false, ◌==◌, ◌&&◌, nat_le, Option, Some, None, Result, Ok, Err, IsSome, IsSomeAnd, IfSome, option_map, is_some, append_assoc, append-nil, Contains, eq-eqb, ne_eqb, if◌then◌else◌, cond}
+use Rattle.std.proofs.lemmas.Option.{none-some, same_Some}
+use Rattle.std.specs.List.{AllByRecursion}
+use native.Mathlib.Decide.{ℕ_discrete}
+use Rattle.reg_model.specs.declared.span.Member.{Member}
+use Rattle.tree_shape.specs.declared.pair.Pair.{Pair}
+use Rattle.tree_shape.specs.NodeData.{NodeData, Body, Pairs, Entries, Link, IsInFences}
+use Rattle.tree_shape.specs.Steps.{IsFull}
+use Rattle.word_rule.specs.CallerData.{CallerData}
+use Rattle.word_rule.specs.Held.{held_of}
+use Rattle.word_rule.specs.Logs.{after_load, load_of}
+use Rattle.word_rule.specs.NodeTells.{HeldTells}
+use Rattle.word_rule.specs.Observations.{IsFullBody, IsFullCount}
+use Rattle.word_rule.specs.Places.{HEAD, node_place}
+use Rattle.word_rule.specs.Sights.{after_node_load}
+use Rattle.word_rule.specs.Spelling.{entries_at, entry_at, is_entry_at, is_short, node_word, pair_at, pairs_at, SpellsNode}
+use Rattle.word_rule.specs.Steps.{after_take, mark_at_lock}
+use Rattle.word_rule.specs.TreeRefusals.{HadNoRoom}
+use Rattle.word_rule.specs.declared.log.Holding.{Holding}
+use Rattle.word_rule.specs.declared.log.LoadEvent.{LoadEvent}
+use Rattle.word_rule.specs.declared.log.LockId.TheVariants as lock
+use Rattle.word_rule.specs.declared.log.Log.{Log}
+use Rattle.word_rule.specs.declared.log.Terms.{Terms}
+use Rattle.word_rule.proofs.Spells.{reads}
+use Rattle.node_store.specs.declared.locking.Busy.{Busy}
+use Rattle.node_store.specs.Free.{IsFreeTaken, TakesFree, headed}
+use Rattle.node_store.specs.Locking.{IsBusy, Locks}
+use Rattle.btree_change.specs.declared.descent.Held.{Held}
+use Rattle.btree_change.specs.Paths.{StepsOnNodes}
+use Rattle.btree_change.specs.Splits.{HoldsFull, IsRoomFor, StaysHeld, TakesRoom}
+
+-- so many pairs, or entries, are read
+pairs_read : (words : List ℕ) (at count : ℕ) (xs : List Pair) → pairs_at words at count ≡ Some xs → length xs ≡ count
+pairs_read words at zero xs e = ap length (sym (same_Some _ _ e))
+pairs_read words at (suc count) xs e = go (is_short (node_word words at)) (pairs_at words (at + 2) count) (pairs_read words (at + 2) count) e
+  where
+    go : (b : Bool) (o : Option (List Pair)) → ((ys : List Pair) → o ≡ Some ys → length ys ≡ count) → ◌≡◌ {A = Option (List Pair)} (if b then option_map (λ pairs. pair_at words at ∷ pairs) o else None) (Some xs) → length xs ≡ suc count
+    go true None rest f = absurd (none-some xs f)
+    go true (Some ys) rest f = ap length (sym (same_Some _ _ f)) ∙ ap suc (rest ys refl)
+    go false o rest f = absurd (none-some xs f)
+
+entries_read : (words : List ℕ) (at count : ℕ) (xs : List Member) → entries_at words at count ≡ Some xs → length xs ≡ count
+entries_read words at zero xs e = ap length (sym (same_Some _ _ e))
+entries_read words at (suc count) xs e = go (is_entry_at words at) (entries_at words (at + 3) count) (entries_read words (at + 3) count) e
+  where
+    go : (b : Bool) (o : Option (List Member)) → ((ys : List Member) → o ≡ Some ys → length ys ≡ count) → ◌≡◌ {A = Option (List Member)} (if b then option_map (λ entries. entry_at words at ∷ entries) o else None) (Some xs) → length xs ≡ suc count
+    go true None rest f = absurd (none-some xs f)
+    go true (Some ys) rest f = ap length (sym (same_Some _ _ f)) ∙ ap suc (rest ys refl)
+    go false o rest f = absurd (none-some xs f)
+
+-- the count of a full node is the greatest
+full_body : (inner few leaf low free : Bool) (pairs : Option (List Pair)) (entries : Option (List Member)) (link count : ℕ) (body : Body) → ((xs : List Pair) → pairs ≡ Some xs → length xs ≡ count) → ((xs : List Member) → entries ≡ Some xs → length xs ≡ count)
+    → (if inner then (if few then option_map Pairs pairs else None) else (if leaf then (if low then option_map Entries entries else None) else (if free then Some (Link link) else None))) ≡ Some body
+    → IsFull body → IsFullBody count body
+full_body true true leaf low free None entries link count body ps es e = absurd (none-some body e)
+full_body true true leaf low free (Some xs) entries link count body ps es e = subst (λ z. IsFull z → IsFullBody count z) (same_Some _ _ e) (λ full. sym (ps xs refl) ∙ full)
+full_body true false leaf low free pairs entries link count body ps es e = absurd (none-some body e)
+full_body false few true true free pairs None link count body ps es e = absurd (none-some body e)
+full_body false few true true free pairs (Some xs) link count body ps es e = subst (λ z. IsFull z → IsFullBody count z) (same_Some _ _ e) (λ full. sym (es xs refl) ∙ full)
+full_body false few true false free pairs entries link count body ps es e = absurd (none-some body e)
+full_body false few false low true pairs entries link count body ps es e = subst (λ z. IsFull z → IsFullBody count z) (same_Some _ _ e) (λ full. absurd full)
+full_body false few false low false pairs entries link count body ps es e = absurd (none-some body e)
+
+full_count : (words : List ℕ) (s : NodeData) → SpellsNode words s → IsFull s.body → IsFullBody (node_word words 5) s.body
+full_count words s spells full =
+    full_body (node_word words 1 == 0) (nat_le (node_word words 5) 15) (node_word words 1 == 1) (nat_le (node_word words 5) 10) ((node_word words 1 == 2) && is_short (node_word words 6)) (pairs_at words 6 (node_word words 5)) (entries_at words 6 (node_word words 5)) (node_word words 6) (node_word words 5) s.body
+    (pairs_read words 6 (node_word words 5)) (entries_read words 6 (node_word words 5)) (reads words s spells).body full
+
+-- a lock that is found is one of those held
+pub found_there : (n : ℕ) (held : List Holding) (h : Holding) → held_of n held ≡ Some h → Contains held h
+found_there n [] h found = absurd (none-some h found)
+found_there n (a ∷ held) h found = go (ℕ_discrete a.node n) (found_there n held h)
+  where
+    go : Dec (a.node ≡ n) → (held_of n held ≡ Some h → Contains held h) → Contains (a ∷ held) h
+    go (yes e) rest = let same : a ≡ h = same_Some _ _ (rw (eq-eqb a.node n e) at found) in (0, omega arith, same)
+    go (no ne) rest = let r = rest (rw (ne_eqb a.node n ne) at found) in (suc r.0, (let l = r.1 in omega (arith, l)), r.2)
+
+-- More loads leave the cause where it was.
+pub more_loads : (base receipts : ℕ) (loads more : List LoadEvent) → HadNoRoom base receipts loads → HadNoRoom base receipts (loads ++ more)
+more_loads base receipts loads more r = record {
+  before = r.before;
+  count = r.count;
+  between = r.between;
+  cause = r.cause;
+  behind = r.behind ++ more;
+  in_order = ap (λ z. z ++ more) r.in_order ∙ (append_assoc r.before (r.count ∷ (r.between ++ (r.cause ∷ r.behind))) more ∙ ap (λ z. r.before ++ (r.count ∷ z)) (append_assoc r.between (r.cause ∷ r.behind) more));
+  since = r.since;
+  node = r.node;
+  held = r.held;
+  full = r.full;
+  on_way = r.on_way;
+  last = r.last;
+  stores = r.stores;
+  stored = r.stored;
+  unstored = r.unstored;
+  shut = r.shut;
+}
+
+module _ (t : Terms) (full : Held) (pc : ℕ) (k k1 : CallerData) (found : ℕ) (h : HoldsFull t full pc k.log.holdings) (load : k1 ≡ record k { log = after_node_load full.node 5 found k.log }) (tells : HeldTells full.node 5 found k.log) where
+  count_is : node_word h.lock.words 5 ≡ found
+  count_is = subst (λ o. IfSome o (λ (z : Holding). node_word z.words 5 ≡ found)) h.found tells
+
+  -- the load of the full count
+  pub is_full_count : IsFullCount (load_of k.log (node_place full.node + 5) found) h.lock
+  is_full_count = (
+    ap (λ n. node_place n + 5) (sym h.here.node),
+    h.here.marked,
+    subst (SpellsNode h.lock.words) (sym h.here.settled) h.here.spells,
+    subst (λ (z : NodeData). IsFullBody found z.body) (sym h.here.settled) (subst (λ n. IsFullBody n full.content.body) count_is (full_count h.lock.words full.content h.here.spells h.is_full)),
+  )
+
+  pub had_no_room : (k' : CallerData) → k' ≡ headed 0 k1 → StaysHeld k k' × HadNoRoom pc (length k.log.receipts.own) k'.log.trace.loads
+  had_no_room k' is =
+      let whole : k' ≡ headed 0 (record k { log = after_node_load full.node 5 found k.log }) = is ∙ ap (headed 0) load in
+      let cause = load_of (after_node_load full.node 5 found k.log) HEAD 0 in (
+        subst (StaysHeld k) (sym whole) (record { held = refl; out = refl; same = record { table = refl; left = refl; terms = refl; role = refl; past = refl; budget = refl; receipts = refl; loader = refl; made = refl; lineage = refl } }),
+        record {
+          before = k.log.trace.loads;
+          count = load_of k.log (node_place full.node + 5) found;
+          between = [];
+          cause = cause;
+          behind = [];
+          in_order = ap (λ (z : CallerData). z.log.trace.loads) whole ∙ append_assoc k.log.trace.loads (load_of k.log (node_place full.node + 5) found ∷ []) (cause ∷ []);
+          since = refl;
+          node = h.lock;
+          held = found_there full.node k.log.holdings.held h.lock h.found;
+          full = is_full_count;
+          on_way = subst (IsInFences pc) (sym h.here.settled) h.on_way;
+          last = tt;
+          stores = [];
+          stored = sym (append-nil k.log.trace.stores);
+          unstored = refl;
+          shut = inl (refl, refl, none_or_one h.out);
+        },
+      )
+    where
+      none_or_one : (k.log.holdings.out ≡ []) ⊎ ((length k.log.holdings.out ≡ 1) × (full.node ≡ 0)) → (k.log.holdings.out ≡ []) ⊎ ((length k.log.holdings.out ≡ 1) × (h.lock.node ≡ 0))
+      none_or_one (inl none) = inl none
+      none_or_one (inr one) = inr (one.0, h.here.node ∙ one.1)
+
+  pub takes_room : (k' : CallerData) (n : ℕ) → IsSome (held_of 0 k.log.holdings.held) → n ≢ 0 → TakesFree n k1 k' → TakesRoom n k k'
+  takes_room k' n root far (locked, next, (locks, is)) = subst (λ (z : CallerData). Locks (lock.Node n) (headed n z) locked → TakesRoom n k k') (sym load) go locks
+    where
+      go : Locks (lock.Node n) (headed n (record k { log = after_node_load full.node 5 found k.log })) locked → TakesRoom n k k'
+      go (more, marks, nodes, version, settled, words, (tries, taken, took)) =
+          let whole = is ∙ ap (λ (z : CallerData). record z { log = after_take n next (after_node_load n 6 next z.log) }) took in
+          let head : (if is_some (held_of 0 k.log.holdings.held) then Some n else None) ≡ Some n = ap (λ b. if b then Some n else None) root in
+          subst (TakesRoom n k) (sym whole) (record {
+            never_root = far;
+            within = taken.within;
+            unheld = taken.new;
+            new = record { node = n; version = version; settled = settled; words = words; stored = false; mark = mark_at_lock n settled k.log.holdings.held };
+            held = refl;
+            free = record { node = refl; spells = taken.spells; next = node_word words 6; free = taken.free head far };
+            out = refl;
+            same = record { table = refl; left = refl; terms = refl; role = refl; past = refl; budget = refl; receipts = refl; loader = refl; made = refl; lineage = refl };
+          })
+
+  pub stays_busy : (k' : CallerData) (n : ℕ) → IsBusy (lock.Node n) (headed n k1) k' → StaysHeld k k'
+  stays_busy k' n (found', (odd, is)) = subst (λ (z : CallerData). k' ≡ record (headed n z) { log = after_load (node_place n) found' (headed n z).log } → StaysHeld k k') (sym load)
+      (λ whole. subst (StaysHeld k) (sym whole) (record { held = refl; out = refl; same = record { table = refl; left = refl; terms = refl; role = refl; past = refl; budget = refl; receipts = refl; loader = refl; made = refl; lineage = refl } })) is
+
+  pub room_found : (gives_up : Bool) (k' : CallerData) (r : Result (Option ℕ) Busy) → IsSome (held_of 0 k.log.holdings.held) → IsFreeTaken gives_up k1 k' r → IsRoomFor gives_up pc k k' r
+  room_found gives_up k' (Ok None) root is = had_no_room k' is
+  room_found gives_up k' (Ok (Some n)) root (far, takes) = takes_room k' n root far takes
+  room_found gives_up k' (Err busy) root (n, (named, far, busy_now, up)) = (stays_busy k' n busy_now, up)

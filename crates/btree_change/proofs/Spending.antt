@@ -1,0 +1,131 @@
+-- Parts of an update call, one after another: what they take of their caller.
+use Rattle.std.proofs.Common.{◌≡◌, ℕ, ◌+◌, ◌-◌, ◌*◌, ◌≤◌, ◌<◌, List, [], ◌∷◌, ◌++◌, length, append-nil, sym, refl, ap, ◌∙◌, subst, arith}
+use mathlib.Core.List.{IsPrefix}
+use Rattle.reg_model.specs.declared.answer.Inserted.{Inserted}
+use Rattle.reg_model.specs.declared.answer.Inserted.TheVariants as inserted
+use Rattle.reg_model.specs.declared.answer.Receipt.{Receipt}
+use Rattle.reg_model.specs.declared.answer.Update.{Update}
+use Rattle.reg_model.specs.declared.span.Member.{Member}
+use Rattle.word_rule.specs.CallerData.{CallerData, due, surplus}
+use Rattle.reg_model.specs.History.{state_after}
+use Rattle.reg_model.specs.State.{IsFree, IsLowestOverlap}
+use Rattle.word_rule.specs.Callers.{start}
+use Rattle.word_rule.specs.TreeRefusals.{HadNoRoom}
+use Rattle.word_rule.specs.declared.log.LoadEvent.{LoadEvent}
+use Rattle.word_rule.specs.declared.log.Receipts.{Receipts}
+use Rattle.word_rule.specs.declared.log.Terms.{Terms}
+use Rattle.btree_change.specs.Insertion.{IsRightInsertion}
+use Rattle.btree_change.specs.Paths.{StepsOnNodes}
+use Rattle.btree_change.specs.Spines.{KeepsLoads}
+use Rattle.btree_change.specs.Stands.{SpendsCall, SpendsSteps}
+
+append_assoc : {A : Type 0} (xs ys zs : List A) → (xs ++ ys) ++ zs ≡ xs ++ (ys ++ zs)
+append_assoc [] ys zs = refl
+append_assoc (x ∷ xs) ys zs = ap (λ l. x ∷ l) (append_assoc xs ys zs)
+
+-- one part after another, of which the first answers nothing
+pub spends_after : (a b c : ℕ) (more : List Receipt) (taken : ℕ) (k l m : CallerData) → a + b ≤ c → SpendsCall [] 0 a k l → SpendsCall more taken b l m → SpendsCall more taken c k m
+spends_after a b c more taken k l m sum p q = record {
+  table = q.table ∙ p.table;
+  left = q.left ∙ p.left;
+  terms = q.terms ∙ p.terms;
+  role = q.role ∙ p.role;
+  loader = q.loader ∙ p.loader;
+  made = q.made ∙ p.made;
+  lineage = q.lineage ∙ p.lineage;
+  receipts = q.receipts ∙ (λ i. record (p.receipts i) { own = own_is i });
+  allowance = q.allowance ∙ (let x = p.allowance in omega (arith, x));
+  credit = let x = p.credit in let y = q.credit in omega (arith, x, y, sum);
+}
+  where
+    own_is : l.log.receipts.own ++ more ≡ k.log.receipts.own ++ more
+    own_is = ap (λ (r : Receipts). r.own ++ more) p.receipts ∙ ap (λ xs. xs ++ more) (append-nil k.log.receipts.own)
+
+-- or the second
+pub spends_before : (a b c : ℕ) (more : List Receipt) (taken : ℕ) (k l m : CallerData) → a + b ≤ c → SpendsCall more taken a k l → SpendsCall [] 0 b l m → SpendsCall more taken c k m
+spends_before a b c more taken k l m sum p q = record {
+  table = q.table ∙ p.table;
+  left = q.left ∙ p.left;
+  terms = q.terms ∙ p.terms;
+  role = q.role ∙ p.role;
+  loader = q.loader ∙ p.loader;
+  made = q.made ∙ p.made;
+  lineage = q.lineage ∙ p.lineage;
+  receipts = q.receipts ∙ ((λ i. record l.log.receipts { own = append-nil l.log.receipts.own i }) ∙ p.receipts);
+  allowance = q.allowance ∙ (let x = p.allowance in omega (arith, x));
+  credit = let x = p.credit in let y = q.credit in omega (arith, x, y, sum);
+}
+
+pub spends_same : (k l : CallerData) → StepsOnNodes k l → SpendsSteps 0 k l
+spends_same k l s = record {
+  call = record {
+    table = s.table;
+    left = s.left;
+    terms = s.terms;
+    role = s.role;
+    loader = s.loader;
+    made = s.made;
+    lineage = s.lineage;
+    receipts = s.receipts ∙ (λ i. record k.log.receipts { own = sym (append-nil k.log.receipts.own) i });
+    allowance = ap (λ b. b.allowance) s.budget ∙ omega arith;
+    credit = let e = ap (λ b. b.credit) s.budget in omega (arith, e);
+  };
+  past = s.past;
+}
+
+pub steps_after : (a b c : ℕ) (k l m : CallerData) → a + b ≤ c → SpendsSteps a k l → SpendsSteps b l m → SpendsSteps c k m
+steps_after a b c k l m sum p q = record {
+  call = spends_after a b c [] 0 k l m sum p.call q.call;
+  past = q.past ∙ p.past;
+}
+
+pub own_same : (a : ℕ) (k l : CallerData) → SpendsSteps a k l → l.log.receipts.own ≡ k.log.receipts.own
+own_same a k l s = ap (λ (r : Receipts). r.own) s.call.receipts ∙ append-nil k.log.receipts.own
+
+-- the releases that are left over
+pub surplus_after : (more : List Receipt) (taken most : ℕ) (k l : CallerData) (need : ℕ) → SpendsCall more taken most k l → most + need ≤ surplus k → need ≤ surplus l
+surplus_after more taken most k l need s enough =
+    let e = s.left in let c = s.credit in omega (arith, e, c, enough)
+
+pub due_after : (a : ℕ) (k l : CallerData) → SpendsSteps a k l → 0 < due k → 0 < due l
+due_after a k l s some = let x = s.call.allowance in let y = s.call.left in omega (arith, x, y, some)
+
+pub surplus_steps : (a : ℕ) (k l : CallerData) (need : ℕ) → SpendsSteps a k l → a + need ≤ surplus k → need ≤ surplus l
+surplus_steps a k l need s enough = surplus_after [] 0 a k l need s.call enough
+
+-- The causes of a Full stay where more is loaded.
+pub room_kept : (base receipts : ℕ) (loads loads' : List LoadEvent) → (more : List LoadEvent) × (loads' ≡ loads ++ more) → HadNoRoom base receipts loads → HadNoRoom base receipts loads'
+room_kept base receipts loads loads' (more, is) h = record {
+  before = h.before;
+  count = h.count;
+  between = h.between;
+  cause = h.cause;
+  behind = h.behind ++ more;
+  in_order = is ∙ (ap (λ xs. xs ++ more) h.in_order ∙ (append_assoc h.before (h.count ∷ (h.between ++ (h.cause ∷ h.behind))) more ∙ ap (λ xs. h.before ++ (h.count ∷ xs)) (append_assoc h.between (h.cause ∷ h.behind) more)));
+  since = h.since;
+  node = h.node;
+  held = h.held;
+  full = h.full;
+  on_way = h.on_way;
+  last = h.last;
+  stores = h.stores;
+  stored = h.stored;
+  unstored = h.unstored;
+  shut = h.shut;
+}
+
+-- An answer is right also for one that took steps before, and after more steps.
+pub right_after : (t : Terms) (m : Member) (answer : Inserted) (k l n : CallerData) → l.log.past ≡ k.log.past → l.log.receipts.own ≡ k.log.receipts.own → IsRightInsertion t m l n answer → IsRightInsertion t m k n answer
+right_after t m (inserted.Done number) k l n past own (before, (begins, is, number_is)) = (before, (subst (λ p. IsPrefix p before) past begins, is, number_is))
+right_after t m (inserted.Overlap other stamp) k l n past own r = (subst (λ p. IsPrefix p n.log.past) past r.0, r.1, r.2, r.3)
+right_after t m (inserted.Full stamp) k l n past own r = (subst (λ p. IsPrefix p n.log.past) past r.0, r.1, r.2, subst (λ xs. HadNoRoom m.span.first (length xs) n.log.trace.loads) own r.3)
+right_after t m inserted.Spent k l n past own r = absurd r
+
+pub right_before : (t : Terms) (m : Member) (answer : Inserted) (k l n : CallerData) → n.log.past ≡ l.log.past → KeepsLoads l n → IsRightInsertion t m k l answer → IsRightInsertion t m k n answer
+right_before t m answer k l n past loads r = go answer r
+  where
+    go : (answer : Inserted) → IsRightInsertion t m k l answer → IsRightInsertion t m k n answer
+    go (inserted.Done number) r = (r.0, (r.1.0, past ∙ r.1.1, r.1.2 ∙ ap length (sym past)))
+    go (inserted.Overlap other stamp) r = (subst (IsPrefix k.log.past) (sym past) r.0, r.1 ∙ ap length (sym past), subst (λ p. IsLowestOverlap m.span (state_after (start t) p).registered other) (sym past) r.2, r.3)
+    go (inserted.Full stamp) r = (subst (IsPrefix k.log.past) (sym past) r.0, r.1 ∙ ap length (sym past), subst (λ p. IsFree m.span (state_after (start t) p).registered) (sym past) r.2, room_kept m.span.first (length k.log.receipts.own) l.log.trace.loads n.log.trace.loads loads r.3)
+    go inserted.Spent r = absurd r

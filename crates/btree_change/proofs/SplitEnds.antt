@@ -1,0 +1,234 @@
+-- A split settles when the half that isn't on the way is let go of: what is held then.
+use Rattle.std.proofs.Common.{◌≡◌, ◌≢◌, ℕ, ◌+◌, ◌-◌, ◌<◌, ◌≤◌, List, [], ◌∷◌, ◌++◌, drop, map, sym, refl, ap, ◌∙◌, subst, arith, Bool, true, false, nat_le, IsTrue, Option, Some, None, IsSome, IfSome, Contains, if◌then◌else◌}
+use Rattle.std.proofs.lemmas.Bool.{leb-true, leb-false}
+use Rattle.std.specs.List.{AllByRecursion}
+use Rattle.tree_shape.specs.Changes.{at_slot, divide}
+use Rattle.tree_shape.specs.NodeData.{NodeData, IsInFences, frame_of, pairs_of, slot_for}
+use Rattle.tree_shape.specs.Numbers.{is_among}
+use Rattle.tree_shape.specs.Steps.{middle, middle_fence}
+use Rattle.tree_shape.specs.Trees.{Contents}
+use Rattle.word_rule.specs.CallerData.{CallerData}
+use Rattle.word_rule.specs.declared.log.Holding.{Holding}
+use Rattle.word_rule.specs.declared.log.Holdings.{Holdings}
+use Rattle.word_rule.specs.declared.log.Log.{Log}
+use Rattle.word_rule.specs.declared.log.Terms.{Terms}
+use Rattle.word_rule.specs.Exchange.{exchange}
+use Rattle.word_rule.specs.Held.{held_of, without_lock}
+use Rattle.word_rule.specs.NodeTells.{HolderTells, IsLiveNode, KnowsTree}
+use Rattle.word_rule.specs.Sights.{after_node_load}
+use Rattle.word_rule.specs.Logs.{after_spending}
+use Rattle.word_rule.specs.Spelling.{spelled, SpellsNode}
+use Rattle.word_rule.specs.Steps.{MayRelease, after_node_release}
+use Rattle.btree_change.specs.declared.descent.Held.{Held}
+use Rattle.btree_change.specs.declared.split.FullChild.{FullChild}
+use Rattle.btree_change.specs.declared.split.Split.{Split}
+use Rattle.btree_change.specs.Paths.{HasChildFor, IsSettledLock, StepsOnNodes}
+use Rattle.btree_change.specs.Splits.{HasRoom, HoldsFullChild, IsHeldAs, SplitsChild, half_for, other_half, parent_for, parts_for, with_release_less}
+use Rattle.btree_change.proofs.Descending.{steps_then}
+use Rattle.btree_change.proofs.Descents.{steps_of_load}
+use Rattle.btree_change.proofs.HeldParts.{AreFar, dropped, is_first, is_second, is_third, told_place}
+use Rattle.btree_change.proofs.Settling.{SettlingLaws, may_release, released, settled_group, settled_new, stay_settled}
+use Rattle.btree_change.proofs.Splitting.{IsSplitWritten, found_child, inside, level}
+use Rattle.btree_change.proofs.SplitParts.{are_halves, divided}
+use Rattle.btree_change.proofs.Storing.{found_at}
+
+-- the lock of a node that settled to what its words spell
+abbrev pub settled_lock : Holding → NodeData → Holding
+settled_lock h s = record h { settled = s; mark = Some (frame_of s) }
+
+-- What is left of the halves: the lock of the one on the way.
+pub record Ends (t : Terms) (full : FullChild) (held : List Holding) (upper : Holding) (rest : List Holding) (way : Held) (other : ℕ) (k : CallerData) : Type 0 where
+  pub lock : Holding
+  pub left : without_lock other held ≡ lock ∷ upper ∷ rest
+  pub node : lock.node ≡ way.node
+  pub settled : lock.settled ≡ way.content
+  pub spells : SpellsNode lock.words way.content
+  pub stored : lock.stored ≡ way.changed
+  pub marked : IsSome lock.mark
+  pub far : way.node ≢ full.parent.node
+  pub within : way.node < t.nodes
+  pub other_within : other < t.nodes
+  pub may : MayRelease other k.log
+
+-- a release less before steps and after them
+pub less_release_then : (a b : CallerData) → StepsOnNodes a b → StepsOnNodes (with_release_less a) (with_release_less b)
+less_release_then a b same = record {
+  table = same.table;
+  left = same.left;
+  terms = same.terms;
+  role = same.role;
+  past = same.past;
+  budget = ap after_spending same.budget;
+  receipts = same.receipts;
+  loader = same.loader;
+  made = same.made;
+  lineage = same.lineage;
+}
+
+-- what is said of the half itself
+pub record IsHalf (pc : ℕ) (full : FullChild) (way : Held) : Type 0 where
+  pub here : IsInFences pc way.content
+  pub level : way.content.level < full.parent.content.level
+  pub room : HasRoom way.content.body
+
+pub half_is : (t : Terms) (full : FullChild) (pc : ℕ) (hs : Holdings) (h : HoldsFullChild t full pc hs) (tree : KnowsTree hs) → IsHalf pc full (half_for full.child.node full.fresh pc full.child.content)
+half_is t full pc hs h tree = go (nat_le pc (middle_fence full.child.content)) refl
+  where
+    go : (b : Bool) → nat_le pc (middle_fence full.child.content) ≡ b → IsHalf pc full (if b then record { node = full.child.node; content = (parts_for full pc).left; changed = true } else record { node = full.fresh; content = (parts_for full pc).right; changed = true })
+    go true e = record { here = ((inside t full pc hs h tree).0, leb-true pc (middle_fence full.child.content) e); level = level t full pc hs h tree; room = (are_halves full.child.content.body h.is_full).left_room }
+    go false e = record {
+      here = ((let z = leb-false pc (middle_fence full.child.content) e in omega (arith, z)), (inside t full pc hs h tree).1);
+      level = level t full pc hs h tree;
+      room = (are_halves full.child.content.body h.is_full).right_room;
+    }
+
+abbrev node_in : Held → ℕ
+node_in at = at.node
+
+-- the parent leads to the half for the address
+pub leads_on : (t : Terms) (full : FullChild) (pc : ℕ) (hs : Holdings) (h : HoldsFullChild t full pc hs) (tree : KnowsTree hs) → HasChildFor (parts_for full pc).above pc (half_for full.child.node full.fresh pc full.child.content).node
+leads_on t full pc hs h tree =
+    let p = found_child t full pc hs h tree in
+    let r = divided (full.parent.content.level - 1) full.parent.content.low pc (middle_fence full.child.content) full.fresh (pairs_of full.parent.content) p.0 h.here.0 p.1.0 in
+    (r.0, (r.1.0, r.1.1 ∙ pick (nat_le pc (middle_fence full.child.content)), r.1.2, r.1.3))
+  where
+    pick : (b : Bool) → (if b then (found_child t full pc hs h tree).0.child else full.fresh) ≡ node_in (if b then record { node = full.child.node; content = (parts_for full pc).left; changed = true } else record { node = full.fresh; content = (parts_for full pc).right; changed = true })
+    pick true = (found_child t full pc hs h tree).1.1
+    pick false = refl
+
+module _ (laws : SettlingLaws) (t : Terms) (full : FullChild) (pc : ℕ) (f : Contents) (live : ℕ → Bool) (g : Contents) (rest : List Holding) (k k' : CallerData) (w : IsSplitWritten t full pc f live g rest k k') (child_within : full.child.node < t.nodes) (fresh_within : full.fresh < t.nodes) where
+  abbrev group : List ℕ
+  group = full.parent.node ∷ full.child.node ∷ []
+
+  abbrev reached : List ℕ
+  reached = full.parent.node ∷ full.child.node ∷ full.fresh ∷ []
+
+  abbrev v : Log
+  v = record k'.log { holdings = record { held = w.new ∷ w.lower ∷ w.upper ∷ rest; out = full.fresh ∷ []; head = k'.log.holdings.head } }
+
+  v_is : v ≡ k'.log
+  v_is = (λ i. record k'.log { holdings = record { held = sym w.held i; out = sym w.out i; head = k'.log.holdings.head } })
+
+  abbrev new' : Holding
+  new' = settled_lock w.new (parts_for full pc).right
+
+  abbrev lower' : Holding
+  lower' = settled_lock w.lower (parts_for full pc).left
+
+  abbrev upper' : Holding
+  upper' = settled_lock w.upper (parts_for full pc).above
+
+  settles : map (exchange (is_among group) (is_among reached)) (w.new ∷ w.lower ∷ w.upper ∷ rest) ≡ new' ∷ lower' ∷ upper' ∷ rest
+  settles = (λ i.
+      settled_new group reached w.new (parts_for full pc).right w.new_mark (ap (is_among reached) w.new_node ∙ is_third full.parent.node full.child.node full.fresh []) w.new_spells i
+      ∷ settled_group group reached w.lower (parts_for full pc).left (ap (is_among group) w.lower_node ∙ is_second full.parent.node full.child.node []) (ap (is_among reached) w.lower_node ∙ is_second full.parent.node full.child.node (full.fresh ∷ [])) w.lower_spells i
+      ∷ settled_group group reached w.upper (parts_for full pc).above (ap (is_among group) w.upper_node ∙ is_first full.parent.node (full.child.node ∷ [])) (ap (is_among reached) w.upper_node ∙ is_first full.parent.node (full.child.node ∷ full.fresh ∷ [])) w.upper_spells i
+      ∷ stay_settled f live group reached rest w.stays i)
+
+  may_go : (n : ℕ) (h : Holding) (s : NodeData) → held_of n (w.new ∷ w.lower ∷ w.upper ∷ rest) ≡ Some h → SpellsNode h.words s → MayRelease n k'.log
+  may_go n h s found spells = subst (MayRelease n) v_is (may_release laws v f live full.parent.node group (full.fresh ∷ []) g reached w.change n h found (subst IsSome (sym spells) refl))
+
+  lower_new : w.new.node ≢ full.child.node
+  lower_new e = w.new_down (sym w.new_node ∙ e)
+
+  left_end : Ends t full (new' ∷ lower' ∷ upper' ∷ rest) upper' rest (record { node = full.child.node; content = (parts_for full pc).left; changed = true }) full.fresh k'
+  left_end = record {
+    lock = lower';
+    left = dropped full.fresh [] new' (lower' ∷ upper' ∷ rest) w.new_node tt ((λ e. w.new_down (sym e ∙ w.lower_node)), ((λ e. w.new_up (sym e ∙ w.upper_node)), w.rest_new));
+    node = w.lower_node;
+    settled = refl;
+    spells = w.lower_spells;
+    stored = w.lower_stored;
+    marked = refl;
+    far = w.down_up;
+    within = child_within;
+    other_within = fresh_within;
+    may = may_go full.fresh w.new (parts_for full pc).right (found_at full.fresh [] w.new (w.lower ∷ w.upper ∷ rest) w.new_node tt) w.new_spells;
+  }
+
+  right_end : Ends t full (new' ∷ lower' ∷ upper' ∷ rest) upper' rest (record { node = full.fresh; content = (parts_for full pc).right; changed = true }) full.child.node k'
+  right_end = record {
+    lock = new';
+    left = dropped full.child.node (new' ∷ []) lower' (upper' ∷ rest) w.lower_node (lower_new, tt) ((λ e. w.down_up (sym e ∙ w.upper_node)), w.rest_down);
+    node = w.new_node;
+    settled = refl;
+    spells = w.new_spells;
+    stored = w.new_stored;
+    marked = refl;
+    far = w.new_up;
+    within = fresh_within;
+    other_within = child_within;
+    may = may_go full.child.node w.lower (parts_for full pc).left (found_at full.child.node (w.new ∷ []) w.lower (w.upper ∷ rest) w.lower_node (lower_new, tt)) w.lower_spells;
+  }
+
+  pub ends : Ends t full (new' ∷ lower' ∷ upper' ∷ rest) upper' rest (half_for full.child.node full.fresh pc full.child.content) (other_half full.child.node full.fresh pc full.child.content) k'
+  ends = go (nat_le pc (middle_fence full.child.content))
+    where
+      go : (b : Bool) → Ends t full (new' ∷ lower' ∷ upper' ∷ rest) upper' rest (if b then record { node = full.child.node; content = (parts_for full pc).left; changed = true } else record { node = full.fresh; content = (parts_for full pc).right; changed = true }) (if b then full.fresh else full.child.node) k'
+      go true = left_end
+      go false = right_end
+
+  -- after the release
+  pub record IsReleased (way : Held) (lock : Holding) (k5 : CallerData) : Type 0 where
+    pub held : k5.log.holdings.held ≡ lock ∷ upper' ∷ rest
+    pub out : k5.log.holdings.out ≡ []
+    pub same : StepsOnNodes (with_release_less k') k5
+
+  pub is_released : (k5 : CallerData) → k5 ≡ record k' { log = after_node_release (other_half full.child.node full.fresh pc full.child.content) k'.log } → IsReleased (half_for full.child.node full.fresh pc full.child.content) ends.lock k5
+  is_released k5 is =
+      let other = other_half full.child.node full.fresh pc full.child.content in
+      let log = ap (after_node_release other) (sym v_is) ∙ released laws v f live full.parent.node group (full.fresh ∷ []) g reached w.change other in
+      let whole = is ∙ ap (λ (z : Log). record k' { log = z }) log in record {
+        held = ap (λ (z : CallerData). z.log.holdings.held) whole ∙ (ap (without_lock other) settles ∙ ends.left);
+        out = ap (λ (z : CallerData). z.log.holdings.out) whole ∙ w.none;
+        same = subst (StepsOnNodes (with_release_less k')) (sym whole) (record { table = refl; left = refl; terms = refl; role = refl; past = refl; budget = refl; receipts = refl; loader = refl; made = refl; lineage = refl });
+      }
+
+  -- and after a load of both that are held
+  pub split_so : (hs : Holdings) (h : HoldsFullChild t full pc hs) (tree : KnowsTree hs) → h.rest ≡ rest → k.log.holdings ≡ hs → k.log.terms ≡ t
+      → (k5 k6 k7 : CallerData) (split : Split) (found6 found7 : ℕ) → k5 ≡ record k' { log = after_node_release (other_half full.child.node full.fresh pc full.child.content) k'.log }
+      → split.way ≡ half_for full.child.node full.fresh pc full.child.content → split.parent ≡ parent_for full pc
+      → k6 ≡ record k5 { log = after_node_load (half_for full.child.node full.fresh pc full.child.content).node 2 found6 k5.log } → HolderTells (half_for full.child.node full.fresh pc full.child.content).node k5.log
+      → k7 ≡ record k6 { log = after_node_load full.parent.node 2 found7 k6.log } → HolderTells full.parent.node k6.log
+      → SplitsChild t full pc split k k7
+  split_so hs h tree rest_is start terms k5 k6 k7 split found6 found7 is5 way_is parent_is is6 told6 is7 told7 =
+      let way = half_for full.child.node full.fresh pc full.child.content in
+      let r = is_released k5 is5 in
+      let half = half_is t full pc hs h tree in
+      let steps5 : StepsOnNodes (with_release_less k) k5 = steps_then (with_release_less k) (with_release_less k') k5 (less_release_then k k' w.same) r.same in
+      let steps6 : StepsOnNodes (with_release_less k) k6 = steps_then (with_release_less k) k5 k6 steps5 (steps_of_load way.node 2 found6 k5 k6 is6) in
+      let steps7 : StepsOnNodes (with_release_less k) k7 = steps_then (with_release_less k) k6 k7 steps6 (steps_of_load full.parent.node 2 found7 k6 k7 is7) in
+      let held6 : k6.log.holdings.held ≡ ends.lock ∷ upper' ∷ rest = ap (λ (z : CallerData). z.log.holdings.held) is6 ∙ r.held in
+      let held7 : k7.log.holdings.held ≡ ends.lock ∷ upper' ∷ rest = ap (λ (z : CallerData). z.log.holdings.held) is7 ∙ held6 in
+      let found_way : held_of way.node k5.log.holdings.held ≡ Some ends.lock = ap (held_of way.node) r.held ∙ found_at way.node [] ends.lock (upper' ∷ rest) ends.node tt in
+      let found_up : held_of full.parent.node k6.log.holdings.held ≡ Some upper' = ap (held_of full.parent.node) held6 ∙ found_at full.parent.node (ends.lock ∷ []) upper' rest w.upper_node ((λ e. ends.far (sym ends.node ∙ e)), tt) in
+      let dropped_is : drop 3 k.log.holdings.held ≡ rest = ap (λ (z : Holdings). drop 3 z.held) start ∙ (ap (drop 3) h.held ∙ rest_is) in record {
+        lower = ends.lock;
+        upper = upper';
+        held = held7 ∙ ap (λ xs. ends.lock ∷ upper' ∷ xs) (sym dropped_is);
+        out = ap (λ (z : CallerData). z.log.holdings.out) is7 ∙ (ap (λ (z : CallerData). z.log.holdings.out) is6 ∙ r.out);
+        way_held = subst (λ z. IsHeldAs t z ends.lock) (sym way_is) (record {
+          node = ends.node;
+          settled = ends.settled;
+          spells = ends.spells;
+          stored = ends.stored;
+          marked = ends.marked;
+          live = told_place t way.node way.content ends.lock k5.log (steps5.terms ∙ terms) found_way ends.node ends.settled told6;
+        });
+        parent_held = subst (λ z. IsHeldAs t z upper') (sym parent_is) (record {
+          node = w.upper_node;
+          settled = refl;
+          spells = w.upper_spells;
+          stored = w.upper_stored;
+          marked = refl;
+          live = told_place t full.parent.node (parts_for full pc).above upper' k6.log (steps6.terms ∙ terms) found_up w.upper_node refl told7;
+        });
+        way = way_is;
+        parent = parent_is;
+        within = subst (λ (z : Held). z.node < t.nodes) (sym way_is) ends.within;
+        here = subst (λ (z : Held). IsInFences pc z.content) (sym way_is) half.here;
+        leads = subst (λ (z : Held). HasChildFor split.parent.content pc z.node) (sym way_is) (subst (λ (z : Held). HasChildFor z.content pc way.node) (sym parent_is) (leads_on t full pc hs h tree));
+        lower_level = subst (λ (z : Held). z.content.level < full.parent.content.level) (sym way_is) half.level;
+        room = subst (λ (z : Held). HasRoom z.content.body) (sym way_is) half.room;
+        same = steps7;
+      }

@@ -1,0 +1,387 @@
+-- A full child is split under its parent: what is held before, and the change that is written.
+use Rattle.std.proofs.Common.{◌≡◌, ◌≢◌, ℕ, zero, suc, ◌+◌, ◌-◌, ◌<◌, ◌≤◌, List, [], ◌∷◌, ◌++◌, length, slice_get, sym, refl, ap, ◌∙◌, subst, arith, Bool, true, false, ◌==◌, nat_le, IsTrue, true≢false, Option, Some, None, IsSome, IsSomeAnd, is_some, inl, inr, ◌⊎◌, eq-eqb, ne_eqb, Contains, if◌then◌else◌}
+use Rattle.std.specs.List.{AllByRecursion}
+use Rattle.tree_shape.specs.declared.node.Frame.{Frame}
+use Rattle.tree_shape.specs.declared.pair.Pair.{Pair}
+use Rattle.tree_shape.specs.Changes.{at_slot, divide, first_half, last_half}
+use Rattle.tree_shape.specs.Lawful.{FitsParent, IsLawfulTree, IsOrderedAs}
+use Rattle.tree_shape.specs.LocalChange.{IsChangeOf}
+use Rattle.tree_shape.specs.NodeData.{NodeData, Body, Pairs, Entries, Link, Cut, IsInFences, IsInner, pairs_of, slot_for}
+use Rattle.tree_shape.specs.Numbers.{is_among}
+use Rattle.tree_shape.specs.Steps.{IsFull, IsSplit, middle, middle_fence}
+use Rattle.tree_shape.specs.Trees.{Branch, Contents, branches}
+use Rattle.tree_shape.proofs.Halves.{only}
+use Rattle.word_rule.specs.CallerData.{CallerData}
+use Rattle.word_rule.specs.declared.log.Holding.{Holding}
+use Rattle.word_rule.specs.declared.log.Holdings.{Holdings}
+use Rattle.word_rule.specs.declared.log.Log.{Log}
+use Rattle.word_rule.specs.declared.log.Terms.{Terms}
+use Rattle.word_rule.specs.Held.{held_of}
+use Rattle.word_rule.specs.Memory.{updated}
+use Rattle.word_rule.specs.NodeTells.{IsLiveNode, KnowsTree}
+use Rattle.word_rule.specs.Spelling.{SpellsNode}
+use Rattle.word_rule.specs.Steps.{MayStore}
+use Rattle.node_store.specs.Holding.{SpellsHeld, WritesHeld}
+use Rattle.node_store.specs.Writing.{kind_of_body}
+use Rattle.btree_change.specs.declared.split.FullChild.{FullChild}
+use Rattle.btree_change.specs.declared.split.Parts.{Parts}
+use Rattle.btree_change.specs.Paths.{StepsOnNodes}
+use Rattle.btree_change.specs.Splits.{HoldsFullChild, parts_for}
+use Rattle.btree_change.proofs.Descending.{all_there, level_of, steps_then}
+use Rattle.btree_change.proofs.HeldParts.{AreFar, IsTold, higher_dead, higher_far, higher_once, higher_stay, is_first, is_none, is_second, is_third, lives_apart, place_of_lock}
+use Rattle.btree_change.proofs.Settling.{FitsChange, HeldOnce, IsHeldChange, StaysSettled, left_out, marked_at, none_out, stays_fit}
+use Rattle.btree_change.proofs.SplitParts.{above_differs, are_halves, left_differs, never_free, slot_of}
+use Rattle.btree_change.proofs.Storing.{IsRewritten, found_at, rewritten_so}
+
+-- the law of a split, as a change of the three nodes alone
+abbrev pub SplitLaw : Type 0
+SplitLaw = (f : Contents) (live : ℕ → Bool) (parent slot : ℕ) (p : Pair) (fresh : ℕ) (g : Contents) → IsLawfulTree f live → IsSplit f live parent slot p fresh g → IsChangeOf f live parent (parent ∷ p.child ∷ []) (fresh ∷ []) g None (parent ∷ p.child ∷ fresh ∷ [])
+
+-- A held node was written, and a word of it was stored.
+pub record IsPartWritten (s : NodeData) (old now : Holding) : Type 0 where
+  pub node : now.node ≡ old.node
+  pub mark : now.mark ≡ old.mark
+  pub settled : now.settled ≡ old.settled
+  pub spells : SpellsNode now.words s
+  pub stored : now.stored ≡ true
+
+pub part_written : (s was : NodeData) (old : Holding) (before above : List Holding) (k k' : CallerData) → SpellsNode old.words was → was ≢ s → (w : IsRewritten s old before above k k') → IsPartWritten s old w.lock
+part_written s was old before above k k' spells differs w = record { node = w.node; mark = w.mark; settled = w.settled; spells = w.spells; stored = w.stored was spells differs }
+
+-- The three nodes of a split are written, and are held so: what may settle.
+pub record IsSplitWritten (t : Terms) (full : FullChild) (pc : ℕ) (f : Contents) (live : ℕ → Bool) (g : Contents) (rest : List Holding) (k k' : CallerData) : Type 0 where
+  pub new : Holding
+  pub lower : Holding
+  pub upper : Holding
+  pub held : k'.log.holdings.held ≡ new ∷ lower ∷ upper ∷ rest
+  pub out : k'.log.holdings.out ≡ full.fresh ∷ []
+  pub new_node : new.node ≡ full.fresh
+  pub new_mark : new.mark ≡ None
+  pub new_spells : SpellsNode new.words (parts_for full pc).right
+  pub new_stored : new.stored ≡ true
+  pub lower_node : lower.node ≡ full.child.node
+  pub lower_spells : SpellsNode lower.words (parts_for full pc).left
+  pub lower_stored : lower.stored ≡ true
+  pub upper_node : upper.node ≡ full.parent.node
+  pub upper_spells : SpellsNode upper.words (parts_for full pc).above
+  pub upper_stored : upper.stored ≡ true
+  pub change : IsHeldChange (record { held = new ∷ lower ∷ upper ∷ rest; out = full.fresh ∷ []; head = k'.log.holdings.head }) f live full.parent.node (full.parent.node ∷ full.child.node ∷ []) (full.fresh ∷ []) g (full.parent.node ∷ full.child.node ∷ full.fresh ∷ [])
+  pub none : left_out (full.parent.node ∷ full.child.node ∷ []) (full.parent.node ∷ full.child.node ∷ full.fresh ∷ []) (record { held = new ∷ lower ∷ upper ∷ rest; out = full.fresh ∷ []; head = k'.log.holdings.head }) ≡ []
+  pub stays : AllByRecursion (StaysSettled f live (full.parent.node ∷ full.child.node ∷ []) (full.parent.node ∷ full.child.node ∷ full.fresh ∷ [])) rest
+  pub new_up : full.fresh ≢ full.parent.node
+  pub new_down : full.fresh ≢ full.child.node
+  pub down_up : full.child.node ≢ full.parent.node
+  pub rest_new : AreFar full.fresh rest
+  pub rest_down : AreFar full.child.node rest
+  pub same : StepsOnNodes k k'
+
+outside_of : (up down new : ℕ) (rest : List Holding) → AreFar up rest → AreFar down rest → AreFar new rest → AllByRecursion (λ (a : Holding). (is_among (up ∷ down ∷ []) a.node ≡ false) × (is_among (up ∷ down ∷ new ∷ []) a.node ≡ false)) rest
+outside_of up down new [] x y z = tt
+outside_of up down new (a ∷ rest) x y z = ((is_none a.node (up ∷ down ∷ []) (x.0, (y.0, tt)), is_none a.node (up ∷ down ∷ new ∷ []) (x.0, (y.0, (z.0, tt)))), outside_of up down new rest x.1 y.1 z.1)
+
+module _ (t : Terms) (full : FullChild) (pc : ℕ) (hs : Holdings) (h : HoldsFullChild t full pc hs) (tree : KnowsTree hs) where
+  abbrev f : Contents
+  f = tree.contents
+
+  abbrev up : ℕ
+  up = full.parent.node
+
+  abbrev down : ℕ
+  down = full.child.node
+
+  abbrev new : ℕ
+  new = full.fresh
+
+  abbrev s : NodeData
+  s = full.parent.content
+
+  abbrev c : NodeData
+  c = full.child.content
+
+  abbrev parts : Parts
+  parts = parts_for full pc
+
+  abbrev slot : ℕ
+  slot = slot_for pc (pairs_of full.parent.content)
+
+  told : AllByRecursion (IsTold tree.contents tree.live) (h.new ∷ h.lower ∷ h.upper ∷ h.rest)
+  told = subst (AllByRecursion (IsTold tree.contents tree.live)) h.held tree.marked
+
+  pub up_live : tree.live full.parent.node ≡ true
+  up_live = ap tree.live (sym h.parent.node) ∙ (told.1.1.0 h.parent.marked).0
+
+  pub up_is : tree.contents full.parent.node ≡ full.parent.content
+  up_is = ap tree.contents (sym h.parent.node) ∙ ((told.1.1.0 h.parent.marked).1 ∙ h.parent.settled)
+
+  pub down_live : tree.live full.child.node ≡ true
+  down_live = ap tree.live (sym h.child.node) ∙ (told.1.0 h.child.marked).0
+
+  pub down_is : tree.contents full.child.node ≡ full.child.content
+  down_is = ap tree.contents (sym h.child.node) ∙ ((told.1.0 h.child.marked).1 ∙ h.child.settled)
+
+  pub new_dead : tree.live full.fresh ≡ false
+  new_dead = tree.dead full.fresh (subst (λ ns. IsTrue (is_among ns full.fresh)) (sym h.out) (is_first full.fresh []))
+
+  pub unmarked : h.new.mark ≡ None
+  unmarked = go h.new.mark refl
+    where
+      go : (o : Option Frame) → h.new.mark ≡ o → h.new.mark ≡ None
+      go None e = e
+      go (Some place) e = absurd (true≢false (sym (told.0 (ap is_some e)).0 ∙ (ap tree.live h.free.node ∙ new_dead)))
+
+  -- the three nodes are told apart, and from those above
+  new_up : full.fresh ≢ full.parent.node
+  new_up e = lives_apart tree.live full.parent.node full.fresh up_live new_dead (sym e)
+
+  new_down : full.fresh ≢ full.child.node
+  new_down e = lives_apart tree.live full.child.node full.fresh down_live new_dead (sym e)
+
+  ordered : IsOrderedAs full.parent.content (Pairs (pairs_of full.parent.content))
+  ordered = subst (IsOrderedAs full.parent.content) h.inner (place_of_lock t full.parent.node full.parent.content full.parent.changed h.upper h.parent).1.ordered
+
+  abbrev b : Branch
+  b = h.leads.0
+
+  fits : FitsParent tree.contents h.leads.0
+  fits = all_there (FitsParent tree.contents) (branches ((tree.contents full.parent.node).level - 1) (tree.contents full.parent.node)) h.leads.0 (tree.lawful.tree.fitting full.parent.node up_live)
+      (subst (λ (z : NodeData). Contains (branches (z.level - 1) z) h.leads.0) (sym up_is) h.leads.1.0)
+
+  child_is : tree.contents h.leads.0.child ≡ full.child.content
+  child_is = ap tree.contents h.leads.1.1 ∙ down_is
+
+  pub level : full.child.content.level < full.parent.content.level
+  level =
+      let a : full.child.content.level ≡ h.leads.0.frame.level = ap (λ (z : NodeData). z.level) (sym child_is) ∙ fits.level in
+      let e : h.leads.0.frame.level ≡ full.parent.content.level - 1 = level_of (full.parent.content.level - 1) full.parent.content.low (pairs_of full.parent.content) h.leads.0 h.leads.1.0 in
+      let some = ordered.0 in omega (arith, a, e, some)
+
+  pub inside : IsInFences pc full.child.content
+  inside =
+      let a : full.child.content.low ≡ h.leads.0.frame.low = ap (λ (z : NodeData). z.low) (sym child_is) ∙ fits.low in
+      let e : full.child.content.high ≡ h.leads.0.frame.high = ap (λ (z : NodeData). z.high) (sym child_is) ∙ fits.high in
+      let l = h.leads.1.2 in let m = h.leads.1.3 in (omega (arith, a, l), omega (arith, e, m))
+
+  down_up : full.child.node ≢ full.parent.node
+  down_up e = let same : full.child.content.level ≡ full.parent.content.level = ap (λ (z : NodeData). z.level) (sym down_is ∙ (ap tree.contents e ∙ up_is)) in let l = level in omega (arith, same, l)
+
+  rest_new : AreFar full.fresh h.rest
+  rest_new = higher_dead t tree.contents tree.live full.parent.content.level full.fresh h.rest h.higher told.1.1.1 new_dead
+
+  rest_up : AreFar full.parent.node h.rest
+  rest_up = let same : (tree.contents full.parent.node).level ≡ full.parent.content.level = ap (λ (z : NodeData). z.level) up_is in higher_far t tree.contents tree.live full.parent.content.level full.parent.node h.rest h.higher told.1.1.1 (omega (arith, same))
+
+  rest_down : AreFar full.child.node h.rest
+  rest_down =
+      let same : (tree.contents full.child.node).level ≡ full.child.content.level = ap (λ (z : NodeData). z.level) down_is in let l = level in
+      higher_far t tree.contents tree.live full.parent.content.level full.child.node h.rest h.higher told.1.1.1 (omega (arith, same, l))
+
+  -- a lock of this node, of which another is none
+  moved : (n m : ℕ) (a : Holding) → a.node ≡ m → m ≢ n → a.node ≢ n
+  moved n m a is far e = far (sym is ∙ e)
+
+  pub before_new : AreFar full.fresh (h.lower ∷ h.upper ∷ h.rest)
+  before_new = (moved full.fresh full.child.node h.lower h.child.node (λ e. new_down (sym e)), (moved full.fresh full.parent.node h.upper h.parent.node (λ e. new_up (sym e)), rest_new))
+
+  pub found_child : (p : Pair) × ((slice_get (pairs_of full.parent.content) (slot_for pc (pairs_of full.parent.content)) ≡ Some p) × (p.child ≡ full.child.node))
+  found_child =
+      let r = slot_of (full.parent.content.level - 1) full.parent.content.low full.parent.content.high pc (pairs_of full.parent.content) h.leads.0 ordered.1 h.leads.1.0 h.leads.1.2 h.leads.1.3 in
+      (r.0, (r.1.0, r.1.1 ∙ h.leads.1.1))
+
+  -- the tree with the three nodes changed
+  pub g : Contents
+  g = updated (updated (updated tree.contents full.parent.node (parts_for full pc).above) full.child.node (parts_for full pc).left) full.fresh (parts_for full pc).right
+
+  pub g_up : g full.parent.node ≡ (parts_for full pc).above
+  unfolding g
+  g_up = rw (ne_eqb full.parent.node full.fresh (λ e. new_up (sym e)), ne_eqb full.parent.node full.child.node (λ e. down_up (sym e)), eq-eqb full.parent.node full.parent.node refl) refl
+
+  pub g_down : g full.child.node ≡ (parts_for full pc).left
+  unfolding g
+  g_down = rw (ne_eqb full.child.node full.fresh (λ e. new_down (sym e)), eq-eqb full.child.node full.child.node refl) refl
+
+  pub g_new : g full.fresh ≡ (parts_for full pc).right
+  unfolding g
+  g_new = rw (eq-eqb full.fresh full.fresh refl) refl
+
+  g_else : (n : ℕ) → n ≢ full.parent.node → n ≢ full.child.node → n ≢ full.fresh → g n ≡ tree.contents n
+  unfolding g
+  g_else n a e d = rw (ne_eqb n full.fresh d, ne_eqb n full.child.node e, ne_eqb n full.parent.node a) refl
+
+  splits : IsSplit tree.contents tree.live full.parent.node (slot_for pc (pairs_of full.parent.content)) found_child.0 full.fresh g
+  splits =
+      let p = found_child.0 in let same : p.child ≡ full.child.node = found_child.1.1 in
+      let here : tree.contents p.child ≡ full.child.content = ap tree.contents same ∙ down_is in record {
+        live_parent = up_live;
+        at = subst (λ (z : NodeData). slice_get (pairs_of z) (slot_for pc (pairs_of full.parent.content)) ≡ Some p) (sym up_is) found_child.1.0;
+        room = subst (λ (z : NodeData). length (pairs_of z) < 15) (sym up_is) h.room;
+        full = subst (λ (z : NodeData). IsFull z.body) (sym here) h.is_full;
+        free = new_dead;
+        above = g_up ∙ (λ i. let z = sym up_is i in record z { body = Pairs (at_slot (divide (middle_fence (sym here i)) full.fresh) (slot_for pc (pairs_of full.parent.content)) (pairs_of z)) });
+        left = ap g same ∙ (g_down ∙ ap (λ (z : NodeData). first_half (middle z.body) z) (sym here));
+        right = g_new ∙ ap (λ (z : NodeData). last_half (middle z.body) z) (sym here);
+        others = λ n a e d. g_else n a (λ q. e (q ∙ sym same)) d;
+      }
+
+  module _ (law : SplitLaw) where
+    pub change : IsChangeOf tree.contents tree.live full.parent.node (full.parent.node ∷ full.child.node ∷ []) (full.fresh ∷ []) g None (full.parent.node ∷ full.child.node ∷ full.fresh ∷ [])
+    change = subst (λ n. IsChangeOf tree.contents tree.live full.parent.node (full.parent.node ∷ n ∷ []) (full.fresh ∷ []) g None (full.parent.node ∷ n ∷ full.fresh ∷ [])) found_child.1.1
+        (law tree.contents tree.live full.parent.node (slot_for pc (pairs_of full.parent.content)) found_child.0 full.fresh g tree.lawful splits)
+
+  pub right_kind : kind_of_body (parts_for full pc).right.body ≢ 2
+  right_kind = (are_halves full.child.content.body h.is_full).right_kind
+
+  pub left_kind : kind_of_body (parts_for full pc).left.body ≢ 2
+  left_kind = (are_halves full.child.content.body h.is_full).left_kind
+
+  above_new : (parts_for full pc).above ≢ full.parent.content
+  above_new = above_differs full.parent.content (middle_fence full.child.content) full.fresh (slot_for pc (pairs_of full.parent.content)) found_child.0 found_child.1.0
+
+  pub may_first : (k : CallerData) → k.log.holdings ≡ hs → MayStore full.fresh k.log
+  may_first k start = subst (λ o. IsSomeAnd o (λ (z : Holding). IsSome z.mark ⊎ IsTrue (is_among k.log.holdings.out full.fresh))) (sym (ap (λ (z : Holdings). held_of full.fresh z.held) start ∙ (ap (held_of full.fresh) h.held ∙ found_at full.fresh [] h.new (h.lower ∷ h.upper ∷ h.rest) h.free.node tt)))
+      (inr (ap (λ (z : Holdings). is_among z.out full.fresh) start ∙ (ap (λ ns. is_among ns full.fresh) h.out ∙ is_first full.fresh [])))
+
+  -- The three nodes are written, the new one first and the child last.
+  module _ (k k1 : CallerData) (start : k.log.holdings ≡ hs) (write1 : WritesHeld full.fresh (parts_for full pc).right k k1) (spell1 : SpellsHeld full.fresh (parts_for full pc).right k1.log) where
+    pub first : IsRewritten (parts_for full pc).right h.new [] (h.lower ∷ h.upper ∷ h.rest) k k1
+    first = rewritten_so (parts_for full pc).right full.fresh h.new [] (h.lower ∷ h.upper ∷ h.rest) k k1 right_kind h.free.node tt before_new (ap (λ (z : Holdings). z.held) start ∙ h.held) write1 spell1
+
+    new_is : first.lock.node ≡ full.fresh
+    new_is = first.node ∙ h.free.node
+
+    far_up : AreFar full.parent.node (first.lock ∷ h.lower ∷ [])
+    far_up = (moved full.parent.node full.fresh first.lock new_is new_up, (moved full.parent.node full.child.node h.lower h.child.node down_up, tt))
+
+    pub may_second : MayStore full.parent.node k1.log
+    may_second = subst (λ o. IsSomeAnd o (λ (z : Holding). IsSome z.mark ⊎ IsTrue (is_among k1.log.holdings.out full.parent.node))) (sym (ap (held_of full.parent.node) first.held ∙ found_at full.parent.node (first.lock ∷ h.lower ∷ []) h.upper h.rest h.parent.node far_up))
+        (inl h.parent.marked)
+
+    module _ (k2 : CallerData) (write2 : WritesHeld full.parent.node (parts_for full pc).above k1 k2) (spell2 : SpellsHeld full.parent.node (parts_for full pc).above k2.log) where
+      pub second : IsRewritten (parts_for full pc).above h.upper (first.lock ∷ h.lower ∷ []) h.rest k1 k2
+      second = rewritten_so (parts_for full pc).above full.parent.node h.upper (first.lock ∷ h.lower ∷ []) h.rest k1 k2 (λ e. omega (arith, e)) h.parent.node far_up rest_up first.held write2 spell2
+
+      up_now : second.lock.node ≡ full.parent.node
+      up_now = second.node ∙ h.parent.node
+
+      far_down : AreFar full.child.node (second.lock ∷ h.rest)
+      far_down = (moved full.child.node full.parent.node second.lock up_now (λ e. down_up (sym e)), rest_down)
+
+      far_down' : AreFar full.child.node (first.lock ∷ [])
+      far_down' = (moved full.child.node full.fresh first.lock new_is new_down, tt)
+
+      pub may_third : MayStore full.child.node k2.log
+      may_third = subst (λ o. IsSomeAnd o (λ (z : Holding). IsSome z.mark ⊎ IsTrue (is_among k2.log.holdings.out full.child.node))) (sym (ap (held_of full.child.node) second.held ∙ found_at full.child.node (first.lock ∷ []) h.lower (second.lock ∷ h.rest) h.child.node far_down'))
+          (inl h.child.marked)
+
+      module _ (k3 : CallerData) (write3 : WritesHeld full.child.node (parts_for full pc).left k2 k3) (spell3 : SpellsHeld full.child.node (parts_for full pc).left k3.log) where
+        pub third : IsRewritten (parts_for full pc).left h.lower (first.lock ∷ []) (second.lock ∷ h.rest) k2 k3
+        third = rewritten_so (parts_for full pc).left full.child.node h.lower (first.lock ∷ []) (second.lock ∷ h.rest) k2 k3 left_kind h.child.node far_down' far_down second.held write3 spell3
+
+        pub new_written : IsPartWritten (parts_for full pc).right h.new first.lock
+        new_written = part_written (parts_for full pc).right h.new.settled h.new [] (h.lower ∷ h.upper ∷ h.rest) k k1 h.free.spells (never_free (parts_for full pc).right h.new.settled h.free.next right_kind h.free.free) first
+
+        pub up_written : IsPartWritten (parts_for full pc).above h.upper second.lock
+        up_written = part_written (parts_for full pc).above full.parent.content h.upper (first.lock ∷ h.lower ∷ []) h.rest k1 k2 h.parent.spells (λ e. above_new (sym e)) second
+
+        pub down_written : IsPartWritten (parts_for full pc).left h.lower third.lock
+        down_written = part_written (parts_for full pc).left full.child.content h.lower (first.lock ∷ []) (second.lock ∷ h.rest) k2 k3 h.child.spells (λ e. left_differs full.child.content h.is_full (sym e)) third
+
+        pub written_same : StepsOnNodes k k3
+        written_same = steps_then k k2 k3 (steps_then k k1 k2 first.same second.same) third.same
+
+        pub written_out : k3.log.holdings.out ≡ full.fresh ∷ []
+        written_out = third.out ∙ (second.out ∙ (first.out ∙ (ap (λ (z : Holdings). z.out) start ∙ h.out)))
+
+        down_now : third.lock.node ≡ full.child.node
+        down_now = third.node ∙ h.child.node
+
+        abbrev group : List ℕ
+        group = full.parent.node ∷ full.child.node ∷ []
+
+        abbrev reached : List ℕ
+        reached = full.parent.node ∷ full.child.node ∷ full.fresh ∷ []
+
+        abbrev holding : Holdings
+        holding = record { held = first.lock ∷ third.lock ∷ second.lock ∷ h.rest; out = full.fresh ∷ []; head = k3.log.holdings.head }
+
+        new_fits : FitsChange tree.contents tree.live group (full.fresh ∷ []) g first.lock
+        new_fits = record {
+          marked = λ m. absurd (true≢false (sym m ∙ ap is_some (new_written.mark ∙ unmarked)));
+          leaves = λ _. new_written.stored;
+          enters = λ _. (subst (SpellsNode first.lock.words) (sym (ap g new_is ∙ g_new)) new_written.spells, new_written.stored);
+        }
+
+        down_fits : FitsChange tree.contents tree.live group (full.fresh ∷ []) g third.lock
+        down_fits = let spells = subst (SpellsNode third.lock.words) (sym (ap g down_now ∙ g_down)) down_written.spells in record {
+          marked = λ _. (ap tree.live down_now ∙ down_live, ap tree.contents down_now ∙ (down_is ∙ sym (third.settled ∙ h.child.settled)), spells);
+          leaves = λ _. down_written.stored;
+          enters = λ _. (spells, down_written.stored);
+        }
+
+        up_fits : FitsChange tree.contents tree.live group (full.fresh ∷ []) g second.lock
+        up_fits = let spells = subst (SpellsNode second.lock.words) (sym (ap g up_now ∙ g_up)) up_written.spells in record {
+          marked = λ _. (ap tree.live up_now ∙ up_live, ap tree.contents up_now ∙ (up_is ∙ sym (second.settled ∙ h.parent.settled)), spells);
+          leaves = λ _. up_written.stored;
+          enters = λ _. (spells, up_written.stored);
+        }
+
+        stays : AllByRecursion (StaysSettled tree.contents tree.live group reached) h.rest
+        stays = higher_stay t tree.contents tree.live group reached full.parent.content.level h.rest h.higher told.1.1.1 (outside_of full.parent.node full.child.node full.fresh h.rest rest_up rest_down rest_new)
+
+        once_each : HeldOnce (first.lock ∷ third.lock ∷ second.lock ∷ h.rest)
+        once_each = (
+          subst (λ n. AreFar n (third.lock ∷ second.lock ∷ h.rest)) (sym new_is) (moved full.fresh full.child.node third.lock down_now (λ e. new_down (sym e)), (moved full.fresh full.parent.node second.lock up_now (λ e. new_up (sym e)), rest_new)),
+          (subst (λ n. AreFar n (second.lock ∷ h.rest)) (sym down_now) far_down, (subst (λ n. AreFar n h.rest) (sym up_now) rest_up, higher_once t tree.contents tree.live full.parent.content.level h.rest h.higher told.1.1.1)),
+        )
+
+        nothing_out : left_out group reached holding ≡ []
+        nothing_out = none_out group reached holding (is_first full.parent.node (full.child.node ∷ full.fresh ∷ []), (is_second full.parent.node full.child.node (full.fresh ∷ []), tt)) (is_third full.parent.node full.child.node full.fresh [], tt)
+
+        less : (tree.contents full.child.node).level < (tree.contents full.parent.node).level
+        less =
+            let a : (tree.contents full.child.node).level ≡ full.child.content.level = ap (λ (z : NodeData). z.level) down_is in
+            let e : (tree.contents full.parent.node).level ≡ full.parent.content.level = ap (λ (z : NodeData). z.level) up_is in
+            let l = level in omega (arith, a, e, l)
+
+        pub split_written : SplitLaw → (k0 : CallerData) → StepsOnNodes k0 k → IsSplitWritten t full pc tree.contents tree.live g h.rest k0 k3
+        split_written law k0 steps = record {
+          new = first.lock;
+          lower = third.lock;
+          upper = second.lock;
+          held = third.held;
+          out = written_out;
+          new_node = new_is;
+          new_mark = new_written.mark ∙ unmarked;
+          new_spells = new_written.spells;
+          new_stored = new_written.stored;
+          lower_node = down_now;
+          lower_spells = down_written.spells;
+          lower_stored = down_written.stored;
+          upper_node = up_now;
+          upper_spells = up_written.spells;
+          upper_stored = up_written.stored;
+          change = record {
+            lawful = tree.lawful;
+            dead = λ n e. ap tree.live (only full.fresh n e) ∙ new_dead;
+            change = change law;
+            each = (new_fits, (down_fits, (up_fits, stays_fit tree.contents tree.live full.parent.node group (full.fresh ∷ []) g reached (change law) h.rest stays)));
+            once = once_each;
+            group_held = (
+              marked_at full.parent.node second.lock (first.lock ∷ third.lock ∷ second.lock ∷ h.rest)
+                  (found_at full.parent.node (first.lock ∷ third.lock ∷ []) second.lock h.rest up_now (moved full.parent.node full.fresh first.lock new_is new_up, (moved full.parent.node full.child.node third.lock down_now down_up, tt)))
+                  (ap is_some second.mark ∙ h.parent.marked),
+              (marked_at full.child.node third.lock (first.lock ∷ third.lock ∷ second.lock ∷ h.rest) (found_at full.child.node (first.lock ∷ []) third.lock (second.lock ∷ h.rest) down_now far_down') (ap is_some third.mark ∙ h.child.marked), tt),
+            );
+            fresh_held = ((subst IsSome (sym (found_at full.fresh [] first.lock (third.lock ∷ second.lock ∷ h.rest) new_is tt)) refl, is_first full.fresh []), tt);
+            differ = ((λ e. above_new (sym g_up ∙ (e ∙ up_is))), ((λ e. left_differs full.child.content h.is_full (sym g_down ∙ (e ∙ down_is))), tt));
+            lower = ((λ far. absurd (far refl)), ((λ far. less), tt));
+            room = subst (λ (xs : List ℕ). length xs ≤ 4) (sym nothing_out) (omega arith);
+          };
+          none = nothing_out;
+          stays = stays;
+          new_up = new_up;
+          new_down = new_down;
+          down_up = down_up;
+          rest_new = rest_new;
+          rest_down = rest_down;
+          same = steps_then k0 k k3 steps written_same;
+        }

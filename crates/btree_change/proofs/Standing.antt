@@ -1,0 +1,250 @@
+-- Where an insertion stands after a step down: what it holds is of one tree, and the node above both
+-- leaves is known where the span ends beyond the child.
+use Rattle.std.proofs.Common.{◌≡◌, ◌≢◌, ℕ, zero, suc, ◌+◌, ◌-◌, ◌<◌, ◌≤◌, List, [], ◌∷◌, ◌++◌, length, drop, append-nil, sym, refl, ap, ◌∙◌, subst, arith, inl, inr, ◌⊎◌, Bool, true, false, ◌==◌, nat_le, IsTrue, true≢false, Option, Some, None, IfSome, IsSome, eq-eqb, ne_eqb, Contains, cond, if◌then◌else◌}
+use Rattle.std.proofs.lemmas.Option.{same_Some}
+use Rattle.std.proofs.lemmas.Bool.{leb-true, leb-false, le-leb, lt-leb}
+use Rattle.std.specs.List.{AllByRecursion, slice_get}
+use native.Mathlib.Decide.{ℕ_discrete}
+use Rattle.reg_model.specs.declared.span.Member.{Member}
+use Rattle.tree_shape.specs.declared.node.Frame.{Frame}
+use Rattle.tree_shape.specs.declared.pair.Pair.{Pair}
+use Rattle.tree_shape.specs.NodeData.{NodeData, Cut, IsInFences, pairs_of, slot_for}
+use Rattle.tree_shape.specs.Steps.{last_child}
+use Rattle.tree_shape.specs.Trees.{Branch, Contents, branches, branches_from}
+use Rattle.tree_shape.proofs.Leads.{branch_inside}
+use Rattle.tree_shape.proofs.Times.{In}
+use Rattle.word_rule.specs.CallerData.{CallerData}
+use Rattle.word_rule.specs.declared.log.Holding.{Holding}
+use Rattle.word_rule.specs.declared.log.Holdings.{Holdings}
+use Rattle.word_rule.specs.declared.log.LoadEvent.{LoadEvent}
+use Rattle.word_rule.specs.declared.log.Log.{Log}
+use Rattle.word_rule.specs.declared.log.Terms.{Terms}
+use Rattle.word_rule.specs.Held.{held_of}
+use Rattle.word_rule.specs.Logs.{load_of}
+use Rattle.word_rule.specs.Places.{node_place}
+use Rattle.word_rule.specs.NodeTells.{IsLiveNode, KnowsTree}
+use Rattle.word_rule.specs.Sights.{after_node_load}
+use Rattle.word_rule.specs.Spelling.{SpellsNode}
+use Rattle.word_rule.specs.TreeRefusals.{HadNoRoom}
+use Rattle.btree_change.specs.declared.descent.Held.{Held}
+use Rattle.btree_change.specs.declared.stand.Beyond.{Beyond}
+use Rattle.btree_change.specs.declared.stand.Room.{Room}
+use Rattle.btree_change.specs.declared.stand.Room.TheVariants as room
+use Rattle.btree_change.specs.declared.stand.Stand.{Stand}
+use Rattle.btree_change.specs.Paths.{AreHigher, HasChildFor, IsLiveLock, IsSettledLock}
+use Rattle.btree_change.specs.Spines.{AreApart, Climbs, KeepsLoads}
+use Rattle.btree_change.specs.Stands.{HasWayOn, HoldsPair, IsBeyond, IsReach, MayGo, Reaches, Stands, StandsAt}
+use Rattle.btree_change.proofs.HeldTrees.{IsChild, OnTree, apart_with, child, child_frame, inner, on_tree}
+use Rattle.btree_change.proofs.Spending.{room_kept}
+
+-- an item of a list stands in it
+contains_in : {A : Type 0} (xs : List A) (x : A) → Contains xs x → In x xs
+contains_in [] x c = absurd (let l = c.1 in omega (arith, l))
+contains_in (y ∷ xs) x (zero, l, e) = inl e
+contains_in (y ∷ xs) x (suc k, l, e) = inr (contains_in xs x (k, omega (arith, l), e))
+
+-- the branch for an address is that of the slot for it
+pub record IsSlotOf (pc : ℕ) (pairs : List Pair) (b : Branch) : Type 0 where
+  pub pair : Pair
+  pub at : slice_get pairs (slot_for pc pairs) ≡ Some pair
+  pub child : pair.child ≡ b.child
+  pub high : pair.separator ≡ b.frame.high
+
+pub slot_is : (level low high pc : ℕ) (pairs : List Pair) (b : Branch) → Cut low high pairs → In b (branches_from level low pairs) → b.frame.low ≤ pc → pc ≤ b.frame.high → IsSlotOf pc pairs b
+slot_is level low high pc [] b cut there least most = absurd there
+slot_is level low high pc (p ∷ pairs) b cut (inl e) least most =
+    let sep : p.separator ≡ b.frame.high = ap (λ (z : Branch). z.frame.high) e in
+    record {
+      pair = p;
+      at = ap (λ z. slice_get (p ∷ pairs) (if z then 0 else (slot_for pc pairs + 1))) (le-leb pc p.separator (omega (arith, sep, most)));
+      child = ap (λ (z : Branch). z.child) e;
+      high = sep;
+    }
+slot_is level low high pc (p ∷ pairs) b cut (inr later) least most =
+    let rest = slot_is level (p.separator + 1) high pc pairs b cut.1 later least most in
+    let inside = branch_inside level (p.separator + 1) high pairs b cut.1 later in
+    let next : slot_for pc pairs + 1 ≡ suc (slot_for pc pairs) = omega arith in record {
+      pair = rest.pair;
+      at = ap (λ z. slice_get (p ∷ pairs) (if z then 0 else (slot_for pc pairs + 1))) (lt-leb pc p.separator (let l = inside.0 in omega (arith, l, least))) ∙ (ap (λ k. slice_get (p ∷ pairs) k) next ∙ rest.at);
+      child = rest.child;
+      high = rest.high;
+    }
+
+-- the last pair has the last child, and ends at the high fence
+pub last_pair : (low high slot start : ℕ) (pairs : List Pair) (p : Pair) → Cut low high pairs → slice_get pairs slot ≡ Some p → length pairs ≡ slot + 1 → (last_child start pairs ≡ p.child) × (p.separator ≡ high)
+last_pair low high slot start [] p cut at last = absurd (omega (arith, last))
+last_pair low high zero start (q ∷ []) p cut at last =
+    let e = same_Some _ _ at in (ap (λ (z : Pair). z.child) e, (let c = cut.1 in ap (λ (z : Pair). z.separator) (sym e) ∙ omega (arith, c)))
+last_pair low high zero start (q ∷ r ∷ pairs) p cut at last = absurd (omega (arith, last))
+last_pair low high (suc slot) start (q ∷ pairs) p cut at last = last_pair (q.separator + 1) high slot q.child pairs p cut.1 at (omega (arith, last))
+
+next_pair : (slot : ℕ) (pairs : List Pair) → slot < length pairs → (q : Pair) × (slice_get pairs slot ≡ Some q)
+next_pair slot [] inside = absurd (omega (arith, inside))
+next_pair zero (q ∷ pairs) inside = (q, refl)
+next_pair (suc slot) (q ∷ pairs) inside = next_pair slot pairs (omega (arith, inside))
+
+pub live_lock : (t : Terms) (n : ℕ) (s : NodeData) (changed : Bool) (h : Holding) → IsSettledLock t n s changed h → IsLiveLock t h
+live_lock t n s changed h l =
+    subst (λ k. IsSettledLock t k h.settled h.stored h) (sym l.node) (subst (λ z. IsSettledLock t n z h.stored h) (sym l.settled) (subst (λ b. IsSettledLock t n s b h) (sym l.stored) l))
+
+pub higher_marked : (t : Terms) (level : ℕ) (held : List Holding) → AreHigher t level held → AllByRecursion (λ (h : Holding). IsSome h.mark) held
+higher_marked t level [] all = tt
+higher_marked t level (h ∷ held) all = (all.0.marked, higher_marked t h.settled.level held all.2)
+
+module _ (t : Terms) (pc last : ℕ) (parent below : Held) (above : List Holding) (holdings : Holdings) (pair : HoldsPair t pc parent below above holdings) (tree : KnowsTree holdings) where
+  upper_live : IsLiveLock t pair.upper
+  upper_live = live_lock t parent.node parent.content parent.changed pair.upper pair.parent_is
+
+  level_is : pair.upper.settled.level ≡ parent.content.level
+  level_is = ap (λ (s : NodeData). s.level) pair.parent_is.settled
+
+  pub on : AllByRecursion (OnTree tree.contents tree.live) (pair.lower ∷ pair.upper ∷ above)
+  on = on_tree holdings tree (pair.lower ∷ pair.upper ∷ above) pair.held (pair.child_is.marked, (pair.parent_is.marked, higher_marked t parent.content.level above pair.higher))
+
+  cut : Cut pair.upper.settled.low pair.upper.settled.high (pairs_of pair.upper.settled)
+  cut = (inner tree.contents tree.live tree.lawful pair.upper on.1.0 (let e = level_is in let i = pair.inner in omega (arith, e, i))).1
+
+  abbrev b : Branch
+  b = pair.leads.0
+
+  in_upper : In b (branches (pair.upper.settled.level - 1) pair.upper.settled)
+  in_upper = subst (λ (s : NodeData). In b (branches (s.level - 1) s)) (sym pair.parent_is.settled) (contains_in (branches (parent.content.level - 1) parent.content) b pair.leads.1.0)
+
+  frame : (pair.lower.settled.level ≡ b.frame.level) × (pair.lower.settled.low ≡ b.frame.low) × (pair.lower.settled.high ≡ b.frame.high)
+  frame = child_frame tree.contents tree.live tree.lawful pair.lower b (child tree.contents tree.live tree.lawful pair.upper b on.1.0 in_upper) on.0 (pair.child_is.node ∙ sym pair.leads.1.1)
+
+  branch_level : (level low : ℕ) (pairs : List Pair) (x : Branch) → In x (branches_from level low pairs) → x.frame.level ≡ level
+  branch_level level low [] x there = absurd there
+  branch_level level low (p ∷ pairs) x (inl e) = ap (λ (z : Branch). z.frame.level) (sym e)
+  branch_level level low (p ∷ pairs) x (inr later) = branch_level level (p.separator + 1) pairs x later
+
+  one_less : pair.upper.settled.level ≡ pair.lower.settled.level + 1
+  one_less =
+      let a = frame.0 in let c = branch_level (pair.upper.settled.level - 1) pair.upper.settled.low (pairs_of pair.upper.settled) b in_upper in
+      let e = level_is in let i = pair.inner in omega (arith, a, c, e, i)
+
+  pub below_less : below.content.level < parent.content.level
+  below_less = let a = one_less in let e = level_is in let z = ap (λ (s : NodeData). s.level) pair.child_is.settled in omega (arith, a, e, z)
+
+  slot : IsSlotOf pc (pairs_of pair.upper.settled) b
+  slot = slot_is (pair.upper.settled.level - 1) pair.upper.settled.low pair.upper.settled.high pc (pairs_of pair.upper.settled) b cut in_upper pair.leads.1.2 pair.leads.1.3
+
+  pub higher : AreHigher t below.content.level (pair.upper ∷ above)
+  higher = (upper_live, (let a = below_less in let e = level_is in omega (arith, a, e)), subst (λ l. AreHigher t l above) (sym level_is) pair.higher)
+
+  child_high : pair.lower.settled.high ≡ slot.pair.separator
+  child_high = frame.2 ∙ sym slot.high
+
+  abbrev pub stands_below : StandsAt t below holdings
+  stands_below = record {
+    within = pair.child_within;
+    lock = pair.lower;
+    above = pair.upper ∷ above;
+    held = pair.held;
+    here = pair.child_is;
+    higher = higher;
+    apart = apart_with tree.contents tree.live tree.lawful t below.content.level pair.lower (pair.upper ∷ above) on.0 on.1 (let z = ap (λ (s : NodeData). s.level) pair.child_is.settled in omega (arith, z)) higher;
+    root = go (pair.lower.node == 0);
+    out = pair.out;
+  }
+    where
+      go : (z : Bool) → IsSome (cond z (Some pair.lower) (held_of 0 (pair.upper ∷ above)))
+      go true = refl
+      go false = pair.root
+
+  pub reaches_below : (so_far found : Option Beyond) → IsReach parent pc last so_far found → Reaches t last parent.content so_far pair.upper above → Reaches t last below.content found pair.lower (pair.upper ∷ above)
+  reaches_below so_far found (p, (at, which)) before =
+      let at_upper : slice_get (pairs_of pair.upper.settled) (slot_for pc (pairs_of pair.upper.settled)) ≡ Some p = ap (λ (s : NodeData). slice_get (pairs_of s) (slot_for pc (pairs_of s))) pair.parent_is.settled ∙ at in
+      let same : slot.pair ≡ p = same_Some _ _ (sym slot.at ∙ at_upper) in
+      let high : below.content.high ≡ p.separator = ap (λ (s : NodeData). s.high) (sym pair.child_is.settled) ∙ (child_high ∙ ap (λ (z : Pair). z.separator) same) in
+      go p at_upper same high which
+    where
+      go : (p : Pair) → slice_get (pairs_of pair.upper.settled) (slot_for pc (pairs_of pair.upper.settled)) ≡ Some p → slot.pair ≡ p → below.content.high ≡ p.separator
+          → ((last ≤ p.separator) × (found ≡ None)) ⊎ (((p.separator < last) × (slot_for pc (pairs_of parent.content) + 1 < length (pairs_of parent.content)) × (found ≡ Some (record { node = parent.node; slot = slot_for pc (pairs_of parent.content); level = parent.content.level }))) ⊎ ((p.separator < last) × (length (pairs_of parent.content) ≡ slot_for pc (pairs_of parent.content) + 1) × (found ≡ so_far)))
+          → Reaches t last below.content found pair.lower (pair.upper ∷ above)
+      go p at_upper same high (inl inside) = subst (λ o. Reaches t last below.content o pair.lower (pair.upper ∷ above)) (sym inside.1) (let a = inside.0 in omega (arith, a, high))
+      go p at_upper same high (inr (inl past)) =
+          let next = next_pair (slot_for pc (pairs_of pair.upper.settled) + 1) (pairs_of pair.upper.settled) (subst (λ (s : NodeData). slot_for pc (pairs_of s) + 1 < length (pairs_of s)) (sym pair.parent_is.settled) past.1) in
+          let same_slot : slot_for pc (pairs_of pair.upper.settled) ≡ slot_for pc (pairs_of parent.content) = ap (λ (s : NodeData). slot_for pc (pairs_of s)) pair.parent_is.settled in
+          subst (λ o. Reaches t last below.content o pair.lower (pair.upper ∷ above)) (sym past.2) (
+            (let a = past.0 in omega (arith, a, high)),
+            record {
+              spine = [];
+              top = pair.upper;
+              rest = above;
+              split = refl;
+              node = pair.parent_is.node;
+              within = pair.parent_within;
+              level = level_is;
+              climb = record {
+                pair = p;
+                next = next.0;
+                at = ap (λ k. slice_get (pairs_of pair.upper.settled) k) (sym same_slot) ∙ at_upper;
+                after = ap (λ k. slice_get (pairs_of pair.upper.settled) (k + 1)) (sym same_slot) ∙ next.1;
+                child = ap (λ (z : Pair). z.child) (sym same) ∙ (slot.child ∙ (pair.leads.1.1 ∙ sym pair.child_is.node));
+                level = one_less;
+              };
+            },
+          )
+      go p at_upper same high (inr (inr ends)) = by so_far refl
+        where
+          last_is : (last_child 0 (pairs_of pair.upper.settled) ≡ p.child) × (p.separator ≡ pair.upper.settled.high)
+          last_is = last_pair pair.upper.settled.low pair.upper.settled.high (slot_for pc (pairs_of pair.upper.settled)) 0 (pairs_of pair.upper.settled) p cut at_upper (subst (λ (s : NodeData). length (pairs_of s) ≡ slot_for pc (pairs_of s) + 1) (sym pair.parent_is.settled) ends.1)
+
+          by : (o : Option Beyond) → so_far ≡ o → Reaches t last below.content found pair.lower (pair.upper ∷ above)
+          by None e =
+              let most : last ≤ parent.content.high = subst (λ o. Reaches t last parent.content o pair.upper above) e before in
+              let a = ends.0 in let c = last_is.1 in let d = ap (λ (s : NodeData). s.high) pair.parent_is.settled in absurd (omega (arith, most, a, c, d))
+          by (Some x) e =
+              let told : (parent.content.high < last) × IsBeyond t x pair.upper above = subst (λ o. Reaches t last parent.content o pair.upper above) e before in
+              subst (λ o. Reaches t last below.content o pair.lower (pair.upper ∷ above)) (sym (ends.2 ∙ e)) (
+                (let a = ends.0 in omega (arith, a, high)),
+                record {
+                  spine = pair.upper ∷ told.1.spine;
+                  top = told.1.top;
+                  rest = told.1.rest;
+                  split = ap (λ hs. pair.upper ∷ hs) told.1.split;
+                  node = told.1.node;
+                  within = told.1.within;
+                  level = told.1.level;
+                  climb = (
+                    (pair.child_is.node ∙ (sym pair.leads.1.1 ∙ (sym slot.child ∙ (ap (λ (z : Pair). z.child) same ∙ sym last_is.0))), one_less),
+                    told.1.climb,
+                  );
+                },
+              )
+
+-- a node at which an insertion stands may be let go of
+pub higher_spelled : (t : Terms) (level : ℕ) (held : List Holding) → AreHigher t level held → AllByRecursion (λ (h : Holding). SpellsNode h.words h.settled) held
+higher_spelled t level [] all = tt
+higher_spelled t level (h ∷ held) all = (all.0.spells, higher_spelled t h.settled.level held all.2)
+
+abbrev pub may_go : (t : Terms) (at : Held) (holdings : Holdings) → StandsAt t at holdings → MayGo at.node at.changed holdings
+may_go t at holdings s = record {
+  lock = s.lock;
+  above = s.above;
+  held = s.held;
+  is_node = s.here.node;
+  stored = λ e. s.here.stored ∙ e;
+  settled = (subst (SpellsNode s.lock.words) (sym s.here.settled) s.here.spells, higher_spelled t at.content.level s.above s.higher);
+  apart = s.apart;
+}
+
+-- a load keeps what is known of the way on
+pub way_kept : (room : Room) (pc : ℕ) (s : NodeData) (v w : Log) → w.receipts.own ≡ v.receipts.own → (more : List LoadEvent) → w.trace.loads ≡ v.trace.loads ++ more → HasWayOn room pc s v → HasWayOn room pc s w
+way_kept room.Splitting pc s v w own more is h = h
+way_kept room.NoneFree pc s v w own more is h = subst (λ xs. HadNoRoom pc (length xs) w.trace.loads) (sym own) (room_kept pc (length v.receipts.own) v.trace.loads w.trace.loads (more, is) h)
+
+-- and so is where an insertion stands
+pub stands_after : (t : Terms) (m : Member) (parent below : Held) (way : Room) (so_far found : Option Beyond) (above : List Holding) (at word : ℕ) (k k' : CallerData) → (pair : HoldsPair t m.span.first parent below above k.log.holdings) → KnowsTree k.log.holdings → HasWayOn way m.span.first below.content k.log → IsReach parent m.span.first m.span.last so_far found → Reaches t m.span.last parent.content so_far pair.upper above
+    → k' ≡ record k { log = after_node_load below.node at word k.log } → Stands t m (record { at = below; beyond = found; room = way }) k'.log
+stands_after t m parent below way so_far found above at word k k' pair tree on is_reach before is =
+    let same : k'.log.holdings ≡ k.log.holdings = ap (λ (z : CallerData). z.log.holdings) is in
+    let here = stands_below t m.span.first m.span.last parent below above k.log.holdings pair tree in
+    let reach = reaches_below t m.span.first m.span.last parent below above k.log.holdings pair tree so_far found is_reach before in
+    subst (λ (z : CallerData). Stands t m (record { at = below; beyond = found; room = way }) z.log) (sym is) (record {
+      at = here;
+      here = pair.here;
+      reach = reach;
+      way = way_kept way m.span.first below.content k.log (after_node_load below.node at word k.log) refl (load_of k.log (node_place below.node + at) word ∷ []) refl on;
+    })

@@ -1,0 +1,222 @@
+-- A full child is split on the way down where a node is free; then the insertion goes on below.
+use Rattle.std.proofs.Common.{◌≡◌, ◌≢◌, ℕ, ◌+◌, ◌-◌, ◌<◌, ◌≤◌, List, [], ◌∷◌, ◌++◌, length, drop, append-nil, sym, refl, ap, ◌∙◌, subst, arith, inl, Bool, true, false, ◌==◌, Option, Some, None, IsSome, IsSomeAnd, is_some, eq-eqb, ne_eqb, cond}
+use Rattle.std.specs.List.{AllByRecursion}
+use Rattle.tree_shape.specs.NodeData.{NodeData, Body, Pairs, Entries, Link, IsInFences, frame_of, pairs_of, pairs_in}
+use Rattle.tree_shape.specs.Lawful.{IsOrdered}
+use Rattle.tree_shape.specs.Steps.{IsFull}
+use Rattle.word_rule.specs.CallerData.{CallerData, surplus}
+use Rattle.word_rule.specs.declared.log.Holding.{Holding}
+use Rattle.word_rule.specs.declared.log.Log.{Log}
+use Rattle.word_rule.specs.declared.log.Receipts.{Receipts}
+use Rattle.word_rule.specs.declared.log.Terms.{Terms}
+use Rattle.word_rule.specs.Held.{held_of, without_lock}
+use Rattle.word_rule.specs.Steps.{after_node_release_same}
+use Rattle.btree_change.specs.declared.descent.Held.{Held}
+use Rattle.btree_change.specs.declared.split.FullChild.{FullChild}
+use Rattle.btree_change.specs.declared.split.Split.{Split}
+use Rattle.btree_change.specs.declared.stand.Room.{Room}
+use Rattle.btree_change.specs.declared.stand.Room.TheVariants as room
+use Rattle.btree_change.specs.declared.stand.Step.{Step}
+use Rattle.btree_change.specs.Paths.{AreHigher, IsSettledLock, StepsOnNodes}
+use Rattle.btree_change.specs.Splits.{HasRoom, HoldsFull, HoldsFullChild, SplitsChild, StaysHeld, TakesRoom, parent_for, with_release_less}
+use Rattle.word_rule.specs.NodeTells.{KnowsTree}
+use Rattle.word_rule.specs.Sights.{after_node_load}
+use Rattle.btree_change.specs.Stands.{HasSplit, HasWayOn, HoldsPair, HoldsStep, LetsGo, MayGo, SpendsSteps}
+use Rattle.btree_change.proofs.Descending.{steps_then}
+use Rattle.btree_change.proofs.Descents.{steps_of_load}
+use Rattle.btree_change.proofs.Standing.{may_go, stands_below}
+use Rattle.btree_change.proofs.Lowering.{settled_inner, settled_live}
+use Rattle.btree_change.proofs.Releasing.{far_stay}
+use Rattle.btree_change.proofs.Spending.{own_same, spends_same, steps_after}
+use Rattle.btree_change.proofs.Settling.{found_first, found_later}
+
+-- the child is found among what is held, and the root above it
+pub child_found : (t : Terms) (pc : ℕ) (parent child : Held) (above held : List Holding) (lower upper : Holding) → held ≡ lower ∷ upper ∷ above → lower.node ≡ child.node → held_of child.node held ≡ Some lower
+child_found t pc parent child above held lower upper is node = ap (held_of child.node) is ∙ subst (λ k. held_of k (lower ∷ upper ∷ above) ≡ Some lower) node (found_first lower (upper ∷ above))
+
+pub root_below : (lower : Holding) (held : List Holding) → IsSome (held_of 0 held) → IsSome (held_of 0 (lower ∷ held))
+root_below lower held root = go (lower.node == 0)
+  where
+    go : (z : Bool) → IsSome (cond z (Some lower) (held_of 0 held))
+    go true = refl
+    go false = root
+
+-- an inner node with room has room for a pair
+pub pairs_room : (s : NodeData) → s.body ≡ Pairs (pairs_of s) → HasRoom s.body → length (pairs_of s) < 15
+pairs_room s inner room = subst HasRoom inner room
+
+-- while nodes are split, there is room
+pub splits_on : (way : Room) (pc : ℕ) (s : NodeData) (v : Log) → way ≡ room.Splitting → HasWayOn way pc s v → HasRoom s.body
+splits_on way pc s v is h = subst (λ w. HasWayOn w pc s v) is h
+
+pub has_way : (way : Room) (pc : ℕ) (s : NodeData) (v : Log) → way ≡ room.Splitting → HasRoom s.body → HasWayOn way pc s v
+has_way way pc s v is h = subst (λ w. HasWayOn w pc s v) (sym is) h
+
+-- where no node is free it doesn't matter which node is full
+pub none_free_on : (way : Room) (pc : ℕ) (s u : NodeData) (v : Log) → way ≡ room.NoneFree → HasWayOn way pc s v → HasWayOn way pc u v
+none_free_on way pc s u v is h = subst (λ w. HasWayOn w pc u v) (sym is) (subst (λ w. HasWayOn w pc s v) is h)
+
+module _ (t : Terms) (pc : ℕ) (step : Step) (above : List Holding) (k : CallerData) (pair : HoldsPair t pc step.parent step.child above k.log.holdings) where
+  pub child_order : IsOrdered step.child.content
+  child_order = (settled_live t step.child.node step.child.content step.child.changed pair.lower pair.child_is).1.1.ordered
+
+  pub full_held : IsFull step.child.content.body → HoldsFull t step.child pc k.log.holdings
+  full_held full = record {
+    lock = pair.lower;
+    found = child_found t pc step.parent step.child above k.log.holdings.held pair.lower pair.upper pair.held pair.child_is.node;
+    here = pair.child_is;
+    is_full = full;
+    on_way = pair.here;
+    within = pair.child_within;
+    out = inl pair.out;
+  }
+
+  pub root_there : IsSome (held_of 0 k.log.holdings.held)
+  root_there = subst (λ hs. IsSome (held_of 0 hs)) (sym pair.held) (root_below pair.lower (pair.upper ∷ above) pair.root)
+
+  -- nothing was split
+  pub stays_unsplit : above ≡ drop 2 k.log.holdings.held → HasWayOn step.room pc step.child.content k.log → step.child.content.level < step.parent.content.level → HasSplit t pc step step k k
+  stays_unsplit is way less = record {
+    pair = subst (λ hs. HoldsPair t pc step.parent step.child hs k.log.holdings) is pair;
+    way = way;
+    node = refl;
+    frame = refl;
+    less = less;
+    steps = record {
+      call = record { table = refl; left = refl; terms = refl; role = refl; loader = refl; made = refl; lineage = refl; receipts = (λ i. record k.log.receipts { own = sym (append-nil k.log.receipts.own) i }); allowance = omega arith; credit = omega arith };
+      past = refl;
+    };
+  }
+
+  pub pair_kept : (k1 : CallerData) → StaysHeld k k1 → HoldsPair t pc step.parent step.child above k1.log.holdings
+  pair_kept k1 stays = record {
+    parent_within = pair.parent_within;
+    child_within = pair.child_within;
+    lower = pair.lower;
+    upper = pair.upper;
+    held = stays.held ∙ pair.held;
+    child_is = pair.child_is;
+    parent_is = pair.parent_is;
+    leads = pair.leads;
+    here = pair.here;
+    inner = pair.inner;
+    higher = pair.higher;
+    root = pair.root;
+    out = stays.out ∙ pair.out;
+  }
+
+  -- the first free node was found locked, and the child is let go of
+  pub busy_go : (k1 : CallerData) (found : ℕ) (k2 : CallerData) → StaysHeld k k1 → KnowsTree k1.log.holdings → k2 ≡ record k1 { log = after_node_load step.child.node 2 found k1.log } → MayGo step.child.node step.child.changed k2.log.holdings
+  busy_go k1 found k2 stays tree is =
+      subst (λ (z : CallerData). MayGo step.child.node step.child.changed z.log.holdings) (sym is)
+      (may_go t step.child k1.log.holdings (stands_below t pc 0 step.parent step.child above k1.log.holdings (pair_kept k1 stays) tree))
+
+  pub busy_gone : (k1 : CallerData) (found : ℕ) (k2 k3 : CallerData) → StaysHeld k k1 → k2 ≡ record k1 { log = after_node_load step.child.node 2 found k1.log } → LetsGo k2 k3 → (k3.log.holdings.held ≡ drop 1 k.log.holdings.held) × (k3.log.holdings.out ≡ []) × SpendsSteps 1 k k3
+  busy_gone k1 found k2 k3 stays is goes = (
+    goes.held ∙ ap (drop 1) (ap (λ (z : CallerData). z.log.holdings.held) is ∙ stays.held),
+    goes.out ∙ (ap (λ (z : CallerData). z.log.holdings.out) is ∙ (stays.out ∙ pair.out)),
+    steps_after 0 1 1 k k2 k3 (omega arith) (spends_same k k2 (steps_then k k1 k2 stays.same (steps_of_load step.child.node 2 found k1 k2 is))) goes.steps,
+  )
+
+  -- no node was free
+  pub none_split : (k1 : CallerData) → above ≡ drop 2 k.log.holdings.held → StaysHeld k k1 → HasWayOn room.NoneFree pc step.child.content k1.log → step.child.content.level < step.parent.content.level → HasSplit t pc step (record step { room = room.NoneFree }) k k1
+  none_split k1 is stays way less = record {
+    pair = record {
+      parent_within = pair.parent_within;
+      child_within = pair.child_within;
+      lower = pair.lower;
+      upper = pair.upper;
+      held = stays.held ∙ (pair.held ∙ ap (λ hs. pair.lower ∷ pair.upper ∷ hs) is);
+      child_is = pair.child_is;
+      parent_is = pair.parent_is;
+      leads = pair.leads;
+      here = pair.here;
+      inner = pair.inner;
+      higher = subst (AreHigher t step.parent.content.level) is pair.higher;
+      root = subst (λ hs. IsSome (held_of 0 (pair.upper ∷ hs))) is pair.root;
+      out = stays.out ∙ pair.out;
+    };
+    way = way;
+    node = refl;
+    frame = refl;
+    less = less;
+    steps = steps_after 0 1 1 k k1 k1 (omega arith) (spends_same k k1 stays.same) (record {
+      call = record { table = refl; left = refl; terms = refl; role = refl; loader = refl; made = refl; lineage = refl; receipts = (λ i. record k1.log.receipts { own = sym (append-nil k1.log.receipts.own) i }); allowance = omega arith; credit = omega arith };
+      past = refl;
+    });
+  }
+
+  -- a node is out for the child's last half
+  pub full_child : (fresh : ℕ) (k1 : CallerData) → k.log.terms ≡ t → TakesRoom fresh k k1 → IsFull step.child.content.body → IsInFences pc step.parent.content → HasRoom step.parent.content.body → HoldsFullChild t (record { parent = step.parent; child = step.child; fresh = fresh }) pc k1.log.holdings
+  full_child fresh k1 terms takes full here room =
+      let is_inner = settled_inner t step.parent.node step.parent.content step.parent.changed pair.upper pair.parent_is pair.inner in record {
+        parent_within = pair.parent_within;
+        child_within = pair.child_within;
+        fresh_within = subst (λ (z : Terms). fresh < z.nodes) terms takes.within;
+        new = takes.new;
+        lower = pair.lower;
+        upper = pair.upper;
+        rest = above;
+        held = takes.held ∙ ap (λ hs. takes.new ∷ hs) pair.held;
+        out = takes.out ∙ ap (λ ns. fresh ∷ ns) pair.out;
+        free = takes.free;
+        child = pair.child_is;
+        parent = pair.parent_is;
+        higher = pair.higher;
+        leads = pair.leads;
+        here = here;
+        inner = is_inner;
+        room = pairs_room step.parent.content is_inner room;
+        is_full = full;
+      }
+
+  spent : (k1 k2 : CallerData) → StepsOnNodes (with_release_less k1) k2 → SpendsSteps 1 k1 k2
+  spent k1 k2 s = record {
+    call = record {
+      table = s.table;
+      left = s.left;
+      terms = s.terms;
+      role = s.role;
+      loader = s.loader;
+      made = s.made;
+      lineage = s.lineage;
+      receipts = s.receipts ∙ (λ i. record k1.log.receipts { own = sym (append-nil k1.log.receipts.own) i });
+      allowance = ap (λ b. b.allowance) s.budget ∙ omega arith;
+      credit = let e = ap (λ b. b.credit) s.budget in omega (arith, e);
+    };
+    past = s.past;
+  }
+
+  -- it was split
+  pub was_split : (fresh : ℕ) (split : Split) (k1 k2 : CallerData) → above ≡ drop 2 k.log.holdings.held → TakesRoom fresh k k1 → (s : SplitsChild t (record { parent = step.parent; child = step.child; fresh = fresh }) pc split k1 k2) → HasSplit t pc step (record { parent = split.parent; child = split.way; room = room.Splitting }) k k2
+  was_split fresh split k1 k2 is takes s =
+      let rest : drop 3 k1.log.holdings.held ≡ drop 2 k.log.holdings.held = ap (drop 3) (takes.held ∙ ap (λ hs. takes.new ∷ hs) pair.held) ∙ is in
+      let level : split.parent.content.level ≡ step.parent.content.level = ap (λ (h : Held). h.content.level) s.parent in record {
+        pair = record {
+          parent_within = subst (λ x. x < t.nodes) (sym (ap (λ (h : Held). h.node) s.parent)) pair.parent_within;
+          child_within = s.within;
+          lower = s.lower;
+          upper = s.upper;
+          held = s.held ∙ ap (λ hs. s.lower ∷ s.upper ∷ hs) rest;
+          child_is = s.way_held;
+          parent_is = s.parent_held;
+          leads = s.leads;
+          here = s.here;
+          inner = let e = level in let i = pair.inner in omega (arith, e, i);
+          higher = subst (λ l. AreHigher t l (drop 2 k.log.holdings.held)) (sym level) (subst (AreHigher t step.parent.content.level) is pair.higher);
+          root = subst (λ hs. IsSome (held_of 0 (s.upper ∷ hs))) is (same_root s.upper pair.upper above (s.parent_held.node ∙ (ap (λ (h : Held). h.node) s.parent ∙ sym pair.parent_is.node)) pair.root);
+          out = s.out;
+        };
+        way = s.room;
+        node = ap (λ (h : Held). h.node) s.parent;
+        frame = ap (λ (h : Held). frame_of h.content) s.parent;
+        less = s.lower_level;
+        steps = steps_after 0 1 1 k k1 k2 (omega arith) (spends_same k k1 takes.same) (spent k1 k2 s.same);
+      }
+    where
+      same_root : (a b : Holding) (held : List Holding) → a.node ≡ b.node → IsSome (held_of 0 (b ∷ held)) → IsSome (held_of 0 (a ∷ held))
+      same_root a b held e root = go (b.node == 0) (ap (λ n. n == 0) e) root
+        where
+          go : (z : Bool) → (a.node == 0) ≡ z → IsSome (cond z (Some b) (held_of 0 held)) → IsSome (held_of 0 (a ∷ held))
+          go true e r = ap (λ q. is_some (cond q (Some a) (held_of 0 held))) e
+          go false e r = ap (λ q. is_some (cond q (Some a) (held_of 0 held))) e ∙ r

@@ -1,0 +1,162 @@
+use Rattle.std.proofs.Common.{arith, subst, sym, ap, drop, refl, ◌∙◌, ◌+◌, ◌*◌, ◌≤◌, length, Ok, None, Some}
+use Rattle.std.proofs.Common.{◌≡◌, ◌<◌, true}
+use Rattle.word_rule.specs.TreeRefusals.{HadNoRoom}
+use Rattle.btree_change.specs.declared.stand.Room.TheVariants as room
+use Rattle.btree_change.specs.Roots.{EndsInsertion, GivesUpWhole}
+use Rattle.btree_change.specs.Splits.{HoldsFullAlone, IsRoomForRoot}
+use Rattle.btree_change.proofs.AtRoot.{ends_after, full_alone, full_root, gives_up_after, if_err, if_ok, kept_steps, root_gone, root_kept, root_stand, root_stands}
+use Rattle.btree_change.proofs.Spending.{due_after, own_same, spends_same, surplus_steps}
+use Rattle.btree_change.proofs.Standing.{may_go}
+use Rattle.btree_change.proofs.root.at_full_root.Goals as goal
+
+pub room_for_root-requires-clause-held : goal.room_for_root-requires-clause-held
+room_for_root-requires-clause-held g c =
+    let t = c.args.words.now.terms in let m = c.args.member.now in let k = c.args.me.now in
+    subst (λ p. HoldsFullAlone t c.args.root p k.log.holdings) (sym c.first.ensures.value) (full_alone t c.args.root m k.log.holdings c.requires.root c.requires.span c.requires.full)
+
+pub lifted-requires-clause-held : goal.lifted-requires-clause-held
+lifted-requires-clause-held g c =
+    let t = c.args.words.now.terms in let m = c.args.member.now in let k = c.args.me.now in
+    let root = c.args.root in let h = c.requires.root in let k1 = c.room_for_root.new.me in
+    let took = subst (λ o. IsRoomForRoot g.L.Locking.gives_up root c.first.result k k1 (Ok o)) c.in-Ok-Some.field-0-is c.in-Ok-Some.ensures in
+    full_root t root m c.in-Ok-Some.two k k1 c.requires.terms h c.requires.span c.requires.full took.0 took.1
+
+pub lifted-requires-clause-table : goal.lifted-requires-clause-table
+lifted-requires-clause-table g c =
+    let t = c.args.words.now.terms in let m = c.args.member.now in let k = c.args.me.now in
+    let root = c.args.root in let h = c.requires.root in let k1 = c.room_for_root.new.me in
+    let took = subst (λ o. IsRoomForRoot g.L.Locking.gives_up root c.first.result k k1 (Ok o)) c.in-Ok-Some.field-0-is c.in-Ok-Some.ensures in
+    took.1.same.table ∙ c.requires.table
+
+pub lifted-requires-clause-terms : goal.lifted-requires-clause-terms
+lifted-requires-clause-terms g c =
+    let t = c.args.words.now.terms in let m = c.args.member.now in let k = c.args.me.now in
+    let root = c.args.root in let h = c.requires.root in let k1 = c.room_for_root.new.me in
+    let took = subst (λ o. IsRoomForRoot g.L.Locking.gives_up root c.first.result k k1 (Ok o)) c.in-Ok-Some.field-0-is c.in-Ok-Some.ensures in
+    took.1.same.terms ∙ c.requires.terms
+
+pub lifted-requires-clause-high : goal.lifted-requires-clause-high
+lifted-requires-clause-high g c =
+    let t = c.args.words.now.terms in let m = c.args.member.now in let k = c.args.me.now in
+    let root = c.args.root in let h = c.requires.root in let k1 = c.room_for_root.new.me in
+    let took = subst (λ o. IsRoomForRoot g.L.Locking.gives_up root c.first.result k k1 (Ok o)) c.in-Ok-Some.field-0-is c.in-Ok-Some.ensures in
+    h.high
+
+pub lifted-requires-clause-due : goal.lifted-requires-clause-due
+lifted-requires-clause-due g c =
+    let t = c.args.words.now.terms in let m = c.args.member.now in let k = c.args.me.now in
+    let root = c.args.root in let h = c.requires.root in let k1 = c.room_for_root.new.me in
+    let took = subst (λ o. IsRoomForRoot g.L.Locking.gives_up root c.first.result k k1 (Ok o)) c.in-Ok-Some.field-0-is c.in-Ok-Some.ensures in
+    due_after 0 k k1 (spends_same k k1 took.1.same) c.requires.due
+
+pub lifted-requires-clause-surplus : goal.lifted-requires-clause-surplus
+lifted-requires-clause-surplus g c =
+    let t = c.args.words.now.terms in let m = c.args.member.now in let k = c.args.me.now in
+    let root = c.args.root in let h = c.requires.root in let k1 = c.room_for_root.new.me in
+    let took = subst (λ o. IsRoomForRoot g.L.Locking.gives_up root c.first.result k k1 (Ok o)) c.in-Ok-Some.field-0-is c.in-Ok-Some.ensures in
+    let e = c.requires.surplus in surplus_steps 0 k k1 39 (spends_same k k1 took.1.same) (omega (arith, e))
+
+pub alone-requires-clause-table : goal.alone-requires-clause-table
+alone-requires-clause-table g c =
+    let t = c.args.words.now.terms in let m = c.args.member.now in let k = c.args.me.now in
+    let root = c.args.root in let h = c.requires.root in let k1 = c.room_for_root.new.me in
+    let none = subst (λ o. IsRoomForRoot g.L.Locking.gives_up root c.first.result k k1 (Ok o)) c.in-Ok-None.field-0-is c.in-Ok-None.ensures in let spent = kept_steps k k1 none.0 in
+    spent.call.table ∙ c.requires.table
+
+pub alone-requires-clause-terms : goal.alone-requires-clause-terms
+alone-requires-clause-terms g c =
+    let t = c.args.words.now.terms in let m = c.args.member.now in let k = c.args.me.now in
+    let root = c.args.root in let h = c.requires.root in let k1 = c.room_for_root.new.me in
+    let none = subst (λ o. IsRoomForRoot g.L.Locking.gives_up root c.first.result k k1 (Ok o)) c.in-Ok-None.field-0-is c.in-Ok-None.ensures in let spent = kept_steps k k1 none.0 in
+    spent.call.terms ∙ c.requires.terms
+
+pub alone-requires-clause-stands : goal.alone-requires-clause-stands
+alone-requires-clause-stands g c =
+    let t = c.args.words.now.terms in let m = c.args.member.now in let k = c.args.me.now in
+    let root = c.args.root in let h = c.requires.root in let k1 = c.room_for_root.new.me in
+    let none = subst (λ o. IsRoomForRoot g.L.Locking.gives_up root c.first.result k k1 (Ok o)) c.in-Ok-None.field-0-is c.in-Ok-None.ensures in let spent = kept_steps k k1 none.0 in
+    root_stand t root room.NoneFree m k1.log (root_kept t root k.log.holdings k1.log.holdings none.0.held none.0.out h) c.requires.span (subst (λ p. HadNoRoom p (length k1.log.receipts.own) k1.log.trace.loads) c.first.ensures.value (subst (λ xs. HadNoRoom c.first.result (length xs) k1.log.trace.loads) (sym (own_same 1 k k1 spent)) none.1))
+
+pub alone-requires-clause-root : goal.alone-requires-clause-root
+alone-requires-clause-root g c =
+    let t = c.args.words.now.terms in let m = c.args.member.now in let k = c.args.me.now in
+    c.requires.root.root
+
+pub alone-requires-clause-alone : goal.alone-requires-clause-alone
+alone-requires-clause-alone g c =
+    let t = c.args.words.now.terms in let m = c.args.member.now in let k = c.args.me.now in
+    let root = c.args.root in let h = c.requires.root in let k1 = c.room_for_root.new.me in
+    let none = subst (λ o. IsRoomForRoot g.L.Locking.gives_up root c.first.result k k1 (Ok o)) c.in-Ok-None.field-0-is c.in-Ok-None.ensures in let spent = kept_steps k k1 none.0 in
+    ap (drop 1) (none.0.held ∙ h.held)
+
+pub alone-requires-clause-due : goal.alone-requires-clause-due
+alone-requires-clause-due g c =
+    let t = c.args.words.now.terms in let m = c.args.member.now in let k = c.args.me.now in
+    let root = c.args.root in let h = c.requires.root in let k1 = c.room_for_root.new.me in
+    let none = subst (λ o. IsRoomForRoot g.L.Locking.gives_up root c.first.result k k1 (Ok o)) c.in-Ok-None.field-0-is c.in-Ok-None.ensures in let spent = kept_steps k k1 none.0 in
+    due_after 1 k k1 spent c.requires.due
+
+pub alone-requires-clause-surplus : goal.alone-requires-clause-surplus
+alone-requires-clause-surplus g c =
+    let t = c.args.words.now.terms in let m = c.args.member.now in let k = c.args.me.now in
+    let root = c.args.root in let h = c.requires.root in let k1 = c.room_for_root.new.me in
+    let none = subst (λ o. IsRoomForRoot g.L.Locking.gives_up root c.first.result k k1 (Ok o)) c.in-Ok-None.field-0-is c.in-Ok-None.ensures in let spent = kept_steps k k1 none.0 in
+    let e = c.requires.surplus in surplus_steps 1 k k1 37 spent (omega (arith, e))
+
+pub let_go_of-requires-clause-inside : goal.let_go_of-requires-clause-inside
+let_go_of-requires-clause-inside g c =
+    let t = c.args.words.now.terms in let m = c.args.member.now in let k = c.args.me.now in
+    let root = c.args.root in let h = c.requires.root in let k1 = c.room_for_root.new.me in
+    (root_stands t root k.log.holdings h).within
+
+pub let_go_of-requires-clause-table : goal.let_go_of-requires-clause-table
+let_go_of-requires-clause-table g c =
+    let t = c.args.words.now.terms in let m = c.args.member.now in let k = c.args.me.now in
+    let root = c.args.root in let h = c.requires.root in let k1 = c.room_for_root.new.me in
+    (kept_steps k k1 c.in-Err.ensures.0).call.table ∙ c.requires.table
+
+pub let_go_of-requires-clause-may : goal.let_go_of-requires-clause-may
+let_go_of-requires-clause-may g c =
+    let t = c.args.words.now.terms in let m = c.args.member.now in let k = c.args.me.now in
+    let root = c.args.root in let h = c.requires.root in let k1 = c.room_for_root.new.me in
+    may_go t root k1.log.holdings (root_stands t root k1.log.holdings (root_kept t root k.log.holdings k1.log.holdings c.in-Err.ensures.0.held c.in-Err.ensures.0.out h))
+
+pub let_go_of-requires-clause-surplus : goal.let_go_of-requires-clause-surplus
+let_go_of-requires-clause-surplus g c =
+    let t = c.args.words.now.terms in let m = c.args.member.now in let k = c.args.me.now in
+    let root = c.args.root in let h = c.requires.root in let k1 = c.room_for_root.new.me in
+    let e = c.requires.surplus in surplus_steps 1 k k1 1 (kept_steps k k1 c.in-Err.ensures.0) (omega (arith, e))
+
+pub returns-in-Ok-Some-clause-answer : goal.returns-in-Ok-Some-clause-answer
+returns-in-Ok-Some-clause-answer g c =
+    let t = c.args.words.now.terms in let m = c.args.member.now in let k = c.args.me.now in
+    let root = c.args.root in let h = c.requires.root in let k1 = c.room_for_root.new.me in
+    let took = subst (λ o. IsRoomForRoot g.L.Locking.gives_up root c.first.result k k1 (Ok o)) c.in-Ok-Some.field-0-is c.in-Ok-Some.ensures in
+    if_ok (λ answer. EndsInsertion t m answer 39 k1 c.lifted.new.me) (λ answer. EndsInsertion t m answer 64 k c.lifted.new.me) c.lifted.result (λ answer e. ends_after t m answer 0 39 64 k k1 c.lifted.new.me (omega arith) (spends_same k k1 took.1.same) e) c.lifted.ensures.answer
+
+pub returns-in-Ok-Some-clause-busy : goal.returns-in-Ok-Some-clause-busy
+returns-in-Ok-Some-clause-busy g c =
+    let t = c.args.words.now.terms in let m = c.args.member.now in let k = c.args.me.now in
+    let root = c.args.root in let h = c.requires.root in let k1 = c.room_for_root.new.me in
+    let took = subst (λ o. IsRoomForRoot g.L.Locking.gives_up root c.first.result k k1 (Ok o)) c.in-Ok-Some.field-0-is c.in-Ok-Some.ensures in
+    if_err (λ e. GivesUpWhole 39 k1 c.lifted.new.me × (g.L.Locking.gives_up ≡ true)) (λ e. GivesUpWhole 64 k c.lifted.new.me × (g.L.Locking.gives_up ≡ true)) c.lifted.result (λ e b. (gives_up_after 0 39 64 k k1 c.lifted.new.me (omega arith) (spends_same k k1 took.1.same) b.0, b.1)) c.lifted.ensures.busy
+
+pub returns-in-Ok-None-clause-answer : goal.returns-in-Ok-None-clause-answer
+returns-in-Ok-None-clause-answer g c =
+    let t = c.args.words.now.terms in let m = c.args.member.now in let k = c.args.me.now in
+    let root = c.args.root in let h = c.requires.root in let k1 = c.room_for_root.new.me in
+    let none = subst (λ o. IsRoomForRoot g.L.Locking.gives_up root c.first.result k k1 (Ok o)) c.in-Ok-None.field-0-is c.in-Ok-None.ensures in let spent = kept_steps k k1 none.0 in
+    if_ok (λ answer. EndsInsertion t m answer 37 k1 c.alone.new.me) (λ answer. EndsInsertion t m answer 64 k c.alone.new.me) c.alone.result (λ answer e. ends_after t m answer 1 37 64 k k1 c.alone.new.me (omega arith) spent e) c.alone.ensures.answer
+
+pub returns-in-Ok-None-clause-busy : goal.returns-in-Ok-None-clause-busy
+returns-in-Ok-None-clause-busy g c =
+    let t = c.args.words.now.terms in let m = c.args.member.now in let k = c.args.me.now in
+    let root = c.args.root in let h = c.requires.root in let k1 = c.room_for_root.new.me in
+    let none = subst (λ o. IsRoomForRoot g.L.Locking.gives_up root c.first.result k k1 (Ok o)) c.in-Ok-None.field-0-is c.in-Ok-None.ensures in let spent = kept_steps k k1 none.0 in
+    if_err (λ e. GivesUpWhole 37 k1 c.alone.new.me × (g.L.Locking.gives_up ≡ true)) (λ e. GivesUpWhole 64 k c.alone.new.me × (g.L.Locking.gives_up ≡ true)) c.alone.result (λ e b. (gives_up_after 1 37 64 k k1 c.alone.new.me (omega arith) spent b.0, b.1)) c.alone.ensures.busy
+
+pub returns-in-Err-clause-busy : goal.returns-in-Err-clause-busy
+returns-in-Err-clause-busy g c =
+    let t = c.args.words.now.terms in let m = c.args.member.now in let k = c.args.me.now in
+    let root = c.args.root in let h = c.requires.root in let k1 = c.room_for_root.new.me in
+    (root_gone t root k k1 c.let_go_of.new.me h c.in-Err.ensures.0 c.let_go_of.ensures, c.in-Err.ensures.1)

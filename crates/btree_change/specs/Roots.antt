@@ -1,0 +1,22 @@
+-- What an insertion makes of its caller from the root on.
+use Rattle.std.specs.Prelude.{◌≡◌, ℕ, List, [], ◌∷◌}
+use Rattle.reg_model.specs.declared.answer.Inserted.{Inserted}
+use Rattle.reg_model.specs.declared.answer.Receipt.TheVariants as receipt
+use Rattle.reg_model.specs.declared.span.Member.{Member}
+use Rattle.word_rule.specs.CallerData.{CallerData}
+use Rattle.word_rule.specs.declared.log.Terms.{Terms}
+use Rattle.btree_change.specs.Insertion.{IsRightInsertion, taken_by}
+use Rattle.btree_change.specs.Paths.{HoldsNothing}
+use Rattle.btree_change.specs.Stands.{SpendsCall, SpendsSteps}
+
+-- It was answered, by at most so many releases, and nothing is held.
+pub record EndsInsertion (t : Terms) (m : Member) (answer : Inserted) (most : ℕ)
+    (k k' : CallerData) : Type 0 where
+  pub right : IsRightInsertion t m k k' answer
+  pub call : SpendsCall (receipt.Register m answer ∷ []) (taken_by answer) most k k'
+  pub nothing : HoldsNothing k'.log.holdings
+
+-- It gave up, and nothing is held.
+pub record GivesUpWhole (most : ℕ) (k k' : CallerData) : Type 0 where
+  pub steps : SpendsSteps most k k'
+  pub nothing : HoldsNothing k'.log.holdings

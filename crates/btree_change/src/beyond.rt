@@ -1,0 +1,225 @@
+//! An insertion whose span ends beyond its leaf: in the next one.
+ghost use Rattle.std.specs.Prelude.{◌≡◌, ◌≢◌, ◌<◌, ◌≤◌, true};
+ghost use Rattle.std.specs.Prelude.{IfOk, IfErr, IfSome, IfNone};
+ghost use Rattle.std.specs.Prelude.{drop, length};
+ghost use Rattle.reg_model.specs.SpanData.{IsSpan};
+ghost use Rattle.reg_model.specs.State.{IsFree};
+ghost use Rattle.tree_shape.specs.NodeData.{IsInFences, entries_of};
+ghost use Rattle.tree_shape.specs.Steps.{LiesAbove};
+ghost use Rattle.tree_shape.specs.declared.node.Frame.{Frame};
+ghost use Rattle.word_rule.specs.CallerData.{due, surplus};
+ghost use Rattle.word_rule.specs.NodeTells.{IsLiveNode};
+ghost use Rattle.word_rule.specs.TreeRefusals.{HadNoRoom};
+ghost use Rattle.btree_change.specs.Insertion.{RefusesMember};
+ghost use Rattle.btree_change.specs.Spines.{HoldsLeafPair, HoldsNext};
+ghost use Rattle.btree_change.specs.Stands.{AnswersBelow, GivesUpBelow, StandsAt, releases_at};
+ghost use Rattle.btree_change.specs.Far.{AnswersAbove, IsAtNext, IsReadyFar, LeavesFar, StandsFar};
+
+use crate::descent::{Held, let_go_of};
+use crate::fence::{Ancestor, let_go_of_next, next_leaf, raise_fence, refused_next};
+use crate::leaf::put_in_leaf;
+use crate::stand::{Beyond, Reply, Room};
+use node_store::{Busy, Locking, read_held};
+use reg_model::{Inserted, Member, Update};
+use word_rule::{Ask, Caller, Words};
+
+/// What the lower half of the clock counts up to.
+const LOWER: u64 = 1 << 32;
+
+/// A leaf beyond which a span ends, and the node above it and the next one.
+#[derive(Drop)]
+pub(crate) struct Far {
+    pub(crate) leaf: Held,
+    pub(crate) beyond: Beyond,
+    pub(crate) room: Room,
+}
+
+/// Such a leaf, and the next one, which is held too.
+#[derive(Drop)]
+struct Next {
+    far: Far,
+    right: Held,
+}
+
+/// Tells that there is no room for a member that overlaps nothing in two leaves, which hold its
+/// span.
+fn full_next(
+    words: &Words,
+    me: &mut Caller,
+    leaf: &Held,
+    right: &Held,
+    member: &Member,
+) -> Inserted
+    requires table { me.old.table ≡ words.now.table }
+    requires leaves { HoldsLeafPair leaf.now.node leaf.now.content right.now.node
+        right.now.content me.old.log.holdings
+        × ((place : Frame) × IsLiveNode words.now.terms right.now.node right.now.content place) }
+    requires here { IsInFences member.now.span.first leaf.now.content }
+    requires high { member.now.span.last < right.now.content.high }
+    requires free { IsFree member.now.span (entries_of leaf.now.content) }
+    requires free_right { IsFree member.now.span (entries_of right.now.content) }
+    requires cause { HadNoRoom member.now.span.first (length me.old.log.receipts.own)
+        me.old.log.trace.loads }
+    ensures { RefusesMember words.now.terms member.now result me.old me.new }
+{
+    let update = Update::Register { member: *member };
+    let clock = words.load_clock(me, Ask::Refused { update });
+    Inserted::Full {
+        stamp: (clock % LOWER) as u32,
+    }
+}
+
+/// Tells that a member is refused where the next leaf has one that overlaps, or where no node was
+/// free.
+fn refused_far(
+    words: &Words,
+    me: &mut Caller,
+    far: &Far,
+    right: &Held,
+    member: &Member,
+) -> Option<Inserted>
+    requires table { me.old.table ≡ words.now.table }
+    requires leaves { HoldsLeafPair far.now.leaf.node far.now.leaf.content right.now.node
+        right.now.content me.old.log.holdings
+        × ((place : Frame) × IsLiveNode words.now.terms right.now.node right.now.content place) }
+    requires here { IsInFences member.now.span.first far.now.leaf.content }
+    requires free { IsFree member.now.span (entries_of far.now.leaf.content) }
+    requires never_root { right.now.node ≢ 0 }
+    requires cause { far.now.room ≡ Room.NoneFree
+        → HadNoRoom member.now.span.first (length me.old.log.receipts.own)
+        me.old.log.trace.loads }
+    ensures refused { IfSome result (λ answer. RefusesMember words.now.terms member.now answer
+        me.old me.new) }
+    ensures none { IfNone result ((me.new ≡ me.old) × (far.now.room ≡ Room.Splitting)
+        × LiesAbove member.now.span.last right.now.content.body
+        × (member.now.span.last < right.now.content.high)) }
+{
+    match refused_next(words, me, &far.leaf, right, member) {
+        Some(answer) => Some(answer),
+        None => match far.room {
+            Room::NoneFree => Some(full_next(words, me, &far.leaf, right, member)),
+            Room::Splitting => None,
+        },
+    }
+}
+
+/// Lets go of the next leaf and of the leaf, in which nothing was stored since they were read.
+fn let_go_far<L: Locking>(locking: &L, words: &Words, me: &mut Caller, far: &Far)
+    requires table { me.old.table ≡ words.now.table }
+    requires next { (next : HoldsNext words.now.terms far.now.beyond.node far.now.beyond.slot
+        me.old.log.holdings) × StandsAt words.now.terms far.now.leaf next.base }
+    requires surplus { 0 < surplus me.old }
+    ensures { (next : HoldsNext words.now.terms far.now.beyond.node far.now.beyond.slot
+        me.old.log.holdings) → StandsAt words.now.terms far.now.leaf next.base
+        → LeavesFar next.base me.old me.new }
+{
+    let above = Ancestor {
+        node: far.beyond.node,
+        slot: far.beyond.slot,
+    };
+    let_go_of_next(locking, words, me, &above);
+    let_go_of(locking, words, me, far.leaf.node, far.leaf.changed);
+}
+
+/// Moves the fence behind a leaf, puts a member there, and lets go of the leaf.
+fn put_far<L: Locking>(
+    locking: &L,
+    words: &Words,
+    me: &mut Caller,
+    member: &Member,
+    far: &Far,
+) -> Reply
+    requires table { me.old.table ≡ words.now.table }
+    requires terms { me.old.log.terms ≡ words.now.terms }
+    requires ready { IsReadyFar words.now.terms member.now far.now me.old.log }
+    requires span { IsSpan member.now.span }
+    requires due { 0 < due me.old }
+    requires surplus { releases_at 0 ≤ surplus me.old }
+    requires payload { member.now.payload < words.now.terms.payloads }
+    ensures { (ready : IsReadyFar words.now.terms member.now far.now me.old.log)
+        → AnswersAbove words.now.terms member.now result (drop 1 ready.next.base.held)
+        (releases_at 0) me.old me.new }
+{
+    let above = Ancestor {
+        node: far.beyond.node,
+        slot: far.beyond.slot,
+    };
+    raise_fence(locking, words, me, &above, member.span.last());
+    let content = read_held(words, me, far.leaf.node);
+    let leaf = Held {
+        node: far.leaf.node,
+        content,
+        changed: true,
+    };
+    let number = put_in_leaf(words, me, &leaf, member);
+    let_go_of(locking, words, me, leaf.node, true);
+    Reply {
+        answer: Inserted::Done { number },
+        moved: far.beyond.level,
+    }
+}
+
+/// Answers an insertion whose next leaf is held.
+fn at_next<L: Locking>(
+    locking: &L,
+    words: &Words,
+    me: &mut Caller,
+    member: &Member,
+    next: &Next,
+) -> Reply
+    requires table { me.old.table ≡ words.now.table }
+    requires terms { me.old.log.terms ≡ words.now.terms }
+    requires at { IsAtNext words.now.terms member.now next.now me.old.log }
+    requires span { IsSpan member.now.span }
+    requires due { 0 < due me.old }
+    requires surplus { releases_at 0 ≤ surplus me.old }
+    requires payload { member.now.payload < words.now.terms.payloads }
+    ensures { (at : IsAtNext words.now.terms member.now next.now me.old.log)
+        → AnswersAbove words.now.terms member.now result (drop 1 at.next.base.held)
+        (releases_at 0) me.old me.new }
+{
+    match refused_far(words, me, &next.far, &next.right, member) {
+        Some(answer) => {
+            let_go_far(locking, words, me, &next.far);
+            Reply { answer, moved: 0 }
+        }
+        None => put_far(locking, words, me, member, &next.far),
+    }
+}
+
+/// Answers an insertion that stands at a leaf in which nothing overlaps, and whose span ends in the
+/// next leaf: names the lowest that overlaps there, says Full, or moves the fence between them. Lets
+/// go of the leaf.
+pub(crate) fn beyond_leaf<L: Locking>(
+    locking: &L,
+    words: &Words,
+    me: &mut Caller,
+    member: &Member,
+    far: Far,
+) -> Result<Reply, Busy>
+    requires table { me.old.table ≡ words.now.table }
+    requires terms { me.old.log.terms ≡ words.now.terms }
+    requires stands { StandsFar words.now.terms member.now far me.old.log }
+    requires level { far.leaf.content.level ≡ 0 }
+    requires free { IsFree member.now.span (entries_of far.leaf.content) }
+    requires span { IsSpan member.now.span }
+    requires due { 0 < due me.old }
+    requires surplus { releases_at 0 ≤ surplus me.old }
+    requires payload { member.now.payload < words.now.terms.payloads }
+    ensures answer { IfOk result (λ reply. AnswersBelow words.now.terms member.now reply
+        (releases_at 0) me.old me.new) }
+    ensures busy { IfErr result (λ e. GivesUpBelow (releases_at 0) me.old me.new
+        × (L.gives_up ≡ true)) }
+{
+    let above = Ancestor {
+        node: far.beyond.node,
+        slot: far.beyond.slot,
+    };
+    match next_leaf(locking, words, me, &far.leaf, &above) {
+        Ok(right) => Ok(at_next(locking, words, me, member, &Next { far, right })),
+        Err(busy) => {
+            let_go_of(locking, words, me, far.leaf.node, far.leaf.changed);
+            Err(busy)
+        }
+    }
+}

@@ -1,0 +1,155 @@
+//! The lift of the full root, which is split with it.
+ghost use Rattle.std.specs.Prelude.{◌≡◌, ◌≢◌, ◌<◌, MatchBool, length};
+ghost use Rattle.tree_shape.specs.Lawful.{IsOrdered};
+ghost use Rattle.tree_shape.specs.Steps.{IsFull};
+ghost use Rattle.tree_shape.specs.declared.limits.TheConstants.{HIGHEST_LEVEL};
+ghost use Rattle.word_rule.specs.CallerData.{surplus};
+ghost use Rattle.word_rule.specs.TreeRefusals.{HadNoRoom};
+ghost use Rattle.btree_change.specs.Splits.{GivesBack, HoldsFullAlone, HoldsFullRoot};
+ghost use Rattle.btree_change.specs.Splits.{HoldsOneFree, IsRoomForRoot, LiftsRoot, StaysHeld};
+ghost use Rattle.btree_change.specs.Splits.{root_parts_for};
+
+use crate::descent::Held;
+use crate::split::{Parts, Split, halves, room_for, ways_of};
+use node_store::{Busy, Locking, give_free, write_held};
+use tree_shape::limits::HIGHEST_LEVEL;
+use tree_shape::{laws, lift_root, put_pair};
+use word_rule::exchange::exchange_decided;
+use word_rule::{Caller, LockId, Words};
+
+/// The words of a node that have its level and its count.
+const LEVEL: u32 = 2;
+
+const COUNT: u32 = 5;
+
+/// The full root, held, and the two free nodes that are out for its halves.
+#[derive(Drop)]
+pub(crate) struct FullRoot {
+    pub(crate) root: Held,
+    pub(crate) left: u32,
+    pub(crate) right: u32,
+}
+
+/// The halves of the full root, and the root over them.
+fn root_parts(full: &FullRoot) -> Parts
+    requires ordered { IsOrdered full.now.root.content }
+    requires is_full { IsFull full.now.root.content.body }
+    requires height { full.now.root.content.level < HIGHEST_LEVEL }
+    ensures { result ≡ root_parts_for full.now }
+{
+    let (left, right) = halves(&full.root.content);
+    let (lifted, _) = lift_root(&full.root.content, full.left);
+    let above = put_pair(&lifted, 0, left.high, full.right);
+    Parts { left, right, above }
+}
+
+/// Lifts the full root by a level over its two halves, and lets go of the half that isn't on the
+/// way to an address: with it all three nodes settle. So a settled root never has one child.
+pub(crate) fn lift<L: Locking>(
+    locking: &L,
+    words: &Words,
+    me: &mut Caller,
+    full: &FullRoot,
+    pc: u64,
+) -> Split
+    requires table { me.old.table ≡ words.now.table }
+    requires terms { me.old.log.terms ≡ words.now.terms }
+    requires held { HoldsFullRoot words.now.terms full.now pc me.old.log.holdings }
+    requires surplus { 0 < surplus me.old }
+    ensures { LiftsRoot words.now.terms full.now pc result me.old me.new }
+{
+    laws::split_root();
+    laws::transfer();
+    laws::widen();
+    exchange_decided();
+    // By this load it is known of which tree the root is.
+    words.load_node(me, full.root.node, LEVEL);
+    let parts = root_parts(full);
+    write_held(words, me, full.left, &parts.left);
+    write_held(words, me, full.right, &parts.right);
+    write_held(words, me, full.root.node, &parts.above);
+    let ways = ways_of(full.root.node, full.left, full.right, parts, pc);
+    locking.let_go(words, me, LockId::Node { node: ways.other });
+    // And by these that both that are held are at their places in it.
+    words.load_node(me, ways.split.way.node, LEVEL);
+    words.load_node(me, full.root.node, LEVEL);
+    ways.split
+}
+
+/// Two free nodes.
+#[derive(Clone, Copy)]
+pub(crate) struct TwoNodes {
+    pub(crate) left: u32,
+    pub(crate) right: u32,
+}
+
+/// Whether the root has the highest level, so that it can't be lifted.
+fn is_highest(root: &Held) -> bool
+    ensures { MatchBool result (root.now.content.level ≡ HIGHEST_LEVEL)
+        (root.now.content.level ≢ HIGHEST_LEVEL) }
+{
+    root.content.level == HIGHEST_LEVEL
+}
+
+/// Loads the full root's count and then its level, which is the highest: so there is no room.
+fn load_height(words: &Words, me: &mut Caller, root: &Held, pc: u64)
+    requires table { me.old.table ≡ words.now.table }
+    requires held { HoldsFullAlone words.now.terms root.now pc me.old.log.holdings }
+    requires highest { root.now.content.level ≡ HIGHEST_LEVEL }
+    ensures stays { StaysHeld me.old me.new }
+    ensures cause { HadNoRoom pc (length me.old.log.receipts.own) me.new.log.trace.loads }
+{
+    let _ = pc;
+    words.load_node(me, root.node, COUNT);
+    words.load_node(me, root.node, LEVEL);
+}
+
+/// Gives back the one free node that was taken.
+fn give_back(words: &Words, me: &mut Caller, node: u32)
+    requires table { me.old.table ≡ words.now.table }
+    requires inside { node < words.now.terms.nodes }
+    requires held { HoldsOneFree node me.old.log.holdings }
+    requires surplus { 0 < surplus me.old }
+    ensures { GivesBack me.old me.new }
+{
+    exchange_decided();
+    // By this load it is known that no lock of it is marked live.
+    words.load_node(me, node, LEVEL);
+    give_free(words, me, node);
+}
+
+/// Takes two free nodes for the full root, or None where it can't be split: it has the highest
+/// level, or none is free, or only one, which is given back. The loads say so then. Busy where
+/// another has a free node locked and `locking` gives up.
+pub(crate) fn room_for_root<L: Locking>(
+    locking: &L,
+    words: &Words,
+    me: &mut Caller,
+    root: &Held,
+    pc: u64,
+) -> Result<Option<TwoNodes>, Busy>
+    requires table { me.old.table ≡ words.now.table }
+    requires terms { me.old.log.terms ≡ words.now.terms }
+    requires held { HoldsFullAlone words.now.terms root.now pc me.old.log.holdings }
+    requires surplus { 0 < surplus me.old }
+    ensures { IsRoomForRoot L.gives_up root.now pc me.old me.new result }
+{
+    if is_highest(root) {
+        load_height(words, me, root, pc);
+        return Ok(None);
+    }
+    let Some(left) = room_for(locking, words, me, root, pc)? else {
+        return Ok(None);
+    };
+    match room_for(locking, words, me, root, pc) {
+        Ok(Some(right)) => Ok(Some(TwoNodes { left, right })),
+        Ok(None) => {
+            give_back(words, me, left);
+            Ok(None)
+        }
+        Err(busy) => {
+            give_back(words, me, left);
+            Err(busy)
+        }
+    }
+}

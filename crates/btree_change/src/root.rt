@@ -1,0 +1,157 @@
+//! An insertion at the root, which is lifted where it is full.
+ghost use Rattle.std.specs.Prelude.{◌≡◌, ◌-◌, ◌^◌, ◌<◌, ◌≤◌, [], true, drop, IfOk, IfErr};
+ghost use Rattle.reg_model.specs.SpanData.{IsSpan};
+ghost use Rattle.word_rule.specs.CallerData.{due, surplus};
+ghost use Rattle.btree_change.specs.Roots.{EndsInsertion, GivesUpWhole};
+ghost use Rattle.tree_shape.specs.Steps.{IsFull};
+ghost use Rattle.btree_change.specs.Splits.{HoldsFullRoot};
+ghost use Rattle.btree_change.specs.Stands.{HoldsRoot, Stands};
+
+use crate::descent::{Held, let_go_of};
+use crate::insertion::below;
+use crate::lift::{FullRoot, lift, room_for_root};
+use crate::stand::{Room, Stand, Step, is_full, stand_below};
+use node_store::{Busy, Locking};
+use reg_model::{Inserted, Member};
+use word_rule::{Caller, Words};
+
+/// Answers an insertion that stands at the root, and holds nothing else.
+fn alone<L: Locking>(
+    locking: &L,
+    words: &Words,
+    me: &mut Caller,
+    member: &Member,
+    stand: Stand,
+) -> Result<Inserted, Busy>
+    requires table { me.old.table ≡ words.now.table }
+    requires terms { me.old.log.terms ≡ words.now.terms }
+    requires stands { Stands words.now.terms member.now stand me.old.log }
+    requires root { stand.at.node ≡ 0 }
+    requires alone { drop 1 me.old.log.holdings.held ≡ [] }
+    requires span { IsSpan member.now.span }
+    requires due { 0 < due me.old }
+    requires surplus { 37 ≤ surplus me.old }
+    requires payload { member.now.payload < words.now.terms.payloads }
+    ensures answer { IfOk result (λ answer. EndsInsertion words.now.terms member.now answer 37
+        me.old me.new) }
+    ensures busy { IfErr result (λ e. GivesUpWhole 37 me.old me.new × (L.gives_up ≡ true)) }
+{
+    match below(locking, words, me, member, stand) {
+        Ok(reply) => Ok(reply.answer),
+        Err(busy) => Err(busy),
+    }
+}
+
+/// Lifts the full root, and answers an insertion below it.
+fn lifted<L: Locking>(
+    locking: &L,
+    words: &Words,
+    me: &mut Caller,
+    member: &Member,
+    full: FullRoot,
+) -> Result<Inserted, Busy>
+    requires table { me.old.table ≡ words.now.table }
+    requires terms { me.old.log.terms ≡ words.now.terms }
+    requires held { HoldsFullRoot words.now.terms full member.now.span.first me.old.log.holdings }
+    requires high { full.root.content.high ≡ 2 ^ 64 - 1 }
+    requires span { IsSpan member.now.span }
+    requires due { 0 < due me.old }
+    requires surplus { 39 ≤ surplus me.old }
+    requires payload { member.now.payload < words.now.terms.payloads }
+    ensures answer { IfOk result (λ answer. EndsInsertion words.now.terms member.now answer 39
+        me.old me.new) }
+    ensures busy { IfErr result (λ e. GivesUpWhole 39 me.old me.new × (L.gives_up ≡ true)) }
+{
+    let split = lift(locking, words, me, &full, member.span.first());
+    let step = Step {
+        parent: split.parent,
+        child: split.way,
+        room: Room::Splitting,
+    };
+    let passage = stand_below(words, me, member, step, None);
+    match below(locking, words, me, member, passage.stand) {
+        Ok(reply) => {
+            let_go_of(locking, words, me, 0, true);
+            Ok(reply.answer)
+        }
+        Err(busy) => {
+            let_go_of(locking, words, me, 0, true);
+            Err(busy)
+        }
+    }
+}
+
+/// Answers an insertion whose root is full, and isn't lifted where it has the highest level or no
+/// two nodes are free.
+fn at_full_root<L: Locking>(
+    locking: &L,
+    words: &Words,
+    me: &mut Caller,
+    member: &Member,
+    root: Held,
+) -> Result<Inserted, Busy>
+    requires table { me.old.table ≡ words.now.table }
+    requires terms { me.old.log.terms ≡ words.now.terms }
+    requires root { HoldsRoot words.now.terms root me.old.log.holdings }
+    requires full { IsFull root.content.body }
+    requires span { IsSpan member.now.span }
+    requires due { 0 < due me.old }
+    requires surplus { 64 ≤ surplus me.old }
+    requires payload { member.now.payload < words.now.terms.payloads }
+    ensures answer { IfOk result (λ answer. EndsInsertion words.now.terms member.now answer 64
+        me.old me.new) }
+    ensures busy { IfErr result (λ e. GivesUpWhole 64 me.old me.new × (L.gives_up ≡ true)) }
+{
+    match room_for_root(locking, words, me, &root, member.span.first()) {
+        Ok(Some(two)) => {
+            let full = FullRoot {
+                root,
+                left: two.left,
+                right: two.right,
+            };
+            lifted(locking, words, me, member, full)
+        }
+        Ok(None) => {
+            let stand = Stand {
+                at: root,
+                beyond: None,
+                room: Room::NoneFree,
+            };
+            alone(locking, words, me, member, stand)
+        }
+        Err(busy) => {
+            let_go_of(locking, words, me, root.node, root.changed);
+            Err(busy)
+        }
+    }
+}
+
+/// Answers an insertion that holds the root.
+pub(crate) fn at_held_root<L: Locking>(
+    locking: &L,
+    words: &Words,
+    me: &mut Caller,
+    member: &Member,
+    root: Held,
+) -> Result<Inserted, Busy>
+    requires table { me.old.table ≡ words.now.table }
+    requires terms { me.old.log.terms ≡ words.now.terms }
+    requires root { HoldsRoot words.now.terms root me.old.log.holdings }
+    requires span { IsSpan member.now.span }
+    requires due { 0 < due me.old }
+    requires surplus { 64 ≤ surplus me.old }
+    requires payload { member.now.payload < words.now.terms.payloads }
+    ensures answer { IfOk result (λ answer. EndsInsertion words.now.terms member.now answer 64
+        me.old me.new) }
+    ensures busy { IfErr result (λ e. GivesUpWhole 64 me.old me.new × (L.gives_up ≡ true)) }
+{
+    if is_full(&root.content) {
+        return at_full_root(locking, words, me, member, root);
+    }
+    let stand = Stand {
+        at: root,
+        beyond: None,
+        room: Room::Splitting,
+    };
+    alone(locking, words, me, member, stand)
+}

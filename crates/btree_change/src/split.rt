@@ -1,0 +1,164 @@
+//! The split of a full child under its parent.
+ghost use Rattle.std.specs.Prelude.{◌≡◌, ◌≢◌, ◌<◌, ◌≤◌, IsSome, length, true};
+ghost use Rattle.tree_shape.specs.Changes.{first_half, last_half};
+ghost use Rattle.tree_shape.specs.Lawful.{IsOrdered};
+ghost use Rattle.tree_shape.specs.NodeData.{InOrder, IsInFences, IsInner, pairs_of};
+ghost use Rattle.tree_shape.specs.declared.limits.TheConstants.{PAIRS};
+ghost use Rattle.tree_shape.specs.Steps.{IsFull, middle, middle_fence};
+ghost use Rattle.word_rule.specs.CallerData.{surplus};
+ghost use Rattle.word_rule.specs.Held.{held_of};
+ghost use Rattle.btree_change.specs.Splits.{HoldsFull, HoldsFullChild, IsRoomFor, SplitsChild};
+ghost use Rattle.btree_change.specs.Splits.{other_in, parts_for, way_in};
+
+use crate::descent::Held;
+use node_store::{Busy, Locking, take_free, write_held};
+use tree_shape::{Node, inner_slot, laws, put_pair, split_inner, split_leaf};
+use word_rule::exchange::exchange_decided;
+use word_rule::{Caller, LockId, Words};
+
+/// The words of a node that have its level and its count.
+const LEVEL: u32 = 2;
+
+const COUNT: u32 = 5;
+
+/// A full child that is held under its parent, and the free node that is out for its last half.
+#[derive(Drop)]
+pub(crate) struct FullChild {
+    pub(crate) parent: Held,
+    pub(crate) child: Held,
+    pub(crate) fresh: u32,
+}
+
+/// What a split leaves on the way: the node above, and the half for the address.
+#[derive(Drop)]
+pub(crate) struct Split {
+    pub(crate) parent: Held,
+    pub(crate) way: Held,
+}
+
+/// The halves of a full node.
+pub(crate) fn halves(node: &Node) -> (Node, Node)
+    requires ordered { IsOrdered node.now }
+    requires full { IsFull node.now.body }
+    ensures left { result.0 ≡ first_half (middle node.now.body) node.now }
+    ensures right { result.1 ≡ last_half (middle node.now.body) node.now }
+{
+    if node.level == 0 {
+        split_leaf(node)
+    } else {
+        split_inner(node)
+    }
+}
+
+/// What the nodes of a split are to hold.
+#[derive(Drop)]
+pub(crate) struct Parts {
+    pub(crate) left: Node,
+    pub(crate) right: Node,
+    pub(crate) above: Node,
+}
+
+/// The halves of a full child, and its parent with a pair more.
+fn parts_of(full: &FullChild, pc: u64) -> Parts
+    requires ordered { IsOrdered full.now.child.content }
+    requires is_full { IsFull full.now.child.content.body }
+    requires inner { IsInner full.now.parent.content }
+    requires in_order { InOrder full.now.parent.content }
+    requires here { IsInFences pc full.now.parent.content }
+    requires room { length (pairs_of full.now.parent.content) < PAIRS }
+    ensures { result ≡ parts_for full.now pc }
+{
+    let (left, right) = halves(&full.child.content);
+    let slot = inner_slot(&full.parent.content, pc);
+    let above = put_pair(&full.parent.content, slot, left.high, full.fresh);
+    Parts { left, right, above }
+}
+
+/// The node of a split to which an address leads, and the other one.
+#[derive(Drop)]
+pub(crate) struct Ways {
+    pub(crate) split: Split,
+    pub(crate) other: u32,
+}
+
+/// What of a split is on the way to an address, and the node that isn't. The three nodes are the
+/// one above and those of the halves.
+pub(crate) fn ways_of(above: u32, left: u32, right: u32, parts: Parts, pc: u64) -> Ways
+    ensures way { result.split.way ≡ way_in left right pc parts }
+    ensures parent { result.split.parent
+        ≡ record { node = above; content = parts.above; changed = true } }
+    ensures other { result.other ≡ other_in left right pc parts }
+{
+    let parent = Held {
+        node: above,
+        content: parts.above,
+        changed: true,
+    };
+    let (node, other, content) = if pc <= parts.left.high {
+        (left, right, parts.left)
+    } else {
+        (right, left, parts.right)
+    };
+    let way = Held {
+        node,
+        content,
+        changed: true,
+    };
+    Ways {
+        split: Split { parent, way },
+        other,
+    }
+}
+
+/// Splits a full child under its parent, and lets go of the half that isn't on the way to an
+/// address: with it all three nodes settle.
+pub(crate) fn split_child<L: Locking>(
+    locking: &L,
+    words: &Words,
+    me: &mut Caller,
+    full: &FullChild,
+    pc: u64,
+) -> Split
+    requires table { me.old.table ≡ words.now.table }
+    requires terms { me.old.log.terms ≡ words.now.terms }
+    requires held { HoldsFullChild words.now.terms full.now pc me.old.log.holdings }
+    requires surplus { 0 < surplus me.old }
+    ensures { SplitsChild words.now.terms full.now pc result me.old me.new }
+{
+    laws::split();
+    laws::transfer();
+    laws::widen();
+    exchange_decided();
+    // By this load it is known of which tree the nodes are.
+    words.load_node(me, full.parent.node, LEVEL);
+    let parts = parts_of(full, pc);
+    write_held(words, me, full.fresh, &parts.right);
+    write_held(words, me, full.parent.node, &parts.above);
+    write_held(words, me, full.child.node, &parts.left);
+    let ways = ways_of(full.parent.node, full.child.node, full.fresh, parts, pc);
+    locking.let_go(words, me, LockId::Node { node: ways.other });
+    // And by these that both that are held are at their places in it.
+    words.load_node(me, ways.split.way.node, LEVEL);
+    words.load_node(me, full.parent.node, LEVEL);
+    ways.split
+}
+
+/// Takes a free node for one that is full, on the way to an address, or None where none is free:
+/// the loads of the full count and of the head say so then. Busy where another has the first free
+/// node locked and `locking` gives up.
+pub(crate) fn room_for<L: Locking>(
+    locking: &L,
+    words: &Words,
+    me: &mut Caller,
+    full: &Held,
+    pc: u64,
+) -> Result<Option<u32>, Busy>
+    requires table { me.old.table ≡ words.now.table }
+    requires root { IsSome (held_of 0 me.old.log.holdings.held) }
+    requires full { HoldsFull words.now.terms full.now pc me.old.log.holdings }
+    ensures { IsRoomFor L.gives_up pc me.old me.new result }
+{
+    let _ = pc;
+    words.load_node(me, full.node, COUNT);
+    take_free(locking, words, me)
+}
