@@ -289,7 +289,7 @@ module _ (t : Terms) (m : Member) (far : Far) (k : CallerData) (ready : IsReadyF
           settled = (puts.spells, inner_spells above1 inner_all);
           apart = (
             far_left far.beyond.level puts.lock.node (way.spine ++ way.top ∷ way.rest) above1 left_as
-            (subst (AllByRecursion (λ (a : Holding). a.node ≢ puts.lock.node)) above_is (subst (λ n. AllByRecursion (λ (a : Holding). a.node ≢ n) ready.leaf.above) (ready.leaf.here.node ∙ sym puts.node) ready.leaf.apart.0)),
+                (subst (AllByRecursion (λ (a : Holding). a.node ≢ puts.lock.node)) above_is (subst (λ n. AllByRecursion (λ (a : Holding). a.node ≢ n) ready.leaf.above) (ready.leaf.here.node ∙ sym puts.node) ready.leaf.apart.0)),
             apart_left far.beyond.level (way.spine ++ way.top ∷ way.rest) above1 left_as (subst AreApart above_is ready.leaf.apart.1),
           );
         }
@@ -364,8 +364,7 @@ module _ (t : Terms) (m : Member) (n : Next) (k : CallerData) (at : IsAtNext t m
 module _ (t : Terms) (m : Member) (far : Far) (k : CallerData) (stands : StandsFar t m far k.log) (level : far.leaf.content.level ≡ 0) where
   pub way_here : (way : HoldsWay t far.beyond.node far.beyond.slot k.log.holdings) × (way.lock.node ≡ far.leaf.node) × (way.lock.settled ≡ far.leaf.content)
   way_here =
-      let b = stands.reach.1 in
-      (
+      let b = stands.reach.1 in (
         record {
           lock = stands.at.lock;
           spine = b.spine;

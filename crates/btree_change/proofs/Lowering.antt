@@ -127,21 +127,24 @@ module _ (t : Terms) (at : Held) (pc c : ℕ) (k k1 : CallerData) (terms : k.log
   pub lowered : (shape : NodeData) (k2 : CallerData) → ReadsHeld c k1 k2 shape → k2.log.holdings ≡ k1.log.holdings → HoldsPair t pc at (record { node = c; content = shape; changed = false }) (drop 1 k.log.holdings.held) k2.log.holdings × (shape.level < at.content.level)
   lowered shape k2 reads same =
       let told = subst (λ o. IsSomeAnd o (λ h. SpellsNode h.words shape × (k2 ≡ record k1 { log = after_words c h.words 35 k1.log }))) found reads in
-      let is : taken.content ≡ shape = same_Some _ _ (sym taken.here.spells ∙ told.0) in (record {
-        parent_within = stands.within;
-        child_within = child.within;
-        lower = taken.new;
-        upper = stands.lock;
-        held = ap (λ (hs : Holdings). hs.held) same ∙ (taken.held ∙ ap (λ hs. taken.new ∷ stands.lock ∷ hs) (sym (ap (drop 1) stands.held)));
-        child_is = subst (λ s. IsSettledLock t c s false taken.new) is taken.here;
-        parent_is = stands.here;
-        leads = leads;
-        here = subst (IsInFences pc) is taken.inside;
-        inner = inner;
-        higher = subst (AreHigher t at.content.level) (sym (ap (drop 1) stands.held)) stands.higher;
-        root = subst (λ hs. IsSome (held_of 0 (stands.lock ∷ hs))) (sym (ap (drop 1) stands.held)) stands.root;
-        out = ap (λ (hs : Holdings). hs.out) same ∙ taken.out;
-      }, subst (λ (z : NodeData). z.level < at.content.level) is taken.less)
+      let is : taken.content ≡ shape = same_Some _ _ (sym taken.here.spells ∙ told.0) in (
+        record {
+          parent_within = stands.within;
+          child_within = child.within;
+          lower = taken.new;
+          upper = stands.lock;
+          held = ap (λ (hs : Holdings). hs.held) same ∙ (taken.held ∙ ap (λ hs. taken.new ∷ stands.lock ∷ hs) (sym (ap (drop 1) stands.held)));
+          child_is = subst (λ s. IsSettledLock t c s false taken.new) is taken.here;
+          parent_is = stands.here;
+          leads = leads;
+          here = subst (IsInFences pc) is taken.inside;
+          inner = inner;
+          higher = subst (AreHigher t at.content.level) (sym (ap (drop 1) stands.held)) stands.higher;
+          root = subst (λ hs. IsSome (held_of 0 (stands.lock ∷ hs))) (sym (ap (drop 1) stands.held)) stands.root;
+          out = ap (λ (hs : Holdings). hs.out) same ∙ taken.out;
+        },
+        subst (λ (z : NodeData). z.level < at.content.level) is taken.less,
+      )
 
   pub steps_lowered : (shape : NodeData) (k2 : CallerData) → ReadsHeld c k1 k2 shape → StepsOnNodes k k2
   steps_lowered shape k2 reads = steps_then k k1 k2 (steps_of_take c k k1 locks) (steps_of_read c k1 k2 shape reads)

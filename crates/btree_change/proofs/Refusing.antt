@@ -101,8 +101,8 @@ module _ (t : Terms) (n : ℕ) (s : NodeData) (changed : Bool) (m other : Member
           tells.updates ∙ ap length (sym now),
           subst (λ z. IsLowestOverlap m.span (state_after (start z) k'.log.past).registered other) terms appended.right,
           subst (λ p. (z : Member) → Contains (state_after (start t) p).registered z → IsMemberOf t z) (sym now)
-          (λ z. all_there (IsMemberOf t) (state_after (start t) past).registered z tells.entries) other
-          (subst (λ z. IsLowestOverlap m.span (state_after (start z) k'.log.past).registered other) terms appended.right).listed,
+              (λ z. all_there (IsMemberOf t) (state_after (start t) past).registered z tells.entries) other
+              (subst (λ z. IsLowestOverlap m.span (state_after (start z) k'.log.past).registered other) terms appended.right).listed,
         );
         none_taken = refl;
         receipts = own ∙ ap (λ o. record k.log.receipts { own = o }) appended.own;

@@ -284,8 +284,8 @@ module _ (laws : SettlingLaws) (v : Log) (f : Contents) (live : ℕ → Bool) (t
       let a = of_group top c.change.lawful.change.top_grouped in
       let inside : is_among group a.0.node ≡ true = ap (is_among group) a.1.1.1.1 ∙ c.change.lawful.change.top_grouped in
       highest_of_is top (f top).level changed
-          (all_from (IsBelow top (f top).level) changed (λ h there. let b = in_filter (is_changed None) held h there in below h b.0 b.1))
-          (a.0, (filtered (is_changed None) held a.0 a.1.1.1.0 (group_changed a.0 a.1.1.1.0 a.1.1.0 inside), a.1.1.1.1))
+      (all_from (IsBelow top (f top).level) changed (λ h there. let b = in_filter (is_changed None) held h there in below h b.0 b.1))
+      (a.0, (filtered (is_changed None) held a.0 a.1.1.1.0 (group_changed a.0 a.1.1.1.0 a.1.1.0 inside), a.1.1.1.1))
 
   -- the fresh nodes are all held ones that are out
   more_fresh : (n : ℕ) → IsTrue (is_among fresh n) → IsTrue (more n)
@@ -508,8 +508,7 @@ stays_fit f live top group fresh g reached change [] all = tt
 stays_fit f live top group fresh g reached change (h ∷ held) all =
     let s = all.0 in
     let never : is_among fresh h.node ≡ true → ⊥ = λ e. true≢false (sym s.lives ∙ change.lawful.change.fresh_free h.node e) in
-    let stays : g h.node ≡ f h.node = change.lawful.change.others_stay h.node (neither (is_among group h.node) (is_among fresh h.node) s.outside never) in
-    (
+    let stays : g h.node ≡ f h.node = change.lawful.change.others_stay h.node (neither (is_among group h.node) (is_among fresh h.node) s.outside never) in (
       record {
         marked = λ m. (s.lives, s.content, s.spells ∙ ap Some (sym (stays ∙ s.content)));
         leaves = λ e. absurd (true≢false (sym e ∙ s.outside));

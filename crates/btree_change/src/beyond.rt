@@ -43,13 +43,7 @@ struct Next {
 
 /// Tells that there is no room for a member that overlaps nothing in two leaves, which hold its
 /// span.
-fn full_next(
-    words: &Words,
-    me: &mut Caller,
-    leaf: &Held,
-    right: &Held,
-    member: &Member,
-) -> Inserted
+fn full_next(words: &Words, me: &mut Caller, leaf: &Held, right: &Held, member: &Member) -> Inserted
     requires table { me.old.table ≡ words.now.table }
     requires leaves { HoldsLeafPair leaf.now.node leaf.now.content right.now.node
         right.now.content me.old.log.holdings

@@ -25,7 +25,12 @@ pub(crate) struct Held {
 }
 
 /// Takes a node's lock, or answers that it is taken.
-pub(crate) fn take_node<L: Locking>(locking: &L, words: &Words, me: &mut Caller, node: u32) -> Result<(), Busy>
+pub(crate) fn take_node<L: Locking>(
+    locking: &L,
+    words: &Words,
+    me: &mut Caller,
+    node: u32,
+) -> Result<(), Busy>
     requires table { me.old.table ≡ words.now.table }
     requires inside { node < words.now.terms.nodes }
     ensures ok { OnOk result (Locks (LockId.Node node) me.old me.new) }
@@ -97,4 +102,3 @@ pub(crate) fn at_root<L: Locking>(locking: &L, words: &Words, me: &mut Caller) -
         changed: false,
     })
 }
-

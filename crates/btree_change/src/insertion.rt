@@ -14,8 +14,8 @@ ghost use Rattle.btree_change.specs.Stands.{releases_at};
 
 use crate::beyond::{Far, beyond_leaf};
 use crate::descent::{at_root, let_go_of};
-use crate::root::at_held_root;
 use crate::leaf::{full_here, put_in_leaf, refused};
+use crate::root::at_held_root;
 use crate::stand::{Outcome, Reply, Room, Stand, go_below, is_changed, place_of};
 use node_store::{Busy, Locking, Trying, Waiting};
 use reg_model::{Inserted, Member};

@@ -18,5 +18,7 @@ mod root;
 mod spines;
 mod split;
 mod stand;
+#[cfg(test)]
+mod tests;
 
 pub use insertion::{insert, insert_by, try_insert};

@@ -263,7 +263,11 @@ pub(crate) fn stand_below(
 {
     // By this load it is known of which tree both nodes are.
     words.load_node(me, step.child.node, LEVEL);
-    let Step { parent, child, room } = step;
+    let Step {
+        parent,
+        child,
+        room,
+    } = step;
     let beyond = beyond_child(&parent, member.span.first(), member.span.last(), so_far);
     Passage {
         stand: Stand {
