@@ -7,3 +7,7 @@ pub mod Splits
 pub mod Stands
 pub mod Far
 pub mod Roots
+pub mod Removing
+pub mod Takings
+pub mod Siblings
+pub mod Shares

@@ -9,22 +9,23 @@ use Rattle.reg_model.specs.declared.answer.Removed.TheVariants as removed
 use Rattle.reg_model.specs.declared.answer.Update.{Update}
 use Rattle.reg_model.specs.declared.answer.Update.TheVariants as update
 use Rattle.word_rule.specs.CallerData.{CallerData}
-use Rattle.word_rule.specs.Callers.{start}
+use Rattle.word_rule.specs.Callers.{IsMemberOf, start}
 use Rattle.word_rule.specs.declared.log.Terms.{Terms}
 use Rattle.btree_change.specs.Updates.{AnswersUpdate}
 use Rattle.btree_change.specs.Insertion.{call_begun}
 
 -- The answer to a removal is right, where `k` was its caller when the call was begun and k' is it
 -- afterwards.
-abbrev pub IsRightRemoval : Terms → ℕ → CallerData → CallerData → Removed → Type 0
-IsRightRemoval t base k k' (removed.Done number m) = (before : List Update)
+abbrev pub AnswersRightly : Terms → ℕ → CallerData → CallerData → Removed → Type 0
+AnswersRightly t base k k' (removed.Done number m) = (before : List Update)
     × (IsPrefix k.log.past before × (k'.log.past ≡ before ++ update.Deregister base ∷ [])
     × (number ≡ length k'.log.past)
-    × (at_base base (state_after (start t) before).registered ≡ Some m))
-IsRightRemoval t base k k' (removed.NotFound stamp) = IsPrefix k.log.past k'.log.past
+    × (at_base base (state_after (start t) before).registered ≡ Some m)
+    × IsMemberOf t m)
+AnswersRightly t base k k' (removed.NotFound stamp) = IsPrefix k.log.past k'.log.past
     × (stamp ≡ length k'.log.past)
     × IsNone (at_base base (state_after (start t) k'.log.past).registered)
-IsRightRemoval t base k k' removed.Spent = ⊥
+AnswersRightly t base k k' removed.Spent = ⊥
 
 -- what an accepted removal takes of an allowance
 abbrev pub taken_by_removal : Removed → ℕ
@@ -34,7 +35,7 @@ taken_by_removal _ = 0
 -- A removal that was begun was answered, as the state is after all that is seen then.
 pub record AnswersRemoval (t : Terms) (base : ℕ) (answer : Removed) (k k' : CallerData) : Type 0
   where
-    pub right : IsRightRemoval t base k k' answer
+    pub right : AnswersRightly t base k k' answer
     pub call : AnswersUpdate (receipt.Deregister base answer) (taken_by_removal answer) k k'
 
 -- A removal was begun, and answered. Spent where no update call is left, and then nothing was done.

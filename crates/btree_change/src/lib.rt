@@ -14,11 +14,17 @@ mod fence;
 mod insertion;
 mod leaf;
 mod lift;
+mod mending;
+mod removal;
 mod root;
+mod sibling;
 mod spines;
 mod split;
 mod stand;
+mod taking;
 #[cfg(test)]
 mod tests;
+mod way;
 
 pub use insertion::{insert, insert_by, try_insert};
+pub use removal::{remove, remove_by, try_remove};

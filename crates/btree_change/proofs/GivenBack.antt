@@ -1,0 +1,189 @@
+-- A node that left the tree is given back, where all else that is held has settled.
+use Rattle.std.proofs.Common.{◌≡◌, ◌≢◌, ℕ, List, [], ◌∷◌, map, sym, refl, ap, ◌∙◌, subst, arith, Bool, true, false, ◌==◌, not, ◌&&◌, ◌||◌, true≢false, Some, None, is_some, eq-eqb, ne_eqb, if◌then◌else◌, cond}
+use Rattle.std.specs.List.{AllByRecursion}
+use native.Mathlib.Decide.{ℕ_discrete}
+use Rattle.tree_shape.specs.Numbers.{is_among}
+use Rattle.word_rule.specs.CallerData.{CallerData}
+use Rattle.word_rule.specs.Exchange.{after_exchange, are_spelled, changed_of, exchange, group_of, is_changed, is_lawful, node_of, nothing_reached, settle, settle_free, top_of}
+use Rattle.word_rule.specs.Held.{all_but, edited, held_of, is_marked, marked_in, now_of, without_lock}
+use Rattle.word_rule.specs.Logs.{after_spending}
+use Rattle.word_rule.specs.Sights.{after_node_load}
+use Rattle.word_rule.specs.Spelling.{spelled}
+use Rattle.word_rule.specs.Steps.{after_give, after_head_load, after_node_release_same, after_node_store, store_in, stored_log}
+use Rattle.word_rule.specs.declared.log.Holding.{Holding}
+use Rattle.word_rule.specs.declared.log.Log.{Log}
+use Rattle.node_store.specs.Free.{GivesFree, after_linking, after_setting, held_word}
+use Rattle.word_rule.proofs.Exchanges.{spelled_decides}
+use Rattle.btree_change.specs.Removing.{Spends}
+use Rattle.btree_change.specs.Siblings.{GivesBack, IsGoneOrSettled}
+use Rattle.btree_change.proofs.LeafCommits.{all_nothing}
+use Rattle.btree_change.proofs.LettingGo.{ExchangeLaw}
+
+-- What the stores in one lock leave: the others as they were, and that it isn't marked.
+pub record OnlyThere (n : ℕ) (v w : Log) : Type 0 where
+  pub held : without_lock n w.holdings.held ≡ without_lock n v.holdings.held
+  pub ready : AllByRecursion (IsGoneOrSettled n) w.holdings.held
+  pub out : w.holdings.out ≡ v.holdings.out
+  pub spends : (k : CallerData) → Spends 0 (record k { log = v }) (record k { log = w })
+
+edited_without : (n : ℕ) (g : Holding → Holding) (held : List Holding) → ((h : Holding) → (g h).node ≡ h.node) → without_lock n (edited n g held) ≡ without_lock n held
+edited_without n g [] keeps = refl
+edited_without n g (h ∷ held) keeps = go (ℕ_discrete h.node n) (edited_without n g held keeps)
+  where
+    go : Dec (h.node ≡ n) → without_lock n (edited n g held) ≡ without_lock n held → without_lock n (edited n g (h ∷ held)) ≡ without_lock n (h ∷ held)
+    go (yes e) rest =
+        ap (λ z. without_lock n (z ∷ edited n g held)) (ap (λ b. cond b (g h) h) (eq-eqb h.node n e))
+        ∙ (ap (λ b. cond (not b) (g h ∷ without_lock n (edited n g held)) (without_lock n (edited n g held))) (eq-eqb (g h).node n (keeps h ∙ e))
+        ∙ (rest ∙ sym (ap (λ b. cond (not b) (h ∷ without_lock n held) (without_lock n held)) (eq-eqb h.node n e))))
+    go (no ne) rest =
+        ap (λ z. without_lock n (z ∷ edited n g held)) (ap (λ b. cond b (g h) h) (ne_eqb h.node n ne))
+        ∙ ap (λ hs. cond (not (h.node == n)) (h ∷ hs) hs) rest
+
+edited_ready : (n : ℕ) (g : Holding → Holding) (held : List Holding) → ((h : Holding) → (g h).node ≡ h.node) → ((h : Holding) → (g h).mark ≡ h.mark) → AllByRecursion (IsGoneOrSettled n) held → AllByRecursion (IsGoneOrSettled n) (edited n g held)
+edited_ready n g [] keeps marks all = tt
+edited_ready n g (h ∷ held) keeps marks all = (go (ℕ_discrete h.node n), edited_ready n g held keeps marks all.1)
+  where
+    go : Dec (h.node ≡ n) → IsGoneOrSettled n (if h.node == n then g h else h)
+    go (yes e) = subst (IsGoneOrSettled n) (sym (ap (λ b. cond b (g h) h) (eq-eqb h.node n e))) ((λ _. marks h ∙ all.0.0 e), (λ ne. absurd (ne (keeps h ∙ e))))
+    go (no ne) = subst (IsGoneOrSettled n) (sym (ap (λ b. cond b (g h) h) (ne_eqb h.node n ne))) all.0
+
+-- none of the node's locks is marked
+unmarked : (n : ℕ) (held : List Holding) → AllByRecursion (IsGoneOrSettled n) held → marked_in held n ≡ false
+unmarked n [] all = refl
+unmarked n (h ∷ held) all = go (ℕ_discrete h.node n) (unmarked n held all.1)
+  where
+    go : Dec (h.node ≡ n) → marked_in held n ≡ false → marked_in (h ∷ held) n ≡ false
+    go (yes e) rest = ap (λ b. is_marked (cond b (Some h) (held_of n held))) (eq-eqb h.node n e) ∙ ap is_some (all.0.0 e)
+    go (no ne) rest = ap (λ b. is_marked (cond b (Some h) (held_of n held))) (ne_eqb h.node n ne) ∙ rest
+
+and_no : (b : Bool) → (b && false) ≡ false
+and_no true = refl
+and_no false = refl
+
+no_spend : (k : CallerData) (v w : Log) → w ≡ record v { trace = w.trace; holdings = w.holdings; sights = w.sights } → Spends 0 (record k { log = v }) (record k { log = w })
+no_spend k v w is = record {
+  table = refl;
+  left = refl;
+  terms = ap (λ z. z.terms) is;
+  role = ap (λ z. z.role) is;
+  past = ap (λ z. z.past) is;
+  receipts = ap (λ z. z.receipts) is;
+  loader = ap (λ z. z.loader) is;
+  made = ap (λ z. z.made) is;
+  lineage = ap (λ z. z.lineage) is;
+  allowance = ap (λ z. z.budget.allowance) is;
+  credit = (let e = ap (λ z. z.budget.credit) is in omega (arith, e));
+}
+
+pub there_then : (n : ℕ) (u v w : Log) → OnlyThere n u v → OnlyThere n v w → OnlyThere n u w
+there_then n u v w a b = record {
+  held = b.held ∙ a.held;
+  ready = b.ready;
+  out = b.out ∙ a.out;
+  spends = λ k. (let p = a.spends k in let q = b.spends k in record {
+    table = q.table ∙ p.table;
+    left = q.left ∙ p.left;
+    terms = q.terms ∙ p.terms;
+    role = q.role ∙ p.role;
+    past = q.past ∙ p.past;
+    receipts = q.receipts ∙ p.receipts;
+    loader = q.loader ∙ p.loader;
+    made = q.made ∙ p.made;
+    lineage = q.lineage ∙ p.lineage;
+    allowance = q.allowance ∙ p.allowance;
+    credit = (let x = p.credit in let y = q.credit in omega (arith, x, y));
+  });
+}
+
+pub stored_there : (n at value : ℕ) (v : Log) → AllByRecursion (IsGoneOrSettled n) v.holdings.held → OnlyThere n v (after_node_store n at value v)
+stored_there n at value v all =
+    let plain : after_node_store n at value v ≡ stored_log n at value v = ap (λ b. if ((at == 1) && (value == 2)) && b then settle None (stored_log n at value v) else stored_log n at value v) (unmarked n v.holdings.held all) ∙ ap (λ b. if b then settle None (stored_log n at value v) else stored_log n at value v) (and_no ((at == 1) && (value == 2))) in
+    subst (OnlyThere n v) (sym plain) (record {
+      held = edited_without n (store_in at value) v.holdings.held (λ h. refl);
+      ready = edited_ready n (store_in at value) v.holdings.held (λ h. refl) (λ h. refl) all;
+      out = refl;
+      spends = λ k. no_spend k v (stored_log n at value v) refl;
+    })
+
+loaded_there : (n at value : ℕ) (v : Log) → AllByRecursion (IsGoneOrSettled n) v.holdings.held → OnlyThere n v (after_node_load n at value v)
+loaded_there n at value v all = record { held = refl; ready = all; out = refl; spends = λ k. no_spend k v (after_node_load n at value v) refl }
+
+set_there : (n at value : ℕ) (v : Log) → AllByRecursion (IsGoneOrSettled n) v.holdings.held → OnlyThere n v (after_setting n at value v)
+set_there n at value v all = go (held_word n at v == value)
+  where
+    go : (b : Bool) → OnlyThere n v (if b then after_node_load n at (held_word n at v) v else after_node_store n at value (after_node_load n at (held_word n at v) v))
+    go true = loaded_there n at (held_word n at v) v all
+    go false = there_then n v (after_node_load n at (held_word n at v) v) (after_node_store n at value (after_node_load n at (held_word n at v) v)) (loaded_there n at (held_word n at v) v all) (stored_there n at value (after_node_load n at (held_word n at v) v) all)
+
+linked_there : (n head : ℕ) (v : Log) → AllByRecursion (IsGoneOrSettled n) v.holdings.held → OnlyThere n v (after_linking n head v)
+linked_there n head v all =
+    let kind = set_there n 1 2 v all in
+    let level = set_there n 2 0 (after_setting n 1 2 v) kind.ready in
+    let both = there_then n v (after_setting n 1 2 v) (after_setting n 2 0 (after_setting n 1 2 v)) kind level in
+    let headed : OnlyThere n (after_setting n 2 0 (after_setting n 1 2 v)) (after_head_load head (after_setting n 2 0 (after_setting n 1 2 v))) = record { held = refl; ready = level.ready; out = refl; spends = λ k. no_spend k (after_setting n 2 0 (after_setting n 1 2 v)) (after_head_load head (after_setting n 2 0 (after_setting n 1 2 v))) refl } in
+    let linked = stored_there n 6 head (after_head_load head (after_setting n 2 0 (after_setting n 1 2 v))) headed.ready in
+    there_then n v (after_setting n 2 0 (after_setting n 1 2 v)) (after_linking n head v) both
+    (there_then n (after_setting n 2 0 (after_setting n 1 2 v)) (after_head_load head (after_setting n 2 0 (after_setting n 1 2 v))) (after_linking n head v) headed linked)
+
+-- what settles then is the node alone
+unchanged : (n : ℕ) (h : Holding) → IsGoneOrSettled n h → is_changed None h ≡ false
+unchanged n h s = go (ℕ_discrete h.node n)
+  where
+    go : Dec (h.node ≡ n) → is_changed None h ≡ false
+    go (yes e) = ap (λ o. is_some o && (not (are_spelled (spelled h.words) h.settled) || false)) (s.0 e)
+    go (no ne) = ap (λ b. is_some h.mark && (not b || false)) ((spelled_decides (spelled h.words) h.settled).1 (s.1 ne)) ∙ and_no (is_some h.mark)
+
+settled_rest : (n : ℕ) (held : List Holding) → AllByRecursion (IsGoneOrSettled n) held → without_lock n (map (exchange nothing_reached nothing_reached) held) ≡ without_lock n held
+settled_rest n [] all = refl
+settled_rest n (h ∷ held) all = go (ℕ_discrete h.node n) (settled_rest n held all.1)
+  where
+    still : (h.node ≢ n) → exchange nothing_reached nothing_reached h ≡ h
+    still ne = (λ i. record h { settled = by_mark (is_some h.mark) i })
+      where
+        by_mark : (b : Bool) → (if b then h.settled else now_of h (spelled h.words)) ≡ h.settled
+        by_mark true = refl
+        by_mark false = ap (now_of h) (all.0.1 ne)
+
+    go : Dec (h.node ≡ n) → without_lock n (map (exchange nothing_reached nothing_reached) held) ≡ without_lock n held → without_lock n (map (exchange nothing_reached nothing_reached) (h ∷ held)) ≡ without_lock n (h ∷ held)
+    go (yes e) rest =
+        ap (λ b. cond (not b) (exchange nothing_reached nothing_reached h ∷ without_lock n (map (exchange nothing_reached nothing_reached) held)) (without_lock n (map (exchange nothing_reached nothing_reached) held))) (eq-eqb h.node n e)
+        ∙ (rest ∙ sym (ap (λ b. cond (not b) (h ∷ without_lock n held) (without_lock n held)) (eq-eqb h.node n e)))
+    go (no ne) rest = (λ i. cond (not (h.node == n)) (still ne i ∷ rest i) (rest i))
+
+frees_only : ExchangeLaw → (n : ℕ) (v : Log) → AllByRecursion (IsGoneOrSettled n) v.holdings.held → settle None v ≡ settle_free v
+frees_only law n v all = ap (λ b. if b then after_exchange v (top_of v None) (is_among (group_of v None)) else settle_free v) (not_lawful (is_lawful v None) refl)
+  where
+    none_changed : changed_of v None ≡ []
+    none_changed = all_nothing (is_changed None) (IsGoneOrSettled n) (unchanged n) v.holdings.held all
+
+    not_lawful : (b : Bool) → is_lawful v None ≡ b → is_lawful v None ≡ false
+    not_lawful false e = e
+    not_lawful true e =
+        let grouped = ((law v None).0 e).change.change.top_grouped in
+        absurd (true≢false (sym grouped ∙ ap (λ hs. is_among (map node_of hs) (top_of v None)) none_changed))
+
+pub given_back : ExchangeLaw → (n : ℕ) (k k' : CallerData) → AllByRecursion (IsGoneOrSettled n) k.log.holdings.held → GivesFree n k k' → GivesBack n k k'
+given_back law n k k' all (head, is) =
+    let v = after_linking n head k.log in
+    let there = linked_there n head k.log all in
+    let w = after_give n v in
+    let free : settle None w ≡ settle_free w = frees_only law n w there.ready in
+    let equal : k' ≡ record k { log = record (after_node_release_same n (settle_free w)) { budget = after_spending w.budget } } = is ∙ ap (λ (z : Log). record k { log = record (after_node_release_same n z) { budget = after_spending z.budget } }) free in
+    let p = there.spends k in
+    subst (GivesBack n k) (sym equal) (record {
+      spends = record {
+        table = refl;
+        left = refl;
+        terms = p.terms;
+        role = p.role;
+        past = p.past;
+        receipts = p.receipts;
+        loader = p.loader;
+        made = p.made;
+        lineage = p.lineage;
+        allowance = p.allowance;
+        credit = (let c = p.credit in omega (arith, c));
+      };
+      held = settled_rest n v.holdings.held there.ready ∙ there.held;
+      out = ap (all_but n) there.out;
+    })

@@ -1,0 +1,246 @@
+-- A child is locked under its parent, and then a neighbour beside it.
+use Rattle.std.proofs.Common.{◌≡◌, ◌≢◌, ℕ, zero, suc, ◌+◌, ◌-◌, ◌<◌, ◌≤◌, List, [], ◌∷◌, sym, refl, ap, ◌∙◌, subst, arith, Bool, true, false, nat_le, Some, None, IfSome, IsSome, IsSomeAnd, eq-eqb, ne_eqb, Contains, if◌then◌else◌, cond}
+use Rattle.std.proofs.lemmas.Bool.{leb-true, leb-false}
+use Rattle.std.proofs.lemmas.Option.{none-some, same_Some}
+use Rattle.std.specs.List.{AllByRecursion, slice_get}
+use native.Mathlib.Decide.{ℕ_discrete}
+use Rattle.tree_shape.specs.Lawful.{FitsParent, IsOrderedAs, IsTree}
+use Rattle.tree_shape.specs.NodeData.{NodeData, Body, Pairs, Entries, Link, IsInFences, pairs_in, pairs_of, slot_for}
+use Rattle.tree_shape.specs.Trees.{Branch, Contents, branches, branches_from}
+use Rattle.tree_shape.specs.declared.node.Frame.{Frame}
+use Rattle.tree_shape.specs.declared.pair.Pair.{Pair}
+use Rattle.word_rule.specs.CallerData.{CallerData, surplus}
+use Rattle.word_rule.specs.Held.{held_of, without_lock}
+use Rattle.word_rule.specs.NodeTells.{IsLiveNode}
+use Rattle.word_rule.specs.Spelling.{spelled, SpellsNode}
+use Rattle.word_rule.specs.Steps.{first_mark, mark_at_lock, place_by, place_by_held, place_in}
+use Rattle.word_rule.specs.declared.log.Holding.{Holding}
+use Rattle.word_rule.specs.declared.log.Holdings.{Holdings}
+use Rattle.word_rule.specs.declared.log.LockId.{LockId}
+use Rattle.word_rule.specs.declared.log.LockId.TheVariants as lock
+use Rattle.word_rule.specs.declared.log.Terms.{Terms}
+use Rattle.node_store.specs.Holding.{ReadsHeld}
+use Rattle.node_store.specs.Locking.{IsBusy, Locks}
+use Rattle.node_store.specs.Sights.{after_words}
+use Rattle.btree_change.specs.Paths.{IsSettledLock, StepsOnNodes}
+use Rattle.btree_change.specs.Removing.{HoldsBesideRoot, IsBeside, IsSettledRoot, LetsGoOf}
+use Rattle.btree_change.specs.Siblings.{HoldsChild, HoldsUnder}
+use Rattle.btree_change.specs.declared.descent.Held.{Held}
+use Rattle.btree_change.proofs.Mended.{without_high}
+use Rattle.btree_change.proofs.Pairings.{IsBesideLock, beside_each, each_more}
+use Rattle.btree_change.proofs.Descending.{all_there, steps_of_read, steps_of_take, steps_then}
+use Rattle.btree_change.proofs.Takings.{placed_of}
+
+-- a pair of a node names a branch
+pub branch_at : (level low : ℕ) (pairs : List Pair) (slot : ℕ) (p : Pair) → slice_get pairs slot ≡ Some p → (b : Branch) × (Contains (branches_from level low pairs) b × (b.child ≡ p.child) × (b.frame.high ≡ p.separator) × (b.frame.level ≡ level))
+branch_at level low [] zero p at = absurd (none-some p at)
+branch_at level low [] (suc slot) p at = absurd (none-some p at)
+branch_at level low (x ∷ pairs) zero p at = let e : x ≡ p = same_Some _ _ at in (record { child = x.child; frame = record { level = level; low = low; high = x.separator } }, ((0, omega arith, refl), ap (λ (z : Pair). z.child) e, ap (λ (z : Pair). z.separator) e, refl))
+branch_at level low (x ∷ pairs) (suc slot) p at =
+    let rest = branch_at level (x.separator + 1) pairs slot p at in
+    (rest.0, ((suc rest.1.0.0, (let l = rest.1.0.1 in omega (arith, l)), rest.1.0.2), rest.1.1, rest.1.2, rest.1.3))
+
+-- that for an address holds it
+pub slot_holds : (level low pc : ℕ) (pairs : List Pair) (p : Pair) → low ≤ pc → slice_get pairs (slot_for pc pairs) ≡ Some p → (b : Branch) × (Contains (branches_from level low pairs) b × (b.child ≡ p.child) × (b.frame.low ≤ pc) × (pc ≤ b.frame.high))
+slot_holds level low pc [] p least at = absurd (none-some p at)
+slot_holds level low pc (x ∷ pairs) p least at = go (nat_le pc x.separator) refl at (λ more there. slot_holds level (x.separator + 1) pc pairs p more there)
+  where
+    go : (b : Bool) → nat_le pc x.separator ≡ b → slice_get (x ∷ pairs) (if b then 0 else (slot_for pc pairs + 1)) ≡ Some p
+        → (x.separator + 1 ≤ pc → slice_get pairs (slot_for pc pairs) ≡ Some p → (y : Branch) × (Contains (branches_from level (x.separator + 1) pairs) y × (y.child ≡ p.child) × (y.frame.low ≤ pc) × (pc ≤ y.frame.high)))
+        → (y : Branch) × (Contains (branches_from level low (x ∷ pairs)) y × (y.child ≡ p.child) × (y.frame.low ≤ pc) × (pc ≤ y.frame.high))
+    go true is there later = (record { child = x.child; frame = record { level = level; low = low; high = x.separator } }, ((0, omega arith, refl), ap (λ (z : Pair). z.child) (same_Some _ _ there), least, leb-true pc x.separator is))
+    go false is there later =
+        let above = leb-false pc x.separator is in
+        let next : slot_for pc pairs + 1 ≡ suc (slot_for pc pairs) = omega arith in
+        let rest = later (omega (arith, above)) (ap (slice_get (x ∷ pairs)) (sym next) ∙ there) in
+        (rest.0, ((suc rest.1.0.0, (let l = rest.1.0.1 in omega (arith, l)), rest.1.0.2), rest.1.1, rest.1.2, rest.1.3))
+
+-- a child that is there is found, and all that are found have its place
+found_child : (c : ℕ) (places : ℕ → Frame) (bs : List Branch) (b : Branch) → AllByRecursion (λ x. places x.child ≡ x.frame) bs → Contains bs b → b.child ≡ c → place_in c bs ≡ Some (places c)
+found_child c places [] b all there is = absurd (let l = there.1 in omega (arith, l))
+found_child c places (x ∷ bs) b all there is = go (ℕ_discrete x.child c) there (λ later. found_child c places bs b all.1 later is)
+  where
+    go : Dec (x.child ≡ c) → Contains (x ∷ bs) b → (Contains bs b → place_in c bs ≡ Some (places c)) → place_in c (x ∷ bs) ≡ Some (places c)
+    go (yes e) there rest = rw (eq-eqb x.child c e) (ap Some (sym all.0 ∙ ap places e))
+    go (no ne) (zero, l, e) rest = absurd (ne (ap (λ (z : Branch). z.child) e ∙ is))
+    go (no ne) (suc k, l, e) rest = rw (ne_eqb x.child c ne) (rest (k, omega (arith, l), e))
+
+weaken : (t : Terms) (places : ℕ → Frame) (bs : List Branch) → AllByRecursion (λ b. (b.child < t.nodes) × (b.child ≢ 0) × (places b.child ≡ b.frame)) bs → AllByRecursion (λ x. places x.child ≡ x.frame) bs
+weaken t places [] all = tt
+weaken t places (b ∷ bs) all = (all.0.2, weaken t places bs all.1)
+
+-- What a live node says of a child, by a branch that names it.
+pub record Names (t : Terms) (n : ℕ) (s : NodeData) (c : ℕ) (b : Branch) : Type 0 where
+  pub placed : place_in c (branches (s.level - 1) s) ≡ Some b.frame
+  pub within : c < t.nodes
+  pub no_root : c ≢ 0
+  pub no_parent : b.frame.level < s.level → c ≢ n
+  pub place : (other : Branch) → Contains (branches (s.level - 1) s) other → other.child ≡ c → other.frame ≡ b.frame
+
+pub names : (t : Terms) (n : ℕ) (s : NodeData) (f : Frame) (c : ℕ) (b : Branch) → IsLiveNode t n s f → Contains (branches (s.level - 1) s) b → b.child ≡ c → Names t n s c b
+names t n s f c b live there is =
+    let told = all_there (λ x. (x.child < t.nodes) × (x.child ≢ 0) × (live.places x.child ≡ x.frame)) (branches (s.level - 1) s) b live.children there in
+    let frame : live.places c ≡ b.frame = ap live.places (sym is) ∙ told.2 in record {
+      placed = found_child c live.places (branches (s.level - 1) s) b (weaken t live.places (branches (s.level - 1) s) live.children) there is ∙ ap Some frame;
+      within = subst (λ k. k < t.nodes) is told.0;
+      no_root = λ e. told.1 (is ∙ e);
+      no_parent = λ lower e. (let same : s.level ≡ b.frame.level = ap (λ (z : Frame). z.level) (sym live.own ∙ (ap live.places (sym e) ∙ frame)) in omega (arith, same, lower));
+      place = λ other at same. sym (all_there (λ x. (x.child < t.nodes) × (x.child ≢ 0) × (live.places x.child ≡ x.frame)) (branches (s.level - 1) s) other live.children at).2 ∙ (ap live.places same ∙ frame);
+    }
+
+-- A node was locked, and its lock is marked with a place.
+pub record IsTakenAt (t : Terms) (c : ℕ) (f : Frame) (before : List Holding) (holdings : Holdings) : Type 0 where
+  pub new : Holding
+  pub content : NodeData
+  pub held : holdings.held ≡ new ∷ before
+  pub here : IsSettledLock t c content false new
+  pub level : content.level ≡ f.level
+  pub low : content.low ≡ f.low
+  pub high : content.high ≡ f.high
+  pub out : holdings.out ≡ []
+
+pub taken_at : (t : Terms) (c : ℕ) (f : Frame) (before : List Holding) (k k' : CallerData) → k.log.terms ≡ t → k.log.holdings.held ≡ before → k.log.holdings.out ≡ [] → c ≢ 0 → place_by_held c before ≡ Some f → Locks (lock.Node c) k k' → IsTakenAt t c f before k'.log.holdings
+taken_at t c f before k k' terms held out some placed (more, marks, nodes, version, settled, words, (tries, taken, is)) =
+    subst (λ (z : CallerData). IsTakenAt t c f before z.log.holdings) (sym is) (record {
+      new = record { node = c; version = version; settled = settled; words = words; stored = false; mark = mark_at_lock c settled k.log.holdings.held };
+      content = settled;
+      held = ap (λ hs. record { node = c; version = version; settled = settled; words = words; stored = false; mark = mark_at_lock c settled k.log.holdings.held } ∷ hs) held;
+      here = record {
+        node = refl;
+        settled = refl;
+        spells = taken.spells;
+        stored = refl;
+        marked = subst IsSome (sym mark_is) refl;
+        live = subst (λ o. IfSome o (IsLiveNode t c settled)) (sym mark_is) live;
+      };
+      level = live.placed.0;
+      low = live.placed.1;
+      high = live.placed.2;
+      out = out;
+    })
+  where
+    mark_is : mark_at_lock c settled k.log.holdings.held ≡ Some f
+    mark_is = rw (ne_eqb c 0 some) (ap (place_by_held c) held ∙ placed)
+
+    live : IsLiveNode t c settled f
+    live = subst (λ z. IsLiveNode z c settled f) terms (subst (λ o. IfSome o (IsLiveNode k.log.terms c settled)) mark_is taken.live)
+
+pub by_parent : (t : Terms) (n c : ℕ) (s : NodeData) (changed : Bool) (h : Holding) (b : Branch) → IsSettledLock t n s changed h → Names t n s c b → place_by c h.mark h ≡ Some b.frame
+by_parent t n c s changed h b lock named =
+    let own = placed_of t n s changed h lock in
+    rw own.1.0 (ap (λ (z : NodeData). place_in c (branches (z.level - 1) z)) lock.settled ∙ named.placed)
+
+-- what is read is what is held
+pub read_first : (n : ℕ) (content shape : NodeData) (new : Holding) (before : List Holding) (k k' : CallerData) → k.log.holdings.held ≡ new ∷ before → new.node ≡ n → SpellsNode new.words content → ReadsHeld n k k' shape → content ≡ shape
+read_first n content shape new before k k' held is spells reads =
+    let found : held_of n k.log.holdings.held ≡ Some new = ap (held_of n) held ∙ ap (λ b. cond b (Some new) (held_of n before)) (eq-eqb new.node n is) in
+    let told = subst (λ o. IsSomeAnd o (λ h. SpellsNode h.words shape × (k' ≡ record k { log = after_words n h.words 35 k.log }))) found reads in
+    same_Some _ _ (sym spells ∙ told.0)
+
+pub may_read_first : (n : ℕ) (content : NodeData) (new : Holding) (before : List Holding) (k : CallerData) → k.log.holdings.held ≡ new ∷ before → new.node ≡ n → SpellsNode new.words content → IsSomeAnd (held_of n k.log.holdings.held) (λ h. IsSome (spelled h.words))
+may_read_first n content new before k held is spells =
+    let found : held_of n k.log.holdings.held ≡ Some new = ap (held_of n) held ∙ ap (λ b. cond b (Some new) (held_of n before)) (eq-eqb new.node n is) in
+    subst (λ o. IsSomeAnd o (λ h. IsSome (spelled h.words))) (sym found) (subst IsSome (sym spells) refl)
+
+-- a node of a level names no node of its own level
+all_levels : (level low : ℕ) (pairs : List Pair) → AllByRecursion (λ (b : Branch). b.frame.level ≡ level) (branches_from level low pairs)
+all_levels level low [] = tt
+all_levels level low (p ∷ pairs) = (refl, all_levels level (p.separator + 1) pairs)
+
+pub none_named : (f : Contents) (live : ℕ → Bool) → IsTree f live → (c q : ℕ) → live c ≡ true → (f q).level ≡ (f c).level → place_in q (branches ((f c).level - 1) (f c)) ≡ None
+none_named f live tree c q lives same = go (f c).body refl (tree.ordered c lives)
+  where
+    none_of : (bs : List Branch) → 0 < (f c).level → AllByRecursion (FitsParent f) bs → AllByRecursion (λ (b : Branch). b.frame.level ≡ (f c).level - 1) bs → place_in q bs ≡ None
+    none_of [] some fits levels = refl
+    none_of (b ∷ bs) some fits levels =
+        let far : b.child ≢ q = λ e. (let x = fits.0.level in let y = levels.0 in let z : (f b.child).level ≡ (f q).level = ap (λ k. (f k).level) e in omega (arith, x, y, z, same, some)) in
+        rw (ne_eqb b.child q far) (none_of bs some fits.1 levels.1)
+
+    go : (body : Body) → (f c).body ≡ body → IsOrderedAs (f c) body → place_in q (branches ((f c).level - 1) (f c)) ≡ None
+    go (Entries entries) e ordered = ap (λ z. place_in q (branches_from ((f c).level - 1) (f c).low (pairs_in z))) e
+    go (Pairs pairs) e ordered = none_of (branches ((f c).level - 1) (f c)) ordered.0 (tree.fitting c lives) (all_levels ((f c).level - 1) (f c).low (pairs_of (f c)))
+    go (Link next) e ordered = absurd ordered
+
+-- the child for an address is held under its parent
+pub child_so : (t : Terms) (n : ℕ) (s : NodeData) (changed root_changed : Bool) (pc slot : ℕ) (p : Pair) (k k1 k2 : CallerData) (shape : NodeData) → k.log.terms ≡ t → HoldsBesideRoot t n s changed root_changed k.log.holdings → 0 < s.level → IsInFences pc s → slot ≡ slot_for pc (pairs_of s) → slice_get (pairs_of s) slot ≡ Some p → Locks (lock.Node p.child) k k1 → ReadsHeld p.child k1 k2 shape → k2.log.holdings ≡ k1.log.holdings
+    → HoldsChild t (record { above = record { at = record { node = n; content = s; changed = changed }; root_changed = root_changed }; at = record { node = p.child; content = shape; changed = false }; slot = slot }) pc k2.log.holdings
+child_so t n s changed root_changed pc slot p k k1 k2 shape terms path above fences first at locks reads same =
+    let own = placed_of t n s changed path.lock path.here in
+    let holds = slot_holds (s.level - 1) s.low pc (pairs_of s) p fences.0 (ap (slice_get (pairs_of s)) (sym first) ∙ at) in
+    let exact = branch_at (s.level - 1) s.low (pairs_of s) slot p at in
+    let named = names t n s own.0 p.child holds.0 own.1.1 holds.1.0 holds.1.1 in
+    let frame : exact.0.frame ≡ holds.0.frame = named.place exact.0 exact.1.0 exact.1.1 in
+    let high : holds.0.frame.high ≡ p.separator = ap (λ (z : Frame). z.high) (sym frame) ∙ exact.1.2 in
+    let level : holds.0.frame.level ≡ s.level - 1 = ap (λ (z : Frame). z.level) (sym frame) ∙ exact.1.3 in
+    let taken = taken_at t p.child holds.0.frame (path.lock ∷ path.above) k k1 terms path.held path.out named.no_root (ap (λ o. first_mark o (place_by_held p.child path.above)) (by_parent t n p.child s changed path.lock holds.0 path.here named)) locks in
+    let is : taken.content ≡ shape = read_first p.child taken.content shape taken.new (path.lock ∷ path.above) k1 k2 taken.held taken.here.node taken.here.spells reads in
+    let ends : shape.high ≡ p.separator = ap (λ (z : NodeData). z.high) (sym is) ∙ (taken.high ∙ high) in record {
+      parent_within = path.within;
+      within = named.within;
+      no_root = named.no_root;
+      no_parent = named.no_parent (omega (arith, level, above));
+      lower = taken.new;
+      upper = path.lock;
+      rest = path.above;
+      held = ap (λ (z : Holdings). z.held) same ∙ taken.held;
+      here = subst (λ z. IsSettledLock t p.child z false taken.new) is taken.here;
+      clean = refl;
+      parent = path.here;
+      root = path.root;
+      out = ap (λ (z : Holdings). z.out) same ∙ taken.out;
+      at = at ∙ (λ i. Some (record { child = p.child; separator = sym ends i }));
+      level = (let l = taken.level in let e = ap (λ (z : NodeData). z.level) is in omega (arith, l, e, level, above));
+      fences = (let l = taken.low in let h = taken.high in let a = holds.1.2 in let b = holds.1.3 in subst (IsInFences pc) is (omega (arith, l, a), omega (arith, h, b)));
+    }
+
+pub child_within : (t : Terms) (n : ℕ) (s : NodeData) (changed root_changed : Bool) (holdings : Holdings) (slot : ℕ) (p : Pair) → HoldsBesideRoot t n s changed root_changed holdings → slice_get (pairs_of s) slot ≡ Some p → p.child < t.nodes
+child_within t n s changed root_changed holdings slot p path at =
+    let own = placed_of t n s changed path.lock path.here in
+    let exact = branch_at (s.level - 1) s.low (pairs_of s) slot p at in
+    (names t n s own.0 p.child exact.0 own.1.1 exact.1.0 exact.1.1).within
+
+pub child_steps : (c : ℕ) (k k1 k2 : CallerData) (shape : NodeData) → Locks (lock.Node c) k k1 → ReadsHeld c k1 k2 shape → StepsOnNodes k k2
+child_steps c k k1 k2 shape locks reads = steps_then k k1 k2 (steps_of_take c k k1 locks) (steps_of_read c k1 k2 shape reads)
+
+-- what was locked last spells a node
+pub may_read_taken : (t : Terms) (c : ℕ) (k k1 : CallerData) → Locks (lock.Node c) k k1 → IsSomeAnd (held_of c k1.log.holdings.held) (λ h. IsSome (spelled h.words))
+may_read_taken t c k k1 (more, marks, nodes, version, settled, words, (tries, taken, is)) =
+    subst (λ (z : CallerData). IsSomeAnd (held_of c z.log.holdings.held) (λ h. IsSome (spelled h.words))) (sym is)
+    (subst (λ o. IsSomeAnd o (λ h. IsSome (spelled h.words))) (sym (ap (λ b. cond b (Some record { node = c; version = version; settled = settled; words = words; stored = false; mark = mark_at_lock c settled k.log.holdings.held }) (held_of c k.log.holdings.held)) (eq-eqb c c refl))) (subst IsSome (sym taken.spells) refl))
+
+-- the node above is left
+beside_move : (n m : ℕ) (changed : Bool) (rest : List Holding) → n ≢ 0 → m ≢ 0 → IsBeside n changed rest → IsBeside m changed rest
+beside_move zero m changed rest a b root = absurd (a refl)
+beside_move (suc n) zero changed rest a b root = absurd (b refl)
+beside_move (suc n) (suc m) changed rest a b root = root
+
+beside_root : (n m : ℕ) (changed root_changed : Bool) (upper : Holding) (rest : List Holding) → n ≡ 0 → m ≢ 0 → IsSettledRoot changed upper → IsBeside n root_changed rest → IsBeside m changed (upper ∷ rest)
+beside_root zero zero changed root_changed upper rest z b lock root = absurd (b refl)
+beside_root zero (suc m) changed root_changed upper rest z b lock root = (upper, (ap (λ hs. upper ∷ hs) root, lock))
+beside_root (suc n) m changed root_changed upper rest z b lock root = absurd (omega (arith, z))
+
+pub left_root : (t : Terms) (n : ℕ) (changed root_changed : Bool) (at : Held) (holdings : Holdings) → n ≡ 0 → HoldsUnder t n changed root_changed at holdings → HoldsBesideRoot t at.node at.content at.changed changed holdings
+left_root t n changed root_changed at holdings is h = record {
+  within = h.within;
+  lock = h.lower;
+  above = h.upper ∷ h.rest;
+  held = h.held;
+  here = h.here;
+  root = beside_root n at.node changed root_changed h.upper h.rest is h.no_root (record { node = h.node ∙ is; spells = h.spells; inner = h.inner; stored = h.stored; marked = h.marked }) h.root;
+  out = h.out;
+}
+
+pub left_other : (t : Terms) (n : ℕ) (changed root_changed : Bool) (at : Held) (k k' : CallerData) → n ≢ 0 → HoldsUnder t n changed root_changed at k.log.holdings → LetsGoOf n k k' → HoldsBesideRoot t at.node at.content at.changed root_changed k'.log.holdings
+left_other t n changed root_changed at k k' some h l = record {
+  within = h.within;
+  lock = h.lower;
+  above = h.rest;
+  held = l.held ∙ (ap (without_lock n) h.held ∙ without_high true h.lower h.upper h.rest n h.node (λ e. h.no_parent (sym h.here.node ∙ e)) (each_more (IsBesideLock n) (λ a. a.node ≢ n) (λ a b e. some (sym e ∙ b.node)) h.rest (beside_each n root_changed h.rest h.root)));
+  here = h.here;
+  root = beside_move n at.node root_changed h.rest some h.no_root h.root;
+  out = l.out ∙ h.out;
+}
+
+-- a lock that was found taken changes nothing that is held
+pub busy_kept : (id : LockId) (k k' : CallerData) → IsBusy id k k' → (k'.log.holdings ≡ k.log.holdings) × (surplus k' ≡ surplus k) × StepsOnNodes k k'
+busy_kept id k k' (found, (odd, is)) = (ap (λ (z : CallerData). z.log.holdings) is, ap surplus is, subst (StepsOnNodes k) (sym is) (record { table = refl; left = refl; terms = refl; role = refl; past = refl; budget = refl; receipts = refl; loader = refl; made = refl; lineage = refl }))

@@ -1,0 +1,165 @@
+-- What is held once a change of two children has settled, and all but one of them was let go of or
+-- given back.
+use Rattle.std.proofs.Common.{◌≡◌, ◌≢◌, ℕ, zero, suc, ◌-◌, ◌*◌, ◌<◌, List, [], ◌∷◌, sym, refl, ap, ◌∙◌, subst, arith, Bool, true, false, ◌==◌, not, IsTrue, Some, IfSome, IsSome, eq-eqb, ne_eqb, cond}
+use Rattle.std.specs.List.{AllByRecursion}
+use Rattle.tree_shape.specs.Changes.{joined}
+use Rattle.tree_shape.specs.Decisions.{is_entries}
+use Rattle.tree_shape.specs.NodeData.{NodeData}
+use Rattle.tree_shape.specs.Numbers.{is_among}
+use Rattle.word_rule.specs.CallerData.{CallerData, surplus}
+use Rattle.word_rule.specs.Held.{all_but, held_of, without_lock}
+use Rattle.word_rule.specs.NodeTells.{HolderTells, IsHeldNode, IsLiveNode}
+use Rattle.word_rule.specs.Sights.{after_node_load}
+use Rattle.word_rule.specs.Spelling.{SpellsNode}
+use Rattle.word_rule.specs.declared.log.Holding.{Holding}
+use Rattle.word_rule.specs.declared.log.Holdings.{Holdings}
+use Rattle.word_rule.specs.declared.log.Terms.{Terms}
+use Rattle.btree_change.specs.Paths.{StepsOnNodes}
+use Rattle.btree_change.specs.Removing.{IsBeside, Spends}
+use Rattle.btree_change.specs.Siblings.{GivesBack, HoldsGone, HoldsSiblings, HoldsUnder, IsGoneOrSettled, MendsSiblings, both_of}
+use Rattle.btree_change.specs.declared.sibling.Siblings.{Siblings}
+use Rattle.btree_change.proofs.Pairings.{IsBesideLock, beside_each, both_all, both_high, both_more, each_more, first_found, here}
+use Rattle.btree_change.proofs.Releases.{spends_then}
+
+pub spends_none : (k k' : CallerData) → StepsOnNodes k k' → Spends 0 k k'
+spends_none k k' s = record {
+  table = s.table;
+  left = s.left;
+  terms = s.terms;
+  role = s.role;
+  past = s.past;
+  receipts = s.receipts;
+  loader = s.loader;
+  made = s.made;
+  lineage = s.lineage;
+  allowance = ap (λ b. b.allowance) s.budget;
+  credit = (let e = ap (λ b. b.credit) s.budget in omega (arith, e));
+}
+
+-- a lock that isn't there is no loss
+pub without_none : (n : ℕ) (more : List Holding) → AllByRecursion (λ a. a.node ≢ n) more → without_lock n more ≡ more
+without_none n [] all = refl
+without_none n (h ∷ more) all = (λ i. cond (not (ne_eqb h.node n all.0 i)) (h ∷ without_none n more all.1 i) (without_none n more all.1 i))
+
+pub without_high : (o : Bool) (low high : Holding) (more : List Holding) (n : ℕ) → high.node ≡ n → low.node ≢ n → AllByRecursion (λ a. a.node ≢ n) more → without_lock n (both_of o low high more) ≡ low ∷ more
+without_high true low high more n is far rest = (λ i. cond (not (ne_eqb low.node n far i)) (low ∷ cond (not (eq-eqb high.node n is i)) (high ∷ without_none n more rest i) (without_none n more rest i)) (cond (not (eq-eqb high.node n is i)) (high ∷ without_none n more rest i) (without_none n more rest i)))
+without_high false low high more n is far rest = (λ i. cond (not (eq-eqb high.node n is i)) (high ∷ cond (not (ne_eqb low.node n far i)) (low ∷ without_none n more rest i) (without_none n more rest i)) (cond (not (ne_eqb low.node n far i)) (low ∷ without_none n more rest i) (without_none n more rest i)))
+
+pub without_low : (o : Bool) (low high : Holding) (more : List Holding) (n : ℕ) → low.node ≡ n → high.node ≢ n → AllByRecursion (λ a. a.node ≢ n) more → without_lock n (both_of o low high more) ≡ high ∷ more
+without_low true low high more n is far rest = without_high false high low more n is far rest
+without_low false low high more n is far rest = without_high true high low more n is far rest
+
+-- the root is held, as the node above or beside it
+pub root_there : (o : Bool) (low high upper : Holding) (rest : List Holding) (n : ℕ) (changed : Bool) → low.node ≢ 0 → high.node ≢ 0 → upper.node ≡ n → IsBeside n changed rest → IsSome (held_of 0 (both_of o low high (upper ∷ rest)))
+root_there o low high upper rest zero changed a b is root = subst IsSome (sym (both_more o low high (upper ∷ rest) 0 a b ∙ first_found 0 upper rest is)) refl
+root_there o low high upper rest (suc n) changed a b is (root, (e, r)) =
+    let far : (upper.node == 0) ≡ false = ne_eqb upper.node 0 (λ z. omega (arith, z, is)) in
+    subst IsSome (sym (both_more o low high (upper ∷ rest) 0 a b ∙ (ap (λ z. cond z (Some upper) (held_of 0 rest)) far ∙ (ap (held_of 0) e ∙ first_found 0 root [] r.node)))) refl
+
+pub rest_far : (n m : ℕ) (changed : Bool) (rest : List Holding) → m ≢ 0 → IsBeside n changed rest → AllByRecursion (λ a. a.node ≢ m) rest
+rest_far n m changed rest some root = each_more (IsBesideLock n) (λ a. a.node ≢ m) (λ h b e. some (sym e ∙ b.node)) rest (beside_each n changed rest root)
+
+-- A node was changed and settled, and so was the one above it.
+pub record AreSettled (n l : ℕ) (s : NodeData) (root_changed : Bool) (holdings : Holdings) : Type 0 where
+  pub lower : Holding
+  pub upper : Holding
+  pub rest : List Holding
+  pub held : holdings.held ≡ lower ∷ upper ∷ rest
+  pub node : lower.node ≡ l
+  pub settled : lower.settled ≡ s
+  pub spells : SpellsNode lower.words lower.settled
+  pub stored : lower.stored ≡ true
+  pub marked : IsSome lower.mark
+  pub parent : upper.node ≡ n
+  pub parent_spells : SpellsNode upper.words upper.settled
+  pub parent_inner : is_entries upper.settled.body ≡ false
+  pub parent_stored : upper.stored ≡ true
+  pub parent_marked : IsSome upper.mark
+  pub root : IsBeside n root_changed rest
+  pub out : holdings.out ≡ []
+
+-- by a load it is known that it has its place
+pub under_so : (t : Terms) (n l : ℕ) (s : NodeData) (root_changed : Bool) (k k' : CallerData) (found : ℕ) → l < t.nodes → l ≢ 0 → l ≢ n → k.log.terms ≡ t → AreSettled n l s root_changed k.log.holdings → HolderTells l k.log → k' ≡ record k { log = after_node_load l 2 found k.log } → HoldsUnder t n true root_changed (record { node = l; content = s; changed = true }) k'.log.holdings
+under_so t n l s root_changed k k' found within no_root no_parent terms a tells loads =
+    subst (λ (z : CallerData). HoldsUnder t n true root_changed (record { node = l; content = s; changed = true }) z.log.holdings) (sym loads) (record {
+      within = within;
+      no_root = no_root;
+      no_parent = no_parent;
+      lower = a.lower;
+      upper = a.upper;
+      rest = a.rest;
+      held = a.held;
+      here = record {
+        node = a.node;
+        settled = a.settled;
+        spells = subst (SpellsNode a.lower.words) a.settled a.spells;
+        stored = a.stored;
+        marked = a.marked;
+        live = subst (λ m. IfSome a.lower.mark (IsLiveNode t m s)) a.node (subst (λ z. IfSome a.lower.mark (IsLiveNode t a.lower.node z)) a.settled (subst (λ z. IfSome a.lower.mark (IsLiveNode z a.lower.node a.lower.settled)) terms own.live));
+      };
+      node = a.parent;
+      spells = a.parent_spells;
+      inner = a.parent_inner;
+      stored = a.parent_stored;
+      marked = a.parent_marked;
+      root = a.root;
+      out = a.out;
+    })
+  where
+    own : IsHeldNode k.log.terms a.lower
+    own = subst (λ o. IfSome o (IsHeldNode k.log.terms)) (ap (held_of l) a.held ∙ first_found l a.lower (a.upper ∷ a.rest) a.node) tells
+
+pub loaded_none : (n at found : ℕ) (k k' : CallerData) → k' ≡ record k { log = after_node_load n at found k.log } → Spends 0 k k'
+loaded_none n at found k k' is = subst (Spends 0 k) (sym is) (record { table = refl; left = refl; terms = refl; role = refl; past = refl; receipts = refl; loader = refl; made = refl; lineage = refl; allowance = refl; credit = omega arith })
+
+pub surplus_kept : (k k' : CallerData) → StepsOnNodes k k' → surplus k' ≡ surplus k
+surplus_kept k k' s = (λ i. (s.budget i).credit - 64 * s.left i)
+
+-- the right one of two joined children is given back
+module _ (t : Terms) (x : Siblings) (k : CallerData) (gone : HoldsGone t x k.log.holdings) where
+  far_rest : AllByRecursion (λ a. a.node ≢ x.right.node) gone.rest
+  far_rest = rest_far x.above.at.node x.right.node x.above.root_changed gone.rest gone.no_root.1 gone.root
+
+  pub gone_ready : AllByRecursion (IsGoneOrSettled x.right.node) k.log.holdings.held
+  gone_ready = subst (AllByRecursion (IsGoneOrSettled x.right.node)) (sym gone.held) (both_all (IsGoneOrSettled x.right.node) gone.left_first gone.low gone.high (gone.upper ∷ gone.rest)
+      ((λ e. absurd (gone.different (sym gone.left ∙ e))), (λ _. gone.spells))
+      ((λ _. gone.gone), (λ ne. absurd (ne gone.right)))
+      (((λ e. absurd (gone.no_parent.1 (sym (sym gone.parent ∙ e)))), (λ _. gone.parent_spells)), each_more (IsBesideLock x.above.at.node) (IsGoneOrSettled x.right.node) (λ h b. ((λ e. absurd (gone.no_root.1 (sym e ∙ b.node))), (λ _. b.spells))) gone.rest (beside_each x.above.at.node x.above.root_changed gone.rest gone.root)))
+
+  pub gone_root : IsSome (held_of 0 k.log.holdings.held)
+  gone_root = subst (λ hs. IsSome (held_of 0 hs)) (sym gone.held) (root_there gone.left_first gone.low gone.high gone.upper gone.rest x.above.at.node x.above.root_changed (λ e. gone.no_root.0 (sym gone.left ∙ e)) (λ e. gone.no_root.1 (sym gone.right ∙ e)) gone.parent gone.root)
+
+  pub gone_held : IsSome (held_of x.right.node k.log.holdings.held)
+  gone_held = subst IsSome (sym (ap (held_of x.right.node) gone.held ∙ both_high gone.left_first gone.low gone.high (gone.upper ∷ gone.rest) x.right.node gone.right (λ e. gone.different (sym gone.left ∙ e)))) refl
+
+  pub gone_out : IsTrue (is_among k.log.holdings.out x.right.node)
+  gone_out = subst (λ os. IsTrue (is_among os x.right.node)) (sym gone.out) (here x.right.node [])
+
+  pub settled_back : (k' : CallerData) → GivesBack x.right.node k k' → AreSettled x.above.at.node x.left.node (joined x.left.content x.right.content) x.above.root_changed k'.log.holdings
+  settled_back k' back = record {
+    lower = gone.low;
+    upper = gone.upper;
+    rest = gone.rest;
+    held = back.held ∙ (ap (without_lock x.right.node) gone.held ∙ without_high gone.left_first gone.low gone.high (gone.upper ∷ gone.rest) x.right.node gone.right (λ e. gone.different (sym gone.left ∙ e)) ((λ e. gone.no_parent.1 (sym (sym gone.parent ∙ e))), far_rest));
+    node = gone.left;
+    settled = gone.content;
+    spells = gone.spells;
+    stored = gone.stored;
+    marked = gone.marked;
+    parent = gone.parent;
+    parent_spells = gone.parent_spells;
+    parent_inner = gone.parent_inner;
+    parent_stored = gone.parent_stored;
+    parent_marked = gone.parent_marked;
+    root = gone.root;
+    out = back.out ∙ (ap (all_but x.right.node) gone.out ∙ ap (λ b. cond (not b) (x.right.node ∷ []) []) (eq-eqb x.right.node x.right.node refl));
+  }
+
+pub joins_so : (t : Terms) (x : Siblings) (k k1 k2 k3 : CallerData) (found : ℕ) (way : NodeData) → k.log.terms ≡ t → HoldsSiblings t x k.log.holdings → HoldsGone t x k1.log.holdings → StepsOnNodes k k1 → GivesBack x.right.node k1 k2 → HolderTells x.left.node k2.log → k3 ≡ record k2 { log = after_node_load x.left.node 2 found k2.log } → way ≡ joined x.left.content x.right.content → MendsSiblings t x (record { node = x.left.node; content = way; changed = true }) k k3
+joins_so t x k k1 k2 k3 found way terms hs gone steps back tells loads is =
+    subst (λ z. MendsSiblings t x (record { node = x.left.node; content = z; changed = true }) k k3) (sym is) (record {
+      holds = under_so t x.above.at.node x.left.node (joined x.left.content x.right.content) x.above.root_changed k2 k3 found hs.left_within gone.no_root.0 gone.no_parent.0 (back.spends.terms ∙ (steps.terms ∙ terms)) (settled_back t x k1 gone k2 back) tells loads;
+      level = hs.level;
+      spare = gone.spare;
+      spends = spends_then 1 0 1 k k2 k3 refl (spends_then 0 1 1 k k1 k2 refl (spends_none k k1 steps) back.spends) (loaded_none x.left.node 2 found k2 k3 loads);
+    })

@@ -1,0 +1,291 @@
+-- Two neighbouring children that are held under their parent, in the tree of which they are, and what
+-- becomes of the three locks where all three nodes change.
+use Rattle.std.proofs.Common.{◌≡◌, ◌≢◌, ℕ, zero, suc, ◌+◌, ◌<◌, ◌≤◌, List, [], ◌∷◌, length, map, sym, refl, ap, ◌∙◌, subst, arith, Bool, true, false, ◌==◌, not, ◌&&◌, IsTrue, true≢false, Some, None, IsSome, is_some, eq-eqb, ne_eqb, cond}
+use Rattle.std.proofs.lemmas.Bool.{ltb-true, ltb-false}
+use Rattle.std.specs.List.{AllByRecursion, filter, slice_get}
+use Rattle.tree_shape.specs.Changes.{pair}
+use Rattle.tree_shape.specs.LocalChange.{IsChangeOf}
+use Rattle.tree_shape.specs.NodeData.{NodeData, frame_of, pairs_of}
+use Rattle.tree_shape.specs.Numbers.{is_among, once, times}
+use Rattle.tree_shape.specs.Trees.{Contents}
+use Rattle.tree_shape.specs.declared.pair.Pair.{Pair}
+use Rattle.tree_shape.proofs.Halves.{among, not_among}
+use Rattle.tree_shape.proofs.Joins.{Neighbours, neighbours}
+use Rattle.word_rule.specs.CallerData.{CallerData}
+use Rattle.word_rule.specs.Exchange.{exchange, node_of, settle}
+use Rattle.word_rule.specs.Held.{held_of, marked_in, is_marked}
+use Rattle.word_rule.specs.NodeTells.{KnowsTree}
+use Rattle.word_rule.specs.Spelling.{SpellsNode}
+use Rattle.word_rule.specs.declared.log.Holding.{Holding}
+use Rattle.word_rule.specs.declared.log.Log.{Log}
+use Rattle.word_rule.specs.declared.log.Terms.{Terms}
+use Rattle.btree_change.specs.Removing.{IsBeside}
+use Rattle.btree_change.specs.Siblings.{HoldsSiblings, both_of}
+use Rattle.btree_change.specs.declared.sibling.Siblings.{Siblings}
+use Rattle.btree_change.proofs.Settling.{FitsChange, HeldOnce, IsHeldChange, SettlingLaws, StaysSettled, left_out, settled_after, settled_group, stay_settled, stays_fit}
+
+-- numbers of short lists
+pub here : (x : ℕ) (xs : List ℕ) → is_among (x ∷ xs) x ≡ true
+here x xs = let e : once (x == x) ≡ 1 = ap once (eq-eqb x x refl) in among (x ∷ xs) x (omega (arith, e))
+
+pub later : (x y : ℕ) (xs : List ℕ) → is_among xs x ≡ true → is_among (y ∷ xs) x ≡ true
+later x y xs e = let l : 0 < times x xs = ltb-true 0 (times x xs) e in among (y ∷ xs) x (omega (arith, l))
+
+pub not_in : (x y : ℕ) (xs : List ℕ) → x ≢ y → is_among xs x ≡ false → is_among (y ∷ xs) x ≡ false
+not_in x y xs far e = let l : times x xs ≤ 0 = ltb-false 0 (times x xs) e in let z : once (x == y) ≡ 0 = ap once (ne_eqb x y far) in not_among (y ∷ xs) x (omega (arith, l, z))
+
+-- what holds of two locks in either order
+pub both_all : (P : Holding → Type 0) (o : Bool) (low high : Holding) (more : List Holding) → P low → P high → AllByRecursion P more → AllByRecursion P (both_of o low high more)
+both_all P true low high more a b m = (a, (b, m))
+both_all P false low high more a b m = (b, (a, m))
+
+pub both_each : (P : Holding → Type 0) (o : Bool) (low high : Holding) (more : List Holding) → AllByRecursion P (both_of o low high more) → P low × P high × AllByRecursion P more
+both_each P true low high more all = (all.0, all.1.0, all.1.1)
+both_each P false low high more all = (all.1.0, all.0, all.1.1)
+
+both_map : (f : Holding → Holding) (o : Bool) (low high : Holding) (more : List Holding) → map f (both_of o low high more) ≡ both_of o (f low) (f high) (map f more)
+both_map f true low high more = refl
+both_map f false low high more = refl
+
+both_once : (o : Bool) (low high : Holding) (more : List Holding) → low.node ≢ high.node → AllByRecursion (λ a. a.node ≢ low.node) more → AllByRecursion (λ a. a.node ≢ high.node) more → HeldOnce more → HeldOnce (both_of o low high more)
+both_once true low high more far a b once = (((λ e. far (sym e)), a), (b, once))
+both_once false low high more far a b once = ((far, b), (a, once))
+
+pub both_low : (o : Bool) (low high : Holding) (more : List Holding) (n : ℕ) → low.node ≡ n → high.node ≢ n → held_of n (both_of o low high more) ≡ Some low
+both_low true low high more n is far = ap (λ b. cond b (Some low) (held_of n (high ∷ more))) (eq-eqb low.node n is)
+both_low false low high more n is far = ap (λ b. cond b (Some high) (held_of n (low ∷ more))) (ne_eqb high.node n far) ∙ ap (λ b. cond b (Some low) (held_of n more)) (eq-eqb low.node n is)
+
+pub both_high : (o : Bool) (low high : Holding) (more : List Holding) (n : ℕ) → high.node ≡ n → low.node ≢ n → held_of n (both_of o low high more) ≡ Some high
+both_high true low high more n is far = ap (λ b. cond b (Some low) (held_of n (high ∷ more))) (ne_eqb low.node n far) ∙ ap (λ b. cond b (Some high) (held_of n more)) (eq-eqb high.node n is)
+both_high false low high more n is far = ap (λ b. cond b (Some high) (held_of n (low ∷ more))) (eq-eqb high.node n is)
+
+pub both_more : (o : Bool) (low high : Holding) (more : List Holding) (n : ℕ) → low.node ≢ n → high.node ≢ n → held_of n (both_of o low high more) ≡ held_of n more
+both_more true low high more n a b = ap (λ z. cond z (Some low) (held_of n (high ∷ more))) (ne_eqb low.node n a) ∙ ap (λ z. cond z (Some high) (held_of n more)) (ne_eqb high.node n b)
+both_more false low high more n a b = ap (λ z. cond z (Some high) (held_of n (low ∷ more))) (ne_eqb high.node n b) ∙ ap (λ z. cond z (Some low) (held_of n more)) (ne_eqb low.node n a)
+
+pub first_found : (n : ℕ) (h : Holding) (more : List Holding) → h.node ≡ n → held_of n (h ∷ more) ≡ Some h
+first_found n h more is = ap (λ b. cond b (Some h) (held_of n more)) (eq-eqb h.node n is)
+
+-- the nodes of two locks that pass a test
+abbrev pub both_left : Bool → Bool → Bool → ℕ → ℕ → List ℕ
+both_left true a b l r = cond a (l ∷ cond b (r ∷ []) []) (cond b (r ∷ []) [])
+both_left false a b l r = cond b (r ∷ cond a (l ∷ []) []) (cond a (l ∷ []) [])
+
+both_few : (o a b : Bool) (l r : ℕ) → length (both_left o a b l r) ≤ 4
+both_few true true true l r = omega arith
+both_few true true false l r = omega arith
+both_few true false true l r = omega arith
+both_few true false false l r = omega arith
+both_few false true true l r = omega arith
+both_few false true false l r = omega arith
+both_few false false true l r = omega arith
+both_few false false false l r = omega arith
+
+two : (test : ℕ → Bool) (a b : ℕ) (ta tb : Bool) (l r : ℕ) → a ≡ l → b ≡ r → test a ≡ ta → test b ≡ tb → (tail : List ℕ) → filter test tail ≡ [] → filter test (a ∷ b ∷ tail) ≡ cond ta (l ∷ cond tb (r ∷ []) []) (cond tb (r ∷ []) [])
+two test a b ta tb l r ea eb at bt tail none = (λ i. cond (at i) (ea i ∷ cond (bt i) (eb i ∷ none i) (none i)) (cond (bt i) (eb i ∷ none i) (none i)))
+
+and_no : (b : Bool) → (b && false) ≡ false
+and_no true = refl
+and_no false = refl
+
+-- what is held beside a node
+pub record IsBesideLock (n : ℕ) (h : Holding) : Type 0 where
+  pub far : n ≢ 0
+  pub node : h.node ≡ 0
+  pub spells : SpellsNode h.words h.settled
+  pub marked : IsSome h.mark
+
+pub beside_each : (n : ℕ) (changed : Bool) (rest : List Holding) → IsBeside n changed rest → AllByRecursion (IsBesideLock n) rest
+beside_each zero changed rest root = subst (AllByRecursion (IsBesideLock zero)) (sym root) tt
+beside_each (suc n) changed rest (root, (is, r)) = subst (AllByRecursion (IsBesideLock (suc n))) (sym is) (record { far = λ e. omega (arith, e); node = r.node; spells = r.spells; marked = r.marked }, tt)
+
+beside_once : (n : ℕ) (changed : Bool) (rest : List Holding) → IsBeside n changed rest → HeldOnce rest
+beside_once zero changed rest root = subst HeldOnce (sym root) tt
+beside_once (suc n) changed rest (root, (is, r)) = subst HeldOnce (sym is) (tt, tt)
+
+pub each_more : (P Q : Holding → Type 0) → ((h : Holding) → P h → Q h) → (rest : List Holding) → AllByRecursion P rest → AllByRecursion Q rest
+each_more P Q f [] all = tt
+each_more P Q f (h ∷ rest) all = (f h all.0, each_more P Q f rest all.1)
+
+each_two : (P Q R : Holding → Type 0) → ((h : Holding) → P h → Q h → R h) → (rest : List Holding) → AllByRecursion P rest → AllByRecursion Q rest → AllByRecursion R rest
+each_two P Q R f [] all also = tt
+each_two P Q R f (h ∷ rest) all also = (f h all.0 also.0, each_two P Q R f rest all.1 also.1)
+
+none_left : (test : ℕ → Bool) (rest : List Holding) → AllByRecursion (λ h. test h.node ≡ false) rest → filter test (map node_of rest) ≡ []
+none_left test [] all = refl
+none_left test (h ∷ rest) all = ap (λ b. cond b (h.node ∷ filter test (map node_of rest)) (filter test (map node_of rest))) all.0 ∙ none_left test rest all.1
+
+-- a lock in which a node was written
+pub record IsNow (h : Holding) (s : NodeData) (h' : Holding) : Type 0 where
+  pub node : h'.node ≡ h.node
+  pub mark : h'.mark ≡ h.mark
+  pub settled : h'.settled ≡ h.settled
+  pub spells : SpellsNode h'.words s
+  pub stored : h'.stored ≡ true
+
+module _ (t : Terms) (x : Siblings) (k : CallerData) (hs : HoldsSiblings t x k.log.holdings) (tree : KnowsTree k.log.holdings) where
+  abbrev n : ℕ
+  n = x.above.at.node
+
+  abbrev l : ℕ
+  l = x.left.node
+
+  abbrev r : ℕ
+  r = x.right.node
+
+  abbrev f : Contents
+  f = tree.contents
+
+  abbrev p : Pair
+  p = pair x.left.node x.left.content.high
+
+  abbrev q : Pair
+  q = pair x.right.node x.right.content.high
+
+  abbrev IsTold : Holding → Type 0
+  IsTold h = IsSome h.mark → IsTrue (tree.live h.node) × (tree.contents h.node ≡ h.settled)
+
+  told : IsTold hs.low × IsTold hs.high × AllByRecursion (λ (h : Holding). IsSome h.mark → IsTrue (tree.live h.node) × (tree.contents h.node ≡ h.settled)) (hs.upper ∷ hs.rest)
+  told = both_each (λ (h : Holding). IsSome h.mark → IsTrue (tree.live h.node) × (tree.contents h.node ≡ h.settled)) hs.left_first hs.low hs.high (hs.upper ∷ hs.rest)
+      (subst (AllByRecursion (λ (h : Holding). IsSome h.mark → IsTrue (tree.live h.node) × (tree.contents h.node ≡ h.settled))) hs.held tree.marked)
+
+  pub left_told : IsTrue (tree.live l) × (tree.contents l ≡ x.left.content)
+  left_told = let e = told.0 hs.left.marked in (subst (λ m. IsTrue (tree.live m)) hs.left.node e.0, subst (λ m. tree.contents m ≡ hs.low.settled) hs.left.node e.1 ∙ hs.left.settled)
+
+  pub right_told : IsTrue (tree.live r) × (tree.contents r ≡ x.right.content)
+  right_told = let e = told.1 hs.right.marked in (subst (λ m. IsTrue (tree.live m)) hs.right.node e.0, subst (λ m. tree.contents m ≡ hs.high.settled) hs.right.node e.1 ∙ hs.right.settled)
+
+  pub parent_told : IsTrue (tree.live n) × (tree.contents n ≡ x.above.at.content)
+  parent_told = let e = told.2.0 hs.parent.marked in (subst (λ m. IsTrue (tree.live m)) hs.parent.node e.0, subst (λ m. tree.contents m ≡ hs.upper.settled) hs.parent.node e.1 ∙ hs.parent.settled)
+
+  pub at_slot_is : slice_get (pairs_of (tree.contents n)) x.slot ≡ Some p
+  at_slot_is = ap (λ (s : NodeData). slice_get (pairs_of s) x.slot) parent_told.1 ∙ hs.at
+
+  pub next_slot_is : slice_get (pairs_of (tree.contents n)) (x.slot + 1) ≡ Some q
+  next_slot_is = ap (λ (s : NodeData). slice_get (pairs_of s) (x.slot + 1)) parent_told.1 ∙ hs.next
+
+  pub family : Neighbours tree.contents tree.live n x.slot p q
+  family = neighbours tree.contents tree.live tree.lawful.tree n x.slot p q parent_told.0 at_slot_is next_slot_is
+
+  abbrev group : List ℕ
+  group = n ∷ l ∷ r ∷ []
+
+  pub in_n : is_among group n ≡ true
+  in_n = here n (l ∷ r ∷ [])
+
+  pub in_l : is_among group l ≡ true
+  in_l = later l n (l ∷ r ∷ []) (here l (r ∷ []))
+
+  pub in_r : is_among group r ≡ true
+  in_r = later r n (l ∷ r ∷ []) (later r l (r ∷ []) (here r []))
+
+  pub outside : (m : ℕ) → m ≢ n → m ≢ l → m ≢ r → is_among group m ≡ false
+  outside m a b c = not_in m n (l ∷ r ∷ []) a (not_in m l (r ∷ []) b (not_in m r [] c refl))
+
+  pub beside : AllByRecursion (IsBesideLock n) hs.rest
+  beside = beside_each n x.above.root_changed hs.rest hs.root
+
+  rest_far : (m : ℕ) → m ≢ 0 → AllByRecursion (λ a. a.node ≢ m) hs.rest
+  rest_far m some = each_more (IsBesideLock n) (λ a. a.node ≢ m) (λ h b e. some (sym e ∙ b.node)) hs.rest beside
+
+  rest_parent : AllByRecursion (λ a. a.node ≢ n) hs.rest
+  rest_parent = each_more (IsBesideLock n) (λ a. a.node ≢ n) (λ h b e. b.far (sym e ∙ b.node)) hs.rest beside
+
+  -- The three locks with other words, where these make a lawful change of the tree.
+  module _ (laws : SettlingLaws) (g : Contents) (reached : List ℕ) (change : IsChangeOf tree.contents tree.live n (n ∷ l ∷ r ∷ []) [] g None reached) (differ : (g n ≢ tree.contents n) × (g l ≢ tree.contents l) × (g r ≢ tree.contents r))
+      (v : Log) (low high upper : Holding) (held : v.holdings.held ≡ both_of hs.left_first low high (upper ∷ hs.rest)) (out : v.holdings.out ≡ []) (is_low : IsNow hs.low (g l) low) (is_high : IsNow hs.high (g r) high) (is_upper : IsNow hs.upper (g n) upper)
+      (on : IsTrue (is_among reached n)) (off_rest : n ≢ 0 → is_among reached 0 ≡ false) where
+    low_node : low.node ≡ l
+    low_node = is_low.node ∙ hs.left.node
+
+    high_node : high.node ≡ r
+    high_node = is_high.node ∙ hs.right.node
+
+    upper_node : upper.node ≡ n
+    upper_node = is_upper.node ∙ hs.parent.node
+
+    stays : AllByRecursion (StaysSettled tree.contents tree.live (n ∷ l ∷ r ∷ []) reached) hs.rest
+    stays = each_two (IsBesideLock n) IsTold (StaysSettled tree.contents tree.live (n ∷ l ∷ r ∷ []) reached)
+        (λ h b tells. record {
+          mark = b.marked;
+          spells = b.spells;
+          lives = (tells b.marked).0;
+          content = (tells b.marked).1;
+          outside = subst (λ m. is_among (n ∷ l ∷ r ∷ []) m ≡ false) (sym b.node) (outside 0 (λ e. b.far (sym e)) (λ e. family.left.no_root (sym e)) (λ e. family.no_root (sym e)));
+          off = subst (λ m. is_among reached m ≡ false) (sym b.node) (off_rest b.far);
+        }) hs.rest beside told.2.1
+
+    fits : (h' h : Holding) (m : ℕ) → h'.node ≡ m → IsNow h (g m) h' → IsTrue (tree.live m) × (tree.contents m ≡ h.settled) → FitsChange tree.contents tree.live (n ∷ l ∷ r ∷ []) [] g h'
+    fits h' h m node now tells = record {
+      marked = λ _. (subst (λ j. IsTrue (tree.live j)) (sym node) tells.0, ap tree.contents node ∙ (tells.1 ∙ sym now.settled), now.spells ∙ ap (λ j. Some (g j)) (sym node));
+      leaves = λ _. now.stored;
+      enters = λ e. absurd (true≢false (sym e));
+    }
+
+    found_low : held_of l v.holdings.held ≡ Some low
+    found_low = ap (held_of l) held ∙ both_low hs.left_first low high (upper ∷ hs.rest) l low_node (λ e. family.different (sym (sym high_node ∙ e)))
+
+    found_high : held_of r v.holdings.held ≡ Some high
+    found_high = ap (held_of r) held ∙ both_high hs.left_first low high (upper ∷ hs.rest) r high_node (λ e. family.different (sym low_node ∙ e))
+
+    found_upper : held_of n v.holdings.held ≡ Some upper
+    found_upper = ap (held_of n) held ∙ (both_more hs.left_first low high (upper ∷ hs.rest) n (λ e. family.left.no_parent (sym low_node ∙ e)) (λ e. family.no_parent (sym high_node ∙ e)) ∙ first_found n upper hs.rest upper_node)
+
+    marks : (m : ℕ) (h' h : Holding) (s : NodeData) → held_of m v.holdings.held ≡ Some h' → IsNow h s h' → IsSome h.mark → IsTrue (marked_in v.holdings.held m)
+    marks m h' h s found now marked = ap is_marked found ∙ (ap is_some now.mark ∙ marked)
+
+    abbrev test : ℕ → Bool
+    test m = is_among (n ∷ l ∷ r ∷ []) m && not (is_among reached m)
+
+    low_test : test low.node ≡ not (is_among reached l)
+    low_test = ap test low_node ∙ ap (λ b. b && not (is_among reached l)) in_l
+
+    high_test : test high.node ≡ not (is_among reached r)
+    high_test = ap test high_node ∙ ap (λ b. b && not (is_among reached r)) in_r
+
+    tail : filter test (upper.node ∷ map node_of hs.rest) ≡ []
+    tail = ap (λ b. cond b (upper.node ∷ filter test (map node_of hs.rest)) (filter test (map node_of hs.rest))) (ap test upper_node ∙ (ap (λ b. is_among (n ∷ l ∷ r ∷ []) n && not b) on ∙ and_no (is_among (n ∷ l ∷ r ∷ []) n)))
+        ∙ none_left test hs.rest (each_more (StaysSettled tree.contents tree.live (n ∷ l ∷ r ∷ []) reached) (λ h. test h.node ≡ false) (λ h s. ap (λ b. b && not (is_among reached h.node)) s.outside) hs.rest stays)
+
+    filtered : (o : Bool) → filter (λ m. is_among (n ∷ l ∷ r ∷ []) m && not (is_among reached m)) (map node_of (both_of o low high (upper ∷ hs.rest))) ≡ both_left o (not (is_among reached l)) (not (is_among reached r)) l r
+    filtered true = two test low.node high.node (not (is_among reached l)) (not (is_among reached r)) l r low_node high_node low_test high_test (upper.node ∷ map node_of hs.rest) tail
+    filtered false = two test high.node low.node (not (is_among reached r)) (not (is_among reached l)) r l high_node low_node high_test low_test (upper.node ∷ map node_of hs.rest) tail
+
+    pub left_is : left_out (n ∷ l ∷ r ∷ []) reached v.holdings ≡ both_left hs.left_first (not (is_among reached l)) (not (is_among reached r)) l r
+    left_is = (λ i. left_out (n ∷ l ∷ r ∷ []) reached (record v.holdings { held = held i; out = out i })) ∙ filtered hs.left_first
+
+    few : length (left_out (n ∷ l ∷ r ∷ []) reached v.holdings) ≤ 4
+    few = subst (λ (ms : List ℕ). length ms ≤ 4) (sym left_is) (both_few hs.left_first (not (is_among reached l)) (not (is_among reached r)) l r)
+
+    pub held_change : IsHeldChange v.holdings tree.contents tree.live n (n ∷ l ∷ r ∷ []) [] g reached
+    held_change = record {
+      lawful = tree.lawful;
+      dead = λ m e. absurd (true≢false (sym (subst (λ xs. is_among xs m ≡ true) out e)));
+      change = change;
+      each = subst (AllByRecursion (FitsChange tree.contents tree.live (n ∷ l ∷ r ∷ []) [] g)) (sym held)
+          (both_all (FitsChange tree.contents tree.live (n ∷ l ∷ r ∷ []) [] g) hs.left_first low high (upper ∷ hs.rest)
+          (fits low hs.low l low_node is_low (left_told.0, left_told.1 ∙ sym hs.left.settled))
+          (fits high hs.high r high_node is_high (right_told.0, right_told.1 ∙ sym hs.right.settled))
+          (fits upper hs.upper n upper_node is_upper (parent_told.0, parent_told.1 ∙ sym hs.parent.settled), stays_fit tree.contents tree.live n (n ∷ l ∷ r ∷ []) [] g reached change hs.rest stays));
+      once = subst HeldOnce (sym held) (both_once hs.left_first low high (upper ∷ hs.rest) (λ e. family.different (sym low_node ∙ (e ∙ high_node)))
+          ((λ e. family.left.no_parent (sym low_node ∙ (sym e ∙ upper_node))), subst (λ m. AllByRecursion (λ a. a.node ≢ m) hs.rest) (sym low_node) (rest_far l family.left.no_root))
+          ((λ e. family.no_parent (sym high_node ∙ (sym e ∙ upper_node))), subst (λ m. AllByRecursion (λ a. a.node ≢ m) hs.rest) (sym high_node) (rest_far r family.no_root))
+          (subst (λ m. AllByRecursion (λ a. a.node ≢ m) hs.rest) (sym upper_node) rest_parent, beside_once n x.above.root_changed hs.rest hs.root));
+      group_held = (marks n upper hs.upper (g n) found_upper is_upper hs.parent.marked, (marks l low hs.low (g l) found_low is_low hs.left.marked, (marks r high hs.high (g r) found_high is_high hs.right.marked, tt)));
+      fresh_held = tt;
+      differ = (differ.0, (differ.1, (differ.2, tt)));
+      lower = ((λ e. absurd (e refl)), ((λ _. (let a = family.left.fits.level in let b = family.left.at in omega (arith, a, b))), ((λ _. (let a = family.fits.level in let b = family.left.at in omega (arith, a, b))), tt)));
+      room = few;
+    }
+
+    pub settles : settle None v ≡ record v { holdings = record v.holdings { held = both_of hs.left_first (exchange (is_among (n ∷ l ∷ r ∷ [])) (is_among reached) low) (exchange (is_among (n ∷ l ∷ r ∷ [])) (is_among reached) high) (record upper { settled = g n; mark = Some (frame_of (g n)) } ∷ hs.rest); out = both_left hs.left_first (not (is_among reached l)) (not (is_among reached r)) l r } }
+    settles =
+        settled_after laws v tree.contents tree.live n (n ∷ l ∷ r ∷ []) [] g reached held_change
+        ∙ (λ i. record v { holdings = record v.holdings { held = lists i; out = left_is i } })
+      where
+        lists : map (exchange (is_among (n ∷ l ∷ r ∷ [])) (is_among reached)) v.holdings.held ≡ both_of hs.left_first (exchange (is_among (n ∷ l ∷ r ∷ [])) (is_among reached) low) (exchange (is_among (n ∷ l ∷ r ∷ [])) (is_among reached) high) (record upper { settled = g n; mark = Some (frame_of (g n)) } ∷ hs.rest)
+        lists = ap (map (exchange (is_among (n ∷ l ∷ r ∷ [])) (is_among reached))) held
+            ∙ (both_map (exchange (is_among (n ∷ l ∷ r ∷ [])) (is_among reached)) hs.left_first low high (upper ∷ hs.rest)
+            ∙ (λ i. both_of hs.left_first (exchange (is_among (n ∷ l ∷ r ∷ [])) (is_among reached) low) (exchange (is_among (n ∷ l ∷ r ∷ [])) (is_among reached) high)
+            (settled_group (n ∷ l ∷ r ∷ []) reached upper (g n) (subst (λ m. is_among (n ∷ l ∷ r ∷ []) m ≡ true) (sym upper_node) in_n) (subst (λ m. is_among reached m ≡ true) (sym upper_node) on) is_upper.spells i
+            ∷ stay_settled tree.contents tree.live (n ∷ l ∷ r ∷ []) reached hs.rest stays i)))

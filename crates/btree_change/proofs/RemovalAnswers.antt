@@ -1,0 +1,69 @@
+-- What a removal answers, from the steps of its way.
+use Rattle.std.proofs.Common.{◌≡◌, ℕ, zero, suc, ◌+◌, [], ◌∷◌, ◌++◌, length, sym, ap, ◌∙◌, subst, arith, false, IsNone}
+use Rattle.std.proofs.lemmas.Bool.{ltb-false}
+use mathlib.Core.List.{IsPrefix}
+use Rattle.reg_model.specs.History.{state_after}
+use Rattle.reg_model.specs.State.{at_base}
+use Rattle.reg_model.specs.declared.answer.Receipt.TheVariants as receipt
+use Rattle.reg_model.specs.declared.answer.Removed.{Removed}
+use Rattle.reg_model.specs.declared.answer.Removed.TheVariants as removed
+use Rattle.tree_shape.specs.NodeData.{NodeData, Body, Pairs, Entries, Link, IsInFences}
+use Rattle.word_rule.specs.CallerData.{CallerData}
+use Rattle.word_rule.specs.Callers.{start}
+use Rattle.word_rule.specs.declared.log.Holdings.{Holdings}
+use Rattle.word_rule.specs.declared.log.Receipts.{Receipts}
+use Rattle.word_rule.specs.declared.log.Terms.{Terms}
+use Rattle.btree_change.specs.Paths.{HoldsNothing}
+use Rattle.btree_change.specs.Removal.{AnswersRemoval, AnswersRightly}
+use Rattle.btree_change.specs.Removing.{HoldsBesideRoot, IsSpare, IsSpareAs, Spends}
+use Rattle.btree_change.specs.Siblings.{HoldsChild, is_small_body}
+use Rattle.btree_change.specs.Takings.{RefusesBase}
+use Rattle.btree_change.specs.declared.sibling.Child.{Child}
+use Rattle.btree_change.specs.declared.descent.Held.{Held}
+use Rattle.btree_change.specs.declared.way.Way.{Way}
+use Rattle.btree_change.proofs.Joining.{spare_of}
+
+not_small : (b : Body) → is_small_body b ≡ false → IsSpareAs b
+not_small (Pairs pairs) e = let l = ltb-false (length pairs) 7 e in omega (arith, l)
+not_small (Entries entries) e = let l = ltb-false (length entries) 5 e in omega (arith, l)
+not_small (Link next) e = tt
+
+-- a child that isn't small is gone to as it is
+pub kept_so : (t : Terms) (child : Child) (pc : ℕ) (way below : Way) (holdings holdings' : Holdings) → HoldsChild t child pc holdings → child.above ≡ way → is_small_body child.at.content.body ≡ false → HoldsBesideRoot t child.at.node child.at.content child.at.changed below.root_changed holdings' → below.at ≡ child.at
+    → HoldsBesideRoot t below.at.node below.at.content below.at.changed below.root_changed holdings' × IsInFences pc below.at.content × IsSpare below.at.node below.at.content × (below.at.content.level + 1 ≡ way.at.content.level)
+kept_so t child pc way below holdings holdings' h above large held at =
+    subst (λ (z : Held). HoldsBesideRoot t z.node z.content z.changed below.root_changed holdings' × IsInFences pc z.content × IsSpare z.node z.content × (z.content.level + 1 ≡ way.at.content.level)) (sym at)
+    (held, h.fences, spare_of child.at.node child.at.content (not_small child.at.content.body large), h.level ∙ ap (λ (w : Way). w.at.content.level) above)
+
+-- the root is no child, so it needs nothing to spare
+pub root_spare : (n : ℕ) (s : NodeData) → n ≡ 0 → IsSpare n s
+root_spare zero s e = tt
+root_spare (suc n) s e = absurd (omega (arith, e))
+
+-- only what a caller has seen counts for what is right
+rightly_seen : (t : Terms) (base : ℕ) (answer : Removed) (k l k' l' : CallerData) → k.log.past ≡ l.log.past → k'.log.past ≡ l'.log.past → AnswersRightly t base k k' answer → AnswersRightly t base l l' answer
+rightly_seen t base (removed.Done number m) k l k' l' same same' (before, (begins, past, counted, member, known)) = (before, (subst (λ p. IsPrefix p before) same begins, sym same' ∙ past, counted ∙ ap length same', member, known))
+rightly_seen t base (removed.NotFound stamp) k l k' l' same same' (begins, counted, none) = (
+  subst (λ p. IsPrefix p l'.log.past) same (subst (IsPrefix k.log.past) same' begins),
+  counted ∙ ap length same',
+  subst (λ p. IsNone (at_base base (state_after (start t) p).registered)) same' none,
+)
+rightly_seen t base removed.Spent k l k' l' same same' wrong = absurd wrong
+
+pub refusal_so : (t : Terms) (base : ℕ) (answer : Removed) (k k1 k2 k3 : CallerData) → Spends 26 k k1 → RefusesBase t base answer k1 k2 → Spends 2 k2 k3 → HoldsNothing k3.log.holdings → AnswersRemoval t base answer k k3
+refusal_so t base answer k k1 k2 k3 down refuses up nothing = record {
+  right = rightly_seen t base answer k1 k k2 k3 down.past (sym up.past) refuses.right;
+  call = record {
+    table = up.table ∙ (refuses.table ∙ down.table);
+    left = up.left ∙ (refuses.left ∙ down.left);
+    terms = up.terms ∙ (refuses.terms ∙ down.terms);
+    role = up.role ∙ (refuses.role ∙ down.role);
+    loader = up.loader ∙ (refuses.loader ∙ down.loader);
+    made = up.made ∙ (refuses.made ∙ down.made);
+    lineage = up.lineage ∙ (refuses.lineage ∙ down.lineage);
+    receipts = up.receipts ∙ (refuses.receipts ∙ ap (λ (rs : Receipts). record rs { own = rs.own ++ receipt.Deregister base answer ∷ [] }) down.receipts);
+    allowance = (let a = up.allowance in let b = ap (λ z. z.allowance) refuses.budget in let c = down.allowance in let z = refuses.none_taken in omega (arith, a, b, c, z));
+    credit = (let a = up.credit in let b = ap (λ z. z.credit) refuses.budget in let c = down.credit in omega (arith, a, b, c));
+    nothing = nothing;
+  };
+}

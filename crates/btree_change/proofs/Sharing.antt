@@ -1,0 +1,325 @@
+-- Two children are given even shares, and the one that hasn't the address is let go of.
+use Rattle.std.proofs.Common.{◌≡◌, ◌≢◌, ℕ, ◌<◌, ◌⊎◌, ◌||◌, inl, inr, List, [], ◌∷◌, ◌++◌, sym, refl, ap, ◌∙◌, subst, arith, Bool, true, false, not, IsTrue, Some, None, IsSome, eq-eqb, ne_eqb, cond}
+use Rattle.std.proofs.lemmas.List.{append_cancel_left}
+use Rattle.std.proofs.lemmas.Option.{same_Some}
+use Rattle.std.specs.List.{AllByRecursion, slice_get}
+use Rattle.tree_shape.specs.Changes.{Overfill, at_slot, first_half, joined, last_half, pair, separate_at, share_of, size}
+use Rattle.tree_shape.specs.Decisions.{is_entries}
+use Rattle.tree_shape.specs.Lawful.{IsLawfulTree}
+use Rattle.tree_shape.specs.LocalChange.{IsChangeOf}
+use Rattle.tree_shape.specs.NodeData.{NodeData, Pairs, IsInFences, frame_of, pairs_of}
+use Rattle.tree_shape.specs.Numbers.{is_among}
+use Rattle.tree_shape.specs.Steps.{IsShare}
+use Rattle.tree_shape.specs.Trees.{Contents}
+use Rattle.tree_shape.specs.declared.pair.Pair.{Pair}
+use Rattle.word_rule.specs.CallerData.{CallerData}
+use Rattle.word_rule.specs.Exchange.{settle}
+use Rattle.word_rule.specs.Held.{held_of}
+use Rattle.word_rule.specs.Logs.{after_spending}
+use Rattle.word_rule.specs.Memory.{updated}
+use Rattle.word_rule.specs.NodeTells.{HolderTells, KnowsTree}
+use Rattle.word_rule.specs.Sights.{after_node_load}
+use Rattle.word_rule.specs.Steps.{MayRelease, MayStore, after_node_release, after_node_release_same}
+use Rattle.word_rule.specs.declared.log.Holding.{Holding}
+use Rattle.word_rule.specs.declared.log.Log.{Log}
+use Rattle.word_rule.specs.declared.log.Terms.{Terms}
+use Rattle.node_store.specs.Holding.{SpellsHeld, WritesHeld}
+use Rattle.btree_change.specs.Paths.{StepsOnNodes}
+use Rattle.btree_change.specs.Removing.{Spends}
+use Rattle.btree_change.specs.Shares.{IsChosen, shares_for}
+use Rattle.btree_change.specs.Siblings.{HoldsSiblings, IsBetween, MendsSiblings, both_of, is_small_body}
+use Rattle.btree_change.specs.declared.mending.Chosen.{Chosen}
+use Rattle.btree_change.specs.declared.sibling.Siblings.{Siblings}
+use Rattle.btree_change.specs.declared.descent.Held.{Held}
+use Rattle.btree_change.proofs.Descending.{steps_then}
+use Rattle.btree_change.proofs.Descents.{steps_of_load}
+use Rattle.btree_change.proofs.Joining.{may_store, spare_of}
+use Rattle.btree_change.proofs.Mended.{AreSettled, loaded_none, spends_none, under_so, without_high, without_low}
+use Rattle.btree_change.proofs.Pairings.{IsBesideLock, IsNow, at_slot_is, beside, both_high, both_left, both_low, both_more, each_more, family, first_found, held_change, in_l, in_n, in_r, left_told, next_slot_is, not_in, parent_told, right_told, settles}
+use Rattle.btree_change.proofs.Releases.{spends_then}
+use Rattle.btree_change.proofs.Settling.{SettlingLaws, may_release, settled_group}
+use Rattle.btree_change.proofs.ShareEnds.{fence_moves, share_kinds, share_moves, share_sizes, share_spares}
+use Rattle.btree_change.proofs.Takings.{placed_of}
+use Rattle.btree_change.proofs.Written.{IsWrittenAs, write_high, write_low, write_upper}
+
+abbrev pub ShareLaw : Type 0
+ShareLaw = (f : Contents) (live : ℕ → Bool) (parent slot : ℕ) (p q : Pair) (g : Contents) → IsLawfulTree f live → IsShare f live parent slot p q g → IsChangeOf f live parent (parent ∷ p.child ∷ q.child ∷ []) [] g None (parent ∷ p.child ∷ q.child ∷ [])
+
+-- the other one is one of the two
+pub others_of : (x : Siblings) (pc : ℕ) (c : Chosen) → IsChosen x pc c → (c.other ≡ x.left.node) ⊎ (c.other ≡ x.right.node)
+others_of x pc c (inl (way, other, below)) = inr other
+others_of x pc c (inr (way, other, above)) = inl other
+
+module _ (t : Terms) (x : Siblings) (k k1 : CallerData) (found : ℕ) (hs : HoldsSiblings t x k.log.holdings) (tree : KnowsTree k.log.holdings) (loads : k1 ≡ record k { log = after_node_load x.above.at.node 2 found k.log })
+    (over : Overfill x.left.content x.right.content) where
+  abbrev n : ℕ
+  n = x.above.at.node
+
+  abbrev l : ℕ
+  l = x.left.node
+
+  abbrev r : ℕ
+  r = x.right.node
+
+  abbrev fst : NodeData
+  fst = (shares_for x).left
+
+  abbrev snd : NodeData
+  snd = (shares_for x).right
+
+  abbrev top : NodeData
+  top = (shares_for x).above
+
+  held1 : k1.log.holdings.held ≡ both_of hs.left_first hs.low hs.high (hs.upper ∷ hs.rest)
+  held1 = ap (λ (z : CallerData). z.log.holdings.held) loads ∙ hs.held
+
+  l_far_r : l ≢ r
+  l_far_r = (family t x k hs tree).different
+
+  l_far_n : l ≢ n
+  l_far_n = (family t x k hs tree).left.no_parent
+
+  r_far_n : r ≢ n
+  r_far_n = (family t x k hs tree).no_parent
+
+  rest_l : AllByRecursion (λ a. a.node ≢ l) hs.rest
+  rest_l = each_more (IsBesideLock n) (λ a. a.node ≢ l) (λ h b e. (family t x k hs tree).left.no_root (sym e ∙ b.node)) hs.rest (beside t x k hs tree)
+
+  rest_r : AllByRecursion (λ a. a.node ≢ r) hs.rest
+  rest_r = each_more (IsBesideLock n) (λ a. a.node ≢ r) (λ h b e. (family t x k hs tree).no_root (sym e ∙ b.node)) hs.rest (beside t x k hs tree)
+
+  rest_n : AllByRecursion (λ a. a.node ≢ n) hs.rest
+  rest_n = each_more (IsBesideLock n) (λ a. a.node ≢ n) (λ h b e. b.far (sym e ∙ b.node)) hs.rest (beside t x k hs tree)
+
+  high_far_l : hs.high.node ≢ l
+  high_far_l e = l_far_r (sym (sym hs.right.node ∙ e))
+
+  pub may_left : MayStore x.left.node k1.log
+  may_left = may_store l hs.low k1.log (ap (held_of l) held1 ∙ both_low hs.left_first hs.low hs.high (hs.upper ∷ hs.rest) l hs.left.node high_far_l) hs.left.marked
+
+  module _ (k2 : CallerData) (writes1 : WritesHeld x.left.node (shares_for x).left k1 k2) (spells1 : SpellsHeld x.left.node (shares_for x).left k2.log) where
+    w1 : IsWrittenAs (shares_for x).left hs.low (λ z. both_of hs.left_first z hs.high (hs.upper ∷ hs.rest)) k1 k2
+    w1 = write_low hs.left_first fst l hs.low hs.high (hs.upper ∷ hs.rest) k1 k2 (share_kinds x.left.content.body x.right.content.body over).0 hs.left.node high_far_l ((λ e. l_far_n (sym (sym hs.parent.node ∙ e))), rest_l) held1 writes1 spells1
+
+    low_node : w1.lock.node ≡ l
+    low_node = w1.node ∙ hs.left.node
+
+    low_far_r : w1.lock.node ≢ r
+    low_far_r e = l_far_r (sym low_node ∙ e)
+
+    pub may_right : MayStore x.right.node k2.log
+    may_right = may_store r hs.high k2.log (ap (held_of r) w1.held ∙ both_high hs.left_first w1.lock hs.high (hs.upper ∷ hs.rest) r hs.right.node low_far_r) hs.right.marked
+
+    module _ (k3 : CallerData) (writes2 : WritesHeld x.right.node (shares_for x).right k2 k3) (spells2 : SpellsHeld x.right.node (shares_for x).right k3.log) where
+      w2 : IsWrittenAs (shares_for x).right hs.high (λ z. both_of hs.left_first w1.lock z (hs.upper ∷ hs.rest)) k2 k3
+      w2 = write_high hs.left_first snd r w1.lock hs.high (hs.upper ∷ hs.rest) k2 k3 (share_kinds x.left.content.body x.right.content.body over).1 hs.right.node low_far_r ((λ e. r_far_n (sym (sym hs.parent.node ∙ e))), rest_r) w1.held writes2 spells2
+
+      high_node : w2.lock.node ≡ r
+      high_node = w2.node ∙ hs.right.node
+
+      pub table3 : k3.table ≡ k.table
+      table3 = w2.same.table ∙ (w1.same.table ∙ ap (λ (z : CallerData). z.table) loads)
+
+      pub may_above : MayStore x.above.at.node k3.log
+      may_above = may_store n hs.upper k3.log (ap (held_of n) w2.held ∙ (both_more hs.left_first w1.lock w2.lock (hs.upper ∷ hs.rest) n (λ e. l_far_n (sym low_node ∙ e)) (λ e. r_far_n (sym high_node ∙ e)) ∙ first_found n hs.upper hs.rest hs.parent.node)) hs.parent.marked
+
+      module _ (k4 : CallerData) (writes3 : WritesHeld x.above.at.node (shares_for x).above k3 k4) (spells3 : SpellsHeld x.above.at.node (shares_for x).above k4.log)
+          (laws : SettlingLaws) (law : ShareLaw) (small : IsTrue (is_small_body x.left.content.body || is_small_body x.right.content.body)) where
+        w3 : IsWrittenAs (shares_for x).above hs.upper (λ z. both_of hs.left_first w1.lock w2.lock (z ∷ hs.rest)) k3 k4
+        w3 = write_upper hs.left_first top n w1.lock w2.lock hs.upper hs.rest k3 k4 (λ e. omega (arith, e)) hs.parent.node (λ e. l_far_n (sym low_node ∙ e)) (λ e. r_far_n (sym high_node ∙ e)) rest_n w2.held writes3 spells3
+
+        upper_node : w3.lock.node ≡ n
+        upper_node = w3.node ∙ hs.parent.node
+
+        pub steps4 : StepsOnNodes k k4
+        steps4 = steps_then k k1 k4 (steps_of_load n 2 found k k1 loads) (steps_then k1 k2 k4 w1.same (steps_then k2 k3 k4 w2.same w3.same))
+
+        abbrev f : Contents
+        f = tree.contents
+
+        abbrev g : Contents
+        g = updated (updated (updated tree.contents x.right.node (shares_for x).right) x.above.at.node (shares_for x).above) x.left.node (shares_for x).left
+
+        g_l : g l ≡ fst
+        g_l = rw (eq-eqb l l refl) refl
+
+        g_n : g n ≡ top
+        g_n = rw (ne_eqb n l (λ e. l_far_n (sym e)), eq-eqb n n refl) refl
+
+        g_r : g r ≡ snd
+        g_r = rw (ne_eqb r l (λ e. l_far_r (sym e)), ne_eqb r n r_far_n, eq-eqb r r refl) refl
+
+        is_share : IsShare f tree.live n x.slot (pair x.left.node x.left.content.high) (pair x.right.node x.right.content.high) g
+        is_share =
+            let fl = (left_told t x k hs tree).1 in let fr = (right_told t x k hs tree).1 in let fn = (parent_told t x k hs tree).1 in record {
+              live_parent = (parent_told t x k hs tree).0;
+              at = at_slot_is t x k hs tree;
+              next = next_slot_is t x k hs tree;
+              overfill = subst (λ (z : NodeData). Overfill z (f r)) (sym fl) (subst (λ (z : NodeData). Overfill x.left.content z) (sym fr) over);
+              above = g_n ∙ (λ i. record (sym fn i) { body = Pairs (at_slot (separate_at (first_half (share_of (sym fl i) (sym fr i)) (joined (sym fl i) (sym fr i))).high) x.slot (pairs_of (sym fn i))) });
+              left = g_l ∙ (λ i. first_half (share_of (sym fl i) (sym fr i)) (joined (sym fl i) (sym fr i)));
+              right = g_r ∙ (λ i. last_half (share_of (sym fl i) (sym fr i)) (joined (sym fl i) (sym fr i)));
+              others = λ m a b c. rw (ne_eqb m l b, ne_eqb m n a, ne_eqb m r c) refl;
+            }
+
+        change : IsChangeOf f tree.live n (n ∷ l ∷ r ∷ []) [] g None (n ∷ l ∷ r ∷ [])
+        change = law f tree.live n x.slot (pair x.left.node x.left.content.high) (pair x.right.node x.right.content.high) g tree.lawful is_share
+
+        moved : ((share_of x.left.content x.right.content) < size x.left.content.body) ⊎ (size x.left.content.body < (share_of x.left.content x.right.content))
+        moved = share_moves x.left.content.body x.right.content.body over small
+
+        not_same : (a b : ℕ) → (a < b) ⊎ (b < a) → a ≢ b
+        not_same a b (inl less) e = omega (arith, less, e)
+        not_same a b (inr more) e = omega (arith, more, e)
+
+        left_differs : g l ≢ f l
+        left_differs e =
+            let same : size (shares_for x).left.body ≡ size x.left.content.body = ap (λ (z : NodeData). size z.body) (sym g_l ∙ (e ∙ (left_told t x k hs tree).1)) in
+            not_same (share_of x.left.content x.right.content) (size x.left.content.body) moved (sym (share_sizes x.left.content.body x.right.content.body over).0 ∙ same)
+
+        right_differs : g r ≢ f r
+        right_differs e =
+            let same : size (shares_for x).right.body ≡ size x.right.content.body = ap (λ (z : NodeData). size z.body) (sym g_r ∙ (e ∙ (right_told t x k hs tree).1)) in
+            let sum = (share_sizes x.left.content.body x.right.content.body over).1 in
+            not_same (share_of x.left.content x.right.content) (size x.left.content.body) moved (omega (arith, same, sum))
+
+        parent_differs : g n ≢ f n
+        parent_differs e =
+            let fam = family t x k hs tree in
+            let own = placed_of t l x.left.content x.left.changed hs.low hs.left in
+            let other = placed_of t r x.right.content x.right.changed hs.high hs.right in
+            let before : pairs_of (f n) ≡ fam.front ++ pair x.left.node (shares_for x).left.high ∷ pair x.right.node x.right.content.high ∷ fam.back = ap pairs_of (sym e ∙ g_n) ∙ (ap (λ (z : NodeData). at_slot (separate_at (shares_for x).left.high) x.slot (pairs_of z)) (sym (parent_told t x k hs tree).1) ∙ fam.changed (separate_at (shares_for x).left.high)) in
+            let tail = append_cancel_left fam.front _ _ (sym before ∙ fam.is) in
+            let first : pair x.left.node (shares_for x).left.high ≡ pair x.left.node x.left.content.high = same_Some _ _ (ap (λ (ps : List Pair). slice_get ps 0) tail) in
+            fence_moves x.left.content x.right.content x.left.content.body x.right.content.body own.1.1.ordered other.1.1.ordered hs.neighbours.fence over moved (ap (λ (z : Pair). z.separator) first)
+
+        now_low : IsNow hs.low (g l) w1.lock
+        now_low = record { node = w1.node; mark = w1.mark; settled = w1.settled; spells = w1.spells ∙ ap Some (sym g_l); stored = w1.stored x.left.content hs.left.spells (λ e. left_differs (g_l ∙ (sym e ∙ sym (left_told t x k hs tree).1))) }
+
+        now_high : IsNow hs.high (g r) w2.lock
+        now_high = record { node = w2.node; mark = w2.mark; settled = w2.settled; spells = w2.spells ∙ ap Some (sym g_r); stored = w2.stored x.right.content hs.right.spells (λ e. right_differs (g_r ∙ (sym e ∙ sym (right_told t x k hs tree).1))) }
+
+        now_upper : IsNow hs.upper (g n) w3.lock
+        now_upper = record { node = w3.node; mark = w3.mark; settled = w3.settled; spells = w3.spells ∙ ap Some (sym g_n); stored = w3.stored x.above.at.content hs.parent.spells (λ e. parent_differs (g_n ∙ (sym e ∙ sym (parent_told t x k hs tree).1))) }
+
+        out4 : k4.log.holdings.out ≡ []
+        out4 = w3.out ∙ (w2.out ∙ (w1.out ∙ (ap (λ (z : CallerData). z.log.holdings.out) loads ∙ hs.out)))
+
+        on_n : is_among (n ∷ l ∷ r ∷ []) n ≡ true
+        on_n = in_n t x k hs tree
+
+        off_root : n ≢ 0 → is_among (n ∷ l ∷ r ∷ []) 0 ≡ false
+        off_root some = not_in 0 n (l ∷ r ∷ []) (λ e. some (sym e)) (not_in 0 l (r ∷ []) (λ e. (family t x k hs tree).left.no_root (sym e)) (not_in 0 r [] (λ e. (family t x k hs tree).no_root (sym e)) refl))
+
+        pub may_leave : (m : ℕ) → (m ≡ l) ⊎ (m ≡ r) → MayRelease m k4.log
+        may_leave m (inl e) = may_release laws k4.log f tree.live n (n ∷ l ∷ r ∷ []) [] g (n ∷ l ∷ r ∷ []) (held_change t x k hs tree laws g (n ∷ l ∷ r ∷ []) change (parent_differs, left_differs, right_differs) k4.log w1.lock w2.lock w3.lock w3.held out4 now_low now_high now_upper on_n off_root) m w1.lock
+            (ap (held_of m) w3.held ∙ both_low hs.left_first w1.lock w2.lock (w3.lock ∷ hs.rest) m (low_node ∙ sym e) (λ z. l_far_r (sym (sym high_node ∙ (z ∙ e))))) (subst IsSome (sym now_low.spells) refl)
+        may_leave m (inr e) = may_release laws k4.log f tree.live n (n ∷ l ∷ r ∷ []) [] g (n ∷ l ∷ r ∷ []) (held_change t x k hs tree laws g (n ∷ l ∷ r ∷ []) change (parent_differs, left_differs, right_differs) k4.log w1.lock w2.lock w3.lock w3.held out4 now_low now_high now_upper on_n off_root) m w2.lock
+            (ap (held_of m) w3.held ∙ both_high hs.left_first w1.lock w2.lock (w3.lock ∷ hs.rest) m (high_node ∙ sym e) (λ z. l_far_r (sym low_node ∙ (z ∙ e)))) (subst IsSome (sym now_high.spells) refl)
+
+        abbrev low5 : Holding
+        low5 = record w1.lock { settled = g l; mark = Some (frame_of (g l)) }
+
+        abbrev high5 : Holding
+        high5 = record w2.lock { settled = g r; mark = Some (frame_of (g r)) }
+
+        abbrev upper5 : Holding
+        upper5 = record w3.lock { settled = g n; mark = Some (frame_of (g n)) }
+
+        none_out : (b c d : Bool) → c ≡ false → d ≡ false → both_left b c d l r ≡ []
+        none_out true c d e h = (λ i. cond (e i) (l ∷ cond (h i) (r ∷ []) []) (cond (h i) (r ∷ []) []))
+        none_out false c d e h = (λ i. cond (h i) (r ∷ cond (e i) (l ∷ []) []) (cond (e i) (l ∷ []) []))
+
+        settled4 : settle None k4.log ≡ record k4.log { holdings = record k4.log.holdings { held = both_of hs.left_first (record w1.lock { settled = g l; mark = Some (frame_of (g l)) }) (record w2.lock { settled = g r; mark = Some (frame_of (g r)) }) (record w3.lock { settled = g n; mark = Some (frame_of (g n)) } ∷ hs.rest); out = [] } }
+        settled4 =
+            settles t x k hs tree laws g (n ∷ l ∷ r ∷ []) change (parent_differs, left_differs, right_differs) k4.log w1.lock w2.lock w3.lock w3.held out4 now_low now_high now_upper on_n off_root
+            ∙ (λ i. record k4.log {
+              holdings = record k4.log.holdings {
+                held = both_of hs.left_first
+                    (settled_group (n ∷ l ∷ r ∷ []) (n ∷ l ∷ r ∷ []) w1.lock (g l) (subst (λ m. is_among (n ∷ l ∷ r ∷ []) m ≡ true) (sym low_node) (in_l t x k hs tree)) (subst (λ m. is_among (n ∷ l ∷ r ∷ []) m ≡ true) (sym low_node) (in_l t x k hs tree)) now_low.spells i)
+                    (settled_group (n ∷ l ∷ r ∷ []) (n ∷ l ∷ r ∷ []) w2.lock (g r) (subst (λ m. is_among (n ∷ l ∷ r ∷ []) m ≡ true) (sym high_node) (in_r t x k hs tree)) (subst (λ m. is_among (n ∷ l ∷ r ∷ []) m ≡ true) (sym high_node) (in_r t x k hs tree)) now_high.spells i)
+                    (record w3.lock { settled = g n; mark = Some (frame_of (g n)) } ∷ hs.rest);
+                out = none_out hs.left_first (not (is_among (n ∷ l ∷ r ∷ []) l)) (not (is_among (n ∷ l ∷ r ∷ []) r)) (ap not (in_l t x k hs tree)) (ap not (in_r t x k hs tree)) i;
+              };
+            })
+
+        abbrev left_go : ℕ → CallerData
+        left_go other = record k4 { log = record (after_node_release_same other (record k4.log { holdings = record k4.log.holdings { held = both_of hs.left_first (record w1.lock { settled = g l; mark = Some (frame_of (g l)) }) (record w2.lock { settled = g r; mark = Some (frame_of (g r)) }) (record w3.lock { settled = g n; mark = Some (frame_of (g n)) } ∷ hs.rest); out = [] } })) { budget = after_spending k4.log.budget } }
+
+        gone_is : (other : ℕ) (k5 : CallerData) → k5 ≡ record k4 { log = after_node_release other k4.log } → k5 ≡ left_go other
+        gone_is other k5 is = is ∙ ap (λ (z : Log). record k4 { log = record (after_node_release_same other z) { budget = after_spending z.budget } }) settled4
+
+        spent : (other : ℕ) (k5 : CallerData) → k5 ≡ record k4 { log = after_node_release other k4.log } → Spends 1 k4 k5
+        spent other k5 is = subst (Spends 1 k4) (sym (gone_is other k5 is)) (record { table = refl; left = refl; terms = refl; role = refl; past = refl; receipts = refl; loader = refl; made = refl; lineage = refl; allowance = refl; credit = omega arith })
+
+        left_stays : (k5 : CallerData) → k5 ≡ record k4 { log = after_node_release r k4.log } → AreSettled n l (shares_for x).left x.above.root_changed k5.log.holdings
+        left_stays k5 is = subst (λ (z : CallerData). AreSettled n l (shares_for x).left x.above.root_changed z.log.holdings) (sym (gone_is r k5 is)) (record {
+          lower = low5;
+          upper = upper5;
+          rest = hs.rest;
+          held = without_high hs.left_first low5 high5 (upper5 ∷ hs.rest) r high_node low_far_r ((λ e. r_far_n (sym (sym upper_node ∙ e))), rest_r);
+          node = low_node;
+          settled = g_l;
+          spells = now_low.spells;
+          stored = now_low.stored;
+          marked = refl;
+          parent = upper_node;
+          parent_spells = now_upper.spells;
+          parent_inner = ap (λ (z : NodeData). is_entries z.body) g_n;
+          parent_stored = now_upper.stored;
+          parent_marked = refl;
+          root = hs.root;
+          out = refl;
+        })
+
+        right_stays : (k5 : CallerData) → k5 ≡ record k4 { log = after_node_release l k4.log } → AreSettled n r (shares_for x).right x.above.root_changed k5.log.holdings
+        right_stays k5 is = subst (λ (z : CallerData). AreSettled n r (shares_for x).right x.above.root_changed z.log.holdings) (sym (gone_is l k5 is)) (record {
+          lower = high5;
+          upper = upper5;
+          rest = hs.rest;
+          held = without_low hs.left_first low5 high5 (upper5 ∷ hs.rest) l low_node (λ e. l_far_r (sym (sym high_node ∙ e))) ((λ e. l_far_n (sym (sym upper_node ∙ e))), rest_l);
+          node = high_node;
+          settled = g_r;
+          spells = now_high.spells;
+          stored = now_high.stored;
+          marked = refl;
+          parent = upper_node;
+          parent_spells = now_upper.spells;
+          parent_inner = ap (λ (z : NodeData). is_entries z.body) g_n;
+          parent_stored = now_upper.stored;
+          parent_marked = refl;
+          root = hs.root;
+          out = refl;
+        })
+
+        pub shares_so : (pc : ℕ) (c : Chosen) (k5 k6 : CallerData) (seen : ℕ) → k.log.terms ≡ t → IsBetween pc x → IsChosen x pc c → k5 ≡ record k4 { log = after_node_release c.other k4.log } → HolderTells c.way.node k5.log → k6 ≡ record k5 { log = after_node_load c.way.node 2 seen k5.log } → MendsSiblings t x c.way k k6 × IsInFences pc c.way.content
+        shares_so pc c k5 k6 seen terms between (inl (way, other, below)) lets tells loads' =
+            let lets' = subst (λ m. k5 ≡ record k4 { log = after_node_release m k4.log }) other lets in
+            let node : c.way.node ≡ l = ap (λ (z : Held). z.node) way in
+            let tells' = subst (λ m. HolderTells m k5.log) node tells in
+            let loads2 = subst (λ m. k6 ≡ record k5 { log = after_node_load m 2 seen k5.log }) node loads' in
+            let spends = spends_then 1 0 1 k k5 k6 refl (spends_then 0 1 1 k k4 k5 refl (spends_none k k4 steps4) (spent r k5 lets')) (loaded_none l 2 seen k5 k6 loads2) in
+            subst (λ (z : Held). MendsSiblings t x z k k6 × IsInFences pc z.content) (sym way) (
+              record {
+                holds = under_so t n l (shares_for x).left x.above.root_changed k5 k6 seen hs.left_within (family t x k hs tree).left.no_root l_far_n ((spent r k5 lets').terms ∙ (steps4.terms ∙ terms)) (left_stays k5 lets') tells' loads2;
+                level = hs.level;
+                spare = spare_of l (shares_for x).left (share_spares x.left.content.body x.right.content.body over).0;
+                spends = spends;
+              },
+              (between.0, below),
+            )
+        shares_so pc c k5 k6 seen terms between (inr (way, other, above)) lets tells loads' =
+            let lets' = subst (λ m. k5 ≡ record k4 { log = after_node_release m k4.log }) other lets in
+            let node : c.way.node ≡ r = ap (λ (z : Held). z.node) way in
+            let tells' = subst (λ m. HolderTells m k5.log) node tells in
+            let loads2 = subst (λ m. k6 ≡ record k5 { log = after_node_load m 2 seen k5.log }) node loads' in
+            let spends = spends_then 1 0 1 k k5 k6 refl (spends_then 0 1 1 k k4 k5 refl (spends_none k k4 steps4) (spent l k5 lets')) (loaded_none r 2 seen k5 k6 loads2) in
+            subst (λ (z : Held). MendsSiblings t x z k k6 × IsInFences pc z.content) (sym way) (
+              record {
+                holds = under_so t n r (shares_for x).right x.above.root_changed k5 k6 seen hs.right_within (family t x k hs tree).no_root r_far_n ((spent l k5 lets').terms ∙ (steps4.terms ∙ terms)) (right_stays k5 lets') tells' loads2;
+                level = hs.level;
+                spare = spare_of r (shares_for x).right (share_spares x.left.content.body x.right.content.body over).1;
+                spends = spends;
+              },
+              (omega (arith, above), between.1),
+            )

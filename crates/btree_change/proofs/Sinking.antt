@@ -1,0 +1,88 @@
+-- The root has taken the place of its only two children, which are given back.
+use Rattle.std.proofs.Common.{◌≡◌, ◌≢◌, ℕ, [], ◌∷◌, sym, refl, ap, ◌∙◌, subst, arith, true, IsTrue, Some, IfSome, IsSome, ne_eqb, cond}
+use Rattle.std.specs.List.{AllByRecursion}
+use Rattle.tree_shape.specs.NodeData.{NodeData}
+use Rattle.tree_shape.specs.Numbers.{is_among}
+use Rattle.word_rule.specs.CallerData.{CallerData}
+use Rattle.word_rule.specs.Held.{all_but, held_of, without_lock}
+use Rattle.word_rule.specs.NodeTells.{HolderTells, IsHeldNode, IsLiveNode}
+use Rattle.word_rule.specs.Sights.{after_node_load}
+use Rattle.word_rule.specs.Spelling.{SpellsNode}
+use Rattle.word_rule.specs.declared.log.Holdings.{Holdings}
+use Rattle.word_rule.specs.declared.log.Terms.{Terms}
+use Rattle.btree_change.specs.Paths.{StepsOnNodes}
+use Rattle.btree_change.specs.Siblings.{GivesBack, HoldsSiblings, HoldsSunk, IsGoneOrSettled, SinksRoot, sunk_root}
+use Rattle.btree_change.specs.declared.sibling.Siblings.{Siblings}
+use Rattle.btree_change.proofs.Mended.{loaded_none, spends_none, without_low}
+use Rattle.btree_change.proofs.Pairings.{both_all, both_low, both_more, first_found}
+use Rattle.btree_change.proofs.Releases.{spends_then}
+
+module _ (x : Siblings) (k : CallerData) (gone : HoldsSunk x k.log.holdings) where
+  upper_far : (m : ℕ) → m ≢ 0 → gone.upper.node ≢ m
+  upper_far m some e = some (sym e ∙ gone.root)
+
+  high_far : gone.high.node ≢ x.left.node
+  high_far e = gone.different (sym (sym gone.right ∙ e))
+
+  pub left_held : IsSome (held_of x.left.node k.log.holdings.held)
+  left_held = subst IsSome (sym (ap (held_of x.left.node) gone.held ∙ both_low gone.left_first gone.low gone.high (gone.upper ∷ []) x.left.node gone.left high_far)) refl
+
+  pub left_root : IsSome (held_of 0 k.log.holdings.held)
+  left_root = subst IsSome (sym (ap (held_of 0) gone.held ∙ (both_more gone.left_first gone.low gone.high (gone.upper ∷ []) 0 (λ e. gone.no_root.0 (sym gone.left ∙ e)) (λ e. gone.no_root.1 (sym gone.right ∙ e)) ∙ first_found 0 gone.upper [] gone.root))) refl
+
+  pub left_ready : AllByRecursion (IsGoneOrSettled x.left.node) k.log.holdings.held
+  left_ready = subst (AllByRecursion (IsGoneOrSettled x.left.node)) (sym gone.held) (both_all (IsGoneOrSettled x.left.node) gone.left_first gone.low gone.high (gone.upper ∷ [])
+      ((λ _. gone.left_gone), (λ ne. absurd (ne gone.left)))
+      ((λ e. absurd (high_far e)), (λ _. gone.right_spells))
+      (((λ e. absurd (upper_far x.left.node gone.no_root.0 e)), (λ _. gone.spells)), tt))
+
+  module _ (k1 : CallerData) (back : GivesBack x.left.node k k1) where
+    held1 : k1.log.holdings.held ≡ gone.high ∷ gone.upper ∷ []
+    held1 = back.held ∙ (ap (without_lock x.left.node) gone.held ∙ without_low gone.left_first gone.low gone.high (gone.upper ∷ []) x.left.node gone.left high_far (upper_far x.left.node gone.no_root.0, tt))
+
+    pub right_root : IsSome (held_of 0 k1.log.holdings.held)
+    right_root = subst IsSome (sym (ap (held_of 0) held1 ∙ (ap (λ b. cond b (Some gone.high) (held_of 0 (gone.upper ∷ []))) (ne_eqb gone.high.node 0 (λ e. gone.no_root.1 (sym gone.right ∙ e))) ∙ first_found 0 gone.upper [] gone.root))) refl
+
+    pub right_held : IsSome (held_of x.right.node k1.log.holdings.held)
+    right_held = subst IsSome (sym (ap (held_of x.right.node) held1 ∙ first_found x.right.node gone.high (gone.upper ∷ []) gone.right)) refl
+
+    pub right_ready : AllByRecursion (IsGoneOrSettled x.right.node) k1.log.holdings.held
+    right_ready = subst (AllByRecursion (IsGoneOrSettled x.right.node)) (sym held1) (((λ _. gone.right_gone), (λ ne. absurd (ne gone.right))), (((λ e. absurd (upper_far x.right.node gone.no_root.1 e)), (λ _. gone.spells)), tt))
+
+    pub right_is_out : IsTrue (is_among k1.log.holdings.out x.right.node)
+    right_is_out = subst (λ os. IsTrue (is_among os x.right.node)) (sym back.out) gone.right_out
+
+    module _ (k2 : CallerData) (again : GivesBack x.right.node k1 k2) where
+      held2 : k2.log.holdings.held ≡ gone.upper ∷ []
+      held2 = again.held ∙ (ap (without_lock x.right.node) held1 ∙ without_low true gone.high gone.upper [] x.right.node gone.right (upper_far x.right.node gone.no_root.1) tt)
+
+      out2 : k2.log.holdings.out ≡ []
+      out2 = again.out ∙ (ap (all_but x.right.node) back.out ∙ gone.no_other)
+
+      pub sinks_so : (t : Terms) (k0 k3 : CallerData) (found : ℕ) (content : NodeData) → k0.log.terms ≡ t → HoldsSiblings t x k0.log.holdings → StepsOnNodes k0 k → HolderTells 0 k2.log → k3 ≡ record k2 { log = after_node_load 0 2 found k2.log } → content ≡ sunk_root x → SinksRoot t x (record { node = 0; content = content; changed = true }) k0 k3
+      sinks_so t k0 k3 found content terms hs steps tells loads is =
+          let own : IsHeldNode k2.log.terms gone.upper = subst (λ o. IfSome o (IsHeldNode k2.log.terms)) (ap (held_of 0) held2 ∙ first_found 0 gone.upper [] gone.root) tells in
+          let terms2 : k2.log.terms ≡ t = again.spends.terms ∙ (back.spends.terms ∙ (steps.terms ∙ terms)) in
+          let within = hs.left_within in
+          let kept : k3.log.holdings ≡ k2.log.holdings = ap (λ (z : CallerData). z.log.holdings) loads in
+          subst (λ z. SinksRoot t x (record { node = 0; content = z; changed = true }) k0 k3) (sym is) (record {
+            node = refl;
+            holds = record {
+              within = (omega (arith, within));
+              lock = gone.upper;
+              above = [];
+              held = ap (λ (z : Holdings). z.held) kept ∙ held2;
+              here = record {
+                node = gone.root;
+                settled = gone.content;
+                spells = subst (SpellsNode gone.upper.words) gone.content gone.spells;
+                stored = gone.stored;
+                marked = gone.marked;
+                live = subst (λ m. IfSome gone.upper.mark (IsLiveNode t m (sunk_root x))) gone.root (subst (λ z. IfSome gone.upper.mark (IsLiveNode t gone.upper.node z)) gone.content (subst (λ z. IfSome gone.upper.mark (IsLiveNode z gone.upper.node gone.upper.settled)) terms2 own.live));
+              };
+              root = refl;
+              out = ap (λ (z : Holdings). z.out) kept ∙ out2;
+            };
+            level = hs.level;
+            spends = spends_then 2 0 2 k0 k2 k3 refl (spends_then 1 1 2 k0 k1 k2 refl (spends_then 0 1 1 k0 k k1 refl (spends_none k0 k steps) back.spends) again.spends) (loaded_none 0 2 found k2 k3 loads);
+          })

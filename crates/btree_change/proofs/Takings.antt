@@ -1,0 +1,195 @@
+-- A member is taken out of a held leaf and committed.
+use Rattle.std.proofs.Common.{◌≡◌, ◌≢◌, ℕ, zero, suc, ◌+◌, ◌-◌, ◌<◌, List, [], ◌∷◌, ◌++◌, length, length-append, sym, refl, ap, ◌∙◌, subst, arith, Bool, true, not, IsTrue, Option, Some, None, IsSome, IsSomeAnd, is_some, eq-eqb, ne_eqb, le-leb, true≢false, IfSome, Contains, cond}
+use Rattle.std.proofs.lemmas.Option.{none-some, same_Some}
+use Rattle.std.specs.List.{AllByRecursion}
+use mathlib.Core.List.{IsPrefix}
+use native.Mathlib.Decide.{ℕ_discrete}
+use Rattle.reg_model.specs.History.{state_after, without}
+use Rattle.reg_model.specs.State.{at_base}
+use Rattle.reg_model.specs.declared.answer.Receipt.{Receipt}
+use Rattle.reg_model.specs.declared.answer.Receipt.TheVariants as receipt
+use Rattle.reg_model.specs.declared.answer.Removed.TheVariants as removed
+use Rattle.reg_model.specs.declared.answer.Update.TheVariants as update
+use Rattle.reg_model.specs.declared.span.Member.{Member}
+use Rattle.tree_shape.specs.Lawful.{IsLawfulTree, fewest_entries}
+use Rattle.tree_shape.specs.LocalChange.{IsChangeOf, IsLawfulChange}
+use Rattle.tree_shape.specs.NodeData.{NodeData, Entries, IsInFences, IsLeaf, entries_of, frame_of}
+use Rattle.tree_shape.specs.Numbers.{is_among}
+use Rattle.tree_shape.specs.Steps.{IsTake}
+use Rattle.tree_shape.specs.Trees.{Contents}
+use Rattle.word_rule.specs.CallerData.{CallerData}
+use Rattle.word_rule.specs.Callers.{IsMemberOf, start}
+use Rattle.word_rule.specs.Commits.{AfterCommit, MayCommit}
+use Rattle.word_rule.specs.Exchange.{is_lawful, is_leaf_at, settle}
+use Rattle.word_rule.specs.Memory.{updated}
+use Rattle.tree_shape.specs.declared.node.Frame.{Frame}
+use Rattle.word_rule.specs.NodeTells.{IsLiveNode, KnowsTree}
+use Rattle.word_rule.specs.Steps.{after_update}
+use Rattle.word_rule.specs.declared.log.Budget.{Budget}
+use Rattle.word_rule.specs.declared.log.Holding.{Holding}
+use Rattle.word_rule.specs.declared.log.Log.{Log}
+use Rattle.word_rule.specs.declared.log.Receipts.{Receipts}
+use Rattle.word_rule.specs.declared.log.Terms.{Terms}
+use Rattle.btree_change.specs.Paths.{IsSettledLock, StepsOnNodes}
+use Rattle.btree_change.specs.Takings.{TakesMember}
+use Rattle.btree_change.specs.Removing.{HoldsBesideRoot, IsBeside, IsSpare, IsSpareAs}
+use Rattle.btree_change.proofs.LeafCommits.{LeafLaws, StaysAs, lawful_commit, settled_after}
+use Rattle.btree_change.proofs.Descending.{all_there}
+use Rattle.btree_change.proofs.Storing.{IsRewritten}
+
+-- what is marked has its place
+pub placed_of : (t : Terms) (n : ℕ) (s : NodeData) (changed : Bool) (h : Holding) → IsSettledLock t n s changed h → (f : Frame) × ((h.mark ≡ Some f) × IsLiveNode t n s f)
+placed_of t n s changed h c = go h.mark refl c.marked c.live
+  where
+    go : (o : Option Frame) → h.mark ≡ o → IsSome o → IfSome o (IsLiveNode t n s) → (f : Frame) × ((h.mark ≡ Some f) × IsLiveNode t n s f)
+    go None e is live = absurd (true≢false (sym is))
+    go (Some f) e is live = (f, (e, live))
+
+-- the law of a removal, as a change of the leaf alone
+abbrev pub TakeLaw : Type 0
+TakeLaw = (f : Contents) (live : ℕ → Bool) (leaf base : ℕ) (member : Member) (g : Contents) → IsLawfulTree f live → IsTake f live leaf base member g → fewest_entries leaf < length (entries_of (f leaf)) → IsChangeOf f live leaf (leaf ∷ []) [] g (Some (update.Deregister base)) (leaf ∷ [])
+
+-- the member that begins at a base is listed, and begins there
+pub there_at : (base : ℕ) (es : List Member) (m : Member) → at_base base es ≡ Some m → Contains es m × (m.span.first ≡ base)
+there_at base [] m e = absurd (none-some m e)
+there_at base (x ∷ es) m e = go (ℕ_discrete x.span.first base) (λ f. there_at base es m f)
+  where
+    go : Dec (x.span.first ≡ base) → (at_base base es ≡ Some m → Contains es m × (m.span.first ≡ base)) → Contains (x ∷ es) m × (m.span.first ≡ base)
+    go (yes is) later = let same : x ≡ m = same_Some _ _ (rw (eq-eqb x.span.first base is) at e) in ((0, omega arith, same), subst (λ (z : Member). z.span.first ≡ base) same is)
+    go (no ne) later = let r = later (rw (ne_eqb x.span.first base ne) at e) in ((suc r.0.0, (let l = r.0.1 in omega (arith, l)), r.0.2), r.1)
+
+pub some_there : (base : ℕ) (es : List Member) (m : Member) → at_base base es ≡ Some m → 0 < length es
+some_there base [] m e = absurd (none-some m e)
+some_there base (x ∷ es) m e = omega arith
+
+-- without it none begins there
+pub none_without : (base : ℕ) (es : List Member) → at_base base (without base es) ≡ None
+none_without base [] = refl
+none_without base (x ∷ es) = go (ℕ_discrete x.span.first base) (none_without base es)
+  where
+    go : Dec (x.span.first ≡ base) → at_base base (without base es) ≡ None → at_base base (without base (x ∷ es)) ≡ None
+    go (yes is) rest = ap (λ b. at_base base (cond (not b) (x ∷ without base es) (without base es))) (eq-eqb x.span.first base is) ∙ rest
+    go (no ne) rest = ap (λ b. at_base base (cond (not b) (x ∷ without base es) (without base es))) (ne_eqb x.span.first base ne) ∙ (ap (λ b. cond b (Some x) (at_base base (without base es))) (ne_eqb x.span.first base ne) ∙ rest)
+
+-- a leaf on the way has an entry to spare
+enough : (n base : ℕ) (s : NodeData) (m : Member) → IsLeaf s → IsSpare n s → at_base base (entries_of s) ≡ Some m → fewest_entries n < length (entries_of s)
+enough zero base s m leaf spare e = some_there base (entries_of s) m e
+enough (suc n) base s m leaf spare e = rw (ne_eqb (suc n) 0 (λ z. omega (arith, z))) (subst IsSpareAs leaf spare)
+
+-- what is held beside a node stays as it is
+pub beside_stays : (n m : ℕ) (changed : Bool) (above : List Holding) → m ≡ n → IsBeside n changed above → AllByRecursion (StaysAs m) above
+beside_stays zero m changed above same is = subst (AllByRecursion (StaysAs m)) (sym is) tt
+beside_stays (suc n) m changed above same (root, (is, lock)) = subst (AllByRecursion (StaysAs m)) (sym is) (record { far = λ e. (let z = lock.node in omega (arith, e, z, same)); spells = lock.spells; inner = lock.inner }, tt)
+
+pub beside_far : (n : ℕ) (changed : Bool) (above : List Holding) → IsBeside n changed above → AllByRecursion (λ a. a.node ≢ n) above
+beside_far zero changed above is = subst (AllByRecursion (λ (a : Holding). a.node ≢ zero)) (sym is) tt
+beside_far (suc n) changed above (root, (is, lock)) = subst (AllByRecursion (λ (a : Holding). a.node ≢ suc n)) (sym is) ((λ e. (let z = lock.node in omega (arith, e, z))), tt)
+
+-- the entries of the live nodes that are held are registered
+abbrev pub EntriesAre : List Member → List Holding → Type 0
+EntriesAre registered held = AllByRecursion (λ h. IsSome h.mark → (m : Member) → Contains (entries_of h.settled) m → at_base m.span.first registered ≡ Some m) held
+
+module _ (law : TakeLaw) (laws : LeafLaws) (t : Terms) (n base : ℕ) (s : NodeData) (m : Member) (changed root_changed : Bool) (k k1 k2 : CallerData) (path : HoldsBesideRoot t n s changed root_changed k1.log.holdings) (tree : KnowsTree k1.log.holdings) (leaf : IsLeaf s) (level : s.level ≡ 0)
+    (fences : IsInFences base s) (spare : IsSpare n s) (has : at_base base (entries_of s) ≡ Some m) (written : IsRewritten (record s { body = Entries (without base (entries_of s)) }) path.lock [] path.above k1 k2) where
+  abbrev now : NodeData
+  now = record s { body = Entries (without base (entries_of s)) }
+
+  told : IsTrue (tree.live path.lock.node) × (tree.contents path.lock.node ≡ path.lock.settled)
+  told = (subst (AllByRecursion (λ (h : Holding). IsSome h.mark → IsTrue (tree.live h.node) × (tree.contents h.node ≡ h.settled))) path.held tree.marked).0 path.here.marked
+
+  -- the tree with the leaf changed
+  abbrev after : Contents
+  after = updated tree.contents written.lock.node (record s { body = Entries (without base (entries_of s)) })
+
+  contents_here : tree.contents written.lock.node ≡ s
+  contents_here = ap tree.contents written.node ∙ (told.1 ∙ path.here.settled)
+
+  after_here : after written.lock.node ≡ now
+  after_here = rw (eq-eqb written.lock.node written.lock.node refl) refl
+
+  node : written.lock.node ≡ n
+  node = written.node ∙ path.here.node
+
+  take : IsTake tree.contents tree.live written.lock.node base m after
+  take = record {
+    live_leaf = ap tree.live written.node ∙ told.0;
+    is_leaf = subst IsLeaf (sym contents_here) leaf;
+    held = subst (λ (z : NodeData). at_base base (entries_of z) ≡ Some m) (sym contents_here) has;
+    above = after_here ∙ ap (λ (z : NodeData). record z { body = Entries (without base (entries_of z)) }) (sym contents_here);
+    others = λ x far. rw (ne_eqb x written.lock.node far) refl;
+  }
+
+  change : IsLawfulChange tree.contents tree.live written.lock.node (is_among (written.lock.node ∷ [])) (is_among []) after (Some (update.Deregister base))
+  change = (law tree.contents tree.live written.lock.node base m after tree.lawful take (subst (λ (z : NodeData). fewest_entries written.lock.node < length (entries_of z)) (sym contents_here) (subst (λ k. fewest_entries k < length (entries_of s)) (sym node) (enough n base s m leaf spare has)))).lawful
+
+  in_leaf : is_leaf_at base (Some now) ≡ true
+  in_leaf = let a = le-leb s.low base fences.0 in let b = le-leb base s.high fences.1 in rw (a, b) refl
+
+  marked : is_some written.lock.mark ≡ true
+  marked = ap is_some written.mark ∙ path.here.marked
+
+  here : tree.contents written.lock.node ≡ written.lock.settled
+  here = contents_here ∙ (sym path.here.settled ∙ sym written.settled)
+
+  stays : AllByRecursion (StaysAs written.lock.node) path.above
+  stays = beside_stays n written.lock.node root_changed path.above node path.root
+
+  abbrev exact : Log
+  exact = record k2.log { holdings = record { held = written.lock ∷ path.above; out = []; head = k2.log.holdings.head } }
+
+  exact_is : exact ≡ k2.log
+  exact_is = (λ i. record k2.log { holdings = record { held = sym written.held i; out = sym (written.out ∙ path.out) i; head = k2.log.holdings.head } })
+
+  pub may_take : 0 < k2.log.budget.allowance → MayCommit t (update.Deregister base) k2.log
+  may_take due = record {
+    due = due;
+    member = tt;
+    lawful = subst (λ z. IsTrue (is_lawful z (Some (update.Deregister base)))) exact_is
+        (lawful_commit laws k2.log k2.log.holdings.head (update.Deregister base) written.lock path.above now marked written.spells stays in_leaf level tree.contents tree.live after here after_here change);
+  }
+
+  settles : settle (Some (update.Deregister base)) k2.log ≡ record k2.log { holdings = record { held = record written.lock { settled = now; mark = Some (frame_of now) } ∷ path.above; out = []; head = k2.log.holdings.head } }
+  settles = ap (settle (Some (update.Deregister base))) (sym exact_is)
+      ∙ settled_after laws k2.log k2.log.holdings.head (update.Deregister base) written.lock path.above now marked written.spells stays in_leaf level tree.contents tree.live after here after_here change
+
+  differs : s ≢ now
+  differs e = none-some m (sym (none_without base (entries_of s)) ∙ (ap (λ (z : NodeData). at_base base (entries_of z)) (sym e) ∙ has))
+
+  -- the leaf's entry is the registered member
+  registered : (members : List Member) → EntriesAre members k2.log.holdings.held → at_base base members ≡ Some m
+  registered members entries =
+      let there = there_at base (entries_of s) m has in
+      let told = (subst (EntriesAre members) written.held entries).0 marked m (subst (λ (z : NodeData). Contains (entries_of z) m) (sym (written.settled ∙ path.here.settled)) there.0) in
+      subst (λ b. at_base b members ≡ Some m) there.1 told
+
+  done_is : (number : ℕ) (members : List Member) (r : Receipt) → at_base base members ≡ Some m → IsSomeAnd (at_base base members) (λ x. r ≡ receipt.Deregister base (removed.Done number x)) → r ≡ receipt.Deregister base (removed.Done number m)
+  done_is number members r e done = subst (λ o. IsSomeAnd o (λ x. r ≡ receipt.Deregister base (removed.Done number x))) e done
+
+  pub take_so : (k3 : CallerData) (found number : ℕ) → StepsOnNodes k k2 → k.log.terms ≡ t → AfterCommit (update.Deregister base) found k2.log k3.log → number ≡ length k3.log.past → k3 ≡ record k2 { log = k3.log } → TakesMember t base n root_changed number m k k3
+  take_so k3 found number steps terms (before, r, (tells, done, is)) counted rest =
+      let log : k3.log ≡ after_update (update.Deregister base) before r (record k2.log { holdings = record { held = record written.lock { settled = now; mark = Some (frame_of now) } ∷ path.above; out = []; head = k2.log.holdings.head } }) = is ∙ ap (after_update (update.Deregister base) before r) settles in
+      let past : k3.log.past ≡ before ++ update.Deregister base ∷ [] = ap (λ z. z.past) log in
+      let member = registered (state_after (start k2.log.terms) before).registered tells.entries in
+      let answer : r ≡ receipt.Deregister base (removed.Done number m) = done_is (length before + 1) (state_after (start k2.log.terms) before).registered r member done ∙ ap (λ j. receipt.Deregister base (removed.Done j m)) (sym (counted ∙ (ap length past ∙ length-append before (update.Deregister base ∷ [])))) in
+      let answered : record k2.log.receipts { own = k2.log.receipts.own ++ r ∷ [] } ≡ record k2.log.receipts { own = k2.log.receipts.own ++ receipt.Deregister base (removed.Done number m) ∷ [] } = (λ i. record k2.log.receipts { own = k2.log.receipts.own ++ answer i ∷ [] }) in record {
+        table = ap (λ z. z.table) rest ∙ steps.table;
+        left = ap (λ z. z.left) rest ∙ steps.left;
+        terms = ap (λ z. z.terms) log ∙ steps.terms;
+        role = ap (λ z. z.role) log ∙ steps.role;
+        loader = ap (λ z. z.loader) log ∙ steps.loader;
+        made = ap (λ z. z.made) log ∙ steps.made;
+        lineage = ap (λ z. z.lineage) log ∙ steps.lineage;
+        right = (before, (subst (λ p. IsPrefix p before) steps.past tells.begins, past, counted, subst (λ z. at_base base (state_after (start z) before).registered ≡ Some m) (steps.terms ∙ terms) member, subst (λ z. IsMemberOf z m) (steps.terms ∙ terms) (all_there (IsMemberOf k2.log.terms) (state_after (start k2.log.terms) before).registered m tells.members (there_at base (state_after (start k2.log.terms) before).registered m member).0)));
+        receipts = ap (λ z. z.receipts) log ∙ (answered ∙ ap (λ (rs : Receipts). record rs { own = rs.own ++ receipt.Deregister base (removed.Done number m) ∷ [] }) steps.receipts);
+        budget = ap (λ z. z.budget) log ∙ ap (λ (b : Budget). record b { allowance = b.allowance - 1 }) steps.budget;
+        holds = record {
+          lock = record written.lock { settled = now; mark = Some (frame_of now) };
+          above = path.above;
+          held = ap (λ z. z.holdings.held) log;
+          node = node;
+          spells = written.spells;
+          stored = written.stored s path.here.spells differs;
+          root = path.root;
+          out = ap (λ z. z.holdings.out) log;
+        };
+      }

@@ -1,0 +1,87 @@
+-- The way of a removal down the tree, by what its caller holds: one node, and the root where that is
+-- another.
+use Rattle.std.specs.Prelude.{◌≡◌, ℕ, zero, suc, ◌+◌, ◌<◌, ◌≤◌, Bool, false, List, [], ◌∷◌, length}
+use Rattle.std.specs.Prelude.{IsSome}
+use Rattle.std.specs.List.{AllByRecursion}
+use Rattle.tree_shape.specs.Decisions.{is_entries}
+use Rattle.tree_shape.specs.NodeData.{NodeData, Body, Pairs, Entries, Link}
+use Rattle.tree_shape.specs.declared.limits.TheConstants.{FEWEST_PAIRS, FEWEST_ENTRIES}
+use Rattle.word_rule.specs.CallerData.{CallerData}
+use Rattle.word_rule.specs.Held.{without_lock}
+use Rattle.word_rule.specs.Spelling.{SpellsNode}
+use Rattle.word_rule.specs.declared.log.Holding.{Holding}
+use Rattle.word_rule.specs.declared.log.Holdings.{Holdings}
+use Rattle.word_rule.specs.declared.log.Terms.{Terms}
+use Rattle.btree_change.specs.Paths.{IsSettledLock}
+
+-- the lock of the root, an inner node that has settled
+pub record IsSettledRoot (changed : Bool) (h : Holding) : Type 0 where
+  pub node : h.node ≡ 0
+  pub spells : SpellsNode h.words h.settled
+  pub inner : is_entries h.settled.body ≡ false
+  pub stored : h.stored ≡ changed
+  pub marked : IsSome h.mark
+
+-- what is held beside a node of the way down: nothing beside the root, else the root
+abbrev pub IsBeside : ℕ → Bool → List Holding → Type 0
+IsBeside zero changed above = above ≡ []
+IsBeside (suc n) changed above =
+    (root : Holding) × ((above ≡ root ∷ []) × IsSettledRoot changed root)
+
+-- A caller on its way down holds a node, and the root where that is another; no node is out.
+pub record HoldsBesideRoot (t : Terms) (n : ℕ) (s : NodeData) (changed root_changed : Bool)
+    (holdings : Holdings) : Type 0 where
+  pub within : n < t.nodes
+  pub lock : Holding
+  pub above : List Holding
+  pub held : holdings.held ≡ lock ∷ above
+  pub here : IsSettledLock t n s changed lock
+  pub root : IsBeside n root_changed above
+  pub out : holdings.out ≡ []
+
+-- The same of the locks alone.
+pub record HoldsLocks (n : ℕ) (changed root_changed : Bool) (holdings : Holdings) : Type 0 where
+  pub lock : Holding
+  pub above : List Holding
+  pub held : holdings.held ≡ lock ∷ above
+  pub node : lock.node ≡ n
+  pub spells : SpellsNode lock.words lock.settled
+  pub stored : lock.stored ≡ changed
+  pub root : IsBeside n root_changed above
+  pub out : holdings.out ≡ []
+
+-- a node has more than the fewest pairs or entries, so that one may go
+abbrev pub IsSpareAs : Body → Type 0
+IsSpareAs (Pairs pairs) = FEWEST_PAIRS < length pairs
+IsSpareAs (Entries entries) = FEWEST_ENTRIES < length entries
+IsSpareAs (Link next) = Unit {0}
+
+-- so it is on a removal's way down, unless it is the root
+abbrev pub IsSpare : ℕ → NodeData → Type 0
+IsSpare zero s = Unit {0}
+IsSpare (suc n) s = IsSpareAs s.body
+
+-- What steps on nodes leave of their caller that lets go of at most so many nodes with the next
+-- version: its calls, its receipts and its names are as they were.
+pub record Spends (releases : ℕ) (k k' : CallerData) : Type 0 where
+  pub table : k'.table ≡ k.table
+  pub left : k'.left ≡ k.left
+  pub terms : k'.log.terms ≡ k.log.terms
+  pub role : k'.log.role ≡ k.log.role
+  pub past : k'.log.past ≡ k.log.past
+  pub receipts : k'.log.receipts ≡ k.log.receipts
+  pub loader : k'.log.loader ≡ k.log.loader
+  pub made : k'.log.made ≡ k.log.made
+  pub lineage : k'.log.lineage ≡ k.log.lineage
+  pub allowance : k'.log.budget.allowance ≡ k.log.budget.allowance
+  pub credit : k.log.budget.credit ≤ k'.log.budget.credit + releases
+
+-- all that is held has settled as its words spell it
+abbrev pub HaveSettled : List Holding → Type 0
+HaveSettled held = AllByRecursion (λ h. SpellsNode h.words h.settled) held
+
+-- A node was let go of, with the next version or with the same.
+pub record LetsGoOf (n : ℕ) (k k' : CallerData) : Type 0 where
+  pub spends : Spends 1 k k'
+  pub held : k'.log.holdings.held ≡ without_lock n k.log.holdings.held
+  pub out : k'.log.holdings.out ≡ k.log.holdings.out

@@ -1,0 +1,31 @@
+-- Even shares of two neighbouring children.
+use Rattle.std.specs.Prelude.{◌≡◌, ℕ, ◌<◌, ◌≤◌, ◌⊎◌, true}
+use Rattle.tree_shape.specs.Changes.{at_slot, first_half, joined, last_half, separate_at, share_of}
+use Rattle.tree_shape.specs.NodeData.{Pairs, pairs_of}
+use Rattle.btree_change.specs.declared.mending.Chosen.{Chosen}
+use Rattle.btree_change.specs.declared.mending.Shares.{Shares}
+use Rattle.btree_change.specs.declared.sibling.Siblings.{Siblings}
+
+-- what two children hold once they have even shares, and their parent
+abbrev pub shares_for : Siblings → Shares
+shares_for x =
+    let a = x.left.content in let b = x.right.content in let s = x.above.at.content in record {
+      left = first_half (share_of a b) (joined a b);
+      right = last_half (share_of a b) (joined a b);
+      above = record s {
+        body = Pairs (at_slot (separate_at (first_half (share_of a b) (joined a b)).high) x.slot
+            (pairs_of s));
+      };
+    }
+
+-- the one that has an address, and the other
+abbrev pub IsChosen : Siblings → ℕ → Chosen → Type 0
+IsChosen x pc c = ((c.way ≡ record {
+  node = x.left.node;
+  content = (shares_for x).left;
+  changed = true;
+}) × (c.other ≡ x.right.node) × (pc ≤ (shares_for x).left.high)) ⊎ ((c.way ≡ record {
+  node = x.right.node;
+  content = (shares_for x).right;
+  changed = true;
+}) × (c.other ≡ x.left.node) × ((shares_for x).left.high < pc))

@@ -1,0 +1,251 @@
+//! Two neighbouring children of a held node made into one, or given even shares; and the root that
+//! takes the place of its only two.
+ghost use Rattle.std.specs.Prelude.{◌≡◌, ◌+◌, ◌<◌, ◌||◌, IsSome, IsTrue, length};
+ghost use Rattle.std.specs.List.{AllByRecursion};
+ghost use Rattle.tree_shape.specs.Changes.{Fit, Overfill, joined};
+ghost use Rattle.tree_shape.specs.Lawful.{fewest_pairs};
+ghost use Rattle.tree_shape.specs.NodeData.{AreNeighbours, InOrder, IsInFences, IsInner};
+ghost use Rattle.tree_shape.specs.NodeData.{pairs_of};
+ghost use Rattle.tree_shape.specs.Numbers.{is_among};
+ghost use Rattle.word_rule.specs.CallerData.{surplus};
+ghost use Rattle.word_rule.specs.Held.{held_of};
+ghost use Rattle.btree_change.specs.Paths.{StepsOnNodes};
+ghost use Rattle.btree_change.specs.Siblings.{GivesBack, HoldsGone, HoldsSiblings, IsBetween};
+ghost use Rattle.btree_change.specs.Shares.{IsChosen, shares_for};
+ghost use Rattle.btree_change.specs.Siblings.{HoldsSunk, sunk_root};
+ghost use Rattle.btree_change.specs.Siblings.{IsGoneOrSettled, MendsSiblings, SinksRoot};
+ghost use Rattle.btree_change.specs.Siblings.{is_small_body};
+
+use crate::descent::Held;
+use crate::sibling::Siblings;
+use node_store::{Locking, give_free, write_held};
+use tree_shape::{Node, drop_pair, even_pair, join_pair, laws, set_separator, sink_root};
+use word_rule::exchange::exchange_decided;
+use word_rule::{Caller, LockId, Words};
+
+/// The words of a node that has left the tree: its kind, its level, and what links it to the next.
+const KIND: u32 = 1;
+
+const LEVEL: u32 = 2;
+
+const LINK: u32 = 6;
+
+/// The kind of a free node.
+const FREE: u64 = 2;
+
+/// Gives back a node that is out, where all else that is held has settled.
+fn give_back(words: &Words, me: &mut Caller, node: u32)
+    requires table { me.old.table ≡ words.now.table }
+    requires inside { node < words.now.terms.nodes }
+    requires root { IsSome (held_of 0 me.old.log.holdings.held) }
+    requires held { IsSome (held_of node me.old.log.holdings.held) }
+    requires out { IsTrue (is_among me.old.log.holdings.out node) }
+    requires settled { AllByRecursion (IsGoneOrSettled node) me.old.log.holdings.held }
+    requires surplus { 0 < surplus me.old }
+    ensures { GivesBack node me.old me.new }
+{
+    exchange_decided();
+    give_free(words, me, node);
+}
+
+/// Writes what two children hold into the left one, and makes the right one free: with that it has
+/// left the tree.
+fn join_into_left(words: &Words, me: &mut Caller, x: &Siblings, content: &Node)
+    requires table { me.old.table ≡ words.now.table }
+    requires terms { me.old.log.terms ≡ words.now.terms }
+    requires held { HoldsSiblings words.now.terms x.now me.old.log.holdings }
+    requires fit { Fit x.now.left.content x.now.right.content }
+    requires spare { fewest_pairs x.now.above.at.node < length (pairs_of x.now.above.at.content) }
+    requires content { content.now ≡ joined x.now.left.content x.now.right.content }
+    ensures gone { HoldsGone words.now.terms x.now me.new.log.holdings }
+    ensures same { StepsOnNodes me.old me.new }
+{
+    laws::join();
+    laws::transfer();
+    laws::widen();
+    exchange_decided();
+    // By this load it is known of which tree the nodes are.
+    words.load_node(me, x.right.node, LEVEL);
+    let above = drop_pair(&x.above.at.content, x.slot);
+    write_held(words, me, x.left.node, content);
+    write_held(words, me, x.above.at.node, &above);
+    // A base above 2^32 in the place of the link would spell no node.
+    words.store_node(me, x.right.node, LINK, 0);
+    words.store_node(me, x.right.node, KIND, FREE);
+}
+
+/// Joins two children that fit into one node: the left one holds both, and the right one leaves the
+/// tree and is given back.
+pub(crate) fn join(words: &Words, me: &mut Caller, x: &Siblings) -> Held
+    requires table { me.old.table ≡ words.now.table }
+    requires terms { me.old.log.terms ≡ words.now.terms }
+    requires held { HoldsSiblings words.now.terms x.now me.old.log.holdings }
+    requires fit { Fit x.now.left.content x.now.right.content }
+    requires spare { fewest_pairs x.now.above.at.node < length (pairs_of x.now.above.at.content) }
+    requires surplus { 0 < surplus me.old }
+    ensures mends { MendsSiblings words.now.terms x.now result me.old me.new }
+    ensures content { result.content ≡ joined x.now.left.content x.now.right.content }
+{
+    let node = x.left.node;
+    let content = join_pair(&x.left.content, &x.right.content);
+    join_into_left(words, me, x, &content);
+    give_back(words, me, x.right.node);
+    words.load_node(me, node, LEVEL);
+    Held {
+        node,
+        content,
+        changed: true,
+    }
+}
+
+/// What two children hold once they have even shares, and their parent.
+#[derive(Drop)]
+pub(crate) struct Shares {
+    left: Node,
+    right: Node,
+    above: Node,
+}
+
+/// Even shares of two children that don't fit into one node.
+fn shares_of(x: &Siblings) -> Shares
+    requires overfill { Overfill x.now.left.content x.now.right.content }
+    requires neighbours { AreNeighbours x.now.left.content x.now.right.content }
+    requires left { InOrder x.now.left.content }
+    requires right { InOrder x.now.right.content }
+    requires inner { IsInner x.now.above.at.content }
+    requires slot { x.now.slot < length (pairs_of x.now.above.at.content) }
+    ensures { result ≡ shares_for x.now }
+{
+    let (left, right) = even_pair(&x.left.content, &x.right.content);
+    let above = set_separator(&x.above.at.content, x.slot, left.high);
+    Shares { left, right, above }
+}
+
+/// Of two children with even shares the one that has an address, and the other.
+#[derive(Drop)]
+struct Chosen {
+    way: Held,
+    other: u32,
+}
+
+/// Which of two children has an address once they have even shares.
+fn choose(x: &Siblings, shares: Shares, pc: u64) -> Chosen
+    requires { shares ≡ shares_for x.now }
+    ensures { IsChosen x.now pc result }
+{
+    if pc <= shares.left.high {
+        let way = Held {
+            node: x.left.node,
+            content: shares.left,
+            changed: true,
+        };
+        Chosen {
+            way,
+            other: x.right.node,
+        }
+    } else {
+        let way = Held {
+            node: x.right.node,
+            content: shares.right,
+            changed: true,
+        };
+        Chosen {
+            way,
+            other: x.left.node,
+        }
+    }
+}
+
+/// Gives two children that don't fit into one node even shares, and lets go of the one that hasn't
+/// the address.
+pub(crate) fn share<L: Locking>(
+    locking: &L,
+    words: &Words,
+    me: &mut Caller,
+    x: &Siblings,
+    pc: u64,
+) -> Held
+    requires table { me.old.table ≡ words.now.table }
+    requires terms { me.old.log.terms ≡ words.now.terms }
+    requires held { HoldsSiblings words.now.terms x.now me.old.log.holdings }
+    requires overfill { Overfill x.now.left.content x.now.right.content }
+    requires small { IsTrue (is_small_body x.now.left.content.body
+        || is_small_body x.now.right.content.body) }
+    requires between { IsBetween pc x.now }
+    requires surplus { 0 < surplus me.old }
+    ensures mends { MendsSiblings words.now.terms x.now result me.old me.new }
+    ensures fences { IsInFences pc result.content }
+{
+    laws::share();
+    laws::transfer();
+    laws::widen();
+    exchange_decided();
+    // By this load it is known of which tree the nodes are.
+    words.load_node(me, x.above.at.node, LEVEL);
+    let shares = shares_of(x);
+    write_held(words, me, x.left.node, &shares.left);
+    write_held(words, me, x.right.node, &shares.right);
+    write_held(words, me, x.above.at.node, &shares.above);
+    let chosen = choose(x, shares, pc);
+    locking.let_go(words, me, LockId::Node { node: chosen.other });
+    words.load_node(me, chosen.way.node, LEVEL);
+    chosen.way
+}
+
+/// The level above that of a node.
+fn next_level(node: &Node) -> u64
+    ensures { result ≡ node.now.level + 1 }
+{
+    node.level as u64 + 1
+}
+
+/// Writes what the root's only two children hold into the root, and makes both leave the tree.
+fn sink_into_root(words: &Words, me: &mut Caller, x: &Siblings, content: &Node)
+    requires table { me.old.table ≡ words.now.table }
+    requires terms { me.old.log.terms ≡ words.now.terms }
+    requires held { HoldsSiblings words.now.terms x.now me.old.log.holdings }
+    requires root { x.now.above.at.node ≡ 0 }
+    requires two { length (pairs_of x.now.above.at.content) ≡ 2 }
+    requires fit { Fit x.now.left.content x.now.right.content }
+    requires content { content.now ≡ sunk_root x.now }
+    ensures gone { HoldsSunk x.now me.new.log.holdings }
+    ensures same { StepsOnNodes me.old me.new }
+{
+    laws::sink();
+    laws::transfer();
+    laws::widen();
+    exchange_decided();
+    // By these loads it is known of which tree the nodes are.
+    words.load_node(me, x.left.node, LEVEL);
+    words.load_node(me, x.right.node, LEVEL);
+    write_held(words, me, x.above.at.node, content);
+    // The right one must differ too, so as to leave with the left one.
+    words.store_node(me, x.right.node, LEVEL, next_level(&x.right.content));
+    words.store_node(me, x.left.node, LINK, 0);
+    words.store_node(me, x.left.node, KIND, FREE);
+}
+
+/// The root takes the place of its only two children, which fit together: both leave the tree and
+/// are given back.
+pub(crate) fn sink(words: &Words, me: &mut Caller, x: &Siblings) -> Held
+    requires table { me.old.table ≡ words.now.table }
+    requires terms { me.old.log.terms ≡ words.now.terms }
+    requires held { HoldsSiblings words.now.terms x.now me.old.log.holdings }
+    requires root { x.now.above.at.node ≡ 0 }
+    requires two { length (pairs_of x.now.above.at.content) ≡ 2 }
+    requires fit { Fit x.now.left.content x.now.right.content }
+    requires surplus { 1 < surplus me.old }
+    ensures sinks { SinksRoot words.now.terms x.now result me.old me.new }
+    ensures content { result.content ≡ sunk_root x.now }
+{
+    let content = sink_root(&x.above.at.content, &x.left.content, &x.right.content);
+    sink_into_root(words, me, x, &content);
+    give_back(words, me, x.left.node);
+    give_back(words, me, x.right.node);
+    words.load_node(me, 0, LEVEL);
+    Held {
+        node: 0,
+        content,
+        changed: true,
+    }
+}

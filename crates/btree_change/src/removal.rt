@@ -1,0 +1,223 @@
+//! The removal of the member that begins at an address.
+ghost use Rattle.std.specs.Prelude.{◌≡◌, ◌≤◌, ◌<◌, ◌-◌, ◌^◌, ◌+◌, ◌||◌, ◌≢◌, ℕ, true, false, IsTrue, IfOk, IfErr, length};
+ghost use Rattle.tree_shape.specs.Changes.{Fit, Overfill};
+ghost use Rattle.tree_shape.specs.NodeData.{IsInFences, pairs_of};
+ghost use Rattle.btree_change.specs.Siblings.{HoldsSiblings, IsBetween, SameKind};
+ghost use Rattle.btree_change.specs.Siblings.{is_small_body};
+ghost use Rattle.word_rule.specs.CallerData.{due, surplus};
+ghost use Rattle.word_rule.specs.Callers.{IsIdle};
+ghost use Rattle.word_rule.specs.Places.{CALL_CREDIT};
+ghost use Rattle.btree_change.specs.Paths.{HoldsNothing};
+ghost use Rattle.btree_change.specs.Removal.{AnswersRemoval, Removes};
+ghost use Rattle.btree_change.specs.Removing.{HoldsBesideRoot, IsSpare, Spends};
+ghost use Rattle.btree_change.specs.Updates.{GivesUp};
+
+use crate::descent::at_root;
+use crate::mending::{join, share, sink};
+use crate::sibling::{Siblings, is_small, leave, take_child, take_sibling};
+use crate::taking::{not_found, take_in_leaf};
+use crate::way::{Way, let_go_of_way};
+use node_store::{Busy, Locking, Trying, Waiting};
+use reg_model::Removed;
+use std::sync::Wait;
+use tree_shape::{Content, ENTRIES, Node, PAIRS};
+use word_rule::{Caller, Words};
+
+/// Takes the root, and reads it: the way begins there.
+fn root_of_way<L: Locking>(locking: &L, words: &Words, me: &mut Caller) -> Result<Way, Busy>
+    requires table { me.old.table ≡ words.now.table }
+    requires idle { IsIdle me.old.log }
+    ensures ok { IfOk result (λ way. HoldsBesideRoot words.now.terms way.at.node way.at.content
+        way.at.changed way.root_changed me.new.log.holdings
+        × (way.at.node ≡ 0) × (way.at.content.level ≤ 12)
+        × ((pc : ℕ) → pc ≤ 2 ^ 64 - 1 → IsInFences pc way.at.content)) }
+    ensures busy { IfErr result (λ e. HoldsNothing me.new.log.holdings × (L.gives_up ≡ true)) }
+    ensures spends { Spends 0 me.old me.new }
+    ensures terms { me.old.log.terms ≡ words.now.terms }
+{
+    let at = at_root(locking, words, me)?;
+    Ok(Way {
+        at,
+        root_changed: false,
+    })
+}
+
+/// Whether two neighbours fit into one node.
+fn fit(left: &Node, right: &Node) -> bool
+    requires kind { SameKind left.now.body right.now.body }
+    ensures fit { result ≡ true → Fit left.now right.now }
+    ensures over { result ≡ false → Overfill left.now right.now }
+{
+    match &left.content {
+        Content::Leaf { .. } => left.entries().len() + right.entries().len() <= ENTRIES,
+        _ => left.pairs().len() + right.pairs().len() <= PAIRS,
+    }
+}
+
+/// The way with a node in which a word was stored.
+fn changed(mut way: Way) -> Way
+    ensures { result ≡ record way { at = record way.at { changed = true } } }
+{
+    way.at.changed = true;
+    way
+}
+
+/// Whether two children that fit into one leave a root that has no others.
+fn sinks(x: &Siblings) -> bool
+    ensures root { result ≡ true → x.now.above.at.node ≡ 0 }
+    ensures two { result ≡ true → length (pairs_of x.now.above.at.content) ≡ 2 }
+    ensures more { result ≡ false → x.now.above.at.node ≡ 0
+        → length (pairs_of x.now.above.at.content) ≢ 2 }
+{
+    x.above.at.node == 0 && x.above.at.content.pairs().len() == 2
+}
+
+/// Joins two children of a node of the way, or gives them even shares, or sinks the root: the way
+/// one level further down, with one to spare in its node.
+fn mend<L: Locking>(locking: &L, words: &Words, me: &mut Caller, x: Siblings, pc: u64) -> Way
+    requires table { me.old.table ≡ words.now.table }
+    requires terms { me.old.log.terms ≡ words.now.terms }
+    requires held { HoldsSiblings words.now.terms x me.old.log.holdings }
+    requires between { IsBetween pc x }
+    requires small { IsTrue (is_small_body x.left.content.body
+        || is_small_body x.right.content.body) }
+    requires spare { IsSpare x.above.at.node x.above.at.content }
+    requires here { IsInFences pc x.above.at.content }
+    requires surplus { 1 < surplus me.old }
+    ensures held { HoldsBesideRoot words.now.terms result.at.node result.at.content
+        result.at.changed result.root_changed me.new.log.holdings }
+    ensures level { result.at.content.level + 1 ≡ x.above.at.content.level }
+    ensures fences { IsInFences pc result.at.content }
+    ensures spare { IsSpare result.at.node result.at.content }
+    ensures spends { Spends 2 me.old me.new }
+{
+    if !fit(&x.left.content, &x.right.content) {
+        let at = share(locking, words, me, &x, pc);
+        return leave(locking, words, me, changed(x.above), at);
+    }
+    if sinks(&x) {
+        let at = sink(words, me, &x);
+        return Way {
+            at,
+            root_changed: false,
+        };
+    }
+    let at = join(words, me, &x);
+    leave(locking, words, me, changed(x.above), at)
+}
+
+/// From an inner node of the way down to the child for an address, which gets a pair or an entry to
+/// spare.
+fn step_down<L: Locking>(
+    locking: &L,
+    words: &Words,
+    me: &mut Caller,
+    way: Way,
+    pc: u64,
+) -> Result<Way, Busy>
+    requires table { me.old.table ≡ words.now.table }
+    requires terms { me.old.log.terms ≡ words.now.terms }
+    requires path { HoldsBesideRoot words.now.terms way.at.node way.at.content way.at.changed
+        way.root_changed me.old.log.holdings }
+    requires inner { 0 < way.at.content.level }
+    requires here { IsInFences pc way.at.content }
+    requires spare { IsSpare way.at.node way.at.content }
+    requires surplus { 1 < surplus me.old }
+    ensures ok { IfOk result (λ below. HoldsBesideRoot words.now.terms below.at.node
+        below.at.content below.at.changed below.root_changed me.new.log.holdings
+        × IsInFences pc below.at.content × IsSpare below.at.node below.at.content
+        × (below.at.content.level + 1 ≡ way.at.content.level)) }
+    ensures busy { IfErr result (λ e. HoldsNothing me.new.log.holdings × (L.gives_up ≡ true)) }
+    ensures spends { Spends 2 me.old me.new }
+{
+    let child = take_child(locking, words, me, way, pc)?;
+    if !is_small(&child.at.content) {
+        return Ok(leave(locking, words, me, child.above, child.at));
+    }
+    let x = take_sibling(locking, words, me, child, pc)?;
+    Ok(mend(locking, words, me, x, pc))
+}
+
+/// The leaf for an address, held beside the root, with an entry to spare.
+fn leaf_on_way<L: Locking>(
+    locking: &L,
+    words: &Words,
+    me: &mut Caller,
+    pc: u64,
+) -> Result<Way, Busy>
+    requires table { me.old.table ≡ words.now.table }
+    requires idle { IsIdle me.old.log }
+    requires surplus { CALL_CREDIT ≤ surplus me.old }
+    ensures ok { IfOk result (λ leaf. HoldsBesideRoot words.now.terms leaf.at.node
+        leaf.at.content leaf.at.changed leaf.root_changed me.new.log.holdings
+        × IsInFences pc leaf.at.content × IsSpare leaf.at.node leaf.at.content
+        × (leaf.at.content.level ≡ 0)) }
+    ensures busy { IfErr result (λ e. HoldsNothing me.new.log.holdings × (L.gives_up ≡ true)) }
+    ensures spends { Spends 26 me.old me.new }
+    ensures terms { me.old.log.terms ≡ words.now.terms }
+{
+    let mut way = root_of_way(locking, words, me)?;
+    while way.at.content.level > 0 {
+        way = step_down(locking, words, me, way, pc)?;
+    }
+    Ok(way)
+}
+
+/// Removes the member that begins at a base, for an update call that was begun. NotFound where none
+/// begins there. Busy where a lock on the way was found taken and `locking` gives up: the call is
+/// still begun.
+pub fn remove_by<L: Locking>(
+    locking: &L,
+    words: &Words,
+    me: &mut Caller,
+    base: u64,
+) -> Result<Removed, Busy>
+    requires table { me.old.table ≡ words.now.table }
+    requires idle { IsIdle me.old.log }
+    requires begun { 0 < due me.old }
+    requires surplus { CALL_CREDIT ≤ surplus me.old }
+    ensures answer { IfOk result (λ answer. AnswersRemoval words.now.terms base answer
+        me.old me.new) }
+    ensures busy { IfErr result (λ e. GivesUp me.old me.new × (L.gives_up ≡ true)) }
+{
+    let mut way = leaf_on_way(locking, words, me, base)?;
+    if let Some(answer) = not_found(words, me, &way, base) {
+        let_go_of_way(locking, words, me, &way);
+        return Ok(answer);
+    }
+    let (number, member) = take_in_leaf(words, me, &way, base);
+    way.at.changed = true;
+    let_go_of_way(locking, words, me, &way);
+    Ok(Removed::Done { number, member })
+}
+
+/// Removes a member as `remove_by` does, for an update call that was begun, or answers Busy where a
+/// lock on the way is taken: then the call may be tried again.
+pub fn try_remove(words: &Words, me: &mut Caller, base: u64) -> Result<Removed, Busy>
+    requires table { me.old.table ≡ words.now.table }
+    requires idle { IsIdle me.old.log }
+    requires begun { 0 < due me.old }
+    requires surplus { CALL_CREDIT ≤ surplus me.old }
+    ensures answer { IfOk result (λ answer. AnswersRemoval words.now.terms base answer
+        me.old me.new) }
+    ensures busy { IfErr result (λ e. GivesUp me.old me.new) }
+{
+    remove_by(&Trying, words, me, base)
+}
+
+/// Removes the member that begins at a base. NotFound where none begins there, and Spent where the
+/// caller may begin no more update calls. It waits for the locks on the way.
+pub fn remove<R: Wait>(rt: &R, words: &Words, me: &mut Caller, base: u64) -> Removed
+    requires table { me.old.table ≡ words.now.table }
+    requires idle { IsIdle me.old.log }
+    ensures answer { Removes words.now.terms base me.old me.new result }
+    ensures nothing { HoldsNothing me.new.log.holdings }
+{
+    if !me.use_one() {
+        return Removed::Spent;
+    }
+    match remove_by(&Waiting { rt }, words, me, base) {
+        Ok(answer) => answer,
+        Err(_) => unreachable!(),
+    }
+}

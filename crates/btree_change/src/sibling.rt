@@ -1,0 +1,216 @@
+//! A child of a held node, and a neighbour beside it, locked and read.
+ghost use Rattle.std.specs.Prelude.{◌≡◌, ◌≢◌, ◌<◌, ◌+◌, ◌^◌, ◌⊎◌, true, Some, IfOk, IfErr, OnOk, length, ℕ};
+ghost use Rattle.std.specs.List.{slice_get};
+ghost use Rattle.tree_shape.specs.NodeData.{IsInFences, pairs_of};
+ghost use Rattle.word_rule.specs.CallerData.{surplus};
+ghost use Rattle.btree_change.specs.Paths.{HoldsNothing};
+ghost use Rattle.btree_change.specs.Removing.{HoldsBesideRoot, Spends};
+ghost use Rattle.btree_change.specs.Siblings.{HoldsChild, HoldsSiblings, HoldsUnder, IsBetween};
+ghost use Rattle.btree_change.specs.Siblings.{is_small_body};
+
+use crate::descent::{Held, take_node};
+use crate::way::{Way, let_go_of, let_go_of_way};
+use node_store::{Busy, Locking, read_held};
+use tree_shape::{Content, Node, Pair, inner_slot};
+use word_rule::{Caller, LockId, Words};
+
+/// The word of a node that has its level.
+const LEVEL: u32 = 2;
+
+/// Below so many entries, or so many pairs, a node can't lose one.
+const ENTRIES_TO_SPARE: usize = 5;
+
+const PAIRS_TO_SPARE: usize = 7;
+
+/// A child that is held under its parent: that of the pair at the slot.
+#[derive(Drop)]
+pub(crate) struct Child {
+    pub(crate) above: Way,
+    pub(crate) at: Held,
+    pub(crate) slot: usize,
+}
+
+/// Two neighbouring children that are held under their parent: those of the pair at the slot and of
+/// the next.
+#[derive(Drop)]
+pub(crate) struct Siblings {
+    pub(crate) above: Way,
+    pub(crate) left: Held,
+    pub(crate) right: Held,
+    pub(crate) slot: usize,
+}
+
+/// Whether a node has no pair or entry to spare.
+pub(crate) fn is_small(node: &Node) -> bool
+    ensures { result ≡ is_small_body node.now.body }
+{
+    match &node.content {
+        Content::Leaf { .. } => node.entries().len() < ENTRIES_TO_SPARE,
+        Content::Inner { .. } => node.pairs().len() < PAIRS_TO_SPARE,
+        Content::Free { .. } => false,
+    }
+}
+
+/// The pair of an inner node at a slot.
+fn pair_at(parent: &Node, slot: usize) -> Pair
+    requires { slot < length (pairs_of parent.now) }
+    ensures { slice_get (pairs_of parent.now) slot ≡ Some result }
+{
+    parent.pairs()[slot]
+}
+
+/// Locks and reads the child for an address, under a node of the way.
+pub(crate) fn take_child<L: Locking>(
+    locking: &L,
+    words: &Words,
+    me: &mut Caller,
+    above: Way,
+    pc: u64,
+) -> Result<Child, Busy>
+    requires table { me.old.table ≡ words.now.table }
+    requires terms { me.old.log.terms ≡ words.now.terms }
+    requires path { HoldsBesideRoot words.now.terms above.at.node above.at.content
+        above.at.changed above.root_changed me.old.log.holdings }
+    requires inner { 0 < above.at.content.level }
+    requires here { IsInFences pc above.at.content }
+    requires surplus { 1 < surplus me.old }
+    ensures ok { IfOk result (λ child. HoldsChild words.now.terms child pc me.new.log.holdings
+        × (child.above ≡ above)) }
+    ensures busy { IfErr result (λ e. HoldsNothing me.new.log.holdings × (L.gives_up ≡ true)) }
+    ensures spends { Spends 2 me.old me.new }
+    ensures free { IfOk result (λ child. Spends 0 me.old me.new) }
+{
+    let slot = inner_slot(&above.at.content, pc);
+    let node = pair_at(&above.at.content, slot).child;
+    if let Err(busy) = take_node(locking, words, me, node) {
+        let_go_of_way(locking, words, me, &above);
+        return Err(busy);
+    }
+    let content = read_held(words, me, node);
+    let at = Held {
+        node,
+        content,
+        changed: false,
+    };
+    Ok(Child { above, at, slot })
+}
+
+/// Lets go of a child, in which nothing was stored, and of the way to it.
+fn let_go_of_child<L: Locking>(locking: &L, words: &Words, me: &mut Caller, child: &Child)
+    requires table { me.old.table ≡ words.now.table }
+    requires held { (pc : ℕ) × HoldsChild words.now.terms child.now pc me.old.log.holdings }
+    requires surplus { 1 < surplus me.old }
+    ensures spends { Spends 2 me.old me.new }
+    ensures nothing { HoldsNothing me.new.log.holdings }
+{
+    let node = child.at.node;
+    locking.let_go_same(words, me, LockId::Node { node });
+    let_go_of_way(locking, words, me, &child.above);
+}
+
+/// The place of the first of two neighbouring pairs: a pair's and the next one's, where there is a
+/// next one, else that of the pair before it.
+fn slot_of_two(parent: &Node, slot: usize) -> usize
+    requires inside { slot < length (pairs_of parent.now) }
+    requires two { 1 < length (pairs_of parent.now) }
+    ensures inside { result + 1 < length (pairs_of parent.now) }
+    ensures near { (result ≡ slot) ⊎ (result + 1 ≡ slot) }
+{
+    let count = parent.pairs().len();
+    if slot < count - 1 { slot } else { slot - 1 }
+}
+
+/// Of two slots of which the first is this one the one that isn't the child's.
+fn slot_beside(first: usize, slot: usize) -> usize
+    requires small { first < 2 ^ 32 }
+    ensures { ((first ≡ slot) × (result ≡ first + 1)) ⊎ ((first ≢ slot) × (result ≡ first)) }
+{
+    if first == slot { first + 1 } else { first }
+}
+
+/// Locks and reads a neighbour of a child: the next child of its parent, or the one before.
+pub(crate) fn take_sibling<L: Locking>(
+    locking: &L,
+    words: &Words,
+    me: &mut Caller,
+    child: Child,
+    pc: u64,
+) -> Result<Siblings, Busy>
+    requires table { me.old.table ≡ words.now.table }
+    requires terms { me.old.log.terms ≡ words.now.terms }
+    requires held { HoldsChild words.now.terms child pc me.old.log.holdings }
+    requires surplus { 1 < surplus me.old }
+    ensures ok { IfOk result (λ x. HoldsSiblings words.now.terms x me.new.log.holdings
+        × IsBetween pc x × (x.above ≡ child.above) × ((x.left ≡ child.at) ⊎ (x.right ≡ child.at))) }
+    ensures busy { IfErr result (λ e. HoldsNothing me.new.log.holdings × (L.gives_up ≡ true)) }
+    ensures spends { Spends 2 me.old me.new }
+    ensures free { IfOk result (λ x. Spends 0 me.old me.new) }
+{
+    let first = slot_of_two(&child.above.at.content, child.slot);
+    let beside = slot_beside(first, child.slot);
+    let node = pair_at(&child.above.at.content, beside).child;
+    // By this load it is known that the neighbour is no child of the child.
+    words.load_node(me, child.at.node, LEVEL);
+    if let Err(busy) = take_node(locking, words, me, node) {
+        let_go_of_child(locking, words, me, &child);
+        return Err(busy);
+    }
+    let content = read_held(words, me, node);
+    let other = Held {
+        node,
+        content,
+        changed: false,
+    };
+    Ok(siblings_of(child, other, first))
+}
+
+/// A child and the neighbour beside it, from left to right.
+fn siblings_of(child: Child, other: Held, first: usize) -> Siblings
+    ensures above { result.above ≡ child.above }
+    ensures slot { result.slot ≡ first }
+    ensures order { ((first ≡ child.slot) × (result.left ≡ child.at) × (result.right ≡ other))
+        ⊎ ((first ≢ child.slot) × (result.left ≡ other) × (result.right ≡ child.at)) }
+{
+    if first == child.slot {
+        Siblings {
+            above: child.above,
+            left: child.at,
+            right: other,
+            slot: first,
+        }
+    } else {
+        Siblings {
+            above: child.above,
+            left: other,
+            right: child.at,
+            slot: first,
+        }
+    }
+}
+
+/// Lets go of a node above a held one, unless it is the root: the way with the lower one.
+pub(crate) fn leave<L: Locking>(
+    locking: &L,
+    words: &Words,
+    me: &mut Caller,
+    above: Way,
+    at: Held,
+) -> Way
+    requires table { me.old.table ≡ words.now.table }
+    requires inside { above.at.node < words.now.terms.nodes }
+    requires held { HoldsUnder words.now.terms above.at.node above.at.changed
+        above.root_changed at me.old.log.holdings }
+    requires surplus { 0 < surplus me.old }
+    ensures held { HoldsBesideRoot words.now.terms at.node at.content at.changed
+        result.root_changed me.new.log.holdings }
+    ensures at { result.at ≡ at }
+    ensures spends { Spends 1 me.old me.new }
+{
+    let root_changed = if above.at.node == 0 {
+        above.at.changed
+    } else {
+        let_go_of(locking, words, me, above.at.node, above.at.changed);
+        above.root_changed
+    };
+    Way { at, root_changed }
+}

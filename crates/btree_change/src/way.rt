@@ -1,0 +1,58 @@
+//! The way of a removal: one node is held, and the root where that is another.
+ghost use Rattle.std.specs.Prelude.{◌≡◌, ◌<◌, IsSomeAnd};
+ghost use Rattle.word_rule.specs.CallerData.{surplus};
+ghost use Rattle.word_rule.specs.Held.{held_of};
+ghost use Rattle.btree_change.specs.Paths.{HoldsNothing};
+ghost use Rattle.btree_change.specs.Removing.{HaveSettled, HoldsLocks, LetsGoOf, Spends};
+
+use crate::descent::Held;
+use node_store::Locking;
+use word_rule::exchange::exchange_decided;
+use word_rule::{Caller, LockId, Words};
+
+/// A node of the way down, and whether a word was stored under the root's lock beside it.
+#[derive(Drop)]
+pub(crate) struct Way {
+    pub(crate) at: Held,
+    pub(crate) root_changed: bool,
+}
+
+/// Lets go of a node, with the next version where a word was stored under its lock.
+pub(crate) fn let_go_of<L: Locking>(
+    locking: &L,
+    words: &Words,
+    me: &mut Caller,
+    node: u32,
+    changed: bool,
+)
+    requires table { me.old.table ≡ words.now.table }
+    requires inside { node < words.now.terms.nodes }
+    requires settled { HaveSettled me.old.log.holdings.held }
+    requires held { IsSomeAnd (held_of node me.old.log.holdings.held) (λ h. h.stored ≡ changed) }
+    requires surplus { 0 < surplus me.old }
+    ensures { LetsGoOf node me.old me.new }
+{
+    exchange_decided();
+    let lock = LockId::Node { node };
+    if changed {
+        locking.let_go(words, me, lock);
+    } else {
+        locking.let_go_same(words, me, lock);
+    }
+}
+
+/// Lets go of all that is held on the way: the node, and the root.
+pub(crate) fn let_go_of_way<L: Locking>(locking: &L, words: &Words, me: &mut Caller, way: &Way)
+    requires table { me.old.table ≡ words.now.table }
+    requires inside { way.now.at.node < words.now.terms.nodes }
+    requires held { HoldsLocks way.now.at.node way.now.at.changed way.now.root_changed
+        me.old.log.holdings }
+    requires surplus { 1 < surplus me.old }
+    ensures spends { Spends 2 me.old me.new }
+    ensures nothing { HoldsNothing me.new.log.holdings }
+{
+    let_go_of(locking, words, me, way.at.node, way.at.changed);
+    if way.at.node != 0 {
+        let_go_of(locking, words, me, 0, way.root_changed);
+    }
+}
