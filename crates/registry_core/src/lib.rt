@@ -18,5 +18,7 @@ mod registry;
 mod rounds;
 #[cfg(test)]
 mod tests;
+#[cfg(test)]
+mod tree_tests;
 
 pub use registry::Registry;

@@ -45,8 +45,8 @@ abbrev pub AnswersPlaying : SharedPlayerData → ℕ → Place → SharedPlayerD
 AnswersPlaying old pc place new =
     (new.registry ≡ old.registry) × IsAskedOf old.registry old.me pc place new.me
 
--- The caller is one of this registry, whose payloads are the numbers below a bound. It holds no lock,
--- and has no node out.
+-- The caller is one of this registry, whose payloads are the numbers below a bound. It holds no
+-- lock, and has no node out.
 pub record IsReady (bound : ℕ) (registry : WordsData) (me : CallerData) : Type 0 where
   pub table : me.table ≡ registry.table
   pub terms : me.log.terms ≡ registry.terms

@@ -7,8 +7,8 @@ ghost use Rattle.event_script.specs.Text.{round_text, journal_text, answer_lines
 ghost use Rattle.run_engine.specs.Ports.{Rose, Gains, GainsPart};
 ghost use Rattle.run_engine.specs.Played.{IsPlayedThread, IsPlayed};
 
-use crate::threads::ThreadNumber;
 use crate::ports::{Sink, SinkFault};
+use crate::threads::ThreadNumber;
 use event_script::{Answer, EventNumber, Journal, line_count, print_line, print_updates};
 use std::alloc::Global;
 

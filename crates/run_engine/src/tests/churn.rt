@@ -122,7 +122,7 @@ fn look_at(alloc: Global, registry: &Registry, me: &mut Caller) -> Result<Vec<Op
 {
     let mut nodes = Vec::new(alloc);
     for node in 0..NODES {
-        // The words of a node: its kind, which is 2 where it is free, its level, and its high fence.
+        // A node's words: its kind, which is 2 where it is free, its level, and its high fence.
         let kind = registry.words().load_node(me, node, 1);
         let level = registry.words().load_node(me, node, 2);
         let high = registry.words().load_node(me, node, 4);
@@ -158,9 +158,9 @@ fn root_level(nodes: &[Option<Look>]) -> u64 {
 }
 
 impl Counts {
-    /// Counts what an update made of the nodes. The root was lifted or sunk where its level changed;
-    /// else nodes were split or joined where there are more or fewer; else, where a fence is
-    /// another, a registration moved it, and a removal shared two nodes.
+    /// Counts what an update made of the nodes. The root was lifted or sunk where its level
+    /// changed; else nodes were split or joined where there are more or fewer; else, where a fence
+    /// is another, a registration moved it, and a removal shared two nodes.
     fn count(&mut self, change: &Change, before: &[Option<Look>], after: &[Option<Look>]) {
         let (low, high) = (root_level(before), root_level(after));
         let (few, many) = (tree_nodes(before), tree_nodes(after));
