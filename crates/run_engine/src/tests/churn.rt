@@ -36,7 +36,12 @@ fn base_of(place: u64) -> u64 {
 
 /// The images' lines.
 fn put_images(alloc: Global, text: &mut Vec<u8>) -> Result<(), Fail> {
-    for (index, size) in (0..3u64).zip(["40", "90", "180"]) {
+    for index in 0..3u64 {
+        let size = match index {
+            0 => "40",
+            1 => "90",
+            _ => "180",
+        };
         for place in 0..PLACES {
             let number = 1 + index * PLACES + place;
             let base = base_of(place);
@@ -47,6 +52,17 @@ fn put_images(alloc: Global, text: &mut Vec<u8>) -> Result<(), Fail> {
     Ok(())
 }
 
+/// Which of the three images of a place is registered in a turn: short ones most often.
+fn size_at(turn: u64) -> u64
+    ensures { result ≤ 2 }
+{
+    match turn % 5 {
+        3 => 1,
+        4 => 2,
+        _ => 0,
+    }
+}
+
 /// A thread of a round in which more comes than goes: ranges of all sizes at places that are
 /// scattered, and one that is put in the place of another.
 fn put_growth(alloc: Global, text: &mut Vec<u8>, round: u64, thread: u64) -> Result<(), Fail>
@@ -54,12 +70,7 @@ fn put_growth(alloc: Global, text: &mut Vec<u8>, round: u64, thread: u64) -> Res
 {
     for turn in 0..6u64 {
         let place = (round * 37 + thread * 101 + turn * 17) % PLACES;
-        let size = match (round + thread + turn) % 5 {
-            3 => 1,
-            4 => 2,
-            _ => 0,
-        };
-        let image = 1 + size * PLACES + place;
+        let image = 1 + size_at(round + thread + turn) * PLACES + place;
         let base = base_of(place);
         let lines = format!(in alloc; "register {image}\nfind {base:x}\n")?;
         text.extend_from_slice(lines.as_bytes())?;
@@ -157,29 +168,56 @@ fn root_level(nodes: &[Option<Look>]) -> u64 {
     }
 }
 
+/// What an update made of the nodes.
+#[derive(Clone, Copy, PartialEq, Eq)]
+enum Kind {
+    Kept,
+    Split,
+    Joined,
+    Shared,
+    Fence,
+    Lifted,
+    Sunk,
+}
+
+/// The root was lifted or sunk where its level changed; else nodes were split or joined where there
+/// are more or fewer; else, where a fence is another, a registration moved it, and a removal shared
+/// two nodes.
+fn kind_of(change: &Change, before: &[Option<Look>], after: &[Option<Look>]) -> Kind {
+    let (low, high) = (root_level(before), root_level(after));
+    let (few, many) = (tree_nodes(before), tree_nodes(after));
+    if high > low {
+        return Kind::Lifted;
+    }
+    if high < low {
+        return Kind::Sunk;
+    }
+    if many > few {
+        return Kind::Split;
+    }
+    if many < few {
+        return Kind::Joined;
+    }
+    if before == after {
+        return Kind::Kept;
+    }
+    match change {
+        Change::Registered { .. } => Kind::Fence,
+        _ => Kind::Shared,
+    }
+}
+
 impl Counts {
-    /// Counts what an update made of the nodes. The root was lifted or sunk where its level
-    /// changed; else nodes were split or joined where there are more or fewer; else, where a fence
-    /// is another, a registration moved it, and a removal shared two nodes.
-    fn count(&mut self, change: &Change, before: &[Option<Look>], after: &[Option<Look>]) {
-        let (low, high) = (root_level(before), root_level(after));
-        let (few, many) = (tree_nodes(before), tree_nodes(after));
-        let counted = if high > low {
-            &mut self.lifts
-        } else if high < low {
-            &mut self.sinks
-        } else if many > few {
-            &mut self.splits
-        } else if many < few {
-            &mut self.joins
-        } else if before == after {
-            return;
-        } else if matches!(change, Change::Registered { .. }) {
-            &mut self.fences
-        } else {
-            &mut self.shares
-        };
-        *counted = counted.saturating_add(1);
+    fn count(&mut self, kind: Kind) {
+        match kind {
+            Kind::Kept => {}
+            Kind::Split => self.splits = self.splits.saturating_add(1),
+            Kind::Joined => self.joins = self.joins.saturating_add(1),
+            Kind::Shared => self.shares = self.shares.saturating_add(1),
+            Kind::Fence => self.fences = self.fences.saturating_add(1),
+            Kind::Lifted => self.lifts = self.lifts.saturating_add(1),
+            Kind::Sunk => self.sinks = self.sinks.saturating_add(1),
+        }
     }
 }
 
@@ -236,7 +274,7 @@ fn count_again<R: Wait>(
             return Ok(None);
         }
         let after = look_at(alloc, registry, me)?;
-        counts.count(change, &before, &after);
+        counts.count(kind_of(change, &before, &after));
         before = after;
     }
     Ok(Some(counts))
