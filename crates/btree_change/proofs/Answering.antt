@@ -19,7 +19,7 @@ use Rattle.btree_change.specs.declared.stand.Stand.{Stand}
 use Rattle.btree_change.specs.Insertion.{HoldsLeaf, IsInnerLock, PutsMember, RefusesMember, taken_by}
 use Rattle.btree_change.specs.Paths.{AreHigher}
 use Rattle.btree_change.specs.Spines.{AreApart}
-use Rattle.btree_change.specs.Splits.{HasRoom}
+use Rattle.btree_change.specs.Splits.{HasSpace}
 use Rattle.btree_change.proofs.Putting.{leaf_at_zero}
 use Rattle.btree_change.specs.Stands.{AnswersBelow, AnswersHere, AreLeftAs, LetsGo, MayGo, StandsAt}
 use Rattle.btree_change.proofs.Descending.{is_inner}
@@ -49,8 +49,8 @@ unmoved t moved level (h ∷ held) all = (record { node = refl; spells = all.0.s
     or_left true b e = e
     or_left false b e = refl
 
-pub leaf_room : (t : Terms) (at : Held) (holdings : Holdings) → StandsAt t at holdings → at.content.level ≡ 0 → HasRoom at.content.body → length (entries_of at.content) < 10
-leaf_room t at holdings s level room = subst HasRoom (leaf_at_zero at.content (settled_live t at.node at.content at.changed s.lock s.here).1.1.ordered level) room
+pub leaf_room : (t : Terms) (at : Held) (holdings : Holdings) → StandsAt t at holdings → at.content.level ≡ 0 → HasSpace at.content.body → length (entries_of at.content) < 10
+leaf_room t at holdings s level room = subst HasSpace (leaf_at_zero at.content (settled_live t at.node at.content at.changed s.lock s.here).1.1.ordered level) room
 
 module _ (t : Terms) (m : Member) (at : Held) (k : CallerData) (stands : StandsAt t at k.log.holdings) where
   above_is : drop 1 k.log.holdings.held ≡ stands.above

@@ -29,7 +29,7 @@ use Rattle.btree_change.specs.Insertion.{AnswersInsertion, Inserts, call_begun, 
 use Rattle.btree_change.specs.Paths.{AreHigher, HoldsNothing, StepsOnNodes}
 use Rattle.btree_change.specs.Roots.{EndsInsertion, GivesUpWhole}
 use Rattle.btree_change.specs.Splits.{HoldsFullAlone, HoldsFullRoot, KeepsHeld, LiftsRoot, TakesTwo, with_release_less}
-use Rattle.btree_change.specs.Stands.{AnswersBelow, AreLeftAs, GivesUpBelow, HasWayOn, HoldsPair, HoldsRoot, LetsGo, MayGo, Reaches, SpendsCall, SpendsSteps, Stands, StandsAt, releases_at}
+use Rattle.btree_change.specs.Stands.{AnswersBelow, AreLeftAs, GivesUpBelow, HasWayOn, HoldsPair, HoldsRoot, LetsGo, MayGo, Reaches, SpendsCall, SpendsSteps, StandsOnWay, StandsAt, releases_at}
 use Rattle.btree_change.specs.Updates.{AnswersUpdate, GivesUp}
 use Rattle.btree_change.proofs.Lowering.{keeps_none, settled_live}
 use Rattle.btree_change.proofs.Spending.{own_same, right_after, right_before, spends_after, spends_before, spends_same, steps_after, surplus_after}
@@ -51,7 +51,7 @@ root_stands t root holdings h = record {
 pub root_here : (t : Terms) (root : Held) (m : Member) (holdings : Holdings) → HoldsRoot t root holdings → IsSpan m.span → IsInFences m.span.first root.content
 root_here t root m holdings h span = let l = h.low in let u = h.high in let o = span.ordered in let b = span.below_top in (omega (arith, l), omega (arith, u, o, b))
 
-pub root_stand : (t : Terms) (root : Held) (way : Room) (m : Member) (v : Log) → HoldsRoot t root v.holdings → IsSpan m.span → HasWayOn way m.span.first root.content v → Stands t m (record { at = root; beyond = None; room = way }) v
+pub root_stand : (t : Terms) (root : Held) (way : Room) (m : Member) (v : Log) → HoldsRoot t root v.holdings → IsSpan m.span → HasWayOn way m.span.first root.content v → StandsOnWay t m (record { at = root; beyond = None; room = way }) v
 root_stand t root way m v h span on = record {
   at = root_stands t root v.holdings h;
   here = root_here t root m v.holdings h span;
@@ -77,7 +77,7 @@ full_alone t root m holdings h span full = record {
   out = h.out;
 }
 
-pub level_most : (t : Terms) (m : Member) (stand : Stand) (v : Log) → Stands t m stand v → stand.at.node ≡ 0 → stand.at.content.level ≤ 12
+pub level_most : (t : Terms) (m : Member) (stand : Stand) (v : Log) → StandsOnWay t m stand v → stand.at.node ≡ 0 → stand.at.content.level ≤ 12
 level_most t m stand v s root = (settled_live t stand.at.node stand.at.content stand.at.changed s.at.lock s.at.here).1.1.height root
 
 none_left : (moved : ℕ) (held : List Holding) → AreLeftAs moved [] held → held ≡ []

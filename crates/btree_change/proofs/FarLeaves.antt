@@ -36,8 +36,8 @@ use Rattle.btree_change.specs.Far.{AnswersAbove, IsAtNext, IsReadyFar, LeavesFar
 use Rattle.btree_change.specs.Insertion.{HoldsLeaf, IsInnerLock, PutsMember, RefusesMember, taken_by}
 use Rattle.btree_change.specs.Paths.{AreHigher, IsSettledLock, StepsOnNodes}
 use Rattle.btree_change.specs.Spines.{AreApart, AreMovedLocks, HoldsLeafPair, HoldsNext, HoldsWay, KeepsLoads, MovesFence}
-use Rattle.btree_change.specs.Splits.{HasRoom}
-use Rattle.btree_change.specs.Stands.{AnswersBelow, AreLeftAs, GivesUpBelow, HasWayOn, IsBeyond, LetsGo, MayGo, SpendsCall, SpendsSteps, StandsAt}
+use Rattle.btree_change.specs.Splits.{HasSpace}
+use Rattle.btree_change.specs.Stands.{AnswersBelow, AreLeftAs, GivesUpBelow, HasWayOn, LiesBeyond, LetsGo, MayGo, SpendsCall, SpendsSteps, StandsAt}
 use Rattle.btree_change.proofs.Answering.{inner_above, leaf_room, unmoved}
 use Rattle.btree_change.proofs.Descending.{steps_of_read, steps_then}
 use Rattle.btree_change.proofs.Going.{apart_left, far_left, way_lowered}
@@ -386,8 +386,8 @@ module _ (t : Terms) (m : Member) (far : Far) (k : CallerData) (stands : StandsF
   -- and the next leaf was locked
   module _ (right : Held) (k1 : CallerData) (next : HoldsNext t far.beyond.node far.beyond.slot k1.log.holdings) (is : next.base ≡ k.log.holdings) (node : next.right.node ≡ right.node) (content : next.right.settled ≡ right.content) (pair : HoldsLeafPair far.leaf.node far.leaf.content right.node right.content k1.log.holdings) (place : (place : Frame) × IsLiveNode t right.node right.content place)
       (same : StepsOnNodes k k1) (loads : KeepsLoads k k1) (free : IsFree m.span (entries_of far.leaf.content)) where
-    abbrev pub both : (s : StandsAt t far.leaf next.base) × IsBeyond t far.beyond s.lock s.above
-    both = subst (λ hs. (s : StandsAt t far.leaf hs) × IsBeyond t far.beyond s.lock s.above) (sym is) (stands.at, stands.reach.1)
+    abbrev pub both : (s : StandsAt t far.leaf next.base) × LiesBeyond t far.beyond s.lock s.above
+    both = subst (λ hs. (s : StandsAt t far.leaf hs) × LiesBeyond t far.beyond s.lock s.above) (sym is) (stands.at, stands.reach.1)
 
     abbrev pub at_next_so : IsAtNext t m (record { far = far; right = right }) k1.log
     at_next_so = record {

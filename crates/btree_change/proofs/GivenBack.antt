@@ -15,7 +15,7 @@ use Rattle.word_rule.specs.declared.log.Log.{Log}
 use Rattle.node_store.specs.Free.{GivesFree, after_linking, after_setting, held_word}
 use Rattle.word_rule.proofs.Exchanges.{spelled_decides}
 use Rattle.btree_change.specs.Removing.{Spends}
-use Rattle.btree_change.specs.Siblings.{GivesBack, IsGoneOrSettled}
+use Rattle.btree_change.specs.Siblings.{ReturnsNode, IsGoneOrSettled}
 use Rattle.btree_change.proofs.LeafCommits.{all_nothing}
 use Rattle.btree_change.proofs.LettingGo.{ExchangeLaw}
 
@@ -162,7 +162,7 @@ frees_only law n v all = ap (λ b. if b then after_exchange v (top_of v None) (i
         let grouped = ((law v None).0 e).change.change.top_grouped in
         absurd (true≢false (sym grouped ∙ ap (λ hs. is_among (map node_of hs) (top_of v None)) none_changed))
 
-pub given_back : ExchangeLaw → (n : ℕ) (k k' : CallerData) → AllByRecursion (IsGoneOrSettled n) k.log.holdings.held → GivesFree n k k' → GivesBack n k k'
+pub given_back : ExchangeLaw → (n : ℕ) (k k' : CallerData) → AllByRecursion (IsGoneOrSettled n) k.log.holdings.held → GivesFree n k k' → ReturnsNode n k k'
 given_back law n k k' all (head, is) =
     let v = after_linking n head k.log in
     let there = linked_there n head k.log all in
@@ -170,7 +170,7 @@ given_back law n k k' all (head, is) =
     let free : settle None w ≡ settle_free w = frees_only law n w there.ready in
     let equal : k' ≡ record k { log = record (after_node_release_same n (settle_free w)) { budget = after_spending w.budget } } = is ∙ ap (λ (z : Log). record k { log = record (after_node_release_same n z) { budget = after_spending z.budget } }) free in
     let p = there.spends k in
-    subst (GivesBack n k) (sym equal) (record {
+    subst (ReturnsNode n k) (sym equal) (record {
       spends = record {
         table = refl;
         left = refl;

@@ -22,7 +22,7 @@ use Rattle.btree_change.specs.declared.stand.Step.{Step}
 use Rattle.btree_change.specs.Insertion.{taken_by}
 use Rattle.btree_change.specs.Paths.{AreHigher, StepsOnNodes}
 use Rattle.btree_change.specs.Spines.{AreApart, Climbs, KeepsLoads}
-use Rattle.btree_change.specs.Stands.{AnswersBelow, AreLeftAs, GivesUpBelow, GoesBelow, HasSplit, HasWayOn, HoldsPair, HoldsStep, IsBeyond, IsLeftAs, LetsGo, MayGo, Reaches, SpendsSteps, Stands, StandsAt, releases_at}
+use Rattle.btree_change.specs.Stands.{AnswersBelow, AreLeftAs, GivesUpBelow, GoesBelow, HasSplit, HasWayOn, HoldsPair, HoldsStep, LiesBeyond, IsLeftAs, LetsGo, MayGo, Reaches, SpendsSteps, StandsOnWay, StandsAt, releases_at}
 use Rattle.btree_change.proofs.Lowering.{keeps_none}
 use Rattle.btree_change.proofs.Spending.{own_same, right_after, right_before, spends_after, spends_before, spends_same, steps_after, surplus_after}
 use Rattle.btree_change.proofs.Standing.{higher_spelled, may_go, way_kept}
@@ -32,7 +32,7 @@ pub way_lowered : (way : Room) (pc : ℕ) (s : NodeData) (k l : CallerData) → 
 way_lowered way pc s k l steps (more, is) on = way_kept way pc s k.log l.log (ap (λ r. r.own) steps.receipts) more is on
 
 -- the node above both leaves depends on a lock's node and level alone
-pub beyond_same : (t : Terms) (b : Beyond) (a c : Holding) (above : List Holding) → c.node ≡ a.node → c.settled.level ≡ a.settled.level → IsBeyond t b a above → IsBeyond t b c above
+pub beyond_same : (t : Terms) (b : Beyond) (a c : Holding) (above : List Holding) → c.node ≡ a.node → c.settled.level ≡ a.settled.level → LiesBeyond t b a above → LiesBeyond t b c above
 beyond_same t b a c above node level is = record {
   spine = is.spine;
   top = is.top;
@@ -52,7 +52,7 @@ pub reaches_same : (t : Terms) (last : ℕ) (s u : NodeData) (o : Option Beyond)
 reaches_same t last s u None a c above node level frame r = let e = ap (λ (f : Frame). f.high) frame in omega (arith, e, r)
 reaches_same t last s u (Some b) a c above node level frame r = ((let e = ap (λ (f : Frame). f.high) frame in let l = r.0 in omega (arith, e, l)), beyond_same t b a c above node level r.1)
 
-module _ (t : Terms) (m : Member) (stand : Stand) (k : CallerData) (stands : Stands t m stand k.log) (inner : 0 < stand.at.content.level) where
+module _ (t : Terms) (m : Member) (stand : Stand) (k : CallerData) (stands : StandsOnWay t m stand k.log) (inner : 0 < stand.at.content.level) where
   abbrev above : List Holding
   above = drop 1 k.log.holdings.held
 
@@ -110,7 +110,7 @@ module _ (t : Terms) (m : Member) (stand : Stand) (k : CallerData) (stands : Sta
     }
 
     -- it stands below now
-    pub gone_below : (after : Step) (k2 : CallerData) → (s : HasSplit t m.span.first step after k1 k2) → (passage : Passage) (k3 : CallerData) → Stands t m passage.stand k3.log → passage.stand.at ≡ after.child → passage.changed ≡ after.parent.changed → StepsOnNodes k2 k3 → k3.log.holdings ≡ k2.log.holdings → GoesBelow t m stand passage k k3
+    pub gone_below : (after : Step) (k2 : CallerData) → (s : HasSplit t m.span.first step after k1 k2) → (passage : Passage) (k3 : CallerData) → StandsOnWay t m passage.stand k3.log → passage.stand.at ≡ after.child → passage.changed ≡ after.parent.changed → StepsOnNodes k2 k3 → k3.log.holdings ≡ k2.log.holdings → GoesBelow t m stand passage k k3
     gone_below after k2 s passage k3 on at changed same holdings = record {
       stands = on;
       lower = s.pair.lower;

@@ -20,7 +20,7 @@ use Rattle.btree_change.specs.declared.descent.Held.{Held}
 use Rattle.btree_change.specs.declared.lift.FullRoot.{FullRoot}
 use Rattle.btree_change.specs.declared.split.Split.{Split}
 use Rattle.btree_change.specs.Paths.{HasChildFor, IsSettledLock, StepsOnNodes}
-use Rattle.btree_change.specs.Splits.{HasRoom, HoldsFullRoot, IsHeldAs, LiftsRoot, half_for, other_half, root_for, root_parts_for, with_release_less}
+use Rattle.btree_change.specs.Splits.{HasSpace, HoldsFullRoot, IsHeldAs, LiftsRoot, half_for, other_half, root_for, root_parts_for, with_release_less}
 use Rattle.btree_change.proofs.Descending.{steps_then}
 use Rattle.btree_change.proofs.Descents.{steps_of_load}
 use Rattle.btree_change.proofs.HeldParts.{AreFar, dropped, is_first, is_second, is_third, told_place}
@@ -45,7 +45,7 @@ record Ends (t : Terms) (full : FullRoot) (pc : ℕ) (held : List Holding) (uppe
   pub here : IsInFences pc way.content
   pub leads : HasChildFor (root_parts_for full).above pc way.node
   pub lower : way.content.level < (root_parts_for full).above.level
-  pub room : HasRoom way.content.body
+  pub room : HasSpace way.content.body
 
 module _ (laws : SettlingLaws) (t : Terms) (full : FullRoot) (pc : ℕ) (f : Contents) (live : ℕ → Bool) (g : Contents) (k k' : CallerData) (w : IsLiftWritten t full f live g k k') (hs : Holdings) (h : HoldsFullRoot t full pc hs) where
   abbrev reached : List ℕ
@@ -193,6 +193,6 @@ module _ (laws : SettlingLaws) (t : Terms) (full : FullRoot) (pc : ℕ) (f : Con
         here = subst (λ (z : Held). IsInFences pc z.content) (sym way_is) ends.here;
         leads = subst (λ (z : Held). HasChildFor split.parent.content pc z.node) (sym way_is) (subst (λ (z : Held). HasChildFor z.content pc way.node) (sym parent_is) ends.leads);
         lower_level = subst (λ (z : Held). z.content.level < split.parent.content.level) (sym way_is) (subst (λ (z : Held). way.content.level < z.content.level) (sym parent_is) ends.lower);
-        room = subst (λ (z : Held). HasRoom z.content.body) (sym way_is) ends.room;
+        room = subst (λ (z : Held). HasSpace z.content.body) (sym way_is) ends.room;
         same = steps7;
       }

@@ -16,7 +16,7 @@ use Rattle.word_rule.specs.declared.log.Holdings.{Holdings}
 use Rattle.word_rule.specs.declared.log.Terms.{Terms}
 use Rattle.btree_change.specs.Paths.{StepsOnNodes}
 use Rattle.btree_change.specs.Removing.{IsBeside, Spends}
-use Rattle.btree_change.specs.Siblings.{GivesBack, HoldsGone, HoldsSiblings, HoldsUnder, IsGoneOrSettled, MendsSiblings, both_of}
+use Rattle.btree_change.specs.Siblings.{ReturnsNode, HoldsGone, HoldsSiblings, HoldsUnder, IsGoneOrSettled, MendsSiblings, both_of}
 use Rattle.btree_change.specs.declared.sibling.Siblings.{Siblings}
 use Rattle.btree_change.proofs.Pairings.{IsBesideLock, beside_each, both_all, both_high, both_more, each_more, first_found, here}
 use Rattle.btree_change.proofs.Releases.{spends_then}
@@ -135,7 +135,7 @@ module _ (t : Terms) (x : Siblings) (k : CallerData) (gone : HoldsGone t x k.log
   pub gone_out : IsTrue (is_among k.log.holdings.out x.right.node)
   gone_out = subst (λ os. IsTrue (is_among os x.right.node)) (sym gone.out) (here x.right.node [])
 
-  pub settled_back : (k' : CallerData) → GivesBack x.right.node k k' → AreSettled x.above.at.node x.left.node (joined x.left.content x.right.content) x.above.root_changed k'.log.holdings
+  pub settled_back : (k' : CallerData) → ReturnsNode x.right.node k k' → AreSettled x.above.at.node x.left.node (joined x.left.content x.right.content) x.above.root_changed k'.log.holdings
   settled_back k' back = record {
     lower = gone.low;
     upper = gone.upper;
@@ -155,7 +155,7 @@ module _ (t : Terms) (x : Siblings) (k : CallerData) (gone : HoldsGone t x k.log
     out = back.out ∙ (ap (all_but x.right.node) gone.out ∙ ap (λ b. cond (not b) (x.right.node ∷ []) []) (eq-eqb x.right.node x.right.node refl));
   }
 
-pub joins_so : (t : Terms) (x : Siblings) (k k1 k2 k3 : CallerData) (found : ℕ) (way : NodeData) → k.log.terms ≡ t → HoldsSiblings t x k.log.holdings → HoldsGone t x k1.log.holdings → StepsOnNodes k k1 → GivesBack x.right.node k1 k2 → HolderTells x.left.node k2.log → k3 ≡ record k2 { log = after_node_load x.left.node 2 found k2.log } → way ≡ joined x.left.content x.right.content → MendsSiblings t x (record { node = x.left.node; content = way; changed = true }) k k3
+pub joins_so : (t : Terms) (x : Siblings) (k k1 k2 k3 : CallerData) (found : ℕ) (way : NodeData) → k.log.terms ≡ t → HoldsSiblings t x k.log.holdings → HoldsGone t x k1.log.holdings → StepsOnNodes k k1 → ReturnsNode x.right.node k1 k2 → HolderTells x.left.node k2.log → k3 ≡ record k2 { log = after_node_load x.left.node 2 found k2.log } → way ≡ joined x.left.content x.right.content → MendsSiblings t x (record { node = x.left.node; content = way; changed = true }) k k3
 joins_so t x k k1 k2 k3 found way terms hs gone steps back tells loads is =
     subst (λ z. MendsSiblings t x (record { node = x.left.node; content = z; changed = true }) k k3) (sym is) (record {
       holds = under_so t x.above.at.node x.left.node (joined x.left.content x.right.content) x.above.root_changed k2 k3 found hs.left_within gone.no_root.0 gone.no_parent.0 (back.spends.terms ∙ (steps.terms ∙ terms)) (settled_back t x k1 gone k2 back) tells loads;

@@ -22,7 +22,7 @@ use Rattle.node_store.specs.Holding.{ReadsHeld}
 use Rattle.node_store.specs.Locking.{Locks}
 use Rattle.btree_change.specs.Paths.{IsSettledLock}
 use Rattle.btree_change.specs.Removing.{HoldsLocks}
-use Rattle.btree_change.specs.Siblings.{HoldsChild, HoldsSiblings, IsBetween}
+use Rattle.btree_change.specs.Siblings.{HoldsChild, HoldsSiblings, IsInEither}
 use Rattle.btree_change.specs.declared.sibling.Child.{Child}
 use Rattle.btree_change.specs.declared.sibling.Siblings.{Siblings}
 use Rattle.btree_change.specs.declared.descent.Held.{Held}
@@ -158,7 +158,7 @@ module _ (t : Terms) (child : Child) (pc first beside : ℕ) (q : Pair) (k k1 k2
   abbrev other : Held
   other = record { node = q.child; content = shape; changed = false }
 
-  pub right_so : first ≡ child.slot → beside ≡ first + 1 → HoldsSiblings t (record { above = child.above; left = child.at; right = record { node = q.child; content = shape; changed = false }; slot = first }) k3.log.holdings × IsBetween pc (record { above = child.above; left = child.at; right = record { node = q.child; content = shape; changed = false }; slot = first })
+  pub right_so : first ≡ child.slot → beside ≡ first + 1 → HoldsSiblings t (record { above = child.above; left = child.at; right = record { node = q.child; content = shape; changed = false }; slot = first }) k3.log.holdings × IsInEither pc (record { above = child.above; left = child.at; right = record { node = q.child; content = shape; changed = false }; slot = first })
   right_so is next_is =
       let l : Pair = pair child.at.node child.at.content.high in
       let at_first : slice_get (pairs_of child.above.at.content) first ≡ Some (pair child.at.node child.at.content.high) = ap (slice_get (pairs_of child.above.at.content)) is ∙ h.at in
@@ -192,7 +192,7 @@ module _ (t : Terms) (child : Child) (pc first beside : ℕ) (q : Pair) (k k1 k2
         (h.fences.0, (let a = h.fences.1 in let b = fm.right_order in omega (arith, a, b, high))),
       )
 
-  pub left_so : first + 1 ≡ child.slot → beside ≡ first → HoldsSiblings t (record { above = child.above; left = record { node = q.child; content = shape; changed = false }; right = child.at; slot = first }) k3.log.holdings × IsBetween pc (record { above = child.above; left = record { node = q.child; content = shape; changed = false }; right = child.at; slot = first })
+  pub left_so : first + 1 ≡ child.slot → beside ≡ first → HoldsSiblings t (record { above = child.above; left = record { node = q.child; content = shape; changed = false }; right = child.at; slot = first }) k3.log.holdings × IsInEither pc (record { above = child.above; left = record { node = q.child; content = shape; changed = false }; right = child.at; slot = first })
   left_so is first_is =
       let r : Pair = pair child.at.node child.at.content.high in
       let at_first : slice_get (pairs_of child.above.at.content) first ≡ Some q = ap (slice_get (pairs_of child.above.at.content)) (sym first_is) ∙ at in
@@ -230,18 +230,18 @@ module _ (t : Terms) (child : Child) (pc first beside : ℕ) (q : Pair) (k k1 k2
 
   pub siblings_so : (x : Siblings) → x.above ≡ child.above → x.slot ≡ first → ((first ≡ child.slot) × (x.left ≡ child.at) × (x.right ≡ record { node = q.child; content = shape; changed = false })) ⊎ ((first ≢ child.slot) × (x.left ≡ record { node = q.child; content = shape; changed = false }) × (x.right ≡ child.at))
       → ((first ≡ child.slot) × (beside ≡ first + 1)) ⊎ ((first ≢ child.slot) × (beside ≡ first))
-      → HoldsSiblings t x k3.log.holdings × IsBetween pc x × (x.above ≡ child.above) × ((x.left ≡ child.at) ⊎ (x.right ≡ child.at))
+      → HoldsSiblings t x k3.log.holdings × IsInEither pc x × (x.above ≡ child.above) × ((x.left ≡ child.at) ⊎ (x.right ≡ child.at))
   siblings_so x above slot (inl (e, left, right)) (inl (same', next_is)) =
       let made = right_so e next_is in
       let is = siblings_are x child.above child.at other first above left right slot in
-      (subst (λ z. HoldsSiblings t z k3.log.holdings) is made.0, subst (IsBetween pc) is made.1, above, inl left)
+      (subst (λ z. HoldsSiblings t z k3.log.holdings) is made.0, subst (IsInEither pc) is made.1, above, inl left)
   siblings_so x above slot (inl (e, left, right)) (inr (far, b)) = absurd (far e)
   siblings_so x above slot (inr (far, left, right)) (inl (same', next_is)) = absurd (far same')
   siblings_so x above slot (inr (far, left, right)) (inr (far', b)) = by_near near
     where
-      by_near : (first ≡ child.slot) ⊎ (first + 1 ≡ child.slot) → HoldsSiblings t x k3.log.holdings × IsBetween pc x × (x.above ≡ child.above) × ((x.left ≡ child.at) ⊎ (x.right ≡ child.at))
+      by_near : (first ≡ child.slot) ⊎ (first + 1 ≡ child.slot) → HoldsSiblings t x k3.log.holdings × IsInEither pc x × (x.above ≡ child.above) × ((x.left ≡ child.at) ⊎ (x.right ≡ child.at))
       by_near (inl e) = absurd (far e)
       by_near (inr e) =
           let made = left_so e b in
           let is = siblings_are x child.above other child.at first above left right slot in
-          (subst (λ z. HoldsSiblings t z k3.log.holdings) is made.0, subst (IsBetween pc) is made.1, above, inr right)
+          (subst (λ z. HoldsSiblings t z k3.log.holdings) is made.0, subst (IsInEither pc) is made.1, above, inr right)

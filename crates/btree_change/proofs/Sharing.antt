@@ -27,7 +27,7 @@ use Rattle.node_store.specs.Holding.{SpellsHeld, WritesHeld}
 use Rattle.btree_change.specs.Paths.{StepsOnNodes}
 use Rattle.btree_change.specs.Removing.{Spends}
 use Rattle.btree_change.specs.Shares.{IsChosen, shares_for}
-use Rattle.btree_change.specs.Siblings.{HoldsSiblings, IsBetween, MendsSiblings, both_of, is_small_body}
+use Rattle.btree_change.specs.Siblings.{HoldsSiblings, IsInEither, MendsSiblings, both_of, is_small_body}
 use Rattle.btree_change.specs.declared.mending.Chosen.{Chosen}
 use Rattle.btree_change.specs.declared.sibling.Siblings.{Siblings}
 use Rattle.btree_change.specs.declared.descent.Held.{Held}
@@ -292,7 +292,7 @@ module _ (t : Terms) (x : Siblings) (k k1 : CallerData) (found : ℕ) (hs : Hold
           out = refl;
         })
 
-        pub shares_so : (pc : ℕ) (c : Chosen) (k5 k6 : CallerData) (seen : ℕ) → k.log.terms ≡ t → IsBetween pc x → IsChosen x pc c → k5 ≡ record k4 { log = after_node_release c.other k4.log } → HolderTells c.way.node k5.log → k6 ≡ record k5 { log = after_node_load c.way.node 2 seen k5.log } → MendsSiblings t x c.way k k6 × IsInFences pc c.way.content
+        pub shares_so : (pc : ℕ) (c : Chosen) (k5 k6 : CallerData) (seen : ℕ) → k.log.terms ≡ t → IsInEither pc x → IsChosen x pc c → k5 ≡ record k4 { log = after_node_release c.other k4.log } → HolderTells c.way.node k5.log → k6 ≡ record k5 { log = after_node_load c.way.node 2 seen k5.log } → MendsSiblings t x c.way k k6 × IsInFences pc c.way.content
         shares_so pc c k5 k6 seen terms between (inl (way, other, below)) lets tells loads' =
             let lets' = subst (λ m. k5 ≡ record k4 { log = after_node_release m k4.log }) other lets in
             let node : c.way.node ≡ l = ap (λ (z : Held). z.node) way in

@@ -11,7 +11,7 @@ use Rattle.word_rule.specs.Spelling.{SpellsNode}
 use Rattle.word_rule.specs.declared.log.Holdings.{Holdings}
 use Rattle.word_rule.specs.declared.log.Terms.{Terms}
 use Rattle.btree_change.specs.Paths.{StepsOnNodes}
-use Rattle.btree_change.specs.Siblings.{GivesBack, HoldsSiblings, HoldsSunk, IsGoneOrSettled, SinksRoot, sunk_root}
+use Rattle.btree_change.specs.Siblings.{ReturnsNode, HoldsSiblings, HoldsSunk, IsGoneOrSettled, SinksRoot, sunk_root}
 use Rattle.btree_change.specs.declared.sibling.Siblings.{Siblings}
 use Rattle.btree_change.proofs.Mended.{loaded_none, spends_none, without_low}
 use Rattle.btree_change.proofs.Pairings.{both_all, both_low, both_more, first_found}
@@ -36,7 +36,7 @@ module _ (x : Siblings) (k : CallerData) (gone : HoldsSunk x k.log.holdings) whe
       ((λ e. absurd (high_far e)), (λ _. gone.right_spells))
       (((λ e. absurd (upper_far x.left.node gone.no_root.0 e)), (λ _. gone.spells)), tt))
 
-  module _ (k1 : CallerData) (back : GivesBack x.left.node k k1) where
+  module _ (k1 : CallerData) (back : ReturnsNode x.left.node k k1) where
     held1 : k1.log.holdings.held ≡ gone.high ∷ gone.upper ∷ []
     held1 = back.held ∙ (ap (without_lock x.left.node) gone.held ∙ without_low gone.left_first gone.low gone.high (gone.upper ∷ []) x.left.node gone.left high_far (upper_far x.left.node gone.no_root.0, tt))
 
@@ -52,7 +52,7 @@ module _ (x : Siblings) (k : CallerData) (gone : HoldsSunk x k.log.holdings) whe
     pub right_is_out : IsTrue (is_among k1.log.holdings.out x.right.node)
     right_is_out = subst (λ os. IsTrue (is_among os x.right.node)) (sym back.out) gone.right_out
 
-    module _ (k2 : CallerData) (again : GivesBack x.right.node k1 k2) where
+    module _ (k2 : CallerData) (again : ReturnsNode x.right.node k1 k2) where
       held2 : k2.log.holdings.held ≡ gone.upper ∷ []
       held2 = again.held ∙ (ap (without_lock x.right.node) held1 ∙ without_low true gone.high gone.upper [] x.right.node gone.right (upper_far x.right.node gone.no_root.1) tt)
 

@@ -23,7 +23,7 @@ use Rattle.btree_change.specs.declared.descent.Held.{Held}
 use Rattle.btree_change.specs.declared.split.FullChild.{FullChild}
 use Rattle.btree_change.specs.declared.split.Split.{Split}
 use Rattle.btree_change.specs.Paths.{HasChildFor, IsSettledLock, StepsOnNodes}
-use Rattle.btree_change.specs.Splits.{HasRoom, HoldsFullChild, IsHeldAs, SplitsChild, half_for, other_half, parent_for, parts_for, with_release_less}
+use Rattle.btree_change.specs.Splits.{HasSpace, HoldsFullChild, IsHeldAs, SplitsChild, half_for, other_half, parent_for, parts_for, with_release_less}
 use Rattle.btree_change.proofs.Descending.{steps_then}
 use Rattle.btree_change.proofs.Descents.{steps_of_load}
 use Rattle.btree_change.proofs.HeldParts.{AreFar, dropped, is_first, is_second, is_third, told_place}
@@ -69,7 +69,7 @@ less_release_then a b same = record {
 pub record IsHalf (pc : ℕ) (full : FullChild) (way : Held) : Type 0 where
   pub here : IsInFences pc way.content
   pub level : way.content.level < full.parent.content.level
-  pub room : HasRoom way.content.body
+  pub room : HasSpace way.content.body
 
 pub half_is : (t : Terms) (full : FullChild) (pc : ℕ) (hs : Holdings) (h : HoldsFullChild t full pc hs) (tree : KnowsTree hs) → IsHalf pc full (half_for full.child.node full.fresh pc full.child.content)
 half_is t full pc hs h tree = go (nat_le pc (middle_fence full.child.content)) refl
@@ -229,6 +229,6 @@ module _ (laws : SettlingLaws) (t : Terms) (full : FullChild) (pc : ℕ) (f : Co
         here = subst (λ (z : Held). IsInFences pc z.content) (sym way_is) half.here;
         leads = subst (λ (z : Held). HasChildFor split.parent.content pc z.node) (sym way_is) (subst (λ (z : Held). HasChildFor z.content pc way.node) (sym parent_is) (leads_on t full pc hs h tree));
         lower_level = subst (λ (z : Held). z.content.level < full.parent.content.level) (sym way_is) half.level;
-        room = subst (λ (z : Held). HasRoom z.content.body) (sym way_is) half.room;
+        room = subst (λ (z : Held). HasSpace z.content.body) (sym way_is) half.room;
         same = steps7;
       }

@@ -9,7 +9,7 @@ use Rattle.tree_shape.specs.NodeData.{NodeData, Body, Pairs, Entries, Link, Cut,
 use Rattle.tree_shape.specs.Steps.{IsFull, middle, middle_fence}
 use Rattle.tree_shape.specs.Trees.{Branch, branch, branches_from}
 use Rattle.node_store.specs.Writing.{kind_of_body}
-use Rattle.btree_change.specs.Splits.{HasRoom}
+use Rattle.btree_change.specs.Splits.{HasSpace}
 
 -- a child begins at or above where the pairs begin
 begins : (level low high : ℕ) (pairs : List Pair) (b : Branch) → Cut low high pairs → Contains (branches_from level low pairs) b → low ≤ b.frame.low
@@ -65,8 +65,8 @@ pub record AreHalves (body : Body) : Type 0 where
   pub left_kind : kind_of_body (first_part (middle body) body) ≢ 2
   pub right_kind : kind_of_body (last_part (middle body) body) ≢ 2
   pub less : size (first_part (middle body) body) < size body
-  pub left_room : HasRoom (first_part (middle body) body)
-  pub right_room : HasRoom (last_part (middle body) body)
+  pub left_room : HasSpace (first_part (middle body) body)
+  pub right_room : HasSpace (last_part (middle body) body)
 
 pub are_halves : (body : Body) → IsFull body → AreHalves body
 are_halves (Pairs pairs) full =

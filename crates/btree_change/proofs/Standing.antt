@@ -33,7 +33,7 @@ use Rattle.btree_change.specs.declared.stand.Room.TheVariants as room
 use Rattle.btree_change.specs.declared.stand.Stand.{Stand}
 use Rattle.btree_change.specs.Paths.{AreHigher, HasChildFor, IsLiveLock, IsSettledLock}
 use Rattle.btree_change.specs.Spines.{AreApart, Climbs, KeepsLoads}
-use Rattle.btree_change.specs.Stands.{HasWayOn, HoldsPair, IsBeyond, IsReach, MayGo, Reaches, Stands, StandsAt}
+use Rattle.btree_change.specs.Stands.{HasWayOn, HoldsPair, LiesBeyond, IsReach, MayGo, Reaches, StandsOnWay, StandsAt}
 use Rattle.btree_change.proofs.HeldTrees.{IsChild, OnTree, apart_with, child, child_frame, inner, on_tree}
 use Rattle.btree_change.proofs.Spending.{room_kept}
 
@@ -196,7 +196,7 @@ module _ (t : Terms) (pc last : ℕ) (parent below : Held) (above : List Holding
               let most : last ≤ parent.content.high = subst (λ o. Reaches t last parent.content o pair.upper above) e before in
               let a = ends.0 in let c = last_is.1 in let d = ap (λ (s : NodeData). s.high) pair.parent_is.settled in absurd (omega (arith, most, a, c, d))
           by (Some x) e =
-              let told : (parent.content.high < last) × IsBeyond t x pair.upper above = subst (λ o. Reaches t last parent.content o pair.upper above) e before in
+              let told : (parent.content.high < last) × LiesBeyond t x pair.upper above = subst (λ o. Reaches t last parent.content o pair.upper above) e before in
               subst (λ o. Reaches t last below.content o pair.lower (pair.upper ∷ above)) (sym (ends.2 ∙ e)) (
                 (let a = ends.0 in omega (arith, a, high)),
                 record {
@@ -237,12 +237,12 @@ way_kept room.NoneFree pc s v w own more is h = subst (λ xs. HadNoRoom pc (leng
 
 -- and so is where an insertion stands
 pub stands_after : (t : Terms) (m : Member) (parent below : Held) (way : Room) (so_far found : Option Beyond) (above : List Holding) (at word : ℕ) (k k' : CallerData) → (pair : HoldsPair t m.span.first parent below above k.log.holdings) → KnowsTree k.log.holdings → HasWayOn way m.span.first below.content k.log → IsReach parent m.span.first m.span.last so_far found → Reaches t m.span.last parent.content so_far pair.upper above
-    → k' ≡ record k { log = after_node_load below.node at word k.log } → Stands t m (record { at = below; beyond = found; room = way }) k'.log
+    → k' ≡ record k { log = after_node_load below.node at word k.log } → StandsOnWay t m (record { at = below; beyond = found; room = way }) k'.log
 stands_after t m parent below way so_far found above at word k k' pair tree on is_reach before is =
     let same : k'.log.holdings ≡ k.log.holdings = ap (λ (z : CallerData). z.log.holdings) is in
     let here = stands_below t m.span.first m.span.last parent below above k.log.holdings pair tree in
     let reach = reaches_below t m.span.first m.span.last parent below above k.log.holdings pair tree so_far found is_reach before in
-    subst (λ (z : CallerData). Stands t m (record { at = below; beyond = found; room = way }) z.log) (sym is) (record {
+    subst (λ (z : CallerData). StandsOnWay t m (record { at = below; beyond = found; room = way }) z.log) (sym is) (record {
       at = here;
       here = pair.here;
       reach = reach;

@@ -18,7 +18,7 @@ use Rattle.btree_change.specs.declared.stand.Room.{Room}
 use Rattle.btree_change.specs.declared.stand.Room.TheVariants as room
 use Rattle.btree_change.specs.declared.stand.Step.{Step}
 use Rattle.btree_change.specs.Paths.{AreHigher, IsSettledLock, StepsOnNodes}
-use Rattle.btree_change.specs.Splits.{HasRoom, HoldsFull, HoldsFullChild, SplitsChild, StaysHeld, TakesRoom, parent_for, with_release_less}
+use Rattle.btree_change.specs.Splits.{HasSpace, HoldsFull, HoldsFullChild, SplitsChild, StaysHeld, TakesRoom, parent_for, with_release_less}
 use Rattle.word_rule.specs.NodeTells.{KnowsTree}
 use Rattle.word_rule.specs.Sights.{after_node_load}
 use Rattle.btree_change.specs.Stands.{HasSplit, HasWayOn, HoldsPair, HoldsStep, LetsGo, MayGo, SpendsSteps}
@@ -42,14 +42,14 @@ root_below lower held root = go (lower.node == 0)
     go false = root
 
 -- an inner node with room has room for a pair
-pub pairs_room : (s : NodeData) → s.body ≡ Pairs (pairs_of s) → HasRoom s.body → length (pairs_of s) < 15
-pairs_room s inner room = subst HasRoom inner room
+pub pairs_room : (s : NodeData) → s.body ≡ Pairs (pairs_of s) → HasSpace s.body → length (pairs_of s) < 15
+pairs_room s inner room = subst HasSpace inner room
 
 -- while nodes are split, there is room
-pub splits_on : (way : Room) (pc : ℕ) (s : NodeData) (v : Log) → way ≡ room.Splitting → HasWayOn way pc s v → HasRoom s.body
+pub splits_on : (way : Room) (pc : ℕ) (s : NodeData) (v : Log) → way ≡ room.Splitting → HasWayOn way pc s v → HasSpace s.body
 splits_on way pc s v is h = subst (λ w. HasWayOn w pc s v) is h
 
-pub has_way : (way : Room) (pc : ℕ) (s : NodeData) (v : Log) → way ≡ room.Splitting → HasRoom s.body → HasWayOn way pc s v
+pub has_way : (way : Room) (pc : ℕ) (s : NodeData) (v : Log) → way ≡ room.Splitting → HasSpace s.body → HasWayOn way pc s v
 has_way way pc s v is h = subst (λ w. HasWayOn w pc s v) (sym is) h
 
 -- where no node is free it doesn't matter which node is full
@@ -147,7 +147,7 @@ module _ (t : Terms) (pc : ℕ) (step : Step) (above : List Holding) (k : Caller
   }
 
   -- a node is out for the child's last half
-  pub full_child : (fresh : ℕ) (k1 : CallerData) → k.log.terms ≡ t → TakesRoom fresh k k1 → IsFull step.child.content.body → IsInFences pc step.parent.content → HasRoom step.parent.content.body → HoldsFullChild t (record { parent = step.parent; child = step.child; fresh = fresh }) pc k1.log.holdings
+  pub full_child : (fresh : ℕ) (k1 : CallerData) → k.log.terms ≡ t → TakesRoom fresh k k1 → IsFull step.child.content.body → IsInFences pc step.parent.content → HasSpace step.parent.content.body → HoldsFullChild t (record { parent = step.parent; child = step.child; fresh = fresh }) pc k1.log.holdings
   full_child fresh k1 terms takes full here room =
       let is_inner = settled_inner t step.parent.node step.parent.content step.parent.changed pair.upper pair.parent_is pair.inner in record {
         parent_within = pair.parent_within;

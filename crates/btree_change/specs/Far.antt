@@ -19,19 +19,19 @@ use Rattle.btree_change.specs.declared.stand.Reply.{Reply}
 use Rattle.btree_change.specs.declared.stand.Room.TheVariants as room
 use Rattle.btree_change.specs.Insertion.{IsRightInsertion, taken_by}
 use Rattle.btree_change.specs.Spines.{HoldsLeafPair, HoldsNext, KeepsLoads}
-use Rattle.btree_change.specs.Splits.{HasRoom}
-use Rattle.btree_change.specs.Stands.{AreLeftAs, IsBeyond, SpendsCall, SpendsSteps, Stands, StandsAt}
+use Rattle.btree_change.specs.Splits.{HasSpace}
+use Rattle.btree_change.specs.Stands.{AreLeftAs, LiesBeyond, SpendsCall, SpendsSteps, StandsOnWay, StandsAt}
 
 -- It stands at the leaf, and the node above both leaves is known.
 abbrev pub StandsFar : Terms → Member → Far → Log → Type 0
 StandsFar t m far v =
-    Stands t m (record { at = far.leaf; beyond = Some far.beyond; room = far.room }) v
+    StandsOnWay t m (record { at = far.leaf; beyond = Some far.beyond; room = far.room }) v
 
 -- The next leaf is held too, with its spine, over what was held before.
 pub record IsAtNext (t : Terms) (m : Member) (n : Next) (v : Log) : Type 0 where
   pub next : HoldsNext t n.far.beyond.node n.far.beyond.slot v.holdings
   pub leaf : StandsAt t n.far.leaf next.base
-  pub beyond : IsBeyond t n.far.beyond leaf.lock leaf.above
+  pub beyond : LiesBeyond t n.far.beyond leaf.lock leaf.above
   pub level : n.far.leaf.content.level ≡ 0
   pub here : IsInFences m.span.first n.far.leaf.content
   pub high : n.far.leaf.content.high < m.span.last
@@ -43,20 +43,20 @@ pub record IsAtNext (t : Terms) (m : Member) (n : Next) (v : Log) : Type 0 where
   pub place : (place : Frame) × IsLiveNode t n.right.node n.right.content place
   pub cause : n.far.room ≡ room.NoneFree
       → HadNoRoom m.span.first (length v.receipts.own) v.trace.loads
-  pub room : n.far.room ≡ room.Splitting → HasRoom n.far.leaf.content.body
+  pub room : n.far.room ≡ room.Splitting → HasSpace n.far.leaf.content.body
 
 -- The fence between the leaves may be moved to the span's last address, and the leaf has room.
 pub record IsReadyFar (t : Terms) (m : Member) (far : Far) (v : Log) : Type 0 where
   pub next : HoldsNext t far.beyond.node far.beyond.slot v.holdings
   pub leaf : StandsAt t far.leaf next.base
-  pub beyond : IsBeyond t far.beyond leaf.lock leaf.above
+  pub beyond : LiesBeyond t far.beyond leaf.lock leaf.above
   pub level : far.leaf.content.level ≡ 0
   pub here : IsInFences m.span.first far.leaf.content
   pub high : far.leaf.content.high < m.span.last
   pub free : IsFree m.span (entries_of far.leaf.content)
   pub lies : LiesAbove m.span.last next.right.settled.body
   pub right_high : m.span.last < next.right.settled.high
-  pub room : HasRoom far.leaf.content.body
+  pub room : HasSpace far.leaf.content.body
 
 -- The next leaf was let go of, and the leaf, over which this was held.
 pub record LeavesFar (base : Holdings) (k k' : CallerData) : Type 0 where

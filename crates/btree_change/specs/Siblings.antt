@@ -18,10 +18,7 @@ use Rattle.btree_change.specs.declared.sibling.Siblings.{Siblings}
 use Rattle.btree_change.specs.declared.descent.Held.{Held}
 use Rattle.btree_change.specs.Paths.{IsSettledLock}
 use Rattle.btree_change.specs.Removing.{HoldsBesideRoot, IsBeside, IsSpare, Spends}
-
--- the lock of a node on the way, as it is held
-abbrev pub IsHeldAs : Terms → Held → Holding → Type 0
-IsHeldAs t at h = IsSettledLock t at.node at.content at.changed h
+use Rattle.btree_change.specs.Splits.{IsHeldAs}
 
 -- A node is held under another, which has settled, and beside that the root; no node is out.
 pub record HoldsUnder (t : Terms) (n : ℕ) (changed root_changed : Bool) (at : Held)
@@ -92,8 +89,8 @@ pub record HoldsSiblings (t : Terms) (x : Siblings) (holdings : Holdings) : Type
   pub level : x.left.content.level + 1 ≡ x.above.at.content.level
 
 -- an address lies between the ends of both
-abbrev pub IsBetween : ℕ → Siblings → Type 0
-IsBetween pc x = (x.left.content.low ≤ pc) × (pc ≤ x.right.content.high)
+abbrev pub IsInEither : ℕ → Siblings → Type 0
+IsInEither pc x = (x.left.content.low ≤ pc) × (pc ≤ x.right.content.high)
 
 -- both inner nodes, or both leaves
 abbrev pub SameKind : Body → Body → Type 0
@@ -184,7 +181,7 @@ IsGoneOrSettled n h =
     (h.node ≡ n → h.mark ≡ None) × (h.node ≢ n → SpellsNode h.words h.settled)
 
 -- A node was given back, and all else that is held is as it was.
-pub record GivesBack (n : ℕ) (k k' : CallerData) : Type 0 where
+pub record ReturnsNode (n : ℕ) (k k' : CallerData) : Type 0 where
   pub spends : Spends 1 k k'
   pub held : k'.log.holdings.held ≡ without_lock n k.log.holdings.held
   pub out : k'.log.holdings.out ≡ all_but n k.log.holdings.out

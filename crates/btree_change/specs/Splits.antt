@@ -37,10 +37,10 @@ abbrev pub IsHeldAs : Terms → Held → Holding → Type 0
 IsHeldAs t at h = IsSettledLock t at.node at.content at.changed h
 
 -- a node that isn't full
-abbrev pub HasRoom : Body → Type 0
-HasRoom (Pairs pairs) = length pairs < PAIRS
-HasRoom (Entries entries) = length entries < ENTRIES
-HasRoom (Link next) = ⊥
+abbrev pub HasSpace : Body → Type 0
+HasSpace (Pairs pairs) = length pairs < PAIRS
+HasSpace (Entries entries) = length entries < ENTRIES
+HasSpace (Link next) = ⊥
 
 -- A full child is held under its parent, which has room, and a free node is out. What is held above
 -- has settled.
@@ -127,7 +127,7 @@ pub record SplitsChild (t : Terms) (full : FullChild) (pc : ℕ) (split : Split)
   pub here : IsInFences pc split.way.content
   pub leads : HasChildFor split.parent.content pc split.way.node
   pub lower_level : split.way.content.level < full.parent.content.level
-  pub room : HasRoom split.way.content.body
+  pub room : HasSpace split.way.content.body
   pub same : StepsOnNodes (with_release_less k) k'
 
 -- A full node on the way is held as the words spell it; no node is out, or one where it is the root,
@@ -217,7 +217,7 @@ pub record LiftsRoot (t : Terms) (full : FullRoot) (pc : ℕ) (split : Split) (k
   pub here : IsInFences pc split.way.content
   pub leads : HasChildFor split.parent.content pc split.way.node
   pub lower_level : split.way.content.level < split.parent.content.level
-  pub room : HasRoom split.way.content.body
+  pub room : HasSpace split.way.content.body
   pub same : StepsOnNodes (with_release_less k) k'
 
 -- The full root alone is held, and no node is out.

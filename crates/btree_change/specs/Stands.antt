@@ -28,7 +28,7 @@ use Rattle.btree_change.specs.declared.stand.Step.{Step}
 use Rattle.btree_change.specs.Insertion.{IsRightInsertion, taken_by}
 use Rattle.btree_change.specs.Paths.{AreHigher, HasChildFor}
 use Rattle.btree_change.specs.Spines.{AreApart, Climbs}
-use Rattle.btree_change.specs.Splits.{HasRoom, IsHeldAs}
+use Rattle.btree_change.specs.Splits.{HasSpace, IsHeldAs}
 
 -- A caller holds a node, and above it live nodes that have settled, each of a higher level than the
 -- one below it, up to the root. No node is out.
@@ -56,7 +56,7 @@ pub record HoldsRoot (t : Terms) (at : Held) (holdings : Holdings) : Type 0 wher
   pub out : holdings.out ≡ []
 
 -- The node above both leaves is held above this one, which lies on its left spine.
-pub record IsBeyond (t : Terms) (b : Beyond) (lower : Holding) (above : List Holding) : Type 0 where
+pub record LiesBeyond (t : Terms) (b : Beyond) (lower : Holding) (above : List Holding) : Type 0 where
   pub spine : List Holding
   pub top : Holding
   pub rest : List Holding
@@ -70,7 +70,7 @@ pub record IsBeyond (t : Terms) (b : Beyond) (lower : Holding) (above : List Hol
 -- above both leaves is known.
 abbrev pub Reaches : Terms → ℕ → NodeData → Option Beyond → Holding → List Holding → Type 0
 Reaches t last s None lower above = last ≤ s.high
-Reaches t last s (Some b) lower above = (s.high < last) × IsBeyond t b lower above
+Reaches t last s (Some b) lower above = (s.high < last) × LiesBeyond t b lower above
 
 -- The node above both leaves as it is seen from the child for an address: none where the child's
 -- separator is at or above the span's last address; else the parent, where the slot isn't its last,
@@ -86,11 +86,11 @@ IsReach parent pc last so_far found = let pairs = pairs_of parent.content in
 -- While nodes are split on the way the node has room. Where none is free the loads have the cause
 -- of a Full.
 abbrev pub HasWayOn : Room → ℕ → NodeData → Log → Type 0
-HasWayOn room.Splitting base s v = HasRoom s.body
+HasWayOn room.Splitting base s v = HasSpace s.body
 HasWayOn room.NoneFree base s v = HadNoRoom base (length v.receipts.own) v.trace.loads
 
 -- Where an insertion stands.
-pub record Stands (t : Terms) (m : Member) (stand : Stand) (v : Log) : Type 0 where
+pub record StandsOnWay (t : Terms) (m : Member) (stand : Stand) (v : Log) : Type 0 where
   pub at : StandsAt t stand.at v.holdings
   pub here : IsInFences m.span.first stand.at.content
   pub reach : Reaches t m.span.last stand.at.content stand.beyond at.lock at.above
@@ -211,7 +211,7 @@ pub record HasSplit (t : Terms) (pc : ℕ) (step after : Step) (k k' : CallerDat
 -- it was changed where the child was split.
 pub record GoesBelow (t : Terms) (m : Member) (stand : Stand) (passage : Passage)
     (k k' : CallerData) : Type 0 where
-  pub stands : Stands t m passage.stand k'.log
+  pub stands : StandsOnWay t m passage.stand k'.log
   pub lower : Holding
   pub upper : Holding
   pub held : k'.log.holdings.held ≡ lower ∷ upper ∷ drop 1 k.log.holdings.held

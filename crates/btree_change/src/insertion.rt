@@ -9,7 +9,7 @@ ghost use Rattle.word_rule.specs.Places.{CALL_CREDIT};
 ghost use Rattle.btree_change.specs.Insertion.{AnswersInsertion, Inserts};
 ghost use Rattle.btree_change.specs.Paths.{HoldsNothing};
 ghost use Rattle.btree_change.specs.Updates.{GivesUp};
-ghost use Rattle.btree_change.specs.Stands.{AnswersBelow, AnswersHere, GivesUpBelow, Stands};
+ghost use Rattle.btree_change.specs.Stands.{AnswersBelow, AnswersHere, GivesUpBelow, StandsOnWay};
 ghost use Rattle.btree_change.specs.Stands.{releases_at};
 
 use crate::beyond::{Far, beyond_leaf};
@@ -27,7 +27,7 @@ use word_rule::{Caller, Words};
 fn in_place(words: &Words, me: &mut Caller, member: &Member, stand: &Stand) -> Outcome
     requires table { me.old.table ≡ words.now.table }
     requires terms { me.old.log.terms ≡ words.now.terms }
-    requires stands { Stands words.now.terms member.now stand.now me.old.log }
+    requires stands { StandsOnWay words.now.terms member.now stand.now me.old.log }
     requires level { stand.now.at.content.level ≡ 0 }
     requires high { member.now.span.last ≤ stand.now.at.content.high }
     requires free { IsFree member.now.span (entries_of stand.now.at.content) }
@@ -61,7 +61,7 @@ fn in_free_leaf<L: Locking>(
 ) -> Result<Reply, Busy>
     requires table { me.old.table ≡ words.now.table }
     requires terms { me.old.log.terms ≡ words.now.terms }
-    requires stands { Stands words.now.terms member.now stand me.old.log }
+    requires stands { StandsOnWay words.now.terms member.now stand me.old.log }
     requires level { stand.at.content.level ≡ 0 }
     requires free { IsFree member.now.span (entries_of stand.at.content) }
     requires span { IsSpan member.now.span }
@@ -103,7 +103,7 @@ fn in_leaf<L: Locking>(
 ) -> Result<Reply, Busy>
     requires table { me.old.table ≡ words.now.table }
     requires terms { me.old.log.terms ≡ words.now.terms }
-    requires stands { Stands words.now.terms member.now stand me.old.log }
+    requires stands { StandsOnWay words.now.terms member.now stand me.old.log }
     requires level { stand.at.content.level ≡ 0 }
     requires span { IsSpan member.now.span }
     requires due { 0 < due me.old }
@@ -133,7 +133,7 @@ pub(crate) fn below<L: Locking>(
 ) -> Result<Reply, Busy>
     requires table { me.old.table ≡ words.now.table }
     requires terms { me.old.log.terms ≡ words.now.terms }
-    requires stands { Stands words.now.terms member.now stand me.old.log }
+    requires stands { StandsOnWay words.now.terms member.now stand me.old.log }
     requires span { IsSpan member.now.span }
     requires due { 0 < due me.old }
     requires surplus { releases_at stand.at.content.level ≤ surplus me.old }

@@ -10,7 +10,7 @@ ghost use Rattle.tree_shape.specs.Numbers.{is_among};
 ghost use Rattle.word_rule.specs.CallerData.{surplus};
 ghost use Rattle.word_rule.specs.Held.{held_of};
 ghost use Rattle.btree_change.specs.Paths.{StepsOnNodes};
-ghost use Rattle.btree_change.specs.Siblings.{GivesBack, HoldsGone, HoldsSiblings, IsBetween};
+ghost use Rattle.btree_change.specs.Siblings.{ReturnsNode, HoldsGone, HoldsSiblings, IsInEither};
 ghost use Rattle.btree_change.specs.Shares.{IsChosen, shares_for};
 ghost use Rattle.btree_change.specs.Siblings.{HoldsSunk, sunk_root};
 ghost use Rattle.btree_change.specs.Siblings.{IsGoneOrSettled, MendsSiblings, SinksRoot};
@@ -42,7 +42,7 @@ fn give_back(words: &Words, me: &mut Caller, node: u32)
     requires out { IsTrue (is_among me.old.log.holdings.out node) }
     requires settled { AllByRecursion (IsGoneOrSettled node) me.old.log.holdings.held }
     requires surplus { 0 < surplus me.old }
-    ensures { GivesBack node me.old me.new }
+    ensures { ReturnsNode node me.old me.new }
 {
     exchange_decided();
     give_free(words, me, node);
@@ -171,7 +171,7 @@ pub(crate) fn share<L: Locking>(
     requires overfill { Overfill x.now.left.content x.now.right.content }
     requires small { IsTrue (is_small_body x.now.left.content.body
         || is_small_body x.now.right.content.body) }
-    requires between { IsBetween pc x.now }
+    requires between { IsInEither pc x.now }
     requires surplus { 0 < surplus me.old }
     ensures mends { MendsSiblings words.now.terms x.now result me.old me.new }
     ensures fences { IsInFences pc result.content }

@@ -2,7 +2,7 @@
 ghost use Rattle.std.specs.Prelude.{◌≡◌, ◌≤◌, ◌<◌, ◌-◌, ◌^◌, ◌+◌, ◌||◌, ◌≢◌, ℕ, true, false, IsTrue, IfOk, IfErr, length};
 ghost use Rattle.tree_shape.specs.Changes.{Fit, Overfill};
 ghost use Rattle.tree_shape.specs.NodeData.{IsInFences, pairs_of};
-ghost use Rattle.btree_change.specs.Siblings.{HoldsSiblings, IsBetween, SameKind};
+ghost use Rattle.btree_change.specs.Siblings.{HoldsSiblings, IsInEither, SameKind};
 ghost use Rattle.btree_change.specs.Siblings.{is_small_body};
 ghost use Rattle.word_rule.specs.CallerData.{due, surplus};
 ghost use Rattle.word_rule.specs.Callers.{IsIdle};
@@ -78,7 +78,7 @@ fn mend<L: Locking>(locking: &L, words: &Words, me: &mut Caller, x: Siblings, pc
     requires table { me.old.table ≡ words.now.table }
     requires terms { me.old.log.terms ≡ words.now.terms }
     requires held { HoldsSiblings words.now.terms x me.old.log.holdings }
-    requires between { IsBetween pc x }
+    requires between { IsInEither pc x }
     requires small { IsTrue (is_small_body x.left.content.body
         || is_small_body x.right.content.body) }
     requires spare { IsSpare x.above.at.node x.above.at.content }

@@ -5,7 +5,7 @@ ghost use Rattle.word_rule.specs.CallerData.{due, surplus};
 ghost use Rattle.btree_change.specs.Roots.{EndsInsertion, GivesUpWhole};
 ghost use Rattle.tree_shape.specs.Steps.{IsFull};
 ghost use Rattle.btree_change.specs.Splits.{HoldsFullRoot};
-ghost use Rattle.btree_change.specs.Stands.{HoldsRoot, Stands};
+ghost use Rattle.btree_change.specs.Stands.{HoldsRoot, StandsOnWay};
 
 use crate::descent::{Held, let_go_of};
 use crate::insertion::below;
@@ -25,7 +25,7 @@ fn alone<L: Locking>(
 ) -> Result<Inserted, Busy>
     requires table { me.old.table ≡ words.now.table }
     requires terms { me.old.log.terms ≡ words.now.terms }
-    requires stands { Stands words.now.terms member.now stand me.old.log }
+    requires stands { StandsOnWay words.now.terms member.now stand me.old.log }
     requires root { stand.at.node ≡ 0 }
     requires alone { drop 1 me.old.log.holdings.held ≡ [] }
     requires span { IsSpan member.now.span }

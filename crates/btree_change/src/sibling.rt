@@ -5,7 +5,7 @@ ghost use Rattle.tree_shape.specs.NodeData.{IsInFences, pairs_of};
 ghost use Rattle.word_rule.specs.CallerData.{surplus};
 ghost use Rattle.btree_change.specs.Paths.{HoldsNothing};
 ghost use Rattle.btree_change.specs.Removing.{HoldsBesideRoot, Spends};
-ghost use Rattle.btree_change.specs.Siblings.{HoldsChild, HoldsSiblings, HoldsUnder, IsBetween};
+ghost use Rattle.btree_change.specs.Siblings.{HoldsChild, HoldsSiblings, HoldsUnder, IsInEither};
 ghost use Rattle.btree_change.specs.Siblings.{is_small_body};
 
 use crate::descent::{Held, take_node};
@@ -141,7 +141,7 @@ pub(crate) fn take_sibling<L: Locking>(
     requires held { HoldsChild words.now.terms child pc me.old.log.holdings }
     requires surplus { 1 < surplus me.old }
     ensures ok { IfOk result (λ x. HoldsSiblings words.now.terms x me.new.log.holdings
-        × IsBetween pc x × (x.above ≡ child.above) × ((x.left ≡ child.at) ⊎ (x.right ≡ child.at))) }
+        × IsInEither pc x × (x.above ≡ child.above) × ((x.left ≡ child.at) ⊎ (x.right ≡ child.at))) }
     ensures busy { IfErr result (λ e. HoldsNothing me.new.log.holdings × (L.gives_up ≡ true)) }
     ensures spends { Spends 2 me.old me.new }
     ensures free { IfOk result (λ x. Spends 0 me.old me.new) }

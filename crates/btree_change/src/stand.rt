@@ -10,10 +10,10 @@ ghost use Rattle.tree_shape.specs.Steps.{IsFull};
 ghost use Rattle.word_rule.specs.CallerData.{surplus};
 ghost use Rattle.btree_change.specs.Paths.{StepsOnNodes};
 ghost use Rattle.btree_change.specs.Spines.{KeepsLoads};
-ghost use Rattle.btree_change.specs.Splits.{HasRoom};
+ghost use Rattle.btree_change.specs.Splits.{HasSpace};
 ghost use Rattle.btree_change.specs.Stands.{GivesUpBelow, GoesBelow, HasSplit, HoldsPair};
 ghost use Rattle.btree_change.specs.Stands.{HasWayOn, HoldsStep, IsReach, Reaches};
-ghost use Rattle.btree_change.specs.Stands.{SpendsSteps, Stands, StandsAt};
+ghost use Rattle.btree_change.specs.Stands.{SpendsSteps, StandsOnWay, StandsAt};
 
 use crate::descent::{Held, child_for, let_go_of, take_node};
 use crate::split::{FullChild, room_for, split_child};
@@ -96,7 +96,7 @@ pub(crate) fn is_changed(changed: bool, level: u32, reply: &Reply) -> bool
 /// Whether a node is full.
 pub(crate) fn is_full(node: &Node) -> bool
     requires ordered { IsOrdered node.now }
-    ensures { MatchBool result (IsFull node.now.body) (HasRoom node.now.body) }
+    ensures { MatchBool result (IsFull node.now.body) (HasSpace node.now.body) }
 {
     if node.level == 0 {
         node.entries().len() == ENTRIES
@@ -149,7 +149,7 @@ fn split_full<L: Locking>(
     requires pair { HoldsPair words.now.terms pc step.parent step.child
         (drop 2 me.old.log.holdings.held) me.old.log.holdings }
     requires splitting { step.room ≡ Room.Splitting }
-    requires room { HasRoom step.parent.content.body }
+    requires room { HasSpace step.parent.content.body }
     requires here { IsInFences pc step.parent.content }
     requires less { step.child.content.level < step.parent.content.level }
     requires surplus { 0 < surplus me.old }
@@ -255,7 +255,7 @@ pub(crate) fn stand_below(
         (drop 2 me.old.log.holdings.held) me.old.log.holdings)
         × Reaches words.now.terms member.now.span.last step.parent.content so_far pair.upper
         (drop 2 me.old.log.holdings.held) }
-    ensures stands { Stands words.now.terms member.now result.stand me.new.log }
+    ensures stands { StandsOnWay words.now.terms member.now result.stand me.new.log }
     ensures at { result.stand.at ≡ step.child }
     ensures changed { result.changed ≡ step.parent.changed }
     ensures same { StepsOnNodes me.old me.new }
@@ -290,7 +290,7 @@ pub(crate) fn go_below<L: Locking>(
 ) -> Result<Passage, Busy>
     requires table { me.old.table ≡ words.now.table }
     requires terms { me.old.log.terms ≡ words.now.terms }
-    requires stands { Stands words.now.terms member.now stand me.old.log }
+    requires stands { StandsOnWay words.now.terms member.now stand me.old.log }
     requires inner { 0 < stand.at.content.level }
     requires surplus { 1 < surplus me.old }
     ensures ok { IfOk result (λ passage. GoesBelow words.now.terms member.now stand passage

@@ -1,11 +1,11 @@
 use Rattle.std.proofs.Common.{arith, subst, sym}
 use Rattle.word_rule.specs.CallerData.{surplus}
-use Rattle.btree_change.specs.Stands.{Reaches, Stands}
+use Rattle.btree_change.specs.Stands.{Reaches, StandsOnWay}
 use Rattle.btree_change.proofs.Answering.{here_answered, here_may_go, here_surplus}
 use Rattle.btree_change.proofs.insertion.in_free_leaf.Goals as goal
 
 pub beyond_leaf-requires-clause-stands : goal.beyond_leaf-requires-clause-stands
-beyond_leaf-requires-clause-stands g c = let stand = c.args.stand in subst (λ o. Stands c.args.words.now.terms c.args.member.now (record { at = stand.at; beyond = o; room = stand.room }) c.args.me.now.log) c.in-Some.is c.requires.stands
+beyond_leaf-requires-clause-stands g c = let stand = c.args.stand in subst (λ o. StandsOnWay c.args.words.now.terms c.args.member.now (record { at = stand.at; beyond = o; room = stand.room }) c.args.me.now.log) c.in-Some.is c.requires.stands
 
 pub in_place-outcome-requires-clause-high : goal.in_place-outcome-requires-clause-high
 in_place-outcome-requires-clause-high g c = let s = c.requires.stands in subst (λ o. Reaches c.args.words.now.terms c.args.member.now.span.last c.args.stand.at.content o s.at.lock s.at.above) c.in-None.is s.reach

@@ -1,6 +1,6 @@
 use Rattle.std.proofs.Common.{arith, subst, sym}
 use Rattle.word_rule.specs.CallerData.{CallerData}
-use Rattle.btree_change.specs.Stands.{Stands}
+use Rattle.btree_change.specs.Stands.{StandsOnWay}
 use Rattle.word_rule.specs.CallerData.{surplus}
 use Rattle.btree_change.proofs.Answering.{here_answered, here_may_go, here_surplus, refused_here}
 use Rattle.btree_change.proofs.insertion.in_leaf.Goals as goal
@@ -25,4 +25,4 @@ returns-in-Some-clause-answer g c =
     here_answered t m at k s (record { answer = c.in-Some.answer; changed = at.changed }) c.refused.new.me (refused_here t m at k s c.in-Some.answer c.refused.new.me c.in-Some.ensures.overlaps) c.let_go_of.new.me c.let_go_of.ensures
 
 pub in_free_leaf-requires-clause-stands : goal.in_free_leaf-requires-clause-stands
-in_free_leaf-requires-clause-stands g c = subst (λ (z : CallerData). Stands c.args.words.now.terms c.args.member.now c.args.stand z.log) (sym c.in-None.ensures.free.1) c.requires.stands
+in_free_leaf-requires-clause-stands g c = subst (λ (z : CallerData). StandsOnWay c.args.words.now.terms c.args.member.now c.args.stand z.log) (sym c.in-None.ensures.free.1) c.requires.stands
