@@ -2,3 +2,4 @@ pub mod Rules
 pub mod NextFrame
 pub mod Backtrace
 pub mod Finders
+pub mod Sources

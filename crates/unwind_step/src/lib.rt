@@ -13,13 +13,15 @@ mod frame;
 pub mod laws;
 mod next;
 mod plain;
+mod source;
 mod unwind;
 
 pub use backtrace::{End, FrameLine, Trace};
 pub use finder::Finder;
 pub use frame::{AddressKind, Frame};
-pub use next::{Stepped, step};
+pub use next::{FoundStep, Stepped, step, step_at};
 pub use plain::PlainFinder;
+pub use source::{FdeRow, RowSource};
 pub use unwind::trace;
 
 #[cfg(test)]

@@ -1,14 +1,18 @@
 //! One frame from another.
 
-ghost use Rattle.std.specs.Prelude.{◌≡◌, ◌≢◌, Some, Ok, Err, IfOk, IfErr, slice_index};
+ghost use Rattle.std.specs.Prelude.{◌≡◌, ◌≢◌, Some, None, Ok, Err, IfOk, IfErr, slice_index};
+ghost use Rattle.std.specs.Prelude.{Bool, IfSome, MatchOption};
 ghost use Rattle.frame_expr.specs.Values.{IsValue};
 ghost use Rattle.frame_rows.specs.declared.rule.CfaRuleWith.TheVariants.{Missing};
 ghost use Rattle.frame_rows.specs.Rules.{rule_told, cfa_rule_told};
+ghost use Rattle.frame_parse.specs.Sections.{first_cover};
+ghost use Rattle.unwind_step.specs.Sources.{IsStepIn};
 ghost use Rattle.unwind_step.specs.Rules.{saved_at, IsCfa, IsRestored, IsSavedThere};
 ghost use Rattle.unwind_step.specs.declared.next.Stepped.{Stepped};
 ghost use Rattle.unwind_step.specs.NextFrame.{Leads, AreRestored, FailsFirst, IsFrame, LacksBytes};
 ghost use Rattle.unwind_step.specs.NextFrame.{IsStep, IsNextFrame};
 
+use crate::source::{FdeRow, RowSource};
 use frame_expr::{ColumnExpr, Memory, NoBytes, Regs, one_answer, value};
 use frame_parse::Fde;
 use frame_rows::{CfaRule, Row, Rule, row_at};
@@ -24,6 +28,14 @@ pub enum Stepped {
     Undefined,
     /// The eight bytes at an address weren't recorded.
     NoBytes { address: u64 },
+}
+
+/// What comes of a frame whose FDE was found.
+#[derive(Clone, Copy, Debug, PartialEq, Eq)]
+pub struct FoundStep {
+    pub outcome: Stepped,
+    /// The CIE says that the frame is a signal's.
+    pub signal: bool,
 }
 
 /// The eight bytes at an address.
@@ -160,4 +172,30 @@ pub fn step(fde: &Fde<'_>, look: u64, regs: &Regs, memory: &Memory) -> Stepped
     one_answer();
     let row = row_at(fde, look);
     follow(&row, &Callee { regs, memory })
+}
+
+/// What comes of a frame by the FDE of the address where it was looked up, in a section or in a table
+/// made of it. None where no FDE covers the address. It takes no memory.
+pub fn step_at<S: RowSource>(
+    source: &S,
+    look: u64,
+    regs: &Regs,
+    memory: &Memory,
+) -> Option<FoundStep>
+    ensures outcome { MatchOption result (first_cover look (S.section source.now).fdes ≡ None)
+        (λ found. IsStepIn (S.section source.now) look regs.now.columns memory.now
+        found.outcome found.signal) }
+    // Nothing else can come of it.
+    ensures only { IfSome result (λ found. (other : Stepped) (signal : Bool)
+        → IsStepIn (S.section source.now) look regs.now.columns memory.now other signal
+        → other ≡ found.outcome) }
+{
+    one_answer();
+    match source.row_of(look) {
+        None => None,
+        Some(FdeRow { fde, row }) => Some(FoundStep {
+            outcome: follow(&row, &Callee { regs, memory }),
+            signal: fde.signal(),
+        }),
+    }
 }

@@ -202,9 +202,9 @@ fn stepped(section: &Section, look: u64, memory: &Memory) -> Option<Stepped> {
         *number = 0x100 + column as u64;
     }
     columns[7] = 0x7000;
-    match section.fde_at(look) {
+    match step_at(section, look, &Regs { columns }, memory) {
         None => None,
-        Some(fde) => Some(step(&fde, look, &Regs { columns }, memory)),
+        Some(found) => Some(found.outcome),
     }
 }
 
@@ -326,5 +326,20 @@ fn expression_without_memory(rt: HostRuntime) -> Result<(), Fail> {
     let memory = Memory::new(rt.alloc());
     let lacking = Some(Stepped::NoBytes { address: 0x7010 });
     assert_eq!(rt; stepped(&section, 0x5004, &memory), lacking);
+    Ok(())
+}
+
+/// A signal's frame is told as one, and another isn't; past both there is no FDE.
+#[test]
+fn signal_frames(rt: HostRuntime) -> Result<(), Fail> {
+    let handler = read(rt.alloc(), 0x6000, &S3)?;
+    let code = read(rt.alloc(), 0x2000, &S1)?;
+    let memory = Memory::new(rt.alloc());
+    let recorded = regs(0x7010, 0x7000, 0x1025);
+    let of_handler = step_at(&handler, 0x5004, &recorded, &memory);
+    let of_code = step_at(&code, 0x1025, &recorded, &memory);
+    assert!(rt; matches!(of_handler, Some(FoundStep { signal: true, .. })));
+    assert!(rt; matches!(of_code, Some(FoundStep { signal: false, .. })));
+    assert_eq!(rt; step_at(&code, 0x1030, &recorded, &memory), None);
     Ok(())
 }
