@@ -1,6 +1,8 @@
 -- A table, as the FDEs of a section come to it.
-use Rattle.std.proofs.Common.{◌≡◌, ℕ, ◌+◌, ◌<◌, ◌≤◌, List, [], ◌∷◌, ◌++◌, length, get_or, Some, sym, ap, subst, ◌∙◌, arith, length-append, inl, inr}
+use Rattle.std.proofs.Common.{◌≡◌, ◌⊎◌, ℕ, ◌+◌, ◌<◌, ◌≤◌, List, [], ◌∷◌, ◌++◌, length, get_or, Some, sym, ap, subst, ◌∙◌, arith, length-append, inl, inr}
+use Rattle.std.specs.Prelude.{All}
 use Rattle.std.proofs.lemmas.List.{get_or_append_left}
+use Rattle.std.proofs.lemmas.List.Elements.{All-append}
 use Rattle.std.proofs.lemmas.Bool.{cases_lt}
 use Rattle.std.proofs.Math.Seq.{get_or-append_seam}
 use Rattle.frame_parse.specs.Entries.{FdeRecord}
@@ -8,7 +10,9 @@ use Rattle.frame_parse.specs.Sections.{FdeData, SectionData}
 use Rattle.frame_rows.specs.declared.placed_row.PlacedRow.{PlacedRow}
 use Rattle.frame_rows.specs.RowAt.{IsPlacedRowAt}
 use Rattle.frame_rows.specs.Rows.{unset}
-use Rattle.row_table.specs.Tables.{RowsData, row_in, AreRowsOf, IsFdeOf, HasRowsOf, IsRowTableOf, IsExtended, IsAdded}
+use Rattle.row_table.specs.declared.fault.TableFault.{TableFault}
+use Rattle.row_table.specs.declared.fault.TableFault.TheVariants.{NoMemory}
+use Rattle.row_table.specs.Tables.{RowsData, row_in, AreRowsOf, IsFdeOf, HasRowsOf, IsRowTableOf, HasRow, HasFdeWithRow, HasTooManyRows, IsExtended, IsAdded, HasRowsTooMany}
 
 -- rows that come after those of an FDE leave them as they are
 rows_stay : (f : FdeData) (old new : RowsData) (from end : ℕ) → length old.numbers ≡ length old.starts → IsExtended old new → AreRowsOf f old from end → AreRowsOf f new from end
@@ -94,3 +98,25 @@ all_fdes s n begins starts numbers kept distinct r has count was are =
     let rows : r ≡ rows_of starts numbers distinct = sym was ∙ ap (rows_of starts numbers) (sym are) in
     let whole : HasRowsOf s n (record { begins = begins; rows = rows_of starts numbers distinct }) = subst (λ (k : RowsData). HasRowsOf s n (record { begins = begins; rows = k })) rows has in
     subst (λ (k : ℕ). HasRowsOf s k (record { begins = begins; rows = rows_of starts numbers distinct })) count whole
+
+-- ---- where the rows come from
+
+come_of : (s : SectionData) (n : ℕ) (f : FdeData) (more : List PlacedRow) → IsFdeOf s n f → All (HasRow f) more → All (HasFdeWithRow s) more
+come_of s n f more is come = λ k d within. record { number = n; fde = f; is = is; has = come k d within }
+
+pub one_more_comes : (s : SectionData) (n : ℕ) (old new : RowsData) (f : FdeData) → All (HasFdeWithRow s) old.distinct → IsAdded old f new → IsFdeOf s n f → All (HasFdeWithRow s) new.distinct
+one_more_comes s n old new f come added is =
+    subst (All (HasFdeWithRow s)) (sym added.extended.distinct)
+    (All-append (HasFdeWithRow s) old.distinct added.extended.more_distinct come (come_of s n f added.extended.more_distinct is added.come))
+
+section_has_too_many : (s : SectionData) (n : ℕ) (old : List PlacedRow) (f : FdeData) → All (HasFdeWithRow s) old → HasRowsTooMany old f → IsFdeOf s n f → HasTooManyRows s
+section_has_too_many s n old f come many is = record {
+  rows = old ++ many.more;
+  count = many.count;
+  different = many.different;
+  come = All-append (HasFdeWithRow s) old many.more come (come_of s n f many.more is many.come);
+}
+
+pub refused_fde : (s : SectionData) (n : ℕ) (old : List PlacedRow) (f : FdeData) (fault : TableFault) → All (HasFdeWithRow s) old → IsFdeOf s n f → (fault ≡ NoMemory) ⊎ HasRowsTooMany old f → (fault ≡ NoMemory) ⊎ HasTooManyRows s
+refused_fde s n old f fault come is (inl memory) = inl memory
+refused_fde s n old f fault come is (inr many) = inr (section_has_too_many s n old f come many is)

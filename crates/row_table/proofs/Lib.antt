@@ -3,3 +3,4 @@ pub mod Walks
 pub mod Spans
 pub mod Growth
 pub mod Lookups
+pub mod Numbers

@@ -10,7 +10,8 @@ use Rattle.frame_rows.specs.Expressions.{HasExpressions}
 use Rattle.frame_rows.specs.RowAt.{IsRowAt, IsPlacedRowAt}
 use Rattle.frame_rows.specs.Rows.{unset}
 use Rattle.frame_rows.specs.Rules.{RowData, lent_row}
-use Rattle.row_table.specs.Tables.{RowsData, TableData, row_in, AreRowsOf, IsFdeOf, IsRowTableOf, IsFound}
+use Rattle.unwind_step.specs.Sources.{IsFound}
+use Rattle.row_table.specs.Tables.{RowsData, TableData, row_in, AreRowsOf, IsFdeOf, IsRowTableOf}
 
 chosen_covers : (pc : ℕ) (b : Bool) (f g : FdeRecord) (o : Option FdeRecord) → covers pc g ≡ b → cond b (Some g) o ≡ Some f → (o ≡ Some f → covers pc f ≡ true) → covers pc f ≡ true
 chosen_covers pc true f g o here e later = let same : g ≡ f = cc in subst (λ (k : FdeRecord). covers pc k ≡ true) same here

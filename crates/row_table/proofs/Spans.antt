@@ -1,13 +1,17 @@
 -- The rows of an FDE, as they are added one after another.
-use Rattle.std.proofs.Common.{◌≡◌, ℕ, ◌+◌, ◌<◌, ◌≤◌, List, [], ◌∷◌, ◌++◌, length, get_or, sym, ap, subst, ◌∙◌, arith, append_assoc, length-append, inl, inr}
+use Rattle.std.proofs.Common.{◌≡◌, ◌⊎◌, ℕ, ◌+◌, ◌<◌, ◌≤◌, List, [], ◌∷◌, ◌++◌, length, get_or, sym, ap, subst, ◌∙◌, arith, append_assoc, length-append, inl, inr}
+use Rattle.std.specs.Prelude.{All}
 use Rattle.std.proofs.lemmas.List.{get_or_append_left, append-nil}
+use Rattle.std.proofs.lemmas.List.Elements.{All-append, All-push}
 use Rattle.std.proofs.lemmas.Bool.{cases_lt}
 use Rattle.std.proofs.Math.Seq.{get_or-append_seam}
 use Rattle.frame_parse.specs.Sections.{FdeData}
 use Rattle.frame_rows.specs.declared.placed_row.PlacedRow.{PlacedRow}
 use Rattle.frame_rows.specs.RowAt.{IsPlacedRowAt}
 use Rattle.frame_rows.specs.Rows.{unset}
-use Rattle.row_table.specs.Tables.{RowsData, row_in, IsExtended, IsPushed, IsAdded}
+use Rattle.row_table.specs.declared.fault.TableFault.{TableFault}
+use Rattle.row_table.specs.declared.fault.TableFault.TheVariants.{NoMemory}
+use Rattle.row_table.specs.Tables.{RowsData, row_in, AreDifferent, HasRow, IsExtended, IsOneTooMany, IsPushed, IsAdded, HasRowsTooMany}
 
 -- where a row begins, or the location behind the last one
 abbrev bound : RowsData → ℕ → ℕ → ℕ
@@ -22,6 +26,7 @@ pub record HasSpans (f : FdeData) (old new : RowsData) (l : ℕ) : Type 0 where
   pub ascending : (j k : ℕ) → length old.starts ≤ j → j < k → k ≤ length new.starts → bound new l j < bound new l k
   pub known : (k : ℕ) → length old.starts ≤ k → k < length new.starts → get_or new.numbers k 0 < length new.distinct
   pub rows : (k pc : ℕ) → length old.starts ≤ k → k < length new.starts → bound new l k ≤ pc → pc < bound new l (k + 1) → IsPlacedRowAt f pc (row_in new k)
+  pub come : All (HasRow f) extended.more_distinct
 
 pub no_spans : (f : FdeData) (r : RowsData) (first : ℕ) → length r.numbers ≡ length r.starts → first ≡ f.entry.first → HasSpans f r r first
 no_spans f r first even at = record {
@@ -32,6 +37,7 @@ no_spans f r first even at = record {
   ascending = λ j k ge lt le. absurd (omega arith);
   known = λ k ge lt. absurd (omega arith);
   rows = λ k pc ge lt. absurd (omega arith);
+  come = λ k d lt. absurd (omega arith);
 }
 
 -- ---- one row more
@@ -119,6 +125,7 @@ module _ (f : FdeData) (old r new : RowsData) (l : ℕ) (row : PlacedRow) (spans
               let up_to_there : pc < m = let lt = rw same at below in omega (arith, lt, behind m) in
               subst (λ (w : PlacedRow). IsPlacedRowAt f pc w) (sym is) (holds pc from_here up_to_there)
         ];
+    come = All-append (HasRow f) spans.extended.more_distinct pushed.numbered.more spans.come (λ k d within. subst (HasRow f) (sym (pushed.numbered.alone k d within)) (l, holds l (omega arith) lt));
   }
 
   -- the last row of the FDE
@@ -130,6 +137,7 @@ module _ (f : FdeData) (old r new : RowsData) (l : ℕ) (row : PlacedRow) (spans
       record {
         extended = done.extended;
         even = done.even;
+        come = done.come;
         rows = record {
           some = omega (arith, spans.reached, longer);
           within = omega arith;
@@ -151,3 +159,18 @@ module _ (f : FdeData) (old r new : RowsData) (l : ℕ) (row : PlacedRow) (spans
               up_to_it.rows k pc ge lt (omega (arith, reached, inside m k lt)) below;
         };
       }
+
+-- a row more of the FDE than can be numbered
+pub too_many : (f : FdeData) (old r : RowsData) (l : ℕ) (row : PlacedRow) → HasSpans f old r l → IsOneTooMany r.distinct row → HasRow f row → HasRowsTooMany old.distinct f
+too_many f old r l row spans refused has =
+    let all : r.distinct ++ row ∷ [] ≡ old.distinct ++ (spans.extended.more_distinct ++ row ∷ []) = ap (λ (s : List PlacedRow). s ++ row ∷ []) spans.extended.distinct ∙ append_assoc old.distinct spans.extended.more_distinct (row ∷ []) in
+    record {
+      more = spans.extended.more_distinct ++ row ∷ [];
+      count = sym (ap (λ (s : List PlacedRow). length s) all) ∙ length-append r.distinct (row ∷ []) ∙ (let count = refused.count in omega arith);
+      different = subst (λ (s : List PlacedRow). AreDifferent s) all refused.different;
+      come = All-push (HasRow f) spans.extended.more_distinct row spans.come has;
+    }
+
+pub refused_push : (f : FdeData) (old r : RowsData) (l : ℕ) (row : PlacedRow) (fault : TableFault) → HasSpans f old r l → HasRow f row → (fault ≡ NoMemory) ⊎ IsOneTooMany r.distinct row → (fault ≡ NoMemory) ⊎ HasRowsTooMany old.distinct f
+refused_push f old r l row fault spans has (inl memory) = inl memory
+refused_push f old r l row fault spans has (inr refused) = inr (too_many f old r l row spans refused has)

@@ -1,20 +1,10 @@
 -- The rows of a section in a table: each with the address from which on it holds.
 use Rattle.std.specs.Prelude.{◌≡◌, ℕ, ◌+◌, ◌<◌, ◌≤◌, List, [], ◌∷◌, ◌++◌, length, get_or}
-use Rattle.std.specs.Prelude.{Some, slice_get}
-use Rattle.frame_parse.specs.Sections.{FdeData, SectionData, first_cover}
+use Rattle.std.specs.Prelude.{◌≢◌, All, Some, slice_get}
+use Rattle.frame_parse.specs.Sections.{FdeData, SectionData}
 use Rattle.frame_rows.specs.declared.placed_row.PlacedRow.{PlacedRow}
-use Rattle.frame_rows.specs.RowAt.{IsRowAt, IsPlacedRowAt}
+use Rattle.frame_rows.specs.RowAt.{IsPlacedRowAt}
 use Rattle.frame_rows.specs.Rows.{unset}
-use Rattle.frame_rows.specs.Rules.{RowData}
-
--- ---- a lookup
-
--- the FDE of an address in a section, and its row there
-pub record IsFound (s : SectionData) (pc : ℕ) (f : FdeData) (told : RowData) : Type 0 where
-  pub entry : first_cover pc s.fdes ≡ Some f.entry
-  pub section : f.section ≡ s.address
-  pub bytes : f.bytes ≡ s.bytes
-  pub row : IsRowAt f pc told
 
 -- ---- what is kept
 
@@ -63,6 +53,31 @@ pub record HasRowsOf (s : SectionData) (n : ℕ) (t : TableData) : Type 0 where
 abbrev pub IsRowTableOf : SectionData → TableData → Type 0
 IsRowTableOf s t = HasRowsOf s (length s.fdes) t
 
+-- ---- too many rows
+
+-- each of them differs from all others
+abbrev pub AreDifferent : List PlacedRow → Type 0
+AreDifferent rows = (j k : ℕ) → j < k → k < length rows
+    → get_or rows j unset ≢ get_or rows k unset
+
+-- an FDE has the row at some address
+abbrev pub HasRow : FdeData → PlacedRow → Type 0
+HasRow f row = (pc : ℕ) × IsPlacedRowAt f pc row
+
+-- so has an FDE of a section
+pub record HasFdeWithRow (s : SectionData) (row : PlacedRow) : Type 0 where
+  pub number : ℕ
+  pub fde : FdeData
+  pub is : IsFdeOf s number fde
+  pub has : HasRow fde row
+
+-- More than 65,536 rows of a section differ: so many and one are told.
+pub record HasTooManyRows (s : SectionData) : Type 0 where
+  pub rows : List PlacedRow
+  pub count : length rows ≡ 65537
+  pub different : AreDifferent rows
+  pub come : All (HasFdeWithRow s) rows
+
 -- ---- one row more, and the rows of one FDE more
 
 -- the same rows, and maybe more after them
@@ -74,12 +89,19 @@ pub record IsExtended (old new : RowsData) : Type 0 where
   pub more_distinct : List PlacedRow
   pub distinct : new.distinct ≡ old.distinct ++ more_distinct
 
--- a row has this number among those that differ; those before it have theirs as before
+-- A row has this number among those that differ; those before it have theirs as before, and nothing
+-- but the row was added.
 pub record IsNumbered (old : List PlacedRow) (row : PlacedRow) (number : ℕ) (new : List PlacedRow) : Type 0 where
   pub more : List PlacedRow
   pub are : new ≡ old ++ more
+  pub alone : All (λ other. other ≡ row) more
   pub within : number < length new
   pub is : get_or new number unset ≡ row
+
+-- 65,536 rows have their numbers, and this one isn't among them
+pub record IsOneTooMany (old : List PlacedRow) (row : PlacedRow) : Type 0 where
+  pub count : length old ≡ 65536
+  pub different : AreDifferent (old ++ row ∷ [])
 
 -- one row more, from an address on
 pub record IsPushed (old : RowsData) (start : ℕ) (row : PlacedRow) (new : RowsData) : Type 0 where
@@ -93,3 +115,11 @@ pub record IsAdded (old : RowsData) (f : FdeData) (new : RowsData) : Type 0 wher
   pub extended : IsExtended old new
   pub even : length new.numbers ≡ length new.starts
   pub rows : AreRowsOf f new (length old.starts) (length new.starts)
+  pub come : All (HasRow f) extended.more_distinct
+
+-- with rows of an FDE there are more than 65,536 that differ
+pub record HasRowsTooMany (old : List PlacedRow) (f : FdeData) : Type 0 where
+  pub more : List PlacedRow
+  pub count : length (old ++ more) ≡ 65537
+  pub different : AreDifferent (old ++ more)
+  pub come : All (HasRow f) more

@@ -10,11 +10,15 @@ mod fault;
 mod kept_rows;
 mod lent_row;
 mod making;
+mod same;
 mod search;
+mod source;
 mod table;
+mod words;
 
 pub use fault::TableFault;
 pub use lent_row::LentRow;
+pub use source::SectionRows;
 pub use table::{FoundRow, RowTable};
 
 #[cfg(test)]

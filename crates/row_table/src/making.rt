@@ -1,7 +1,7 @@
 //! Rows in the order in which the instructions of FDEs leave them.
 
-ghost use Rattle.std.specs.Prelude.{◌≡◌, [], IfOk, length};
-ghost use Rattle.row_table.specs.Tables.{IsPushed, IsAdded};
+ghost use Rattle.std.specs.Prelude.{◌≡◌, ◌⊎◌, [], IfOk, IfErr, length};
+ghost use Rattle.row_table.specs.Tables.{IsPushed, IsOneTooMany, IsAdded, HasRowsTooMany};
 
 use crate::distinct_rows::DistinctRows;
 use crate::fault::TableFault;
@@ -51,7 +51,9 @@ impl Rows {
 
     /// Adds a row, from an address on.
     fn push(&mut self, start: u64, row: &PlacedRow) -> Result<(), TableFault>
-        ensures { IfOk result (λ _. IsPushed self.old start row.now self.new) }
+        ensures pushed { IfOk result (λ _. IsPushed self.old start row.now self.new) }
+        ensures refused { IfErr result (λ fault. (fault ≡ TableFault.NoMemory)
+            ⊎ IsOneTooMany self.old.distinct row.now) }
     {
         let number = self.distinct.number_of(row)?;
         self.starts.push(start)?;
@@ -63,7 +65,9 @@ impl Rows {
     /// there on. `kept` is room for those that it remembers.
     pub(crate) fn add(&mut self, fde: &Fde<'_>, kept: &mut KeptRows) -> Result<(), TableFault>
         requires { length self.old.numbers ≡ length self.old.starts }
-        ensures { IfOk result (λ _. IsAdded self.old fde.now self.new) }
+        ensures added { IfOk result (λ _. IsAdded self.old fde.now self.new) }
+        ensures refused { IfErr result (λ fault. (fault ≡ TableFault.NoMemory)
+            ⊎ HasRowsTooMany self.old.distinct fde.now) }
     {
         steps_are_ordered();
         kept.clear();

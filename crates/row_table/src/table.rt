@@ -1,8 +1,9 @@
 //! Tables, and their lookup.
 
-ghost use Rattle.std.specs.Prelude.{◌≡◌, None, IfOk, MatchOption};
+ghost use Rattle.std.specs.Prelude.{◌≡◌, ◌⊎◌, None, IfOk, IfErr, MatchOption};
 ghost use Rattle.frame_parse.specs.Sections.{first_cover};
-ghost use Rattle.row_table.specs.Tables.{IsFound, IsRowTableOf};
+ghost use Rattle.unwind_step.specs.Sources.{IsFound};
+ghost use Rattle.row_table.specs.Tables.{IsRowTableOf, HasTooManyRows};
 
 use crate::fault::TableFault;
 use crate::kept_rows::KeptRows;
@@ -48,7 +49,10 @@ impl Model for RowTable {
 impl RowTable {
     /// The rows of a section. It takes some ten bytes for each, and a row for each that differs.
     pub fn of(alloc: Global, section: &Section) -> Result<RowTable, TableFault>
-        ensures { IfOk result (IsRowTableOf section.now) }
+        ensures rows { IfOk result (IsRowTableOf section.now) }
+        // Any other refusal than for want of memory is for this cause.
+        ensures refused { IfErr result (λ fault. (fault ≡ TableFault.NoMemory)
+            ⊎ HasTooManyRows section.now) }
     {
         let mut kept = KeptRows::new();
         let mut rows = Rows::new(alloc)?;

@@ -1,7 +1,9 @@
-use Rattle.std.proofs.Common.{List, sym, subst}
+use Rattle.std.proofs.Common.{List, sym, subst, arith}
+use Rattle.std.proofs.lemmas.Result.{err_from_is_err_and}
 use Rattle.frame_parse.specs.Programs.{PlacedProgramData, HasPlacedSteps}
 use Rattle.frame_rows.specs.declared.placed_row.PlacedRow.{PlacedRow}
-use Rattle.row_table.proofs.Spans.{no_spans, one_more, last_one}
+use Rattle.row_table.specs.Tables.{HasRow}
+use Rattle.row_table.proofs.Spans.{no_spans, one_more, last_one, refused_push}
 use Rattle.row_table.proofs.Walks.{GoesOn, on_at_first, moved_on, stayed_on, plain_on, remembered_on, restored_on, row_up_to, row_to_the_end, has_room, has_one}
 use Rattle.row_table.proofs.making.Rows.add.Goals as goal
 
@@ -25,7 +27,7 @@ loop-step-preserved-then-step-location c =
       on = moved_on f base was.program c.next.new.self was.location was.row was.kept c.in-Some.step was.invariant.on gives c.in-Advance.is c.if-step-location.true;
       base = was.invariant.base;
       spans =
-          one_more f c.args.self.now was.self c.push.new.self was.location was.row was.invariant.spans c.in_ok-push-in-Advance.ensures c.in-Some.step.location c.if-step-location.true
+          one_more f c.args.self.now was.self c.push.new.self was.location was.row was.invariant.spans c.in_ok-push-in-Advance.ensures.pushed c.in-Some.step.location c.if-step-location.true
           (λ pc le lt. row_up_to f base was.program c.next.new.self was.location was.row was.kept c.in-Some.step pc was.invariant.on was.invariant.base gives le lt);
     }
 
@@ -82,9 +84,25 @@ loop-step-preserved c =
       spans = was.invariant.spans;
     }
 
-pub returns : goal.returns
-returns c =
+pub returns-clause-added : goal.returns-clause-added
+returns-clause-added c =
     let was = c.loop-step in
     let f = c.args.fde.now in
-    last_one f c.args.self.now was.self c.push-2.new.self was.location was.row was.invariant.spans c.in_ok-push.ensures
+    last_one f c.args.self.now was.self c.push-2.new.self was.location was.row was.invariant.spans c.in_ok-push.ensures.pushed
     (λ pc le. row_to_the_end f c.initial_row-base.result was.program was.location was.row was.kept pc was.invariant.on was.invariant.base c.in_default.ensures.steps le)
+
+pub returns-in_err-push-in-Advance-clause-refused : goal.returns-in_err-push-in-Advance-clause-refused
+returns-in_err-push-in-Advance-clause-refused c =
+    let was = c.loop-step in
+    let f = c.args.fde.now in
+    let has : HasRow f was.row = (was.location, row_up_to f c.initial_row-base.result was.program c.next.new.self was.location was.row was.kept c.in-Some.step was.location was.invariant.on was.invariant.base c.in-Some.ensures.steps (omega arith) c.if-step-location.true) in
+    let p = err_from_is_err_and c.from_residual.result c.from_residual.ensures.1 in
+    rw (p.1, p.2) (refused_push f c.args.self.now was.self was.location was.row c.in_err-push-in-Advance.field-0.0 was.invariant.spans has c.in_err-push-in-Advance.ensures.refused)
+
+pub returns-in_err-push-clause-refused : goal.returns-in_err-push-clause-refused
+returns-in_err-push-clause-refused c =
+    let was = c.loop-step in
+    let f = c.args.fde.now in
+    let has : HasRow f was.row = (was.location, row_to_the_end f c.initial_row-base.result was.program was.location was.row was.kept was.location was.invariant.on was.invariant.base c.in_default.ensures.steps (omega arith)) in
+    let p = err_from_is_err_and c.from_residual-in_err-push.result c.from_residual-in_err-push.ensures.1 in
+    rw (p.1, p.2) (refused_push f c.args.self.now was.self was.location was.row c.in_err-push.field-0.0 was.invariant.spans has c.in_err-push.ensures.refused)

@@ -1,5 +1,9 @@
-use Rattle.row_table.specs.Tables.{HasRowsOf}
+use Rattle.std.specs.Prelude.{All}
+use Rattle.row_table.specs.Tables.{HasFdeWithRow, HasRowsOf}
 use Rattle.row_table.proofs.table.RowTable.of.Given as goal
 
 abbrev pub invariant-loop-index : goal.invariant-loop-index
-invariant-loop-index l = HasRowsOf l.section l.index (record { begins = l.begins.items; rows = l.rows })
+invariant-loop-index l = record {
+  rows : HasRowsOf l.section l.index (record { begins = l.begins.items; rows = l.rows });
+  come : All (HasFdeWithRow l.section) l.rows.distinct;
+}
