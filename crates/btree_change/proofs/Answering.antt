@@ -1,12 +1,11 @@
 -- What an insertion answers at its leaf, and what is left when it let go of it.
-use Rattle.std.proofs.Common.{◌≡◌, ◌≢◌, ℕ, ◌+◌, ◌-◌, ◌<◌, ◌≤◌, List, [], ◌∷◌, ◌++◌, length, drop, sym, refl, ap, ◌∙◌, subst, arith, Bool, true, false, true≢false, ◌||◌, nat_le}
+use Rattle.std.proofs.Common.{◌≡◌, ◌≢◌, ℕ, ◌<◌, ◌≤◌, List, [], ◌∷◌, length, drop, sym, refl, ap, ◌∙◌, subst, arith, Bool, true, false, true≢false, ◌||◌, nat_le}
 use Rattle.std.specs.List.{AllByRecursion}
 use Rattle.reg_model.specs.declared.answer.Inserted.{Inserted}
 use Rattle.reg_model.specs.declared.answer.Inserted.TheVariants as inserted
 use Rattle.reg_model.specs.declared.answer.Receipt.TheVariants as receipt
 use Rattle.reg_model.specs.declared.span.Member.{Member}
-use Rattle.tree_shape.specs.Decisions.{is_entries}
-use Rattle.tree_shape.specs.NodeData.{NodeData, entries_of}
+use Rattle.tree_shape.specs.NodeData.{entries_of}
 use Rattle.word_rule.specs.CallerData.{CallerData, surplus}
 use Rattle.word_rule.specs.Spelling.{SpellsNode}
 use Rattle.word_rule.specs.declared.log.Budget.{Budget}
@@ -15,15 +14,13 @@ use Rattle.word_rule.specs.declared.log.Holdings.{Holdings}
 use Rattle.word_rule.specs.declared.log.Terms.{Terms}
 use Rattle.btree_change.specs.declared.descent.Held.{Held}
 use Rattle.btree_change.specs.declared.stand.Outcome.{Outcome}
-use Rattle.btree_change.specs.declared.stand.Stand.{Stand}
 use Rattle.btree_change.specs.Insertion.{HoldsLeaf, IsInnerLock, PutsMember, RefusesMember, taken_by}
 use Rattle.btree_change.specs.Paths.{AreHigher}
-use Rattle.btree_change.specs.Spines.{AreApart}
 use Rattle.btree_change.specs.Splits.{HasSpace}
 use Rattle.btree_change.proofs.Putting.{leaf_at_zero}
 use Rattle.btree_change.specs.Stands.{AnswersBelow, AnswersHere, AreLeftAs, LetsGo, MayGo, StandsAt}
 use Rattle.btree_change.proofs.Descending.{is_inner}
-use Rattle.btree_change.proofs.Lowering.{keeps_none, settled_live}
+use Rattle.btree_change.proofs.Lowering.{settled_live}
 use Rattle.btree_change.proofs.Spending.{right_before, spends_before, surplus_after}
 use Rattle.btree_change.proofs.Standing.{higher_spelled}
 
@@ -121,7 +118,7 @@ module _ (t : Terms) (m : Member) (at : Held) (k : CallerData) (stands : StandsA
 
     pub here_answered : (k2 : CallerData) → LetsGo k1 k2 → AnswersBelow t m (record { answer = outcome.answer; moved = 0 }) 13 k k2
     here_answered k2 gone = record {
-      right = right_before t m outcome.answer k k1 k2 gone.steps.past (keeps_none k1 k2 gone.loads) here.right;
+      right = right_before t m outcome.answer k k1 k2 gone.steps.past gone.steps.loads here.right;
       call = spends_before 0 1 13 (receipt.Register m outcome.answer ∷ []) (taken_by outcome.answer) k k1 k2 (omega arith) here.call gone.steps.call;
       above = subst (λ hs. AreLeftAs 0 hs k2.log.holdings.held) (sym above_is) (subst (AreLeftAs 0 stands.above) (sym (gone.held ∙ (ap (drop 1) here.held ∙ above_is))) (unmoved t 0 at.content.level stands.above stands.higher));
       out = gone.out ∙ here.out;

@@ -1,20 +1,18 @@
 -- An insertion at the root, and below a lifted one.
-use Rattle.std.proofs.Common.{◌≡◌, ◌≢◌, ℕ, ◌+◌, ◌-◌, ◌<◌, ◌≤◌, ◌⊎◌, inl, inr, List, [], ◌∷◌, ◌++◌, length, drop, append-nil, sym, refl, ap, ◌∙◌, subst, arith, Bool, true, false, true≢false, ◌==◌, Option, Some, None, IsSome, IfSome, is_some, Result, Ok, Err, IfOk, IfErr, eq-eqb, cond}
-use Rattle.std.specs.List.{AllByRecursion}
+use Rattle.std.proofs.Common.{◌≡◌, ℕ, ◌+◌, ◌<◌, ◌≤◌, ◌⊎◌, inl, inr, List, [], ◌∷◌, drop, append-nil, sym, refl, ap, ◌∙◌, subst, arith, true, true≢false, Some, None, is_some, Result, Ok, Err, IfOk, IfErr, eq-eqb, cond}
 use Rattle.reg_model.specs.SpanData.{IsSpan}
 use Rattle.reg_model.specs.declared.answer.Inserted.{Inserted}
 use Rattle.reg_model.specs.declared.answer.Receipt.TheVariants as receipt
 use Rattle.reg_model.specs.declared.span.Member.{Member}
-use Rattle.tree_shape.specs.NodeData.{NodeData, IsInFences}
+use Rattle.tree_shape.specs.NodeData.{IsInFences}
 use Rattle.tree_shape.specs.Lawful.{IsOrdered}
 use Rattle.tree_shape.specs.Steps.{IsFull}
-use Rattle.tree_shape.specs.declared.node.Frame.{Frame}
 use Rattle.word_rule.specs.CallerData.{CallerData, surplus}
 use Rattle.word_rule.specs.Held.{held_of}
-use Rattle.word_rule.specs.NodeTells.{IsLiveNode}
 use Rattle.word_rule.specs.Spelling.{SpellsNode}
 use Rattle.word_rule.specs.declared.log.Holding.{Holding}
 use Rattle.word_rule.specs.declared.log.Holdings.{Holdings}
+use Rattle.word_rule.specs.declared.log.LockId.{LockId}
 use Rattle.word_rule.specs.declared.log.Log.{Log}
 use Rattle.word_rule.specs.declared.log.Terms.{Terms}
 use Rattle.btree_change.specs.declared.descent.Held.{Held}
@@ -26,12 +24,15 @@ use Rattle.btree_change.specs.declared.stand.Room.{Room}
 use Rattle.btree_change.specs.declared.stand.Stand.{Stand}
 use Rattle.reg_model.specs.declared.answer.Inserted.TheVariants as inserted
 use Rattle.btree_change.specs.Insertion.{AnswersInsertion, Inserts, call_begun, taken_by}
+use Rattle.btree_change.specs.Loads.{FoundTaken}
 use Rattle.btree_change.specs.Paths.{AreHigher, HoldsNothing, StepsOnNodes}
 use Rattle.btree_change.specs.Roots.{EndsInsertion, GivesUpWhole}
 use Rattle.btree_change.specs.Splits.{HoldsFullAlone, HoldsFullRoot, KeepsHeld, LiftsRoot, TakesTwo, with_release_less}
-use Rattle.btree_change.specs.Stands.{AnswersBelow, AreLeftAs, GivesUpBelow, HasWayOn, HoldsPair, HoldsRoot, LetsGo, MayGo, Reaches, SpendsCall, SpendsSteps, StandsOnWay, StandsAt, releases_at}
-use Rattle.btree_change.specs.Updates.{AnswersUpdate, GivesUp}
-use Rattle.btree_change.proofs.Lowering.{keeps_none, settled_live}
+use Rattle.btree_change.specs.Stands.{AnswersBelow, AreLeftAs, GivesUpBelow, HasWayOn, HoldsPair, HoldsRoot, LetsGo, MayGo, Reaches, SpendsSteps, StandsOnWay, StandsAt}
+use Rattle.btree_change.specs.Updates.{GivesUp}
+use Rattle.btree_change.proofs.Descending.{steps_none}
+use Rattle.btree_change.proofs.Loading.{found_after}
+use Rattle.btree_change.proofs.Lowering.{settled_live}
 use Rattle.btree_change.proofs.Spending.{own_same, right_after, right_before, spends_after, spends_before, spends_same, steps_after, surplus_after}
 
 -- the root alone is where an insertion stands
@@ -105,7 +106,7 @@ alone_ends t m reply most k k' alone few a = record {
 
 pub alone_gives_up : (most : ℕ) (k k' : CallerData) → drop 1 k.log.holdings.held ≡ [] → most ≤ 37 → GivesUpBelow most k k' → GivesUpWhole 37 k k'
 alone_gives_up most k k' alone few g = record {
-  steps = steps_after most 0 37 k k' k' (omega (arith, few)) g.steps (spends_same k' k' (record { table = refl; left = refl; terms = refl; role = refl; past = refl; budget = refl; receipts = refl; loader = refl; made = refl; lineage = refl }));
+  steps = steps_after most 0 37 k k' k' (omega (arith, few)) g.steps (spends_same k' k' (steps_none k'));
   nothing = (g.held ∙ alone, g.out);
 }
 
@@ -160,6 +161,7 @@ module _ (t : Terms) (m : Member) (full : FullRoot) (k : CallerData) (held : Hol
       credit = let e = ap (λ b. b.credit) s.budget in omega (arith, e);
     };
     past = s.past;
+    loads = s.loads;
   }
 
   -- the insertion stands below it
@@ -197,7 +199,7 @@ module _ (t : Terms) (m : Member) (full : FullRoot) (k : CallerData) (held : Hol
 
       pub lifted_ends : (k4 : CallerData) → LetsGo k3 k4 → EndsInsertion t m reply.answer 39 k k4
       lifted_ends k4 goes = record {
-        right = right_after t m reply.answer k k2 k4 lifted_two.past (own_same 1 k k2 lifted_two) (right_before t m reply.answer k2 k3 k4 goes.steps.past (keeps_none k3 k4 goes.loads) a.right);
+        right = right_after t m reply.answer k k2 k4 lifted_two.past (own_same 1 k k2 lifted_two) (right_before t m reply.answer k2 k3 k4 goes.steps.past goes.steps.loads a.right);
         call = spends_after 1 38 39 (receipt.Register m reply.answer ∷ []) (taken_by reply.answer) k k2 k4 (omega arith) lifted_two.call
             (spends_before most 1 38 (receipt.Register m reply.answer ∷ []) (taken_by reply.answer) k2 k3 k4 (omega (arith, few)) a.call goes.steps.call);
         nothing = (goes.held ∙ ap (drop 1) one_left.is, goes.out ∙ a.out);
@@ -245,7 +247,7 @@ pub kept_steps : (k k1 : CallerData) → KeepsHeld k k1 → SpendsSteps 1 k k1
 kept_steps k k1 kept = go kept.same
   where
     go : StepsOnNodes k k1 ⊎ StepsOnNodes (with_release_less k) k1 → SpendsSteps 1 k k1
-    go (inl s) = steps_after 0 0 1 k k1 k1 (omega arith) (spends_same k k1 s) (spends_same k1 k1 (record { table = refl; left = refl; terms = refl; role = refl; past = refl; budget = refl; receipts = refl; loader = refl; made = refl; lineage = refl }))
+    go (inl s) = steps_after 0 0 1 k k1 k1 (omega arith) (spends_same k k1 s) (spends_same k1 k1 (steps_none k1))
     go (inr s) = record {
       call = record {
         table = s.table;
@@ -260,6 +262,7 @@ kept_steps k k1 kept = go kept.same
         credit = let e = ap (λ b. b.credit) s.budget in omega (arith, e);
       };
       past = s.past;
+      loads = s.loads;
     }
 
 -- one part after another, to the end
@@ -292,8 +295,9 @@ update_answered t m answer k l n same e =
       };
     }
 
-gives_so : (most : ℕ) (k n : CallerData) → most ≤ 64 → GivesUpWhole most k n → GivesUp k n
-gives_so most k n few g = record {
+gives_so : (id : LockId) (most : ℕ) (k n : CallerData) → most ≤ 64 → FoundTaken id k n → GivesUpWhole most k n → GivesUp id k n
+gives_so id most k n few cause g = record {
+  cause = cause;
   table = g.steps.call.table;
   left = g.steps.call.left;
   terms = g.steps.call.terms;
@@ -308,11 +312,11 @@ gives_so most k n few g = record {
   nothing = g.nothing;
 }
 
-pub update_given_up : (k l n : CallerData) → StepsOnNodes k l → GivesUpWhole 64 l n → GivesUp k n
-update_given_up k l n same g = gives_so 64 k n (omega arith) (gives_up_after 0 64 64 k l n (omega arith) (spends_same k l same) g)
+pub update_given_up : (id : LockId) (k l n : CallerData) → StepsOnNodes k l → FoundTaken id l n → GivesUpWhole 64 l n → GivesUp id k n
+update_given_up id k l n same cause g = gives_so id 64 k n (omega arith) (found_after id k l n same.loads cause) (gives_up_after 0 64 64 k l n (omega arith) (spends_same k l same) g)
 
-pub root_busy : (k l : CallerData) → StepsOnNodes k l → HoldsNothing l.log.holdings → GivesUp k l
-root_busy k l same nothing = gives_so 0 k l (omega arith) (record { steps = spends_same k l same; nothing = nothing })
+pub root_busy : (id : LockId) (k l : CallerData) → StepsOnNodes k l → FoundTaken id k l → HoldsNothing l.log.holdings → GivesUp id k l
+root_busy id k l same cause nothing = gives_so id 0 k l (omega arith) cause (record { steps = spends_same k l same; nothing = nothing })
 
 pub root_gone : (t : Terms) (root : Held) (k k1 k2 : CallerData) → HoldsRoot t root k.log.holdings → KeepsHeld k k1 → LetsGo k1 k2 → GivesUpWhole 64 k k2
 root_gone t root k k1 k2 h kept goes = record {
@@ -327,6 +331,10 @@ if_ok P Q (Err e) f p = tt
 pub if_err : {A E : Type 0} (P Q : E → Type 0) (r : Result A E) → ((e : E) → P e → Q e) → IfErr r P → IfErr r Q
 if_err P Q (Ok a) f p = tt
 if_err P Q (Err e) f p = f e p
+
+pub if_err_both : {A E : Type 0} (P R Q : E → Type 0) (r : Result A E) → ((e : E) → P e → R e → Q e) → IfErr r P → IfErr r R → IfErr r Q
+if_err_both P R Q (Ok a) f p x = tt
+if_err_both P R Q (Err e) f p x = f e p x
 
 pub inserts_so : (t : Terms) (m : Member) (answer : Inserted) (k k' : CallerData) → 0 < k.left → AnswersInsertion t m answer (call_begun k) k' → Inserts t m k k' answer
 inserts_so t m (inserted.Done number) k k' some a = (some, a)

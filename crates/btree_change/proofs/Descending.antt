@@ -1,29 +1,27 @@
 -- Steps on nodes on the way down, and what is held after each.
-use Rattle.std.proofs.Common.{◌≡◌, ◌≢◌, ℕ, zero, suc, ◌+◌, ◌-◌, ◌<◌, ◌≤◌, List, [], ◌∷◌, length, get_or, sym, refl, ap, ◌∙◌, subst, arith, Bool, true, false, ◌==◌, not, nat_le, true≢false, Option, Some, None, IfSome, IsSome, IsSomeAnd, eq-eqb, ne_eqb, Contains, if◌then◌else◌, cond}
-use Rattle.std.proofs.lemmas.Option.{same_Some}
+use Rattle.std.proofs.Common.{◌≡◌, ◌≢◌, ℕ, zero, suc, ◌+◌, ◌-◌, ◌<◌, ◌≤◌, List, [], ◌∷◌, length, get_or, sym, refl, ap, ◌∙◌, subst, arith, Bool, true, false, ◌==◌, nat_le, Option, Some, None, IsSomeAnd, eq-eqb, ne_eqb, Contains, if◌then◌else◌}
 use Rattle.std.proofs.lemmas.Bool.{leb-true, leb-false}
 use Rattle.std.specs.List.{AllByRecursion}
 use native.Mathlib.Decide.{ℕ_discrete}
 use Rattle.tree_shape.specs.declared.pair.Pair.{Pair}
 use Rattle.tree_shape.specs.declared.node.Frame.{Frame}
 use Rattle.tree_shape.specs.Decisions.{is_entries}
-use Rattle.tree_shape.specs.NodeData.{NodeData, Body, Pairs, Entries, Link, InOrder, InOrderAs, IsInFences, IsInner, pairs_of, pairs_in, slot_for}
+use Rattle.tree_shape.specs.NodeData.{NodeData, Body, Pairs, Entries, Link, InOrder, InOrderAs, IsInner, pairs_of, pairs_in, slot_for}
 use Rattle.tree_shape.specs.Lawful.{IsFilledAs, IsOrderedAs}
 use Rattle.tree_shape.specs.Trees.{Branch, branches, branches_from}
 use Rattle.word_rule.specs.CallerData.{CallerData}
 use Rattle.word_rule.specs.declared.log.Holding.{Holding}
-use Rattle.word_rule.specs.declared.log.Holdings.{Holdings}
 use Rattle.word_rule.specs.declared.log.LockId.TheVariants as lock
-use Rattle.word_rule.specs.declared.log.Log.{Log}
 use Rattle.word_rule.specs.declared.log.Terms.{Terms}
-use Rattle.word_rule.specs.Held.{held_of, without_lock}
+use Rattle.word_rule.specs.Held.{held_of}
 use Rattle.word_rule.specs.NodeTells.{IsLiveNode}
-use Rattle.word_rule.specs.Spelling.{spelled, SpellsNode}
-use Rattle.word_rule.specs.Steps.{after_node_release_same, mark_at_lock, place_by, place_by_held, place_in, first_mark}
+use Rattle.word_rule.specs.Spelling.{SpellsNode}
+use Rattle.word_rule.specs.Steps.{after_node_release_same, place_in}
 use Rattle.node_store.specs.Holding.{ReadsHeld}
 use Rattle.node_store.specs.Locking.{Locks}
 use Rattle.node_store.specs.Sights.{after_words}
 use Rattle.btree_change.specs.Paths.{HasChildFor, StepsOnNodes}
+use Rattle.btree_change.proofs.Loading.{keeps_all, keeps_then, keeps_words, none_more}
 
 -- the first slot for an address leads to a child whose fences hold it
 pub slot_branch : (level low pc : ℕ) (pairs : List Pair) (d : Pair) → low ≤ pc → slot_for pc pairs < length pairs
@@ -130,21 +128,22 @@ steps_then k l m a b = record {
   loader = b.loader ∙ a.loader;
   made = b.made ∙ a.made;
   lineage = b.lineage ∙ a.lineage;
+  loads = keeps_then k l m a.loads b.loads;
 }
 
 pub steps_equal : (k l m : CallerData) → m ≡ l → StepsOnNodes k l → StepsOnNodes k m
 steps_equal k l m is a = subst (StepsOnNodes k) (sym is) a
 
 pub steps_none : (k : CallerData) → StepsOnNodes k k
-steps_none k = record { table = refl; left = refl; terms = refl; role = refl; past = refl; budget = refl; receipts = refl; loader = refl; made = refl; lineage = refl }
+steps_none k = record { table = refl; left = refl; terms = refl; role = refl; past = refl; budget = refl; receipts = refl; loader = refl; made = refl; lineage = refl; loads = keeps_all k }
 
 pub steps_of_take : (n : ℕ) (k k' : CallerData) → Locks (lock.Node n) k k' → StepsOnNodes k k'
 steps_of_take n k k' (more, marks, nodes, version, settled, words, (tries, taken, is)) =
-    subst (StepsOnNodes k) (sym is) (record { table = refl; left = refl; terms = refl; role = refl; past = refl; budget = refl; receipts = refl; loader = refl; made = refl; lineage = refl })
+    subst (StepsOnNodes k) (sym is) (record { table = refl; left = refl; terms = refl; role = refl; past = refl; budget = refl; receipts = refl; loader = refl; made = refl; lineage = refl; loads = (more, refl) })
 
 pub steps_of_letting_go : (n : ℕ) (k k' : CallerData) → k' ≡ record k { log = after_node_release_same n k.log } → StepsOnNodes k k'
 steps_of_letting_go n k k' is =
-    subst (StepsOnNodes k) (sym is) (record { table = refl; left = refl; terms = refl; role = refl; past = refl; budget = refl; receipts = refl; loader = refl; made = refl; lineage = refl })
+    subst (StepsOnNodes k) (sym is) (record { table = refl; left = refl; terms = refl; role = refl; past = refl; budget = refl; receipts = refl; loader = refl; made = refl; lineage = refl; loads = none_more k.log.trace.loads })
 
 pub steps_of_words : (n : ℕ) (words : List ℕ) (count : ℕ) (k : CallerData) → StepsOnNodes k (record k { log = after_words n words count k.log })
 unfolding after_words
@@ -160,6 +159,7 @@ steps_of_words n words (suc count) k = let rest = steps_of_words n words count k
   loader = rest.loader;
   made = rest.made;
   lineage = rest.lineage;
+  loads = keeps_words n words (suc count) k;
 }
 
 pub steps_of_read : (n : ℕ) (k k' : CallerData) (s : NodeData) → ReadsHeld n k k' s → StepsOnNodes k k'

@@ -1,6 +1,6 @@
 -- The root, from what the calls that take and read it ensure.
-use Rattle.std.proofs.Common.{◌≡◌, ◌≢◌, ℕ, zero, suc, ◌<◌, List, [], ◌∷◌, sym, refl, ap, ◌∙◌, subst, arith, ◌≤◌, Option, Some, None, Bool, true, false, ◌++◌, ◌==◌, append-nil, if◌then◌else◌, IsTrue, IsSome, IsSomeAnd}
-use Rattle.tree_shape.specs.NodeData.{NodeData, IsInFences}
+use Rattle.std.proofs.Common.{◌≡◌, ℕ, ◌<◌, List, [], ◌∷◌, sym, refl, ap, ◌∙◌, subst, Option, Some, None, Bool, true, false, ◌++◌, ◌==◌, append-nil, if◌then◌else◌, IsTrue, IsSome, IsSomeAnd}
+use Rattle.tree_shape.specs.NodeData.{NodeData}
 use Rattle.word_rule.specs.CallerData.{CallerData}
 use Rattle.tree_shape.specs.declared.node.Frame.{Frame}
 use Rattle.word_rule.specs.declared.log.Holding.{Holding}
@@ -15,7 +15,6 @@ use Rattle.word_rule.specs.Spelling.{spelled}
 use Rattle.std.specs.List.{AllByRecursion}
 use Rattle.word_rule.specs.declared.log.LockId.TheVariants as lock
 use Rattle.word_rule.specs.declared.log.Terms.{Terms}
-use Rattle.word_rule.specs.Steps.{after_node_release_same}
 use Rattle.node_store.specs.Holding.{ReadsHeld}
 use Rattle.node_store.specs.Locking.{Locks}
 use Rattle.btree_change.specs.Paths.{HoldsNothing, IsSettledLock, StepsOnNodes}
@@ -23,7 +22,6 @@ use Rattle.btree_change.specs.Stands.{HoldsRoot}
 use Rattle.node_store.specs.Sights.{after_words}
 use Rattle.word_rule.specs.Spelling.{SpellsNode}
 use Rattle.std.proofs.lemmas.Option.{same_Some}
-use Rattle.btree_change.proofs.Descending.{steps_then}
 
 -- the root was locked and read, by one that held nothing
 pub at_the_root : (t : Terms) (shape : NodeData) (k k1 k2 k3 : CallerData) (found : ℕ) → 0 < t.nodes → k.log.terms ≡ t → HoldsNothing k.log.holdings → Locks (lock.Node 0) k k1 → KnowsTree k1.log.holdings → k2 ≡ record k1 { log = after_node_load 0 2 found k1.log } → ReadsHeld 0 k2 k3 shape → k3.log.holdings ≡ k2.log.holdings
@@ -64,7 +62,7 @@ may_read_root t k k1 k2 found locks loads = go locks
 
 pub steps_of_load : (n at found : ℕ) (k k' : CallerData) → k' ≡ record k { log = after_node_load n at found k.log } → StepsOnNodes k k'
 steps_of_load n at found k k' is =
-    subst (StepsOnNodes k) (sym is) (record { table = refl; left = refl; terms = refl; role = refl; past = refl; budget = refl; receipts = refl; loader = refl; made = refl; lineage = refl })
+    subst (StepsOnNodes k) (sym is) (record { table = refl; left = refl; terms = refl; role = refl; past = refl; budget = refl; receipts = refl; loader = refl; made = refl; lineage = refl; loads = (_ ∷ [], refl) })
 
 -- a load of a version for which nothing is asked appends nothing
 nothing_asked : (v : Log) (found : ℕ) (o : Option NodeSight) → receipts_after_version v ask.Nothing found o ≡ []
@@ -78,4 +76,4 @@ nothing_asked v found (Some s) = go (s.version == found)
 pub steps_of_version : (n found : ℕ) (k k' : CallerData) → k' ≡ record k { log = after_node_version ask.Nothing n found k.log } → StepsOnNodes k k'
 steps_of_version n found k k' is =
     let own : k.log.receipts.own ++ receipts_after_version k.log ask.Nothing found (sight_of n k.log.sights.nodes) ≡ k.log.receipts.own = ap (λ rs. k.log.receipts.own ++ rs) (nothing_asked k.log found (sight_of n k.log.sights.nodes)) ∙ append-nil k.log.receipts.own in
-    subst (StepsOnNodes k) (sym is) (record { table = refl; left = refl; terms = refl; role = refl; past = refl; budget = refl; receipts = (λ i. record k.log.receipts { own = own i }); loader = refl; made = refl; lineage = refl })
+    subst (StepsOnNodes k) (sym is) (record { table = refl; left = refl; terms = refl; role = refl; past = refl; budget = refl; receipts = (λ i. record k.log.receipts { own = own i }); loader = refl; made = refl; lineage = refl; loads = (_ ∷ [], refl) })

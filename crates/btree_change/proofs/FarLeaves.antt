@@ -1,5 +1,5 @@
 -- An insertion whose span ends in the next leaf.
-use Rattle.std.proofs.Common.{◌≡◌, ◌≢◌, ℕ, ◌+◌, ◌-◌, ◌%◌, ◌<◌, ◌≤◌, List, [], ◌∷◌, ◌++◌, length, drop, append-nil, sym, refl, ap, ◌∙◌, subst, arith, Bool, true, false, true≢false, ◌||◌, nat_le, Option, Some, None, IsSome, IsSomeAnd, eq-eqb}
+use Rattle.std.proofs.Common.{◌≡◌, ◌≢◌, ℕ, ◌%◌, ◌<◌, ◌≤◌, List, [], ◌∷◌, ◌++◌, length, drop, append-nil, sym, refl, ap, ◌∙◌, subst, arith, Bool, true, false, true≢false, ◌||◌, nat_le, Some, IsSome, IsSomeAnd}
 use Rattle.std.proofs.lemmas.Option.{same_Some}
 use Rattle.std.proofs.lemmas.Bool.{le-leb}
 use Rattle.std.specs.List.{AllByRecursion}
@@ -28,21 +28,18 @@ use Rattle.node_store.specs.Holding.{ReadsHeld}
 use Rattle.btree_change.specs.declared.beyond.Far.{Far}
 use Rattle.btree_change.specs.declared.beyond.Next.{Next}
 use Rattle.btree_change.specs.declared.descent.Held.{Held}
-use Rattle.btree_change.specs.declared.stand.Beyond.{Beyond}
 use Rattle.btree_change.specs.declared.stand.Reply.{Reply}
-use Rattle.btree_change.specs.declared.stand.Room.{Room}
 use Rattle.btree_change.specs.declared.stand.Room.TheVariants as room
 use Rattle.btree_change.specs.Far.{AnswersAbove, IsAtNext, IsReadyFar, LeavesFar, StandsFar}
 use Rattle.btree_change.specs.Insertion.{HoldsLeaf, IsInnerLock, PutsMember, RefusesMember, taken_by}
 use Rattle.btree_change.specs.Paths.{AreHigher, IsSettledLock, StepsOnNodes}
-use Rattle.btree_change.specs.Spines.{AreApart, AreMovedLocks, HoldsLeafPair, HoldsNext, HoldsWay, KeepsLoads, MovesFence}
-use Rattle.btree_change.specs.Splits.{HasSpace}
+use Rattle.btree_change.specs.Loads.{KeepsLoads}
+use Rattle.btree_change.specs.Spines.{AreApart, AreMovedLocks, HoldsLeafPair, HoldsNext, HoldsWay, MovesFence}
 use Rattle.btree_change.specs.Stands.{AnswersBelow, AreLeftAs, GivesUpBelow, HasWayOn, LiesBeyond, LetsGo, MayGo, SpendsCall, SpendsSteps, StandsAt}
 use Rattle.btree_change.proofs.Answering.{inner_above, leaf_room, unmoved}
-use Rattle.btree_change.proofs.Descending.{steps_of_read, steps_then}
+use Rattle.btree_change.proofs.Descending.{steps_of_read}
 use Rattle.btree_change.proofs.Going.{apart_left, far_left, way_lowered}
 use Rattle.btree_change.proofs.LockedSpines.{may_read_found, reads_spelled}
-use Rattle.btree_change.proofs.Lowering.{keeps_none, keeps_read, keeps_then}
 use Rattle.btree_change.proofs.NextOverlaps.{both_free, both_leaves}
 use Rattle.btree_change.proofs.Refusing.{refused_full}
 use Rattle.btree_change.proofs.Settling.{found_first}
@@ -81,7 +78,6 @@ module _ (t : Terms) (leaf : Held) (base : Holdings) (stands : StandsAt t leaf b
     steps = steps_after 0 1 1 k k1 k2 (omega arith) (spends_same k k1 same) goes.steps;
     held = goes.held ∙ ap (λ (hs : Holdings). drop 1 hs.held) is;
     out = goes.out ∙ (ap (λ (hs : Holdings). hs.out) is ∙ stands.out);
-    loads = keeps_then k k1 k2 loads (keeps_none k1 k2 goes.loads);
   }
 
 -- the first of a list
@@ -171,7 +167,7 @@ module _ (t : Terms) (m : Member) (far : Far) (k : CallerData) (ready : IsReadyF
       let e : way.top ≡ b.top = same_top way.spine b.spine way.top b.top way.rest b.rest ready.leaf.above above_is b.split ready.leaf.apart.1 (way.node ∙ sym b.node) in
       ap (λ (h : Holding). h.settled.level) e ∙ b.level
 
-  module _ (k1 : CallerData) (moves : MovesFence t m.span.last way.lock way.spine way.top way.rest k k1) where
+  module _ (k1 : CallerData) (moves : MovesFence t m.span.last way.lock way.spine way.top way.rest k k1) (told : KeepsLoads k k1) where
     abbrev now : NodeData
     now = ends_at_fence m.span.last far.leaf.content
 
@@ -247,6 +243,7 @@ module _ (t : Terms) (m : Member) (far : Far) (k : CallerData) (ready : IsReadyF
           credit = moves.credit;
         };
         past = moves.past;
+        loads = told;
       }) (spends_same k1 k2 (steps_of_read far.leaf.node k1 k2 shape reads))
 
       pub still_due : 0 < due k → 0 < due k2
@@ -300,7 +297,7 @@ module _ (t : Terms) (m : Member) (far : Far) (k : CallerData) (ready : IsReadyF
         pub put_answers : (k4 : CallerData) → LetsGo k3 k4 → AnswersAbove t m (record { answer = inserted.Done number; moved = far.beyond.level }) (drop 1 ready.next.base.held) 13 k k4
         put_answers k4 goes = record {
           right = right_after t m (inserted.Done number) k k2 k4 spent.past (own_same 12 k k2 spent)
-              (right_before t m (inserted.Done number) k2 k3 k4 goes.steps.past (keeps_none k3 k4 goes.loads) (puts.before, (puts.begins, puts.past, puts.number_is)));
+              (right_before t m (inserted.Done number) k2 k3 k4 goes.steps.past goes.steps.loads (puts.before, (puts.begins, puts.past, puts.number_is)));
           call = spends_after 12 1 13 (receipt.Register m (inserted.Done number) ∷ []) 1 k k2 k4 (omega arith) spent.call
               (spends_before 0 1 1 (receipt.Register m (inserted.Done number) ∷ []) 1 k2 k3 k4 (omega arith) put_call goes.steps.call);
           left = subst (λ hs. AreLeftAs far.beyond.level hs k4.log.holdings.held) (sym (ap (drop 1) way.held))
@@ -340,7 +337,7 @@ module _ (t : Terms) (m : Member) (n : Next) (k : CallerData) (at : IsAtNext t m
   refused_above answer k1 k2 r leaves =
       let u = under k1 r.holdings in
       let gone = subst (λ b. LeavesFar b k1 k2) u.1.0 (leaves u.0 u.1.1) in record {
-        right = right_before t m answer k k1 k2 gone.steps.past gone.loads r.right;
+        right = right_before t m answer k k1 k2 gone.steps.past gone.steps.loads r.right;
         call = spends_before 0 1 13 (receipt.Register m answer ∷ []) (taken_by answer) k k1 k2 (omega arith) (refused_call answer k1 r) gone.steps.call;
         left = subst (AreLeftAs 0 (drop 1 at.next.base.held)) (sym gone.held) (subst (λ hs. AreLeftAs 0 hs hs) (sym (ap (drop 1) at.leaf.held)) (unmoved t 0 n.far.leaf.content.level at.leaf.above at.leaf.higher));
         out = gone.out;

@@ -1,5 +1,5 @@
 -- A node that left the tree is given back, where all else that is held has settled.
-use Rattle.std.proofs.Common.{◌≡◌, ◌≢◌, ℕ, List, [], ◌∷◌, map, sym, refl, ap, ◌∙◌, subst, arith, Bool, true, false, ◌==◌, not, ◌&&◌, ◌||◌, true≢false, Some, None, is_some, eq-eqb, ne_eqb, if◌then◌else◌, cond}
+use Rattle.std.proofs.Common.{◌≡◌, ◌≢◌, ℕ, List, [], ◌∷◌, ◌++◌, map, sym, refl, ap, ◌∙◌, subst, arith, Bool, true, false, ◌==◌, not, ◌&&◌, ◌||◌, true≢false, Some, None, is_some, eq-eqb, ne_eqb, if◌then◌else◌, cond}
 use Rattle.std.specs.List.{AllByRecursion}
 use native.Mathlib.Decide.{ℕ_discrete}
 use Rattle.tree_shape.specs.Numbers.{is_among}
@@ -11,6 +11,7 @@ use Rattle.word_rule.specs.Sights.{after_node_load}
 use Rattle.word_rule.specs.Spelling.{spelled}
 use Rattle.word_rule.specs.Steps.{after_give, after_head_load, after_node_release_same, after_node_store, store_in, stored_log}
 use Rattle.word_rule.specs.declared.log.Holding.{Holding}
+use Rattle.word_rule.specs.declared.log.LoadEvent.{LoadEvent}
 use Rattle.word_rule.specs.declared.log.Log.{Log}
 use Rattle.node_store.specs.Free.{GivesFree, after_linking, after_setting, held_word}
 use Rattle.word_rule.proofs.Exchanges.{spelled_decides}
@@ -18,6 +19,7 @@ use Rattle.btree_change.specs.Removing.{Spends}
 use Rattle.btree_change.specs.Siblings.{ReturnsNode, IsGoneOrSettled}
 use Rattle.btree_change.proofs.LeafCommits.{all_nothing}
 use Rattle.btree_change.proofs.LettingGo.{ExchangeLaw}
+use Rattle.btree_change.proofs.Loading.{keeps_then, none_more}
 
 -- What the stores in one lock leave: the others as they were, and that it isn't marked.
 pub record OnlyThere (n : ℕ) (v w : Log) : Type 0 where
@@ -60,8 +62,8 @@ and_no : (b : Bool) → (b && false) ≡ false
 and_no true = refl
 and_no false = refl
 
-no_spend : (k : CallerData) (v w : Log) → w ≡ record v { trace = w.trace; holdings = w.holdings; sights = w.sights } → Spends 0 (record k { log = v }) (record k { log = w })
-no_spend k v w is = record {
+no_spend : (k : CallerData) (v w : Log) → w ≡ record v { trace = w.trace; holdings = w.holdings; sights = w.sights } → (more : List LoadEvent) × (w.trace.loads ≡ v.trace.loads ++ more) → Spends 0 (record k { log = v }) (record k { log = w })
+no_spend k v w is loads = record {
   table = refl;
   left = refl;
   terms = ap (λ z. z.terms) is;
@@ -73,6 +75,7 @@ no_spend k v w is = record {
   lineage = ap (λ z. z.lineage) is;
   allowance = ap (λ z. z.budget.allowance) is;
   credit = (let e = ap (λ z. z.budget.credit) is in omega (arith, e));
+  loads = loads;
 }
 
 pub there_then : (n : ℕ) (u v w : Log) → OnlyThere n u v → OnlyThere n v w → OnlyThere n u w
@@ -92,6 +95,7 @@ there_then n u v w a b = record {
     lineage = q.lineage ∙ p.lineage;
     allowance = q.allowance ∙ p.allowance;
     credit = (let x = p.credit in let y = q.credit in omega (arith, x, y));
+    loads = keeps_then (record k { log = u }) (record k { log = v }) (record k { log = w }) p.loads q.loads;
   });
 }
 
@@ -102,11 +106,11 @@ stored_there n at value v all =
       held = edited_without n (store_in at value) v.holdings.held (λ h. refl);
       ready = edited_ready n (store_in at value) v.holdings.held (λ h. refl) (λ h. refl) all;
       out = refl;
-      spends = λ k. no_spend k v (stored_log n at value v) refl;
+      spends = λ k. no_spend k v (stored_log n at value v) refl (none_more v.trace.loads);
     })
 
 loaded_there : (n at value : ℕ) (v : Log) → AllByRecursion (IsGoneOrSettled n) v.holdings.held → OnlyThere n v (after_node_load n at value v)
-loaded_there n at value v all = record { held = refl; ready = all; out = refl; spends = λ k. no_spend k v (after_node_load n at value v) refl }
+loaded_there n at value v all = record { held = refl; ready = all; out = refl; spends = λ k. no_spend k v (after_node_load n at value v) refl (_ ∷ [], refl) }
 
 set_there : (n at value : ℕ) (v : Log) → AllByRecursion (IsGoneOrSettled n) v.holdings.held → OnlyThere n v (after_setting n at value v)
 set_there n at value v all = go (held_word n at v == value)
@@ -120,7 +124,7 @@ linked_there n head v all =
     let kind = set_there n 1 2 v all in
     let level = set_there n 2 0 (after_setting n 1 2 v) kind.ready in
     let both = there_then n v (after_setting n 1 2 v) (after_setting n 2 0 (after_setting n 1 2 v)) kind level in
-    let headed : OnlyThere n (after_setting n 2 0 (after_setting n 1 2 v)) (after_head_load head (after_setting n 2 0 (after_setting n 1 2 v))) = record { held = refl; ready = level.ready; out = refl; spends = λ k. no_spend k (after_setting n 2 0 (after_setting n 1 2 v)) (after_head_load head (after_setting n 2 0 (after_setting n 1 2 v))) refl } in
+    let headed : OnlyThere n (after_setting n 2 0 (after_setting n 1 2 v)) (after_head_load head (after_setting n 2 0 (after_setting n 1 2 v))) = record { held = refl; ready = level.ready; out = refl; spends = λ k. no_spend k (after_setting n 2 0 (after_setting n 1 2 v)) (after_head_load head (after_setting n 2 0 (after_setting n 1 2 v))) refl (_ ∷ [], refl) } in
     let linked = stored_there n 6 head (after_head_load head (after_setting n 2 0 (after_setting n 1 2 v))) headed.ready in
     there_then n v (after_setting n 2 0 (after_setting n 1 2 v)) (after_linking n head v) both
     (there_then n (after_setting n 2 0 (after_setting n 1 2 v)) (after_head_load head (after_setting n 2 0 (after_setting n 1 2 v))) (after_linking n head v) headed linked)
@@ -183,6 +187,7 @@ given_back law n k k' all (head, is) =
         lineage = p.lineage;
         allowance = p.allowance;
         credit = (let c = p.credit in omega (arith, c));
+        loads = p.loads;
       };
       held = settled_rest n v.holdings.held there.ready ∙ there.held;
       out = ap (all_but n) there.out;

@@ -1,7 +1,7 @@
 -- The one free node that was taken for the full root is given back; or the root has the highest level.
-use Rattle.std.proofs.Common.{◌≡◌, ◌≢◌, ℕ, ◌+◌, ◌<◌, ◌≤◌, List, [], ◌∷◌, ◌++◌, length, drop, map, sym, refl, ap, ◌∙◌, subst, arith, Bool, true, false, ◌==◌, ◌&&◌, not, IsTrue, true≢false, Option, Some, None, IsSome, IfSome, is_some, inl, inr, ◌⊎◌, append_assoc, append-nil, eq-eqb, ne_eqb, if◌then◌else◌, cond}
+use Rattle.std.proofs.Common.{◌≡◌, ◌≢◌, ℕ, ◌+◌, ◌<◌, List, [], ◌∷◌, length, drop, map, sym, refl, ap, ◌∙◌, subst, arith, Bool, true, false, ◌==◌, ◌&&◌, not, IsTrue, true≢false, None, IsSome, IfSome, is_some, inl, inr, append_assoc, append-nil, eq-eqb, if◌then◌else◌}
 use Rattle.std.proofs.lemmas.Option.{none-some}
-use Rattle.std.specs.List.{AllByRecursion, filter}
+use Rattle.std.specs.List.{AllByRecursion}
 use Rattle.tree_shape.specs.NodeData.{NodeData, IsInFences}
 use Rattle.tree_shape.specs.Numbers.{is_among}
 use Rattle.word_rule.specs.CallerData.{CallerData}
@@ -9,13 +9,12 @@ use Rattle.word_rule.specs.Exchange.{exchange, nothing_reached, settle, settle_f
 use Rattle.word_rule.specs.Held.{all_but, edited, held_of, is_marked, marked_in, now_of, without_lock}
 use Rattle.word_rule.specs.Logs.{after_spending, load_of}
 use Rattle.word_rule.specs.NodeTells.{HeldTells, OutTells}
-use Rattle.word_rule.specs.Places.{HEAD, node_place}
+use Rattle.word_rule.specs.Places.{node_place}
 use Rattle.word_rule.specs.Sights.{after_node_load}
 use Rattle.word_rule.specs.Spelling.{node_word, spelled, SpellsNode}
-use Rattle.word_rule.specs.Steps.{after_give, after_head_load, after_node_release, after_node_release_same, after_node_store, frees, store_in, stored_log}
+use Rattle.word_rule.specs.Steps.{after_give, after_head_load, after_node_release, after_node_release_same, after_node_store, store_in, stored_log}
 use Rattle.word_rule.specs.TreeRefusals.{HadNoRoom}
 use Rattle.word_rule.specs.declared.log.Holding.{Holding}
-use Rattle.word_rule.specs.declared.log.LoadEvent.{LoadEvent}
 use Rattle.word_rule.specs.declared.log.Log.{Log}
 use Rattle.word_rule.specs.declared.log.Receipts.{Receipts}
 use Rattle.word_rule.specs.declared.log.Terms.{Terms}
@@ -31,6 +30,7 @@ use Rattle.btree_change.proofs.Descents.{steps_of_load}
 use Rattle.btree_change.proofs.HeldParts.{AreFar, dropped, place_of_lock}
 use Rattle.btree_change.proofs.LeafCommits.{all_stay}
 use Rattle.btree_change.proofs.LettingGo.{ExchangeLaw}
+use Rattle.btree_change.proofs.Loading.{keeps_then, none_more}
 use Rattle.btree_change.proofs.Rooms.{found_there, is_full_count, more_loads}
 use Rattle.btree_change.proofs.SplitEnds.{less_release_then}
 use Rattle.btree_change.proofs.Storing.{edited_at, found_at}
@@ -43,8 +43,6 @@ record IsAround (n : ℕ) (above : List Holding) (v w : Log) : Type 0 where
   pub node : lock.node ≡ n
   pub unmarked : lock.mark ≡ None
   pub out : w.holdings.out ≡ v.holdings.out
-  pub more : List LoadEvent
-  pub loads : w.trace.loads ≡ v.trace.loads ++ more
   pub same : (k : CallerData) → StepsOnNodes (record k { log = v }) (record k { log = w })
 
 around_then : (n : ℕ) (above : List Holding) (u v w : Log) → IsAround n above u v → IsAround n above v w → IsAround n above u w
@@ -54,8 +52,6 @@ around_then n above u v w a b = record {
   node = b.node;
   unmarked = b.unmarked;
   out = b.out ∙ a.out;
-  more = a.more ++ b.more;
-  loads = b.loads ∙ (ap (λ ls. ls ++ b.more) a.loads ∙ append_assoc u.trace.loads a.more b.more);
   same = λ k. steps_then (record k { log = u }) (record k { log = v }) (record k { log = w }) (a.same k) (b.same k);
 }
 
@@ -66,9 +62,7 @@ around_load n above u v at found a = around_then n above u v (after_node_load n 
   node = a.node;
   unmarked = a.unmarked;
   out = refl;
-  more = load_of v (node_place n + at) found ∷ [];
-  loads = refl;
-  same = λ k. record { table = refl; left = refl; terms = refl; role = refl; past = refl; budget = refl; receipts = refl; loader = refl; made = refl; lineage = refl };
+  same = λ k. record { table = refl; left = refl; terms = refl; role = refl; past = refl; budget = refl; receipts = refl; loader = refl; made = refl; lineage = refl; loads = (_ ∷ [], refl) };
 })
 
 around_head : (n : ℕ) (above : List Holding) (u v : Log) (found : ℕ) → IsAround n above u v → IsAround n above u (after_head_load found v)
@@ -78,9 +72,7 @@ around_head n above u v found a = around_then n above u v (after_head_load found
   node = a.node;
   unmarked = a.unmarked;
   out = refl;
-  more = load_of v HEAD found ∷ [];
-  loads = refl;
-  same = λ k. record { table = refl; left = refl; terms = refl; role = refl; past = refl; budget = refl; receipts = refl; loader = refl; made = refl; lineage = refl };
+  same = λ k. record { table = refl; left = refl; terms = refl; role = refl; past = refl; budget = refl; receipts = refl; loader = refl; made = refl; lineage = refl; loads = (_ ∷ [], refl) };
 })
 
 around_store : (n : ℕ) (above : List Holding) (u v : Log) (at value : ℕ) → AreFar n above → IsAround n above u v → IsAround n above u (after_node_store n at value v)
@@ -90,9 +82,7 @@ around_store n above u v at value far a = around_then n above u v (after_node_st
   node = a.node;
   unmarked = a.unmarked;
   out = refl;
-  more = [];
-  loads = sym (append-nil v.trace.loads);
-  same = λ k. record { table = refl; left = refl; terms = refl; role = refl; past = refl; budget = refl; receipts = refl; loader = refl; made = refl; lineage = refl };
+  same = λ k. record { table = refl; left = refl; terms = refl; role = refl; past = refl; budget = refl; receipts = refl; loader = refl; made = refl; lineage = refl; loads = none_more v.trace.loads };
 }))
   where
     never : (b : Bool) → (b && false) ≡ false
@@ -127,7 +117,7 @@ still a s = (λ i. record a { settled = (ap (λ b. if b then a.settled else now_
 
 module _ (law : ExchangeLaw) (n head : ℕ) (h : Holding) (above : List Holding) (k : CallerData) (held : k.log.holdings.held ≡ h ∷ above) (node : h.node ≡ n) (unmarked : h.mark ≡ None) (far : AreFar n above) (live : AllByRecursion IsLiveSettled above) where
   start : IsAround n above k.log k.log
-  start = record { lock = h; held = held; node = node; unmarked = unmarked; out = refl; more = []; loads = sym (append-nil k.log.trace.loads); same = λ z. steps_none (record z { log = k.log }) }
+  start = record { lock = h; held = held; node = node; unmarked = unmarked; out = refl; same = λ z. steps_none (record z { log = k.log }) }
 
   around : IsAround n above k.log (after_linking n head k.log)
   around = linked n head above k.log far start
@@ -147,7 +137,7 @@ module _ (law : ExchangeLaw) (n head : ℕ) (h : Holding) (above : List Holding)
 
   -- what is left
   pub given_back : (k' : CallerData) → k' ≡ record k { log = after_node_release n (after_give n (after_linking n head k.log)) }
-      → (k'.log.holdings.held ≡ above) × (k'.log.holdings.out ≡ all_but n k.log.holdings.out) × ((more : List LoadEvent) × (k'.log.trace.loads ≡ k.log.trace.loads ++ more)) × StepsOnNodes (with_release_less k) k'
+      → (k'.log.holdings.held ≡ above) × (k'.log.holdings.out ≡ all_but n k.log.holdings.out) × StepsOnNodes (with_release_less k) k'
   given_back k' is =
       let whole : k' ≡ record k { log = record (after_node_release_same n (settle_free given)) { budget = after_spending given.budget } } = is ∙ ap (λ (u : Log). record k { log = record (after_node_release_same n u) { budget = after_spending u.budget } }) free in (
         ap (λ (z : CallerData). z.log.holdings.held) whole
@@ -155,12 +145,11 @@ module _ (law : ExchangeLaw) (n head : ℕ) (h : Holding) (above : List Holding)
             ∙ (ap (λ hs. without_lock n (exchange nothing_reached nothing_reached around.lock ∷ hs)) (all_stay (exchange nothing_reached nothing_reached) IsLiveSettled still above live)
             ∙ dropped n [] (exchange nothing_reached nothing_reached around.lock) above around.node tt far)),
         ap (λ (z : CallerData). z.log.holdings.out) whole ∙ ap (all_but n) around.out,
-        (around.more, ap (λ (z : CallerData). z.log.trace.loads) whole ∙ around.loads),
         subst (StepsOnNodes (with_release_less k)) (sym whole) (released (around.same k)),
       )
     where
       released : StepsOnNodes k (record k { log = after_linking n head k.log }) → StepsOnNodes (with_release_less k) (record k { log = record (after_node_release_same n (settle_free given)) { budget = after_spending given.budget } })
-      released s = record { table = s.table; left = s.left; terms = s.terms; role = s.role; past = s.past; budget = ap after_spending s.budget; receipts = s.receipts; loader = s.loader; made = s.made; lineage = s.lineage }
+      released s = record { table = s.table; left = s.left; terms = s.terms; role = s.role; past = s.past; budget = ap after_spending s.budget; receipts = s.receipts; loader = s.loader; made = s.made; lineage = s.lineage; loads = s.loads }
 
 -- after a load of a word of the node
 pub gives_back : ExchangeLaw → (n found : ℕ) (k k1 k' : CallerData) → HoldsOneFree n k.log.holdings → k1 ≡ record k { log = after_node_load n 2 found k.log } → OutTells n k.log → GivesFree n k1 k' → GivesBack k k'
@@ -170,9 +159,7 @@ gives_back law n found k k1 k' h load tells (head, is) =
     let r = given_back law n head h.lock (h.root ∷ []) k1 (ap (λ hs. hs.held) same ∙ h.held) h.node (unmarked.0 h.node) ((λ e. h.never_root (sym e ∙ h.is_root)), tt) ((h.marked, h.spells), tt) k' is in record {
       held = r.0 ∙ sym (ap (drop 1) h.held);
       out = r.1 ∙ (ap (λ hs. all_but n hs.out) same ∙ (ap (all_but n) h.out ∙ ap (λ b. if not b then n ∷ [] else []) (eq-eqb n n refl)));
-      more = (load_of k.log (node_place n + 2) found ∷ []) ++ r.2.0;
-      loads = r.2.1 ∙ (ap (λ ls. ls ++ r.2.0) (ap (λ (z : CallerData). z.log.trace.loads) load) ∙ append_assoc k.log.trace.loads (load_of k.log (node_place n + 2) found ∷ []) r.2.0);
-      same = steps_then (with_release_less k) (with_release_less k1) k' (less_release_then k k1 (steps_of_load n 2 found k k1 load)) r.3;
+      same = steps_then (with_release_less k) (with_release_less k1) k' (less_release_then k k1 (steps_of_load n 2 found k k1 load)) r.2;
     }
 
 -- the root alone is a full node on the way
@@ -197,7 +184,7 @@ highest t root pc k k1 k2 count level h top load1 tells1 load2 tells2 =
     let count_event = load_of k.log (node_place root.node + 5) count in
     let cause = load_of (after_node_load root.node 5 count k.log) (node_place root.node + 2) level in
     let level_word : node_word h.lock.words 2 ≡ level = subst (λ o. IfSome o (λ (z : Holding). node_word z.words 2 ≡ level)) full.found (subst (λ hs. IfSome (held_of root.node hs.held) (λ (z : Holding). node_word z.words 2 ≡ level)) same tells2) in (
-      subst (StaysHeld k) (sym whole) (record { held = refl; out = refl; same = record { table = refl; left = refl; terms = refl; role = refl; past = refl; budget = refl; receipts = refl; loader = refl; made = refl; lineage = refl } }),
+      subst (StaysHeld k) (sym whole) (record { held = refl; out = refl; same = record { table = refl; left = refl; terms = refl; role = refl; past = refl; budget = refl; receipts = refl; loader = refl; made = refl; lineage = refl; loads = keeps_then k (record k { log = after_node_load root.node 5 count k.log }) (record k { log = after_node_load root.node 2 level (after_node_load root.node 5 count k.log) }) (_ ∷ [], refl) (_ ∷ [], refl) } }),
       record {
         before = k.log.trace.loads;
         count = count_event;
@@ -234,7 +221,7 @@ kept_after t root pc left k k1 k2 k3 h one stays back = record {
 pub none_left : (t : Terms) (root : Held) (pc left : ℕ) (k k1 k2 k3 : CallerData) → HoldsFullAlone t root pc k.log.holdings → TakesRoom left k k1 → StaysHeld k1 k2 × HadNoRoom pc (length k1.log.receipts.own) k2.log.trace.loads → GivesBack k2 k3 → KeepsHeld k k3 × HadNoRoom pc (length k.log.receipts.own) k3.log.trace.loads
 none_left t root pc left k k1 k2 k3 h one (stays, cause) back = (
   kept_after t root pc left k k1 k2 k3 h one stays back,
-  subst (HadNoRoom pc (length k.log.receipts.own)) (sym back.loads) (more_loads pc (length k.log.receipts.own) k2.log.trace.loads back.more (subst (λ (rs : Receipts). HadNoRoom pc (length rs.own) k2.log.trace.loads) one.same.receipts cause)),
+  subst (HadNoRoom pc (length k.log.receipts.own)) (sym back.same.loads.1) (more_loads pc (length k.log.receipts.own) k2.log.trace.loads back.same.loads.0 (subst (λ (rs : Receipts). HadNoRoom pc (length rs.own) k2.log.trace.loads) one.same.receipts cause)),
 )
 
 -- both were found, the second one not held before

@@ -1,16 +1,14 @@
 -- An insertion goes on below the node at which it stood, and lets go of it afterwards.
-use Rattle.std.proofs.Common.{◌≡◌, ◌≢◌, ℕ, ◌+◌, ◌-◌, ◌*◌, ◌<◌, ◌≤◌, List, [], ◌∷◌, ◌++◌, length, drop, append-nil, sym, refl, ap, ◌∙◌, subst, arith, Bool, true, false, ◌||◌, nat_le, Option, Some, None, IsSome}
+use Rattle.std.proofs.Common.{◌≡◌, ◌≢◌, ℕ, ◌+◌, ◌<◌, ◌≤◌, List, [], ◌∷◌, drop, sym, refl, ap, ◌∙◌, subst, arith, ◌||◌, nat_le, Option, Some, None}
 use Rattle.std.specs.List.{AllByRecursion}
-use Rattle.reg_model.specs.declared.answer.Inserted.{Inserted}
 use Rattle.reg_model.specs.declared.answer.Receipt.TheVariants as receipt
 use Rattle.reg_model.specs.declared.span.Member.{Member}
 use Rattle.tree_shape.specs.NodeData.{NodeData, IsInFences, frame_of}
 use Rattle.tree_shape.specs.declared.node.Frame.{Frame}
-use Rattle.word_rule.specs.CallerData.{CallerData, due, surplus}
+use Rattle.word_rule.specs.CallerData.{CallerData}
 use Rattle.word_rule.specs.Spelling.{SpellsNode}
 use Rattle.word_rule.specs.declared.log.Holding.{Holding}
 use Rattle.word_rule.specs.declared.log.Holdings.{Holdings}
-use Rattle.word_rule.specs.declared.log.Log.{Log}
 use Rattle.word_rule.specs.declared.log.Terms.{Terms}
 use Rattle.btree_change.specs.declared.descent.Held.{Held}
 use Rattle.btree_change.specs.declared.stand.Beyond.{Beyond}
@@ -20,11 +18,11 @@ use Rattle.btree_change.specs.declared.stand.Room.{Room}
 use Rattle.btree_change.specs.declared.stand.Stand.{Stand}
 use Rattle.btree_change.specs.declared.stand.Step.{Step}
 use Rattle.btree_change.specs.Insertion.{taken_by}
-use Rattle.btree_change.specs.Paths.{AreHigher, StepsOnNodes}
-use Rattle.btree_change.specs.Spines.{AreApart, Climbs, KeepsLoads}
-use Rattle.btree_change.specs.Stands.{AnswersBelow, AreLeftAs, GivesUpBelow, GoesBelow, HasSplit, HasWayOn, HoldsPair, HoldsStep, LiesBeyond, IsLeftAs, LetsGo, MayGo, Reaches, SpendsSteps, StandsOnWay, StandsAt, releases_at}
-use Rattle.btree_change.proofs.Lowering.{keeps_none}
-use Rattle.btree_change.proofs.Spending.{own_same, right_after, right_before, spends_after, spends_before, spends_same, steps_after, surplus_after}
+use Rattle.btree_change.specs.Paths.{StepsOnNodes}
+use Rattle.btree_change.specs.Loads.{KeepsLoads}
+use Rattle.btree_change.specs.Spines.{AreApart, Climbs}
+use Rattle.btree_change.specs.Stands.{AnswersBelow, AreLeftAs, GivesUpBelow, GoesBelow, HasSplit, HasWayOn, HoldsPair, HoldsStep, LiesBeyond, IsLeftAs, LetsGo, MayGo, Reaches, SpendsSteps, StandsOnWay}
+use Rattle.btree_change.proofs.Spending.{own_same, right_after, right_before, spends_after, spends_before, spends_same, steps_after}
 use Rattle.btree_change.proofs.Standing.{higher_spelled, may_go, way_kept}
 
 -- the way on, after the child was locked
@@ -199,7 +197,7 @@ module _ (t : Terms) (m : Member) (stand : Stand) (passage : Passage) (k k1 : Ca
     pub answered_so : (k3 : CallerData) → LetsGo k2 k3 → (most' : ℕ) → most + 2 ≤ most' → AnswersBelow t m reply most' k k3
     answered_so k3 gone most' sum = record {
       right = right_after t m reply.answer k k1 k3 goes.steps.past (own_same 1 k k1 goes.steps)
-          (right_before t m reply.answer k1 k2 k3 gone.steps.past (keeps_none k2 k3 gone.loads) answers.right);
+          (right_before t m reply.answer k1 k2 k3 gone.steps.past gone.steps.loads answers.right);
       call = spends_after 1 (most + 1) most' (receipt.Register m reply.answer ∷ []) (taken_by reply.answer) k k1 k3 (omega (arith, sum)) goes.steps.call
           (spends_before most 1 (most + 1) (receipt.Register m reply.answer ∷ []) (taken_by reply.answer) k1 k2 k3 (omega arith) answers.call gone.steps.call);
       above = subst (AreLeftAs reply.moved (drop 1 k.log.holdings.held)) (sym (gone.held ∙ ap (drop 1) first.is)) first.others;

@@ -31,6 +31,7 @@ use Rattle.btree_change.specs.Siblings.{HoldsGone, HoldsSiblings, both_of}
 use Rattle.btree_change.specs.declared.sibling.Siblings.{Siblings}
 use Rattle.btree_change.proofs.Descending.{in_order, steps_then}
 use Rattle.btree_change.proofs.Descents.{steps_of_load}
+use Rattle.btree_change.proofs.Loading.{none_more}
 use Rattle.btree_change.proofs.Pairings.{IsBesideLock, IsNow, at_slot_is, beside, both_high, both_left, both_low, both_more, each_more, family, first_found, in_l, in_r, left_told, next_slot_is, not_in, here, later, parent_told, right_told, settles}
 use Rattle.btree_change.proofs.Settling.{SettlingLaws, settled_gone, settled_group}
 use Rattle.btree_change.proofs.Takings.{placed_of}
@@ -313,6 +314,6 @@ module _ (t : Terms) (x : Siblings) (k k1 : CallerData) (found : ℕ) (hs : Hold
 
           pub joined_steps : StepsOnNodes k k5
           joined_steps =
-              let plain4 : StepsOnNodes k3 k4 = subst (StepsOnNodes k3) (sym stores4) (record { table = refl; left = refl; terms = refl; role = refl; past = refl; budget = refl; receipts = refl; loader = refl; made = refl; lineage = refl }) in
-              let plain5 : StepsOnNodes k4 k5 = subst (StepsOnNodes k4) (sym (stores5 ∙ ap (λ (z : Log). record k4 { log = z }) (frees_it ∙ settled5))) (record { table = refl; left = refl; terms = refl; role = refl; past = refl; budget = refl; receipts = refl; loader = refl; made = refl; lineage = refl }) in
+              let plain4 : StepsOnNodes k3 k4 = subst (StepsOnNodes k3) (sym stores4) (record { table = refl; left = refl; terms = refl; role = refl; past = refl; budget = refl; receipts = refl; loader = refl; made = refl; lineage = refl; loads = none_more k3.log.trace.loads }) in
+              let plain5 : StepsOnNodes k4 k5 = subst (StepsOnNodes k4) (sym (stores5 ∙ ap (λ (z : Log). record k4 { log = z }) (frees_it ∙ settled5))) (record { table = refl; left = refl; terms = refl; role = refl; past = refl; budget = refl; receipts = refl; loader = refl; made = refl; lineage = refl; loads = none_more k4.log.trace.loads }) in
               steps_then k k1 k5 (steps_of_load r 2 found k k1 loads) (steps_then k1 k2 k5 w1.same (steps_then k2 k3 k5 w2.same (steps_then k3 k4 k5 plain4 plain5)))

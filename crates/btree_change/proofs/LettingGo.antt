@@ -1,15 +1,12 @@
 -- Where all that is held has settled, nothing settles.
-use Rattle.std.proofs.Common.{◌≡◌, ◌≢◌, ℕ, zero, suc, ◌-◌, List, [], ◌∷◌, map, sym, refl, ap, ◌∙◌, subst, arith, Bool, true, false, ◌==◌, not, ◌&&◌, ◌||◌, IsTrue, true≢false, Option, Some, None, IsSome, IsSomeAnd, is_some, eq-eqb, ne_eqb, if◌then◌else◌, cond}
+use Rattle.std.proofs.Common.{◌≡◌, [], map, sym, refl, ap, ◌∙◌, Bool, true, false, not, ◌&&◌, ◌||◌, true≢false, Option, None, is_some, if◌then◌else◌}
 use Rattle.std.specs.Bool.{Decides}
 use Rattle.std.specs.List.{AllByRecursion}
 use Rattle.reg_model.specs.declared.answer.Update.{Update}
 use Rattle.tree_shape.specs.Numbers.{is_among}
-use Rattle.word_rule.specs.CallerData.{CallerData}
-use Rattle.word_rule.specs.Exchange.{Differs, IsLawfulExchange, after_exchange, changed_of, exchange, group_of, is_changed, is_lawful, node_of, nothing_reached, settle, settle_free, top_of}
-use Rattle.word_rule.specs.Held.{held_of, now_of, without_lock}
+use Rattle.word_rule.specs.Exchange.{IsLawfulExchange, after_exchange, changed_of, exchange, group_of, is_changed, is_lawful, node_of, nothing_reached, settle, settle_free, top_of}
+use Rattle.word_rule.specs.Held.{now_of}
 use Rattle.word_rule.specs.Spelling.{spelled, SpellsNode}
-use Rattle.word_rule.specs.Steps.{MayRelease, after_node_release, after_node_release_same}
-use Rattle.word_rule.specs.Logs.{after_spending}
 use Rattle.word_rule.specs.declared.log.Holding.{Holding}
 use Rattle.word_rule.specs.declared.log.Log.{Log}
 use Rattle.word_rule.proofs.Exchanges.{spelled_decides}

@@ -1,6 +1,7 @@
 pub mod Settling
 pub mod LeafCommits
 pub mod HeldTrees
+pub mod Loading
 pub mod Descending
 pub mod Descents
 pub mod Storing

@@ -1,5 +1,5 @@
 -- The full root is lifted and split in one step: what is held before, and the change that is written.
-use Rattle.std.proofs.Common.{◌≡◌, ◌≢◌, ℕ, zero, suc, ◌+◌, ◌-◌, ◌<◌, ◌≤◌, List, [], ◌∷◌, ◌++◌, length, sym, refl, ap, ◌∙◌, subst, arith, Bool, true, false, ◌==◌, IsTrue, true≢false, Option, Some, None, IsSome, IsSomeAnd, is_some, inl, inr, ◌⊎◌, eq-eqb, ne_eqb, if◌then◌else◌}
+use Rattle.std.proofs.Common.{◌≡◌, ◌≢◌, ℕ, ◌+◌, ◌<◌, ◌≤◌, List, [], ◌∷◌, length, sym, refl, ap, ◌∙◌, subst, arith, Bool, true, false, IsTrue, true≢false, Option, Some, None, IsSome, IsSomeAnd, is_some, inl, inr, ◌⊎◌, eq-eqb, ne_eqb}
 use Rattle.std.proofs.lemmas.Bool.{ltb-true}
 use Rattle.std.specs.List.{AllByRecursion}
 use Rattle.tree_shape.specs.declared.node.Frame.{Frame}
@@ -10,11 +10,10 @@ use Rattle.tree_shape.specs.NodeData.{NodeData}
 use Rattle.tree_shape.specs.Numbers.{is_among, times}
 use Rattle.tree_shape.specs.Steps.{IsFull, IsRootSplit, middle, middle_fence, root_over}
 use Rattle.tree_shape.specs.Trees.{Contents}
-use Rattle.tree_shape.proofs.Times.{In, in_times, times_in}
+use Rattle.tree_shape.proofs.Times.{In, times_in}
 use Rattle.word_rule.specs.CallerData.{CallerData}
 use Rattle.word_rule.specs.declared.log.Holding.{Holding}
 use Rattle.word_rule.specs.declared.log.Holdings.{Holdings}
-use Rattle.word_rule.specs.declared.log.Log.{Log}
 use Rattle.word_rule.specs.declared.log.Terms.{Terms}
 use Rattle.word_rule.specs.Held.{held_of}
 use Rattle.word_rule.specs.Memory.{updated}
@@ -24,7 +23,6 @@ use Rattle.word_rule.specs.Steps.{MayStore}
 use Rattle.node_store.specs.Holding.{SpellsHeld, WritesHeld}
 use Rattle.node_store.specs.Writing.{kind_of_body}
 use Rattle.btree_change.specs.declared.lift.FullRoot.{FullRoot}
-use Rattle.btree_change.specs.declared.split.Parts.{Parts}
 use Rattle.btree_change.specs.Paths.{StepsOnNodes}
 use Rattle.btree_change.specs.Splits.{HoldsFullRoot, root_parts_for}
 use Rattle.btree_change.proofs.Descending.{steps_then}

@@ -243,4 +243,4 @@ left_other t n changed root_changed at k k' some h l = record {
 
 -- a lock that was found taken changes nothing that is held
 pub busy_kept : (id : LockId) (k k' : CallerData) → IsBusy id k k' → (k'.log.holdings ≡ k.log.holdings) × (surplus k' ≡ surplus k) × StepsOnNodes k k'
-busy_kept id k k' (found, (odd, is)) = (ap (λ (z : CallerData). z.log.holdings) is, ap surplus is, subst (StepsOnNodes k) (sym is) (record { table = refl; left = refl; terms = refl; role = refl; past = refl; budget = refl; receipts = refl; loader = refl; made = refl; lineage = refl }))
+busy_kept id k k' (found, (odd, is)) = (ap (λ (z : CallerData). z.log.holdings) is, ap surplus is, subst (StepsOnNodes k) (sym is) (record { table = refl; left = refl; terms = refl; role = refl; past = refl; budget = refl; receipts = refl; loader = refl; made = refl; lineage = refl; loads = (_ ∷ [], refl) }))

@@ -1,5 +1,5 @@
 -- A spine is locked, each node while its parent is held.
-use Rattle.std.proofs.Common.{◌≡◌, ◌≢◌, ℕ, zero, suc, ◌-◌, ◌<◌, List, [], ◌∷◌, ◌++◌, append_assoc, append-nil, refl, ap, sym, ◌∙◌, subst, arith, false, not, Option, Some, None, IfSome, IsSome, IsSomeAnd, eq-eqb, ne_eqb, cond, true≢false}
+use Rattle.std.proofs.Common.{◌≡◌, ◌≢◌, ℕ, suc, ◌-◌, ◌<◌, List, [], ◌∷◌, ◌++◌, append_assoc, refl, ap, sym, ◌∙◌, subst, arith, false, not, Option, Some, None, IfSome, IsSome, IsSomeAnd, eq-eqb, ne_eqb, cond, true≢false}
 use Rattle.std.proofs.lemmas.Option.{same_Some}
 use Rattle.std.specs.List.{AllByRecursion}
 use Rattle.tree_shape.specs.declared.node.Frame.{Frame}
@@ -16,37 +16,11 @@ use Rattle.word_rule.specs.Held.{held_of, without_lock}
 use Rattle.word_rule.specs.NodeTells.{IsLiveNode, KnowsTree}
 use Rattle.word_rule.specs.Spelling.{spelled, SpellsNode}
 use Rattle.word_rule.specs.Steps.{after_node_release_same, first_mark, head_without, mark_at_lock, place_by, place_by_held}
-use Rattle.word_rule.specs.Sights.{after_node_load}
 use Rattle.node_store.specs.Holding.{ReadsHeld}
 use Rattle.node_store.specs.Locking.{Locks}
 use Rattle.node_store.specs.Sights.{after_words}
-use Rattle.btree_change.specs.Spines.{AreApart, IsFreshLock, IsSpine, KeepsLoads, LocksSpine, NamesChild}
+use Rattle.btree_change.specs.Spines.{AreApart, IsFreshLock, IsSpine, LocksSpine, NamesChild}
 use Rattle.btree_change.proofs.HeldTrees.{OnTree, child, child_frame, first_high, first_in, on_tree, place_first, some_pairs}
-
--- loads stay among later ones
-pub loads_then : (k l m : CallerData) → KeepsLoads k l → KeepsLoads l m → KeepsLoads k m
-loads_then k l m (xs, e) (ys, d) = (xs ++ ys, d ∙ (ap (λ z. z ++ ys) e ∙ append_assoc k.log.trace.loads xs ys))
-
-pub loads_same : (k k' : CallerData) → k'.log.trace.loads ≡ k.log.trace.loads → KeepsLoads k k'
-loads_same k k' e = ([], e ∙ sym (append-nil k.log.trace.loads))
-
-pub loads_of_take : (n : ℕ) (k k' : CallerData) → Locks (lock.Node n) k k' → KeepsLoads k k'
-loads_of_take n k k' (more, marks, nodes, version, settled, words, (tries, taken, is)) = (more, ap (λ (z : CallerData). z.log.trace.loads) is)
-
-pub loads_of_load : (n at found : ℕ) (k k' : CallerData) → k' ≡ record k { log = after_node_load n at found k.log } → KeepsLoads k k'
-loads_of_load n at found k k' is = (_ ∷ [], ap (λ (z : CallerData). z.log.trace.loads) is)
-
-pub loads_of_words : (n : ℕ) (words : List ℕ) (count : ℕ) (k : CallerData) → KeepsLoads k (record k { log = after_words n words count k.log })
-unfolding after_words
-loads_of_words n words zero k = loads_same k k refl
-loads_of_words n words (suc count) k = loads_then k (record k { log = after_words n words count k.log }) (record k { log = after_words n words (suc count) k.log }) (loads_of_words n words count k) (_ ∷ [], refl)
-
-pub loads_of_read : (n : ℕ) (k k' : CallerData) (s : NodeData) → ReadsHeld n k k' s → KeepsLoads k k'
-loads_of_read n k k' s reads = go (held_of n k.log.holdings.held) reads
-  where
-    go : (o : Option Holding) → IsSomeAnd o (λ h. SpellsNode h.words s × (k' ≡ record k { log = after_words n h.words 35 k.log })) → KeepsLoads k k'
-    go None r = absurd r
-    go (Some h) r = subst (KeepsLoads k) (sym r.1) (loads_of_words n h.words 35 k)
 
 -- a lock at the head is the one that is found
 pub found_head : (n : ℕ) (h : Holding) (held : List Holding) → h.node ≡ n → held_of n (h ∷ held) ≡ Some h

@@ -1,31 +1,24 @@
 -- From a node that is held down to its child for an address.
-use Rattle.std.proofs.Common.{◌≡◌, ◌≢◌, ℕ, zero, suc, ◌+◌, ◌-◌, ◌<◌, ◌≤◌, List, [], ◌∷◌, ◌++◌, drop, append-nil, sym, refl, ap, ◌∙◌, subst, arith, Bool, true, false, ◌==◌, true≢false, Option, Some, None, IfSome, IsSome, IsSomeAnd, eq-eqb, ne_eqb, cond, if◌then◌else◌}
+use Rattle.std.proofs.Common.{◌≡◌, ℕ, ◌-◌, ◌<◌, [], ◌∷◌, drop, sym, refl, ap, ◌∙◌, subst, arith, Bool, false, true≢false, Option, Some, None, IfSome, IsSome, IsSomeAnd, eq-eqb, ne_eqb, cond, if◌then◌else◌}
 use Rattle.std.proofs.lemmas.Option.{same_Some}
-use Rattle.std.specs.List.{AllByRecursion}
 use Rattle.tree_shape.specs.declared.node.Frame.{Frame}
 use Rattle.tree_shape.specs.NodeData.{NodeData, InOrder, IsInFences, IsInner}
 use Rattle.tree_shape.specs.Trees.{branches}
 use Rattle.word_rule.specs.CallerData.{CallerData}
 use Rattle.word_rule.specs.declared.log.Holding.{Holding}
 use Rattle.word_rule.specs.declared.log.Holdings.{Holdings}
-use Rattle.word_rule.specs.declared.log.LoadEvent.{LoadEvent}
 use Rattle.word_rule.specs.declared.log.LockId.{LockId}
 use Rattle.word_rule.specs.declared.log.LockId.TheVariants as lock
-use Rattle.word_rule.specs.declared.log.Log.{Log}
 use Rattle.word_rule.specs.declared.log.Terms.{Terms}
 use Rattle.word_rule.specs.Held.{held_of}
 use Rattle.word_rule.specs.NodeTells.{IsLiveNode}
-use Rattle.word_rule.specs.Spelling.{node_word, spelled, SpellsNode}
+use Rattle.word_rule.specs.Spelling.{spelled, SpellsNode}
 use Rattle.word_rule.specs.Steps.{mark_at_lock, place_by, place_by_held, place_in, first_mark}
-use Rattle.word_rule.specs.Logs.{after_load, load_of}
-use Rattle.word_rule.specs.Places.{node_place}
-use Rattle.word_rule.specs.VersionLocks.{lock_place}
 use Rattle.node_store.specs.Holding.{ReadsHeld}
 use Rattle.node_store.specs.Locking.{IsBusy, Locks}
 use Rattle.node_store.specs.Sights.{after_words}
 use Rattle.btree_change.specs.declared.descent.Held.{Held}
 use Rattle.btree_change.specs.Paths.{AreHigher, HasChildFor, IsSettledLock, StepsOnNodes}
-use Rattle.btree_change.specs.Spines.{KeepsLoads}
 use Rattle.btree_change.specs.Stands.{HoldsPair, StandsAt}
 use Rattle.btree_change.proofs.Descending.{IsChildOf, child_of, in_order, is_inner, steps_of_read, steps_of_take, steps_then}
 
@@ -42,35 +35,6 @@ settled_order t n s changed h c = let own = settled_live t n s changed h c in in
 
 pub settled_inner : (t : Terms) (n : ℕ) (s : NodeData) (changed : Bool) (h : Holding) → IsSettledLock t n s changed h → 0 < s.level → IsInner s
 settled_inner t n s changed h c above = let own = settled_live t n s changed h c in (is_inner s own.1.1.ordered above).0
-
--- loads are appended
-append_assoc : {A : Type 0} (xs ys zs : List A) → (xs ++ ys) ++ zs ≡ xs ++ (ys ++ zs)
-append_assoc [] ys zs = refl
-append_assoc (x ∷ xs) ys zs = ap (λ l. x ∷ l) (append_assoc xs ys zs)
-
-pub keeps_then : (k l m : CallerData) → KeepsLoads k l → KeepsLoads l m → KeepsLoads k m
-keeps_then k l m (more, a) (rest, b) = (more ++ rest, b ∙ (ap (λ xs. xs ++ rest) a ∙ append_assoc k.log.trace.loads more rest))
-
-pub keeps_none : (k l : CallerData) → l.log.trace.loads ≡ k.log.trace.loads → KeepsLoads k l
-keeps_none k l e = ([], e ∙ sym (append-nil k.log.trace.loads))
-
-words_loads : (n : ℕ) (words : List ℕ) (count : ℕ) (v : Log) → (more : List LoadEvent) × ((after_words n words count v).trace.loads ≡ v.trace.loads ++ more)
-unfolding after_words
-words_loads n words zero v = ([], sym (append-nil v.trace.loads))
-words_loads n words (suc count) v = let rest = words_loads n words count v in
-    let one = load_of (after_words n words count v) (node_place n + suc count) (node_word words (suc count)) in
-    (rest.0 ++ one ∷ [], ap (λ xs. xs ++ one ∷ []) rest.1 ∙ append_assoc v.trace.loads rest.0 (one ∷ []))
-
-pub keeps_read : (n : ℕ) (k k' : CallerData) (s : NodeData) → ReadsHeld n k k' s → KeepsLoads k k'
-keeps_read n k k' s reads = go (held_of n k.log.holdings.held) reads
-  where
-    go : (o : Option Holding) → IsSomeAnd o (λ h. SpellsNode h.words s × (k' ≡ record k { log = after_words n h.words 35 k.log })) → KeepsLoads k k'
-    go None r = absurd r
-    go (Some h) r = subst (KeepsLoads k) (sym r.1) (words_loads n h.words 35 k.log)
-
-pub keeps_take : (n : ℕ) (k k' : CallerData) → Locks (lock.Node n) k k' → KeepsLoads k k'
-keeps_take n k k' (more, marks, nodes, version, settled, words, (tries, taken, is)) =
-    (more, ap (λ (z : CallerData). z.log.trace.loads) is)
 
 -- A child was locked.
 module _ (t : Terms) (at : Held) (pc c : ℕ) (k k1 : CallerData) (terms : k.log.terms ≡ t) (stands : StandsAt t at k.log.holdings) (inner : 0 < at.content.level) (leads : HasChildFor at.content pc c) (locks : Locks (lock.Node c) k k1) where
@@ -149,12 +113,6 @@ module _ (t : Terms) (at : Held) (pc c : ℕ) (k k1 : CallerData) (terms : k.log
   pub steps_lowered : (shape : NodeData) (k2 : CallerData) → ReadsHeld c k1 k2 shape → StepsOnNodes k k2
   steps_lowered shape k2 reads = steps_then k k1 k2 (steps_of_take c k k1 locks) (steps_of_read c k1 k2 shape reads)
 
-  pub keeps_lowered : (shape : NodeData) (k2 : CallerData) → ReadsHeld c k1 k2 shape → KeepsLoads k k2
-  keeps_lowered shape k2 reads = keeps_then k k1 k2 (keeps_take c k k1 locks) (keeps_read c k1 k2 shape reads)
-
 -- a lock was found taken
 pub busy_steps : (id : LockId) (k k' : CallerData) → IsBusy id k k' → StepsOnNodes k k'
-busy_steps id k k' (found, (odd, is)) = subst (StepsOnNodes k) (sym is) (record { table = refl; left = refl; terms = refl; role = refl; past = refl; budget = refl; receipts = refl; loader = refl; made = refl; lineage = refl })
-
-pub busy_loads : (id : LockId) (k k' : CallerData) → IsBusy id k k' → KeepsLoads k k'
-busy_loads id k k' (found, (odd, is)) = (load_of k.log (lock_place id) found ∷ [], ap (λ (z : CallerData). z.log.trace.loads) is)
+busy_steps id k k' (found, (odd, is)) = subst (StepsOnNodes k) (sym is) (record { table = refl; left = refl; terms = refl; role = refl; past = refl; budget = refl; receipts = refl; loader = refl; made = refl; lineage = refl; loads = (_ ∷ [], refl) })

@@ -34,6 +34,7 @@ spends_none k k' s = record {
   lineage = s.lineage;
   allowance = ap (λ b. b.allowance) s.budget;
   credit = (let e = ap (λ b. b.credit) s.budget in omega (arith, e));
+  loads = s.loads;
 }
 
 -- a lock that isn't there is no loss
@@ -110,7 +111,7 @@ under_so t n l s root_changed k k' found within no_root no_parent terms a tells 
     own = subst (λ o. IfSome o (IsHeldNode k.log.terms)) (ap (held_of l) a.held ∙ first_found l a.lower (a.upper ∷ a.rest) a.node) tells
 
 pub loaded_none : (n at found : ℕ) (k k' : CallerData) → k' ≡ record k { log = after_node_load n at found k.log } → Spends 0 k k'
-loaded_none n at found k k' is = subst (Spends 0 k) (sym is) (record { table = refl; left = refl; terms = refl; role = refl; past = refl; receipts = refl; loader = refl; made = refl; lineage = refl; allowance = refl; credit = omega arith })
+loaded_none n at found k k' is = subst (Spends 0 k) (sym is) (record { table = refl; left = refl; terms = refl; role = refl; past = refl; receipts = refl; loader = refl; made = refl; lineage = refl; allowance = refl; credit = omega arith; loads = (_ ∷ [], refl) })
 
 pub surplus_kept : (k k' : CallerData) → StepsOnNodes k k' → surplus k' ≡ surplus k
 surplus_kept k k' s = (λ i. (s.budget i).credit - 64 * s.left i)

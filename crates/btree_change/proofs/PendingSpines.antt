@@ -18,15 +18,17 @@ use Rattle.word_rule.specs.Spelling.{spelled, SpellsNode}
 use Rattle.word_rule.specs.Steps.{MayRelease, after_node_release, after_node_release_same}
 use Rattle.node_store.specs.Holding.{ReadsHeld}
 use Rattle.btree_change.specs.Paths.{StepsOnNodes}
-use Rattle.btree_change.specs.Spines.{AreApart, IsLockAt, IsPending, IsReadable, IsSpine, KeepsLoads, LetsGoSettled}
+use Rattle.btree_change.specs.Loads.{KeepsLoads}
+use Rattle.btree_change.specs.Spines.{AreApart, IsLockAt, IsPending, IsReadable, IsSpine, LetsGoSettled}
 use Rattle.btree_change.proofs.Descending.{steps_of_read}
 use Rattle.btree_change.proofs.FreshSpines.{all_parts, apart_mid, leaf_of, top_of as top_below}
 use Rattle.btree_change.proofs.LettingGo.{ExchangeLaw, IsSettled, settles_nothing}
-use Rattle.btree_change.proofs.LockedSpines.{found_head, loads_same, may_read_found, reads_spelled}
+use Rattle.btree_change.proofs.Loading.{keeps_none}
+use Rattle.btree_change.proofs.LockedSpines.{found_head, may_read_found, reads_spelled}
 use Rattle.btree_change.proofs.WrittenSpines.{in_mid}
 
 pub loads_of_release : (n : ℕ) (k k' : CallerData) → k' ≡ record k { log = after_node_release n k.log } → KeepsLoads k k'
-loads_of_release n k k' is = loads_same k k' (ap (λ (z : CallerData). z.log.trace.loads) is ∙ go (is_lawful k.log None))
+loads_of_release n k k' is = keeps_none k k' (ap (λ (z : CallerData). z.log.trace.loads) is ∙ go (is_lawful k.log None))
   where
     go : (b : Bool) → (if b then after_exchange k.log (top_of k.log None) (is_among (group_of k.log None)) else settle_free k.log).trace.loads ≡ k.log.trace.loads
     go true = refl

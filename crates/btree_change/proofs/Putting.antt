@@ -1,5 +1,5 @@
 -- A member is put into a held leaf and committed.
-use Rattle.std.proofs.Common.{◌≡◌, ◌≢◌, ℕ, zero, suc, ◌-◌, ◌<◌, ◌≤◌, List, [], ◌∷◌, ◌++◌, drop, length, length-append, sym, refl, ap, ◌∙◌, subst, arith, Bool, true, false, true≢false, IsTrue, Some, IsSome, is_some, eq-eqb, ne_eqb, le-leb}
+use Rattle.std.proofs.Common.{◌≡◌, ◌≢◌, ℕ, ◌-◌, ◌<◌, ◌≤◌, List, [], ◌∷◌, ◌++◌, drop, length, length-append, sym, refl, ap, ◌∙◌, subst, arith, Bool, true, true≢false, IsTrue, Some, IsSome, is_some, eq-eqb, ne_eqb, le-leb}
 use Rattle.std.specs.List.{AllByRecursion}
 use mathlib.Core.List.{IsPrefix}
 use Rattle.reg_model.specs.SpanData.{IsSpan}

@@ -11,6 +11,7 @@ use Rattle.word_rule.specs.declared.log.Log.{Log}
 use Rattle.word_rule.proofs.Each.{held_is, some_with}
 use Rattle.btree_change.specs.Removing.{HaveSettled, HoldsLocks, IsBeside, LetsGoOf, Spends}
 use Rattle.btree_change.proofs.LettingGo.{ExchangeLaw, settles_nothing}
+use Rattle.btree_change.proofs.Loading.{keeps_all, keeps_then, none_more}
 
 -- where all that is held has settled, each may be let go of
 pub settled_may : (n : ℕ) (v : Log) (stored : Bool) → HaveSettled v.holdings.held → IsSomeAnd (held_of n v.holdings.held) (λ h. h.stored ≡ stored) → MayRelease n v
@@ -24,10 +25,17 @@ pub raised : ExchangeLaw → (n : ℕ) (k k' : CallerData) → HaveSettled k.log
 raised law n k k' all is =
     let equal : k' ≡ record k { log = record (after_node_release_same n k.log) { budget = after_spending k.log.budget } } = is ∙ ap (λ (z : Log). record k { log = record (after_node_release_same n z) { budget = after_spending z.budget } }) (settles_nothing law k.log all) in
     subst (LetsGoOf n k) (sym equal) (record {
-      spends = record { table = refl; left = refl; terms = refl; role = refl; past = refl; receipts = refl; loader = refl; made = refl; lineage = refl; allowance = refl; credit = omega arith };
+      spends = record { table = refl; left = refl; terms = refl; role = refl; past = refl; receipts = refl; loader = refl; made = refl; lineage = refl; allowance = refl; credit = omega arith; loads = none_more k.log.trace.loads };
       held = refl;
       out = refl;
     })
+
+pub kept_clean : (n : ℕ) (k k' : CallerData) → k' ≡ record k { log = after_node_release_same n k.log } → LetsGoOf n k k'
+kept_clean n k k' is = subst (LetsGoOf n k) (sym is) (record {
+  spends = record { table = refl; left = refl; terms = refl; role = refl; past = refl; receipts = refl; loader = refl; made = refl; lineage = refl; allowance = refl; credit = omega arith; loads = none_more k.log.trace.loads };
+  held = refl;
+  out = refl;
+})
 
 -- the way is let go of: the node first, and then the root
 pub locks_settled : (n : ℕ) (lock : Holding) (changed : Bool) (above held : List Holding) → held ≡ lock ∷ above → SpellsNode lock.words lock.settled → IsBeside n changed above → HaveSettled held
@@ -58,6 +66,7 @@ spends_then a b c k l m sum p q = record {
   lineage = q.lineage ∙ p.lineage;
   allowance = q.allowance ∙ p.allowance;
   credit = let x = p.credit in let y = q.credit in omega (arith, x, y, sum);
+  loads = keeps_then k l m p.loads q.loads;
 }
 
 pub locks_held : (n : ℕ) (changed root_changed : Bool) (k : CallerData) → (h : HoldsLocks n changed root_changed k.log.holdings) → HaveSettled k.log.holdings.held × IsSomeAnd (held_of n k.log.holdings.held) (λ a. a.stored ≡ changed)
@@ -79,6 +88,10 @@ pub none_beside : (n : ℕ) (root_changed : Bool) (above : List Holding) → n �
 none_beside zero root_changed above e root = root
 none_beside (suc n) root_changed above e root = absurd (omega (arith, e))
 
+-- nothing was spent
+pub spends_all : (n : ℕ) (k : CallerData) → Spends n k k
+spends_all n k = record { table = refl; left = refl; terms = refl; role = refl; past = refl; receipts = refl; loader = refl; made = refl; lineage = refl; allowance = refl; credit = omega arith; loads = keeps_all k }
+
 pub more_spent : (a b : ℕ) (k k' : CallerData) → a ≤ b → Spends a k k' → Spends b k k'
 more_spent a b k k' less s = record {
   table = s.table;
@@ -92,4 +105,5 @@ more_spent a b k k' less s = record {
   lineage = s.lineage;
   allowance = s.allowance;
   credit = (let c = s.credit in omega (arith, c, less));
+  loads = s.loads;
 }

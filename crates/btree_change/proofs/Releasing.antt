@@ -1,5 +1,5 @@
 -- The lowest node that is held is let go of, where all that is held has settled.
-use Rattle.std.proofs.Common.{◌≡◌, ◌≢◌, ℕ, ◌-◌, List, [], ◌∷◌, drop, append-nil, sym, refl, ap, ◌∙◌, subst, arith, Bool, true, false, not, ◌==◌, IsTrue, Some, None, IsSome, IsSomeAnd, ◌++◌, eq-eqb, ne_eqb, cond}
+use Rattle.std.proofs.Common.{◌≡◌, ◌≢◌, ℕ, List, [], ◌∷◌, drop, append-nil, sym, refl, ap, ◌∙◌, subst, arith, Bool, false, not, IsTrue, Some, None, IsSome, IsSomeAnd, ◌++◌, eq-eqb, ne_eqb, cond}
 use Rattle.std.specs.List.{AllByRecursion}
 use Rattle.word_rule.specs.CallerData.{CallerData}
 use Rattle.word_rule.specs.Exchange.{Differs, is_lawful}
@@ -11,6 +11,7 @@ use Rattle.word_rule.specs.declared.log.Holding.{Holding}
 use Rattle.word_rule.specs.declared.log.Log.{Log}
 use Rattle.btree_change.specs.Stands.{LetsGo, MayGo}
 use Rattle.btree_change.proofs.LettingGo.{ExchangeLaw, settles_nothing}
+use Rattle.btree_change.proofs.Loading.{none_more}
 use Rattle.btree_change.proofs.Settling.{found_first}
 
 pub far_stay : (n : ℕ) (held : List Holding) → AllByRecursion (λ (h : Holding). h.node ≢ n) held → without_lock n held ≡ held
@@ -41,10 +42,10 @@ module _ (n : ℕ) (changed : Bool) (k : CallerData) (may : MayGo n changed k.lo
         steps = record {
           call = record { table = refl; left = refl; terms = refl; role = refl; loader = refl; made = refl; lineage = refl; receipts = own; allowance = omega arith; credit = omega arith };
           past = refl;
+          loads = none_more k.log.trace.loads;
         };
         held = left_held;
         out = refl;
-        loads = refl;
       })
     where
       own : k.log.receipts ≡ record k.log.receipts { own = k.log.receipts.own ++ [] }
@@ -56,10 +57,10 @@ module _ (n : ℕ) (changed : Bool) (k : CallerData) (may : MayGo n changed k.lo
         steps = record {
           call = record { table = refl; left = refl; terms = refl; role = refl; loader = refl; made = refl; lineage = refl; receipts = own; allowance = omega arith; credit = omega arith };
           past = refl;
+          loads = none_more k.log.trace.loads;
         };
         held = left_held;
         out = refl;
-        loads = refl;
       })
     where
       own : k.log.receipts ≡ record k.log.receipts { own = k.log.receipts.own ++ [] }

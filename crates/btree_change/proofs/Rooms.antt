@@ -1,7 +1,6 @@
 -- A free node is taken for a full one; or none is free, and the loads say so.
-use Rattle.std.proofs.Common.{◌≡◌, ◌≢◌, ℕ, zero, suc, ◌+◌, ◌<◌, ◌≤◌, ◌⊎◌, inl, inr, List, [], ◌∷◌, ◌++◌, length, sym, refl, ap, ◌∙◌, subst, arith, Bool, true, false, ◌==◌, ◌&&◌, nat_le, Option, Some, None, Result, Ok, Err, IsSome, IsSomeAnd, IfSome, option_map, is_some, append_assoc, append-nil, Contains, eq-eqb, ne_eqb, if◌then◌else◌, cond}
+use Rattle.std.proofs.Common.{◌≡◌, ◌≢◌, ℕ, zero, suc, ◌+◌, ◌⊎◌, inl, inr, List, [], ◌∷◌, ◌++◌, length, sym, refl, ap, ◌∙◌, subst, arith, Bool, true, false, ◌==◌, ◌&&◌, nat_le, Option, Some, None, Result, Ok, Err, IsSome, IfSome, option_map, is_some, append_assoc, append-nil, Contains, eq-eqb, ne_eqb, if◌then◌else◌}
 use Rattle.std.proofs.lemmas.Option.{none-some, same_Some}
-use Rattle.std.specs.List.{AllByRecursion}
 use native.Mathlib.Decide.{ℕ_discrete}
 use Rattle.reg_model.specs.declared.span.Member.{Member}
 use Rattle.tree_shape.specs.declared.pair.Pair.{Pair}
@@ -15,20 +14,20 @@ use Rattle.word_rule.specs.Observations.{IsFullBody, IsFullCount}
 use Rattle.word_rule.specs.Places.{HEAD, node_place}
 use Rattle.word_rule.specs.Sights.{after_node_load}
 use Rattle.word_rule.specs.Spelling.{entries_at, entry_at, is_entry_at, is_short, node_word, pair_at, pairs_at, SpellsNode}
-use Rattle.word_rule.specs.Steps.{after_take, mark_at_lock}
+use Rattle.word_rule.specs.Steps.{after_node_lock, after_take, mark_at_lock}
 use Rattle.word_rule.specs.TreeRefusals.{HadNoRoom}
 use Rattle.word_rule.specs.declared.log.Holding.{Holding}
 use Rattle.word_rule.specs.declared.log.LoadEvent.{LoadEvent}
 use Rattle.word_rule.specs.declared.log.LockId.TheVariants as lock
-use Rattle.word_rule.specs.declared.log.Log.{Log}
 use Rattle.word_rule.specs.declared.log.Terms.{Terms}
 use Rattle.word_rule.proofs.Spells.{reads}
 use Rattle.node_store.specs.declared.locking.Busy.{Busy}
 use Rattle.node_store.specs.Free.{IsFreeTaken, TakesFree, headed}
-use Rattle.node_store.specs.Locking.{IsBusy, Locks}
+use Rattle.node_store.specs.Locking.{IsBusy, Locks, sighted, tried}
 use Rattle.btree_change.specs.declared.descent.Held.{Held}
-use Rattle.btree_change.specs.Paths.{StepsOnNodes}
+use Rattle.btree_change.specs.Loads.{FoundTaken}
 use Rattle.btree_change.specs.Splits.{HoldsFull, IsRoomFor, StaysHeld, TakesRoom}
+use Rattle.btree_change.proofs.Loading.{found_after, found_busy, keeps_load, keeps_then}
 
 -- so many pairs, or entries, are read
 pairs_read : (words : List ℕ) (at count : ℕ) (xs : List Pair) → pairs_at words at count ≡ Some xs → length xs ≡ count
@@ -114,7 +113,7 @@ module _ (t : Terms) (full : Held) (pc : ℕ) (k k1 : CallerData) (found : ℕ) 
   had_no_room k' is =
       let whole : k' ≡ headed 0 (record k { log = after_node_load full.node 5 found k.log }) = is ∙ ap (headed 0) load in
       let cause = load_of (after_node_load full.node 5 found k.log) HEAD 0 in (
-        subst (StaysHeld k) (sym whole) (record { held = refl; out = refl; same = record { table = refl; left = refl; terms = refl; role = refl; past = refl; budget = refl; receipts = refl; loader = refl; made = refl; lineage = refl } }),
+        subst (StaysHeld k) (sym whole) (record { held = refl; out = refl; same = record { table = refl; left = refl; terms = refl; role = refl; past = refl; budget = refl; receipts = refl; loader = refl; made = refl; lineage = refl; loads = keeps_then k (record k { log = after_node_load full.node 5 found k.log }) (headed 0 (record k { log = after_node_load full.node 5 found k.log })) (_ ∷ [], refl) (_ ∷ [], refl) } }),
         record {
           before = k.log.trace.loads;
           count = load_of k.log (node_place full.node + 5) found;
@@ -146,6 +145,9 @@ module _ (t : Terms) (full : Held) (pc : ℕ) (k k1 : CallerData) (found : ℕ) 
       go (more, marks, nodes, version, settled, words, (tries, taken, took)) =
           let whole = is ∙ ap (λ (z : CallerData). record z { log = after_take n next (after_node_load n 6 next z.log) }) took in
           let head : (if is_some (held_of 0 k.log.holdings.held) then Some n else None) ≡ Some n = ap (λ b. if b then Some n else None) root in
+          let loaded : CallerData = record k { log = after_node_load full.node 5 found k.log } in
+          let taking : CallerData = record (headed n loaded) { log = after_node_lock n version settled words (sighted nodes (tried more marks (headed n loaded).log)) } in
+          let told_so = keeps_then k taking (record taking { log = after_take n next (after_node_load n 6 next taking.log) }) (keeps_then k (headed n loaded) taking (keeps_then k loaded (headed n loaded) (_ ∷ [], refl) (_ ∷ [], refl)) (more, refl)) (_ ∷ [], refl) in
           subst (TakesRoom n k) (sym whole) (record {
             never_root = far;
             within = taken.within;
@@ -154,14 +156,18 @@ module _ (t : Terms) (full : Held) (pc : ℕ) (k k1 : CallerData) (found : ℕ) 
             held = refl;
             free = record { node = refl; spells = taken.spells; next = node_word words 6; free = taken.free head far };
             out = refl;
-            same = record { table = refl; left = refl; terms = refl; role = refl; past = refl; budget = refl; receipts = refl; loader = refl; made = refl; lineage = refl };
+            same = record { table = refl; left = refl; terms = refl; role = refl; past = refl; budget = refl; receipts = refl; loader = refl; made = refl; lineage = refl; loads = told_so };
           })
 
   pub stays_busy : (k' : CallerData) (n : ℕ) → IsBusy (lock.Node n) (headed n k1) k' → StaysHeld k k'
   stays_busy k' n (found', (odd, is)) = subst (λ (z : CallerData). k' ≡ record (headed n z) { log = after_load (node_place n) found' (headed n z).log } → StaysHeld k k') (sym load)
-      (λ whole. subst (StaysHeld k) (sym whole) (record { held = refl; out = refl; same = record { table = refl; left = refl; terms = refl; role = refl; past = refl; budget = refl; receipts = refl; loader = refl; made = refl; lineage = refl } })) is
+      (λ whole. subst (StaysHeld k) (sym whole) (record { held = refl; out = refl; same = record { table = refl; left = refl; terms = refl; role = refl; past = refl; budget = refl; receipts = refl; loader = refl; made = refl; lineage = refl; loads = keeps_then k (headed n (record k { log = after_node_load full.node 5 found k.log })) (record (headed n (record k { log = after_node_load full.node 5 found k.log })) { log = after_load (node_place n) found' (headed n (record k { log = after_node_load full.node 5 found k.log })).log }) (keeps_then k (record k { log = after_node_load full.node 5 found k.log }) (headed n (record k { log = after_node_load full.node 5 found k.log })) (_ ∷ [], refl) (_ ∷ [], refl)) (_ ∷ [], refl) } })) is
 
   pub room_found : (gives_up : Bool) (k' : CallerData) (r : Result (Option ℕ) Busy) → IsSome (held_of 0 k.log.holdings.held) → IsFreeTaken gives_up k1 k' r → IsRoomFor gives_up pc k k' r
   room_found gives_up k' (Ok None) root is = had_no_room k' is
   room_found gives_up k' (Ok (Some n)) root (far, takes) = takes_room k' n root far takes
-  room_found gives_up k' (Err busy) root (n, (named, far, busy_now, up)) = (stays_busy k' n busy_now, up)
+  room_found gives_up k' (Err busy) root (n, (named, far, busy_now, up)) = (
+    stays_busy k' n busy_now,
+    up,
+    subst (λ id. FoundTaken id k k') (sym named) (found_after (lock.Node n) k (headed n k1) k' (keeps_then k k1 (headed n k1) (keeps_load full.node 5 found k k1 load) (_ ∷ [], refl)) (found_busy (lock.Node n) (headed n k1) k' busy_now)),
+  )

@@ -1,6 +1,6 @@
 -- What held nodes settle to at a release, where they change the tree lawfully: for any exchange.
-use Rattle.std.proofs.Common.{◌≡◌, ◌≢◌, ℕ, ◌<◌, ◌≤◌, List, [], ◌∷◌, ◌++◌, length, map, sym, refl, ap, ◌∙◌, subst, arith, Bool, true, false, ◌==◌, not, ◌&&◌, ◌||◌, IsTrue, true≢false, Option, Some, None, IsSome, IsSomeAnd, is_some, eq-eqb, ne_eqb, inl, inr, ◌⊎◌, nat_lt, if◌then◌else◌, cond}
-use Rattle.std.proofs.lemmas.Bool.{ltb-true, lt-ltb, le-ltb, ltb-false}
+use Rattle.std.proofs.Common.{◌≡◌, ◌≢◌, ℕ, ◌<◌, ◌≤◌, List, [], ◌∷◌, ◌++◌, length, map, sym, refl, ap, ◌∙◌, subst, arith, Bool, true, false, not, ◌&&◌, ◌||◌, IsTrue, true≢false, Option, Some, None, IsSome, IsSomeAnd, is_some, eq-eqb, ne_eqb, inl, inr, ◌⊎◌, nat_lt, if◌then◌else◌, cond}
+use Rattle.std.proofs.lemmas.Bool.{ltb-true, lt-ltb, le-ltb}
 use Rattle.std.proofs.lemmas.Option.{same_Some}
 use Rattle.std.specs.Bool.{Decides}
 use Rattle.std.specs.List.{AllByRecursion, filter}

@@ -34,6 +34,7 @@ use Rattle.btree_change.specs.declared.descent.Held.{Held}
 use Rattle.btree_change.proofs.Descending.{steps_then}
 use Rattle.btree_change.proofs.Descents.{steps_of_load}
 use Rattle.btree_change.proofs.Joining.{may_store, spare_of}
+use Rattle.btree_change.proofs.Loading.{none_more}
 use Rattle.btree_change.proofs.Mended.{AreSettled, loaded_none, spends_none, under_so, without_high, without_low}
 use Rattle.btree_change.proofs.Pairings.{IsBesideLock, IsNow, at_slot_is, beside, both_high, both_left, both_low, both_more, each_more, family, first_found, held_change, in_l, in_n, in_r, left_told, next_slot_is, not_in, parent_told, right_told, settles}
 use Rattle.btree_change.proofs.Releases.{spends_then}
@@ -250,7 +251,7 @@ module _ (t : Terms) (x : Siblings) (k k1 : CallerData) (found : ℕ) (hs : Hold
         gone_is other k5 is = is ∙ ap (λ (z : Log). record k4 { log = record (after_node_release_same other z) { budget = after_spending z.budget } }) settled4
 
         spent : (other : ℕ) (k5 : CallerData) → k5 ≡ record k4 { log = after_node_release other k4.log } → Spends 1 k4 k5
-        spent other k5 is = subst (Spends 1 k4) (sym (gone_is other k5 is)) (record { table = refl; left = refl; terms = refl; role = refl; past = refl; receipts = refl; loader = refl; made = refl; lineage = refl; allowance = refl; credit = omega arith })
+        spent other k5 is = subst (Spends 1 k4) (sym (gone_is other k5 is)) (record { table = refl; left = refl; terms = refl; role = refl; past = refl; receipts = refl; loader = refl; made = refl; lineage = refl; allowance = refl; credit = omega arith; loads = none_more k4.log.trace.loads })
 
         left_stays : (k5 : CallerData) → k5 ≡ record k4 { log = after_node_release r k4.log } → AreSettled n l (shares_for x).left x.above.root_changed k5.log.holdings
         left_stays k5 is = subst (λ (z : CallerData). AreSettled n l (shares_for x).left x.above.root_changed z.log.holdings) (sym (gone_is r k5 is)) (record {

@@ -1,10 +1,9 @@
 -- Parts of an update call, one after another: what they take of their caller.
-use Rattle.std.proofs.Common.{◌≡◌, ℕ, ◌+◌, ◌-◌, ◌*◌, ◌≤◌, ◌<◌, List, [], ◌∷◌, ◌++◌, length, append-nil, sym, refl, ap, ◌∙◌, subst, arith}
+use Rattle.std.proofs.Common.{◌≡◌, ℕ, ◌+◌, ◌≤◌, ◌<◌, List, [], ◌∷◌, ◌++◌, length, append-nil, sym, refl, ap, ◌∙◌, subst, arith}
 use mathlib.Core.List.{IsPrefix}
 use Rattle.reg_model.specs.declared.answer.Inserted.{Inserted}
 use Rattle.reg_model.specs.declared.answer.Inserted.TheVariants as inserted
 use Rattle.reg_model.specs.declared.answer.Receipt.{Receipt}
-use Rattle.reg_model.specs.declared.answer.Update.{Update}
 use Rattle.reg_model.specs.declared.span.Member.{Member}
 use Rattle.word_rule.specs.CallerData.{CallerData, due, surplus}
 use Rattle.reg_model.specs.History.{state_after}
@@ -16,8 +15,9 @@ use Rattle.word_rule.specs.declared.log.Receipts.{Receipts}
 use Rattle.word_rule.specs.declared.log.Terms.{Terms}
 use Rattle.btree_change.specs.Insertion.{IsRightInsertion}
 use Rattle.btree_change.specs.Paths.{StepsOnNodes}
-use Rattle.btree_change.specs.Spines.{KeepsLoads}
+use Rattle.btree_change.specs.Loads.{KeepsLoads}
 use Rattle.btree_change.specs.Stands.{SpendsCall, SpendsSteps}
+use Rattle.btree_change.proofs.Loading.{keeps_then}
 
 append_assoc : {A : Type 0} (xs ys zs : List A) → (xs ++ ys) ++ zs ≡ xs ++ (ys ++ zs)
 append_assoc [] ys zs = refl
@@ -71,12 +71,14 @@ spends_same k l s = record {
     credit = let e = ap (λ b. b.credit) s.budget in omega (arith, e);
   };
   past = s.past;
+  loads = s.loads;
 }
 
 pub steps_after : (a b c : ℕ) (k l m : CallerData) → a + b ≤ c → SpendsSteps a k l → SpendsSteps b l m → SpendsSteps c k m
 steps_after a b c k l m sum p q = record {
   call = spends_after a b c [] 0 k l m sum p.call q.call;
   past = q.past ∙ p.past;
+  loads = keeps_then k l m p.loads q.loads;
 }
 
 pub own_same : (a : ℕ) (k l : CallerData) → SpendsSteps a k l → l.log.receipts.own ≡ k.log.receipts.own

@@ -1,11 +1,9 @@
 -- A split settles when the half that isn't on the way is let go of: what is held then.
-use Rattle.std.proofs.Common.{◌≡◌, ◌≢◌, ℕ, ◌+◌, ◌-◌, ◌<◌, ◌≤◌, List, [], ◌∷◌, ◌++◌, drop, map, sym, refl, ap, ◌∙◌, subst, arith, Bool, true, false, nat_le, IsTrue, Option, Some, None, IsSome, IfSome, Contains, if◌then◌else◌}
+use Rattle.std.proofs.Common.{◌≡◌, ◌≢◌, ℕ, ◌-◌, ◌<◌, List, [], ◌∷◌, drop, map, sym, refl, ap, ◌∙◌, subst, arith, Bool, true, false, nat_le, Some, IsSome, if◌then◌else◌}
 use Rattle.std.proofs.lemmas.Bool.{leb-true, leb-false}
-use Rattle.std.specs.List.{AllByRecursion}
-use Rattle.tree_shape.specs.Changes.{at_slot, divide}
-use Rattle.tree_shape.specs.NodeData.{NodeData, IsInFences, frame_of, pairs_of, slot_for}
+use Rattle.tree_shape.specs.NodeData.{NodeData, IsInFences, frame_of, pairs_of}
 use Rattle.tree_shape.specs.Numbers.{is_among}
-use Rattle.tree_shape.specs.Steps.{middle, middle_fence}
+use Rattle.tree_shape.specs.Steps.{middle_fence}
 use Rattle.tree_shape.specs.Trees.{Contents}
 use Rattle.word_rule.specs.CallerData.{CallerData}
 use Rattle.word_rule.specs.declared.log.Holding.{Holding}
@@ -14,19 +12,20 @@ use Rattle.word_rule.specs.declared.log.Log.{Log}
 use Rattle.word_rule.specs.declared.log.Terms.{Terms}
 use Rattle.word_rule.specs.Exchange.{exchange}
 use Rattle.word_rule.specs.Held.{held_of, without_lock}
-use Rattle.word_rule.specs.NodeTells.{HolderTells, IsLiveNode, KnowsTree}
+use Rattle.word_rule.specs.NodeTells.{HolderTells, KnowsTree}
 use Rattle.word_rule.specs.Sights.{after_node_load}
 use Rattle.word_rule.specs.Logs.{after_spending}
-use Rattle.word_rule.specs.Spelling.{spelled, SpellsNode}
+use Rattle.word_rule.specs.Spelling.{SpellsNode}
 use Rattle.word_rule.specs.Steps.{MayRelease, after_node_release}
 use Rattle.btree_change.specs.declared.descent.Held.{Held}
 use Rattle.btree_change.specs.declared.split.FullChild.{FullChild}
 use Rattle.btree_change.specs.declared.split.Split.{Split}
-use Rattle.btree_change.specs.Paths.{HasChildFor, IsSettledLock, StepsOnNodes}
+use Rattle.btree_change.specs.Paths.{HasChildFor, StepsOnNodes}
 use Rattle.btree_change.specs.Splits.{HasSpace, HoldsFullChild, IsHeldAs, SplitsChild, half_for, other_half, parent_for, parts_for, with_release_less}
 use Rattle.btree_change.proofs.Descending.{steps_then}
 use Rattle.btree_change.proofs.Descents.{steps_of_load}
-use Rattle.btree_change.proofs.HeldParts.{AreFar, dropped, is_first, is_second, is_third, told_place}
+use Rattle.btree_change.proofs.HeldParts.{dropped, is_first, is_second, is_third, told_place}
+use Rattle.btree_change.proofs.Loading.{none_more}
 use Rattle.btree_change.proofs.Settling.{SettlingLaws, may_release, released, settled_group, settled_new, stay_settled}
 use Rattle.btree_change.proofs.Splitting.{IsSplitWritten, found_child, inside, level}
 use Rattle.btree_change.proofs.SplitParts.{are_halves, divided}
@@ -63,6 +62,7 @@ less_release_then a b same = record {
   loader = same.loader;
   made = same.made;
   lineage = same.lineage;
+  loads = same.loads;
 }
 
 -- what is said of the half itself
@@ -181,7 +181,7 @@ module _ (laws : SettlingLaws) (t : Terms) (full : FullChild) (pc : ℕ) (f : Co
       let whole = is ∙ ap (λ (z : Log). record k' { log = z }) log in record {
         held = ap (λ (z : CallerData). z.log.holdings.held) whole ∙ (ap (without_lock other) settles ∙ ends.left);
         out = ap (λ (z : CallerData). z.log.holdings.out) whole ∙ w.none;
-        same = subst (StepsOnNodes (with_release_less k')) (sym whole) (record { table = refl; left = refl; terms = refl; role = refl; past = refl; budget = refl; receipts = refl; loader = refl; made = refl; lineage = refl });
+        same = subst (StepsOnNodes (with_release_less k')) (sym whole) (record { table = refl; left = refl; terms = refl; role = refl; past = refl; budget = refl; receipts = refl; loader = refl; made = refl; lineage = refl; loads = none_more k'.log.trace.loads });
       }
 
   -- and after a load of both that are held

@@ -1,12 +1,12 @@
 -- What a split makes of single nodes: slots, children and sizes.
-use Rattle.std.proofs.Common.{◌≡◌, ◌≢◌, ℕ, zero, suc, ◌+◌, ◌-◌, ◌<◌, ◌≤◌, List, [], ◌∷◌, length, take, drop, slice_get, sym, refl, ap, ◌∙◌, subst, arith, Bool, true, false, nat_le, Option, Some, None, Contains, le-leb, if◌then◌else◌}
+use Rattle.std.proofs.Common.{◌≡◌, ◌≢◌, ℕ, zero, suc, ◌+◌, ◌<◌, ◌≤◌, List, [], ◌∷◌, length, slice_get, sym, refl, ap, ◌∙◌, subst, arith, Bool, true, false, nat_le, Some, Contains, le-leb, if◌then◌else◌}
 use Rattle.std.proofs.lemmas.Bool.{leb-true, leb-false, lt-leb}
 use Rattle.std.proofs.lemmas.List.{length-take-le, length-drop}
 use Rattle.std.proofs.lemmas.Option.{none-some, same_Some}
 use Rattle.tree_shape.specs.declared.pair.Pair.{Pair}
-use Rattle.tree_shape.specs.Changes.{at_slot, divide, first_half, last_half, first_part, last_part, pair, size}
-use Rattle.tree_shape.specs.NodeData.{NodeData, Body, Pairs, Entries, Link, Cut, IsInFences, pairs_in, pairs_of, slot_for}
-use Rattle.tree_shape.specs.Steps.{IsFull, middle, middle_fence}
+use Rattle.tree_shape.specs.Changes.{at_slot, divide, first_half, first_part, last_part, size}
+use Rattle.tree_shape.specs.NodeData.{NodeData, Body, Pairs, Entries, Link, Cut, pairs_of, slot_for}
+use Rattle.tree_shape.specs.Steps.{IsFull, middle}
 use Rattle.tree_shape.specs.Trees.{Branch, branch, branches_from}
 use Rattle.node_store.specs.Writing.{kind_of_body}
 use Rattle.btree_change.specs.Splits.{HasSpace}

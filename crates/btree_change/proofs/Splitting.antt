@@ -1,12 +1,12 @@
 -- A full child is split under its parent: what is held before, and the change that is written.
-use Rattle.std.proofs.Common.{◌≡◌, ◌≢◌, ℕ, zero, suc, ◌+◌, ◌-◌, ◌<◌, ◌≤◌, List, [], ◌∷◌, ◌++◌, length, slice_get, sym, refl, ap, ◌∙◌, subst, arith, Bool, true, false, ◌==◌, nat_le, IsTrue, true≢false, Option, Some, None, IsSome, IsSomeAnd, is_some, inl, inr, ◌⊎◌, eq-eqb, ne_eqb, Contains, if◌then◌else◌}
+use Rattle.std.proofs.Common.{◌≡◌, ◌≢◌, ℕ, ◌-◌, ◌<◌, ◌≤◌, List, [], ◌∷◌, length, slice_get, sym, refl, ap, ◌∙◌, subst, arith, Bool, true, false, IsTrue, true≢false, Option, Some, None, IsSome, IsSomeAnd, is_some, inl, inr, ◌⊎◌, eq-eqb, ne_eqb, Contains}
 use Rattle.std.specs.List.{AllByRecursion}
 use Rattle.tree_shape.specs.declared.node.Frame.{Frame}
 use Rattle.tree_shape.specs.declared.pair.Pair.{Pair}
 use Rattle.tree_shape.specs.Changes.{at_slot, divide, first_half, last_half}
 use Rattle.tree_shape.specs.Lawful.{FitsParent, IsLawfulTree, IsOrderedAs}
 use Rattle.tree_shape.specs.LocalChange.{IsChangeOf}
-use Rattle.tree_shape.specs.NodeData.{NodeData, Body, Pairs, Entries, Link, Cut, IsInFences, IsInner, pairs_of, slot_for}
+use Rattle.tree_shape.specs.NodeData.{NodeData, Pairs, IsInFences, pairs_of, slot_for}
 use Rattle.tree_shape.specs.Numbers.{is_among}
 use Rattle.tree_shape.specs.Steps.{IsFull, IsSplit, middle, middle_fence}
 use Rattle.tree_shape.specs.Trees.{Branch, Contents, branches}
@@ -14,11 +14,10 @@ use Rattle.tree_shape.proofs.Halves.{only}
 use Rattle.word_rule.specs.CallerData.{CallerData}
 use Rattle.word_rule.specs.declared.log.Holding.{Holding}
 use Rattle.word_rule.specs.declared.log.Holdings.{Holdings}
-use Rattle.word_rule.specs.declared.log.Log.{Log}
 use Rattle.word_rule.specs.declared.log.Terms.{Terms}
 use Rattle.word_rule.specs.Held.{held_of}
 use Rattle.word_rule.specs.Memory.{updated}
-use Rattle.word_rule.specs.NodeTells.{IsLiveNode, KnowsTree}
+use Rattle.word_rule.specs.NodeTells.{KnowsTree}
 use Rattle.word_rule.specs.Spelling.{SpellsNode}
 use Rattle.word_rule.specs.Steps.{MayStore}
 use Rattle.node_store.specs.Holding.{SpellsHeld, WritesHeld}

@@ -1,16 +1,14 @@
 -- Where an insertion stands after a step down: what it holds is of one tree, and the node above both
 -- leaves is known where the span ends beyond the child.
-use Rattle.std.proofs.Common.{◌≡◌, ◌≢◌, ℕ, zero, suc, ◌+◌, ◌-◌, ◌<◌, ◌≤◌, List, [], ◌∷◌, ◌++◌, length, drop, append-nil, sym, refl, ap, ◌∙◌, subst, arith, inl, inr, ◌⊎◌, Bool, true, false, ◌==◌, nat_le, IsTrue, true≢false, Option, Some, None, IfSome, IsSome, eq-eqb, ne_eqb, Contains, cond, if◌then◌else◌}
+use Rattle.std.proofs.Common.{◌≡◌, ℕ, zero, suc, ◌+◌, ◌-◌, ◌<◌, ◌≤◌, List, [], ◌∷◌, ◌++◌, length, sym, refl, ap, ◌∙◌, subst, arith, inl, inr, ◌⊎◌, Bool, true, false, ◌==◌, Option, Some, None, IsSome, Contains, cond, if◌then◌else◌}
 use Rattle.std.proofs.lemmas.Option.{same_Some}
-use Rattle.std.proofs.lemmas.Bool.{leb-true, leb-false, le-leb, lt-leb}
+use Rattle.std.proofs.lemmas.Bool.{le-leb, lt-leb}
 use Rattle.std.specs.List.{AllByRecursion, slice_get}
-use native.Mathlib.Decide.{ℕ_discrete}
 use Rattle.reg_model.specs.declared.span.Member.{Member}
-use Rattle.tree_shape.specs.declared.node.Frame.{Frame}
 use Rattle.tree_shape.specs.declared.pair.Pair.{Pair}
-use Rattle.tree_shape.specs.NodeData.{NodeData, Cut, IsInFences, pairs_of, slot_for}
+use Rattle.tree_shape.specs.NodeData.{NodeData, Cut, pairs_of, slot_for}
 use Rattle.tree_shape.specs.Steps.{last_child}
-use Rattle.tree_shape.specs.Trees.{Branch, Contents, branches, branches_from}
+use Rattle.tree_shape.specs.Trees.{Branch, branches, branches_from}
 use Rattle.tree_shape.proofs.Leads.{branch_inside}
 use Rattle.tree_shape.proofs.Times.{In}
 use Rattle.word_rule.specs.CallerData.{CallerData}
@@ -22,7 +20,7 @@ use Rattle.word_rule.specs.declared.log.Terms.{Terms}
 use Rattle.word_rule.specs.Held.{held_of}
 use Rattle.word_rule.specs.Logs.{load_of}
 use Rattle.word_rule.specs.Places.{node_place}
-use Rattle.word_rule.specs.NodeTells.{IsLiveNode, KnowsTree}
+use Rattle.word_rule.specs.NodeTells.{KnowsTree}
 use Rattle.word_rule.specs.Sights.{after_node_load}
 use Rattle.word_rule.specs.Spelling.{SpellsNode}
 use Rattle.word_rule.specs.TreeRefusals.{HadNoRoom}
@@ -30,11 +28,9 @@ use Rattle.btree_change.specs.declared.descent.Held.{Held}
 use Rattle.btree_change.specs.declared.stand.Beyond.{Beyond}
 use Rattle.btree_change.specs.declared.stand.Room.{Room}
 use Rattle.btree_change.specs.declared.stand.Room.TheVariants as room
-use Rattle.btree_change.specs.declared.stand.Stand.{Stand}
-use Rattle.btree_change.specs.Paths.{AreHigher, HasChildFor, IsLiveLock, IsSettledLock}
-use Rattle.btree_change.specs.Spines.{AreApart, Climbs, KeepsLoads}
+use Rattle.btree_change.specs.Paths.{AreHigher, IsLiveLock, IsSettledLock}
 use Rattle.btree_change.specs.Stands.{HasWayOn, HoldsPair, LiesBeyond, IsReach, MayGo, Reaches, StandsOnWay, StandsAt}
-use Rattle.btree_change.proofs.HeldTrees.{IsChild, OnTree, apart_with, child, child_frame, inner, on_tree}
+use Rattle.btree_change.proofs.HeldTrees.{OnTree, apart_with, child, child_frame, inner, on_tree}
 use Rattle.btree_change.proofs.Spending.{room_kept}
 
 -- an item of a list stands in it

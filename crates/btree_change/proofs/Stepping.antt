@@ -1,34 +1,30 @@
 -- A full child is split on the way down where a node is free; then the insertion goes on below.
-use Rattle.std.proofs.Common.{◌≡◌, ◌≢◌, ℕ, ◌+◌, ◌-◌, ◌<◌, ◌≤◌, List, [], ◌∷◌, ◌++◌, length, drop, append-nil, sym, refl, ap, ◌∙◌, subst, arith, inl, Bool, true, false, ◌==◌, Option, Some, None, IsSome, IsSomeAnd, is_some, eq-eqb, ne_eqb, cond}
-use Rattle.std.specs.List.{AllByRecursion}
-use Rattle.tree_shape.specs.NodeData.{NodeData, Body, Pairs, Entries, Link, IsInFences, frame_of, pairs_of, pairs_in}
+use Rattle.std.proofs.Common.{◌≡◌, ℕ, ◌<◌, List, [], ◌∷◌, length, drop, append-nil, sym, refl, ap, ◌∙◌, subst, arith, inl, Bool, true, false, ◌==◌, Some, IsSome, is_some, cond}
+use Rattle.tree_shape.specs.NodeData.{NodeData, Pairs, IsInFences, frame_of, pairs_of}
 use Rattle.tree_shape.specs.Lawful.{IsOrdered}
 use Rattle.tree_shape.specs.Steps.{IsFull}
-use Rattle.word_rule.specs.CallerData.{CallerData, surplus}
+use Rattle.word_rule.specs.CallerData.{CallerData}
 use Rattle.word_rule.specs.declared.log.Holding.{Holding}
 use Rattle.word_rule.specs.declared.log.Log.{Log}
-use Rattle.word_rule.specs.declared.log.Receipts.{Receipts}
 use Rattle.word_rule.specs.declared.log.Terms.{Terms}
-use Rattle.word_rule.specs.Held.{held_of, without_lock}
-use Rattle.word_rule.specs.Steps.{after_node_release_same}
+use Rattle.word_rule.specs.Held.{held_of}
 use Rattle.btree_change.specs.declared.descent.Held.{Held}
-use Rattle.btree_change.specs.declared.split.FullChild.{FullChild}
 use Rattle.btree_change.specs.declared.split.Split.{Split}
 use Rattle.btree_change.specs.declared.stand.Room.{Room}
 use Rattle.btree_change.specs.declared.stand.Room.TheVariants as room
 use Rattle.btree_change.specs.declared.stand.Step.{Step}
-use Rattle.btree_change.specs.Paths.{AreHigher, IsSettledLock, StepsOnNodes}
-use Rattle.btree_change.specs.Splits.{HasSpace, HoldsFull, HoldsFullChild, SplitsChild, StaysHeld, TakesRoom, parent_for, with_release_less}
+use Rattle.btree_change.specs.Paths.{AreHigher, StepsOnNodes}
+use Rattle.btree_change.specs.Splits.{HasSpace, HoldsFull, HoldsFullChild, SplitsChild, StaysHeld, TakesRoom, with_release_less}
 use Rattle.word_rule.specs.NodeTells.{KnowsTree}
 use Rattle.word_rule.specs.Sights.{after_node_load}
-use Rattle.btree_change.specs.Stands.{HasSplit, HasWayOn, HoldsPair, HoldsStep, LetsGo, MayGo, SpendsSteps}
+use Rattle.btree_change.specs.Stands.{HasSplit, HasWayOn, HoldsPair, LetsGo, MayGo, SpendsSteps}
 use Rattle.btree_change.proofs.Descending.{steps_then}
 use Rattle.btree_change.proofs.Descents.{steps_of_load}
+use Rattle.btree_change.proofs.Loading.{keeps_all}
 use Rattle.btree_change.proofs.Standing.{may_go, stands_below}
 use Rattle.btree_change.proofs.Lowering.{settled_inner, settled_live}
-use Rattle.btree_change.proofs.Releasing.{far_stay}
-use Rattle.btree_change.proofs.Spending.{own_same, spends_same, steps_after}
-use Rattle.btree_change.proofs.Settling.{found_first, found_later}
+use Rattle.btree_change.proofs.Spending.{spends_same, steps_after}
+use Rattle.btree_change.proofs.Settling.{found_first}
 
 -- the child is found among what is held, and the root above it
 pub child_found : (t : Terms) (pc : ℕ) (parent child : Held) (above held : List Holding) (lower upper : Holding) → held ≡ lower ∷ upper ∷ above → lower.node ≡ child.node → held_of child.node held ≡ Some lower
@@ -85,6 +81,7 @@ module _ (t : Terms) (pc : ℕ) (step : Step) (above : List Holding) (k : Caller
     steps = record {
       call = record { table = refl; left = refl; terms = refl; role = refl; loader = refl; made = refl; lineage = refl; receipts = (λ i. record k.log.receipts { own = sym (append-nil k.log.receipts.own) i }); allowance = omega arith; credit = omega arith };
       past = refl;
+      loads = keeps_all k;
     };
   }
 
@@ -143,6 +140,7 @@ module _ (t : Terms) (pc : ℕ) (step : Step) (above : List Holding) (k : Caller
     steps = steps_after 0 1 1 k k1 k1 (omega arith) (spends_same k k1 stays.same) (record {
       call = record { table = refl; left = refl; terms = refl; role = refl; loader = refl; made = refl; lineage = refl; receipts = (λ i. record k1.log.receipts { own = sym (append-nil k1.log.receipts.own) i }); allowance = omega arith; credit = omega arith };
       past = refl;
+      loads = keeps_all k1;
     });
   }
 
@@ -185,6 +183,7 @@ module _ (t : Terms) (pc : ℕ) (step : Step) (above : List Holding) (k : Caller
       credit = let e = ap (λ b. b.credit) s.budget in omega (arith, e);
     };
     past = s.past;
+    loads = s.loads;
   }
 
   -- it was split

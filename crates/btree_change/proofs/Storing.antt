@@ -18,6 +18,7 @@ use Rattle.node_store.specs.Sights.{after_words}
 use Rattle.node_store.specs.Writing.{kind_of_body, place_in_turn, store_in_turn, store_of, stores, stores_upto, wanted_node_word}
 use Rattle.btree_change.specs.Paths.{StepsOnNodes}
 use Rattle.btree_change.proofs.Descending.{steps_equal, steps_none, steps_of_words, steps_then}
+use Rattle.btree_change.proofs.Loading.{none_more}
 
 -- what is stored is what is wanted there
 abbrev IsWanted : NodeData → Store → Type 0
@@ -101,7 +102,7 @@ stored_keeps s n (x ∷ xs) h before above v kind wanted is none far held =
       out = rest.out;
       head = rest.head;
       same = λ k. steps_then (record k { log = v }) (record k { log = stored_log n x.at x.value v }) (record k { log = after_node_stores n xs (stored_log n x.at x.value v) })
-          (record { table = refl; left = refl; terms = refl; role = refl; past = refl; budget = refl; receipts = refl; loader = refl; made = refl; lineage = refl }) (rest.same k);
+          (record { table = refl; left = refl; terms = refl; role = refl; past = refl; budget = refl; receipts = refl; loader = refl; made = refl; lineage = refl; loads = none_more v.trace.loads }) (rest.same k);
     })
 
 words_holdings : (n : ℕ) (words : List ℕ) (count : ℕ) (v : Log) → (after_words n words count v).holdings ≡ v.holdings

@@ -26,6 +26,7 @@ use Rattle.btree_change.specs.Siblings.{HoldsSiblings, HoldsSunk, both_of, sunk_
 use Rattle.btree_change.specs.declared.sibling.Siblings.{Siblings}
 use Rattle.btree_change.proofs.Descending.{steps_then}
 use Rattle.btree_change.proofs.Descents.{steps_of_load}
+use Rattle.btree_change.proofs.Loading.{none_more}
 use Rattle.btree_change.proofs.Pairings.{IsBesideLock, IsNow, beside, both_high, both_left, both_low, each_more, family, in_l, in_r, left_told, not_in, here, later, parent_told, right_told, settles}
 use Rattle.btree_change.proofs.Settling.{SettlingLaws, settled_gone}
 use Rattle.btree_change.proofs.Takings.{placed_of}
@@ -275,7 +276,7 @@ module _ (t : Terms) (x : Siblings) (k k1 k2 : CallerData) (seen seen' : ℕ) (h
 
           pub sunk_steps : StepsOnNodes k k6
           sunk_steps =
-              let plain4 : StepsOnNodes k3 k4 = subst (StepsOnNodes k3) (sym stores4) (record { table = refl; left = refl; terms = refl; role = refl; past = refl; budget = refl; receipts = refl; loader = refl; made = refl; lineage = refl }) in
-              let plain5 : StepsOnNodes k4 k5 = subst (StepsOnNodes k4) (sym stores5) (record { table = refl; left = refl; terms = refl; role = refl; past = refl; budget = refl; receipts = refl; loader = refl; made = refl; lineage = refl }) in
-              let plain6 : StepsOnNodes k5 k6 = subst (StepsOnNodes k5) (sym (stores6 ∙ ap (λ (z : Log). record k5 { log = z }) (frees_it ∙ settled6))) (record { table = refl; left = refl; terms = refl; role = refl; past = refl; budget = refl; receipts = refl; loader = refl; made = refl; lineage = refl }) in
+              let plain4 : StepsOnNodes k3 k4 = subst (StepsOnNodes k3) (sym stores4) (record { table = refl; left = refl; terms = refl; role = refl; past = refl; budget = refl; receipts = refl; loader = refl; made = refl; lineage = refl; loads = none_more k3.log.trace.loads }) in
+              let plain5 : StepsOnNodes k4 k5 = subst (StepsOnNodes k4) (sym stores5) (record { table = refl; left = refl; terms = refl; role = refl; past = refl; budget = refl; receipts = refl; loader = refl; made = refl; lineage = refl; loads = none_more k4.log.trace.loads }) in
+              let plain6 : StepsOnNodes k5 k6 = subst (StepsOnNodes k5) (sym (stores6 ∙ ap (λ (z : Log). record k5 { log = z }) (frees_it ∙ settled6))) (record { table = refl; left = refl; terms = refl; role = refl; past = refl; budget = refl; receipts = refl; loader = refl; made = refl; lineage = refl; loads = none_more k5.log.trace.loads }) in
               steps_then k k1 k6 (steps_of_load l 2 seen k k1 loads) (steps_then k1 k2 k6 (steps_of_load r 2 seen' k1 k2 loads') (steps_then k2 k3 k6 w.same (steps_then k3 k4 k6 plain4 (steps_then k4 k5 k6 plain5 plain6))))

@@ -21,9 +21,11 @@ use Rattle.node_store.specs.Holding.{ReadsHeld, SpellsHeld, WritesHeld, after_no
 use Rattle.node_store.specs.Sights.{after_words}
 use Rattle.node_store.specs.Writing.{kind_of_body, stores}
 use Rattle.btree_change.specs.Paths.{StepsOnNodes}
-use Rattle.btree_change.specs.Spines.{AreApart, AreRewritten, HoldsSpines, IsLeftToMove, IsLockAt, IsRewrittenAs, IsRightToMove, IsSpine, IsToMove, KeepsLoads, WritesSpines}
+use Rattle.btree_change.specs.Loads.{KeepsLoads}
+use Rattle.btree_change.specs.Spines.{AreApart, AreRewritten, HoldsSpines, IsLeftToMove, IsLockAt, IsRewrittenAs, IsRightToMove, IsSpine, IsToMove, WritesSpines}
 use Rattle.btree_change.proofs.FreshSpines.{all_parts, apart_mid}
-use Rattle.btree_change.proofs.LockedSpines.{loads_of_words, loads_same, loads_then, may_read_found, reads_spelled}
+use Rattle.btree_change.proofs.Loading.{keeps_none, keeps_then, keeps_words}
+use Rattle.btree_change.proofs.LockedSpines.{may_read_found, reads_spelled}
 use Rattle.btree_change.proofs.Storing.{IsRewritten, found_at, rewritten_so}
 
 -- what stores leave of the loads: all
@@ -49,8 +51,8 @@ loads_of_write n s k k' writes = go (held_of n k.log.holdings.held) writes
     go : (o : Option Holding) → IsSomeAnd o (λ h. k' ≡ record k { log = after_node_stores n (stores s h.words) (after_words n h.words 35 k.log) }) → KeepsLoads k k'
     go None r = absurd r
     go (Some h) r = subst (KeepsLoads k) (sym r)
-        (loads_then k (record k { log = after_words n h.words 35 k.log }) (record k { log = after_node_stores n (stores s h.words) (after_words n h.words 35 k.log) }) (loads_of_words n h.words 35 k)
-        (loads_same (record k { log = after_words n h.words 35 k.log }) (record k { log = after_node_stores n (stores s h.words) (after_words n h.words 35 k.log) }) (loads_of_stores n (stores s h.words) (after_words n h.words 35 k.log))))
+        (keeps_then k (record k { log = after_words n h.words 35 k.log }) (record k { log = after_node_stores n (stores s h.words) (after_words n h.words 35 k.log) }) (keeps_words n h.words 35 k)
+        (keeps_none (record k { log = after_words n h.words 35 k.log }) (record k { log = after_node_stores n (stores s h.words) (after_words n h.words 35 k.log) }) (loads_of_stores n (stores s h.words) (after_words n h.words 35 k.log))))
 
 -- another lock of the same node in its place
 pub apart_swap : (xs : List Holding) (h z : Holding) (ys : List Holding) → z.node ≡ h.node → AreApart (xs ++ h ∷ ys) → AreApart (xs ++ z ∷ ys)

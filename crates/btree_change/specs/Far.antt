@@ -18,7 +18,7 @@ use Rattle.btree_change.specs.declared.beyond.Next.{Next}
 use Rattle.btree_change.specs.declared.stand.Reply.{Reply}
 use Rattle.btree_change.specs.declared.stand.Room.TheVariants as room
 use Rattle.btree_change.specs.Insertion.{IsRightInsertion, taken_by}
-use Rattle.btree_change.specs.Spines.{HoldsLeafPair, HoldsNext, KeepsLoads}
+use Rattle.btree_change.specs.Spines.{HoldsLeafPair, HoldsNext}
 use Rattle.btree_change.specs.Splits.{HasSpace}
 use Rattle.btree_change.specs.Stands.{AreLeftAs, LiesBeyond, SpendsCall, SpendsSteps, StandsOnWay, StandsAt}
 
@@ -63,7 +63,6 @@ pub record LeavesFar (base : Holdings) (k k' : CallerData) : Type 0 where
   pub steps : SpendsSteps 1 k k'
   pub held : k'.log.holdings.held ≡ drop 1 base.held
   pub out : k'.log.holdings.out ≡ []
-  pub loads : KeepsLoads k k'
 
 -- The insertion was answered, where this is what is held above the leaf.
 pub record AnswersAbove (t : Terms) (m : Member) (reply : Reply) (above : List Holding) (most : ℕ)

@@ -1,3 +1,4 @@
+pub mod Loads
 pub mod Paths
 pub mod Updates
 pub mod Insertion

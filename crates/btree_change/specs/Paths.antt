@@ -9,6 +9,7 @@ use Rattle.word_rule.specs.declared.log.Holdings.{Holdings}
 use Rattle.word_rule.specs.declared.log.Terms.{Terms}
 use Rattle.word_rule.specs.NodeTells.{IsLiveNode}
 use Rattle.word_rule.specs.Spelling.{SpellsNode}
+use Rattle.btree_change.specs.Loads.{KeepsLoads}
 
 -- The lock of a live node that has settled: the node is this one, and a word was stored under the
 -- lock or none was.
@@ -41,7 +42,7 @@ HasChildFor s pc child = (b : Branch) × (Contains (branches (s.level - 1) s) b 
     × (b.frame.low ≤ pc) × (pc ≤ b.frame.high))
 
 -- What steps on nodes leave of their caller: its calls, its receipts and its names are as they
--- were.
+-- were, and what it had loaded stays told.
 pub record StepsOnNodes (k k' : CallerData) : Type 0 where
   pub table : k'.table ≡ k.table
   pub left : k'.left ≡ k.left
@@ -53,3 +54,4 @@ pub record StepsOnNodes (k k' : CallerData) : Type 0 where
   pub loader : k'.log.loader ≡ k.log.loader
   pub made : k'.log.made ≡ k.log.made
   pub lineage : k'.log.lineage ≡ k.log.lineage
+  pub loads : KeepsLoads k k'

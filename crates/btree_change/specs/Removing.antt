@@ -12,6 +12,7 @@ use Rattle.word_rule.specs.Spelling.{SpellsNode}
 use Rattle.word_rule.specs.declared.log.Holding.{Holding}
 use Rattle.word_rule.specs.declared.log.Holdings.{Holdings}
 use Rattle.word_rule.specs.declared.log.Terms.{Terms}
+use Rattle.btree_change.specs.Loads.{KeepsLoads}
 use Rattle.btree_change.specs.Paths.{IsSettledLock}
 
 -- the lock of the root, an inner node that has settled
@@ -62,7 +63,8 @@ IsSpare zero s = Unit {0}
 IsSpare (suc n) s = IsSpareAs s.body
 
 -- What steps on nodes leave of their caller that lets go of at most so many nodes with the next
--- version: its calls, its receipts and its names are as they were.
+-- version: its calls, its receipts and its names are as they were, and what it had loaded stays
+-- told.
 pub record Spends (releases : ℕ) (k k' : CallerData) : Type 0 where
   pub table : k'.table ≡ k.table
   pub left : k'.left ≡ k.left
@@ -75,6 +77,7 @@ pub record Spends (releases : ℕ) (k k' : CallerData) : Type 0 where
   pub lineage : k'.log.lineage ≡ k.log.lineage
   pub allowance : k'.log.budget.allowance ≡ k.log.budget.allowance
   pub credit : k.log.budget.credit ≤ k'.log.budget.credit + releases
+  pub loads : KeepsLoads k k'
 
 -- all that is held has settled as its words spell it
 abbrev pub HaveSettled : List Holding → Type 0

@@ -20,7 +20,6 @@ use Rattle.word_rule.specs.Spelling.{SpellsNode}
 use Rattle.word_rule.specs.Steps.{place_by_held}
 use Rattle.word_rule.specs.declared.log.Holding.{Holding}
 use Rattle.word_rule.specs.declared.log.Holdings.{Holdings}
-use Rattle.word_rule.specs.declared.log.LoadEvent.{LoadEvent}
 use Rattle.word_rule.specs.declared.log.Log.{Log}
 use Rattle.word_rule.specs.declared.log.Terms.{Terms}
 use Rattle.btree_change.specs.Paths.{AreHigher, IsLiveLock, IsSettledLock}
@@ -150,10 +149,6 @@ pub record HoldsLeafPair (n : ℕ) (s : NodeData) (r : ℕ) (u : NodeData) (hold
   pub right_marked : IsSome right.mark
   pub right_level : u.level ≡ 0
   pub beside : u.low ≡ s.high + 1
-
--- what a caller of steps on nodes had loaded stands among its loads as it was
-abbrev pub KeepsLoads : CallerData → CallerData → Type 0
-KeepsLoads k k' = (more : List LoadEvent) × (k'.log.trace.loads ≡ k.log.trace.loads ++ more)
 
 -- The lock of a node of a spine whose fence is to be moved: it spells what it settled, and is no
 -- free node.

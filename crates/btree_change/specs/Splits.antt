@@ -1,5 +1,5 @@
 -- What the split of a full node asks for, and what it makes of its caller.
-use Rattle.std.specs.Prelude.{◌≡◌, ◌≢◌, ℕ, ◌<◌, ◌≤◌, ◌⊎◌, Bool, true, List, [], ◌∷◌, ◌++◌, length}
+use Rattle.std.specs.Prelude.{◌≡◌, ◌≢◌, ℕ, ◌<◌, ◌⊎◌, Bool, true, List, [], ◌∷◌, length}
 use Rattle.std.specs.Prelude.{drop, IsSome, Option, Some, None, Result, Ok, Err, nat_le}
 use Rattle.std.specs.Prelude.{if◌then◌else◌}
 use Rattle.tree_shape.specs.Changes.{at_slot, divide, first_half, last_half}
@@ -14,7 +14,6 @@ use Rattle.word_rule.specs.Spelling.{SpellsNode}
 use Rattle.word_rule.specs.TreeRefusals.{HadNoRoom}
 use Rattle.word_rule.specs.declared.log.Holding.{Holding}
 use Rattle.word_rule.specs.declared.log.Holdings.{Holdings}
-use Rattle.word_rule.specs.declared.log.LoadEvent.{LoadEvent}
 use Rattle.word_rule.specs.declared.log.Terms.{Terms}
 use Rattle.node_store.specs.declared.locking.Busy.{Busy}
 use Rattle.btree_change.specs.declared.descent.Held.{Held}
@@ -23,6 +22,7 @@ use Rattle.btree_change.specs.declared.split.Parts.{Parts}
 use Rattle.btree_change.specs.declared.split.Split.{Split}
 use Rattle.btree_change.specs.declared.lift.FullRoot.{FullRoot}
 use Rattle.btree_change.specs.declared.lift.TwoNodes.{TwoNodes}
+use Rattle.btree_change.specs.Loads.{FoundTaken}
 use Rattle.btree_change.specs.Paths.{AreHigher, HasChildFor, IsSettledLock, StepsOnNodes}
 
 -- The lock of a node that was taken off the free list: its words spell a free one.
@@ -159,12 +159,13 @@ pub record StaysHeld (k k' : CallerData) : Type 0 where
   pub same : StepsOnNodes k k'
 
 -- What comes of the search for a free node: the node; or none, with the cause among the loads; or
--- that the first one was found locked, by a caller that may give up.
+-- that the first one was found locked, by a caller that may give up: its lock.
 abbrev pub IsRoomFor : Bool → ℕ → CallerData → CallerData → Result (Option ℕ) Busy → Type 0
 IsRoomFor gives_up pc k k' (Ok (Some fresh)) = TakesRoom fresh k k'
 IsRoomFor gives_up pc k k' (Ok None) =
     StaysHeld k k' × HadNoRoom pc (length k.log.receipts.own) k'.log.trace.loads
-IsRoomFor gives_up pc k k' (Err busy) = StaysHeld k k' × (gives_up ≡ true)
+IsRoomFor gives_up pc k k' (Err busy) =
+    StaysHeld k k' × (gives_up ≡ true) × FoundTaken busy.lock k k'
 
 -- The full root is held, and two free nodes that are out.
 pub record HoldsFullRoot (t : Terms) (full : FullRoot) (pc : ℕ) (holdings : Holdings) : Type 0 where
@@ -247,8 +248,6 @@ pub record HoldsOneFree (n : ℕ) (holdings : Holdings) : Type 0 where
 pub record GivesBack (k k' : CallerData) : Type 0 where
   pub held : k'.log.holdings.held ≡ drop 1 k.log.holdings.held
   pub out : k'.log.holdings.out ≡ []
-  pub more : List LoadEvent
-  pub loads : k'.log.trace.loads ≡ k.log.trace.loads ++ more
   pub same : StepsOnNodes (with_release_less k) k'
 
 -- What is held stays so, for at most a release.
@@ -271,11 +270,13 @@ pub record TakesTwo (two : TwoNodes) (k k' : CallerData) : Type 0 where
   pub same : StepsOnNodes k k'
 
 -- What comes of the search for two free nodes for the full root: both, where it may rise; or none,
--- with the cause among the loads; or that one was found locked, by a caller that may give up.
+-- with the cause among the loads; or that one was found locked, by a caller that may give up: its
+-- lock.
 abbrev pub IsRoomForRoot
     : Bool → Held → ℕ → CallerData → CallerData → Result (Option TwoNodes) Busy → Type 0
 IsRoomForRoot gives_up root pc k k' (Ok (Some two)) =
     (root.content.level < HIGHEST_LEVEL) × TakesTwo two k k'
 IsRoomForRoot gives_up root pc k k' (Ok None) =
     KeepsHeld k k' × HadNoRoom pc (length k.log.receipts.own) k'.log.trace.loads
-IsRoomForRoot gives_up root pc k k' (Err busy) = KeepsHeld k k' × (gives_up ≡ true)
+IsRoomForRoot gives_up root pc k k' (Err busy) =
+    KeepsHeld k k' × (gives_up ≡ true) × FoundTaken busy.lock k k'

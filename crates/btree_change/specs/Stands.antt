@@ -26,6 +26,7 @@ use Rattle.btree_change.specs.declared.stand.Room.TheVariants as room
 use Rattle.btree_change.specs.declared.stand.Stand.{Stand}
 use Rattle.btree_change.specs.declared.stand.Step.{Step}
 use Rattle.btree_change.specs.Insertion.{IsRightInsertion, taken_by}
+use Rattle.btree_change.specs.Loads.{KeepsLoads}
 use Rattle.btree_change.specs.Paths.{AreHigher, HasChildFor}
 use Rattle.btree_change.specs.Spines.{AreApart, Climbs}
 use Rattle.btree_change.specs.Splits.{HasSpace, IsHeldAs}
@@ -110,10 +111,11 @@ pub record SpendsCall (more : List Receipt) (taken most : ℕ) (k k' : CallerDat
   pub allowance : k'.log.budget.allowance ≡ k.log.budget.allowance - taken
   pub credit : k.log.budget.credit ≤ k'.log.budget.credit + most
 
--- a part of it that sees and answers nothing
+-- a part of it that sees and answers nothing, and forgets nothing that was loaded
 pub record SpendsSteps (most : ℕ) (k k' : CallerData) : Type 0 where
   pub call : SpendsCall [] 0 most k k'
   pub past : k'.log.past ≡ k.log.past
+  pub loads : KeepsLoads k k'
 
 -- a held node that has settled, to be let go of as one that was changed or as one that wasn't
 pub record MayGo (node : ℕ) (changed : Bool) (holdings : Holdings) : Type 0 where
@@ -130,7 +132,6 @@ pub record LetsGo (k k' : CallerData) : Type 0 where
   pub steps : SpendsSteps 1 k k'
   pub held : k'.log.holdings.held ≡ drop 1 k.log.holdings.held
   pub out : k'.log.holdings.out ≡ k.log.holdings.out
-  pub loads : k'.log.trace.loads ≡ k.log.trace.loads
 
 -- a lock above after the way below it: it has settled, and it was changed by the fence that was moved
 -- where its level is at most that of the node above both leaves

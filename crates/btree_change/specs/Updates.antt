@@ -1,8 +1,10 @@
 -- What an update of the tree makes of its caller, whichever it is.
-use Rattle.std.specs.Prelude.{◌≡◌, ℕ, ◌+◌, ◌-◌, ◌≤◌, List, [], ◌∷◌, ◌++◌}
+use Rattle.std.specs.Prelude.{◌≡◌, ℕ, ◌+◌, ◌-◌, ◌≤◌, [], ◌∷◌, ◌++◌}
 use Rattle.reg_model.specs.declared.answer.Receipt.{Receipt}
 use Rattle.word_rule.specs.CallerData.{CallerData}
 use Rattle.word_rule.specs.Places.{CALL_CREDIT}
+use Rattle.word_rule.specs.declared.log.LockId.{LockId}
+use Rattle.btree_change.specs.Loads.{FoundTaken}
 use Rattle.btree_change.specs.Paths.{HoldsNothing}
 
 -- An update call that was begun was answered with this receipt, and took so many of the allowance:
@@ -23,9 +25,10 @@ pub record AnswersUpdate (r : Receipt) (taken : ℕ) (k k' : CallerData) : Type 
   pub credit : k.log.budget.credit ≤ k'.log.budget.credit + CALL_CREDIT
   pub nothing : HoldsNothing k'.log.holdings
 
--- A lock was found taken, and the update gave up: the call is still begun, and no receipt was taken.
--- Nodes that were split or joined on the way stay so, which changes no entry.
-pub record GivesUp (k k' : CallerData) : Type 0 where
+-- This lock was found taken, and the update gave up: the call is still begun, and no receipt was
+-- taken. Nodes that were split or joined on the way stay so, which changes no entry.
+pub record GivesUp (id : LockId) (k k' : CallerData) : Type 0 where
+  pub cause : FoundTaken id k k'
   pub table : k'.table ≡ k.table
   pub left : k'.left ≡ k.left
   pub terms : k'.log.terms ≡ k.log.terms

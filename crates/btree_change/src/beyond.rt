@@ -10,6 +10,7 @@ ghost use Rattle.tree_shape.specs.declared.node.Frame.{Frame};
 ghost use Rattle.word_rule.specs.CallerData.{due, surplus};
 ghost use Rattle.word_rule.specs.NodeTells.{IsLiveNode};
 ghost use Rattle.word_rule.specs.TreeRefusals.{HadNoRoom};
+ghost use Rattle.btree_change.specs.Loads.{FoundTaken};
 ghost use Rattle.btree_change.specs.Insertion.{RefusesMember};
 ghost use Rattle.btree_change.specs.Spines.{HoldsLeafPair, HoldsNext};
 ghost use Rattle.btree_change.specs.Stands.{AnswersBelow, GivesUpBelow, StandsAt, releases_at};
@@ -204,6 +205,7 @@ pub(crate) fn beyond_leaf<L: Locking>(
         (releases_at 0) me.old me.new) }
     ensures busy { IfErr result (λ e. GivesUpBelow (releases_at 0) me.old me.new
         × (L.gives_up ≡ true)) }
+    ensures cause { IfErr result (λ e. FoundTaken e.lock me.old me.new) }
 {
     let above = Ancestor {
         node: far.beyond.node,

@@ -4,6 +4,7 @@ ghost use Rattle.tree_shape.specs.NodeData.{InOrder, IsInFences, IsInner};
 ghost use Rattle.word_rule.specs.CallerData.{surplus};
 ghost use Rattle.word_rule.specs.Callers.{IsIdle};
 ghost use Rattle.node_store.specs.Locking.{IsBusy, Locks};
+ghost use Rattle.btree_change.specs.Loads.{FoundTaken};
 ghost use Rattle.btree_change.specs.Paths.{HasChildFor, HoldsNothing, StepsOnNodes};
 ghost use Rattle.btree_change.specs.Stands.{HoldsRoot, LetsGo, MayGo};
 
@@ -86,6 +87,7 @@ pub(crate) fn at_root<L: Locking>(locking: &L, words: &Words, me: &mut Caller) -
     requires idle { IsIdle me.old.log }
     ensures ok { IfOk result (λ at. HoldsRoot words.now.terms at me.new.log.holdings) }
     ensures busy { IfErr result (λ e. HoldsNothing me.new.log.holdings × (L.gives_up ≡ true)) }
+    ensures cause { IfErr result (λ e. FoundTaken e.lock me.old me.new) }
     ensures same { StepsOnNodes me.old me.new }
     ensures terms { me.old.log.terms ≡ words.now.terms }
 {

@@ -10,7 +10,8 @@ ghost use Rattle.word_rule.specs.CallerData.{CallerData, surplus};
 ghost use Rattle.word_rule.specs.NodeTells.{IsLiveNode};
 ghost use Rattle.btree_change.specs.Insertion.{RefusesMember};
 ghost use Rattle.btree_change.specs.Paths.{StepsOnNodes};
-ghost use Rattle.btree_change.specs.Spines.{HoldsLeafPair, HoldsNext, HoldsWay, KeepsLoads};
+ghost use Rattle.btree_change.specs.Loads.{FoundTaken, KeepsLoads};
+ghost use Rattle.btree_change.specs.Spines.{HoldsLeafPair, HoldsNext, HoldsWay};
 ghost use Rattle.btree_change.specs.Spines.{MovesFence};
 
 use crate::descent::Held;
@@ -60,8 +61,8 @@ pub(crate) fn next_leaf<L: Locking>(
         place)) }
     ensures busy { IfErr result (λ e. (me.new.log.holdings ≡ me.old.log.holdings)
         × (L.gives_up ≡ true)) }
+    ensures cause { IfErr result (λ e. FoundTaken e.lock me.old me.new) }
     ensures same { StepsOnNodes me.old me.new }
-    ensures loads { KeepsLoads me.old me.new }
 {
     // By this load it is known of which tree the way is.
     words.load_node(me, above.node, LEVEL);
@@ -118,7 +119,6 @@ pub(crate) fn let_go_of_next<L: Locking>(
     ensures base { (next : HoldsNext words.now.terms above.now.node above.now.slot
         me.old.log.holdings) → me.new.log.holdings ≡ next.base }
     ensures same { StepsOnNodes me.old me.new }
-    ensures loads { KeepsLoads me.old me.new }
 {
     let content = read_held(words, me, above.node);
     let pair = pair_after(&content, above.slot);

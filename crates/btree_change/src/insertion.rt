@@ -6,6 +6,7 @@ ghost use Rattle.tree_shape.specs.NodeData.{entries_of};
 ghost use Rattle.word_rule.specs.CallerData.{due, surplus};
 ghost use Rattle.word_rule.specs.Callers.{IsIdle};
 ghost use Rattle.word_rule.specs.Places.{CALL_CREDIT};
+ghost use Rattle.btree_change.specs.Loads.{FoundTaken};
 ghost use Rattle.btree_change.specs.Insertion.{AnswersInsertion, Inserts};
 ghost use Rattle.btree_change.specs.Paths.{HoldsNothing};
 ghost use Rattle.btree_change.specs.Updates.{GivesUp};
@@ -72,6 +73,7 @@ fn in_free_leaf<L: Locking>(
         (releases_at 0) me.old me.new) }
     ensures busy { IfErr result (λ e. GivesUpBelow (releases_at 0) me.old me.new
         × (L.gives_up ≡ true)) }
+    ensures cause { IfErr result (λ e. FoundTaken e.lock me.old me.new) }
 {
     match stand.beyond {
         Some(beyond) => {
@@ -113,6 +115,7 @@ fn in_leaf<L: Locking>(
         (releases_at 0) me.old me.new) }
     ensures busy { IfErr result (λ e. GivesUpBelow (releases_at 0) me.old me.new
         × (L.gives_up ≡ true)) }
+    ensures cause { IfErr result (λ e. FoundTaken e.lock me.old me.new) }
 {
     match refused(words, me, &stand.at, member) {
         Some(answer) => {
@@ -142,6 +145,7 @@ pub(crate) fn below<L: Locking>(
         (releases_at stand.at.content.level) me.old me.new) }
     ensures busy { IfErr result (λ e. GivesUpBelow (releases_at stand.at.content.level) me.old me.new
         × (L.gives_up ≡ true)) }
+    ensures cause { IfErr result (λ e. FoundTaken e.lock me.old me.new) }
 {
     if stand.at.content.level == 0 {
         return in_leaf(locking, words, me, member, stand);
@@ -179,7 +183,7 @@ pub fn insert_by<L: Locking>(
     requires payload { member.payload < words.now.terms.payloads }
     ensures answer { IfOk result (λ answer. AnswersInsertion words.now.terms member answer
         me.old me.new) }
-    ensures busy { IfErr result (λ e. GivesUp me.old me.new × (L.gives_up ≡ true)) }
+    ensures busy { IfErr result (λ e. GivesUp e.lock me.old me.new × (L.gives_up ≡ true)) }
 {
     let _base = member.span.first();
     let root = at_root(locking, words, me)?;
@@ -196,7 +200,7 @@ pub fn try_insert(words: &Words, me: &mut Caller, member: Member) -> Result<Inse
     requires payload { member.payload < words.now.terms.payloads }
     ensures answer { IfOk result (λ answer. AnswersInsertion words.now.terms member answer
         me.old me.new) }
-    ensures busy { IfErr result (λ e. GivesUp me.old me.new) }
+    ensures busy { IfErr result (λ e. GivesUp e.lock me.old me.new) }
 {
     insert_by(&Trying, words, me, member)
 }

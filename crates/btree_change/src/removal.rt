@@ -2,6 +2,7 @@
 ghost use Rattle.std.specs.Prelude.{◌≡◌, ◌≤◌, ◌<◌, ◌-◌, ◌^◌, ◌+◌, ◌||◌, ◌≢◌, ℕ, true, false, IsTrue, IfOk, IfErr, length};
 ghost use Rattle.tree_shape.specs.Changes.{Fit, Overfill};
 ghost use Rattle.tree_shape.specs.NodeData.{IsInFences, pairs_of};
+ghost use Rattle.btree_change.specs.Loads.{FoundTaken};
 ghost use Rattle.btree_change.specs.Siblings.{HoldsSiblings, IsInEither, SameKind};
 ghost use Rattle.btree_change.specs.Siblings.{is_small_body};
 ghost use Rattle.word_rule.specs.CallerData.{due, surplus};
@@ -32,6 +33,7 @@ fn root_of_way<L: Locking>(locking: &L, words: &Words, me: &mut Caller) -> Resul
         × (way.at.node ≡ 0) × (way.at.content.level ≤ 12)
         × ((pc : ℕ) → pc ≤ 2 ^ 64 - 1 → IsInFences pc way.at.content)) }
     ensures busy { IfErr result (λ e. HoldsNothing me.new.log.holdings × (L.gives_up ≡ true)) }
+    ensures cause { IfErr result (λ e. FoundTaken e.lock me.old me.new) }
     ensures spends { Spends 0 me.old me.new }
     ensures terms { me.old.log.terms ≡ words.now.terms }
 {
@@ -128,14 +130,17 @@ fn step_down<L: Locking>(
         × IsInFences pc below.at.content × IsSpare below.at.node below.at.content
         × (below.at.content.level + 1 ≡ way.at.content.level)) }
     ensures busy { IfErr result (λ e. HoldsNothing me.new.log.holdings × (L.gives_up ≡ true)) }
+    ensures cause { IfErr result (λ e. FoundTaken e.lock me.old me.new) }
     ensures spends { Spends 2 me.old me.new }
 {
     let child = take_child(locking, words, me, way, pc)?;
     if !is_small(&child.at.content) {
         return Ok(leave(locking, words, me, child.above, child.at));
     }
-    let x = take_sibling(locking, words, me, child, pc)?;
-    Ok(mend(locking, words, me, x, pc))
+    match take_sibling(locking, words, me, child, pc) {
+        Ok(x) => Ok(mend(locking, words, me, x, pc)),
+        Err(busy) => Err(busy),
+    }
 }
 
 /// The leaf for an address, held beside the root, with an entry to spare.
@@ -153,12 +158,16 @@ fn leaf_on_way<L: Locking>(
         × IsInFences pc leaf.at.content × IsSpare leaf.at.node leaf.at.content
         × (leaf.at.content.level ≡ 0)) }
     ensures busy { IfErr result (λ e. HoldsNothing me.new.log.holdings × (L.gives_up ≡ true)) }
+    ensures cause { IfErr result (λ e. FoundTaken e.lock me.old me.new) }
     ensures spends { Spends 26 me.old me.new }
     ensures terms { me.old.log.terms ≡ words.now.terms }
 {
     let mut way = root_of_way(locking, words, me)?;
     while way.at.content.level > 0 {
-        way = step_down(locking, words, me, way, pc)?;
+        way = match step_down(locking, words, me, way, pc) {
+            Ok(below) => below,
+            Err(busy) => return Err(busy),
+        };
     }
     Ok(way)
 }
@@ -178,7 +187,7 @@ pub fn remove_by<L: Locking>(
     requires surplus { CALL_CREDIT ≤ surplus me.old }
     ensures answer { IfOk result (λ answer. AnswersRemoval words.now.terms base answer
         me.old me.new) }
-    ensures busy { IfErr result (λ e. GivesUp me.old me.new × (L.gives_up ≡ true)) }
+    ensures busy { IfErr result (λ e. GivesUp e.lock me.old me.new × (L.gives_up ≡ true)) }
 {
     let mut way = leaf_on_way(locking, words, me, base)?;
     if let Some(answer) = not_found(words, me, &way, base) {
@@ -200,7 +209,7 @@ pub fn try_remove(words: &Words, me: &mut Caller, base: u64) -> Result<Removed, 
     requires surplus { CALL_CREDIT ≤ surplus me.old }
     ensures answer { IfOk result (λ answer. AnswersRemoval words.now.terms base answer
         me.old me.new) }
-    ensures busy { IfErr result (λ e. GivesUp me.old me.new) }
+    ensures busy { IfErr result (λ e. GivesUp e.lock me.old me.new) }
 {
     remove_by(&Trying, words, me, base)
 }

@@ -2,6 +2,7 @@
 ghost use Rattle.std.specs.Prelude.{◌≡◌, ◌-◌, ◌^◌, ◌<◌, ◌≤◌, [], true, drop, IfOk, IfErr};
 ghost use Rattle.reg_model.specs.SpanData.{IsSpan};
 ghost use Rattle.word_rule.specs.CallerData.{due, surplus};
+ghost use Rattle.btree_change.specs.Loads.{FoundTaken};
 ghost use Rattle.btree_change.specs.Roots.{EndsInsertion, GivesUpWhole};
 ghost use Rattle.tree_shape.specs.Steps.{IsFull};
 ghost use Rattle.btree_change.specs.Splits.{HoldsFullRoot};
@@ -35,6 +36,7 @@ fn alone<L: Locking>(
     ensures answer { IfOk result (λ answer. EndsInsertion words.now.terms member.now answer 37
         me.old me.new) }
     ensures busy { IfErr result (λ e. GivesUpWhole 37 me.old me.new × (L.gives_up ≡ true)) }
+    ensures cause { IfErr result (λ e. FoundTaken e.lock me.old me.new) }
 {
     match below(locking, words, me, member, stand) {
         Ok(reply) => Ok(reply.answer),
@@ -61,6 +63,7 @@ fn lifted<L: Locking>(
     ensures answer { IfOk result (λ answer. EndsInsertion words.now.terms member.now answer 39
         me.old me.new) }
     ensures busy { IfErr result (λ e. GivesUpWhole 39 me.old me.new × (L.gives_up ≡ true)) }
+    ensures cause { IfErr result (λ e. FoundTaken e.lock me.old me.new) }
 {
     let split = lift(locking, words, me, &full, member.span.first());
     let step = Step {
@@ -101,6 +104,7 @@ fn at_full_root<L: Locking>(
     ensures answer { IfOk result (λ answer. EndsInsertion words.now.terms member.now answer 64
         me.old me.new) }
     ensures busy { IfErr result (λ e. GivesUpWhole 64 me.old me.new × (L.gives_up ≡ true)) }
+    ensures cause { IfErr result (λ e. FoundTaken e.lock me.old me.new) }
 {
     match room_for_root(locking, words, me, &root, member.span.first()) {
         Ok(Some(two)) => {
@@ -144,6 +148,7 @@ pub(crate) fn at_held_root<L: Locking>(
     ensures answer { IfOk result (λ answer. EndsInsertion words.now.terms member.now answer 64
         me.old me.new) }
     ensures busy { IfErr result (λ e. GivesUpWhole 64 me.old me.new × (L.gives_up ≡ true)) }
+    ensures cause { IfErr result (λ e. FoundTaken e.lock me.old me.new) }
 {
     if is_full(&root.content) {
         return at_full_root(locking, words, me, member, root);

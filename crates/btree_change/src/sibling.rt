@@ -3,6 +3,7 @@ ghost use Rattle.std.specs.Prelude.{◌≡◌, ◌≢◌, ◌<◌, ◌+◌, ◌^
 ghost use Rattle.std.specs.List.{slice_get};
 ghost use Rattle.tree_shape.specs.NodeData.{IsInFences, pairs_of};
 ghost use Rattle.word_rule.specs.CallerData.{surplus};
+ghost use Rattle.btree_change.specs.Loads.{FoundTaken};
 ghost use Rattle.btree_change.specs.Paths.{HoldsNothing};
 ghost use Rattle.btree_change.specs.Removing.{HoldsBesideRoot, Spends};
 ghost use Rattle.btree_change.specs.Siblings.{HoldsChild, HoldsSiblings, HoldsUnder, IsInEither};
@@ -77,6 +78,7 @@ pub(crate) fn take_child<L: Locking>(
     ensures ok { IfOk result (λ child. HoldsChild words.now.terms child pc me.new.log.holdings
         × (child.above ≡ above)) }
     ensures busy { IfErr result (λ e. HoldsNothing me.new.log.holdings × (L.gives_up ≡ true)) }
+    ensures cause { IfErr result (λ e. FoundTaken e.lock me.old me.new) }
     ensures spends { Spends 2 me.old me.new }
     ensures free { IfOk result (λ child. Spends 0 me.old me.new) }
 {
@@ -143,6 +145,7 @@ pub(crate) fn take_sibling<L: Locking>(
     ensures ok { IfOk result (λ x. HoldsSiblings words.now.terms x me.new.log.holdings
         × IsInEither pc x × (x.above ≡ child.above) × ((x.left ≡ child.at) ⊎ (x.right ≡ child.at))) }
     ensures busy { IfErr result (λ e. HoldsNothing me.new.log.holdings × (L.gives_up ≡ true)) }
+    ensures cause { IfErr result (λ e. FoundTaken e.lock me.old me.new) }
     ensures spends { Spends 2 me.old me.new }
     ensures free { IfOk result (λ x. Spends 0 me.old me.new) }
 {

@@ -4,7 +4,8 @@ ghost use Rattle.tree_shape.specs.NodeData.{pairs_of};
 ghost use Rattle.tree_shape.specs.Steps.{first_child, last_child};
 ghost use Rattle.word_rule.specs.CallerData.{surplus};
 ghost use Rattle.btree_change.specs.Paths.{StepsOnNodes};
-ghost use Rattle.btree_change.specs.Spines.{HoldsFresh, HoldsSpines, IsPending, KeepsLoads};
+ghost use Rattle.btree_change.specs.Loads.{FoundTaken, KeepsLoads};
+ghost use Rattle.btree_change.specs.Spines.{HoldsFresh, HoldsSpines, IsPending};
 ghost use Rattle.btree_change.specs.Spines.{LetsGoSettled, LocksSpine, NamesChild, WritesSpines};
 
 use crate::descent::{Held, take_node};
@@ -81,8 +82,8 @@ pub(crate) fn lock_spine<L: Locking>(
         right.content me.old.log.holdings me.new.log.holdings) }
     ensures busy { IfErr result (λ e. (me.new.log.holdings ≡ me.old.log.holdings)
         × (L.gives_up ≡ true)) }
+    ensures cause { IfErr result (λ e. FoundTaken e.lock me.old me.new) }
     ensures same { StepsOnNodes me.old me.new }
-    ensures loads { KeepsLoads me.old me.new }
 {
     take_node(locking, words, me, node)?;
     let content = read_held(words, me, node);
@@ -118,7 +119,6 @@ pub(crate) fn let_go_of_spine<L: Locking>(
     ensures base { (spine : HoldsFresh words.now.terms node level me.old.log.holdings)
         → me.new.log.holdings ≡ record me.old.log.holdings { held = spine.base } }
     ensures same { StepsOnNodes me.old me.new }
-    ensures loads { KeepsLoads me.old me.new }
 {
     if level == 0 {
         locking.let_go_same(words, me, LockId::Node { node });
@@ -139,7 +139,6 @@ pub(crate) fn write_spines(words: &Words, me: &mut Caller, tops: Spines, level: 
         me.old.log.holdings) → WritesSpines fence spines.lefts spines.rights spines.between
         spines.behind me.old me.new }
     ensures same { StepsOnNodes me.old me.new }
-    ensures loads { KeepsLoads me.old me.new }
 {
     let left = read_held(words, me, tops.left);
     let right = read_held(words, me, tops.right);

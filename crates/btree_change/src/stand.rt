@@ -9,7 +9,7 @@ ghost use Rattle.tree_shape.specs.Lawful.{IsOrdered};
 ghost use Rattle.tree_shape.specs.Steps.{IsFull};
 ghost use Rattle.word_rule.specs.CallerData.{surplus};
 ghost use Rattle.btree_change.specs.Paths.{StepsOnNodes};
-ghost use Rattle.btree_change.specs.Spines.{KeepsLoads};
+ghost use Rattle.btree_change.specs.Loads.{FoundTaken};
 ghost use Rattle.btree_change.specs.Splits.{HasSpace};
 ghost use Rattle.btree_change.specs.Stands.{GivesUpBelow, GoesBelow, HasSplit, HoldsPair};
 ghost use Rattle.btree_change.specs.Stands.{HasWayOn, HoldsStep, IsReach, Reaches};
@@ -123,8 +123,8 @@ fn lower<L: Locking>(
         × (child.content.level < at.now.content.level)) }
     ensures busy { IfErr result (λ e. (me.new.log.holdings ≡ me.old.log.holdings)
         × (L.gives_up ≡ true)) }
+    ensures cause { IfErr result (λ e. FoundTaken e.lock me.old me.new) }
     ensures same { StepsOnNodes me.old me.new }
-    ensures loads { KeepsLoads me.old me.new }
 {
     let node = child_for(&at.content, pc);
     take_node(locking, words, me, node)?;
@@ -157,6 +157,7 @@ fn split_full<L: Locking>(
     ensures busy { IfErr result (λ e. (me.new.log.holdings.held
         ≡ drop 1 me.old.log.holdings.held) × (me.new.log.holdings.out ≡ [])
         × SpendsSteps 1 me.old me.new × (L.gives_up ≡ true)) }
+    ensures cause { IfErr result (λ e. FoundTaken e.lock me.old me.new) }
 {
     if !is_full(&step.child.content) {
         return Ok(step);
@@ -209,6 +210,7 @@ fn split_if_full<L: Locking>(
     ensures busy { IfErr result (λ e. (me.new.log.holdings.held
         ≡ drop 1 me.old.log.holdings.held) × (me.new.log.holdings.out ≡ [])
         × SpendsSteps 1 me.old me.new × (L.gives_up ≡ true)) }
+    ensures cause { IfErr result (λ e. FoundTaken e.lock me.old me.new) }
 {
     match step.room {
         Room::Splitting => split_full(locking, words, me, step, pc),
@@ -296,6 +298,7 @@ pub(crate) fn go_below<L: Locking>(
     ensures ok { IfOk result (λ passage. GoesBelow words.now.terms member.now stand passage
         me.old me.new) }
     ensures busy { IfErr result (λ e. GivesUpBelow 2 me.old me.new × (L.gives_up ≡ true)) }
+    ensures cause { IfErr result (λ e. FoundTaken e.lock me.old me.new) }
 {
     let Stand { at, beyond, room } = stand;
     let (node, changed) = (at.node, at.changed);

@@ -116,8 +116,8 @@ impl Registry {
     }
 
     /// Registers a member as `register` does, for an update call that was begun, or answers Busy
-    /// where a lock on the way is taken: then the call is still begun, and may be tried again. It
-    /// waits for nobody.
+    /// where a lock on the way is taken, which it names: then the call is still begun, and may be
+    /// tried again. It waits for nobody.
     pub fn try_register(&self, me: &mut Caller, member: Member) -> Result<Inserted, Busy>
         requires table { me.old.table ≡ self.now.table }
         requires idle { IsIdle me.old.log }
@@ -126,14 +126,14 @@ impl Registry {
         requires payload { member.payload < self.now.terms.payloads }
         ensures answer { IfOk result
             (λ answer. AnswersInsertion self.now.terms member answer me.old me.new) }
-        ensures busy { IfErr result (λ e. GivesUp me.old me.new) }
+        ensures busy { IfErr result (λ e. GivesUp e.lock me.old me.new) }
     {
         btree_change::try_insert(&self.words, me, member)
     }
 
     /// Removes a registered member as `deregister` does, for an update call that was begun, or
-    /// answers Busy where a lock on the way is taken: then the call is still begun, and may be
-    /// tried again. It waits for nobody.
+    /// answers Busy where a lock on the way is taken, which it names: then the call is still begun,
+    /// and may be tried again. It waits for nobody.
     pub fn try_deregister(&self, me: &mut Caller, base: u64) -> Result<Removed, Busy>
         requires table { me.old.table ≡ self.now.table }
         requires idle { IsIdle me.old.log }
@@ -141,7 +141,7 @@ impl Registry {
         requires surplus { CALL_CREDIT ≤ surplus me.old }
         ensures answer { IfOk result
             (λ answer. AnswersRemoval self.now.terms base answer me.old me.new) }
-        ensures busy { IfErr result (λ e. GivesUp me.old me.new) }
+        ensures busy { IfErr result (λ e. GivesUp e.lock me.old me.new) }
     {
         btree_change::try_remove(&self.words, me, base)
     }

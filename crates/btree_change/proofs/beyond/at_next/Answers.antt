@@ -1,7 +1,7 @@
 use Rattle.std.proofs.Common.{subst, sym, drop}
 use Rattle.word_rule.specs.CallerData.{CallerData}
 use Rattle.btree_change.specs.Far.{AnswersAbove, IsReadyFar}
-use Rattle.btree_change.proofs.FarLeaves.{is_ready, refused_above, refused_surplus, still_next}
+use Rattle.btree_change.proofs.FarLeaves.{is_ready, refused_above, still_next}
 use Rattle.btree_change.proofs.beyond.at_next.Goals as goal
 
 pub let_go_far-requires-clause-next : goal.let_go_far-requires-clause-next

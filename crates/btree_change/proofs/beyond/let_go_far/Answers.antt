@@ -5,10 +5,10 @@ pub let_go_of-requires-clause-inside : goal.let_go_of-requires-clause-inside
 let_go_of-requires-clause-inside g c = c.requires.next.1.within
 
 pub let_go_of-requires-clause-may : goal.let_go_of-requires-clause-may
-let_go_of-requires-clause-may g c = let n = c.requires.next in far_may_go c.args.words.now.terms c.args.far.now.leaf n.0.base n.1 c.args.me.now c.let_go_of_next.new.me (c.let_go_of_next.ensures.base n.0) c.let_go_of_next.ensures.same c.let_go_of_next.ensures.loads
+let_go_of-requires-clause-may g c = let n = c.requires.next in far_may_go c.args.words.now.terms c.args.far.now.leaf n.0.base n.1 c.args.me.now c.let_go_of_next.new.me (c.let_go_of_next.ensures.base n.0) c.let_go_of_next.ensures.same c.let_go_of_next.ensures.same.loads
 
 pub let_go_of-requires-clause-surplus : goal.let_go_of-requires-clause-surplus
-let_go_of-requires-clause-surplus g c = let n = c.requires.next in far_surplus c.args.words.now.terms c.args.far.now.leaf n.0.base n.1 c.args.me.now c.let_go_of_next.new.me (c.let_go_of_next.ensures.base n.0) c.let_go_of_next.ensures.same c.let_go_of_next.ensures.loads c.requires.surplus
+let_go_of-requires-clause-surplus g c = let n = c.requires.next in far_surplus c.args.words.now.terms c.args.far.now.leaf n.0.base n.1 c.args.me.now c.let_go_of_next.new.me (c.let_go_of_next.ensures.base n.0) c.let_go_of_next.ensures.same c.let_go_of_next.ensures.same.loads c.requires.surplus
 
 pub returns : goal.returns
-returns g c next stands = left_far c.args.words.now.terms c.args.far.now.leaf next.base stands c.args.me.now c.let_go_of_next.new.me (c.let_go_of_next.ensures.base next) c.let_go_of_next.ensures.same c.let_go_of_next.ensures.loads c.let_go_of.new.me c.let_go_of.ensures
+returns g c next stands = left_far c.args.words.now.terms c.args.far.now.leaf next.base stands c.args.me.now c.let_go_of_next.new.me (c.let_go_of_next.ensures.base next) c.let_go_of_next.ensures.same c.let_go_of_next.ensures.same.loads c.let_go_of.new.me c.let_go_of.ensures

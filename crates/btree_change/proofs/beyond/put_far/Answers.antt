@@ -1,4 +1,4 @@
-use Rattle.std.proofs.Common.{subst, sym, ◌∙◌, ◌<◌, refl}
+use Rattle.std.proofs.Common.{subst, sym, ◌∙◌, ◌<◌}
 use Rattle.tree_shape.specs.Steps.{LiesAbove}
 use Rattle.btree_change.specs.Spines.{MovesFence}
 use Rattle.btree_change.proofs.FarLeaves.{leaf_held, may_read_leaf, put_answers, put_may_go, put_surplus, shape_free, shape_high, shape_level, shape_low, shape_room, still_due, table2, table3, terms2, way_high}
@@ -28,7 +28,7 @@ read_held-content-requires-clause-held g c =
     let high = subst (λ l. ready.next.way.lock.settled.high < l) (sym e) (way_high t m far k ready) in let lies = subst (λ l. LiesAbove l ready.next.right.settled.body) (sym e) ready.lies in let right_high = subst (λ l. l < ready.next.right.settled.high) (sym e) ready.right_high in
     let k1 = c.raise_fence.new.me in
     let moves = subst (λ l. MovesFence t l ready.next.way.lock ready.next.way.spine ready.next.way.top ready.next.way.rest k k1) e (c.raise_fence.ensures.moves ready.next high lies right_high) in
-    may_read_leaf t m far k ready k1 moves
+    may_read_leaf t m far k ready k1 moves c.raise_fence.ensures.loads
 
 pub put_in_leaf-number-requires-clause-table : goal.put_in_leaf-number-requires-clause-table
 put_in_leaf-number-requires-clause-table g c =
@@ -37,7 +37,7 @@ put_in_leaf-number-requires-clause-table g c =
     let k1 = c.raise_fence.new.me in
     let moves = subst (λ l. MovesFence t l ready.next.way.lock ready.next.way.spine ready.next.way.top ready.next.way.rest k k1) e (c.raise_fence.ensures.moves ready.next high lies right_high) in
     let k2 = c.read_held-content.new.me in let shape = c.read_held-content.result in let reads = c.read_held-content.ensures.reads in let kept = c.read_held-content.ensures.holdings in
-    table2 t m far k ready k1 moves k2 shape reads kept ∙ c.requires.table
+    table2 t m far k ready k1 moves c.raise_fence.ensures.loads k2 shape reads kept ∙ c.requires.table
 
 pub put_in_leaf-number-requires-clause-terms : goal.put_in_leaf-number-requires-clause-terms
 put_in_leaf-number-requires-clause-terms g c =
@@ -46,7 +46,7 @@ put_in_leaf-number-requires-clause-terms g c =
     let k1 = c.raise_fence.new.me in
     let moves = subst (λ l. MovesFence t l ready.next.way.lock ready.next.way.spine ready.next.way.top ready.next.way.rest k k1) e (c.raise_fence.ensures.moves ready.next high lies right_high) in
     let k2 = c.read_held-content.new.me in let shape = c.read_held-content.result in let reads = c.read_held-content.ensures.reads in let kept = c.read_held-content.ensures.holdings in
-    terms2 t m far k ready k1 moves k2 shape reads kept c.requires.terms
+    terms2 t m far k ready k1 moves c.raise_fence.ensures.loads k2 shape reads kept c.requires.terms
 
 pub put_in_leaf-number-requires-clause-leaf : goal.put_in_leaf-number-requires-clause-leaf
 put_in_leaf-number-requires-clause-leaf g c =
@@ -55,7 +55,7 @@ put_in_leaf-number-requires-clause-leaf g c =
     let k1 = c.raise_fence.new.me in
     let moves = subst (λ l. MovesFence t l ready.next.way.lock ready.next.way.spine ready.next.way.top ready.next.way.rest k k1) e (c.raise_fence.ensures.moves ready.next high lies right_high) in
     let k2 = c.read_held-content.new.me in let shape = c.read_held-content.result in let reads = c.read_held-content.ensures.reads in let kept = c.read_held-content.ensures.holdings in
-    leaf_held t m far k ready k1 moves k2 shape reads kept
+    leaf_held t m far k ready k1 moves c.raise_fence.ensures.loads k2 shape reads kept
 
 pub put_in_leaf-number-requires-clause-level : goal.put_in_leaf-number-requires-clause-level
 put_in_leaf-number-requires-clause-level g c =
@@ -64,7 +64,7 @@ put_in_leaf-number-requires-clause-level g c =
     let k1 = c.raise_fence.new.me in
     let moves = subst (λ l. MovesFence t l ready.next.way.lock ready.next.way.spine ready.next.way.top ready.next.way.rest k k1) e (c.raise_fence.ensures.moves ready.next high lies right_high) in
     let k2 = c.read_held-content.new.me in let shape = c.read_held-content.result in let reads = c.read_held-content.ensures.reads in let kept = c.read_held-content.ensures.holdings in
-    shape_level t m far k ready k1 moves k2 shape reads kept
+    shape_level t m far k ready k1 moves c.raise_fence.ensures.loads k2 shape reads kept
 
 pub put_in_leaf-number-requires-clause-low : goal.put_in_leaf-number-requires-clause-low
 put_in_leaf-number-requires-clause-low g c =
@@ -73,7 +73,7 @@ put_in_leaf-number-requires-clause-low g c =
     let k1 = c.raise_fence.new.me in
     let moves = subst (λ l. MovesFence t l ready.next.way.lock ready.next.way.spine ready.next.way.top ready.next.way.rest k k1) e (c.raise_fence.ensures.moves ready.next high lies right_high) in
     let k2 = c.read_held-content.new.me in let shape = c.read_held-content.result in let reads = c.read_held-content.ensures.reads in let kept = c.read_held-content.ensures.holdings in
-    shape_low t m far k ready k1 moves k2 shape reads kept
+    shape_low t m far k ready k1 moves c.raise_fence.ensures.loads k2 shape reads kept
 
 pub put_in_leaf-number-requires-clause-high : goal.put_in_leaf-number-requires-clause-high
 put_in_leaf-number-requires-clause-high g c =
@@ -82,7 +82,7 @@ put_in_leaf-number-requires-clause-high g c =
     let k1 = c.raise_fence.new.me in
     let moves = subst (λ l. MovesFence t l ready.next.way.lock ready.next.way.spine ready.next.way.top ready.next.way.rest k k1) e (c.raise_fence.ensures.moves ready.next high lies right_high) in
     let k2 = c.read_held-content.new.me in let shape = c.read_held-content.result in let reads = c.read_held-content.ensures.reads in let kept = c.read_held-content.ensures.holdings in
-    shape_high t m far k ready k1 moves k2 shape reads kept
+    shape_high t m far k ready k1 moves c.raise_fence.ensures.loads k2 shape reads kept
 
 pub put_in_leaf-number-requires-clause-room : goal.put_in_leaf-number-requires-clause-room
 put_in_leaf-number-requires-clause-room g c =
@@ -91,7 +91,7 @@ put_in_leaf-number-requires-clause-room g c =
     let k1 = c.raise_fence.new.me in
     let moves = subst (λ l. MovesFence t l ready.next.way.lock ready.next.way.spine ready.next.way.top ready.next.way.rest k k1) e (c.raise_fence.ensures.moves ready.next high lies right_high) in
     let k2 = c.read_held-content.new.me in let shape = c.read_held-content.result in let reads = c.read_held-content.ensures.reads in let kept = c.read_held-content.ensures.holdings in
-    shape_room t m far k ready k1 moves k2 shape reads kept
+    shape_room t m far k ready k1 moves c.raise_fence.ensures.loads k2 shape reads kept
 
 pub put_in_leaf-number-requires-clause-free : goal.put_in_leaf-number-requires-clause-free
 put_in_leaf-number-requires-clause-free g c =
@@ -100,7 +100,7 @@ put_in_leaf-number-requires-clause-free g c =
     let k1 = c.raise_fence.new.me in
     let moves = subst (λ l. MovesFence t l ready.next.way.lock ready.next.way.spine ready.next.way.top ready.next.way.rest k k1) e (c.raise_fence.ensures.moves ready.next high lies right_high) in
     let k2 = c.read_held-content.new.me in let shape = c.read_held-content.result in let reads = c.read_held-content.ensures.reads in let kept = c.read_held-content.ensures.holdings in
-    shape_free t m far k ready k1 moves k2 shape reads kept
+    shape_free t m far k ready k1 moves c.raise_fence.ensures.loads k2 shape reads kept
 
 pub put_in_leaf-number-requires-clause-due : goal.put_in_leaf-number-requires-clause-due
 put_in_leaf-number-requires-clause-due g c =
@@ -109,7 +109,7 @@ put_in_leaf-number-requires-clause-due g c =
     let k1 = c.raise_fence.new.me in
     let moves = subst (λ l. MovesFence t l ready.next.way.lock ready.next.way.spine ready.next.way.top ready.next.way.rest k k1) e (c.raise_fence.ensures.moves ready.next high lies right_high) in
     let k2 = c.read_held-content.new.me in let shape = c.read_held-content.result in let reads = c.read_held-content.ensures.reads in let kept = c.read_held-content.ensures.holdings in
-    still_due t m far k ready k1 moves k2 shape reads kept c.requires.due
+    still_due t m far k ready k1 moves c.raise_fence.ensures.loads k2 shape reads kept c.requires.due
 
 pub let_go_of-requires-clause-table : goal.let_go_of-requires-clause-table
 let_go_of-requires-clause-table g c =
@@ -119,7 +119,7 @@ let_go_of-requires-clause-table g c =
     let moves = subst (λ l. MovesFence t l ready.next.way.lock ready.next.way.spine ready.next.way.top ready.next.way.rest k k1) e (c.raise_fence.ensures.moves ready.next high lies right_high) in
     let k2 = c.read_held-content.new.me in let shape = c.read_held-content.result in let reads = c.read_held-content.ensures.reads in let kept = c.read_held-content.ensures.holdings in
     let k3 = c.put_in_leaf-number.new.me in let number = c.put_in_leaf-number.result in let puts = c.put_in_leaf-number.ensures in
-    table3 t m far k ready k1 moves k2 shape reads kept number k3 puts ∙ c.requires.table
+    table3 t m far k ready k1 moves c.raise_fence.ensures.loads k2 shape reads kept number k3 puts ∙ c.requires.table
 
 pub let_go_of-requires-clause-may : goal.let_go_of-requires-clause-may
 let_go_of-requires-clause-may g c =
@@ -129,7 +129,7 @@ let_go_of-requires-clause-may g c =
     let moves = subst (λ l. MovesFence t l ready.next.way.lock ready.next.way.spine ready.next.way.top ready.next.way.rest k k1) e (c.raise_fence.ensures.moves ready.next high lies right_high) in
     let k2 = c.read_held-content.new.me in let shape = c.read_held-content.result in let reads = c.read_held-content.ensures.reads in let kept = c.read_held-content.ensures.holdings in
     let k3 = c.put_in_leaf-number.new.me in let number = c.put_in_leaf-number.result in let puts = c.put_in_leaf-number.ensures in
-    put_may_go t m far k ready k1 moves k2 shape reads kept number k3 puts
+    put_may_go t m far k ready k1 moves c.raise_fence.ensures.loads k2 shape reads kept number k3 puts
 
 pub let_go_of-requires-clause-surplus : goal.let_go_of-requires-clause-surplus
 let_go_of-requires-clause-surplus g c =
@@ -139,7 +139,7 @@ let_go_of-requires-clause-surplus g c =
     let moves = subst (λ l. MovesFence t l ready.next.way.lock ready.next.way.spine ready.next.way.top ready.next.way.rest k k1) e (c.raise_fence.ensures.moves ready.next high lies right_high) in
     let k2 = c.read_held-content.new.me in let shape = c.read_held-content.result in let reads = c.read_held-content.ensures.reads in let kept = c.read_held-content.ensures.holdings in
     let k3 = c.put_in_leaf-number.new.me in let number = c.put_in_leaf-number.result in let puts = c.put_in_leaf-number.ensures in
-    put_surplus t m far k ready k1 moves k2 shape reads kept number k3 puts c.requires.surplus
+    put_surplus t m far k ready k1 moves c.raise_fence.ensures.loads k2 shape reads kept number k3 puts c.requires.surplus
 
 pub returns : goal.returns
 returns g c ready =
@@ -149,4 +149,4 @@ returns g c ready =
     let moves = subst (λ l. MovesFence t l ready.next.way.lock ready.next.way.spine ready.next.way.top ready.next.way.rest k k1) e (c.raise_fence.ensures.moves ready.next high lies right_high) in
     let k2 = c.read_held-content.new.me in let shape = c.read_held-content.result in let reads = c.read_held-content.ensures.reads in let kept = c.read_held-content.ensures.holdings in
     let k3 = c.put_in_leaf-number.new.me in let number = c.put_in_leaf-number.result in let puts = c.put_in_leaf-number.ensures in
-    put_answers t m far k ready k1 moves k2 shape reads kept number k3 puts c.let_go_of.new.me c.let_go_of.ensures
+    put_answers t m far k ready k1 moves c.raise_fence.ensures.loads k2 shape reads kept number k3 puts c.let_go_of.new.me c.let_go_of.ensures

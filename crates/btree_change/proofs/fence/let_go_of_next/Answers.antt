@@ -2,7 +2,6 @@ use Rattle.std.proofs.Common.{◌≡◌, sym, subst}
 use Rattle.btree_change.specs.Spines.{HoldsFresh}
 use Rattle.btree_change.proofs.Descending.{steps_of_read, steps_then}
 use Rattle.btree_change.proofs.NextLeaves.{after_inside, fresh_next, left_next, may_read_next, top_above}
-use Rattle.btree_change.proofs.LockedSpines.{loads_of_read, loads_then}
 use Rattle.btree_change.proofs.fence.let_go_of_next.Goals as goal
 
 pub read_held-content-requires-clause-inside : goal.read_held-content-requires-clause-inside
@@ -26,6 +25,3 @@ returns-clause-base g c next = left_next c.args.words.now.terms c.args.above.now
 
 pub returns-clause-same : goal.returns-clause-same
 returns-clause-same g c = steps_then c.args.me.now c.read_held-content.new.me c.let_go_of_spine.new.me (steps_of_read c.args.above.now.node c.args.me.now c.read_held-content.new.me c.read_held-content.result c.read_held-content.ensures.reads) c.let_go_of_spine.ensures.same
-
-pub returns-clause-loads : goal.returns-clause-loads
-returns-clause-loads g c = loads_then c.args.me.now c.read_held-content.new.me c.let_go_of_spine.new.me (loads_of_read c.args.above.now.node c.args.me.now c.read_held-content.new.me c.read_held-content.result c.read_held-content.ensures.reads) c.let_go_of_spine.ensures.loads

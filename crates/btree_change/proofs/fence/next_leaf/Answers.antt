@@ -4,18 +4,15 @@ use Rattle.tree_shape.specs.NodeData.{NodeData}
 use Rattle.word_rule.specs.Sights.{after_node_load}
 use Rattle.node_store.specs.Holding.{ReadsHeld}
 use Rattle.btree_change.specs.Paths.{StepsOnNodes}
-use Rattle.btree_change.specs.Spines.{KeepsLoads, LocksSpine, NamesChild}
+use Rattle.btree_change.specs.Spines.{LocksSpine, NamesChild}
 use Rattle.btree_change.proofs.Descending.{steps_of_read, steps_then}
 use Rattle.btree_change.proofs.Descents.{steps_of_load}
-use Rattle.btree_change.proofs.LockedSpines.{loads_of_load, loads_of_read, loads_then}
+use Rattle.btree_change.proofs.Loading.{found_after}
 use Rattle.btree_change.proofs.NextLeaves.{holds_next, holds_pair, level_some, may_read_way, names_read, slot_inside}
 use Rattle.btree_change.proofs.fence.next_leaf.Goals as goal
 
 steps2 : (x found : ℕ) (shape : NodeData) (k k1 k2 : CallerData) → k1 ≡ record k { log = after_node_load x 2 found k.log } → ReadsHeld x k1 k2 shape → StepsOnNodes k k2
 steps2 x found shape k k1 k2 loads reads = steps_then k k1 k2 (steps_of_load x 2 found k k1 loads) (steps_of_read x k1 k2 shape reads)
-
-loads2 : (x found : ℕ) (shape : NodeData) (k k1 k2 : CallerData) → k1 ≡ record k { log = after_node_load x 2 found k.log } → ReadsHeld x k1 k2 shape → KeepsLoads k k2
-loads2 x found shape k k1 k2 loads reads = loads_then k k1 k2 (loads_of_load x 2 found k k1 loads) (loads_of_read x k1 k2 shape reads)
 
 pub load_node-requires-clause-inside : goal.load_node-requires-clause-inside
 load_node-requires-clause-inside g c = c.requires.way.0.within
@@ -46,9 +43,6 @@ returns-in-Err-clause-busy g c = (c.in-Err.ensures.busy.0 ∙ (c.read_held-conte
 pub returns-in-Err-clause-same : goal.returns-in-Err-clause-same
 returns-in-Err-clause-same g c = steps_then c.args.me.now c.read_held-content.new.me c.lock_spine.new.me (steps2 c.args.above.now.node c.load_node.result c.read_held-content.result c.args.me.now c.load_node.new.me c.read_held-content.new.me c.load_node.ensures.log c.read_held-content.ensures.reads) c.lock_spine.ensures.same
 
-pub returns-in-Err-clause-loads : goal.returns-in-Err-clause-loads
-returns-in-Err-clause-loads g c = loads_then c.args.me.now c.read_held-content.new.me c.lock_spine.new.me (loads2 c.args.above.now.node c.load_node.result c.read_held-content.result c.args.me.now c.load_node.new.me c.read_held-content.new.me c.load_node.ensures.log c.read_held-content.ensures.reads) c.lock_spine.ensures.loads
-
 pub returns-in-Ok-clause-next : goal.returns-in-Ok-clause-next
 returns-in-Ok-clause-next g c = holds_next c.args.words.now.terms c.args.above.now.node c.args.above.now.slot c.args.me.now.log.holdings c.requires.way.0 c.load_node.ensures.tree c.load_node.new.me c.read_held-content.new.me (ap (λ (z : CallerData). z.log.holdings) c.load_node.ensures.log) c.read_held-content.result c.read_held-content.ensures.reads
     c.pair_after-pair.result c.pair_after-pair.ensures c.read_held-content.ensures.holdings c.in-Ok.right.node c.in-Ok.right.content c.lock_spine.new.me.log.holdings
@@ -63,5 +57,5 @@ returns-in-Ok-clause-leaves g c = holds_pair c.args.words.now.terms c.args.above
 pub returns-in-Ok-clause-same : goal.returns-in-Ok-clause-same
 returns-in-Ok-clause-same g c = steps_then c.args.me.now c.read_held-content.new.me c.lock_spine.new.me (steps2 c.args.above.now.node c.load_node.result c.read_held-content.result c.args.me.now c.load_node.new.me c.read_held-content.new.me c.load_node.ensures.log c.read_held-content.ensures.reads) c.lock_spine.ensures.same
 
-pub returns-in-Ok-clause-loads : goal.returns-in-Ok-clause-loads
-returns-in-Ok-clause-loads g c = loads_then c.args.me.now c.read_held-content.new.me c.lock_spine.new.me (loads2 c.args.above.now.node c.load_node.result c.read_held-content.result c.args.me.now c.load_node.new.me c.read_held-content.new.me c.load_node.ensures.log c.read_held-content.ensures.reads) c.lock_spine.ensures.loads
+pub returns-in-Err-clause-cause : goal.returns-in-Err-clause-cause
+returns-in-Err-clause-cause g c = found_after c.in-Err.busy.lock c.args.me.now c.read_held-content.new.me c.lock_spine.new.me (steps2 c.args.above.now.node c.load_node.result c.read_held-content.result c.args.me.now c.load_node.new.me c.read_held-content.new.me c.load_node.ensures.log c.read_held-content.ensures.reads).loads c.in-Err.ensures.cause

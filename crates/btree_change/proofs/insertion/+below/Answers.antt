@@ -1,6 +1,7 @@
-use Rattle.std.proofs.Common.{arith, subst, sym, ap, nat_le, ◌||◌, ◌∙◌, ◌+◌, ◌≤◌}
-use Rattle.btree_change.specs.Stands.{AnswersBelow, MayGo, releases_at}
+use Rattle.std.proofs.Common.{arith, subst, sym, ap, nat_le, ◌||◌, ◌∙◌}
+use Rattle.btree_change.specs.Stands.{MayGo, releases_at}
 use Rattle.btree_change.proofs.Going.{answered_may_go, answered_so, given_may_go, given_so}
+use Rattle.btree_change.proofs.Loading.{found_between}
 use Rattle.btree_change.proofs.insertion.+below.Goals as goal
 
 pub let_go_of-requires-clause-may : goal.let_go_of-requires-clause-may
@@ -27,3 +28,6 @@ returns-in-Err-clause-busy g t c =
     let terms = c.args.words.now.terms in let m = c.args.member.now in let stand = c.args.stand in let k = c.args.me.now in let k1 = c.go_below.new.me in let k2 = c.below.new.me in let passage = c.in_ok-passage.passage in
     let goes = c.in_ok-passage.ensures.ok in let less = goes.less in
     (given_so terms m stand passage k k1 goes (releases_at passage.stand.at.content.level) k2 c.in-Err.ensures.busy.0 c.let_go_of-in-Err.new.me c.let_go_of-in-Err.ensures (releases_at stand.at.content.level) (omega (arith, less)), c.in-Err.ensures.busy.1)
+
+pub returns-in-Err-clause-cause : goal.returns-in-Err-clause-cause
+returns-in-Err-clause-cause g t c = found_between c.in-Err.busy.lock c.args.me.now c.go_below.new.me c.below.new.me c.let_go_of-in-Err.new.me c.in_ok-passage.ensures.ok.steps.loads c.in-Err.ensures.cause c.let_go_of-in-Err.ensures.steps.loads

@@ -1,5 +1,4 @@
-use Rattle.std.proofs.Common.{arith, subst, sym}
-use Rattle.word_rule.specs.CallerData.{surplus}
+use Rattle.std.proofs.Common.{arith, subst}
 use Rattle.btree_change.specs.Stands.{Reaches, StandsOnWay}
 use Rattle.btree_change.proofs.Answering.{here_answered, here_may_go, here_surplus}
 use Rattle.btree_change.proofs.insertion.in_free_leaf.Goals as goal

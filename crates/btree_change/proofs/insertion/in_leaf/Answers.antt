@@ -1,7 +1,6 @@
 use Rattle.std.proofs.Common.{arith, subst, sym}
 use Rattle.word_rule.specs.CallerData.{CallerData}
 use Rattle.btree_change.specs.Stands.{StandsOnWay}
-use Rattle.word_rule.specs.CallerData.{surplus}
 use Rattle.btree_change.proofs.Answering.{here_answered, here_may_go, here_surplus, refused_here}
 use Rattle.btree_change.proofs.insertion.in_leaf.Goals as goal
 

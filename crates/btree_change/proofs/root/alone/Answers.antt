@@ -1,4 +1,4 @@
-use Rattle.std.proofs.Common.{arith, subst, sym, ap, drop, refl, ◌∙◌, ◌+◌, ◌*◌, ◌≤◌, length, Ok, None, Some}
+use Rattle.std.proofs.Common.{arith}
 use Rattle.btree_change.specs.Stands.{releases_at}
 use Rattle.btree_change.proofs.AtRoot.{alone_ends, alone_gives_up, level_most}
 use Rattle.btree_change.proofs.root.alone.Goals as goal

@@ -1,10 +1,12 @@
-use Rattle.std.proofs.Common.{arith, subst, sym, ap, drop, refl, ◌∙◌, ◌+◌, ◌*◌, ◌≤◌, length, Ok, None, Some}
-use Rattle.std.proofs.Common.{◌≡◌, ◌<◌, true}
+use Rattle.std.proofs.Common.{arith, subst, sym, ap, drop, ◌∙◌, length, Ok}
+use Rattle.std.proofs.Common.{◌≡◌, true}
 use Rattle.word_rule.specs.TreeRefusals.{HadNoRoom}
 use Rattle.btree_change.specs.declared.stand.Room.TheVariants as room
+use Rattle.btree_change.specs.Loads.{FoundTaken}
 use Rattle.btree_change.specs.Roots.{EndsInsertion, GivesUpWhole}
 use Rattle.btree_change.specs.Splits.{HoldsFullAlone, IsRoomForRoot}
 use Rattle.btree_change.proofs.AtRoot.{ends_after, full_alone, full_root, gives_up_after, if_err, if_ok, kept_steps, root_gone, root_kept, root_stand, root_stands}
+use Rattle.btree_change.proofs.Loading.{found_after, found_still}
 use Rattle.btree_change.proofs.Spending.{due_after, own_same, spends_same, surplus_steps}
 use Rattle.btree_change.proofs.Standing.{may_go}
 use Rattle.btree_change.proofs.root.at_full_root.Goals as goal
@@ -160,3 +162,20 @@ returns-in-Err-clause-busy g c =
     let t = c.args.words.now.terms in let m = c.args.member.now in let k = c.args.me.now in
     let root = c.args.root in let h = c.requires.root in let k1 = c.room_for_root.new.me in
     (root_gone t root k k1 c.let_go_of.new.me h c.in-Err.ensures.0 c.let_go_of.ensures, c.in-Err.ensures.1)
+
+pub returns-in-Ok-Some-clause-cause : goal.returns-in-Ok-Some-clause-cause
+returns-in-Ok-Some-clause-cause g c =
+    let t = c.args.words.now.terms in let m = c.args.member.now in let k = c.args.me.now in
+    let root = c.args.root in let h = c.requires.root in let k1 = c.room_for_root.new.me in
+    let took = subst (λ o. IsRoomForRoot g.L.Locking.gives_up root c.first.result k k1 (Ok o)) c.in-Ok-Some.field-0-is c.in-Ok-Some.ensures in
+    if_err (λ e. FoundTaken e.lock k1 c.lifted.new.me) (λ e. FoundTaken e.lock k c.lifted.new.me) c.lifted.result (λ e f. found_after e.lock k k1 c.lifted.new.me took.1.same.loads f) c.lifted.ensures.cause
+
+pub returns-in-Ok-None-clause-cause : goal.returns-in-Ok-None-clause-cause
+returns-in-Ok-None-clause-cause g c =
+    let t = c.args.words.now.terms in let m = c.args.member.now in let k = c.args.me.now in
+    let root = c.args.root in let h = c.requires.root in let k1 = c.room_for_root.new.me in
+    let none = subst (λ o. IsRoomForRoot g.L.Locking.gives_up root c.first.result k k1 (Ok o)) c.in-Ok-None.field-0-is c.in-Ok-None.ensures in
+    if_err (λ e. FoundTaken e.lock k1 c.alone.new.me) (λ e. FoundTaken e.lock k c.alone.new.me) c.alone.result (λ e f. found_after e.lock k k1 c.alone.new.me (kept_steps k k1 none.0).loads f) c.alone.ensures.cause
+
+pub returns-in-Err-clause-cause : goal.returns-in-Err-clause-cause
+returns-in-Err-clause-cause g c = found_still c.in-Err.busy.lock c.args.me.now c.room_for_root.new.me c.let_go_of.new.me c.in-Err.ensures.2 c.let_go_of.ensures.steps.loads

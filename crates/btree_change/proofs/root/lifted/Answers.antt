@@ -1,8 +1,9 @@
-use Rattle.std.proofs.Common.{arith, subst, sym, ap, drop, refl, ◌∙◌, ◌+◌, ◌*◌, ◌<◌, ◌≤◌, length, Ok, None, Some}
+use Rattle.std.proofs.Common.{arith, subst, sym, ◌<◌, ◌≤◌}
 use Rattle.btree_change.specs.declared.descent.Held.{Held}
 use Rattle.btree_change.specs.Splits.{HoldsFullRoot, LiftsRoot}
 use Rattle.btree_change.specs.Stands.{releases_at}
-use Rattle.btree_change.proofs.AtRoot.{gave_may_go, gave_surplus, lifted_ends, lifted_gives_up, lifted_here, lifted_level, lifted_may_go, lifted_reach, lifted_steps, lifted_surplus, lifted_two}
+use Rattle.btree_change.proofs.AtRoot.{gave_may_go, gave_surplus, lifted_ends, lifted_gives_up, lifted_here, lifted_level, lifted_may_go, lifted_reach, lifted_surplus, lifted_two}
+use Rattle.btree_change.proofs.Loading.{found_between}
 use Rattle.btree_change.proofs.Spending.{due_after, surplus_steps}
 use Rattle.btree_change.proofs.root.lifted.Goals as goal
 
@@ -102,3 +103,10 @@ returns-in-Err-clause-busy g c =
     let k2 = c.stand_below-passage.new.me in let same = c.stand_below-passage.ensures.same in let kept = c.stand_below-passage.ensures.holdings in
     let level = c.stand_below-passage.result.stand.at.content.level in let l = subst (λ (h : Held). h.content.level ≤ 12) (sym c.stand_below-passage.ensures.at) (lifted_level t m full k c.requires.held c.requires.high c.requires.span split k1 lifts) in
     (lifted_gives_up t m full k c.requires.held c.requires.high c.requires.span split k1 lifts k2 same kept (releases_at level) c.below.new.me (omega (arith, l)) c.in-Err.ensures.busy.0 c.let_go_of-in-Err.new.me c.let_go_of-in-Err.ensures, c.in-Err.ensures.busy.1)
+
+pub returns-in-Err-clause-cause : goal.returns-in-Err-clause-cause
+returns-in-Err-clause-cause g c =
+    let t = c.args.words.now.terms in let m = c.args.member.now in let k = c.args.me.now in
+    let full = c.args.full in let split = c.lift-split.result in let k1 = c.lift-split.new.me in let lifts = subst (λ p. LiftsRoot t full p split k k1) c.first.ensures.value c.lift-split.ensures in
+    let k2 = c.stand_below-passage.new.me in let same = c.stand_below-passage.ensures.same in let kept = c.stand_below-passage.ensures.holdings in
+    found_between c.in-Err.busy.lock k k2 c.below.new.me c.let_go_of-in-Err.new.me (lifted_two t m full k c.requires.held c.requires.high c.requires.span split k1 lifts k2 same kept).loads c.in-Err.ensures.cause c.let_go_of-in-Err.ensures.steps.loads

@@ -1,7 +1,8 @@
 use Rattle.std.proofs.Common.{sym, subst}
 use Rattle.word_rule.specs.CallerData.{CallerData}
-use Rattle.btree_change.specs.Removing.{HoldsBesideRoot}
+use Rattle.btree_change.specs.Removing.{HoldsBesideRoot, Spends}
 use Rattle.btree_change.proofs.Locked.{left_other, left_root}
+use Rattle.btree_change.proofs.Releases.{spends_all}
 use Rattle.btree_change.proofs.sibling.leave.Goals as goal
 use Rattle.btree_change.proofs.sibling.leave.Goals.{then-above-eq0, else-above-eq0}
 
@@ -11,4 +12,12 @@ returns-clause-held g c =
     elim c.if-above-eq0.branch [
       | then-above-eq0 w ↦ subst (λ rc. HoldsBesideRoot t c.args.at.node c.args.at.content c.args.at.changed rc c.if-above-eq0.me.log.holdings) (sym w.root_changed-is) (subst (λ (k : CallerData). HoldsBesideRoot t c.args.at.node c.args.at.content c.args.at.changed b k.log.holdings) (sym w.me-is) (left_root t n b rb c.args.at c.args.me.now.log.holdings w.if-above-eq0.true c.requires.held))
       | else-above-eq0 w ↦ subst (λ rc. HoldsBesideRoot t c.args.at.node c.args.at.content c.args.at.changed rc c.if-above-eq0.me.log.holdings) (sym w.root_changed-is) (subst (λ (k : CallerData). HoldsBesideRoot t c.args.at.node c.args.at.content c.args.at.changed rb k.log.holdings) (sym w.me-is) (left_other t n b rb c.args.at c.args.me.now w.let_go_of.new.me w.if-above-eq0.false c.requires.held w.let_go_of.ensures))
+    ]
+
+pub returns-clause-spends : goal.returns-clause-spends
+returns-clause-spends g c =
+    let k = c.args.me.now in
+    elim c.if-above-eq0.branch [
+      | then-above-eq0 w ↦ subst (Spends 1 k) (sym w.me-is) (spends_all 1 k)
+      | else-above-eq0 w ↦ subst (Spends 1 k) (sym w.me-is) w.let_go_of.ensures.spends
     ]

@@ -1,6 +1,7 @@
 use Rattle.std.proofs.Common.{◌<◌, length, ◌∙◌, sym, ap, subst, refl, arith}
 use Rattle.word_rule.specs.CallerData.{CallerData, surplus}
 use Rattle.btree_change.specs.Siblings.{HoldsChild}
+use Rattle.btree_change.proofs.Loading.{found_between, found_busy, keeps_load}
 use Rattle.btree_change.proofs.Locked.{busy_kept, child_steps, may_read_taken}
 use Rattle.btree_change.proofs.Mended.{loaded_none, spends_none}
 use Rattle.btree_change.proofs.Releases.{more_spent, spends_then}
@@ -42,3 +43,6 @@ returns-clause-spends g c = more_spent 0 2 c.args.me.now c.read_held-content.new
 
 pub returns-clause-free : goal.returns-clause-free
 returns-clause-free g c = (spends_then 0 0 0 c.args.me.now c.load_node.new.me c.read_held-content.new.me refl (loaded_none c.args.child.at.node 2 c.load_node.result c.args.me.now c.load_node.new.me c.load_node.ensures.log) (spends_none c.load_node.new.me c.read_held-content.new.me (child_steps c.pair_at-node.result.child c.load_node.new.me c.take_node.new.me c.read_held-content.new.me c.read_held-content.result c.in_default.ensures.ok c.read_held-content.ensures.reads)))
+
+pub returns-in-Err-clause-cause : goal.returns-in-Err-clause-cause
+returns-in-Err-clause-cause g c = found_between c.in-Err.busy.lock c.args.me.now c.load_node.new.me c.take_node.new.me c.let_go_of_child.new.me (keeps_load c.args.child.at.node 2 c.load_node.result c.args.me.now c.load_node.new.me c.load_node.ensures.log) (found_busy c.in-Err.busy.lock c.load_node.new.me c.take_node.new.me c.in-Err.ensures.busy.1) c.let_go_of_child.ensures.spends.loads

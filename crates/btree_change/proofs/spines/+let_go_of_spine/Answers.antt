@@ -1,8 +1,6 @@
-use Rattle.std.proofs.Common.{ap, arith, ◌∙◌}
-use Rattle.word_rule.specs.CallerData.{CallerData}
+use Rattle.std.proofs.Common.{arith, ◌∙◌}
 use Rattle.btree_change.proofs.Descending.{steps_of_letting_go, steps_of_read, steps_then}
 use Rattle.btree_change.proofs.FreshSpines.{leaf_within, leaf_clean, leaf_let_go_of, top_within, may_read_top, top_pairs, fresh_below, top_clean, top_let_go_of}
-use Rattle.btree_change.proofs.LockedSpines.{loads_of_read, loads_same, loads_then}
 use Rattle.btree_change.proofs.spines.+let_go_of_spine.Goals as goal
 
 pub let_go_same-requires-clause-lock : goal.let_go_same-requires-clause-lock
@@ -16,9 +14,6 @@ returns-then-level-eq0-clause-base g t c spine = leaf_let_go_of c.args.words.now
 
 pub returns-then-level-eq0-clause-same : goal.returns-then-level-eq0-clause-same
 returns-then-level-eq0-clause-same g t c = steps_of_letting_go c.args.node c.args.me.now c.let_go_same.new.me c.let_go_same.ensures
-
-pub returns-then-level-eq0-clause-loads : goal.returns-then-level-eq0-clause-loads
-returns-then-level-eq0-clause-loads g t c = loads_same c.args.me.now c.let_go_same.new.me (ap (λ (z : CallerData). z.log.trace.loads) c.let_go_same.ensures)
 
 pub read_held-content-requires-clause-inside : goal.read_held-content-requires-clause-inside
 read_held-content-requires-clause-inside g t c = top_within c.args.words.now.terms c.args.node c.args.level c.args.me.now c.requires.spine c.if-level-eq0.false
@@ -54,8 +49,3 @@ pub returns-clause-same : goal.returns-clause-same
 returns-clause-same g t c = steps_then c.args.me.now c.let_go_of_spine.new.me c.let_go_same-2.new.me
     (steps_then c.args.me.now c.read_held-content.new.me c.let_go_of_spine.new.me (steps_of_read c.args.node c.args.me.now c.read_held-content.new.me c.read_held-content.result c.read_held-content.ensures.reads) c.let_go_of_spine.ensures.same)
     (steps_of_letting_go c.args.node c.let_go_of_spine.new.me c.let_go_same-2.new.me c.let_go_same-2.ensures)
-
-pub returns-clause-loads : goal.returns-clause-loads
-returns-clause-loads g t c = loads_then c.args.me.now c.let_go_of_spine.new.me c.let_go_same-2.new.me
-    (loads_then c.args.me.now c.read_held-content.new.me c.let_go_of_spine.new.me (loads_of_read c.args.node c.args.me.now c.read_held-content.new.me c.read_held-content.result c.read_held-content.ensures.reads) c.let_go_of_spine.ensures.loads)
-    (loads_same c.let_go_of_spine.new.me c.let_go_same-2.new.me (ap (λ (z : CallerData). z.log.trace.loads) c.let_go_same-2.ensures))

@@ -10,10 +10,11 @@ use Rattle.word_rule.specs.Sights.{after_node_load}
 use Rattle.node_store.specs.Holding.{ReadsHeld}
 use Rattle.node_store.specs.Locking.{Locks}
 use Rattle.btree_change.specs.Paths.{StepsOnNodes}
-use Rattle.btree_change.specs.Spines.{KeepsLoads, LocksSpine, NamesChild}
+use Rattle.btree_change.specs.Spines.{LocksSpine, NamesChild}
 use Rattle.btree_change.proofs.Descending.{steps_of_letting_go, steps_of_read, steps_of_take, steps_then}
 use Rattle.btree_change.proofs.Descents.{steps_of_load}
-use Rattle.btree_change.proofs.LockedSpines.{IsLocked, Relocked, locked_so, relocked, read_locked, names_first, locks_leaf, locks_more, let_go_again, clean_again, loads_of_load, loads_of_read, loads_of_take, loads_same, loads_then}
+use Rattle.btree_change.proofs.Loading.{found_between, keeps_none}
+use Rattle.btree_change.proofs.LockedSpines.{IsLocked, Relocked, locked_so, relocked, read_locked, names_first, locks_leaf, locks_more, let_go_again, clean_again}
 use Rattle.btree_change.proofs.spines.+lock_spine.Goals as goal
 
 -- the node was locked, read, and a word of it loaded
@@ -35,9 +36,6 @@ module _ (t : Terms) (n level found : ℕ) (shape : NodeData) (k k1 k2 k3 : Call
 
   steps3 : StepsOnNodes k k3
   steps3 = steps_then k k2 k3 (steps_then k k1 k2 (steps_of_take n k k1 locks) (steps_of_read n k1 k2 shape reads)) (steps_of_load n 2 found k2 k3 loads)
-
-  loads3 : KeepsLoads k k3
-  loads3 = loads_then k k2 k3 (loads_then k k1 k2 (loads_of_take n k k1 locks) (loads_of_read n k1 k2 shape reads)) (loads_of_load n 2 found k2 k3 loads)
 
   has_pairs : level ≢ 0 → 0 < length (pairs_of shape)
   has_pairs some = subst (λ (s : NodeData). 0 < length (pairs_of s)) content_is (after_load.now.fresh.pairs (let e = after_load.now.level_is in omega (arith, e, some)))
@@ -64,9 +62,6 @@ returns-then-level-eq0-clause-ok g t c =
 
 pub returns-then-level-eq0-clause-same : goal.returns-then-level-eq0-clause-same
 returns-then-level-eq0-clause-same g t c = steps_then c.args.me.now c.take_node.new.me c.read_held-content.new.me (steps_of_take c.args.node c.args.me.now c.take_node.new.me c.in_ok-take_node.ensures.ok) (steps_of_read c.args.node c.take_node.new.me c.read_held-content.new.me c.read_held-content.result c.read_held-content.ensures.reads)
-
-pub returns-then-level-eq0-clause-loads : goal.returns-then-level-eq0-clause-loads
-returns-then-level-eq0-clause-loads g t c = loads_then c.args.me.now c.take_node.new.me c.read_held-content.new.me (loads_of_take c.args.node c.args.me.now c.take_node.new.me c.in_ok-take_node.ensures.ok) (loads_of_read c.args.node c.take_node.new.me c.read_held-content.new.me c.read_held-content.result c.read_held-content.ensures.reads)
 
 pub child_at_start-child-requires : goal.child_at_start-child-requires
 child_at_start-child-requires g t c = has_pairs c.args.words.now.terms c.args.node c.args.level c.load_node.result c.read_held-content.result c.args.me.now c.take_node.new.me c.read_held-content.new.me c.load_node.new.me c.requires.terms c.requires.child c.in_ok-take_node.ensures.ok c.read_held-content.ensures.reads c.read_held-content.ensures.holdings c.load_node.ensures.log c.if-level-eq0.false
@@ -96,10 +91,6 @@ pub returns-in-Ok-clause-same : goal.returns-in-Ok-clause-same
 returns-in-Ok-clause-same g t c = steps_then c.args.me.now c.load_node.new.me c.lock_spine.new.me
     (steps3 c.args.words.now.terms c.args.node c.args.level c.load_node.result c.read_held-content.result c.args.me.now c.take_node.new.me c.read_held-content.new.me c.load_node.new.me c.requires.terms c.requires.child c.in_ok-take_node.ensures.ok c.read_held-content.ensures.reads c.read_held-content.ensures.holdings c.load_node.ensures.log) c.lock_spine.ensures.same
 
-pub returns-in-Ok-clause-loads : goal.returns-in-Ok-clause-loads
-returns-in-Ok-clause-loads g t c = loads_then c.args.me.now c.load_node.new.me c.lock_spine.new.me
-    (loads3 c.args.words.now.terms c.args.node c.args.level c.load_node.result c.read_held-content.result c.args.me.now c.take_node.new.me c.read_held-content.new.me c.load_node.new.me c.requires.terms c.requires.child c.in_ok-take_node.ensures.ok c.read_held-content.ensures.reads c.read_held-content.ensures.holdings c.load_node.ensures.log) c.lock_spine.ensures.loads
-
 pub let_go_same-requires-clause-clean : goal.let_go_same-requires-clause-clean
 let_go_same-requires-clause-clean g t c = clean_again c.args.words.now.terms c.args.node c.args.level c.requires.child.frame.low c.args.me.now.log.holdings c.lock_spine.new.me
     (relocked_at c.args.words.now.terms c.args.node c.args.level c.load_node.result c.read_held-content.result c.args.me.now c.take_node.new.me c.read_held-content.new.me c.load_node.new.me c.requires.terms c.requires.child c.in_ok-take_node.ensures.ok c.read_held-content.ensures.reads c.read_held-content.ensures.holdings c.load_node.ensures.log c.lock_spine.new.me c.in-Err.ensures.busy.0)
@@ -117,7 +108,7 @@ returns-in-Err-clause-same g t c = steps_then c.args.me.now c.lock_spine.new.me 
     (steps3 c.args.words.now.terms c.args.node c.args.level c.load_node.result c.read_held-content.result c.args.me.now c.take_node.new.me c.read_held-content.new.me c.load_node.new.me c.requires.terms c.requires.child c.in_ok-take_node.ensures.ok c.read_held-content.ensures.reads c.read_held-content.ensures.holdings c.load_node.ensures.log) c.lock_spine.ensures.same)
     (steps_of_letting_go c.args.node c.lock_spine.new.me c.let_go_same.new.me c.let_go_same.ensures)
 
-pub returns-in-Err-clause-loads : goal.returns-in-Err-clause-loads
-returns-in-Err-clause-loads g t c = loads_then c.args.me.now c.lock_spine.new.me c.let_go_same.new.me (loads_then c.args.me.now c.load_node.new.me c.lock_spine.new.me
-    (loads3 c.args.words.now.terms c.args.node c.args.level c.load_node.result c.read_held-content.result c.args.me.now c.take_node.new.me c.read_held-content.new.me c.load_node.new.me c.requires.terms c.requires.child c.in_ok-take_node.ensures.ok c.read_held-content.ensures.reads c.read_held-content.ensures.holdings c.load_node.ensures.log) c.lock_spine.ensures.loads)
-    (loads_same c.lock_spine.new.me c.let_go_same.new.me (ap (λ (z : CallerData). z.log.trace.loads) c.let_go_same.ensures))
+pub returns-in-Err-clause-cause : goal.returns-in-Err-clause-cause
+returns-in-Err-clause-cause g t c = found_between c.in-Err.busy.lock c.args.me.now c.load_node.new.me c.lock_spine.new.me c.let_go_same.new.me
+    (steps3 c.args.words.now.terms c.args.node c.args.level c.load_node.result c.read_held-content.result c.args.me.now c.take_node.new.me c.read_held-content.new.me c.load_node.new.me c.requires.terms c.requires.child c.in_ok-take_node.ensures.ok c.read_held-content.ensures.reads c.read_held-content.ensures.holdings c.load_node.ensures.log).loads
+    c.in-Err.ensures.cause (keeps_none c.lock_spine.new.me c.let_go_same.new.me (ap (λ (z : CallerData). z.log.trace.loads) c.let_go_same.ensures))

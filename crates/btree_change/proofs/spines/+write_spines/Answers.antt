@@ -1,19 +1,14 @@
 use Rattle.std.proofs.Common.{ℕ, arith, ◌∙◌, refl}
 use Rattle.tree_shape.specs.NodeData.{NodeData}
 use Rattle.word_rule.specs.CallerData.{CallerData}
-use Rattle.node_store.specs.Holding.{ReadsHeld, WritesHeld}
+use Rattle.node_store.specs.Holding.{ReadsHeld}
 use Rattle.btree_change.specs.Paths.{StepsOnNodes}
-use Rattle.btree_change.specs.Spines.{KeepsLoads}
 use Rattle.btree_change.proofs.Descending.{steps_of_read, steps_then}
-use Rattle.btree_change.proofs.LockedSpines.{loads_of_read, loads_then}
-use Rattle.btree_change.proofs.WrittenSpines.{fence_inside, left_pairs, loads_of_write, may_read_l, may_read_r, may_store_l, may_store_r, right_pairs, spines_below, steps_l, steps_r, within_l, within_r, wrote_leaves, wrote_more}
+use Rattle.btree_change.proofs.WrittenSpines.{fence_inside, left_pairs, may_read_l, may_read_r, may_store_l, may_store_r, right_pairs, spines_below, steps_l, steps_r, within_l, within_r, wrote_leaves, wrote_more}
 use Rattle.btree_change.proofs.spines.+write_spines.Goals as goal
 
 steps4 : (l r : ℕ) (left right : NodeData) (k k1 k2 k3 k4 : CallerData) → ReadsHeld l k k1 left → ReadsHeld r k1 k2 right → StepsOnNodes k2 k3 → StepsOnNodes k3 k4 → StepsOnNodes k k4
 steps4 l r left right k k1 k2 k3 k4 a b x y = steps_then k k3 k4 (steps_then k k2 k3 (steps_then k k1 k2 (steps_of_read l k k1 left a) (steps_of_read r k1 k2 right b)) x) y
-
-loads4 : (l r : ℕ) (left right raised shortened : NodeData) (k k1 k2 k3 k4 : CallerData) → ReadsHeld l k k1 left → ReadsHeld r k1 k2 right → WritesHeld l raised k2 k3 → WritesHeld r shortened k3 k4 → KeepsLoads k k4
-loads4 l r left right raised shortened k k1 k2 k3 k4 a b x y = loads_then k k3 k4 (loads_then k k2 k3 (loads_then k k1 k2 (loads_of_read l k k1 left a) (loads_of_read r k1 k2 right b)) (loads_of_write l raised k2 k3 x)) (loads_of_write r shortened k3 k4 y)
 
 pub read_held-left-requires-clause-inside : goal.read_held-left-requires-clause-inside
 read_held-left-requires-clause-inside t c = within_l c.args.words.now.terms c.args.tops.left c.args.tops.right c.args.level c.args.fence c.args.me.now c.requires.spines
@@ -51,9 +46,6 @@ returns-then-level-eq0-clause-writes t c s = wrote_leaves c.args.words.now.terms
 pub returns-then-level-eq0-clause-same : goal.returns-then-level-eq0-clause-same
 returns-then-level-eq0-clause-same t c = steps4 c.args.tops.left c.args.tops.right c.read_held-left.result c.read_held-right.result c.args.me.now c.read_held-left.new.me c.read_held-right.new.me c.write_held.new.me c.write_held-2.new.me c.read_held-left.ensures.reads c.read_held-right.ensures.reads (steps_l c.args.words.now.terms c.args.tops.left c.args.tops.right c.args.level c.args.fence c.args.me.now c.requires.spines c.read_held-left.new.me c.read_held-right.new.me c.read_held-left.result c.read_held-right.result c.read_held-left.ensures.reads c.read_held-left.ensures.holdings c.read_held-right.ensures.reads c.read_held-right.ensures.holdings c.write_held.new.me c.move_fence-moved.result.0 (c.move_fence-moved.ensures.left ∙ refl) c.write_held.ensures.stores c.write_held.ensures.spells) (steps_r c.args.words.now.terms c.args.tops.left c.args.tops.right c.args.level c.args.fence c.args.me.now c.requires.spines c.read_held-left.new.me c.read_held-right.new.me c.read_held-left.result c.read_held-right.result c.read_held-left.ensures.reads c.read_held-left.ensures.holdings c.read_held-right.ensures.reads c.read_held-right.ensures.holdings c.write_held.new.me c.move_fence-moved.result.0 (c.move_fence-moved.ensures.left ∙ refl) c.write_held.ensures.stores c.write_held.ensures.spells c.write_held-2.new.me c.move_fence-moved.result.1 c.move_fence-moved.ensures.right c.write_held-2.ensures.stores c.write_held-2.ensures.spells)
 
-pub returns-then-level-eq0-clause-loads : goal.returns-then-level-eq0-clause-loads
-returns-then-level-eq0-clause-loads t c = loads4 c.args.tops.left c.args.tops.right c.read_held-left.result c.read_held-right.result c.move_fence-moved.result.0 c.move_fence-moved.result.1 c.args.me.now c.read_held-left.new.me c.read_held-right.new.me c.write_held.new.me c.write_held-2.new.me c.read_held-left.ensures.reads c.read_held-right.ensures.reads c.write_held.ensures.stores c.write_held-2.ensures.stores
-
 pub child_at_end-lower_left-requires : goal.child_at_end-lower_left-requires
 child_at_end-lower_left-requires t c = left_pairs c.args.words.now.terms c.args.tops.left c.args.tops.right c.args.level c.args.fence c.args.me.now c.requires.spines c.read_held-left.new.me c.read_held-right.new.me c.read_held-left.result c.read_held-right.result c.read_held-left.ensures.reads c.read_held-left.ensures.holdings c.if-level-eq0.false
 
@@ -71,6 +63,3 @@ returns-clause-writes t c s = wrote_more c.args.words.now.terms c.args.tops.left
 
 pub returns-clause-same : goal.returns-clause-same
 returns-clause-same t c = steps_then c.args.me.now c.write_held-2.new.me c.write_spines.new.me (steps4 c.args.tops.left c.args.tops.right c.read_held-left.result c.read_held-right.result c.args.me.now c.read_held-left.new.me c.read_held-right.new.me c.write_held.new.me c.write_held-2.new.me c.read_held-left.ensures.reads c.read_held-right.ensures.reads (steps_l c.args.words.now.terms c.args.tops.left c.args.tops.right c.args.level c.args.fence c.args.me.now c.requires.spines c.read_held-left.new.me c.read_held-right.new.me c.read_held-left.result c.read_held-right.result c.read_held-left.ensures.reads c.read_held-left.ensures.holdings c.read_held-right.ensures.reads c.read_held-right.ensures.holdings c.write_held.new.me c.move_fence-moved.result.0 (c.move_fence-moved.ensures.left ∙ refl) c.write_held.ensures.stores c.write_held.ensures.spells) (steps_r c.args.words.now.terms c.args.tops.left c.args.tops.right c.args.level c.args.fence c.args.me.now c.requires.spines c.read_held-left.new.me c.read_held-right.new.me c.read_held-left.result c.read_held-right.result c.read_held-left.ensures.reads c.read_held-left.ensures.holdings c.read_held-right.ensures.reads c.read_held-right.ensures.holdings c.write_held.new.me c.move_fence-moved.result.0 (c.move_fence-moved.ensures.left ∙ refl) c.write_held.ensures.stores c.write_held.ensures.spells c.write_held-2.new.me c.move_fence-moved.result.1 c.move_fence-moved.ensures.right c.write_held-2.ensures.stores c.write_held-2.ensures.spells)) c.write_spines.ensures.same
-
-pub returns-clause-loads : goal.returns-clause-loads
-returns-clause-loads t c = loads_then c.args.me.now c.write_held-2.new.me c.write_spines.new.me (loads4 c.args.tops.left c.args.tops.right c.read_held-left.result c.read_held-right.result c.move_fence-moved.result.0 c.move_fence-moved.result.1 c.args.me.now c.read_held-left.new.me c.read_held-right.new.me c.write_held.new.me c.write_held-2.new.me c.read_held-left.ensures.reads c.read_held-right.ensures.reads c.write_held.ensures.stores c.write_held-2.ensures.stores) c.write_spines.ensures.loads

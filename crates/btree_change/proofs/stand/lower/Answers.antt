@@ -1,4 +1,4 @@
-use Rattle.btree_change.proofs.Lowering.{busy_loads, busy_steps, keeps_lowered, lowered, may_read_child, settled_inner, settled_order, steps_lowered}
+use Rattle.btree_change.proofs.Lowering.{lowered, may_read_child, settled_inner, settled_order, steps_lowered}
 use Rattle.btree_change.proofs.stand.lower.Goals as goal
 
 pub child_for-node-requires-clause-inner : goal.child_for-node-requires-clause-inner
@@ -15,6 +15,3 @@ returns-clause-ok g c = lowered c.args.words.now.terms c.args.at.now c.args.pc c
 
 pub returns-clause-same : goal.returns-clause-same
 returns-clause-same g c = steps_lowered c.args.words.now.terms c.args.at.now c.args.pc c.child_for-node.result c.args.me.now c.take_node.new.me c.requires.terms c.requires.stands c.requires.inner c.child_for-node.ensures c.in_ok-take_node.ensures.ok c.read_held-content.result c.read_held-content.new.me c.read_held-content.ensures.reads
-
-pub returns-clause-loads : goal.returns-clause-loads
-returns-clause-loads g c = keeps_lowered c.args.words.now.terms c.args.at.now c.args.pc c.child_for-node.result c.args.me.now c.take_node.new.me c.requires.terms c.requires.stands c.requires.inner c.child_for-node.ensures c.in_ok-take_node.ensures.ok c.read_held-content.result c.read_held-content.new.me c.read_held-content.ensures.reads

@@ -1,6 +1,7 @@
-use Rattle.std.proofs.Common.{drop, subst, sym, refl, Ok, Some}
+use Rattle.std.proofs.Common.{drop, subst, refl, Ok}
 use Rattle.btree_change.specs.Splits.{IsRoomFor}
-use Rattle.btree_change.proofs.Stepping.{busy_go, busy_gone, full_child}
+use Rattle.btree_change.proofs.Loading.{found_still, keeps_load, keeps_then}
+use Rattle.btree_change.proofs.Stepping.{busy_go, busy_gone, full_child, was_split}
 use Rattle.btree_change.proofs.stand.split_full.Goals as goal
 
 pub let_go_of-requires-clause-may : goal.let_go_of-requires-clause-may
@@ -13,3 +14,11 @@ pub returns-in-Err-clause-busy : goal.returns-in-Err-clause-busy
 returns-in-Err-clause-busy g c =
     let gone = busy_gone c.args.words.now.terms c.args.pc c.args.step (drop 2 c.args.me.now.log.holdings.held) c.args.me.now c.requires.pair c.room_for.new.me c.load_node.result c.load_node.new.me c.let_go_of.new.me c.in-Err.ensures.0 c.load_node.ensures.log c.let_go_of.ensures in
     (gone.0, gone.1, gone.2, c.in-Err.ensures.1)
+
+pub returns-in-Err-clause-cause : goal.returns-in-Err-clause-cause
+returns-in-Err-clause-cause g c =
+    let k1 = c.room_for.new.me in let k2 = c.load_node.new.me in let k3 = c.let_go_of.new.me in
+    found_still c.in-Err.busy.lock c.args.me.now k1 k3 c.in-Err.ensures.2 (keeps_then k1 k2 k3 (keeps_load c.args.step.child.node 2 c.load_node.result k1 k2 c.load_node.ensures.log) c.let_go_of.ensures.steps.loads)
+
+pub returns-in-Ok-Some-clause-ok : goal.returns-in-Ok-Some-clause-ok
+returns-in-Ok-Some-clause-ok g c = was_split c.args.words.now.terms c.args.pc c.args.step (drop 2 c.args.me.now.log.holdings.held) c.args.me.now c.requires.pair c.in-Ok-Some.fresh c.split_child-split.result c.room_for.new.me c.split_child-split.new.me refl (subst (λ o. IsRoomFor g.L.Locking.gives_up c.args.pc c.args.me.now c.room_for.new.me (Ok o)) c.in-Ok-Some.field-0-is c.in-Ok-Some.ensures) c.split_child-split.ensures

@@ -1,4 +1,4 @@
-use Rattle.std.proofs.Common.{drop, subst, sym, refl}
+use Rattle.std.proofs.Common.{drop, refl}
 use Rattle.btree_change.proofs.Stepping.{none_free_on, splits_on, stays_unsplit}
 use Rattle.btree_change.proofs.stand.split_if_full.Goals as goal
 

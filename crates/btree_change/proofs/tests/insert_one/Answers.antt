@@ -6,7 +6,6 @@ use Rattle.word_rule.specs.CallerData.{CallerData}
 use Rattle.word_rule.specs.Callers.{IsIdle}
 use Rattle.word_rule.specs.declared.log.Terms.{Terms}
 use Rattle.btree_change.specs.Insertion.{AnswersInsertion, Inserts, call_begun}
-use Rattle.btree_change.specs.Paths.{HoldsNothing}
 use Rattle.btree_change.proofs.tests.insert_one.Goals as goal
 
 answered : (t : Terms) (m : Member) (answer : Inserted) (k k' : CallerData) → IsIdle k.log → AnswersInsertion t m answer (call_begun k) k' → (k'.table ≡ k.table) × IsIdle k'.log

@@ -1,0 +1,83 @@
+-- What was loaded stays told while more is loaded, and a lock that was found taken stays found.
+use Rattle.std.proofs.Common.{◌≡◌, ℕ, zero, suc, List, [], ◌∷◌, ◌++◌, append_assoc, append-nil, refl, ap, sym, ◌∙◌, subst, Option, Some, None, IsSomeAnd}
+use Rattle.tree_shape.specs.NodeData.{NodeData}
+use Rattle.word_rule.specs.CallerData.{CallerData}
+use Rattle.word_rule.specs.Held.{held_of}
+use Rattle.word_rule.specs.Logs.{load_of}
+use Rattle.word_rule.specs.Sights.{after_node_load}
+use Rattle.word_rule.specs.Spelling.{SpellsNode}
+use Rattle.word_rule.specs.VersionLocks.{lock_place}
+use Rattle.word_rule.specs.declared.log.Holding.{Holding}
+use Rattle.word_rule.specs.declared.log.LoadEvent.{LoadEvent}
+use Rattle.word_rule.specs.declared.log.LockId.{LockId}
+use Rattle.word_rule.specs.declared.log.LockId.TheVariants as lock
+use Rattle.node_store.specs.Holding.{ReadsHeld}
+use Rattle.node_store.specs.Locking.{IsBusy, Locks}
+use Rattle.node_store.specs.Sights.{after_words}
+use Rattle.btree_change.specs.Loads.{FoundTaken, KeepsLoads}
+
+pub keeps_then : (k l m : CallerData) → KeepsLoads k l → KeepsLoads l m → KeepsLoads k m
+keeps_then k l m (xs, e) (ys, d) = (xs ++ ys, d ∙ (ap (λ z. z ++ ys) e ∙ append_assoc k.log.trace.loads xs ys))
+
+pub keeps_none : (k l : CallerData) → l.log.trace.loads ≡ k.log.trace.loads → KeepsLoads k l
+keeps_none k l e = ([], e ∙ sym (append-nil k.log.trace.loads))
+
+-- nothing more was loaded
+pub none_more : (xs : List LoadEvent) → (more : List LoadEvent) × (xs ≡ xs ++ more)
+none_more xs = ([], sym (append-nil xs))
+
+pub keeps_all : (k : CallerData) → KeepsLoads k k
+keeps_all k = keeps_none k k refl
+
+pub keeps_take : (n : ℕ) (k k' : CallerData) → Locks (lock.Node n) k k' → KeepsLoads k k'
+keeps_take n k k' (more, marks, nodes, version, settled, words, (tries, taken, is)) = (more, ap (λ (z : CallerData). z.log.trace.loads) is)
+
+pub keeps_load : (n at found : ℕ) (k k' : CallerData) → k' ≡ record k { log = after_node_load n at found k.log } → KeepsLoads k k'
+keeps_load n at found k k' is = (_ ∷ [], ap (λ (z : CallerData). z.log.trace.loads) is)
+
+pub keeps_words : (n : ℕ) (words : List ℕ) (count : ℕ) (k : CallerData) → KeepsLoads k (record k { log = after_words n words count k.log })
+unfolding after_words
+keeps_words n words zero k = keeps_all k
+keeps_words n words (suc count) k = keeps_then k (record k { log = after_words n words count k.log }) (record k { log = after_words n words (suc count) k.log }) (keeps_words n words count k) (_ ∷ [], refl)
+
+pub keeps_read : (n : ℕ) (k k' : CallerData) (s : NodeData) → ReadsHeld n k k' s → KeepsLoads k k'
+keeps_read n k k' s reads = go (held_of n k.log.holdings.held) reads
+  where
+    go : (o : Option Holding) → IsSomeAnd o (λ h. SpellsNode h.words s × (k' ≡ record k { log = after_words n h.words 35 k.log })) → KeepsLoads k k'
+    go None r = absurd r
+    go (Some h) r = subst (KeepsLoads k) (sym r.1) (keeps_words n h.words 35 k)
+
+-- the load by which a lock was found taken
+pub found_busy : (id : LockId) (k k' : CallerData) → IsBusy id k k' → FoundTaken id k k'
+found_busy id k k' (found, (odd, is)) = record {
+  before = [];
+  load = load_of k.log (lock_place id) found;
+  behind = [];
+  loads = ap (λ (z : CallerData). z.log.trace.loads) is;
+  word = refl;
+  taken = odd;
+}
+
+-- steps before it, and after it
+pub found_after : (id : LockId) (k l m : CallerData) → KeepsLoads k l → FoundTaken id l m → FoundTaken id k m
+found_after id k l m (more, e) f = record {
+  before = more ++ f.before;
+  load = f.load;
+  behind = f.behind;
+  loads = f.loads ∙ (ap (λ xs. xs ++ (f.before ++ f.load ∷ f.behind)) e ∙ (append_assoc k.log.trace.loads more (f.before ++ f.load ∷ f.behind) ∙ ap (λ xs. k.log.trace.loads ++ xs) (sym (append_assoc more f.before (f.load ∷ f.behind)))));
+  word = f.word;
+  taken = f.taken;
+}
+
+pub found_still : (id : LockId) (k l m : CallerData) → FoundTaken id k l → KeepsLoads l m → FoundTaken id k m
+found_still id k l m f (more, e) = record {
+  before = f.before;
+  load = f.load;
+  behind = f.behind ++ more;
+  loads = e ∙ (ap (λ xs. xs ++ more) f.loads ∙ (append_assoc k.log.trace.loads (f.before ++ f.load ∷ f.behind) more ∙ ap (λ xs. k.log.trace.loads ++ xs) (append_assoc f.before (f.load ∷ f.behind) more)));
+  word = f.word;
+  taken = f.taken;
+}
+
+pub found_between : (id : LockId) (k l m n : CallerData) → KeepsLoads k l → FoundTaken id l m → KeepsLoads m n → FoundTaken id k n
+found_between id k l m n before f behind = found_after id k l n before (found_still id l m n f behind)
