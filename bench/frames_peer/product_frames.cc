@@ -1,12 +1,18 @@
 // over: frames_c
 // The library for C as a peer of the harness's benches parse, rows and trace. A backtrace asks which
-// image has an address by one range alone, as the harness's other unwinders do.
+// image has an address by one range alone, as the harness's other unwinders do. Where FRAMES_ROWS is
+// 'table', each section that is read has its row table made too, which then tells rows and steps.
 #include "frames_c.h"
 #include "product.h"
+#include <cstdlib>
+#include <cstring>
 #include <new>
 static_assert(sizeof(frames_row) == 37 * 8, "a row is out[37] of product_row");
 
-struct product_section { frames_section held; };
+struct product_section {
+  frames_section held;
+  frames_row_table rows;
+};
 struct product_memory { frames_memory held; };
 struct product_registry { uint64_t base, size; };
 struct product_caller { uint32_t left; };
@@ -19,14 +25,20 @@ product_section *product_section_read(uint64_t address, const uint8_t *bytes, si
                                       uint64_t fault[3]) {
   frames_refusal refusal;
   frames_section section = {nullptr};
-  if (frames_c_read(address, bytes, length, &refusal, &section))
-    return new product_section{section};
+  if (frames_c_read(address, bytes, length, &refusal, &section)) {
+    static const char *kind = getenv("FRAMES_ROWS");
+    auto *made = new product_section{section, {nullptr}};
+    if (kind && !strcmp(kind, "table"))
+      if (frames_c_row_table(made->held, &made->rows, &made->held)) abort();
+    return made;
+  }
   fault[0] = refusal.kind;
   fault[1] = refusal.start;
   fault[2] = refusal.at;
   return nullptr;
 }
 void product_section_free(product_section *s) {
+  if (s->rows.at) frames_c_row_table_free(s->rows);
   frames_c_free(s->held);
   delete s;
 }
@@ -34,6 +46,8 @@ uint64_t product_section_count(const product_section *s) {
   return frames_c_count(s->held, &own(s)->held);
 }
 int product_row(const product_section *s, uint64_t pc, uint64_t out[37]) {
+  if (s->rows.at)
+    return frames_c_row_table_row(s->rows, pc, reinterpret_cast<frames_row *>(out), &own(s)->rows);
   return frames_c_row(s->held, pc, reinterpret_cast<frames_row *>(out), &own(s)->held);
 }
 int product_fde(const product_section *s, uint64_t pc, uint64_t out[2]) {
@@ -100,8 +114,10 @@ uint32_t product_trace(product_registry *r, product_caller *me, product_section 
     uint64_t look = frame.columns[16] - !frame.at_instruction;
     *end = 0;
     if (!product_try_registered(r, me, look, &payload)) return count + 1;
-    uint64_t outcome =
-        frames_c_step(section->held, memory->held, &frame, &section->held, &own(memory)->held);
+    uint64_t outcome = section->rows.at
+        ? frames_c_row_table_step(section->rows, memory->held, &frame, &section->rows,
+                                  &own(memory)->held)
+        : frames_c_step(section->held, memory->held, &frame, &section->held, &own(memory)->held);
     *end = (uint32_t)outcome;
     if (outcome != FRAMES_FRAME) return count + 1;
   }

@@ -144,13 +144,48 @@ static int frames(frames_section *section) {
   return 0;
 }
 
+/* A row table tells what its section tells, and lives on without it. */
+static int row_tables(void) {
+  frames_refusal refusal;
+  frames_section section = {0};
+  frames_row_table first = {0}, table = {0};
+  CHECK(frames_c_read(0x2000, section_bytes, 84, &refusal, &section));
+  CHECK(frames_c_row_table(section, &first, &section) == FRAMES_ROW_TABLE_MADE);
+  frames_c_free(section);
+  CHECK(frames_c_row_table_share(first, &table, &first));
+  frames_c_row_table_free(first);
+  frames_row row = {.cfa = 9};
+  CHECK(!frames_c_row_table_row(table, 0x1030, &row, &table) && row.cfa == 9);
+  CHECK(frames_c_row_table_row(table, 0x1003, &row, &table));
+  CHECK(row.cfa == FRAMES_CFA_OFFSET && row.cfa_column == 7 && row.cfa_offset == 16);
+  CHECK(row.rules[6] == FRAMES_OFFSET && row.numbers[6] == (uint64_t)-16);
+  CHECK(frames_c_row_table_row(table, 0x1004, &row, &table) && row.cfa_column == 6);
+  uint8_t stack[32] = {0x20, 0x10};
+  frames_memory memory = {0};
+  CHECK(frames_c_memory(&memory));
+  CHECK(frames_c_memory_push(memory, 0x7000, stack, 32, &memory) == FRAMES_RECORDED);
+  frames_frame frame = {.at_instruction = 1};
+  frame.columns[6] = 0x7010;
+  frame.columns[7] = 0x7000;
+  frame.columns[16] = 0x1025;
+  CHECK(frames_c_row_table_step(table, memory, &frame, &table, &memory) == FRAMES_FRAME);
+  CHECK(frame.columns[16] == 0x1020 && frame.columns[7] == 0x7008 && frame.at_instruction == 0);
+  CHECK(frames_c_row_table_step(table, memory, &frame, &table, &memory) == FRAMES_FRAME);
+  CHECK(frame.columns[16] == 0 && frame.columns[7] == 0x7020);
+  CHECK(frames_c_row_table_step(table, memory, &frame, &table, &memory) == FRAMES_NO_FDE);
+  frames_c_memory_free(memory);
+  frames_c_row_table_free(table);
+  return 0;
+}
+
 int main(void) {
   frames_refusal refusal;
   frames_section section = {0}, other = {0};
   CHECK(frames_c_read(0x2000, section_bytes, 84, &refusal, &section));
   CHECK(frames_c_share(section, &other, &section));
   frames_c_free(section);
-  int wrong = fdes(&other) || rows(&other) || frames(&other) || refusals() || headers();
+  int wrong = fdes(&other) || rows(&other) || frames(&other) || refusals() || headers() ||
+              row_tables();
   frames_c_free(other);
   if (!wrong) printf("answers: all as worked out\n");
   return wrong;

@@ -8,16 +8,17 @@
  *   - What a call writes (`out`, `back`, `refusal`, `told`, `frame`, `entries`, `rows`, `count`) is
  *     writable, aligned, and apart from all else that the call is given. What it holds before
  *     doesn't matter, but for the registers of a frame, and for a handle: that holds nothing.
- *   - A section, and recorded memory, is one pointer. C owns it from the call that wrote it until
- *     it is freed. A call takes it by value and gives it back through `back`, which may be the same
- *     variable: frames_c_count(section, &section). Never pass one that was freed, or passed and not
- *     given back, and never read or copy what it leads to.
+ *   - A section, recorded memory, and a row table are one pointer each. C owns it from the call
+ *     that wrote it until it is freed. A call takes it by value and gives it back through `back`,
+ *     which may be the same variable: frames_c_count(section, &section). Never pass one that was
+ *     freed, or passed and not given back, and never read or copy what it leads to.
  *   - Each share of a section is used by one thread at a time. Threads with a share each don't
  *     meet. A share goes from one thread to another in order: by a lock, or by a thread's start or
  *     join.
  *   - malloc, realloc and free are those of the program, and don't fail but by NULL. The calls that
- *     read, share, record or free call them: none of these in a signal handler, or in the forked
- *     child of a process with threads. No other call takes memory, frees it, or waits.
+ *     read, share, record, make a row table or free call them: none of these in a signal handler,
+ *     or in the forked child of a process with threads. No other call takes memory, frees it, or
+ *     waits.
  */
 #ifndef FRAMES_C_H
 #define FRAMES_C_H
@@ -230,6 +231,39 @@ enum frames_step {
 /* Makes of a frame the one that called it. Where it isn't 0, the registers are as they were. */
 uint64_t frames_c_step(frames_section section, frames_memory memory, frames_frame *frame,
                        frames_section *back, frames_memory *memory_back);
+
+/* ---- row tables ------------------------------------------------------------------------------ */
+
+/* A share of a row table, or nothing: {0}. For those who look up a section many times: its rows are
+ * worked out once, and those that differ are kept. What is said above of shares of a section holds
+ * of a table's too. It has a share of its section, so that one may be freed before the table. */
+typedef struct {
+  void *at;
+} frames_row_table;
+
+enum frames_row_table_made {
+  FRAMES_ROW_TABLE_MADE = 0,
+  FRAMES_ROW_TABLE_NO_MEMORY = 1, /* memory ran out                                        */
+  FRAMES_ROW_TABLE_MANY = 2       /* more than 65,536 rows of the section differ           */
+};
+
+/* Makes the row table of a section. Where it isn't 0, `out` holds nothing. */
+uint64_t frames_c_row_table(frames_section section, frames_row_table *out, frames_section *back);
+
+/* Another share of the same table, which is freed by itself. False: memory ran out. */
+bool frames_c_row_table_share(frames_row_table table, frames_row_table *out,
+                              frames_row_table *back);
+
+/* Frees a share, and the table with its last one. */
+void frames_c_row_table_free(frames_row_table table);
+
+/* What frames_c_row of the section tells. */
+bool frames_c_row_table_row(frames_row_table table, uint64_t pc, frames_row *out,
+                            frames_row_table *back);
+
+/* What frames_c_step by the section makes of a frame. */
+uint64_t frames_c_row_table_step(frames_row_table table, frames_memory memory, frames_frame *frame,
+                                 frames_row_table *back, frames_memory *memory_back);
 
 #ifdef __cplusplus
 }

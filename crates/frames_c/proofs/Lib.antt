@@ -1,4 +1,5 @@
 mod Boxes
 mod Covers
 mod MemoryBoxes
+mod RowBoxes
 mod Tables

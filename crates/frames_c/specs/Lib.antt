@@ -10,3 +10,5 @@ pub mod FrameSteps
 pub mod TableEntries
 pub mod Batches
 pub mod HeaderAnswers
+pub mod RowHandles
+pub mod RowTables

@@ -11,6 +11,9 @@ mod parts;
 mod record;
 mod refusal;
 mod row;
+mod row_handle;
+mod row_share;
+mod row_tables;
 mod share;
 mod step;
 mod table;
@@ -24,6 +27,12 @@ pub use memory::MemoryHandle;
 pub use record::{frames_c_memory, frames_c_memory_free, frames_c_memory_push};
 pub use refusal::FramesRefusal;
 pub use row::{FramesRow, frames_c_row};
+pub use row_handle::RowTableHandle;
+pub use row_share::{RowsOfSection, TableShare};
+pub use row_tables::{
+    frames_c_row_table, frames_c_row_table_free, frames_c_row_table_row, frames_c_row_table_share,
+    frames_c_row_table_step,
+};
 pub use share::{LoadedSection, SectionShare};
 pub use step::{FramesFrame, frames_c_step};
 pub use table::{FramesEntry, frames_c_search, frames_c_table};

@@ -16,6 +16,7 @@ use crate::share::LoadedSection;
 use frame_parse::Fde;
 use frame_rows::{CfaRule, Row, Rule, row_at};
 use std::alloc::Global;
+use unwind_step::RowSource;
 
 /// How the CFA and the columns 0 to 16 are found: for each the kind of its rule, and its number.
 #[repr(C)]
@@ -102,6 +103,19 @@ pub(crate) fn row_in(section: &LoadedSection, pc: u64, out: &mut FramesRow) -> b
         None => false,
         Some(fde) => {
             write_row(&fde, pc, out);
+            true
+        }
+    }
+}
+
+/// Writes the row of an address by what tells the rows of a section.
+pub(crate) fn row_by<S: RowSource>(source: &S, pc: u64, out: &mut FramesRow) -> bool
+    ensures { AnswersRow (fde_in pc (S.section source.now)) pc result out.old out.new }
+{
+    match source.row_of(pc) {
+        None => false,
+        Some(found) => {
+            tell(&found.row, out);
             true
         }
     }

@@ -14,7 +14,7 @@ use crate::memory::MemoryHandle;
 use crate::share::LoadedSection;
 use frame_expr::{Memory, Regs};
 use std::alloc::Global;
-use unwind_step::{Stepped, step};
+use unwind_step::{RowSource, Stepped, step, step_at};
 
 /// The registers of a frame, in the columns of x86-64.
 #[repr(C)]
@@ -76,6 +76,19 @@ fn step_in(section: &LoadedSection, memory: &Memory, frame: &mut FramesFrame) ->
             let outcome = step(&fde, look, &regs, memory);
             frame.take(outcome, fde.signal())
         }
+    }
+}
+
+/// Makes of a frame the one before it, by what tells the rows of a section.
+pub(crate) fn step_by<S: RowSource>(source: &S, memory: &Memory, frame: &mut FramesFrame) -> u64
+    ensures { AnswersStep (S.section source.now) memory.now frame.old result frame.new }
+{
+    let regs = Regs {
+        columns: frame.columns,
+    };
+    match step_at(source, frame.look(), &regs, memory) {
+        None => 1,
+        Some(found) => frame.take(found.outcome, found.signal),
     }
 }
 
