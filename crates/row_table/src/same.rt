@@ -1,19 +1,12 @@
 //! Whether two rows are the same.
 
-ghost use Rattle.std.specs.Prelude.{◌≡◌, true};
+ghost use Rattle.std.specs.Prelude.{◌≡◌, ◌+◌, ◌<◌, ◌≤◌, ℕ, get_or, true};
+ghost use Rattle.frame_rows.specs.declared.rule.RuleWith.TheVariants.{Unset};
 
 use frame_rows::{PlacedCfaRule, PlacedRow, PlacedRule};
 
 /// The places that `place_of` tells.
 pub(crate) const PLACES: usize = 4096;
-
-/// A number that depends on both.
-#[inline(always)]
-fn mixed(hash: u64, word: u64) -> u64 {
-    (hash ^ word)
-        .wrapping_mul(0x9e37_79b9_7f4a_7c15)
-        .rotate_left(23)
-}
 
 /// A number that tells most rules apart.
 #[inline(always)]
@@ -38,11 +31,11 @@ fn cfa_mark(rule: &PlacedCfaRule) -> u64 {
 /// rules differ most among rows.
 #[inline(always)]
 pub(crate) fn place_of(row: &PlacedRow) -> usize {
-    let mut hash = mixed(0, cfa_mark(&row.cfa));
-    hash = mixed(hash, mark_of(&row.columns[3]));
-    hash = mixed(hash, mark_of(&row.columns[6]));
-    hash = mixed(hash, mark_of(&row.columns[12]));
-    (hash % PLACES as u64) as usize
+    let hash = cfa_mark(&row.cfa).wrapping_mul(0x9e37_79b9_7f4a_7c15)
+        ^ mark_of(&row.columns[3]).wrapping_mul(0xc2b2_ae3d_27d4_eb4f)
+        ^ mark_of(&row.columns[6]).wrapping_mul(0x1656_67b1_9e37_79f9)
+        ^ mark_of(&row.columns[12]).wrapping_mul(0x85eb_ca77_c2b2_ae63);
+    ((hash >> 40) % PLACES as u64) as usize
 }
 
 fn same_rare(a: &PlacedRule, b: &PlacedRule) -> bool
@@ -69,17 +62,45 @@ fn same_cfa(a: &PlacedCfaRule, b: &PlacedCfaRule) -> bool
     *a == *b
 }
 
-/// By places, so that the loop is unrolled: of each column the processor guesses apart.
+#[inline(always)]
+fn same_at(a: &[PlacedRule; 17], b: &[PlacedRule; 17], column: usize) -> bool
+    requires { column < 17 }
+    ensures { result ≡ true → get_or a.now column Unset ≡ get_or b.now column Unset }
+{
+    same_rule(&a[column], &b[column])
+}
+
+/// The same of four columns. Written out, so that of each one the processor guesses apart: a loop
+/// isn't unrolled.
+#[inline(always)]
+fn same_four(a: &[PlacedRule; 17], b: &[PlacedRule; 17], from: usize) -> bool
+    requires { from + 4 ≤ 17 }
+    ensures { result ≡ true → (k : ℕ) → from ≤ k → k < from + 4
+        → get_or a.now k Unset ≡ get_or b.now k Unset }
+{
+    same_at(a, b, from)
+        && same_at(a, b, from + 1)
+        && same_at(a, b, from + 2)
+        && same_at(a, b, from + 3)
+}
+
 #[inline(always)]
 fn same_columns(a: &[PlacedRule; 17], b: &[PlacedRule; 17]) -> bool
     ensures { result ≡ true → a.now ≡ b.now }
 {
-    for column in 0..17usize {
-        if !same_rule(&a[column], &b[column]) {
-            return false;
-        }
+    if !same_four(a, b, 0) {
+        return false;
     }
-    true
+    if !same_four(a, b, 4) {
+        return false;
+    }
+    if !same_four(a, b, 8) {
+        return false;
+    }
+    if !same_four(a, b, 12) {
+        return false;
+    }
+    same_at(a, b, 16)
 }
 
 pub(crate) fn are_equal(a: &PlacedRow, b: &PlacedRow) -> bool

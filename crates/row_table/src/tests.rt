@@ -4,10 +4,12 @@ ghost use Rattle.std.specs.Prelude.{◌≤◌, length};
 ghost use Rattle.row_table.specs.Tables.{IsRowTableOf};
 
 use super::*;
+use frame_expr::{Memory, Regs};
 use frame_parse::Section;
 use frame_rows::{CfaRule, Row, row_at};
 use std::alloc::Global;
 use std::test::*;
+use unwind_step::step_at;
 
 mod data;
 
@@ -108,5 +110,25 @@ fn two_fdes_at_one_address(rt: HostRuntime) -> Result<(), Fail> {
     assert_eq!(rt; offset_at(&section, &table, 0x1004), Some(24));
     assert_eq!(rt; offset_at(&section, &table, 0x1010), Some(32));
     assert_eq!(rt; offset_at(&section, &table, 0x1020), None);
+    Ok(())
+}
+
+/// A frame is stepped by a table as by its section.
+#[test]
+fn a_step_by_a_table(rt: HostRuntime) -> Result<(), Fail> {
+    let section = read(rt.alloc(), 0x40_2000, &CALLS)?;
+    let Ok(table) = RowTable::of(rt.alloc(), &section) else {
+        return Err("a table")?;
+    };
+    let mut memory = Memory::new(rt.alloc());
+    memory.push_region(0x7000, &[7; 512])?;
+    let mut columns = [0; 17];
+    columns[7] = 0x7000;
+    let regs = Regs { columns };
+    let rows = SectionRows::new(&section, &table);
+    let by_section = step_at(&section, 0x40_1010, &regs, &memory);
+    assert!(rt; by_section.is_some());
+    assert_eq!(rt; step_at(&rows, 0x40_1010, &regs, &memory), by_section);
+    assert_eq!(rt; step_at(&rows, 0x40_0fff, &regs, &memory), None);
     Ok(())
 }
