@@ -8,9 +8,17 @@ use frame_rows::{PlacedCfaRule, PlacedRow, PlacedRule};
 /// The places that `place_of` tells.
 pub(crate) const PLACES: usize = 4096;
 
-/// A number that tells most rules apart.
+/// One where a register is saved, else nought.
 #[inline(always)]
-fn mark_of(rule: &PlacedRule) -> u64 {
+fn saved_mark(rule: &PlacedRule) -> u64 {
+    match rule {
+        PlacedRule::Offset { .. } => 1,
+        _ => 0,
+    }
+}
+
+#[inline(always)]
+fn offset_mark(rule: &PlacedRule) -> u64 {
     match rule {
         PlacedRule::Offset { by } => *by,
         _ => 0,
@@ -27,14 +35,20 @@ fn cfa_mark(rule: &PlacedCfaRule) -> u64 {
     }
 }
 
-/// One of so many places, which rows that are the same share. Of the columns only those count whose
-/// rules differ most among rows.
+/// One of so many places, which rows that are the same share. Most rows that differ are told apart
+/// by the CFA, by which registers are saved, of those that a function saves, and by where 6 is.
 #[inline(always)]
 pub(crate) fn place_of(row: &PlacedRow) -> usize {
+    let columns = &row.columns;
+    let saved = saved_mark(&columns[3])
+        | saved_mark(&columns[6]) << 1
+        | saved_mark(&columns[12]) << 2
+        | saved_mark(&columns[13]) << 3
+        | saved_mark(&columns[14]) << 4
+        | saved_mark(&columns[15]) << 5;
     let hash = cfa_mark(&row.cfa).wrapping_mul(0x9e37_79b9_7f4a_7c15)
-        ^ mark_of(&row.columns[3]).wrapping_mul(0xc2b2_ae3d_27d4_eb4f)
-        ^ mark_of(&row.columns[6]).wrapping_mul(0x1656_67b1_9e37_79f9)
-        ^ mark_of(&row.columns[12]).wrapping_mul(0x85eb_ca77_c2b2_ae63);
+        ^ saved.wrapping_mul(0xc2b2_ae3d_27d4_eb4f)
+        ^ offset_mark(&columns[6]).wrapping_mul(0x1656_67b1_9e37_79f9);
     ((hash >> 40) % PLACES as u64) as usize
 }
 
