@@ -1,10 +1,12 @@
 -- How runs end.
-use Rattle.std.proofs.Common.{◌≡◌, ◌⊎◌, ℕ, ◌≤◌, List, length, Option, Some, None, IfSome, refl, subst, inl, inr, arith}
+use Rattle.std.proofs.Common.{◌≡◌, ◌⊎◌, ℕ, ◌≤◌, List, length, Option, Some, None, IfSome, refl, sym, ap, ◌∙◌, subst, inl, inr, arith}
 use Rattle.event_script.specs.ScriptData.{ScriptData}
 use Rattle.event_script.specs.Spelling.{IsScript}
 use Rattle.event_script.specs.Refusal.{HasOneReading}
+use Rattle.command_line.specs.CommandLine.{IsCommandLine, AreTaken}
+use Rattle.command_line.specs.declared.taking.Command.TheVariants.{Run, Generate}
 use Rattle.run_engine.specs.Ports.{Rose, Gains}
-use Rattle.run_engine.specs.Outcome.{AreTaken, IsDue, Change, Ends, Concludes, limit}
+use Rattle.run_engine.specs.Outcome.{IsDue, Change, Ends, EndsGenerated, Concludes, limit}
 use Rattle.run_engine.specs.declared.status.Status.{Status}
 use Rattle.run_engine.specs.declared.status.Status.TheVariants.{Done, Usage, Script, ReadFault, WriteFault, NoMemory, TooLong}
 
@@ -28,16 +30,44 @@ pub ends_at : (words : List (List ℕ)) (input : Option (List ℕ)) (change : Ch
 ends_at words input change end status ends is = (let P : Status → Type 0 = Ends words input change in subst P is ends)
 
 -- A script that can be read and written is run: bytes that spell one have no first bad line.
-complete_with : ((bytes : List ℕ) → HasOneReading bytes) → (words : List (List ℕ)) (bytes : List ℕ) (change : Change) (end : Status) → Ends words (Some bytes) change end → AreTaken words → length bytes ≤ limit → (script : ScriptData) → IsScript bytes script → ¬ Rose change.reads change.reads_after → ¬ Rose change.writes change.writes_after → (end ≡ Done) ⊎ (end ≡ NoMemory)
+complete_with : ((bytes : List ℕ) → HasOneReading bytes) → (words : List (List ℕ)) (bytes : List ℕ) (change : Change) (end : Status) → Ends words (Some bytes) change end → IsCommandLine words Run → length bytes ≤ limit → (script : ScriptData) → IsScript bytes script → ¬ Rose change.reads change.reads_after → ¬ Rose change.writes change.writes_after → (end ≡ Done) ⊎ (end ≡ NoMemory)
 complete_with one_answer words bytes change Done ends taken short script spelled reads writes = inl refl
 complete_with one_answer words bytes change NoMemory ends taken short script spelled reads writes = inr refl
-complete_with one_answer words bytes change Usage (text, due, gains) taken short script spelled reads writes = absurd (due.0 taken)
+complete_with one_answer words bytes change Usage (text, due, gains) taken short script spelled reads writes = absurd (due.0 (Run, taken))
 complete_with one_answer words bytes change TooLong (text, due, gains) taken short script spelled reads writes = absurd (let long = due.1 in omega arith)
 complete_with one_answer words bytes change Script (text, due, gains) taken short script spelled reads writes =
     absurd ((one_answer bytes).never_both script due.1.line due.1.reason spelled due.1.first.1)
 complete_with one_answer words bytes change ReadFault ends taken short script spelled reads writes = absurd (reads ends.1)
 complete_with one_answer words bytes change WriteFault ends taken short script spelled reads writes = absurd (writes ends.0)
 
-pub ends_complete : ((bytes : List ℕ) → HasOneReading bytes) → (words : List (List ℕ)) (input : Option (List ℕ)) (change : Change) (end : Status) → Ends words input change end → AreTaken words → IfSome input (λ bytes. length bytes ≤ limit → (script : ScriptData) → IsScript bytes script → ¬ Rose change.reads change.reads_after → ¬ Rose change.writes change.writes_after → (end ≡ Done) ⊎ (end ≡ NoMemory))
+pub ends_complete : ((bytes : List ℕ) → HasOneReading bytes) → (words : List (List ℕ)) (input : Option (List ℕ)) (change : Change) (end : Status) → Ends words input change end → IsCommandLine words Run → IfSome input (λ bytes. length bytes ≤ limit → (script : ScriptData) → IsScript bytes script → ¬ Rose change.reads change.reads_after → ¬ Rose change.writes change.writes_after → (end ≡ Done) ⊎ (end ≡ NoMemory))
 ends_complete one_answer words None change end ends taken = tt
 ends_complete one_answer words (Some bytes) change end ends taken = complete_with one_answer words bytes change end ends taken
+
+-- ---- the generated script
+
+-- words are those of one command
+not_both : (words : List (List ℕ)) (count : ℕ) → IsCommandLine words Run → IsCommandLine words (Generate count) → ⊥
+not_both words count run (word, is, number) =
+    (let two : 1 ≡ 2 = sym (ap length run) ∙ ap length is in absurd (omega (arith, two)))
+
+-- a run of the generated script is the run of words that ask for it
+pub ends_generated : (words : List (List ℕ)) (input : Option (List ℕ)) (change part : Change) (count : ℕ) (status : Status) → IsCommandLine words (Generate count) → change.writes ≡ part.writes → change.writes_after ≡ part.writes_after → change.held ≡ part.held → change.held_after ≡ part.held_after → EndsGenerated count part status → Ends words input change status
+ends_generated words input change part count Done is w0 w1 h0 h1 (text, answer, gains) = rw (h0, h1) (text, (Generate count, is, answer), gains)
+ends_generated words input change part count WriteFault is w0 w1 h0 h1 (rose, (text, answer, gains)) = rw (w0, w1, h0, h1) (rose, inr (Done, text, (Generate count, is, answer), gains))
+ends_generated words input change part count NoMemory is w0 w1 h0 h1 (inl same) = inl (h1 ∙ same ∙ sym h0)
+ends_generated words input change part count NoMemory is w0 w1 h0 h1 (inr (text, answer, gains)) = rw (h0, h1) (inr (Done, text, (Generate count, is, answer), gains))
+ends_generated words input change part count Usage is w0 w1 h0 h1 ends = absurd ends
+ends_generated words input change part count Script is w0 w1 h0 h1 ends = absurd ends
+ends_generated words input change part count ReadFault is w0 w1 h0 h1 ends = absurd ends
+ends_generated words input change part count TooLong is w0 w1 h0 h1 ends = absurd ends
+
+-- where it can be written it is done, unless memory is wanted
+pub ends_complete_generated : (words : List (List ℕ)) (input : Option (List ℕ)) (change : Change) (count : ℕ) (end : Status) → Ends words input change end → IsCommandLine words (Generate count) → ¬ Rose change.writes change.writes_after → (end ≡ Done) ⊎ (end ≡ NoMemory)
+ends_complete_generated words input change count Done ends is writes = inl refl
+ends_complete_generated words input change count NoMemory ends is writes = inr refl
+ends_complete_generated words input change count Usage (text, due, gains) is writes = absurd (due.0 (Generate count, is))
+ends_complete_generated words input change count TooLong (text, due, gains) is writes = absurd (not_both words count due.0 is)
+ends_complete_generated words input change count Script (text, due, gains) is writes = absurd (not_both words count due.0 is)
+ends_complete_generated words input change count ReadFault ends is writes = absurd (not_both words count ends.0 is)
+ends_complete_generated words input change count WriteFault ends is writes = absurd (writes ends.0)

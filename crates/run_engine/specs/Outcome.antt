@@ -9,14 +9,15 @@ use Rattle.event_script.specs.declared.reader.fault.Reason.{Reason}
 use Rattle.event_script.specs.JournalData.{JournalData}
 use Rattle.event_script.specs.Lawful.{IsLawfulJournal}
 use Rattle.event_script.specs.Text.{journal_text}
+use Rattle.script_generator.specs.Generator.{IsGenerated}
+use Rattle.script_generator.specs.Summaries.{summary_of, summary_text}
+use Rattle.command_line.specs.CommandLine.{IsCommandLine, AreTaken}
+use Rattle.command_line.specs.declared.taking.Command.{Command}
+use Rattle.command_line.specs.declared.taking.Command.TheVariants.{Run, Generate}
 use Rattle.run_engine.specs.Ports.{Rose, Gains, GainsPart}
 use Rattle.run_engine.specs.declared.status.Status.{Status}
 use Rattle.run_engine.specs.declared.status.Status.TheVariants.{Done, Usage, Script, ReadFault}
 use Rattle.run_engine.specs.declared.status.Status.TheVariants.{WriteFault, NoMemory, TooLong}
-
--- the words, each as its bytes, are the one word that is taken
-abbrev pub AreTaken : List (List ℕ) → Type 0
-AreTaken words = words ≡ codes "run" ∷ []
 
 abbrev pub usage_line : List ℕ
 usage_line = codes "usage: unwind_main run | unwind_main gen N\n"
@@ -37,6 +38,20 @@ pub record IsAnswer (input : Option (List ℕ)) (text : List ℕ) : Type 0 where
   pub lawful : IsLawfulJournal script journal
   pub text_is : text ≡ journal_text journal
 
+-- The text is the summary of a lawful journal of the script that is generated for so many images a
+-- thread.
+pub record IsGeneratedAnswer (count : ℕ) (text : List ℕ) : Type 0 where
+  pub script : ScriptData
+  pub journal : JournalData
+  pub generated : IsGenerated count script
+  pub lawful : IsLawfulJournal script journal
+  pub text_is : text ≡ summary_text (summary_of journal)
+
+-- the text that a command writes when it is done; the source is read for `run` alone
+abbrev pub IsCommandText : Command → Option (List ℕ) → List ℕ → Type 0
+IsCommandText Run input text = IsAnswer input text
+IsCommandText (Generate count) input text = IsGeneratedAnswer count text
+
 -- The text tells of a bad line, the first one of the source's bytes, where it tells them, and of
 -- the first reason that holds.
 pub record IsRefusal (input : Option (List ℕ)) (text : List ℕ) : Type 0 where
@@ -47,11 +62,13 @@ pub record IsRefusal (input : Option (List ℕ)) (text : List ℕ) : Type 0 wher
 
 -- What is due to be written with a status, from these words and the bytes of the source.
 abbrev pub IsDue : List (List ℕ) → Option (List ℕ) → Status → List ℕ → Type 0
-IsDue words input Done text = AreTaken words × IsAnswer input text
+IsDue words input Done text =
+    (command : Command) × IsCommandLine words command × IsCommandText command input text
 IsDue words input Usage text = (¬ AreTaken words) × (text ≡ usage_line)
 IsDue words input TooLong text =
-    AreTaken words × IfSome input (λ bytes. limit < length bytes) × (text ≡ too_long_line)
-IsDue words input Script text = AreTaken words × IsRefusal input text
+    IsCommandLine words Run × IfSome input (λ bytes. limit < length bytes)
+    × (text ≡ too_long_line)
+IsDue words input Script text = IsCommandLine words Run × IsRefusal input text
 IsDue words input _ text = ⊥
 
 -- the text that is due with this status was written
@@ -82,10 +99,23 @@ Ends words input change Usage = Writes words input Usage change.held change.held
 Ends words input change Script = Writes words input Script change.held change.held_after
 Ends words input change TooLong = Writes words input TooLong change.held change.held_after
 Ends words input change ReadFault =
-    AreTaken words × Rose change.reads change.reads_after × (change.held_after ≡ change.held)
+    IsCommandLine words Run × Rose change.reads change.reads_after × (change.held_after ≡ change.held)
 Ends words input change WriteFault =
     Rose change.writes change.writes_after × WritesPart words input change.held change.held_after
 Ends words input change NoMemory = WritesPart words input change.held change.held_after
+
+-- how a run of the generated script may end
+abbrev pub EndsGenerated : ℕ → Change → Status → Type 0
+EndsGenerated count change Done =
+    (text : List ℕ) × IsGeneratedAnswer count text × Gains change.held change.held_after text
+EndsGenerated count change WriteFault = Rose change.writes change.writes_after
+    × ((text : List ℕ) × IsGeneratedAnswer count text
+    × GainsPart change.held change.held_after text)
+EndsGenerated count change NoMemory =
+    (change.held_after ≡ change.held)
+    ⊎ ((text : List ℕ) × IsGeneratedAnswer count text
+    × GainsPart change.held change.held_after text)
+EndsGenerated count change _ = ⊥
 
 -- how writing the line that is due with a status may end
 abbrev pub Concludes : List ℕ → Status → Change → Status → Type 0

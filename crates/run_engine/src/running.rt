@@ -1,30 +1,36 @@
 //! From the words of the command line to a status.
 
-ghost use Rattle.std.specs.Prelude.{◌≡◌, ◌≢◌, ◌⊎◌, ◌+◌, ℕ, ◌≤◌, ◌↔◌, length, map, IsTrue, IfSome};
+ghost use Rattle.std.specs.Prelude.{◌≡◌, ◌≢◌, ◌⊎◌, ◌+◌, ℕ, ◌≤◌, length, map, IfSome, List};
 ghost use Rattle.event_script.specs.ScriptData.{ScriptData};
 ghost use Rattle.event_script.specs.Spelling.{IsScript};
 ghost use Rattle.event_script.specs.FaultText.{fault_text};
 ghost use Rattle.std.specs.String.{string_bytes};
+ghost use Rattle.command_line.specs.CommandLine.{IsCommandLine};
+ghost use Rattle.script_generator.specs.Generator.{IsImageCount};
 ghost use Rattle.run_engine.specs.Ports.{Rose, HandsUpTo};
-ghost use Rattle.run_engine.specs.Outcome.{AreTaken, Writes, WritesPart, Ends, Concludes, limit};
+ghost use Rattle.run_engine.specs.Outcome.{Writes, WritesPart, Ends, EndsGenerated};
+ghost use Rattle.run_engine.specs.Outcome.{Concludes, limit};
 
 use crate::gate::Gate;
 use crate::ports::{Sink, SinkFault, Source};
 use crate::reading::{LIMIT, TakeFault, take_all};
 use crate::scripts::play_script;
 use crate::status::Status;
-use crate::writing::{write_journal, write_piece};
+use crate::writing::{write_journal, write_piece, write_summary};
+use command_line::{Command, command_of};
 use event_script::laws::bytes_have_one_answer;
 use event_script::{Reason, ScriptFault, print_fault, read};
+use script_generator::generate;
 use std::alloc::Global;
 use std::sync::Wait;
 use std::thread::Threads;
 
-/// Takes the words of the command line, reads a script from the source, plays it, and writes its
-/// journal to the sink.
+/// Takes the words of the command line. For `run` reads a script from the source, plays it, and
+/// writes its journal to the sink; for `gen` plays the script that is generated, and writes the
+/// summary of its journal.
 ///
-/// Each status but ReadFault has a text that is due with it: for Done the journal's, else one line
-/// that says why. Where the text can't be written, the status is WriteFault. Memory may be wanted
+/// Each status but ReadFault has a text that is due with it: for Done the journal's or the
+/// summary's, else one line that says why. Where the text can't be written, the status is WriteFault. Memory may be wanted
 /// at any time. A source that failed, or said its end, is not asked again.
 pub fn run<R: Threads + Wait + Sync, S: Source, K: Sink, G: Gate + Sync>(
     rt: &R,
@@ -36,8 +42,8 @@ pub fn run<R: Threads + Wait + Sync, S: Source, K: Sink, G: Gate + Sync>(
 ) -> Status
     requires { S.can_read source.old }
 
-    // The journal theorem: the text of one lawful journal of the script that was read, whatever the
-    // order in which its threads are answered.
+    // The journal theorem: the text of one lawful journal of the script that was read, or its
+    // summary where the script was generated, whatever the order in which its threads are answered.
     ensures done { result ≡ Status.Done
         → Writes (map string_bytes words.now) (S.remaining source.old) Status.Done
         (K.written sink.old) (K.written sink.new) }
@@ -53,14 +59,16 @@ pub fn run<R: Threads + Wait + Sync, S: Source, K: Sink, G: Gate + Sync>(
 
     // What is taken of the source: nothing for other words, and else one byte more than a script
     // may have at the most.
-    ensures unread { ¬ AreTaken (map string_bytes words.now) → source.new ≡ source.old }
+    ensures unread { ¬ IsCommandLine (map string_bytes words.now) Command.Run
+        → source.new ≡ source.old }
     ensures taken { HandsUpTo (limit + 1) (S.remaining source.old) (S.remaining source.new) }
 
     // Faults come exactly where a count rose in this call, and leave nothing, or a front of what
     // was due.
     ensures reads { result ≢ Status.ReadFault → S.faults source.new ≡ S.faults source.old }
     ensures writes { result ≢ Status.WriteFault → K.faults sink.new ≡ K.faults sink.old }
-    ensures read_fault { result ≡ Status.ReadFault → AreTaken (map string_bytes words.now)
+    ensures read_fault { result ≡ Status.ReadFault
+        → IsCommandLine (map string_bytes words.now) Command.Run
         × Rose (S.faults source.old) (S.faults source.new)
         × (K.written sink.new ≡ K.written sink.old) }
     ensures write_fault { result ≡ Status.WriteFault → Rose (K.faults sink.old) (K.faults sink.new)
@@ -70,13 +78,18 @@ pub fn run<R: Threads + Wait + Sync, S: Source, K: Sink, G: Gate + Sync>(
         → WritesPart (map string_bytes words.now) (S.remaining source.old) (K.written sink.old)
         (K.written sink.new) }
 
-    // A script that can be read and written is run, unless memory is wanted.
-    ensures complete { AreTaken (map string_bytes words.now)
+    // A script that can be read and written is run, and a generated one whose summary can be
+    // written, unless memory is wanted.
+    ensures complete { IsCommandLine (map string_bytes words.now) Command.Run
         → IfSome (S.remaining source.old)
         (λ bytes. length bytes ≤ limit → (script : ScriptData) → IsScript bytes script
         → ¬ Rose (S.faults source.old) (S.faults source.new)
         → ¬ Rose (K.faults sink.old) (K.faults sink.new)
         → (result ≡ Status.Done) ⊎ (result ≡ Status.NoMemory)) }
+    ensures complete_generated { (count : ℕ)
+        → IsCommandLine (map string_bytes words.now) (Command.Generate count)
+        → ¬ Rose (K.faults sink.old) (K.faults sink.new)
+        → (result ≡ Status.Done) ⊎ (result ≡ Status.NoMemory) }
 {
     // Bytes that spell a script have no first bad line: `complete` rests on this law, which takes
     // no step.
@@ -94,7 +107,8 @@ fn end_of<R: Threads + Wait + Sync, S: Source, K: Sink, G: Gate + Sync>(
     gate: &G,
 ) -> Status
     requires { S.can_read source.old }
-    ensures unread { ¬ AreTaken (map string_bytes words.now) → source.new ≡ source.old }
+    ensures unread { ¬ IsCommandLine (map string_bytes words.now) Command.Run
+        → source.new ≡ source.old }
     ensures taken { HandsUpTo (limit + 1) (S.remaining source.old) (S.remaining source.new) }
     ensures reads { result ≢ Status.ReadFault → S.faults source.new ≡ S.faults source.old }
     ensures writes { result ≢ Status.WriteFault → K.faults sink.new ≡ K.faults sink.old }
@@ -108,13 +122,41 @@ fn end_of<R: Threads + Wait + Sync, S: Source, K: Sink, G: Gate + Sync>(
           held_after = K.written sink.new;
         }) result }
 {
-    if !are_taken(words) {
-        return conclude(
+    match command_of(alloc, words) {
+        Ok(Some(Command::Run)) => run_source(rt, alloc, source, sink, gate),
+        Ok(Some(Command::Generate { count })) => run_generated(rt, alloc, count, sink, gate),
+        Ok(None) => conclude(
             sink,
             b"usage: unwind_main run | unwind_main gen N\n",
             Status::Usage,
-        );
+        ),
+        Err(_) => Status::NoMemory,
     }
+}
+
+/// The command `run`: reads a script, plays it and writes its journal.
+fn run_source<R: Threads + Wait + Sync, S: Source, K: Sink, G: Gate + Sync>(
+    rt: &R,
+    alloc: Global,
+    source: &mut S,
+    sink: &mut K,
+    gate: &G,
+) -> Status
+    requires { S.can_read source.old }
+    ensures taken { HandsUpTo (limit + 1) (S.remaining source.old) (S.remaining source.new) }
+    ensures reads { result ≢ Status.ReadFault → S.faults source.new ≡ S.faults source.old }
+    ensures writes { result ≢ Status.WriteFault → K.faults sink.new ≡ K.faults sink.old }
+    ensures ends { (words : List (List ℕ)) → IsCommandLine words Command.Run
+        → Ends words (S.remaining source.old)
+        (record {
+          reads = S.faults source.old;
+          reads_after = S.faults source.new;
+          writes = K.faults sink.old;
+          writes_after = K.faults sink.new;
+          held = K.written sink.old;
+          held_after = K.written sink.new;
+        }) result }
+{
     let bytes = match take_all(alloc, source) {
         Ok(bytes) => bytes,
         Err(TakeFault::Failed) => return Status::ReadFault,
@@ -139,13 +181,38 @@ fn end_of<R: Threads + Wait + Sync, S: Source, K: Sink, G: Gate + Sync>(
     }
 }
 
-/// Whether the words are the one word `run`.
-fn are_taken(words: &[String]) -> bool
-    ensures { IsTrue result ↔ AreTaken (map string_bytes words.now) }
+/// The command `gen`: plays the script that is generated, and writes the summary of its journal.
+fn run_generated<R: Threads + Wait + Sync, K: Sink, G: Gate + Sync>(
+    rt: &R,
+    alloc: Global,
+    count: u32,
+    sink: &mut K,
+    gate: &G,
+) -> Status
+    requires { IsImageCount count }
+    ensures writes { result ≢ Status.WriteFault → K.faults sink.new ≡ K.faults sink.old }
+    ensures ends { EndsGenerated count
+        (record {
+          reads = 0;
+          reads_after = 0;
+          writes = K.faults sink.old;
+          writes_after = K.faults sink.new;
+          held = K.written sink.old;
+          held_after = K.written sink.new;
+        }) result }
 {
-    match words {
-        [word] => word.as_bytes() == b"run".as_slice(),
-        _ => false,
+    let script = match generate(alloc, count) {
+        Ok(script) => script,
+        Err(_) => return Status::NoMemory,
+    };
+    let journal = match play_script(rt, alloc, gate, &script) {
+        Ok(journal) => journal,
+        Err(_) => return Status::NoMemory,
+    };
+    match write_summary(alloc, sink, &journal) {
+        Ok(()) => Status::Done,
+        Err(SinkFault::Failed) => Status::WriteFault,
+        Err(SinkFault::NoMemory) => Status::NoMemory,
     }
 }
 

@@ -2,6 +2,7 @@
 
 mod cases;
 mod churn;
+mod counted;
 mod devices;
 mod endings;
 mod gated;

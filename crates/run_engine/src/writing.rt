@@ -4,12 +4,15 @@ ghost use Rattle.std.specs.Prelude.{◌≡◌, ◌≢◌, ℕ, ◌<◌, ◌≤�
 ghost use Rattle.std.specs.Prelude.{All, OnOk, OnErr, Err};
 ghost use Rattle.event_script.specs.Text.{IsPrintable, numbered, answer_text, thread_text};
 ghost use Rattle.event_script.specs.Text.{round_text, journal_text, answer_lines, event_line};
+ghost use Rattle.std.specs.List.{flat_map};
+ghost use Rattle.script_generator.specs.Summaries.{summary_of, summary_text, IsCountable};
 ghost use Rattle.run_engine.specs.Ports.{Rose, Gains, GainsPart};
 ghost use Rattle.run_engine.specs.Played.{IsPlayedThread, IsPlayed};
 
 use crate::ports::{Sink, SinkFault};
 use crate::threads::ThreadNumber;
 use event_script::{Answer, EventNumber, Journal, line_count, print_line, print_updates};
+use script_generator::{print_summary, summary};
 use std::alloc::Global;
 
 /// Writes a piece: what the sink leaves of it is offered again.
@@ -199,4 +202,42 @@ pub fn write_journal<K: Sink>(
         Err(_) => return Err(SinkFault::NoMemory),
     };
     write_piece(sink, &last)
+}
+
+/// Writes the summary of a journal, a piece for each of its six lines.
+pub fn write_summary<K: Sink>(
+    alloc: Global,
+    sink: &mut K,
+    journal: &Journal,
+) -> Result<(), SinkFault>
+    requires { IsCountable journal.now.rounds }
+    ensures ok { OnOk result
+        (Gains (K.written sink.old) (K.written sink.new) (summary_text (summary_of journal.now))) }
+    ensures err { OnErr result (GainsPart (K.written sink.old) (K.written sink.new)
+        (summary_text (summary_of journal.now))) }
+    ensures failed { result ≡ Err SinkFault.Failed → Rose (K.faults sink.old) (K.faults sink.new) }
+    ensures sound { result ≢ Err SinkFault.Failed → K.faults sink.new ≡ K.faults sink.old }
+{
+    match print_summary(alloc, &summary(journal)) {
+        Ok(lines) => write_lines(sink, &lines),
+        Err(_) => Err(SinkFault::NoMemory),
+    }
+}
+
+/// Writes lines, a piece for each.
+fn write_lines<K: Sink>(sink: &mut K, lines: &[Vec<u8>]) -> Result<(), SinkFault>
+    ensures ok { OnOk result (Gains (K.written sink.old) (K.written sink.new)
+        (flat_map (λ line. line) (map (λ line. line.items) lines.now))) }
+    ensures err { OnErr result (GainsPart (K.written sink.old) (K.written sink.new)
+        (flat_map (λ line. line) (map (λ line. line.items) lines.now))) }
+    ensures failed { result ≡ Err SinkFault.Failed → Rose (K.faults sink.old) (K.faults sink.new) }
+    ensures sound { result ≢ Err SinkFault.Failed → K.faults sink.new ≡ K.faults sink.old }
+{
+    for line in lines {
+        match write_piece(sink, line) {
+            Ok(()) => {}
+            Err(fault) => return Err(fault),
+        }
+    }
+    Ok(())
 }

@@ -1,0 +1,4 @@
+mod Digits
+mod Taken
+mod Found
+mod Words

@@ -1,0 +1,4 @@
+mod Runnable
+mod Readable
+mod Ranges
+mod Totals

@@ -1,0 +1,3 @@
+pub mod Generator
+pub mod SectionBytes
+pub mod Summaries

@@ -1,0 +1,51 @@
+use crate::generate;
+use event_script::print_script;
+use std::test::Fail;
+
+/// The script for two images a thread, as another program wrote it by `docs/FORMATS.md`. Here stand
+/// the lines of its images without their sections.
+static IMAGES: [&str; 8] = [
+    "image 0 100000000 30 100001000",
+    "image 1 100000040 30 100001040",
+    "image 2 200000000 30 200001000",
+    "image 3 200000040 30 200001040",
+    "image 4 300000000 30 300001000",
+    "image 5 300000040 30 300001040",
+    "image 6 400000000 30 400001000",
+    "image 7 400000040 30 400001040",
+];
+
+const SECTION: &str = "1400000000000000017a5200017810011b0c0708900100001c0000001c000000e0efffff\
+2000000000410e108602430d0600000000000000140000003c000000e0efffff10000000000000000000000000000000";
+
+const REST: &str =
+    "snapshot 0 0 0 0 0 0 0 7010 7000 0 0 0 0 0 0 0 0 100000025\nmemory 7000 200000000100000000000000\
+0000000000000000000000000000000000000000\nsnapshot 1 0 0 0 0 0 0 7010 7000 0 0 0 0 0 0 0 0 20000\
+0025\nmemory 7000 2000000002000000000000000000000000000000000000000000000000000000\nsnapshot 2 0 0 0 0 0 0 7\
+010 7000 0 0 0 0 0 0 0 0 300000025\nmemory 7000 200000000300000000000000000000000000000000000000\
+0000000000000000\nsnapshot 3 0 0 0 0 0 0 7010 7000 0 0 0 0 0 0 0 0 400000025\nmemory 7000 200000\
+0004000000000000000000000000000000000000000000000000000000\nround\nthread\nregister 0\nregister 1\
+\nfind 10000002f\nfind 100000030\nfind 10000006f\nfind 100000070\nunwind 0\nderegister 100000000\
+\nfind 100000000\nfind 100000040\nthread\nregister 3\nregister 2\nfind 20000006f\nfind 200000070\
+\nfind 20000002f\nfind 200000030\nunwind 1\nderegister 200000000\nfind 200000040\nfind 200000000\
+\nthread\nload 4\nload 5\nfind 30000002f\nfind 300000030\nfind 30000006f\nfind 300000070\nunwind 2\
+\nunload 300000000\nfind 300000000\nfind 300000040\nthread\nload 7\nload 6\nfind 40000006f\nfind 4\
+00000070\nfind 40000002f\nfind 400000030\nunwind 3\nunload 400000000\nfind 400000040\nfind 40000\
+0000\nend\n";
+
+#[test]
+fn two_images_a_thread(rt: HostRuntime) -> Result<(), Fail> {
+    let mut wanted = Vec::new(rt.alloc());
+    wanted.extend_from_slice(b"frames 1\nnodes 4096\nloads 1024\n")?;
+    for image in IMAGES {
+        wanted.extend_from_slice(image.as_bytes())?;
+        wanted.push(b' ')?;
+        wanted.extend_from_slice(SECTION.as_bytes())?;
+        wanted.push(b'\n')?;
+    }
+    wanted.extend_from_slice(REST.as_bytes())?;
+    let script = generate(rt.alloc(), 2)?;
+    let text = print_script(rt.alloc(), &script)?;
+    assert!(rt; text == wanted);
+    Ok(())
+}
