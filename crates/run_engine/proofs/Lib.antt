@@ -12,4 +12,4 @@ pub mod SharedLawfulness
 pub mod Opening
 pub mod Lawfulness
 pub mod Endings
-pub mod Words
+pub mod Countable

@@ -1,8 +1,8 @@
 -- The lines of an event, written one after another.
-use Rattle.std.proofs.Common.{◌≡◌, ℕ, ◌+◌, ◌<◌, List, [], ◌∷◌, ◌++◌, length, take, drop, get_or, Option, sym, ◌∙◌, ap, subst, append-nil, take-append-drop}
+use Rattle.std.proofs.Common.{◌≡◌, ℕ, ◌+◌, ◌<◌, List, [], ◌∷◌, ◌++◌, length, take, drop, get_or, Option, map, sym, ◌∙◌, ap, subst, append-nil, take-append-drop}
 use Rattle.std.specs.List.{flat_map}
 use Rattle.std.proofs.lemmas.Grind.{flat_map-append}
-use Rattle.std.proofs.lemmas.List.{take_more}
+use Rattle.std.proofs.lemmas.List.{take_more, length-map, get_or-map}
 use Rattle.run_engine.specs.Ports.{Gains, GainsPart}
 use Rattle.run_engine.proofs.Pieces.{Gains-more, GainsPart-more, GainsPart-wider}
 
@@ -23,3 +23,17 @@ module _ (text : List ℕ → List ℕ) (lines : List (List ℕ)) (i : ℕ) (wit
       let P : List ℕ → Type 0 = GainsPart a c in
       let Q : List ℕ → Type 0 = λ front. GainsPart a c (front ++ flat_map text (drop (i + 1) lines)) in
       subst P (sym parts) (subst Q (sym next_line) (GainsPart-wider a c (flat_map text (take i lines) ++ text (get_or lines i [])) (flat_map text (drop (i + 1) lines)) (GainsPart-more a b c (flat_map text (take i lines)) (text (get_or lines i [])) first second)))
+
+-- the same of lines that are kept in another form
+module _ {X : Type 0} (bytes : X → List ℕ) (xs : List X) (i : ℕ) (x : X) (piece : List ℕ) (within : i < length xs) (is : x ≡ get_or xs i x) (same : piece ≡ bytes x) where
+  is_piece : piece ≡ get_or (map bytes xs) i []
+  is_piece = same ∙ ap bytes is ∙ sym (get_or-map bytes xs i x [] within)
+
+  inside : i < length (map bytes xs)
+  inside = rw (length-map xs bytes) within
+
+  pub item_gains : (a b c : Option (List ℕ)) → Gains a b (flat_map (λ line. line) (take i (map bytes xs))) → Gains b c piece → Gains a c (flat_map (λ line. line) (take (i + 1) (map bytes xs)))
+  item_gains a b c first second = (let P : List ℕ → Type 0 = Gains b c in line_gains (λ line. line) (map bytes xs) i inside a b c first (subst P is_piece second))
+
+  pub item_gains_part : (a b c : Option (List ℕ)) → Gains a b (flat_map (λ line. line) (take i (map bytes xs))) → GainsPart b c piece → GainsPart a c (flat_map (λ line. line) (map bytes xs))
+  item_gains_part a b c first second = (let P : List ℕ → Type 0 = GainsPart b c in line_gains_part (λ line. line) (map bytes xs) i inside a b c first (subst P is_piece second))

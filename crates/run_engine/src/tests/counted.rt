@@ -74,14 +74,22 @@ impl Counting {
 
     fn see(&self, answer: &Answer) {
         match answer {
-            Answer::Register { answer: Inserted::Done { number }, .. } => self.see_number(*number),
-            Answer::Load { answer: Loading::Done { number }, .. } => self.see_number(*number),
-            Answer::Deregister { answer: Removed::Done { number, .. }, .. } => {
-                self.see_number(*number)
-            }
-            Answer::Unload { answer: Removed::Done { number, .. }, .. } => {
-                self.see_number(*number)
-            }
+            Answer::Register {
+                answer: Inserted::Done { number },
+                ..
+            } => self.see_number(*number),
+            Answer::Load {
+                answer: Loading::Done { number },
+                ..
+            } => self.see_number(*number),
+            Answer::Deregister {
+                answer: Removed::Done { number, .. },
+                ..
+            } => { self.see_number(*number) }
+            Answer::Unload {
+                answer: Removed::Done { number, .. },
+                ..
+            } => { self.see_number(*number) }
             Answer::Find { place, .. } => self.see_place(place),
             Answer::Unwind { trace, .. } => {
                 self.traces.fetch_add(1, Ordering::SeqCst);

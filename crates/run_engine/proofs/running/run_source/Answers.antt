@@ -14,7 +14,7 @@ returns-then-len-gt-LIMIT-clause-ends g c = λ words is.
     let long : limit < length c.in-Ok.bytes.items = (let count = c.len.ensures in let above = c.if-len-gt-LIMIT.true in omega (arith, c.in-Ok.bytes.ok.0)) in
     ends_concluded _ _ _ _ status.TooLong _
     (is, Hands-longer limit _ _ c.in-Ok.bytes.items c.in-Ok.ensures.handed long, refl)
-    c.conclude-then-len-gt-LIMIT.ensures.concludes
+    c.conclude.ensures.concludes
 
 pub returns-in-Err-Bad-clause-ends : goal.returns-in-Err-Bad-clause-ends
 returns-in-Err-Bad-clause-ends g c = λ words is.
@@ -37,13 +37,17 @@ returns-in-Err-Failed-write_journal-clause-ends g c = λ words is.
       inr (
         status.Done,
         journal_text c.in-Ok-play_script.journal,
-        (Run, is, record {
+        (
+          Run,
+          is,
+          record {
             script = c.in-Ok-read.script;
             journal = c.in-Ok-play_script.journal;
             spelled = IfSome-same _ bytes.items P (c.in-Ok.ensures.all within) (short, rw (← c.deref.ensures.value) c.in-Ok-read.ensures.ok);
             lawful = c.in-Ok-play_script.ensures.lawful;
             text_is = refl;
-          }),
+          },
+        ),
         c.in-Err-Failed-write_journal.ensures.err,
       ),
     )
@@ -57,12 +61,16 @@ returns-clause-ends g c = λ words is.
     inr (
       status.Done,
       journal_text c.in-Ok-play_script.journal,
-      (Run, is, record {
+      (
+        Run,
+        is,
+        record {
           script = c.in-Ok-read.script;
           journal = c.in-Ok-play_script.journal;
           spelled = IfSome-same _ bytes.items P (c.in-Ok.ensures.all within) (short, rw (← c.deref.ensures.value) c.in-Ok-read.ensures.ok);
           lawful = c.in-Ok-play_script.ensures.lawful;
           text_is = refl;
-        }),
+        },
+      ),
       c.in-Err-NoMemory-write_journal.ensures.err,
     )
