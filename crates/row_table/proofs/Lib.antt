@@ -4,3 +4,4 @@ pub mod Spans
 pub mod Growth
 pub mod Lookups
 pub mod Numbers
+pub mod StepsSince

@@ -1,4 +1,4 @@
--- Rows told by their words, and numbered by a map from these.
+-- Rows told by their words, and numbered by a look at the first ones and a map from these.
 use Rattle.std.proofs.Common.{◌≡◌, ◌≢◌, ℕ, zero, suc, ◌+◌, ◌<◌, List, [], ◌∷◌, ◌++◌, length, get_or, Some, None, Bool, true, false, cond, if◌then◌else◌, ◌==◌, refl, sym, ap, subst, ◌∙◌, arith, length-append, inl, inr}
 use Rattle.std.proofs.lemmas.Bool.{cases_lt}
 use Rattle.std.proofs.lemmas.Cmp.{tied_itself, nat_list_cmp_total}
@@ -16,7 +16,7 @@ use Rattle.frame_rows.specs.declared.rule.RuleWith.TheVariants as rules
 use Rattle.frame_rows.specs.declared.rule.CfaRuleWith.TheVariants as cfas
 use Rattle.frame_rows.specs.Rows.{unset}
 use Rattle.frame_rows.specs.Rules.{PlacedRule, PlacedCfaRule}
-use Rattle.row_table.specs.Numbering.{kind_word, number_word, cfa_kind_word, cfa_column_word, cfa_number_word, columns_words, row_words, compare_words, IsIndexOf}
+use Rattle.row_table.specs.Numbering.{first_rows, IsNoneOfTheFirst, kind_word, number_word, cfa_kind_word, cfa_column_word, cfa_number_word, columns_words, row_words, compare_words, IsIndexOf}
 use Rattle.row_table.specs.Tables.{AreDifferent, IsNumbered, IsOneTooMany}
 
 -- ---- a row is told by its words
@@ -116,7 +116,7 @@ module _ {K : Type 0} (words : K → List ℕ) where
   pub no_index : (index : BTreeMap K ℕ) → IsEmpty index → IsIndexOf K words index []
   no_index index empty = record {
     different = λ j k less within. absurd (omega arith);
-    known = λ i k within same. absurd (omega arith);
+    known = λ i k later within same. absurd (omega arith);
     right = λ i k found. let none : get order index k ≡ None = ap (lookup (is_at (order k))) empty in absurd cc;
   }
 
@@ -124,15 +124,19 @@ module _ {K : Type 0} (words : K → List ℕ) where
   same_index old new rows same is =
       let stays : (k : K) → get order new k ≡ get order old k = λ k. ap (lookup (is_at (order k))) same in record {
         different = is.different;
-        known = λ i k within at. stays k ∙ is.known i k within at;
+        known = λ i k later within at. stays k ∙ is.known i k later within at;
         right = λ i k found. is.right i k (sym (stays k) ∙ found);
       }
 
-  -- a row whose words the map hasn't
-  pub is_new : (index : BTreeMap K ℕ) (rows : List PlacedRow) (row : PlacedRow) (k : K) → IsIndexOf K words index rows → words k ≡ row_words row → get order index k ≡ None → IsNew rows row
-  is_new index rows row k is are none = λ i within same.
-      let found : get order index k ≡ Some i = is.known i k within (are ∙ ap row_words (sym same)) in
-      absurd cc
+  -- a row that is none of the first, and whose words the map hasn't
+  pub is_new : (index : BTreeMap K ℕ) (rows : List PlacedRow) (row : PlacedRow) (k : K) → IsIndexOf K words index rows → IsNoneOfTheFirst rows row → words k ≡ row_words row → get order index k ≡ None → IsNew rows row
+  is_new index rows row k is not are none = λ i within same.
+      elim (cases_lt i first_rows) [
+        | inl first ↦ not i first within same
+        | inr later ↦
+            let found : get order index k ≡ Some i = is.known i k later within (are ∙ ap row_words (sym same)) in
+            absurd cc
+      ]
 
   -- a row whose words it has
   pub is_numbered : (index : BTreeMap K ℕ) (rows : List PlacedRow) (row : PlacedRow) (k : K) (i : ℕ) → IsIndexOf K words index rows → words k ≡ row_words row → get order index k ≡ Some i → IsNumbered rows row i rows
@@ -161,21 +165,21 @@ module _ {K : Type 0} (words : K → List ℕ) where
       by false is = is
 
   -- the map with one more row
-  pub longer_index : (old new : BTreeMap K ℕ) (rows more : List PlacedRow) (row : PlacedRow) (key : K) (number : ℕ) → IsIndexOf K words old rows → words key ≡ row_words row → get order old key ≡ None → number ≡ length rows → Updates order old new key (Some number)
+  pub longer_index : (old new : BTreeMap K ℕ) (rows more : List PlacedRow) (row : PlacedRow) (key : K) (number : ℕ) → IsIndexOf K words old rows → IsNoneOfTheFirst rows row → words key ≡ row_words row → get order old key ≡ None → number ≡ length rows → Updates order old new key (Some number)
       → more ≡ rows ++ row ∷ [] → IsIndexOf K words new more
-  longer_index old new rows more row key number is are none at updates grown =
-      let fresh = is_new old rows row key is are none in
+  longer_index old new rows more row key number is not are none at updates grown =
+      let fresh = is_new old rows row key is not are none in
       let count : length more ≡ length rows + 1 = ap (λ (l : List PlacedRow). length l) grown ∙ length-append rows (row ∷ []) ∙ omega arith in
       let before : (i : ℕ) → i < length rows → get_or more i unset ≡ get_or rows i unset = λ i lt. ap (λ (l : List PlacedRow). get_or l i unset) grown ∙ get_or_append_left rows (row ∷ []) unset i lt in
       let here : get_or more (length rows) unset ≡ row = ap (λ (l : List PlacedRow). get_or l (length rows) unset) grown ∙ get_or-append_seam rows row [] unset in
       record {
         different = subst (λ (l : List PlacedRow). AreDifferent l) (sym grown) (one_more_different rows row is.different fresh);
-        known = λ i k within same.
+        known = λ i k later within same.
             elim (cases_lt i (length rows)) [
               | inl inside ↦
                   let its = same ∙ ap row_words (before i inside) in
                   let apart : words key ≡ words k → ⊥ = λ e. fresh i inside (same_row (get_or rows i unset) row (sym its ∙ sym e ∙ are)) in
-                  updates.0 k ∙ ap (λ (b : Bool). cond b (Some number) (get order old k)) (not_tied key k apart) ∙ is.known i k inside its
+                  updates.0 k ∙ ap (λ (b : Bool). cond b (Some number) (get order old k)) (not_tied key k apart) ∙ is.known i k later inside its
               | inr past ↦
                   let last : i ≡ length rows = omega arith in
                   let its : words k ≡ row_words row = same ∙ ap (λ (n : ℕ). row_words (get_or more n unset)) last ∙ ap row_words here in
@@ -199,8 +203,20 @@ module _ {K : Type 0} (words : K → List ℕ) where
           let was = is.right i k old_found in
           (omega (arith, was.0), was.1 ∙ ap row_words (sym (before i was.0)))
 
-  pub is_one_too_many : (index : BTreeMap K ℕ) (rows : List PlacedRow) (row : PlacedRow) (k : K) → IsIndexOf K words index rows → words k ≡ row_words row → get order index k ≡ None → length rows ≡ 65536 → IsOneTooMany rows row
-  is_one_too_many index rows row k is are none count = record {
+  pub is_one_too_many : (index : BTreeMap K ℕ) (rows : List PlacedRow) (row : PlacedRow) (k : K) → IsIndexOf K words index rows → IsNoneOfTheFirst rows row → words k ≡ row_words row → get order index k ≡ None → length rows ≡ 65536 → IsOneTooMany rows row
+  is_one_too_many index rows row k is not are none count = record {
     count = count;
-    different = one_more_different rows row is.different (is_new index rows row k is are none);
+    different = one_more_different rows row is.different (is_new index rows row k is not are none);
   }
+
+  -- one of the first rows more, which the map needn't have
+  pub longer_first : (index : BTreeMap K ℕ) (rows more : List PlacedRow) (row : PlacedRow) → IsIndexOf K words index rows → length rows < first_rows → IsNoneOfTheFirst rows row → more ≡ rows ++ row ∷ [] → IsIndexOf K words index more
+  longer_first index rows more row is few not grown =
+      let count : length more ≡ length rows + 1 = ap (λ (l : List PlacedRow). length l) grown ∙ length-append rows (row ∷ []) ∙ omega arith in
+      let before : (i : ℕ) → i < length rows → get_or more i unset ≡ get_or rows i unset = λ i lt. ap (λ (l : List PlacedRow). get_or l i unset) grown ∙ get_or_append_left rows (row ∷ []) unset i lt in
+      let fresh : IsNew rows row = λ i within. not i (omega arith) within in
+      record {
+        different = subst (λ (l : List PlacedRow). AreDifferent l) (sym grown) (one_more_different rows row is.different fresh);
+        known = λ i k later within same. absurd (omega arith);
+        right = λ i k found. let was = is.right i k found in (omega (arith, was.0), was.1 ∙ ap row_words (sym (before i was.0)));
+      }

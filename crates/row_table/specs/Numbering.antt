@@ -1,6 +1,6 @@
--- How rows that differ are numbered: each is written out in words, and found by these in an ordered
--- map.
-use Rattle.std.specs.Prelude.{◌≡◌, ℕ, ◌<◌, List, [], ◌∷◌, length, get_or, Some}
+-- How rows that differ are numbered: the first ones are looked at one after another, each after them
+-- is written out in words, and found by these in an ordered map.
+use Rattle.std.specs.Prelude.{◌≡◌, ◌≢◌, ℕ, ◌<◌, ◌≤◌, List, [], ◌∷◌, length, get_or, Some}
 use Rattle.std.specs.BTreeMap.{BTreeMap, get}
 use Rattle.std.specs.Cmp.Lexicographic.{slice_cmp}
 use Rattle.std.specs.Ordering.{nat_cmp}
@@ -57,17 +57,29 @@ abbrev pub row_words : PlacedRow → List ℕ
 row_words row = cfa_kind_word row.cfa ∷ cfa_column_word row.cfa ∷ cfa_number_word row.cfa
     ∷ columns_words row.columns
 
+-- ---- the first rows
+
+-- so many
+abbrev pub first_rows : ℕ
+first_rows = 64
+
+-- a row is none of them
+abbrev pub IsNoneOfTheFirst : List PlacedRow → PlacedRow → Type 0
+IsNoneOfTheFirst rows row = (i : ℕ) → i < first_rows → i < length rows → get_or rows i unset ≢ row
+
 -- ---- the map
 
 -- keys are in the order of their words
 abbrev pub compare_words : {K : Type 0} → (K → List ℕ) → K → K → Ordering
 compare_words words a b = slice_cmp nat_cmp (words a) (words b)
 
--- The rows differ, and a map from their words to their numbers has all of them and nothing else.
+-- The rows differ, and a map from their words to their numbers has all of them but the first ones, and
+-- none that isn't among them.
 pub record IsIndexOf (K : Type 0) (words : K → List ℕ) (index : BTreeMap K ℕ)
     (rows : List PlacedRow) : Type 0 where
   pub different : AreDifferent rows
-  pub known : (i : ℕ) (k : K) → i < length rows → words k ≡ row_words (get_or rows i unset)
+  pub known : (i : ℕ) (k : K) → first_rows ≤ i → i < length rows
+      → words k ≡ row_words (get_or rows i unset)
       → get (compare_words words) index k ≡ Some i
   pub right : (i : ℕ) (k : K) → get (compare_words words) index k ≡ Some i
       → (i < length rows) × (words k ≡ row_words (get_or rows i unset))

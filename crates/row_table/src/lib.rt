@@ -10,10 +10,13 @@ mod fault;
 mod kept_rows;
 mod lent_row;
 mod making;
+mod numbered_rows;
 mod same;
 mod search;
+mod since;
 mod source;
 mod table;
+mod transitions;
 mod words;
 
 pub use fault::TableFault;

@@ -1,11 +1,13 @@
 //! Rows in the order in which the instructions of FDEs leave them.
 
-ghost use Rattle.std.specs.Prelude.{◌≡◌, ◌⊎◌, [], IfOk, IfErr, length};
+ghost use Rattle.std.specs.Prelude.{◌≡◌, ◌⊎◌, [], IfOk, IfErr, IfSome, length};
 ghost use Rattle.row_table.specs.Tables.{IsPushed, IsOneTooMany, IsAdded, HasRowsTooMany};
+ghost use Rattle.row_table.specs.Transitions.{IsSince};
 
-use crate::distinct_rows::DistinctRows;
 use crate::fault::TableFault;
 use crate::kept_rows::KeptRows;
+use crate::numbered_rows::NumberedRows;
+use crate::since::Since;
 use frame_parse::{Fde, PlacedInstruction, steps_are_ordered};
 use frame_rows::{PlacedRow, initial_row};
 use std::alloc::{AllocError, Global};
@@ -16,7 +18,7 @@ use std::marker::Model;
 pub(crate) struct Rows {
     pub(crate) starts: Vec<u64>,
     pub(crate) numbers: Vec<u16>,
-    pub(crate) distinct: DistinctRows,
+    pub(crate) distinct: NumberedRows,
 }
 
 impl Model for Rows {
@@ -38,7 +40,7 @@ impl Rows {
         Ok(Rows {
             starts: Vec::new(alloc),
             numbers: Vec::new(alloc),
-            distinct: DistinctRows::new(alloc)?,
+            distinct: NumberedRows::new(alloc)?,
         })
     }
 
@@ -49,16 +51,23 @@ impl Rows {
         self.starts.len()
     }
 
-    /// Adds a row, from an address on.
-    fn push(&mut self, start: u64, row: &PlacedRow) -> Result<(), TableFault>
+    /// Adds a row, from an address on, and tells what was done since then: nothing.
+    fn push(
+        &mut self,
+        start: u64,
+        row: &PlacedRow,
+        since: &Option<Since>,
+    ) -> Result<Since, TableFault>
+        requires { IfSome since.now (λ since. IsSince self.old.distinct since row.now) }
         ensures pushed { IfOk result (λ _. IsPushed self.old start row.now self.new) }
+        ensures since { IfOk result (λ since. IsSince self.new.distinct since row.now) }
         ensures refused { IfErr result (λ fault. (fault ≡ TableFault.NoMemory)
             ⊎ IsOneTooMany self.old.distinct row.now) }
     {
-        let number = self.distinct.number_of(row)?;
+        let number = self.distinct.number_of(row, since)?;
         self.starts.push(start)?;
         self.numbers.push(number)?;
-        Ok(())
+        Ok(Since::at(number))
     }
 
     /// Adds the rows of an FDE: each begins where the location moves, and the last one holds from
@@ -73,22 +82,29 @@ impl Rows {
         kept.clear();
         let base = initial_row(fde);
         let mut row = base;
+        let mut since: Option<Since> = None;
         let mut location = fde.first();
         let mut program = fde.placed_program();
         while let Some(step) = program.next() {
             match step.instruction {
                 PlacedInstruction::Advance => {
                     if step.location > location {
-                        self.push(location, &row)?;
+                        since = Some(self.push(location, &row, &since)?);
                         location = step.location;
                     }
                 }
                 PlacedInstruction::Remember => kept.keep(&row),
-                PlacedInstruction::RestoreState => row = kept.take_back(),
-                instruction => row.apply(&base, instruction),
+                PlacedInstruction::RestoreState => {
+                    row = kept.take_back();
+                    since = None;
+                }
+                instruction => {
+                    row.apply(&base, instruction);
+                    since = Since::then(since, instruction);
+                }
             }
         }
-        self.push(location, &row)?;
+        self.push(location, &row, &since)?;
         Ok(())
     }
 }

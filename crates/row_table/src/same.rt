@@ -1,6 +1,6 @@
 //! Whether two rows are the same.
 
-ghost use Rattle.std.specs.Prelude.{◌≡◌, ◌+◌, ◌<◌, ◌≤◌, ℕ, get_or, true};
+ghost use Rattle.std.specs.Prelude.{◌≡◌, ◌≢◌, ◌+◌, ◌<◌, ◌≤◌, ℕ, get_or, true, false};
 ghost use Rattle.frame_rows.specs.declared.rule.RuleWith.TheVariants.{Unset};
 
 use frame_rows::{PlacedCfaRule, PlacedRow, PlacedRule};
@@ -53,7 +53,8 @@ pub(crate) fn place_of(row: &PlacedRow) -> usize {
 }
 
 fn same_rare(a: &PlacedRule, b: &PlacedRule) -> bool
-    ensures { result ≡ true → a.now ≡ b.now }
+    ensures same { result ≡ true → a.now ≡ b.now }
+    ensures differ { result ≡ false → a.now ≢ b.now }
 {
     *a == *b
 }
@@ -61,7 +62,8 @@ fn same_rare(a: &PlacedRule, b: &PlacedRule) -> bool
 /// Most rules are unset or offsets.
 #[inline(always)]
 fn same_rule(a: &PlacedRule, b: &PlacedRule) -> bool
-    ensures { result ≡ true → a.now ≡ b.now }
+    ensures same { result ≡ true → a.now ≡ b.now }
+    ensures differ { result ≡ false → a.now ≢ b.now }
 {
     match (a, b) {
         (PlacedRule::Unset, PlacedRule::Unset) => true,
@@ -71,7 +73,8 @@ fn same_rule(a: &PlacedRule, b: &PlacedRule) -> bool
 }
 
 fn same_cfa(a: &PlacedCfaRule, b: &PlacedCfaRule) -> bool
-    ensures { result ≡ true → a.now ≡ b.now }
+    ensures same { result ≡ true → a.now ≡ b.now }
+    ensures differ { result ≡ false → a.now ≢ b.now }
 {
     *a == *b
 }
@@ -79,7 +82,8 @@ fn same_cfa(a: &PlacedCfaRule, b: &PlacedCfaRule) -> bool
 #[inline(always)]
 fn same_at(a: &[PlacedRule; 17], b: &[PlacedRule; 17], column: usize) -> bool
     requires { column < 17 }
-    ensures { result ≡ true → get_or a.now column Unset ≡ get_or b.now column Unset }
+    ensures same { result ≡ true → get_or a.now column Unset ≡ get_or b.now column Unset }
+    ensures differ { result ≡ false → a.now ≢ b.now }
 {
     same_rule(&a[column], &b[column])
 }
@@ -89,8 +93,9 @@ fn same_at(a: &[PlacedRule; 17], b: &[PlacedRule; 17], column: usize) -> bool
 #[inline(always)]
 fn same_four(a: &[PlacedRule; 17], b: &[PlacedRule; 17], from: usize) -> bool
     requires { from + 4 ≤ 17 }
-    ensures { result ≡ true → (k : ℕ) → from ≤ k → k < from + 4
+    ensures same { result ≡ true → (k : ℕ) → from ≤ k → k < from + 4
         → get_or a.now k Unset ≡ get_or b.now k Unset }
+    ensures differ { result ≡ false → a.now ≢ b.now }
 {
     same_at(a, b, from)
         && same_at(a, b, from + 1)
@@ -100,7 +105,8 @@ fn same_four(a: &[PlacedRule; 17], b: &[PlacedRule; 17], from: usize) -> bool
 
 #[inline(always)]
 fn same_columns(a: &[PlacedRule; 17], b: &[PlacedRule; 17]) -> bool
-    ensures { result ≡ true → a.now ≡ b.now }
+    ensures same { result ≡ true → a.now ≡ b.now }
+    ensures differ { result ≡ false → a.now ≢ b.now }
 {
     if !same_four(a, b, 0) {
         return false;
@@ -118,7 +124,8 @@ fn same_columns(a: &[PlacedRule; 17], b: &[PlacedRule; 17]) -> bool
 }
 
 pub(crate) fn are_equal(a: &PlacedRow, b: &PlacedRow) -> bool
-    ensures { result ≡ true → a.now ≡ b.now }
+    ensures same { result ≡ true → a.now ≡ b.now }
+    ensures differ { result ≡ false → a.now ≢ b.now }
 {
     same_cfa(&a.cfa, &b.cfa) && same_columns(&a.columns, &b.columns)
 }

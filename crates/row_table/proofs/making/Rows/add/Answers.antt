@@ -1,8 +1,10 @@
 use Rattle.std.proofs.Common.{List, sym, subst, arith}
+use Rattle.std.specs.Prelude.{IfSome}
 use Rattle.std.proofs.lemmas.Result.{err_from_is_err_and}
 use Rattle.frame_parse.specs.Programs.{PlacedProgramData, HasPlacedSteps}
 use Rattle.frame_rows.specs.declared.placed_row.PlacedRow.{PlacedRow}
 use Rattle.row_table.specs.Tables.{HasRow}
+use Rattle.row_table.specs.Transitions.{IsSince}
 use Rattle.row_table.proofs.Spans.{no_spans, one_more, last_one, refused_push}
 use Rattle.row_table.proofs.Walks.{GoesOn, on_at_first, moved_on, stayed_on, plain_on, remembered_on, restored_on, row_up_to, row_to_the_end, has_room, has_one}
 use Rattle.row_table.proofs.making.Rows.add.Goals as goal
@@ -16,6 +18,7 @@ loop-step-init c =
       on = subst (λ (k : List PlacedRow). GoesOn f base program first base k) (sym c.clear.ensures) (on_at_first f base program first c.steps_are_ordered.ensures.placed c.placed_program-program.ensures.program c.first-location.ensures);
       base = c.initial_row-base.ensures;
       spans = no_spans f c.args.self.now first c.requires c.first-location.ensures;
+      since = tt;
     }
 
 pub loop-step-preserved-then-step-location : goal.loop-step-preserved-then-step-location
@@ -29,6 +32,7 @@ loop-step-preserved-then-step-location c =
       spans =
           one_more f c.args.self.now was.self c.push.new.self was.location was.row was.invariant.spans c.in_ok-push-in-Advance.ensures.pushed c.in-Some.step.location c.if-step-location.true
           (λ pc le lt. row_up_to f base was.program c.next.new.self was.location was.row was.kept c.in-Some.step pc was.invariant.on was.invariant.base gives le lt);
+      since = c.in_ok-push-in-Advance.ensures.since;
     }
 
 pub loop-step-preserved-else-step-location : goal.loop-step-preserved-else-step-location
@@ -37,6 +41,7 @@ loop-step-preserved-else-step-location c =
       on = stayed_on c.args.fde.now c.initial_row-base.result was.program c.next.new.self was.location was.row was.kept c.in-Some.step was.invariant.on c.in-Some.ensures.steps c.in-Advance.is c.if-step-location.false;
       base = was.invariant.base;
       spans = was.invariant.spans;
+      since = was.invariant.since;
     }
 
 pub keep-requires : goal.keep-requires
@@ -55,6 +60,7 @@ loop-step-preserved-in-Remember c =
       on = subst (λ (k : List PlacedRow). GoesOn f base c.next.new.self was.location was.row k) (sym c.keep.ensures) on;
       base = was.invariant.base;
       spans = was.invariant.spans;
+      since = was.invariant.since;
     }
 
 pub take_back-row-requires : goal.take_back-row-requires
@@ -70,6 +76,7 @@ loop-step-preserved-in-RestoreState c =
       on = restored_on c.args.fde.now c.initial_row-base.result was.program c.next.new.self was.location was.row c.take_back-row.result was.kept c.take_back-row.new.self c.in-Some.step was.invariant.on c.in-Some.ensures.steps c.in-RestoreState.is c.take_back-row.ensures;
       base = was.invariant.base;
       spans = was.invariant.spans;
+      since = tt;
     }
 
 pub loop-step-preserved : goal.loop-step-preserved
@@ -78,10 +85,13 @@ loop-step-preserved c =
     let f = c.args.fde.now in
     let base = c.initial_row-base.result in
     let not = c.in_default-instruction in
-    let on = plain_on f base was.program c.next.new.self was.location was.row was.kept c.in-Some.step was.invariant.on c.in-Some.ensures.steps not.not-Advance not.not-Remember not.not-RestoreState in record {
+    let on = plain_on f base was.program c.next.new.self was.location was.row was.kept c.in-Some.step was.invariant.on c.in-Some.ensures.steps not.not-Advance not.not-Remember not.not-RestoreState in
+    let then = c.then-since.ensures was.self.distinct base was.row was.invariant.since in
+    let next = subst (λ (k : PlacedRow). IfSome c.then-since.result (λ since. IsSince was.self.distinct since k)) (sym c.apply.ensures) then in record {
       on = subst (λ (k : PlacedRow). GoesOn f base c.next.new.self was.location k was.kept) (sym c.apply.ensures) on;
       base = was.invariant.base;
       spans = was.invariant.spans;
+      since = next;
     }
 
 pub returns-clause-added : goal.returns-clause-added
@@ -106,3 +116,9 @@ returns-in_err-push-clause-refused c =
     let has : HasRow f was.row = (was.location, row_to_the_end f c.initial_row-base.result was.program was.location was.row was.kept was.location was.invariant.on was.invariant.base c.in_default.ensures.steps (omega arith)) in
     let p = err_from_is_err_and c.from_residual-in_err-push.result c.from_residual-in_err-push.ensures.1 in
     rw (p.1, p.2) (refused_push f c.args.self.now was.self was.location was.row c.in_err-push.field-0.0 was.invariant.spans has c.in_err-push.ensures.refused)
+
+pub push-requires : goal.push-requires
+push-requires c = c.loop-step.invariant.since
+
+pub push-requires-2 : goal.push-requires-2
+push-requires-2 c = c.loop-step.invariant.since

@@ -1,4 +1,6 @@
 use Rattle.std.proofs.Common.{length}
+use Rattle.std.specs.Prelude.{IfSome}
+use Rattle.row_table.specs.Transitions.{IsSince}
 use Rattle.row_table.proofs.Spans.{HasSpans}
 use Rattle.row_table.proofs.Walks.{GoesOn, IsBase}
 use Rattle.row_table.proofs.making.Rows.add.Given as goal
@@ -8,6 +10,7 @@ invariant-loop-step l = record {
   on : GoesOn l.fde l.base l.program l.location l.row l.kept;
   base : IsBase l.fde l.base;
   spans : HasSpans l.fde l.fn.self l.self l.location;
+  since : IfSome l.since (λ since. IsSince l.self.distinct since l.row);
 }
 
 abbrev pub decreases-loop-step : goal.decreases-loop-step
