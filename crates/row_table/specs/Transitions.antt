@@ -11,6 +11,10 @@ use Rattle.row_table.specs.declared.transitions.Transition.{Transition}
 abbrev pub NeedsNoOther : PlacedInstruction → Type 0
 NeedsNoOther i = (base row : PlacedRow) → applied base row i ≡ applied unset row i
 
+-- a row has this number
+abbrev pub IsNumberOf : List PlacedRow → ℕ → PlacedRow → Type 0
+IsNumberOf rows number row = (number < length rows) × (get_or rows number unset ≡ row)
+
 -- what comes of a numbered row by the instructions since then
 abbrev pub row_since : List PlacedRow → Since → PlacedRow
 row_since rows since =

@@ -2,7 +2,7 @@
 
 ghost use Rattle.std.specs.Prelude.{◌≡◌, ◌⊎◌, [], IfOk, IfErr, IfSome, length};
 ghost use Rattle.row_table.specs.Tables.{IsPushed, IsOneTooMany, IsAdded, HasRowsTooMany};
-ghost use Rattle.row_table.specs.Transitions.{IsSince};
+ghost use Rattle.row_table.specs.Transitions.{IsNumberOf, IsSince};
 
 use crate::fault::TableFault;
 use crate::kept_rows::KeptRows;
@@ -51,23 +51,23 @@ impl Rows {
         self.starts.len()
     }
 
-    /// Adds a row, from an address on, and tells what was done since then: nothing.
+    /// Adds a row, from an address on: its number.
     fn push(
         &mut self,
         start: u64,
         row: &PlacedRow,
         since: &Option<Since>,
-    ) -> Result<Since, TableFault>
+    ) -> Result<u16, TableFault>
         requires { IfSome since.now (λ since. IsSince self.old.distinct since row.now) }
         ensures pushed { IfOk result (λ _. IsPushed self.old start row.now self.new) }
-        ensures since { IfOk result (λ since. IsSince self.new.distinct since row.now) }
+        ensures number { IfOk result (λ number. IsNumberOf self.new.distinct number row.now) }
         ensures refused { IfErr result (λ fault. (fault ≡ TableFault.NoMemory)
             ⊎ IsOneTooMany self.old.distinct row.now) }
     {
         let number = self.distinct.number_of(row, since)?;
         self.starts.push(start)?;
         self.numbers.push(number)?;
-        Ok(Since::at(number))
+        Ok(number)
     }
 
     /// Adds the rows of an FDE: each begins where the location moves, and the last one holds from
@@ -89,7 +89,8 @@ impl Rows {
             match step.instruction {
                 PlacedInstruction::Advance => {
                     if step.location > location {
-                        since = Some(self.push(location, &row, &since)?);
+                        let number = self.push(location, &row, &since)?;
+                        since = Some(Since::at(number));
                         location = step.location;
                     }
                 }
@@ -100,7 +101,7 @@ impl Rows {
                 }
                 instruction => {
                     row.apply(&base, instruction);
-                    since = Since::then(since, instruction);
+                    Since::take(&mut since, instruction);
                 }
             }
         }

@@ -20,6 +20,16 @@ pub(crate) struct Since {
     second: PlacedInstruction,
 }
 
+#[inline(always)]
+fn is_nop(instruction: &PlacedInstruction) -> bool
+    ensures { result ≡ true → instruction.now ≡ Nop }
+{
+    match instruction {
+        PlacedInstruction::Nop => true,
+        _ => false,
+    }
+}
+
 /// Whether an instruction needs no other row than the one that it changes.
 #[inline(always)]
 fn needs_no_other(instruction: &PlacedInstruction) -> bool
@@ -85,42 +95,39 @@ impl Since {
         }
     }
 
-    /// One instruction more. None where two were done, or where it needs another row.
+    /// Takes one instruction more. False where two were taken, or where it needs another row.
     #[inline(always)]
-    fn with(&self, instruction: PlacedInstruction) -> Option<Since>
-        ensures { (rows : List PlacedRow) (base row : PlacedRow) → IsSince rows self.now row
-            → IfSome result (λ since. IsSince rows since (applied base row instruction)) }
+    fn takes(&mut self, instruction: PlacedInstruction) -> bool
+        ensures { (rows : List PlacedRow) (base row : PlacedRow) → IsSince rows self.old row
+            → result ≡ true → IsSince rows self.new (applied base row instruction) }
     {
-        if instruction == PlacedInstruction::Nop {
-            return Some(*self);
+        if is_nop(&instruction) {
+            return true;
         }
-        if self.second != PlacedInstruction::Nop || !needs_no_other(&instruction) {
-            return None;
+        if !needs_no_other(&instruction) || !is_nop(&self.second) {
+            return false;
         }
-        if self.first == PlacedInstruction::Nop {
-            return Some(Since {
-                from: self.from,
-                first: instruction,
-                second: PlacedInstruction::Nop,
-            });
+        if is_nop(&self.first) {
+            self.first = instruction;
+        } else {
+            self.second = instruction;
         }
-        Some(Since {
-            from: self.from,
-            first: self.first,
-            second: instruction,
-        })
+        true
     }
 
-    /// The same for a row of which it isn't known.
+    /// Takes one instruction more, where it is known what was done.
     #[inline(always)]
-    pub(crate) fn then(since: Option<Since>, instruction: PlacedInstruction) -> Option<Since>
+    pub(crate) fn take(since: &mut Option<Since>, instruction: PlacedInstruction)
         ensures { (rows : List PlacedRow) (base row : PlacedRow)
-            → IfSome since (λ since. IsSince rows since row)
-            → IfSome result (λ since. IsSince rows since (applied base row instruction)) }
+            → IfSome since.old (λ since. IsSince rows since row)
+            → IfSome since.new (λ since. IsSince rows since (applied base row instruction)) }
     {
-        match since {
-            None => None,
-            Some(since) => since.with(instruction),
+        let known = match since {
+            None => true,
+            Some(since) => since.takes(instruction),
+        };
+        if !known {
+            *since = None;
         }
     }
 

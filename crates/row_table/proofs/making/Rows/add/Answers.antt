@@ -3,6 +3,7 @@ use Rattle.std.specs.Prelude.{IfSome}
 use Rattle.std.proofs.lemmas.Result.{err_from_is_err_and}
 use Rattle.frame_parse.specs.Programs.{PlacedProgramData, HasPlacedSteps}
 use Rattle.frame_rows.specs.declared.placed_row.PlacedRow.{PlacedRow}
+use Rattle.row_table.specs.declared.since.Since.{Since}
 use Rattle.row_table.specs.Tables.{HasRow}
 use Rattle.row_table.specs.Transitions.{IsSince}
 use Rattle.row_table.proofs.Spans.{no_spans, one_more, last_one, refused_push}
@@ -30,9 +31,9 @@ loop-step-preserved-then-step-location c =
       on = moved_on f base was.program c.next.new.self was.location was.row was.kept c.in-Some.step was.invariant.on gives c.in-Advance.is c.if-step-location.true;
       base = was.invariant.base;
       spans =
-          one_more f c.args.self.now was.self c.push.new.self was.location was.row was.invariant.spans c.in_ok-push-in-Advance.ensures.pushed c.in-Some.step.location c.if-step-location.true
+          one_more f c.args.self.now was.self c.push.new.self was.location was.row was.invariant.spans c.in_ok-number-in-Advance.ensures.pushed c.in-Some.step.location c.if-step-location.true
           (λ pc le lt. row_up_to f base was.program c.next.new.self was.location was.row was.kept c.in-Some.step pc was.invariant.on was.invariant.base gives le lt);
-      since = c.in_ok-push-in-Advance.ensures.since;
+      since = subst (λ (s : Since). IsSince c.push.new.self.distinct s was.row) (sym c.at.ensures) (record { from = c.in_ok-number-in-Advance.ensures.number.0; is = c.in_ok-number-in-Advance.ensures.number.1 });
     }
 
 pub loop-step-preserved-else-step-location : goal.loop-step-preserved-else-step-location
@@ -86,8 +87,8 @@ loop-step-preserved c =
     let base = c.initial_row-base.result in
     let not = c.in_default-instruction in
     let on = plain_on f base was.program c.next.new.self was.location was.row was.kept c.in-Some.step was.invariant.on c.in-Some.ensures.steps not.not-Advance not.not-Remember not.not-RestoreState in
-    let then = c.then-since.ensures was.self.distinct base was.row was.invariant.since in
-    let next = subst (λ (k : PlacedRow). IfSome c.then-since.result (λ since. IsSince was.self.distinct since k)) (sym c.apply.ensures) then in record {
+    let then = c.take.ensures was.self.distinct base was.row was.invariant.since in
+    let next = subst (λ (k : PlacedRow). IfSome c.take.new.since (λ since. IsSince was.self.distinct since k)) (sym c.apply.ensures) then in record {
       on = subst (λ (k : PlacedRow). GoesOn f base c.next.new.self was.location k was.kept) (sym c.apply.ensures) on;
       base = was.invariant.base;
       spans = was.invariant.spans;
@@ -101,13 +102,13 @@ returns-clause-added c =
     last_one f c.args.self.now was.self c.push-2.new.self was.location was.row was.invariant.spans c.in_ok-push.ensures.pushed
     (λ pc le. row_to_the_end f c.initial_row-base.result was.program was.location was.row was.kept pc was.invariant.on was.invariant.base c.in_default.ensures.steps le)
 
-pub returns-in_err-push-in-Advance-clause-refused : goal.returns-in_err-push-in-Advance-clause-refused
-returns-in_err-push-in-Advance-clause-refused c =
+pub returns-in_err-number-in-Advance-clause-refused : goal.returns-in_err-number-in-Advance-clause-refused
+returns-in_err-number-in-Advance-clause-refused c =
     let was = c.loop-step in
     let f = c.args.fde.now in
     let has : HasRow f was.row = (was.location, row_up_to f c.initial_row-base.result was.program c.next.new.self was.location was.row was.kept c.in-Some.step was.location was.invariant.on was.invariant.base c.in-Some.ensures.steps (omega arith) c.if-step-location.true) in
     let p = err_from_is_err_and c.from_residual.result c.from_residual.ensures.1 in
-    rw (p.1, p.2) (refused_push f c.args.self.now was.self was.location was.row c.in_err-push-in-Advance.field-0.0 was.invariant.spans has c.in_err-push-in-Advance.ensures.refused)
+    rw (p.1, p.2) (refused_push f c.args.self.now was.self was.location was.row c.in_err-number-in-Advance.field-0.0 was.invariant.spans has c.in_err-number-in-Advance.ensures.refused)
 
 pub returns-in_err-push-clause-refused : goal.returns-in_err-push-clause-refused
 returns-in_err-push-clause-refused c =
