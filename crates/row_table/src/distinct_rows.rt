@@ -7,7 +7,7 @@ ghost use Rattle.row_table.specs.Numbering.{first_rows, IsNoneOfTheFirst};
 ghost use Rattle.row_table.specs.Tables.{IsNumbered, IsOneTooMany};
 
 use crate::fault::TableFault;
-use crate::same::{PLACES, are_equal, place_of};
+use crate::same::{PLACES, are_equal, place_of, same_cfa};
 use crate::words::row_words;
 use frame_rows::PlacedRow;
 use std::alloc::{AllocError, Global};
@@ -93,7 +93,9 @@ impl DistinctRows {
     {
         let count = self.rows.len().min(FIRST_ROWS);
         for index in 0..count {
-            if are_equal(&self.rows[index], row) {
+            let known = &self.rows[index];
+            // Most rows differ by the CFA's offset.
+            if same_cfa(&known.cfa, &row.cfa) && are_equal(known, row) {
                 return Some(index as u16);
             }
         }

@@ -72,11 +72,29 @@ fn same_rule(a: &PlacedRule, b: &PlacedRule) -> bool
     }
 }
 
-fn same_cfa(a: &PlacedCfaRule, b: &PlacedCfaRule) -> bool
+fn same_rare_cfa(a: &PlacedCfaRule, b: &PlacedCfaRule) -> bool
     ensures same { result ≡ true → a.now ≡ b.now }
     ensures differ { result ≡ false → a.now ≢ b.now }
 {
     *a == *b
+}
+
+/// Most rules for the CFA are a column and an offset.
+#[inline(always)]
+pub(crate) fn same_cfa(a: &PlacedCfaRule, b: &PlacedCfaRule) -> bool
+    ensures same { result ≡ true → a.now ≡ b.now }
+    ensures differ { result ≡ false → a.now ≢ b.now }
+{
+    match (a, b) {
+        (
+            PlacedCfaRule::Offset { column, by },
+            PlacedCfaRule::Offset {
+                column: other_column,
+                by: other,
+            },
+        ) => *by == *other && *column == *other_column,
+        _ => same_rare_cfa(a, b),
+    }
 }
 
 #[inline(always)]
