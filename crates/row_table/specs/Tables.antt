@@ -3,8 +3,11 @@ use Rattle.std.specs.Prelude.{◌≡◌, ℕ, ◌+◌, ◌<◌, ◌≤◌, List,
 use Rattle.std.specs.Prelude.{◌≢◌, All, Some, slice_get}
 use Rattle.frame_parse.specs.Sections.{FdeData, SectionData}
 use Rattle.frame_rows.specs.declared.placed_row.PlacedRow.{PlacedRow}
-use Rattle.frame_rows.specs.RowAt.{IsPlacedRowAt}
+use Rattle.frame_rows.specs.Expressions.{HasExpressions}
+use Rattle.frame_rows.specs.RowAt.{IsRowAt, IsPlacedRowAt}
 use Rattle.frame_rows.specs.Rows.{unset}
+use Rattle.frame_rows.specs.Rules.{lent_row}
+use Rattle.unwind_step.specs.Backtrace.{fde_in}
 
 -- ---- what is kept
 
@@ -123,3 +126,25 @@ pub record HasRowsTooMany (old : List PlacedRow) (f : FdeData) : Type 0 where
   pub count : length (old ++ more) ≡ 65537
   pub different : AreDifferent (old ++ more)
   pub come : All (HasRow f) more
+
+-- ---- the number of a row
+
+-- the table has the rows of an FDE that begins up to an address, by the FDE's number
+pub record HasRowsFrom (t : TableData) (i : ℕ) (f : FdeData) (pc : ℕ) : Type 0 where
+  pub begins : i + 1 < length t.begins
+  pub even : length t.rows.numbers ≡ length t.rows.starts
+  pub are : AreRowsOf f t.rows (get_or t.begins i 0) (get_or t.begins (i + 1) 0)
+  pub reached : f.entry.first ≤ pc
+
+-- This is the number of an FDE's row at an address: the row of this number has the rules that hold
+-- there, and its expressions stand in the section's bytes.
+pub record HasNumber (f : FdeData) (pc : ℕ) (rows : List PlacedRow) (number : ℕ) : Type 0 where
+  pub within : number < length rows
+  pub expressions : HasExpressions f.bytes (get_or rows number unset)
+  pub row : IsRowAt f pc (lent_row f.bytes (get_or rows number unset))
+
+-- the same of the FDE that covers the address first
+pub record IsNumberAt (s : SectionData) (pc : ℕ) (rows : List PlacedRow) (number : ℕ) : Type 0 where
+  pub fde : FdeData
+  pub covers : fde_in pc s ≡ Some fde
+  pub has : HasNumber fde pc rows number

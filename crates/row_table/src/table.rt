@@ -4,6 +4,7 @@ ghost use Rattle.std.specs.Prelude.{◌≡◌, ◌⊎◌, None, IfOk, IfErr, Mat
 ghost use Rattle.frame_parse.specs.Sections.{first_cover};
 ghost use Rattle.unwind_step.specs.Sources.{IsFound};
 ghost use Rattle.row_table.specs.Tables.{IsRowTableOf, HasTooManyRows};
+ghost use Rattle.row_table.specs.Tables.{HasRowsFrom, HasNumber, IsNumberAt};
 
 use crate::fault::TableFault;
 use crate::kept_rows::KeptRows;
@@ -85,14 +86,47 @@ impl RowTable {
     {
         let number = section.number_at(pc)?;
         let fde = section.fde(number);
-        placed_rows_are_rows(&fde);
-        let from = self.begins[number];
-        let end = self.begins[number + 1];
-        let place = last_start(&self.starts, from, end, pc);
-        let placed = &self.distinct[self.numbers[place] as usize];
+        let row = self.row_number(&fde, number, pc);
+        let placed = &self.distinct[row];
         Some(FoundRow {
             row: LentRow::new(section.bytes(), placed),
             fde,
         })
+    }
+
+    /// The rows that differ, by their numbers.
+    pub fn distinct(&self) -> &[PlacedRow]
+        ensures { result.now ≡ self.now.rows.distinct }
+    {
+        &self.distinct
+    }
+
+    /// The number of the row of an address: for those who keep something of their own for each row
+    /// that differs. None where no FDE covers the address. It takes no memory.
+    pub fn number_at(&self, section: &Section, pc: u64) -> Option<usize>
+        requires { IsRowTableOf section.now self.now }
+        ensures { MatchOption result (first_cover pc section.now.fdes ≡ None)
+            (λ number. IsNumberAt section.now pc self.now.rows.distinct number) }
+    {
+        match section.number_at(pc) {
+            None => None,
+            Some(number) => {
+                let fde = section.fde(number);
+                Some(self.row_number(&fde, number, pc))
+            }
+        }
+    }
+
+    /// The number of an FDE's row at an address from its first one on, by the FDE's own number.
+    #[inline(always)]
+    fn row_number(&self, fde: &Fde<'_>, number: usize, pc: u64) -> usize
+        requires { HasRowsFrom self.now number fde.now pc }
+        ensures { HasNumber fde.now pc self.now.rows.distinct result }
+    {
+        placed_rows_are_rows(fde);
+        let from = self.begins[number];
+        let end = self.begins[number + 1];
+        let place = last_start(&self.starts, from, end, pc);
+        self.numbers[place] as usize
     }
 }

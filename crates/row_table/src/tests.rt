@@ -6,7 +6,7 @@ ghost use Rattle.row_table.specs.Tables.{IsRowTableOf};
 use super::*;
 use frame_expr::{Memory, Regs};
 use frame_parse::Section;
-use frame_rows::{CfaRule, Row, row_at};
+use frame_rows::{CfaRule, PlacedCfaRule, Row, row_at};
 use std::alloc::Global;
 use std::test::*;
 use unwind_step::step_at;
@@ -110,6 +110,31 @@ fn two_fdes_at_one_address(rt: HostRuntime) -> Result<(), Fail> {
     assert_eq!(rt; offset_at(&section, &table, 0x1004), Some(24));
     assert_eq!(rt; offset_at(&section, &table, 0x1010), Some(32));
     assert_eq!(rt; offset_at(&section, &table, 0x1020), None);
+    Ok(())
+}
+
+/// The CFA's offset in the row whose number an address has.
+fn numbered_offset(section: &Section, table: &RowTable, pc: u64) -> Option<u64>
+    requires { IsRowTableOf section.now table.now }
+{
+    let number = table.number_at(section, pc)?;
+    let row = table.distinct().get(number)?;
+    match row.cfa {
+        PlacedCfaRule::Offset { by, .. } => Some(by),
+        _ => None,
+    }
+}
+
+#[test]
+fn rows_by_their_numbers(rt: HostRuntime) -> Result<(), Fail> {
+    let section = read(rt.alloc(), 0x2000, &TWICE)?;
+    let Ok(table) = RowTable::of(rt.alloc(), &section) else {
+        return Err("a table")?;
+    };
+    assert_eq!(rt; numbered_offset(&section, &table, 0xfff), None);
+    assert_eq!(rt; numbered_offset(&section, &table, 0x1003), Some(8));
+    assert_eq!(rt; numbered_offset(&section, &table, 0x1004), Some(24));
+    assert_eq!(rt; numbered_offset(&section, &table, 0x1010), Some(32));
     Ok(())
 }
 
