@@ -235,8 +235,9 @@ uint64_t frames_c_step(frames_section section, frames_memory memory, frames_fram
 /* ---- row tables ------------------------------------------------------------------------------ */
 
 /* A share of a row table, or nothing: {0}. For those who look up a section many times: its rows are
- * worked out once, and those that differ are kept. What is said above of shares of a section holds
- * of a table's too. It has a share of its section, so that one may be freed before the table. */
+ * worked out once, and those that differ are kept, each as a frames_row too, which takes 296 bytes.
+ * What is said above of shares of a section holds of a table's too. It has a share of its section,
+ * so that one may be freed before the table. */
 typedef struct {
   void *at;
 } frames_row_table;

@@ -3,3 +3,4 @@ mod Covers
 mod MemoryBoxes
 mod RowBoxes
 mod Tables
+mod ToldRows

@@ -17,6 +17,7 @@ mod row_tables;
 mod share;
 mod step;
 mod table;
+mod told_rows;
 
 pub use batch::frames_c_rows;
 pub use find::{FramesFde, frames_c_find};

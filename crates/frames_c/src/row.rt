@@ -3,7 +3,6 @@
 ghost use Rattle.std.specs.Prelude.{◌≡◌, length, true, false};
 ghost use Rattle.frame_parse.specs.Sections.{FdeData};
 ghost use Rattle.frame_rows.specs.RowAt.{IsRowAt};
-ghost use Rattle.frame_rows.specs.Rules.{rule_told, cfa_rule_told};
 ghost use Rattle.unwind_step.specs.Backtrace.{fde_in};
 ghost use Rattle.frames_c.specs.Held.{IsHeld, IsVacant, held_section};
 ghost use Rattle.frames_c.specs.Fdes.{is_there};
@@ -14,9 +13,8 @@ ghost use Rattle.frames_c.specs.Rows.{AreToldRules, IsToldRow, IsRowOf, AnswersR
 use crate::handle::SectionHandle;
 use crate::share::LoadedSection;
 use frame_parse::Fde;
-use frame_rows::{CfaRule, Row, Rule, row_at};
+use frame_rows::{CfaRuleWith, Row, RuleWith, row_at};
 use std::alloc::Global;
-use unwind_step::RowSource;
 
 /// How the CFA and the columns 0 to 16 are found: for each the kind of its rule, and its number.
 #[repr(C)]
@@ -31,19 +29,19 @@ pub struct FramesRow {
 
 /// The kind of a rule, and its number.
 #[inline(always)]
-fn told(rule: &Rule<'_>) -> (u64, u64)
-    ensures kind { result.0 ≡ rule_kind (rule_told (λ e. e.bytes.now) rule.now) }
-    ensures number { result.1 ≡ rule_number (rule_told (λ e. e.bytes.now) rule.now) }
+pub(crate) fn told<E>(rule: &RuleWith<E>) -> (u64, u64)
+    ensures kind { result.0 ≡ rule_kind rule.now }
+    ensures number { result.1 ≡ rule_number rule.now }
 {
     match rule {
-        Rule::Unset => (0, 0),
-        Rule::Undefined => (1, 0),
-        Rule::Same => (2, 0),
-        Rule::Offset { by } => (3, *by),
-        Rule::ValOffset { by } => (4, *by),
-        Rule::Register { column } => (5, *column as u64),
-        Rule::Expression { .. } => (6, 0),
-        Rule::ValExpression { .. } => (7, 0),
+        RuleWith::Unset => (0, 0),
+        RuleWith::Undefined => (1, 0),
+        RuleWith::Same => (2, 0),
+        RuleWith::Offset { by } => (3, *by),
+        RuleWith::ValOffset { by } => (4, *by),
+        RuleWith::Register { column } => (5, *column as u64),
+        RuleWith::Expression { .. } => (6, 0),
+        RuleWith::ValExpression { .. } => (7, 0),
     }
 }
 
@@ -65,15 +63,15 @@ fn tell_columns(row: &Row<'_>, kinds: &mut [u64], numbers: &mut [u64])
 }
 
 /// The kind of the CFA's rule, its column and its offset.
-fn told_cfa(rule: &CfaRule<'_>) -> (u64, u64, u64)
-    ensures kind { result.0 ≡ cfa_rule_kind (cfa_rule_told (λ e. e.bytes.now) rule.now) }
-    ensures column { result.1 ≡ cfa_rule_column (cfa_rule_told (λ e. e.bytes.now) rule.now) }
-    ensures offset { result.2 ≡ cfa_rule_offset (cfa_rule_told (λ e. e.bytes.now) rule.now) }
+pub(crate) fn told_cfa<E>(rule: &CfaRuleWith<E>) -> (u64, u64, u64)
+    ensures kind { result.0 ≡ cfa_rule_kind rule.now }
+    ensures column { result.1 ≡ cfa_rule_column rule.now }
+    ensures offset { result.2 ≡ cfa_rule_offset rule.now }
 {
     match rule {
-        CfaRule::Missing => (0, 0, 0),
-        CfaRule::Offset { column, by } => (1, *column as u64, *by),
-        CfaRule::Expression { .. } => (2, 0, 0),
+        CfaRuleWith::Missing => (0, 0, 0),
+        CfaRuleWith::Offset { column, by } => (1, *column as u64, *by),
+        CfaRuleWith::Expression { .. } => (2, 0, 0),
     }
 }
 
@@ -103,19 +101,6 @@ pub(crate) fn row_in(section: &LoadedSection, pc: u64, out: &mut FramesRow) -> b
         None => false,
         Some(fde) => {
             write_row(&fde, pc, out);
-            true
-        }
-    }
-}
-
-/// Writes the row of an address by what tells the rows of a section.
-pub(crate) fn row_by<S: RowSource>(source: &S, pc: u64, out: &mut FramesRow) -> bool
-    ensures { AnswersRow (fde_in pc (S.section source.now)) pc result out.old out.new }
-{
-    match source.row_of(pc) {
-        None => false,
-        Some(found) => {
-            tell(&found.row, out);
             true
         }
     }

@@ -1,30 +1,40 @@
 //! What the handle of a row table leads to.
 
 ghost use Rattle.std.specs.Prelude.{◌≡◌, ◌⊎◌, IfOk, IfErr};
-ghost use Rattle.row_table.specs.Tables.{HasTooManyRows};
+ghost use Rattle.std.specs.List.{AllZip};
+ghost use Rattle.row_table.specs.Tables.{IsRowTableOf, HasTooManyRows};
+ghost use Rattle.unwind_step.specs.Backtrace.{fde_in};
+ghost use Rattle.frames_c.specs.Rows.{IsToldPlaced, AnswersRow};
 
+use crate::row::FramesRow;
 use crate::share::SectionShare;
+use crate::told_rows::told_rows;
+use frame_parse::Section;
 use row_table::{RowTable, SectionRows, TableFault};
 use std::alloc::{AllocError, Global};
 use std::marker::Model;
 use std::sync::Arc;
 
-/// A share of a section, and the table of its rows.
+/// A share of a section, the table of its rows, and those of them that differ as C is told.
 #[derive(Drop)]
 pub struct RowsOfSection {
     share: SectionShare,
     table: RowTable,
+    told: Vec<FramesRow>,
 }
 
 impl Model for RowsOfSection {
+    ghost use Rattle.std.specs.List.{AllZip};
     ghost use Rattle.frame_parse.specs.Sections.{SectionData};
     ghost use Rattle.row_table.specs.Tables.{IsRowTableOf};
+    ghost use Rattle.frames_c.specs.Rows.{IsToldPlaced};
 
     ghost Value = { SectionData };
 
     ghost view = { λ r. r.share };
 
-    ghost invariant = { λ r. IsRowTableOf r.share r.table };
+    ghost invariant = { λ r. IsRowTableOf r.share r.table
+        × AllZip IsToldPlaced r.table.rows.distinct r.told.items };
 }
 
 impl RowsOfSection {
@@ -35,7 +45,8 @@ impl RowsOfSection {
             ⊎ HasTooManyRows share) }
     {
         let table = RowTable::of(alloc, share.loaded().section())?;
-        Ok(RowsOfSection { share, table })
+        let told = told_rows(alloc, table.distinct())?;
+        Ok(RowsOfSection { share, table, told })
     }
 
     /// The section by its table.
@@ -43,6 +54,35 @@ impl RowsOfSection {
         ensures { result ≡ self.now }
     {
         SectionRows::new(self.share.loaded().section(), &self.table)
+    }
+
+    /// Writes the row of an address, where an FDE covers it.
+    pub(crate) fn row_in(&self, pc: u64, out: &mut FramesRow) -> bool
+        ensures { AnswersRow (fde_in pc self.now) pc result out.old out.new }
+    {
+        let section = self.share.loaded().section();
+        copy_row(section, &self.table, &self.told, pc, out)
+    }
+}
+
+/// Writes the row of an address of a section, out of those that its table has.
+fn copy_row(
+    section: &Section,
+    table: &RowTable,
+    told: &[FramesRow],
+    pc: u64,
+    out: &mut FramesRow,
+) -> bool
+    requires table { IsRowTableOf section.now table.now }
+    requires told { AllZip IsToldPlaced table.now.rows.distinct told.now }
+    ensures { AnswersRow (fde_in pc section.now) pc result out.old out.new }
+{
+    match table.number_at(section, pc) {
+        None => false,
+        Some(number) => {
+            *out = told[number];
+            true
+        }
     }
 }
 
@@ -84,5 +124,12 @@ impl TableShare {
         ensures { result ≡ self.now }
     {
         self.rows.rows()
+    }
+
+    /// Writes the row of an address, where an FDE covers it.
+    pub(crate) fn row_in(&self, pc: u64, out: &mut FramesRow) -> bool
+        ensures { AnswersRow (fde_in pc self.now) pc result out.old out.new }
+    {
+        self.rows.row_in(pc, out)
     }
 }

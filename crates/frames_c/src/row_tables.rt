@@ -11,7 +11,7 @@ ghost use Rattle.frames_c.specs.RowTables.{table_fault_told, AnswersRowTable};
 
 use crate::handle::SectionHandle;
 use crate::memory::MemoryHandle;
-use crate::row::{FramesRow, row_by};
+use crate::row::FramesRow;
 use crate::row_handle::RowTableHandle;
 use crate::row_share::{RowsOfSection, TableShare};
 use crate::share::SectionShare;
@@ -129,7 +129,7 @@ pub extern "C" fn frames_c_row_table_row(
     ensures row { AnswersRow (fde_in pc (held_section table.held)) pc result out.old out.new }
 {
     let share = table.open(alloc);
-    let found = row_by(&share.rows(), pc, out);
+    let found = share.row_in(pc, out);
     *back = RowTableHandle::of(share);
     found
 }
