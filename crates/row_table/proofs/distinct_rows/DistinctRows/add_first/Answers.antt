@@ -1,4 +1,4 @@
-use Rattle.std.proofs.Common.{List, Vec, Global, sym, ap, subst, ◌∙◌, ◌++◌, ◌∷◌, [], length, length-append, arith, ℕ, ◌≡◌, ◌≤◌, ◌<◌, ◌+◌}
+use Rattle.std.proofs.Common.{List, Vec, Global, sym, ap, subst, ◌∙◌, ◌++◌, ◌∷◌, [], length, length-append, arith, ℕ, ◌≡◌, ◌<◌, ◌+◌}
 use Rattle.frame_rows.specs.declared.placed_row.PlacedRow.{PlacedRow}
 use Rattle.row_table.specs.Numbering.{first_rows, IsNoneOfTheFirst}
 use Rattle.row_table.proofs.Numbers.{longer_first}
