@@ -94,7 +94,7 @@ settles_loads t slots id me s r deep at small =
       keeps,
       tt,
       rw (same_words, same_views) r,
-      (refl, (let a = part_of_total (λ u. u.budget.allowance) s.views id me.0 at in let o = r.memory.callers.room in omega (arith, a, o)), λ stands alone. whole t (memory_of t s.words) s.views r.memory.history r.memory.callers id me.0 at alone stands),
+      (refl, (let a = part_of_total (λ u. u.budget.allowance) s.views id me.0 at in let o = r.memory.callers.room in omega (arith, a, o)), (let a = part_of_total (λ u. u.budget.credit) s.views id me.0 at in let o = r.memory.callers.counted in omega (arith, a, o)), λ stands alone. whole t (memory_of t s.words) s.views r.memory.history r.memory.callers id me.0 at alone stands),
     )
 
 first_word : (words : List ℕ) (n : ℕ) → get_elem? words 0 ≡ some n → get_or words 0 0 ≡ n

@@ -1,5 +1,5 @@
 -- The versions that a caller keeps plainly are those of its locks, after a lock is let go.
-use Rattle.std.proofs.Common.{◌≡◌, ◌≢◌, ℕ, ◌+◌, ◌*◌, ◌^◌, ◌<◌, ◌%◌, List, [], ◌∷◌, length, length-append, get_or, map, sym, refl, ap, ◌∙◌, subst, arith, Bool, true, false, Option, Some, None, IfSome, option_map, eq-eqb, ne_eqb, if◌then◌else◌}
+use Rattle.std.proofs.Common.{◌≡◌, ◌≢◌, ℕ, ◌+◌, ◌-◌, ◌*◌, ◌^◌, ◌<◌, ◌%◌, List, [], ◌∷◌, length, length-append, get_or, map, sym, refl, ap, ◌∙◌, subst, arith, Bool, true, false, Option, Some, None, IfSome, option_map, eq-eqb, ne_eqb, if◌then◌else◌}
 use native.Mathlib.Decide.{ℕ_discrete}
 use Rattle.reg_model.specs.declared.answer.Update.{Update}
 use Rattle.word_rule.specs.declared.log.Holding.{Holding}
@@ -45,14 +45,15 @@ versions_left versions n held kept k = go (ℕ_discrete k n)
     go (no ne) = rw (others_left n k held ne) (kept k)
 
 -- a caller that let go of a node
-pub caller_released : (left seen : ℕ) (versions : List ℕ) (names : Names) (me me' : Seated) (n : ℕ) → me'.0 ≡ after_node_release_same n me.0 → me'.1 ≡ me.1 → IsCaller left seen versions names me → IsCaller left seen versions names me'
-caller_released left seen versions names me me' n is same c = subst (λ (v : Log). IsCaller left seen versions names (v, me'.1)) (sym is) (record {
+pub caller_released : (left spare seen : ℕ) (versions : List ℕ) (names : Names) (me me' : Seated) (n : ℕ) → me'.0 ≡ after_node_release_same n me.0 → me'.1 ≡ me.1 → IsCaller left spare seen versions names me → IsCaller left spare seen versions names me'
+caller_released left spare seen versions names me me' n is same c = subst (λ (v : Log). IsCaller left spare seen versions names (v, me'.1)) (sym is) (record {
   bare = same ∙ c.bare;
   role = c.role;
   seen_all = c.seen_all;
   allowed = c.allowed;
   most = c.most;
   credit = c.credit;
+  counted = c.counted;
   names_are = c.names_are;
   wide = c.wide;
   loader = c.loader;
@@ -75,17 +76,18 @@ versions_settled update versions v kept = go (is_lawful v update)
     go false = versions_mapped (exchange nothing_reached nothing_reached) (λ _. refl) (λ _. refl) versions v.holdings.held kept
 
 -- a caller that let go of a node with the next version
-pub caller_let_go : (left seen : ℕ) (versions : List ℕ) (names : Names) (me me' : Seated) (n : ℕ) → me'.0 ≡ after_node_release n me.0 → me'.1 ≡ me.1 → 64 * left < me.0.budget.credit → IsCaller left seen versions names me → IsCaller left seen versions names me'
-caller_let_go left seen versions names me me' n is bare some_credit c =
+pub caller_let_go : (left spare seen : ℕ) (versions : List ℕ) (names : Names) (me me' : Seated) (n : ℕ) → me'.0 ≡ after_node_release n me.0 → me'.1 ≡ me.1 → 64 * left < me.0.budget.credit → IsCaller left spare seen versions names me → IsCaller left (spare - 1) seen versions names me'
+caller_let_go left spare seen versions names me me' n is bare some_credit c =
     let u : Log = record me.0 { holdings = (settle None me.0).holdings } in
     let same : me'.0 ≡ record (after_node_release_same n u) { budget = after_spending u.budget } = is ∙ ap (λ (z : Log). record (after_node_release_same n z) { budget = after_spending z.budget }) (settle_is None me.0) in
-    subst (λ (z : Log). IsCaller left seen versions names (z, me'.1)) (sym same) (record {
+    subst (λ (z : Log). IsCaller left (spare - 1) seen versions names (z, me'.1)) (sym same) (record {
       bare = bare ∙ c.bare;
       role = c.role;
       seen_all = c.seen_all;
       allowed = c.allowed;
       most = c.most;
-      credit = omega (arith, some_credit);
+      credit = (let e = c.credit in omega (arith, some_credit, e));
+      counted = (let f = c.counted in omega (arith, f));
       names_are = c.names_are;
       wide = c.wide;
       loader = c.loader;
@@ -93,11 +95,11 @@ caller_let_go left seen versions names me me' n is bare some_credit c =
     })
 
 -- a caller that stored in a node
-pub caller_stored : (left seen : ℕ) (versions : List ℕ) (names : Names) (me me' : Seated) (n at value : ℕ) → me'.0 ≡ after_node_store n at value me.0 → me'.1 ≡ me.1 → IsCaller left seen versions names me → IsCaller left seen versions names me'
-caller_stored left seen versions names me me' n at value is bare c =
-    subst (λ (z : Log). IsCaller left seen versions names (z, me'.1)) (sym is) (go (frees n at value me.0))
+pub caller_stored : (left spare seen : ℕ) (versions : List ℕ) (names : Names) (me me' : Seated) (n at value : ℕ) → me'.0 ≡ after_node_store n at value me.0 → me'.1 ≡ me.1 → IsCaller left spare seen versions names me → IsCaller left spare seen versions names me'
+caller_stored left spare seen versions names me me' n at value is bare c =
+    subst (λ (z : Log). IsCaller left spare seen versions names (z, me'.1)) (sym is) (go (frees n at value me.0))
   where
-    stored : IsCaller left seen versions names (stored_log n at value me.0, me'.1)
+    stored : IsCaller left spare seen versions names (stored_log n at value me.0, me'.1)
     stored = record {
       bare = bare ∙ c.bare;
       role = c.role;
@@ -105,21 +107,23 @@ caller_stored left seen versions names me me' n at value is bare c =
       allowed = c.allowed;
       most = c.most;
       credit = c.credit;
+      counted = c.counted;
       names_are = c.names_are;
       wide = c.wide;
       loader = c.loader;
       nodes = versions_mapped (storing n at value) (storing_node n at value) (storing_version n at value) versions me.0.holdings.held c.nodes;
     }
 
-    go : (b : Bool) → IsCaller left seen versions names ((if b then settle None (stored_log n at value me.0) else stored_log n at value me.0), me'.1)
+    go : (b : Bool) → IsCaller left spare seen versions names ((if b then settle None (stored_log n at value me.0) else stored_log n at value me.0), me'.1)
     go false = stored
-    go true = subst (λ (z : Log). IsCaller left seen versions names (z, me'.1)) (sym (settle_is None (stored_log n at value me.0))) (record {
+    go true = subst (λ (z : Log). IsCaller left spare seen versions names (z, me'.1)) (sym (settle_is None (stored_log n at value me.0))) (record {
       bare = bare ∙ c.bare;
       role = c.role;
       seen_all = c.seen_all;
       allowed = c.allowed;
       most = c.most;
       credit = c.credit;
+      counted = c.counted;
       names_are = c.names_are;
       wide = c.wide;
       loader = c.loader;
@@ -127,16 +131,17 @@ caller_stored left seen versions names me me' n at value is bare c =
     })
 
 -- a caller that committed an update
-pub caller_committed : (left seen seen' : ℕ) (versions : List ℕ) (names : Names) (me me' : Seated) (u : Update) (found : ℕ) → AfterCommit u found me.0 me'.0 → me'.1 ≡ me.1 → left < me.0.budget.allowance → seen' ≡ found % 4294967296 + 1 → IsCaller left seen versions names me → IsCaller left seen' versions names me'
-caller_committed left seen seen' versions names me me' u found (before, r, (tells, done, is)) bare some_due now c =
+pub caller_committed : (left spare seen seen' : ℕ) (versions : List ℕ) (names : Names) (me me' : Seated) (u : Update) (found : ℕ) → AfterCommit u found me.0 me'.0 → me'.1 ≡ me.1 → left < me.0.budget.allowance → seen' ≡ found % 4294967296 + 1 → IsCaller left spare seen versions names me → IsCaller left spare seen' versions names me'
+caller_committed left spare seen seen' versions names me me' u found (before, r, (tells, done, is)) bare some_due now c =
     let same : me'.0 ≡ after_update u before r (record me.0 { holdings = (settle (Some u) me.0).holdings }) = is ∙ ap (after_update u before r) (settle_is (Some u) me.0) in
-    subst (λ (z : Log). IsCaller left seen' versions names (z, me'.1)) (sym same) (record {
+    subst (λ (z : Log). IsCaller left spare seen' versions names (z, me'.1)) (sym same) (record {
       bare = bare ∙ c.bare;
       role = c.role;
       seen_all = (let n = tells.number in let l = length-append before (u ∷ []) in omega (arith, now, n, l));
       allowed = omega (arith, some_due);
       most = c.most;
       credit = c.credit;
+      counted = c.counted;
       names_are = c.names_are;
       wide = c.wide;
       loader = c.loader;

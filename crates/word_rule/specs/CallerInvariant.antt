@@ -6,7 +6,7 @@ use Rattle.word_rule.specs.declared.log.Holding.{Holding}
 use Rattle.word_rule.specs.declared.log.Log.{Log}
 use Rattle.word_rule.specs.declared.log.Lineage.{Lineage}
 use Rattle.word_rule.specs.declared.lineage.Names.{Names}
-use Rattle.word_rule.specs.Places.{ALLOWANCE, CALL_CREDIT}
+use Rattle.word_rule.specs.Places.{ALLOWANCE, CALL_CREDIT, CREDIT}
 use Rattle.word_rule.specs.Held.{held_of}
 use Rattle.word_rule.specs.Plays.{Seated}
 
@@ -25,17 +25,19 @@ IsVersionAt versions n h =
 abbrev pub AreVersionsOf : List ℕ → List Holding → Type 0
 AreVersionsOf versions held = (n : ℕ) → IfSome (held_of n held) (IsVersionAt versions n)
 
-pub record IsCaller (left seen : ℕ) (versions : List ℕ) (names : Names) (me : Seated) : Type 0 where
-  pub bare : me.1 ≡ []
-  pub role : me.0.role ≡ role.Caller
-  pub seen_all : seen ≡ length me.0.past
-  pub allowed : left ≤ me.0.budget.allowance
-  pub most : left ≤ ALLOWANCE
-  pub credit : CALL_CREDIT * left ≤ me.0.budget.credit
-  pub names_are : AreNamesOf names me.0.lineage
-  pub wide : length versions ≡ me.0.terms.nodes + 1
-  pub loader : IfSome me.0.loader (λ h. (h.version ≡ slice_index versions 0) × (h.version < 2 ^ 63))
-  pub nodes : AreVersionsOf versions me.0.holdings.held
+pub record IsCaller (left spare seen : ℕ) (versions : List ℕ) (names : Names) (me : Seated) : Type 0
+  where
+    pub bare : me.1 ≡ []
+    pub role : me.0.role ≡ role.Caller
+    pub seen_all : seen ≡ length me.0.past
+    pub allowed : left ≤ me.0.budget.allowance
+    pub most : left ≤ ALLOWANCE
+    pub credit : me.0.budget.credit ≡ CALL_CREDIT * left + spare
+    pub counted : me.0.budget.credit ≤ CREDIT
+    pub names_are : AreNamesOf names me.0.lineage
+    pub wide : length versions ≡ me.0.terms.nodes + 1
+    pub loader : IfSome me.0.loader (λ h. (h.version ≡ slice_index versions 0) × (h.version < 2 ^ 63))
+    pub nodes : AreVersionsOf versions me.0.holdings.held
 
 -- A note's log has what its maker had seen, and names; it may do nothing and has done nothing.
 pub record IsNote (u : Log) : Type 0 where

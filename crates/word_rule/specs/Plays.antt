@@ -7,7 +7,7 @@ use Rattle.tree_shape.specs.NodeData.{NodeData}
 use Rattle.word_rule.specs.declared.log.Log.{Log}
 use Rattle.word_rule.specs.declared.log.LoaderHolding.{LoaderHolding}
 use Rattle.word_rule.specs.declared.log.Ask.{Ask}
-use Rattle.word_rule.specs.Places.{ALLOWANCE, node_place}
+use Rattle.word_rule.specs.Places.{ALLOWANCE, CREDIT, node_place}
 use Rattle.word_rule.specs.Sights.{after_node_begin, after_node_version, after_node_load}
 use Rattle.word_rule.specs.Sights.{after_copy_load}
 use Rattle.word_rule.specs.Steps.{after_node_lock, after_head_load, after_copy_store, AfterPublish}
@@ -66,11 +66,11 @@ releases st me found me' = (me' ≡ (after_loader_release me.0, me.1)) × WasLoc
 abbrev pub releases_same : Stepped → Seated → ℕ → Seated → Type 0
 releases_same st me found me' = (me' ≡ (after_loader_release_same me.0, me.1)) × WasLocked me found
 
--- What a caller that was joined into another is told by a load of the clock: how many calls are
--- allowed, and, where it is alone, that its log has all that was ever done.
+-- What a caller into which another was joined is told by a load of the clock: how many calls and
+-- releases are allowed, and, where it is alone, that its log has all that was ever done.
 abbrev pub confirms : Stepped → Seated → ℕ → Seated → Type 0
 confirms st me found me' =
-    (me' ≡ me) × (me.0.budget.allowance ≤ ALLOWANCE)
+    (me' ≡ me) × (me.0.budget.allowance ≤ ALLOWANCE) × (me.0.budget.credit ≤ CREDIT)
     × (is_spent me.0.role ≡ false → IsAlone me.0.lineage → IsWhole me.0)
 
 -- a word of a copy was loaded

@@ -9,11 +9,16 @@ use crate::log::Log;
 use atomic_table::Seat;
 use std::marker::Model;
 
+/// The releases of one update call.
+const CALL_CREDIT: u64 = 64;
+
 /// One that steps on the words: what it may still do, and what it has seen.
 #[derive(Drop)]
 pub struct Caller {
     pub(crate) seat: Seat<(), Log>,
     pub(crate) left: u32,
+    /// The releases that it may make beside those of the update calls that are left.
+    pub(crate) spare: u64,
     pub(crate) seen: u32,
     /// The versions at which it took its locks: the loader's, and then the nodes'.
     pub(crate) versions: Vec<u64>,
@@ -29,7 +34,7 @@ impl Model for Caller {
 
     ghost view = { λ c. record { table = c.seat.table_id; left = c.left; log = c.seat.me.0 } };
 
-    ghost invariant = { λ c. IsCaller c.left c.seen c.versions.items c.names c.seat.me };
+    ghost invariant = { λ c. IsCaller c.left c.spare c.seen c.versions.items c.names c.seat.me };
 }
 
 /// What a caller had seen, to be told to another.
@@ -76,6 +81,14 @@ impl Caller {
         self.left
     }
 
+    /// How many releases it may make beside those of the update calls that it may still begin. An
+    /// update call that was begun makes at most 64, and so does each try of one.
+    pub fn spare(&self) -> u64
+        ensures { result ≡ surplus self.now }
+    {
+        self.spare
+    }
+
     /// Whether every other caller and every note that was ever made of these words was joined or
     /// learnt into it.
     pub fn alone(&self) -> bool
@@ -94,6 +107,7 @@ impl Caller {
             return false;
         }
         self.left -= 1;
+        self.spare += CALL_CREDIT;
         true
     }
 }

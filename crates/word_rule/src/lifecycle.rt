@@ -20,6 +20,9 @@ use std::snapshot::Snapshot;
 /// The update calls of one registry.
 const ALLOWANCE: u32 = 1 << 26;
 
+/// The releases of its first caller beside those of its update calls.
+const SPARE: u64 = 1 << 60;
+
 /// What the lower half of the clock counts up to.
 const LOWER: u64 = 1 << 32;
 
@@ -57,6 +60,7 @@ impl Words {
         let me = Caller {
             seat,
             left: ALLOWANCE,
+            spare: SPARE,
             seen: 0,
             versions,
             names,
@@ -78,6 +82,7 @@ impl Words {
         let Caller {
             seat,
             left: _,
+            spare: _,
             seen: _,
             versions: _,
             names: _,

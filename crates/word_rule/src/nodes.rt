@@ -279,6 +279,7 @@ impl Words {
             (λ h. IsLockedAt h.version result) }
     {
         let version = me.versions[node as usize + 1];
+        me.spare -= 1;
         self.release_for::<Brand>(&mut me.seat, node, version)
     }
 

@@ -1,7 +1,7 @@
 //! Callers and notes that come and go.
 ghost use Rattle.std.specs.Prelude.{◌≡◌, ◌≢◌, ◌+◌, ◌-◌, ◌*◌, ◌^◌, ◌<◌, ◌≤◌, [], length, None};
 ghost use Rattle.std.specs.Prelude.{OnErr, IfOk, IfErr, OnOk, false};
-ghost use Rattle.word_rule.specs.Places.{ALLOWANCE, CALL_CREDIT};
+ghost use Rattle.word_rule.specs.Places.{ALLOWANCE, CALL_CREDIT, CREDIT};
 ghost use Rattle.word_rule.specs.Logs.{is_spent, after_split, split_off, after_note, note_of};
 ghost use Rattle.word_rule.specs.Logs.{after_join, after_learn};
 ghost use Rattle.word_rule.specs.Callers.{IsAlone, IsWhole};
@@ -58,9 +58,12 @@ impl Words {
         let names = me.names.fork(alloc)?;
         let seat = self.split_seat::<Brand>(&mut me.seat, me.left, give);
         me.left -= give;
+        let half = me.spare / 2;
+        me.spare -= half;
         Ok(Caller {
             seat,
             left: give,
+            spare: half,
             seen: me.seen,
             versions,
             names,
@@ -86,6 +89,7 @@ impl Words {
         ensures same { (seat.new.table_id ≡ seat.old.table_id) × (seat.new.id ≡ seat.old.id)
             × (seat.new.me ≡ seat.old.me) }
         ensures allowance { seat.old.me.0.budget.allowance ≤ ALLOWANCE }
+        ensures credit { seat.old.me.0.budget.credit ≤ CREDIT }
         ensures whole { is_spent seat.old.me.0.role ≡ false → IsAlone seat.old.me.0.lineage
             → IsWhole seat.old.me.0 }
     {
@@ -112,6 +116,7 @@ impl Words {
         let Caller {
             seat,
             left,
+            spare,
             seen,
             versions,
             names,
@@ -120,6 +125,7 @@ impl Words {
             return Err(Caller {
                 seat,
                 left,
+                spare,
                 seen,
                 versions,
                 names,
@@ -128,6 +134,7 @@ impl Words {
         self.table.shared.join_seat::<Joins>(&mut me.seat, seat);
         self.confirm(&mut me.seat);
         me.left += left;
+        me.spare += spare;
         me.seen = me.seen.max(seen);
         Ok(())
     }

@@ -215,6 +215,7 @@ impl Words {
         ensures before { IfSome me.old.log.loader (λ h. IsLockedAt h.version result) }
     {
         let next = me.versions[0] + VERSION;
+        me.spare -= 1;
         self.table
             .shared
             .swap::<Releases>(&mut me.seat, LOADER_WORD, next)

@@ -11,6 +11,7 @@ invariant_of-result c = let i = c.other.invariant in record {
   allowed = i.allowed;
   most = i.most;
   credit = i.credit;
+  counted = i.counted;
   names_are = (c.in-Err.ensures.err _ _ c.me.invariant.names_are i.names_are).1;
   wide = i.wide;
   loader = i.loader;
@@ -25,6 +26,7 @@ invariant_of-me c = let i = c.me.invariant in record {
   allowed = i.allowed;
   most = i.most;
   credit = i.credit;
+  counted = i.counted;
   names_are = (c.in-Err.ensures.err _ _ i.names_are c.other.invariant.names_are).0;
   wide = i.wide;
   loader = i.loader;

@@ -18,6 +18,7 @@ invariant_of-me c = let i = c.me.invariant in record {
   allowed = i.allowed;
   most = i.most;
   credit = i.credit;
+  counted = i.counted;
   names_are = (c.in-Err.ensures.err _ _ i.names_are c.note.invariant.names_are).0;
   wide = i.wide;
   loader = i.loader;
