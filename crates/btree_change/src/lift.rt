@@ -105,7 +105,7 @@ fn load_height(words: &Words, me: &mut Caller, root: &Held, pc: u64)
 }
 
 /// Gives back the one free node that was taken.
-fn give_back(words: &Words, me: &mut Caller, node: u32)
+fn give_back<L: Locking>(locking: &L, words: &Words, me: &mut Caller, node: u32)
     requires table { me.old.table ≡ words.now.table }
     requires inside { node < words.now.terms.nodes }
     requires held { HoldsOneFree node me.old.log.holdings }
@@ -115,7 +115,7 @@ fn give_back(words: &Words, me: &mut Caller, node: u32)
     exchange_decided();
     // By this load it is known that no lock of it is marked live.
     words.load_node(me, node, LEVEL);
-    give_free(words, me, node);
+    give_free(locking, words, me, node);
 }
 
 /// Takes two free nodes for the full root, or None where it can't be split: it has the highest
@@ -144,11 +144,11 @@ pub(crate) fn room_for_root<L: Locking>(
     match room_for(locking, words, me, root, pc) {
         Ok(Some(right)) => Ok(Some(TwoNodes { left, right })),
         Ok(None) => {
-            give_back(words, me, left);
+            give_back(locking, words, me, left);
             Ok(None)
         }
         Err(busy) => {
-            give_back(words, me, left);
+            give_back(locking, words, me, left);
             Err(busy)
         }
     }

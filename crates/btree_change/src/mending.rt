@@ -34,7 +34,7 @@ const LINK: u32 = 6;
 const FREE: u64 = 2;
 
 /// Gives back a node that is out, where all else that is held has settled.
-fn give_back(words: &Words, me: &mut Caller, node: u32)
+fn give_back<L: Locking>(locking: &L, words: &Words, me: &mut Caller, node: u32)
     requires table { me.old.table ≡ words.now.table }
     requires inside { node < words.now.terms.nodes }
     requires root { IsSome (held_of 0 me.old.log.holdings.held) }
@@ -45,7 +45,7 @@ fn give_back(words: &Words, me: &mut Caller, node: u32)
     ensures { ReturnsNode node me.old me.new }
 {
     exchange_decided();
-    give_free(words, me, node);
+    give_free(locking, words, me, node);
 }
 
 /// Writes what two children hold into the left one, and makes the right one free: with that it has
@@ -76,7 +76,12 @@ fn join_into_left(words: &Words, me: &mut Caller, x: &Siblings, content: &Node)
 
 /// Joins two children that fit into one node: the left one holds both, and the right one leaves the
 /// tree and is given back.
-pub(crate) fn join(words: &Words, me: &mut Caller, x: &Siblings) -> Held
+pub(crate) fn join<L: Locking>(
+    locking: &L,
+    words: &Words,
+    me: &mut Caller,
+    x: &Siblings,
+) -> Held
     requires table { me.old.table ≡ words.now.table }
     requires terms { me.old.log.terms ≡ words.now.terms }
     requires held { HoldsSiblings words.now.terms x.now me.old.log.holdings }
@@ -89,7 +94,7 @@ pub(crate) fn join(words: &Words, me: &mut Caller, x: &Siblings) -> Held
     let node = x.left.node;
     let content = join_pair(&x.left.content, &x.right.content);
     join_into_left(words, me, x, &content);
-    give_back(words, me, x.right.node);
+    give_back(locking, words, me, x.right.node);
     words.load_node(me, node, LEVEL);
     Held {
         node,
@@ -227,7 +232,12 @@ fn sink_into_root(words: &Words, me: &mut Caller, x: &Siblings, content: &Node)
 
 /// The root takes the place of its only two children, which fit together: both leave the tree and
 /// are given back.
-pub(crate) fn sink(words: &Words, me: &mut Caller, x: &Siblings) -> Held
+pub(crate) fn sink<L: Locking>(
+    locking: &L,
+    words: &Words,
+    me: &mut Caller,
+    x: &Siblings,
+) -> Held
     requires table { me.old.table ≡ words.now.table }
     requires terms { me.old.log.terms ≡ words.now.terms }
     requires held { HoldsSiblings words.now.terms x.now me.old.log.holdings }
@@ -240,8 +250,8 @@ pub(crate) fn sink(words: &Words, me: &mut Caller, x: &Siblings) -> Held
 {
     let content = sink_root(&x.above.at.content, &x.left.content, &x.right.content);
     sink_into_root(words, me, x, &content);
-    give_back(words, me, x.left.node);
-    give_back(words, me, x.right.node);
+    give_back(locking, words, me, x.left.node);
+    give_back(locking, words, me, x.right.node);
     words.load_node(me, 0, LEVEL);
     Held {
         node: 0,

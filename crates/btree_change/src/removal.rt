@@ -98,13 +98,13 @@ fn mend<L: Locking>(locking: &L, words: &Words, me: &mut Caller, x: Siblings, pc
         return leave(locking, words, me, changed(x.above), at);
     }
     if sinks(&x) {
-        let at = sink(words, me, &x);
+        let at = sink(locking, words, me, &x);
         return Way {
             at,
             root_changed: false,
         };
     }
-    let at = join(words, me, &x);
+    let at = join(locking, words, me, &x);
     leave(locking, words, me, changed(x.above), at)
 }
 

@@ -9,7 +9,6 @@ ghost use Rattle.node_store.specs.Free.{GivesFree, IsFreeTaken, IsSettled, Leave
 ghost use Rattle.node_store.specs.Free.{after_setting};
 
 use crate::locking::{Busy, Locking};
-use crate::locks::wake_after;
 use crate::reading::FREE;
 use word_rule::exchange::exchange_decided;
 use word_rule::{Caller, LockId, Words};
@@ -65,7 +64,7 @@ fn set_word(words: &Words, me: &mut Caller, node: u32, at: u32, value: u64)
 
 /// Puts a node that the caller holds and has out onto the free list, as the first one, and lets go
 /// of it.
-pub fn give_free(words: &Words, me: &mut Caller, node: u32)
+pub fn give_free<L: Locking>(locking: &L, words: &Words, me: &mut Caller, node: u32)
     requires table { me.old.table ≡ words.now.table }
     requires inside { node < words.now.terms.nodes }
     requires root { IsSome (held_of 0 me.old.log.holdings.held) }
@@ -85,6 +84,5 @@ pub fn give_free(words: &Words, me: &mut Caller, node: u32)
     let head = words.load_head(me);
     words.store_node(me, node, LINK, head);
     words.store_head(me, node as u64);
-    let lock = LockId::Node { node };
-    wake_after(words, lock, words.release(me, lock));
+    locking.let_go(words, me, LockId::Node { node });
 }

@@ -37,7 +37,7 @@ pub(crate) fn gives(words: &Words, me: &mut Caller, node: u32)
     ensures holds { HoldsOut me.new.log }
     ensures out { me.new.log.holdings.out ≡ all_but node me.old.log.holdings.out }
 {
-    give_free(words, me, node);
+    give_free(&Once, words, me, node);
 }
 
 // Takes the three free nodes of four, and finds no other.

@@ -8,17 +8,17 @@ use Rattle.node_store.proofs.Giving.{given_me, given_surplus, gone_after, head_a
 use Rattle.node_store.proofs.free.give_free.Goals as goal
 
 pub set_word-requires-2-clause-held : goal.set_word-requires-2-clause-held
-set_word-requires-2-clause-held c =
+set_word-requires-2-clause-held g c =
     subst (λ (k : CallerData). IsSome (held_of c.args.node k.log.holdings.held)) (sym c.set_word.ensures.log)
     (held_then c.args.node c.args.me.now.log c.requires.root c.requires.held c.requires.out c.set_word.ensures.holder c.set_word.ensures.out)
 
 pub set_word-requires-2-clause-out : goal.set_word-requires-2-clause-out
-set_word-requires-2-clause-out c =
+set_word-requires-2-clause-out g c =
     subst (λ (k : CallerData). IsTrue (is_among k.log.holdings.out c.args.node)) (sym c.set_word.ensures.log)
     (out_then c.args.node c.args.me.now.log c.requires.root c.requires.held c.requires.out c.set_word.ensures.holder c.set_word.ensures.out)
 
 pub store_node-requires-clause-may : goal.store_node-requires-clause-may
-store_node-requires-clause-may c =
+store_node-requires-clause-may g c =
     let n = c.args.node in
     let head = c.load_head-head.result in
     let me = c.load_head-head.ensures.log
@@ -28,7 +28,7 @@ store_node-requires-clause-may c =
     (may_link n c.args.me.now.log c.requires.root c.requires.held c.requires.out c.set_word.ensures.holder c.set_word.ensures.out head)
 
 pub store_head-requires-clause-may : goal.store_head-requires-clause-may
-store_head-requires-clause-may c =
+store_head-requires-clause-may g c =
     let n = c.args.node in
     let head = c.load_head-head.result in
     let short : head < 2 ^ 32 = omega (arith, c.load_head-head.ensures.node, c.load_head-head.ensures.few) in
@@ -36,8 +36,8 @@ store_head-requires-clause-may c =
     subst (λ (k : CallerData). MayStoreHead n k.log) (sym linked)
     (may_store_head n c.args.me.now.log c.requires.root c.requires.held c.requires.out c.set_word.ensures.holder c.set_word.ensures.out head short)
 
-pub release-requires-clause-may : goal.release-requires-clause-may
-release-requires-clause-may c =
+pub let_go-requires-clause-may : goal.let_go-requires-clause-may
+let_go-requires-clause-may g c =
     let n = c.args.node in
     let k = c.args.me.now in
     let head = c.load_head-head.result in
@@ -46,8 +46,8 @@ release-requires-clause-may c =
     let given = given_me n head k c.store_node.new.me c.store_head.new.me c.requires.root c.requires.held c.requires.out c.set_word.ensures.holder c.set_word.ensures.out short linked c.store_head.ensures.log c.store_head.ensures.rest in
     subst (λ (z : CallerData). MayRelease n z.log) (sym given) (may_let_go n k.log c.requires.root c.requires.held c.requires.out c.set_word.ensures.holder c.set_word.ensures.out head short)
 
-pub release-requires-clause-surplus : goal.release-requires-clause-surplus
-release-requires-clause-surplus c =
+pub let_go-requires-clause-surplus : goal.let_go-requires-clause-surplus
+let_go-requires-clause-surplus g c =
     let n = c.args.node in
     let k = c.args.me.now in
     let head = c.load_head-head.result in
@@ -57,14 +57,14 @@ release-requires-clause-surplus c =
     subst (λ (z : CallerData). 0 < surplus z) (sym given) (subst (λ m. 0 < m) (sym (given_surplus n head k)) c.requires.surplus)
 
 pub returns : goal.returns
-returns c =
+returns g c =
     let n = c.args.node in
     let k = c.args.me.now in
     let head = c.load_head-head.result in
     let short : head < 2 ^ 32 = omega (arith, c.load_head-head.ensures.node, c.load_head-head.ensures.few) in
     let linked = linked_me n head k c.set_word.new.me c.set_word-2.new.me c.load_head-head.new.me c.store_node.new.me c.set_word.ensures.log c.set_word-2.ensures.log c.load_head-head.ensures.log c.store_node.ensures.log in
     let given = given_me n head k c.store_node.new.me c.store_head.new.me c.requires.root c.requires.held c.requires.out c.set_word.ensures.holder c.set_word.ensures.out short linked c.store_head.ensures.log c.store_head.ensures.rest in
-    let let_go = c.release.ensures.log ∙ ap (λ (z : CallerData). record z { log = after_node_release n z.log }) given in
+    let let_go = c.let_go.ensures ∙ ap (λ (z : CallerData). record z { log = after_node_release n z.log }) given in
     let other = (c.set_word.ensures.out c.requires.out).0 in
     let v = after_give n (after_linking n head k.log) in
     record {
