@@ -1,5 +1,5 @@
 -- The words of a held node, loaded one after another.
-use Rattle.std.proofs.Common.{rules, ◌≡◌, ℕ, zero, suc, ◌+◌, ◌-◌, ◌*◌, ◌<◌, ◌≤◌, Bool, true, false, List, ◌∷◌, length, Option, Some, None, IfSome, IsSome, IsSomeAnd, option_map, get_or, set, if◌then◌else◌, refl, ap, sym, ◌∙◌, subst, arith, get_or-set_same, get_or-set_other, leb-true, nat_le, ◌&&◌, ◌==◌}
+use Rattle.std.proofs.Common.{◌≡◌, ℕ, zero, suc, ◌+◌, ◌-◌, ◌*◌, ◌<◌, ◌≤◌, Bool, true, false, List, ◌∷◌, length, Option, Some, None, IfSome, IsSome, IsSomeAnd, option_map, get_or, set, if◌then◌else◌, refl, ap, sym, ◌∙◌, subst, arith, get_or-set_same, get_or-set_other, leb-true, nat_le, ◌&&◌, ◌==◌}
 use native.Mathlib.Decide.{ℕ_discrete}
 use Rattle.tree_shape.specs.NodeData.{NodeData, Pairs, Entries, Link}
 use Rattle.word_rule.specs.declared.log.Log.{Log}
@@ -9,7 +9,7 @@ use Rattle.word_rule.specs.NodeTells.{HeldTells, HolderTells, IsHeldNode, IsLive
 use Rattle.word_rule.specs.Places.{TOP}
 use Rattle.word_rule.specs.Spelling.{node_word, is_short, pairs_at, entries_at, body_of_kind, spelled, SpellsNode}
 use Rattle.word_rule.specs.CallerData.{CallerData}
-use Rattle.std.proofs.lemmas.Option.{none-some, cond_some}
+use Rattle.std.proofs.lemmas.Option.{cond_some}
 use Rattle.std.proofs.lemmas.Bool.{eqb-true}
 use Rattle.node_store.specs.Holding.{AgreeUpto, AreHeld, IsLiveHeld, ReadsHeld}
 use Rattle.node_store.specs.Sights.{after_words}
@@ -93,17 +93,13 @@ read n loaded k k' shape held is loads = go (held_of n k.log.holdings.held) held
     go None held = absurd held
     go (Some h) held = (sym held.0 ∙ is, loads ∙ ap (λ v. record k { log = v }) held.1)
 
--- words that spell a node can't spell none
-pub never_none : (n : ℕ) (loaded : List ℕ) (v : Log) → IsSomeAnd (held_of n v.holdings.held) (λ h. (spelled loaded ≡ spelled h.words) × (after_words n loaded 35 v ≡ after_words n h.words 35 v) × IsSome (spelled h.words)) → spelled loaded ≡ None → ⊥
-never_none n loaded v held none = go (held_of n v.holdings.held) held
+-- the words that were loaded spell a node
+pub spells : (n : ℕ) (loaded : List ℕ) (v : Log) → IsSomeAnd (held_of n v.holdings.held) (λ h. (spelled loaded ≡ spelled h.words) × (after_words n loaded 35 v ≡ after_words n h.words 35 v) × IsSome (spelled h.words)) → IsSome (spelled loaded)
+spells n loaded v held = go (held_of n v.holdings.held) held
   where
-    go : (o : Option Holding) → IsSomeAnd o (λ h. (spelled loaded ≡ spelled h.words) × (after_words n loaded 35 v ≡ after_words n h.words 35 v) × IsSome (spelled h.words)) → ⊥
-    go None held = held
-    go (Some h) held = never (spelled h.words) held.2 (sym held.0 ∙ none)
-      where
-        never : (o : Option NodeData) → IsSome o → o ≡ None → ⊥
-        never None is e = search rules
-        never (Some s) is e = none-some s (sym e)
+    go : (o : Option Holding) → IsSomeAnd o (λ h. (spelled loaded ≡ spelled h.words) × (after_words n loaded 35 v ≡ after_words n h.words 35 v) × IsSome (spelled h.words)) → IsSome (spelled loaded)
+    go None held = absurd held
+    go (Some h) held = subst IsSome (sym held.0) held.2
 
 -- what is told after loads of words is told before them
 pub holder_before : (n : ℕ) (words : List ℕ) (count : ℕ) (v : Log) → HolderTells n (after_words n words count v) → HolderTells n v

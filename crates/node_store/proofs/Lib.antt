@@ -1,6 +1,5 @@
 pub mod Tries
 pub mod Readings
-pub mod Items
 pub mod Spelled
 pub mod Stores
 pub mod Sighted
@@ -9,3 +8,5 @@ pub mod HeldWrites
 pub mod Settled
 pub mod Giving
 pub mod OutNodes
+pub mod Overwritten
+pub mod Shapes

@@ -81,12 +81,12 @@ entry_count : (entries : List Member) → length (entry_words entries) ≡ 3 * l
 entry_count [] = refl
 entry_count (m ∷ entries) = omega (arith, entry_count entries)
 
-items_few : (body : Body) → BodyFits body → length (item_words body) ≤ 30
+pub items_few : (body : Body) → BodyFits body → length (item_words body) ≤ 30
 items_few (Pairs pairs) fits = omega (arith, pair_count pairs, fits.0)
 items_few (Entries entries) fits = omega (arith, entry_count entries, fits.0)
 items_few (Link next) fits = omega arith
 
-wanted_item : (s : NodeData) (at : ℕ) → 6 ≤ at → wanted_node_word s at ≡ slice_get (item_words s.body) (at - 6)
+pub wanted_item : (s : NodeData) (at : ℕ) → 6 ≤ at → wanted_node_word s at ≡ slice_get (item_words s.body) (at - 6)
 wanted_item s at few =
     let one = ne_eqb at 1 (λ e. omega (arith, few, e)) in
     let two = ne_eqb at 2 (λ e. omega (arith, few, e)) in

@@ -20,7 +20,7 @@ all_append P [] ys h i = i
 all_append P (x ∷ xs) ys h i = (h.0, all_append P xs ys h.1 i)
 
 -- which word has its turn
-high_place : (t : ℕ) → t < 30 → place_in_turn t ≡ 35 - t
+pub high_place : (t : ℕ) → t < 30 → place_in_turn t ≡ 35 - t
 high_place t less = ap (λ b. if b then 35 - t else (if nat_lt t 34 then 34 - t else 5)) (lt-ltb t 30 less)
 
 low_place : (t : ℕ) → 30 ≤ t → t < 34 → place_in_turn t ≡ 34 - t
@@ -127,7 +127,7 @@ in_order s words (suc t) most =
     (stores_upto s words t) (of_turns s words t))
 
 -- a word whose turn is yet to come is as it was
-pub still_old : (s : NodeData) (words : List ℕ) (t : ℕ) → t < 35 → node_word (after_stores (stores_upto s words t) words) (place_in_turn t) ≡ node_word words (place_in_turn t)
+still_old : (s : NodeData) (words : List ℕ) (t : ℕ) → t < 35 → node_word (after_stores (stores_upto s words t) words) (place_in_turn t) ≡ node_word words (place_in_turn t)
 still_old s words t less =
     kept_word (stores_upto s words t) words (place_in_turn t)
     (all_map (IsOfTurn words t) (λ x. x.at - 1 ≢ place_in_turn t - 1)
@@ -193,13 +193,9 @@ pub same_store : (now words : List ℕ) (at : ℕ) (w : Option ℕ) → node_wor
 same_store now words at None e = refl
 same_store now words at (Some value) e = ap (λ n. if nat_eq n value then None else Some record { at = at; value = value }) e
 
--- one turn more of a loop over the words as they are now
-pub turn_made : (s : NodeData) (words now : List ℕ) (t : ℕ) → t < 35 → now ≡ after_stores (stores_upto s words t) words → after_stores (option_to_list (store_in_turn s now t)) now ≡ after_stores (stores_upto s words (t + 1)) words
-turn_made s words now t less is =
-    let still : node_word now (place_in_turn t) ≡ node_word words (place_in_turn t) = ap (λ ws. node_word ws (place_in_turn t)) is ∙ still_old s words t less in
-    let same : store_in_turn s now t ≡ store_in_turn s words t = same_store now words (place_in_turn t) (wanted_node_word s (place_in_turn t)) still in
+-- one turn more of a loop over the words
+pub turn_over : (s : NodeData) (words : List ℕ) (t : ℕ) → after_stores (option_to_list (store_in_turn s words t)) (after_stores (stores_upto s words t) words) ≡ after_stores (stores_upto s words (t + 1)) words
+turn_over s words t =
     let next : t + 1 ≡ suc t = omega arith in
-    ap (λ o. after_stores (option_to_list o) now) same
-    ∙ ap (after_stores (option_to_list (store_in_turn s words t))) is
-    ∙ sym (append_stores (stores_upto s words t) (option_to_list (store_in_turn s words t)) words)
+    sym (append_stores (stores_upto s words t) (option_to_list (store_in_turn s words t)) words)
     ∙ ap (λ k. after_stores (stores_upto s words k) words) (sym next)

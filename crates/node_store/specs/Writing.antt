@@ -49,6 +49,33 @@ wanted_node_word s at =
     else (if at == 4 then Some s.high
     else (if at == 5 then count_of s.body else slice_get (item_words s.body) (at - 6)))))
 
+-- what a word becomes that is to be another, and one that any will do for
+abbrev pub word_over : Option ℕ → ℕ → ℕ
+word_over None old = old
+word_over (Some value) old = value
+
+-- A node was written over words: each is as it is to be, and where any will do it stayed.
+abbrev pub AreSpelledOver : NodeData → List ℕ → List ℕ → Type 0
+AreSpelledOver s words wanted = (at : ℕ) → 1 ≤ at → at ≤ CONTENT_WORDS
+    → node_word wanted at ≡ word_over (wanted_node_word s at) (node_word words at)
+
+-- words with numbers in a row, from a place on
+abbrev pub with_row : ℕ → List ℕ → List ℕ → List ℕ
+with_row place [] words = words
+with_row place (n ∷ numbers) words = with_row (place + 1) numbers (slice_set words place n)
+
+-- words over which what a node holds was written: its kind, its count if it has one, and its items
+abbrev pub spelled_pairs : List Pair → List ℕ → List ℕ
+spelled_pairs pairs words =
+    with_row 5 (pair_words pairs) (slice_set (slice_set words 0 0) 4 (length pairs))
+
+abbrev pub spelled_entries : List Member → List ℕ → List ℕ
+spelled_entries entries words =
+    with_row 5 (entry_words entries) (slice_set (slice_set words 0 1) 4 (length entries))
+
+abbrev pub spelled_link : ℕ → List ℕ → List ℕ
+spelled_link next words = slice_set (slice_set words 0 2) 5 next
+
 -- what holds of every node of the code: its numbers fit their words, and its items have room
 abbrev pub BodyFits : Body → Type 0
 BodyFits (Pairs pairs) =

@@ -9,27 +9,27 @@ ghost use Rattle.node_store.specs.Holding.{AreHeld, IsLiveHeld, ReadsHeld, Spell
 ghost use Rattle.node_store.specs.Holding.{WritesHeld, WritesInOrder};
 ghost use Rattle.node_store.specs.Sights.{after_words};
 
-use crate::reading::{CONTENT_WORDS, node_of};
-use crate::writing::{TURNS, node_fits, store_in_turn, writes};
+use crate::reading::CONTENT_WORDS;
+use crate::shaping::node_in;
+use crate::writing::{TURNS, node_fits, spell, store_in_turn, writes};
 use tree_shape::Node;
 use word_rule::{Caller, Words};
 
-// The words of a node, one after another: of a held one those that the log has.
+// Loads the words of a node, one after another: of a held one those that the log has.
 #[tactic(auto, unfolding(crate::specs::Sights::after_words))]
-fn load_words(words: &Words, me: &mut Caller, node: u32) -> [u64; CONTENT_WORDS]
+fn load_words(words: &Words, me: &mut Caller, node: u32, loaded: &mut [u64; CONTENT_WORDS])
     requires table { me.old.table ≡ words.now.table }
     requires inside { node < words.now.terms.nodes }
-    ensures wide { length result ≡ CONTENT_WORDS }
-    ensures held { AreHeld node result CONTENT_WORDS me.old.log }
+    requires wide { length loaded.old ≡ CONTENT_WORDS }
+    ensures wide { length loaded.new ≡ CONTENT_WORDS }
+    ensures held { AreHeld node loaded.new CONTENT_WORDS me.old.log }
     ensures holder { HolderTells node me.old.log }
     ensures log { me.new
-        ≡ record me.old { log = after_words node result CONTENT_WORDS me.old.log } }
+        ≡ record me.old { log = after_words node loaded.new CONTENT_WORDS me.old.log } }
 {
-    let mut loaded = [0; CONTENT_WORDS];
     for at in 0..CONTENT_WORDS {
         loaded[at] = words.load_node(me, node, at as u32 + 1);
     }
-    loaded
 }
 
 /// The node that the words of a held node spell, as they are now. Where the node is live and no
@@ -43,11 +43,9 @@ pub fn read_held(words: &Words, me: &mut Caller, node: u32) -> Node
     ensures live { IsLiveHeld node me.old.log result }
     ensures holdings { me.new.log.holdings ≡ me.old.log.holdings }
 {
-    let loaded = load_words(words, me, node);
-    let Some(shape) = node_of(&loaded) else {
-        unreachable!()
-    };
-    shape
+    let mut loaded = [0; CONTENT_WORDS];
+    load_words(words, me, node, &mut loaded);
+    node_in(&loaded)
 }
 
 /// Writes a node into one that is held. Only words that differ are stored, each once: the greatest
@@ -62,9 +60,12 @@ pub fn write_held(words: &Words, me: &mut Caller, node: u32, content: &Node)
 {
     node_fits(content);
     writes();
-    let old = load_words(words, me, node);
-    for turn in 0..TURNS {
-        if let Some(store) = store_in_turn(&old, content, turn) {
+    let mut old = [0; CONTENT_WORDS];
+    load_words(words, me, node, &mut old);
+    let mut wanted = old;
+    let reach = spell(content, &mut wanted);
+    for turn in (CONTENT_WORDS - reach) as u32..TURNS {
+        if let Some(store) = store_in_turn(&old, &wanted, turn) {
             words.store_node(me, node, store.at, store.value);
         }
     }

@@ -14,6 +14,7 @@ mod held;
 mod locking;
 mod locks;
 mod reading;
+mod shaping;
 #[cfg(test)]
 mod side_tests;
 mod sight;

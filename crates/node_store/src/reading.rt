@@ -44,7 +44,7 @@ pub const LEAF: u64 = 1;
 pub const FREE: u64 = 2;
 
 // The word of a node with this number.
-fn word(words: &[u64; CONTENT_WORDS], at: usize) -> u64
+pub(crate) fn word(words: &[u64; CONTENT_WORDS], at: usize) -> u64
     requires first { 1 ≤ at }
     requires last { at ≤ 35 }
     ensures { result ≡ node_word words.now at }

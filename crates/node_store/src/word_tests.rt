@@ -1,7 +1,7 @@
 ghost use Rattle.std.specs.Prelude.{◌≡◌};
 ghost use Rattle.node_store.specs.Writing.{Write, after_stores, stores};
 
-use crate::writing::{TURNS, node_fits, store_in_turn, wanted_word, writes};
+use crate::writing::{TURNS, node_fits, spell, store_in_turn, writes};
 use crate::{CONTENT_WORDS, Store, check, node_of, peek, read_held, write_held};
 use reg_model::{Again, Member, Span};
 use std::test::Fail;
@@ -83,9 +83,11 @@ fn words_that_spell_no_node(rt: HostRuntime) -> Result<(), Fail> {
 #[test]
 fn words_of_an_inner_node(rt: HostRuntime) -> Result<(), Fail> {
     let node = inner();
-    assert!(rt; wanted_word(&node, 1) == Some(0) && wanted_word(&node, 5) == Some(2));
-    assert!(rt; wanted_word(&node, 6) == Some(3) && wanted_word(&node, 7) == Some(0x140f));
-    assert!(rt; wanted_word(&node, 8) == Some(2) && wanted_word(&node, 10).is_none());
+    node_fits(&node);
+    let mut words = leaf_words();
+    assert!(rt; spell(&node, &mut words) == 9);
+    assert!(rt; words[0] == 0 && words[4] == 2 && words[5] == 3 && words[6] == 0x140f);
+    assert!(rt; words[7] == 2 && words[9] == 0xf);
     Ok(())
 }
 
@@ -96,8 +98,11 @@ fn write_over(words: &mut [u64; CONTENT_WORDS], node: &Node)
 {
     node_fits(node);
     writes();
+    let old = *words;
+    let mut wanted = *words;
+    spell(node, &mut wanted);
     for turn in 0..TURNS {
-        if let Some(store) = store_in_turn(words, node, turn) {
+        if let Some(store) = store_in_turn(&old, &wanted, turn) {
             words[store.at as usize - 1] = store.value;
         }
     }
@@ -106,15 +111,18 @@ fn write_over(words: &mut [u64; CONTENT_WORDS], node: &Node)
 #[test]
 fn stores_over_old_words(rt: HostRuntime) -> Result<(), Fail> {
     let node = inner();
+    node_fits(&node);
     let mut words = leaf_words();
+    let mut wanted = leaf_words();
+    spell(&node, &mut wanted);
     let greatest = Store {
         at: 9,
         value: 0xffff_ffff_ffff_ffff,
     };
-    assert!(rt; store_in_turn(&words, &node, 25).is_none());
-    assert!(rt; store_in_turn(&words, &node, 26) == Some(greatest));
-    assert!(rt; store_in_turn(&words, &node, 33) == Some(Store { at: 1, value: 0 }));
-    assert!(rt; store_in_turn(&words, &node, 34).is_none());
+    assert!(rt; store_in_turn(&words, &wanted, 25).is_none());
+    assert!(rt; store_in_turn(&words, &wanted, 26) == Some(greatest));
+    assert!(rt; store_in_turn(&words, &wanted, 33) == Some(Store { at: 1, value: 0 }));
+    assert!(rt; store_in_turn(&words, &wanted, 34).is_none());
     write_over(&mut words, &node);
     assert!(rt; words[0] == 0 && words[1] == 1 && words[2] == 0 && words[4] == 2);
     assert!(rt; words[5] == 3 && words[6] == 0x140f && words[7] == 2);

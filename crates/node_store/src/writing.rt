@@ -1,16 +1,14 @@
 //! The words that a node is to have, and the stores that bring old words to them.
 //!
 //! Only words that differ are stored, each once: the greatest number first, and the count last.
-ghost use Rattle.std.specs.Prelude.{◌≡◌, ◌+◌, ◌-◌, ◌*◌, ◌^◌, ◌<◌, ◌≤◌, Some, None, IfSome};
-ghost use Rattle.std.specs.Prelude.{if◌then◌else◌, slice_get, ℕ, List, length};
+ghost use Rattle.std.specs.Prelude.{◌≡◌, ◌+◌, ◌^◌, ◌<◌, ◌≤◌, ℕ, List, length};
 ghost use Rattle.std.specs.List.{AllByRecursion};
 ghost use Rattle.reg_model.specs.SpanData.{IsSpan};
-ghost use Rattle.tree_shape.specs.NodeData.{Pairs, Entries};
-ghost use Rattle.word_rule.specs.Spelling.{node_word, SpellsNode};
-ghost use Rattle.node_store.specs.Writing.{wanted_node_word, kind_of_body, count_of};
-ghost use Rattle.node_store.specs.Writing.{item_words, pair_words, entry_words};
-ghost use Rattle.node_store.specs.Writing.{FitsWords, Write, place_in_turn, store_in_turn, stores};
 ghost use Rattle.tree_shape.specs.NodeData.{NodeData};
+ghost use Rattle.node_store.specs.Writing.{item_words, pair_words, entry_words};
+ghost use Rattle.node_store.specs.Writing.{AreSpelledOver, spelled_entries, spelled_link};
+ghost use Rattle.node_store.specs.Writing.{spelled_pairs};
+ghost use Rattle.node_store.specs.Writing.{FitsWords, Write, place_in_turn, store_in_turn, stores};
 ghost use Rattle.word_rule.specs.Places.{CONTENT_WORDS};
 
 use crate::reading::{
@@ -75,76 +73,76 @@ pub(crate) fn node_fits(node: &Node)
     }
 }
 
-// The kind of a node.
-fn kind(node: &Node) -> u64
-    ensures { result ≡ kind_of_body node.now.body }
+// Writes pairs over words: word 1 is the kind then, word 5 the count, and from word 6 on they stand.
+// How many words matter.
+fn spell_pairs(pairs: &[Pair], words: &mut [u64; CONTENT_WORDS]) -> usize
+    requires wide { length words.old ≡ CONTENT_WORDS }
+    requires room { length (pair_words pairs.now) ≤ 30 }
+    ensures words { words.new ≡ spelled_pairs pairs.now words.old }
+    ensures count { result ≡ 5 + length (pair_words pairs.now) }
 {
+    words[KIND - 1] = INNER;
+    words[COUNT - 1] = pairs.len() as u64;
+    let mut left = pairs;
+    let mut place = FIRST - 1;
+    while let [pair, rest @ ..] = left {
+        words[place] = pair.child as u64;
+        words[place + 1] = pair.separator;
+        place += PAIR_WORDS;
+        left = rest;
+    }
+    place
+}
+
+// Writes entries over words likewise.
+fn spell_entries(entries: &[Member], words: &mut [u64; CONTENT_WORDS]) -> usize
+    requires wide { length words.old ≡ CONTENT_WORDS }
+    requires room { length (entry_words entries.now) ≤ 30 }
+    ensures words { words.new ≡ spelled_entries entries.now words.old }
+    ensures count { result ≡ 5 + length (entry_words entries.now) }
+{
+    words[KIND - 1] = LEAF;
+    words[COUNT - 1] = entries.len() as u64;
+    let mut left = entries;
+    let mut place = FIRST - 1;
+    while let [entry, rest @ ..] = left {
+        let span = &entry.span;
+        words[place] = span.first();
+        words[place + 1] = span.last() - span.first() + 1;
+        words[place + 2] = entry.payload as u64;
+        place += ENTRY_WORDS;
+        left = rest;
+    }
+    place
+}
+
+// Writes a free node's link over words likewise. Its count is none.
+fn spell_link(next: u32, words: &mut [u64; CONTENT_WORDS]) -> usize
+    requires wide { length words.old ≡ CONTENT_WORDS }
+    ensures words { words.new ≡ spelled_link next words.old }
+    ensures count { result ≡ 6 }
+{
+    words[KIND - 1] = FREE;
+    words[FIRST - 1] = next as u64;
+    FIRST
+}
+
+/// Writes a node over words, where any will do they stay. How many words matter: behind these any
+/// will do.
+pub(crate) fn spell(node: &Node, words: &mut [u64; CONTENT_WORDS]) -> usize
+    requires wide { length words.old ≡ CONTENT_WORDS }
+    requires fits { FitsWords node.now }
+    ensures spells { AreSpelledOver node.now words.old words.new }
+    ensures count { result ≡ 5 + length (item_words node.now.body) }
+    ensures some { result ≤ 35 }
+{
+    words[LEVEL - 1] = node.level as u64;
+    words[LOW - 1] = node.low;
+    words[HIGH - 1] = node.high;
     match &node.content {
-        Content::Inner { .. } => INNER,
-        Content::Leaf { .. } => LEAF,
-        Content::Free { .. } => FREE,
-    }
-}
-
-// The count of a node that isn't free.
-fn count(node: &Node) -> Option<u64>
-    ensures { result ≡ count_of node.now.body }
-{
-    match &node.content {
-        Content::Inner { count, pairs } => Some(pairs[..*count as usize].len() as u64),
-        Content::Leaf { count, entries } => Some(entries[..*count as usize].len() as u64),
-        Content::Free { .. } => None,
-    }
-}
-
-// A word of a list of pairs, counted from the first one's child.
-fn pair_word(pairs: &[Pair], at: usize) -> Option<u64>
-    ensures { result ≡ slice_get (pair_words pairs.now) at }
-{
-    let pair = pairs.get(at / PAIR_WORDS)?;
-    Some(if at % PAIR_WORDS == 0 {
-        pair.child as u64
-    } else {
-        pair.separator
-    })
-}
-
-// A word of a list of entries, counted from the first one's base.
-fn entry_word(entries: &[Member], at: usize) -> Option<u64>
-    ensures { result ≡ slice_get (entry_words entries.now) at }
-{
-    let entry = entries.get(at / ENTRY_WORDS)?;
-    let span = &entry.span;
-    match at % ENTRY_WORDS {
-        0 => Some(span.first()),
-        1 => Some(span.last() - span.first() + 1),
-        _ => Some(entry.payload as u64),
-    }
-}
-
-// A word of what a node holds, counted from its first item.
-fn item_word(node: &Node, at: usize) -> Option<u64>
-    ensures { result ≡ slice_get (item_words node.now.body) at }
-{
-    match &node.content {
-        Content::Inner { count, pairs } => pair_word(&pairs[..*count as usize], at),
-        Content::Leaf { count, entries } => entry_word(&entries[..*count as usize], at),
-        Content::Free { next } => (at == 0).then_some(*next as u64),
-    }
-}
-
-/// What the word of a node with this number is to be. None where any will do.
-pub(crate) fn wanted_word(node: &Node, at: u32) -> Option<u64>
-    requires { 1 ≤ at }
-    ensures { result ≡ wanted_node_word node.now at }
-{
-    match at as usize {
-        KIND => Some(kind(node)),
-        LEVEL => Some(node.level as u64),
-        LOW => Some(node.low),
-        HIGH => Some(node.high),
-        COUNT => count(node),
-        item => item_word(node, item - FIRST),
+        Content::Inner { count, pairs } => spell_pairs(&pairs[..*count as usize], words),
+        Content::Leaf { count, entries } => spell_entries(&entries[..*count as usize], words),
+        Content::Free { next } => spell_link(*next, words),
     }
 }
 
@@ -163,12 +161,17 @@ fn place_in_turn(turn: u32) -> u32
 }
 
 /// The store of a turn, where the word whose turn it is isn't yet as it is to be.
-pub(crate) fn store_in_turn(words: &[u64; CONTENT_WORDS], node: &Node, turn: u32) -> Option<Store>
+pub(crate) fn store_in_turn(
+    words: &[u64; CONTENT_WORDS],
+    wanted: &[u64; CONTENT_WORDS],
+    turn: u32,
+) -> Option<Store>
     requires { turn < 35 }
-    ensures { result ≡ store_in_turn node.now words.now turn }
+    ensures { (s : NodeData) → AreSpelledOver s words.now wanted.now
+        → result ≡ store_in_turn s words.now turn }
 {
     let at = place_in_turn(turn);
-    let value = wanted_word(node, at)?;
+    let value = wanted[at as usize - 1];
     if words[at as usize - 1] == value {
         return None;
     }
