@@ -24,7 +24,8 @@ use Rattle.btree_change.proofs.FenceSpines.{BeginsAt, ClimbsSpine, RightFrom, cl
 use Rattle.btree_change.proofs.FreshSpines.{all_both, all_parts, found_in}
 use Rattle.btree_change.proofs.HeldTrees.{EndsAt, Forks, IsChild, OnTree, after_in, at_in, child, forks, on_tree}
 use Rattle.btree_change.proofs.NextLeaves.{higher_marked, in_middle}
-use Rattle.btree_change.proofs.Settling.{FitsChange, HeldOnce, IsHeldChange, SettlingLaws, lawful_release, left_out, marked_at, none_out, settled_after, settled_group, settled_still}
+use Rattle.btree_change.proofs.HeldLists.{HeldOnce}
+use Rattle.btree_change.proofs.Settling.{FitsChange, IsHeldChange, SettlingLaws, lawful_release, left_out, marked_at, none_out, settled_after, settled_group, settled_still}
 
 -- the laws of a moved fence
 abbrev pub MoveLaw : Type 0

@@ -13,7 +13,8 @@ use Rattle.word_rule.specs.declared.log.Terms.{Terms}
 use Rattle.word_rule.specs.Held.{held_of, without_lock}
 use Rattle.word_rule.specs.NodeTells.{HolderTells, IsHeldNode, IsLiveNode}
 use Rattle.btree_change.specs.Paths.{AreHigher, IsSettledLock}
-use Rattle.btree_change.proofs.Settling.{HeldOnce, StaysSettled}
+use Rattle.btree_change.proofs.HeldLists.{HeldOnce}
+use Rattle.btree_change.proofs.Settling.{StaysSettled}
 
 -- none of these locks is of this node
 abbrev pub AreFar : ℕ → List Holding → Type 0

@@ -1,3 +1,4 @@
+pub mod HeldLists
 pub mod Settling
 pub mod LeafCommits
 pub mod HeldTrees

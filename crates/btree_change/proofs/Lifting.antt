@@ -27,7 +27,8 @@ use Rattle.btree_change.specs.Paths.{StepsOnNodes}
 use Rattle.btree_change.specs.Splits.{HoldsFullRoot, root_parts_for}
 use Rattle.btree_change.proofs.Descending.{steps_then}
 use Rattle.btree_change.proofs.HeldParts.{AreFar, IsTold, is_first, is_second, is_third, lives_apart}
-use Rattle.btree_change.proofs.Settling.{FitsChange, HeldOnce, IsHeldChange, left_out, marked_at, none_out}
+use Rattle.btree_change.proofs.HeldLists.{HeldOnce}
+use Rattle.btree_change.proofs.Settling.{FitsChange, IsHeldChange, left_out, marked_at, none_out}
 use Rattle.btree_change.proofs.SplitParts.{are_halves, never_free}
 use Rattle.btree_change.proofs.Splitting.{IsPartWritten, part_written}
 use Rattle.btree_change.proofs.Storing.{IsRewritten, found_at, rewritten_so}

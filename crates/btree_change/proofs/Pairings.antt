@@ -22,7 +22,8 @@ use Rattle.word_rule.specs.declared.log.Terms.{Terms}
 use Rattle.btree_change.specs.Removing.{IsBeside}
 use Rattle.btree_change.specs.Siblings.{HoldsSiblings, both_of}
 use Rattle.btree_change.specs.declared.sibling.Siblings.{Siblings}
-use Rattle.btree_change.proofs.Settling.{FitsChange, HeldOnce, IsHeldChange, SettlingLaws, StaysSettled, left_out, settled_after, settled_group, stay_settled, stays_fit}
+use Rattle.btree_change.proofs.HeldLists.{HeldOnce}
+use Rattle.btree_change.proofs.Settling.{FitsChange, IsHeldChange, SettlingLaws, StaysSettled, left_out, settled_after, settled_group, stay_settled, stays_fit}
 
 -- numbers of short lists
 pub here : (x : ℕ) (xs : List ℕ) → is_among (x ∷ xs) x ≡ true

@@ -1,10 +1,9 @@
 -- What held nodes settle to at a release, where they change the tree lawfully: for any exchange.
-use Rattle.std.proofs.Common.{◌≡◌, ◌≢◌, ℕ, ◌<◌, ◌≤◌, List, [], ◌∷◌, ◌++◌, length, map, sym, refl, ap, ◌∙◌, subst, arith, Bool, true, false, not, ◌&&◌, ◌||◌, IsTrue, true≢false, Option, Some, None, IsSome, IsSomeAnd, is_some, eq-eqb, ne_eqb, inl, inr, ◌⊎◌, nat_lt, if◌then◌else◌, cond}
-use Rattle.std.proofs.lemmas.Bool.{ltb-true, lt-ltb, le-ltb}
+use Rattle.std.proofs.Common.{◌≡◌, ◌≢◌, ℕ, ◌<◌, ◌≤◌, List, [], ◌∷◌, ◌++◌, length, map, sym, refl, ap, ◌∙◌, subst, Bool, true, false, not, ◌&&◌, ◌||◌, IsTrue, true≢false, Option, Some, None, IsSome, IsSomeAnd, is_some, eq-eqb, ne_eqb, inl, inr, ◌⊎◌, if◌then◌else◌, cond}
+use Rattle.std.proofs.lemmas.Bool.{ltb-true}
 use Rattle.std.proofs.lemmas.Option.{same_Some}
 use Rattle.std.specs.Bool.{Decides}
 use Rattle.std.specs.List.{AllByRecursion, filter}
-use native.Mathlib.Decide.{ℕ_discrete}
 use Rattle.reg_model.specs.declared.answer.Update.{Update}
 use Rattle.tree_shape.specs.declared.node.Frame.{Frame}
 use Rattle.tree_shape.specs.Numbers.{is_among, times}
@@ -14,17 +13,18 @@ use Rattle.tree_shape.specs.Lawful.{IsLawfulTree, IsTree}
 use Rattle.tree_shape.specs.LocalChange.{either, reached_nodes, IsChangeOf, IsLawfulChange, IsLocalChange, IsSameChange}
 use Rattle.tree_shape.proofs.Halves.{among}
 use Rattle.tree_shape.proofs.Reach.{within_set}
-use Rattle.tree_shape.proofs.Times.{In, all_among, all_at, all_from, in_times, times_in}
+use Rattle.tree_shape.proofs.Times.{In, all_among, all_at, all_from, in_times}
 use Rattle.word_rule.specs.declared.log.Holding.{Holding}
 use Rattle.word_rule.specs.declared.log.Holdings.{Holdings}
 use Rattle.word_rule.specs.declared.log.Log.{Log}
-use Rattle.word_rule.specs.Exchange.{Differs, IsLawfulExchange, after_exchange, are_spelled, changed_of, exchange, exchanged_in, group_of, highest, highest_of, is_changed, is_fresh, is_lawful, is_reached, node_of, out_after, reached_in, settle, settle_free, top_of}
+use Rattle.word_rule.specs.Exchange.{Differs, IsLawfulExchange, after_exchange, are_spelled, changed_of, exchange, exchanged_in, group_of, is_changed, is_fresh, is_lawful, is_reached, node_of, out_after, reached_in, settle, settle_free, top_of}
 use Rattle.word_rule.specs.Held.{held_of, is_marked, marked_in, now_in, now_of, now_shape, settled_in, settled_shape, without_lock}
 use Rattle.word_rule.specs.Logs.{after_spending, after_write}
 use Rattle.word_rule.specs.Spelling.{spelled, SpellsNode}
 use Rattle.word_rule.specs.Steps.{MayRelease, after_node_release, after_node_release_same, head_without}
-use Rattle.word_rule.proofs.Each.{held_is, some_of}
+use Rattle.word_rule.proofs.Each.{some_of}
 use Rattle.word_rule.proofs.Exchanges.{spelled_decides}
+use Rattle.btree_change.proofs.HeldLists.{HeldOnce, IsBelow, and_parts, filter_none, filter_same, filtered, found_is, highest_of_is, in_filter, in_list, in_nodes, marked_is, nodes_in, once_found, or_parts, same_test, tested}
 
 -- The laws that it rests on: `exchange_decided`, and `transfer` and `widen` of tree_shape.
 pub record SettlingLaws : Type 0 where
@@ -41,11 +41,6 @@ pub record FitsChange (f : Contents) (live : ℕ → Bool) (group fresh : List �
   pub marked : IsSome h.mark → IsTrue (live h.node) × (f h.node ≡ h.settled) × SpellsNode h.words (g h.node)
   pub leaves : IsTrue (is_among group h.node) → h.stored ≡ true
   pub enters : IsTrue (is_among fresh h.node) → SpellsNode h.words (g h.node) × (h.stored ≡ true)
-
--- each node is held once
-abbrev pub HeldOnce : List Holding → Type 0
-HeldOnce [] = Unit {0}
-HeldOnce (h ∷ held) = AllByRecursion (λ a. a.node ≢ h.node) held × HeldOnce held
 
 -- the nodes that are out afterwards
 abbrev pub left_out : List ℕ → List ℕ → Holdings → List ℕ
@@ -64,134 +59,6 @@ pub record IsHeldChange (holdings : Holdings) (f : Contents) (live : ℕ → Boo
   pub differ : AllByRecursion (λ n. g n ≢ f n) group
   pub lower : AllByRecursion (λ n. n ≢ top → (f n).level < (f top).level) group
   pub room : length (left_out group reached holdings) ≤ 4
-
--- a test that passes exactly where another does is the same
-same_test : (a b : Bool) → (a ≡ true → b ≡ true) → (b ≡ true → a ≡ true) → a ≡ b
-same_test true b to from = sym (to refl)
-same_test false true to from = from refl
-same_test false false to from = refl
-
--- a test and its answer
-tested : (b : Bool) → (b ≡ true) ⊎ (b ≡ false)
-tested true = inl refl
-tested false = inr refl
-
-and_parts : (a b : Bool) → (a && b) ≡ true → (a ≡ true) × (b ≡ true)
-and_parts true b e = (refl, e)
-and_parts false b e = absurd (true≢false (sym e))
-
-or_parts : (a b : Bool) → (a || b) ≡ true → (a ≡ true) ⊎ (b ≡ true)
-or_parts true b e = inl refl
-or_parts false b e = inr e
-
-not_from : (b : Bool) → b ≡ false → not b ≡ true
-not_from b e = ap not e
-
--- what stands in a filtered and in a mapped list
-in_filter : (test : Holding → Bool) (held : List Holding) (h : Holding) → In h (filter test held) → In h held × (test h ≡ true)
-in_filter test [] h there = absurd there
-in_filter test (x ∷ held) h there = go (test x) refl there (λ later. in_filter test held h later)
-  where
-    go : (b : Bool) → test x ≡ b → In h (cond b (x ∷ filter test held) (filter test held)) → (In h (filter test held) → In h held × (test h ≡ true)) → In h (x ∷ held) × (test h ≡ true)
-    go true is (inl e) rest = (inl e, ap test (sym e) ∙ is)
-    go true is (inr later) rest = let r = rest later in (inr r.0, r.1)
-    go false is there rest = let r = rest there in (inr r.0, r.1)
-
-filtered : (test : Holding → Bool) (held : List Holding) (h : Holding) → In h held → test h ≡ true → In h (filter test held)
-filtered test [] h there passes = absurd there
-filtered test (x ∷ held) h (inl e) passes = subst (λ l. In h l) (sym (ap (λ b. cond b (x ∷ filter test held) (filter test held)) (ap test e ∙ passes))) (inl e)
-filtered test (x ∷ held) h (inr later) passes = go (test x) (filtered test held h later passes)
-  where
-    go : (b : Bool) → In h (filter test held) → In h (cond b (x ∷ filter test held) (filter test held))
-    go true rest = inr rest
-    go false rest = rest
-
-in_nodes : (held : List Holding) (n : ℕ) → In n (map node_of held) → (h : Holding) × (In h held × (h.node ≡ n))
-in_nodes [] n there = absurd there
-in_nodes (x ∷ held) n (inl e) = (x, (inl refl, e))
-in_nodes (x ∷ held) n (inr later) = let r = in_nodes held n later in (r.0, (inr r.1.0, r.1.1))
-
-nodes_in : (held : List Holding) (h : Holding) → In h held → In h.node (map node_of held)
-nodes_in [] h there = absurd there
-nodes_in (x ∷ held) h (inl e) = inl (ap node_of e)
-nodes_in (x ∷ held) h (inr later) = inr (nodes_in held h later)
-
-in_list : (xs : List ℕ) (n : ℕ) → is_among xs n ≡ true → In n xs
-in_list xs n e = times_in xs n (ltb-true 0 (times n xs) e)
-
--- lists that two tests filter alike
-filter_same : (p q : ℕ → Bool) (xs : List ℕ) → ((n : ℕ) → In n xs → p n ≡ q n) → filter p xs ≡ filter q xs
-filter_same p q [] each = refl
-filter_same p q (x ∷ xs) each = (λ i. cond (each x (inl refl) i) (x ∷ filter_same p q xs (λ n there. each n (inr there)) i) (filter_same p q xs (λ n there. each n (inr there)) i))
-
-filter_none : (p : ℕ → Bool) (xs : List ℕ) → ((n : ℕ) → In n xs → p n ≡ false) → filter p xs ≡ []
-filter_none p [] each = refl
-filter_none p (x ∷ xs) each = ap (λ b. cond b (x ∷ filter p xs) (filter p xs)) (each x (inl refl)) ∙ filter_none p xs (λ n there. each n (inr there))
-
--- The highest of some locks, where one node has the greatest level alone.
-record IsBelow (top level : ℕ) (h : Holding) : Type 0 where
-  at : h.node ≡ top → h.settled.level ≡ level
-  else_ : h.node ≢ top → h.settled.level < level
-
-abbrev HasTop : ℕ → List Holding → Type 0
-HasTop top held = (h : Holding) × (In h held × (h.node ≡ top))
-
-highest_is : (top level : ℕ) (node own : ℕ) (held : List Holding) → AllByRecursion (IsBelow top level) held → ((node ≡ top) × (own ≡ level)) ⊎ ((own < level) × HasTop top held) → highest node own held ≡ top
-highest_is top level node own [] all (inl e) = e.0
-highest_is top level node own [] all (inr (less, (h, (there, is)))) = absurd there
-highest_is top level node own (h ∷ held) all (inl e) =
-    let most : h.settled.level ≤ own = go (ℕ_discrete h.node top) in
-    ap (λ b. if b then highest h.node h.settled.level held else highest node own held) (le-ltb own h.settled.level most) ∙ highest_is top level node own held all.1 (inl e)
-  where
-    go : Dec (h.node ≡ top) → h.settled.level ≤ own
-    go (yes is) = let a = all.0.at is in let b = e.1 in omega (arith, a, b)
-    go (no far) = let a = all.0.else_ far in let b = e.1 in omega (arith, a, b)
-highest_is top level node own (h ∷ held) all (inr (less, (x, (there, is)))) =
-    by_node (λ n l start. highest_is top level n l held all.1 start) (ℕ_discrete h.node top)
-  where
-    by_node : ((n l : ℕ) → ((n ≡ top) × (l ≡ level)) ⊎ ((l < level) × HasTop top held) → highest n l held ≡ top) → Dec (h.node ≡ top) → highest node own (h ∷ held) ≡ top
-    by_node rest (yes e) = let a = all.0.at e in
-        ap (λ b. if b then highest h.node h.settled.level held else highest node own held) (lt-ltb own h.settled.level (omega (arith, a, less)))
-        ∙ rest h.node h.settled.level (inl (e, a))
-    by_node rest (no far) = by_place there
-      where
-        by_test : In x held → (b : Bool) → (if b then highest h.node h.settled.level held else highest node own held) ≡ top
-        by_test later true = rest h.node h.settled.level (inr (all.0.else_ far, (x, (later, is))))
-        by_test later false = rest node own (inr (less, (x, (later, is))))
-
-        by_place : In x (h ∷ held) → highest node own (h ∷ held) ≡ top
-        by_place (inl e) = absurd (far (ap node_of e ∙ is))
-        by_place (inr later) = by_test later (nat_lt own h.settled.level)
-
-highest_of_is : (top level : ℕ) (held : List Holding) → AllByRecursion (IsBelow top level) held → HasTop top held → highest_of held ≡ top
-highest_of_is top level [] all (x, (there, is)) = absurd there
-highest_of_is top level (h ∷ held) all (x, (there, is)) = by_node (ℕ_discrete h.node top)
-  where
-    by_node : Dec (h.node ≡ top) → highest h.node h.settled.level held ≡ top
-    by_node (yes e) = highest_is top level h.node h.settled.level held all.1 (inl (e, all.0.at e))
-    by_node (no far) = by_place there
-      where
-        by_place : In x (h ∷ held) → highest h.node h.settled.level held ≡ top
-        by_place (inl e) = absurd (far (ap node_of e ∙ is))
-        by_place (inr later) = highest_is top level h.node h.settled.level held all.1 (inr (all.0.else_ far, (x, (later, is))))
-
--- a lock that is found by its node
-found_is : (n : ℕ) (held : List Holding) (h : Holding) → held_of n held ≡ Some h → In h held × (h.node ≡ n)
-found_is n held h found = held_is (λ a. In a held) n held h (all_from (λ a. In a held) held (λ a there. there)) found
-
-marked_is : (n : ℕ) (held : List Holding) → marked_in held n ≡ true → (h : Holding) × ((held_of n held ≡ Some h) × IsSome h.mark)
-marked_is n held marked = go (held_of n held) refl marked
-  where
-    go : (o : Option Holding) → held_of n held ≡ o → is_marked o ≡ true → (h : Holding) × ((held_of n held ≡ Some h) × IsSome h.mark)
-    go None e m = absurd (true≢false (sym m))
-    go (Some h) e m = (h, (e, m))
-
--- where each node is held once, a lock of the list is found by its node
-once_found : (held : List Holding) (h : Holding) → HeldOnce held → In h held → held_of h.node held ≡ Some h
-once_found [] h once there = absurd there
-once_found (x ∷ held) h once (inl e) = ap (λ b. cond b (Some x) (held_of h.node held)) (eq-eqb x.node h.node (ap node_of e)) ∙ ap Some e
-once_found (x ∷ held) h once (inr later) =
-    ap (λ b. cond b (Some x) (held_of h.node held)) (ne_eqb x.node h.node (λ e. all_at (λ a. a.node ≢ x.node) held h once.0 later (sym e))) ∙ once_found held h once.1 later
 
 module _ (laws : SettlingLaws) (v : Log) (f : Contents) (live : ℕ → Bool) (top : ℕ) (group fresh : List ℕ) (g : Contents) (reached : List ℕ) (c : IsHeldChange v.holdings f live top group fresh g reached) where
   abbrev held : List Holding

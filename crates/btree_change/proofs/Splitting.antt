@@ -28,7 +28,8 @@ use Rattle.btree_change.specs.Paths.{StepsOnNodes}
 use Rattle.btree_change.specs.Splits.{HoldsFullChild, parts_for}
 use Rattle.btree_change.proofs.Descending.{all_there, level_of, steps_then}
 use Rattle.btree_change.proofs.HeldParts.{AreFar, IsTold, higher_dead, higher_far, higher_once, higher_stay, is_first, is_none, is_second, is_third, lives_apart, place_of_lock}
-use Rattle.btree_change.proofs.Settling.{FitsChange, HeldOnce, IsHeldChange, StaysSettled, left_out, marked_at, none_out, stays_fit}
+use Rattle.btree_change.proofs.HeldLists.{HeldOnce}
+use Rattle.btree_change.proofs.Settling.{FitsChange, IsHeldChange, StaysSettled, left_out, marked_at, none_out, stays_fit}
 use Rattle.btree_change.proofs.SplitParts.{above_differs, are_halves, left_differs, never_free, slot_of}
 use Rattle.btree_change.proofs.Storing.{IsRewritten, found_at, rewritten_so}
 

@@ -1,5 +1,5 @@
 //! A child of a held node, and a neighbour beside it, locked and read.
-ghost use Rattle.std.specs.Prelude.{◌≡◌, ◌≢◌, ◌<◌, ◌+◌, ◌^◌, ◌⊎◌, true, Some, IfOk, IfErr, OnOk, length, ℕ};
+ghost use Rattle.std.specs.Prelude.{◌≡◌, ◌≢◌, ◌<◌, ◌+◌, ◌^◌, ◌⊎◌, true, Some, IfOk, IfErr, length, ℕ};
 ghost use Rattle.std.specs.List.{slice_get};
 ghost use Rattle.tree_shape.specs.NodeData.{IsInFences, pairs_of};
 ghost use Rattle.word_rule.specs.CallerData.{surplus};

@@ -1,10 +1,10 @@
 //! The split of a full child under its parent.
-ghost use Rattle.std.specs.Prelude.{◌≡◌, ◌≢◌, ◌<◌, ◌≤◌, IsSome, length, true};
+ghost use Rattle.std.specs.Prelude.{◌≡◌, ◌<◌, IsSome, length, true};
 ghost use Rattle.tree_shape.specs.Changes.{first_half, last_half};
 ghost use Rattle.tree_shape.specs.Lawful.{IsOrdered};
 ghost use Rattle.tree_shape.specs.NodeData.{InOrder, IsInFences, IsInner, pairs_of};
 ghost use Rattle.tree_shape.specs.declared.limits.TheConstants.{PAIRS};
-ghost use Rattle.tree_shape.specs.Steps.{IsFull, middle, middle_fence};
+ghost use Rattle.tree_shape.specs.Steps.{IsFull, middle};
 ghost use Rattle.word_rule.specs.CallerData.{surplus};
 ghost use Rattle.word_rule.specs.Held.{held_of};
 ghost use Rattle.btree_change.specs.Splits.{HoldsFull, HoldsFullChild, IsRoomFor, SplitsChild};
