@@ -23,8 +23,8 @@ use Rattle.btree_change.specs.declared.stand.Reply.{Reply}
 use Rattle.btree_change.specs.declared.stand.Room.{Room}
 use Rattle.btree_change.specs.declared.stand.Stand.{Stand}
 use Rattle.reg_model.specs.declared.answer.Inserted.TheVariants as inserted
-use Rattle.btree_change.specs.Insertion.{AnswersInsertion, Inserts, call_begun, taken_by}
-use Rattle.btree_change.specs.Loads.{FoundTaken}
+use Rattle.btree_change.specs.Insertion.{AnswersInsertion, IfFull, Inserts, call_begun, taken_by}
+use Rattle.btree_change.specs.Loads.{FoundNoRoom, FoundTaken}
 use Rattle.btree_change.specs.Paths.{AreHigher, HoldsNothing, StepsOnNodes}
 use Rattle.btree_change.specs.Roots.{EndsInsertion, GivesUpWhole}
 use Rattle.btree_change.specs.Splits.{HoldsFullAlone, HoldsFullRoot, KeepsHeld, LiftsRoot, TakesTwo, with_release_less}
@@ -33,7 +33,8 @@ use Rattle.btree_change.specs.Updates.{GivesUp}
 use Rattle.btree_change.proofs.Descending.{steps_none}
 use Rattle.btree_change.proofs.Loading.{found_after}
 use Rattle.btree_change.proofs.Lowering.{settled_live}
-use Rattle.btree_change.proofs.Spending.{own_same, right_after, right_before, spends_after, spends_before, spends_same, steps_after, surplus_after}
+use Rattle.btree_change.proofs.NoRoom.{if_full, no_room_after}
+use Rattle.btree_change.proofs.Spending.{right_after, right_before, spends_after, spends_before, spends_same, steps_after, surplus_after}
 
 -- the root alone is where an insertion stands
 pub root_stands : (t : Terms) (root : Held) (holdings : Holdings) → HoldsRoot t root holdings → StandsAt t root holdings
@@ -199,7 +200,7 @@ module _ (t : Terms) (m : Member) (full : FullRoot) (k : CallerData) (held : Hol
 
       pub lifted_ends : (k4 : CallerData) → LetsGo k3 k4 → EndsInsertion t m reply.answer 39 k k4
       lifted_ends k4 goes = record {
-        right = right_after t m reply.answer k k2 k4 lifted_two.past (own_same 1 k k2 lifted_two) (right_before t m reply.answer k2 k3 k4 goes.steps.past goes.steps.loads a.right);
+        right = right_after t m reply.answer k k2 k4 lifted_two.past (right_before t m reply.answer k2 k3 k4 goes.steps.past a.right);
         call = spends_after 1 38 39 (receipt.Register m reply.answer ∷ []) (taken_by reply.answer) k k2 k4 (omega arith) lifted_two.call
             (spends_before most 1 38 (receipt.Register m reply.answer ∷ []) (taken_by reply.answer) k2 k3 k4 (omega (arith, few)) a.call goes.steps.call);
         nothing = (goes.held ∙ ap (drop 1) one_left.is, goes.out ∙ a.out);
@@ -268,7 +269,7 @@ kept_steps k k1 kept = go kept.same
 -- one part after another, to the end
 pub ends_after : (t : Terms) (m : Member) (answer : Inserted) (a b c : ℕ) (k l n : CallerData) → a + b ≤ c → SpendsSteps a k l → EndsInsertion t m answer b l n → EndsInsertion t m answer c k n
 ends_after t m answer a b c k l n sum s e = record {
-  right = right_after t m answer k l n s.past (own_same a k l s) e.right;
+  right = right_after t m answer k l n s.past e.right;
   call = spends_after a b c (receipt.Register m answer ∷ []) (taken_by answer) k l n sum s.call e.call;
   nothing = e.nothing;
 }
@@ -276,10 +277,11 @@ ends_after t m answer a b c k l n sum s e = record {
 pub gives_up_after : (a b c : ℕ) (k l n : CallerData) → a + b ≤ c → SpendsSteps a k l → GivesUpWhole b l n → GivesUpWhole c k n
 gives_up_after a b c k l n sum s g = record { steps = steps_after a b c k l n sum s g.steps; nothing = g.nothing }
 
-pub update_answered : (t : Terms) (m : Member) (answer : Inserted) (k l n : CallerData) → StepsOnNodes k l → EndsInsertion t m answer 64 l n → AnswersInsertion t m answer k n
-update_answered t m answer k l n same e =
+pub update_answered : (t : Terms) (m : Member) (answer : Inserted) (k l n : CallerData) → StepsOnNodes k l → EndsInsertion t m answer 64 l n → IfFull answer (FoundNoRoom m.span.first l n) → AnswersInsertion t m answer k n
+update_answered t m answer k l n same e full =
     let all = ends_after t m answer 0 64 64 k l n (omega arith) (spends_same k l same) e in record {
       right = all.right;
+      cause = if_full answer (no_room_after m.span.first k l n (ap (λ r. r.own) same.receipts) same.loads) full;
       call = record {
         table = all.call.table;
         left = all.call.left;
@@ -327,6 +329,10 @@ root_gone t root k k1 k2 h kept goes = record {
 pub if_ok : {A E : Type 0} (P Q : A → Type 0) (r : Result A E) → ((a : A) → P a → Q a) → IfOk r P → IfOk r Q
 if_ok P Q (Ok a) f p = f a p
 if_ok P Q (Err e) f p = tt
+
+pub if_ok_both : {A E : Type 0} (P R Q : A → Type 0) (r : Result A E) → ((a : A) → P a → R a → Q a) → IfOk r P → IfOk r R → IfOk r Q
+if_ok_both P R Q (Ok a) f p x = f a p x
+if_ok_both P R Q (Err e) f p x = tt
 
 pub if_err : {A E : Type 0} (P Q : E → Type 0) (r : Result A E) → ((e : E) → P e → Q e) → IfErr r P → IfErr r Q
 if_err P Q (Ok a) f p = tt

@@ -1,5 +1,5 @@
 -- An insertion whose span ends in the next leaf.
-use Rattle.std.proofs.Common.{◌≡◌, ◌≢◌, ℕ, ◌%◌, ◌<◌, ◌≤◌, List, [], ◌∷◌, ◌++◌, length, drop, append-nil, sym, refl, ap, ◌∙◌, subst, arith, Bool, true, false, true≢false, ◌||◌, nat_le, Some, IsSome, IsSomeAnd}
+use Rattle.std.proofs.Common.{◌≡◌, ◌≢◌, ℕ, ◌%◌, ◌<◌, ◌≤◌, List, [], ◌∷◌, ◌++◌, length, drop, append_assoc, append-nil, sym, refl, ap, ◌∙◌, subst, arith, Bool, true, false, true≢false, ◌||◌, nat_le, Some, IsSome, IsSomeAnd}
 use Rattle.std.proofs.lemmas.Option.{same_Some}
 use Rattle.std.proofs.lemmas.Bool.{le-leb}
 use Rattle.std.specs.List.{AllByRecursion}
@@ -43,14 +43,10 @@ use Rattle.btree_change.proofs.LockedSpines.{may_read_found, reads_spelled}
 use Rattle.btree_change.proofs.NextOverlaps.{both_free, both_leaves}
 use Rattle.btree_change.proofs.Refusing.{refused_full}
 use Rattle.btree_change.proofs.Settling.{found_first}
-use Rattle.btree_change.proofs.Spending.{own_same, right_after, right_before, spends_after, spends_before, spends_same, steps_after, surplus_after}
+use Rattle.btree_change.proofs.Spending.{right_after, right_before, spends_after, spends_before, spends_same, steps_after, surplus_after}
 use Rattle.btree_change.proofs.Standing.{live_lock, may_go}
 use Rattle.btree_change.proofs.Stepping.{splits_on}
 use Rattle.btree_change.proofs.Storing.{found_at}
-
-append_assoc : {A : Type 0} (xs ys zs : List A) → (xs ++ ys) ++ zs ≡ xs ++ (ys ++ zs)
-append_assoc [] ys zs = refl
-append_assoc (x ∷ xs) ys zs = ap (λ l. x ∷ l) (append_assoc xs ys zs)
 
 -- No member overlaps in two leaves, and there was no room.
 module _ (t : Terms) (n : ℕ) (s : NodeData) (r : ℕ) (u : NodeData) (m : Member) (k : CallerData) (pair : HoldsLeafPair n s r u k.log.holdings) (live : (place : Frame) × IsLiveNode t r u place) (here : IsInFences m.span.first s) (high : m.span.last < u.high) (free : IsFree m.span (entries_of s)) (free_right : IsFree m.span (entries_of u)) (cause : HadNoRoom m.span.first (length k.log.receipts.own) k.log.trace.loads) where
@@ -63,7 +59,7 @@ module _ (t : Terms) (n : ℕ) (s : NodeData) (r : ℕ) (u : NodeData) (m : Memb
   }
 
   pub full_next_so : (k' : CallerData) (clock : ℕ) → AfterClock t (ask.Refused (update.Register m)) clock k.log k'.log → AppendsRefusal (ask.Refused (update.Register m)) clock k.log k'.log → k' ≡ record k { log = k'.log } → RefusesMember t m (inserted.Full (clock % 4294967296)) k k'
-  full_next_so k' clock after refusal rest = refused_full t m k k' clock cause after (refusal.1 shows_full_next) rest
+  full_next_so k' clock after refusal rest = refused_full t m k k' clock after (refusal.1 shows_full_next) rest
 
 -- The right spine was let go of, and then the leaf.
 module _ (t : Terms) (leaf : Held) (base : Holdings) (stands : StandsAt t leaf base) (k k1 : CallerData) (is : k1.log.holdings ≡ base) (same : StepsOnNodes k k1) (loads : KeepsLoads k k1) where
@@ -296,8 +292,8 @@ module _ (t : Terms) (m : Member) (far : Far) (k : CallerData) (ready : IsReadyF
 
         pub put_answers : (k4 : CallerData) → LetsGo k3 k4 → AnswersAbove t m (record { answer = inserted.Done number; moved = far.beyond.level }) (drop 1 ready.next.base.held) 13 k k4
         put_answers k4 goes = record {
-          right = right_after t m (inserted.Done number) k k2 k4 spent.past (own_same 12 k k2 spent)
-              (right_before t m (inserted.Done number) k2 k3 k4 goes.steps.past goes.steps.loads (puts.before, (puts.begins, puts.past, puts.number_is)));
+          right = right_after t m (inserted.Done number) k k2 k4 spent.past
+              (right_before t m (inserted.Done number) k2 k3 k4 goes.steps.past (puts.before, (puts.begins, puts.past, puts.number_is)));
           call = spends_after 12 1 13 (receipt.Register m (inserted.Done number) ∷ []) 1 k k2 k4 (omega arith) spent.call
               (spends_before 0 1 1 (receipt.Register m (inserted.Done number) ∷ []) 1 k2 k3 k4 (omega arith) put_call goes.steps.call);
           left = subst (λ hs. AreLeftAs far.beyond.level hs k4.log.holdings.held) (sym (ap (drop 1) way.held))
@@ -337,7 +333,7 @@ module _ (t : Terms) (m : Member) (n : Next) (k : CallerData) (at : IsAtNext t m
   refused_above answer k1 k2 r leaves =
       let u = under k1 r.holdings in
       let gone = subst (λ b. LeavesFar b k1 k2) u.1.0 (leaves u.0 u.1.1) in record {
-        right = right_before t m answer k k1 k2 gone.steps.past gone.steps.loads r.right;
+        right = right_before t m answer k k1 k2 gone.steps.past r.right;
         call = spends_before 0 1 13 (receipt.Register m answer ∷ []) (taken_by answer) k k1 k2 (omega arith) (refused_call answer k1 r) gone.steps.call;
         left = subst (AreLeftAs 0 (drop 1 at.next.base.held)) (sym gone.held) (subst (λ hs. AreLeftAs 0 hs hs) (sym (ap (drop 1) at.leaf.held)) (unmoved t 0 n.far.leaf.content.level at.leaf.above at.leaf.higher));
         out = gone.out;
@@ -405,7 +401,7 @@ module _ (t : Terms) (m : Member) (far : Far) (k : CallerData) (stands : StandsF
 
     pub answers_far : (reply : Reply) (k2 : CallerData) → AnswersAbove t m reply (drop 1 next.base.held) 13 k1 k2 → AnswersBelow t m reply 13 k k2
     answers_far reply k2 a = record {
-      right = right_after t m reply.answer k k1 k2 same.past (ap (λ r. r.own) same.receipts) a.right;
+      right = right_after t m reply.answer k k1 k2 same.past a.right;
       call = spends_after 0 13 13 (receipt.Register m reply.answer ∷ []) (taken_by reply.answer) k k1 k2 (omega arith) (spends_same k k1 same).call a.call;
       above = subst (λ (hs : Holdings). AreLeftAs reply.moved (drop 1 hs.held) k2.log.holdings.held) is a.left;
       out = a.out;

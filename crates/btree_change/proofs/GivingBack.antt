@@ -1,5 +1,5 @@
 -- The one free node that was taken for the full root is given back; or the root has the highest level.
-use Rattle.std.proofs.Common.{◌≡◌, ◌≢◌, ℕ, ◌+◌, ◌<◌, List, [], ◌∷◌, length, drop, map, sym, refl, ap, ◌∙◌, subst, arith, Bool, true, false, ◌==◌, ◌&&◌, not, IsTrue, true≢false, None, IsSome, IfSome, is_some, inl, inr, append_assoc, append-nil, eq-eqb, if◌then◌else◌}
+use Rattle.std.proofs.Common.{◌≡◌, ◌≢◌, ℕ, ◌+◌, ◌<◌, List, [], ◌∷◌, drop, map, sym, refl, ap, ◌∙◌, subst, arith, Bool, true, false, ◌==◌, ◌&&◌, not, IsTrue, true≢false, None, IsSome, IfSome, is_some, inl, inr, append_assoc, append-nil, eq-eqb, if◌then◌else◌}
 use Rattle.std.proofs.lemmas.Option.{none-some}
 use Rattle.std.specs.List.{AllByRecursion}
 use Rattle.tree_shape.specs.NodeData.{NodeData, IsInFences}
@@ -13,7 +13,6 @@ use Rattle.word_rule.specs.Places.{node_place}
 use Rattle.word_rule.specs.Sights.{after_node_load}
 use Rattle.word_rule.specs.Spelling.{node_word, spelled, SpellsNode}
 use Rattle.word_rule.specs.Steps.{after_give, after_head_load, after_node_release, after_node_release_same, after_node_store, store_in, stored_log}
-use Rattle.word_rule.specs.TreeRefusals.{HadNoRoom}
 use Rattle.word_rule.specs.declared.log.Holding.{Holding}
 use Rattle.word_rule.specs.declared.log.Log.{Log}
 use Rattle.word_rule.specs.declared.log.Receipts.{Receipts}
@@ -23,6 +22,7 @@ use Rattle.node_store.specs.Free.{GivesFree, IsSettled, after_linking, after_set
 use Rattle.node_store.proofs.Settled.{settles_free}
 use Rattle.btree_change.specs.declared.descent.Held.{Held}
 use Rattle.btree_change.specs.declared.lift.TwoNodes.{TwoNodes}
+use Rattle.btree_change.specs.Loads.{FoundNoRoom}
 use Rattle.btree_change.specs.Paths.{StepsOnNodes}
 use Rattle.btree_change.specs.Splits.{GivesBack, HoldsFull, HoldsFullAlone, HoldsOneFree, KeepsHeld, StaysHeld, TakesRoom, TakesTwo, with_release_less}
 use Rattle.btree_change.proofs.Descending.{steps_none, steps_then}
@@ -31,7 +31,8 @@ use Rattle.btree_change.proofs.HeldParts.{AreFar, dropped, place_of_lock}
 use Rattle.btree_change.proofs.LeafCommits.{all_stay}
 use Rattle.btree_change.proofs.LettingGo.{ExchangeLaw}
 use Rattle.btree_change.proofs.Loading.{keeps_then, none_more}
-use Rattle.btree_change.proofs.Rooms.{found_there, is_full_count, more_loads}
+use Rattle.btree_change.proofs.NoRoom.{no_room_after, no_room_still}
+use Rattle.btree_change.proofs.Rooms.{found_there, is_full_count}
 use Rattle.btree_change.proofs.SplitEnds.{less_release_then}
 use Rattle.btree_change.proofs.Storing.{edited_at, found_at}
 
@@ -176,7 +177,7 @@ full_alone t root pc k h = record {
 
 -- the full root of the highest level
 pub highest : (t : Terms) (root : Held) (pc : ℕ) (k k1 k2 : CallerData) (count level : ℕ) → HoldsFullAlone t root pc k.log.holdings → root.content.level ≡ 12 → k1 ≡ record k { log = after_node_load root.node 5 count k.log } → HeldTells root.node 5 count k.log
-    → k2 ≡ record k1 { log = after_node_load root.node 2 level k1.log } → HeldTells root.node 2 level k1.log → StaysHeld k k2 × HadNoRoom pc (length k.log.receipts.own) k2.log.trace.loads
+    → k2 ≡ record k1 { log = after_node_load root.node 2 level k1.log } → HeldTells root.node 2 level k1.log → StaysHeld k k2 × FoundNoRoom pc k k2
 highest t root pc k k1 k2 count level h top load1 tells1 load2 tells2 =
     let full = full_alone t root pc k h in
     let same : k1.log.holdings ≡ k.log.holdings = ap (λ (z : CallerData). z.log.holdings) load1 in
@@ -186,26 +187,30 @@ highest t root pc k k1 k2 count level h top load1 tells1 load2 tells2 =
     let level_word : node_word h.lock.words 2 ≡ level = subst (λ o. IfSome o (λ (z : Holding). node_word z.words 2 ≡ level)) full.found (subst (λ hs. IfSome (held_of root.node hs.held) (λ (z : Holding). node_word z.words 2 ≡ level)) same tells2) in (
       subst (StaysHeld k) (sym whole) (record { held = refl; out = refl; same = record { table = refl; left = refl; terms = refl; role = refl; past = refl; budget = refl; receipts = refl; loader = refl; made = refl; lineage = refl; loads = keeps_then k (record k { log = after_node_load root.node 5 count k.log }) (record k { log = after_node_load root.node 2 level (after_node_load root.node 5 count k.log) }) (_ ∷ [], refl) (_ ∷ [], refl) } }),
       record {
-        before = k.log.trace.loads;
-        count = count_event;
-        between = [];
-        cause = cause;
-        behind = [];
-        in_order = ap (λ (z : CallerData). z.log.trace.loads) whole ∙ append_assoc k.log.trace.loads (count_event ∷ []) (cause ∷ []);
-        since = refl;
-        node = h.lock;
-        held = found_there root.node k.log.holdings.held h.lock full.found;
-        full = is_full_count t root pc k k1 count full load1 tells1;
-        on_way = subst (IsInFences pc) (sym h.here.settled) h.on_way;
-        last = tt;
-        stores = [];
-        stored = sym (append-nil k.log.trace.stores);
-        unstored = refl;
-        shut = inr (
-          ap (λ n. node_place n + 2) h.is_root,
-          sym level_word ∙ (sym (reads h.lock.words root.content h.here.spells).level ∙ top),
-          (h.lock, (found_there root.node k.log.holdings.held h.lock full.found, h.here.node ∙ h.is_root, subst (SpellsNode h.lock.words) (sym h.here.settled) h.here.spells, ap (λ (z : NodeData). z.level) h.here.settled ∙ top)),
-        );
+        more = count_event ∷ cause ∷ [];
+        loads = ap (λ (z : CallerData). z.log.trace.loads) whole ∙ append_assoc k.log.trace.loads (count_event ∷ []) (cause ∷ []);
+        no_room = record {
+          before = [];
+          count = count_event;
+          between = [];
+          cause = cause;
+          behind = [];
+          in_order = refl;
+          since = refl;
+          node = h.lock;
+          held = found_there root.node k.log.holdings.held h.lock full.found;
+          full = is_full_count t root pc k k1 count full load1 tells1;
+          on_way = subst (IsInFences pc) (sym h.here.settled) h.on_way;
+          last = tt;
+          stores = [];
+          stored = sym (append-nil k.log.trace.stores);
+          unstored = refl;
+          shut = inr (
+            ap (λ n. node_place n + 2) h.is_root,
+            sym level_word ∙ (sym (reads h.lock.words root.content h.here.spells).level ∙ top),
+            (h.lock, (found_there root.node k.log.holdings.held h.lock full.found, h.here.node ∙ h.is_root, subst (SpellsNode h.lock.words) (sym h.here.settled) h.here.spells, ap (λ (z : NodeData). z.level) h.here.settled ∙ top)),
+          );
+        };
       },
     )
 
@@ -218,10 +223,10 @@ kept_after t root pc left k k1 k2 k3 h one stays back = record {
 }
 
 -- where none was free then, the loads say so
-pub none_left : (t : Terms) (root : Held) (pc left : ℕ) (k k1 k2 k3 : CallerData) → HoldsFullAlone t root pc k.log.holdings → TakesRoom left k k1 → StaysHeld k1 k2 × HadNoRoom pc (length k1.log.receipts.own) k2.log.trace.loads → GivesBack k2 k3 → KeepsHeld k k3 × HadNoRoom pc (length k.log.receipts.own) k3.log.trace.loads
-none_left t root pc left k k1 k2 k3 h one (stays, cause) back = (
+pub none_left : (t : Terms) (root : Held) (pc left : ℕ) (k k1 k2 k3 : CallerData) → HoldsFullAlone t root pc k.log.holdings → TakesRoom left k k1 → StaysHeld k1 k2 × FoundNoRoom pc k1 k2 → GivesBack k2 k3 → KeepsHeld k k3 × FoundNoRoom pc k k3
+none_left t root pc left k k1 k2 k3 h one (stays, found) back = (
   kept_after t root pc left k k1 k2 k3 h one stays back,
-  subst (HadNoRoom pc (length k.log.receipts.own)) (sym back.same.loads.1) (more_loads pc (length k.log.receipts.own) k2.log.trace.loads back.same.loads.0 (subst (λ (rs : Receipts). HadNoRoom pc (length rs.own) k2.log.trace.loads) one.same.receipts cause)),
+  no_room_still pc k k2 k3 (no_room_after pc k k1 k2 (ap (λ (rs : Receipts). rs.own) one.same.receipts) one.same.loads found) back.same.loads,
 )
 
 -- both were found, the second one not held before

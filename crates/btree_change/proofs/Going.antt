@@ -15,13 +15,15 @@ use Rattle.btree_change.specs.declared.stand.Beyond.{Beyond}
 use Rattle.btree_change.specs.declared.stand.Passage.{Passage}
 use Rattle.btree_change.specs.declared.stand.Reply.{Reply}
 use Rattle.btree_change.specs.declared.stand.Room.{Room}
+use Rattle.btree_change.specs.declared.stand.Room.TheVariants as room
 use Rattle.btree_change.specs.declared.stand.Stand.{Stand}
 use Rattle.btree_change.specs.declared.stand.Step.{Step}
-use Rattle.btree_change.specs.Insertion.{taken_by}
+use Rattle.btree_change.specs.Insertion.{IfFull, taken_by}
 use Rattle.btree_change.specs.Paths.{StepsOnNodes}
 use Rattle.btree_change.specs.Loads.{KeepsLoads}
 use Rattle.btree_change.specs.Spines.{AreApart, Climbs}
-use Rattle.btree_change.specs.Stands.{AnswersBelow, AreLeftAs, GivesUpBelow, GoesBelow, HasSplit, HasWayOn, HoldsPair, HoldsStep, LiesBeyond, IsLeftAs, LetsGo, MayGo, Reaches, SpendsSteps, StandsOnWay}
+use Rattle.btree_change.specs.Stands.{AnswersBelow, AreLeftAs, GivesUpBelow, GoesBelow, HasCause, HasSplit, HasWayOn, HoldsPair, HoldsStep, IfNoneFree, LiesBeyond, IsLeftAs, LetsGo, MayGo, Reaches, SpendsSteps, StandsOnWay}
+use Rattle.btree_change.proofs.NoRoom.{cause_after, cause_below, cause_still, if_full}
 use Rattle.btree_change.proofs.Spending.{own_same, right_after, right_before, spends_after, spends_before, spends_same, steps_after}
 use Rattle.btree_change.proofs.Standing.{higher_spelled, may_go, way_kept}
 
@@ -108,9 +110,10 @@ module _ (t : Terms) (m : Member) (stand : Stand) (k : CallerData) (stands : Sta
     }
 
     -- it stands below now
-    pub gone_below : (after : Step) (k2 : CallerData) → (s : HasSplit t m.span.first step after k1 k2) → (passage : Passage) (k3 : CallerData) → StandsOnWay t m passage.stand k3.log → passage.stand.at ≡ after.child → passage.changed ≡ after.parent.changed → StepsOnNodes k2 k3 → k3.log.holdings ≡ k2.log.holdings → GoesBelow t m stand passage k k3
-    gone_below after k2 s passage k3 on at changed same holdings = record {
+    pub gone_below : (after : Step) (k2 : CallerData) → (s : HasSplit t m.span.first step after k1 k2) → (passage : Passage) (k3 : CallerData) → StandsOnWay t m passage.stand k3.log → passage.stand.at ≡ after.child → passage.stand.room ≡ after.room → passage.changed ≡ after.parent.changed → StepsOnNodes k2 k3 → k3.log.holdings ≡ k2.log.holdings → GoesBelow t m stand passage k k3
+    gone_below after k2 s passage k3 on at way changed same holdings = record {
       stands = on;
+      cause = subst (λ r. IfNoneFree r (HasCause stand.room m.span.first k k3)) (sym way) (lost after.room s.cause);
       lower = s.pair.lower;
       upper = s.pair.upper;
       held = ap (λ (hs : Holdings). hs.held) holdings ∙ (s.pair.held ∙ ap (λ hs. s.pair.lower ∷ s.pair.upper ∷ hs) rest_is);
@@ -120,6 +123,10 @@ module _ (t : Terms) (m : Member) (stand : Stand) (k : CallerData) (stands : Sta
       less = subst (λ (h : Held). h.content.level < stand.at.content.level) (sym at) s.less;
       steps = steps_after 0 1 1 k k1 k3 (omega arith) (spends_same k k1 steps) (steps_after 1 0 1 k1 k2 k3 (omega arith) s.steps (spends_same k2 k3 same));
     }
+      where
+        lost : (r : Room) → IfNoneFree r (HasCause stand.room m.span.first k1 k2) → IfNoneFree r (HasCause stand.room m.span.first k k3)
+        lost room.Splitting c = tt
+        lost room.NoneFree c = cause_after stand.room m.span.first k k1 k3 (ap (λ r. r.own) steps.receipts) steps.loads (cause_still stand.room m.span.first k1 k2 k3 c same.loads)
 
   -- a lock was taken, and the node at which it stood may go
   pub stood_may_go : (l : CallerData) → l.log.holdings.held ≡ k.log.holdings.held → MayGo stand.at.node stand.at.changed l.log.holdings
@@ -196,13 +203,17 @@ module _ (t : Terms) (m : Member) (stand : Stand) (passage : Passage) (k k1 : Ca
 
     pub answered_so : (k3 : CallerData) → LetsGo k2 k3 → (most' : ℕ) → most + 2 ≤ most' → AnswersBelow t m reply most' k k3
     answered_so k3 gone most' sum = record {
-      right = right_after t m reply.answer k k1 k3 goes.steps.past (own_same 1 k k1 goes.steps)
-          (right_before t m reply.answer k1 k2 k3 gone.steps.past gone.steps.loads answers.right);
+      right = right_after t m reply.answer k k1 k3 goes.steps.past
+          (right_before t m reply.answer k1 k2 k3 gone.steps.past answers.right);
       call = spends_after 1 (most + 1) most' (receipt.Register m reply.answer ∷ []) (taken_by reply.answer) k k1 k3 (omega (arith, sum)) goes.steps.call
           (spends_before most 1 (most + 1) (receipt.Register m reply.answer ∷ []) (taken_by reply.answer) k1 k2 k3 (omega arith) answers.call gone.steps.call);
       above = subst (AreLeftAs reply.moved (drop 1 k.log.holdings.held)) (sym (gone.held ∙ ap (drop 1) first.is)) first.others;
       out = gone.out ∙ answers.out;
     }
+
+    -- Full is said below, and its cause is there
+    pub full_below : (k3 : CallerData) → LetsGo k2 k3 → IfFull reply.answer (HasCause passage.stand.room m.span.first k1 k2) → IfFull reply.answer (HasCause stand.room m.span.first k k3)
+    full_below k3 gone = if_full reply.answer (λ c. cause_below stand.room passage.stand.room m.span.first k k1 k3 (own_same 1 k k1 goes.steps) goes.steps.loads goes.cause (cause_still passage.stand.room m.span.first k1 k2 k3 c gone.steps.loads))
 
   -- given up below
   module _ (most : ℕ) (k2 : CallerData) (gives : GivesUpBelow most k1 k2) where

@@ -3,6 +3,7 @@ pub mod Settling
 pub mod LeafCommits
 pub mod HeldTrees
 pub mod Loading
+pub mod NoRoom
 pub mod Descending
 pub mod Descents
 pub mod Storing

@@ -18,11 +18,11 @@ use Rattle.word_rule.specs.TreeRefusals.{Appends, AppendsRefusal, HadNoRoom, Sho
 use Rattle.word_rule.specs.declared.log.Ask.TheVariants as ask
 use Rattle.word_rule.specs.declared.log.Terms.{Terms}
 use Rattle.btree_change.specs.Insertion.{RefusesMember}
+use Rattle.btree_change.specs.Loads.{KeepsLoads}
 use Rattle.btree_change.specs.Stands.{StandsAt}
 use Rattle.btree_change.proofs.Descending.{all_there}
 use Rattle.btree_change.proofs.Lowering.{settled_live}
 use Rattle.btree_change.proofs.Putting.{leaf_at_zero}
-use Rattle.btree_change.proofs.Spending.{room_kept}
 
 -- a member of a list that ascends is in order
 ordered_there : (low high : ℕ) (xs : List Member) (x : Member) → EntriesWithin low high xs → Contains xs x → x.span.first ≤ x.span.last
@@ -30,9 +30,13 @@ ordered_there low high [] x h c = absurd (let l = c.1 in omega (arith, l))
 ordered_there low high (y ∷ xs) x h (zero, l, e) = subst (λ (z : Member). z.span.first ≤ z.span.last) e h.0.1
 ordered_there low high (y ∷ xs) x h (suc k, l, e) = ordered_there (y.span.last + 1) high xs x (h.0.2, h.1.1) (k, omega (arith, l), e)
 
+-- a load of the clock is one load more
+pub clock_load : (t : Terms) (m : Member) (k k' : CallerData) (clock : ℕ) → AfterClock t (ask.Refused (update.Register m)) clock k.log k'.log → KeepsLoads k k'
+clock_load t m k k' clock (past, receipts, (tells, asked, is)) = (load_of k.log 0 clock ∷ [], ap (λ z. z.trace.loads) is)
+
 -- what a load of the clock makes of one that is refused for want of room
-pub refused_full : (t : Terms) (m : Member) (k k' : CallerData) (clock : ℕ) → HadNoRoom m.span.first (length k.log.receipts.own) k.log.trace.loads → AfterClock t (ask.Refused (update.Register m)) clock k.log k'.log → Appends (receipt.Register m (inserted.Full (clock % 4294967296))) k.log k'.log → k' ≡ record k { log = k'.log } → RefusesMember t m (inserted.Full (clock % 4294967296)) k k'
-refused_full t m k k' clock cause (past, receipts, (tells, asked, is)) appended rest =
+pub refused_full : (t : Terms) (m : Member) (k k' : CallerData) (clock : ℕ) → AfterClock t (ask.Refused (update.Register m)) clock k.log k'.log → Appends (receipt.Register m (inserted.Full (clock % 4294967296))) k.log k'.log → k' ≡ record k { log = k'.log } → RefusesMember t m (inserted.Full (clock % 4294967296)) k k'
+refused_full t m k k' clock (past, receipts, (tells, asked, is)) appended rest =
     let now : k'.log.past ≡ past = ap (λ z. z.past) is in
     let terms : k'.log.terms ≡ t = ap (λ z. z.terms) is ∙ tells.terms in
     let own : k'.log.receipts ≡ record k.log.receipts { own = k'.log.receipts.own } = ap (λ z. z.receipts) is ∙ ap (λ o. record k.log.receipts { own = o }) (sym (ap (λ z. z.receipts.own) is)) in record {
@@ -49,7 +53,6 @@ refused_full t m k k' clock cause (past, receipts, (tells, asked, is)) appended 
         subst (IsPrefix k.log.past) (sym now) tells.begins,
         tells.updates ∙ ap length (sym now),
         subst (λ z. IsFree m.span (state_after (start z) k'.log.past).registered) terms appended.right,
-        room_kept m.span.first (length k.log.receipts.own) k.log.trace.loads k'.log.trace.loads (load_of k.log 0 clock ∷ [], ap (λ z. z.trace.loads) is) cause,
       );
       none_taken = refl;
       receipts = own ∙ ap (λ o. record k.log.receipts { own = o }) appended.own;
@@ -129,4 +132,4 @@ module _ (t : Terms) (n : ℕ) (s : NodeData) (changed : Bool) (m : Member) (k :
   }
 
   pub full_so : (k' : CallerData) (clock : ℕ) → AfterClock t (ask.Refused (update.Register m)) clock k.log k'.log → AppendsRefusal (ask.Refused (update.Register m)) clock k.log k'.log → k' ≡ record k { log = k'.log } → RefusesMember t m (inserted.Full (clock % 4294967296)) k k'
-  full_so k' clock after refusal rest = refused_full t m k k' clock cause after (refusal.1 shows_full) rest
+  full_so k' clock after refusal rest = refused_full t m k k' clock after (refusal.1 shows_full) rest

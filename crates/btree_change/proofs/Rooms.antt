@@ -1,5 +1,5 @@
 -- A free node is taken for a full one; or none is free, and the loads say so.
-use Rattle.std.proofs.Common.{◌≡◌, ◌≢◌, ℕ, zero, suc, ◌+◌, ◌⊎◌, inl, inr, List, [], ◌∷◌, ◌++◌, length, sym, refl, ap, ◌∙◌, subst, arith, Bool, true, false, ◌==◌, ◌&&◌, nat_le, Option, Some, None, Result, Ok, Err, IsSome, IfSome, option_map, is_some, append_assoc, append-nil, Contains, eq-eqb, ne_eqb, if◌then◌else◌}
+use Rattle.std.proofs.Common.{◌≡◌, ◌≢◌, ℕ, zero, suc, ◌+◌, ◌⊎◌, inl, inr, List, [], ◌∷◌, length, sym, refl, ap, ◌∙◌, subst, arith, Bool, true, false, ◌==◌, ◌&&◌, nat_le, Option, Some, None, Result, Ok, Err, IsSome, IfSome, option_map, is_some, append_assoc, append-nil, Contains, eq-eqb, ne_eqb, if◌then◌else◌}
 use Rattle.std.proofs.lemmas.Option.{none-some, same_Some}
 use native.Mathlib.Decide.{ℕ_discrete}
 use Rattle.reg_model.specs.declared.span.Member.{Member}
@@ -15,9 +15,7 @@ use Rattle.word_rule.specs.Places.{HEAD, node_place}
 use Rattle.word_rule.specs.Sights.{after_node_load}
 use Rattle.word_rule.specs.Spelling.{entries_at, entry_at, is_entry_at, is_short, node_word, pair_at, pairs_at, SpellsNode}
 use Rattle.word_rule.specs.Steps.{after_node_lock, after_take, mark_at_lock}
-use Rattle.word_rule.specs.TreeRefusals.{HadNoRoom}
 use Rattle.word_rule.specs.declared.log.Holding.{Holding}
-use Rattle.word_rule.specs.declared.log.LoadEvent.{LoadEvent}
 use Rattle.word_rule.specs.declared.log.LockId.TheVariants as lock
 use Rattle.word_rule.specs.declared.log.Terms.{Terms}
 use Rattle.word_rule.proofs.Spells.{reads}
@@ -25,7 +23,7 @@ use Rattle.node_store.specs.declared.locking.Busy.{Busy}
 use Rattle.node_store.specs.Free.{IsFreeTaken, TakesFree, headed}
 use Rattle.node_store.specs.Locking.{IsBusy, Locks, sighted, tried}
 use Rattle.btree_change.specs.declared.descent.Held.{Held}
-use Rattle.btree_change.specs.Loads.{FoundTaken}
+use Rattle.btree_change.specs.Loads.{FoundNoRoom, FoundTaken}
 use Rattle.btree_change.specs.Splits.{HoldsFull, IsRoomFor, StaysHeld, TakesRoom}
 use Rattle.btree_change.proofs.Loading.{found_after, found_busy, keeps_load, keeps_then}
 
@@ -75,27 +73,6 @@ found_there n (a ∷ held) h found = go (ℕ_discrete a.node n) (found_there n h
     go (yes e) rest = let same : a ≡ h = same_Some _ _ (rw (eq-eqb a.node n e) at found) in (0, omega arith, same)
     go (no ne) rest = let r = rest (rw (ne_eqb a.node n ne) at found) in (suc r.0, (let l = r.1 in omega (arith, l)), r.2)
 
--- More loads leave the cause where it was.
-pub more_loads : (base receipts : ℕ) (loads more : List LoadEvent) → HadNoRoom base receipts loads → HadNoRoom base receipts (loads ++ more)
-more_loads base receipts loads more r = record {
-  before = r.before;
-  count = r.count;
-  between = r.between;
-  cause = r.cause;
-  behind = r.behind ++ more;
-  in_order = ap (λ z. z ++ more) r.in_order ∙ (append_assoc r.before (r.count ∷ (r.between ++ (r.cause ∷ r.behind))) more ∙ ap (λ z. r.before ++ (r.count ∷ z)) (append_assoc r.between (r.cause ∷ r.behind) more));
-  since = r.since;
-  node = r.node;
-  held = r.held;
-  full = r.full;
-  on_way = r.on_way;
-  last = r.last;
-  stores = r.stores;
-  stored = r.stored;
-  unstored = r.unstored;
-  shut = r.shut;
-}
-
 module _ (t : Terms) (full : Held) (pc : ℕ) (k k1 : CallerData) (found : ℕ) (h : HoldsFull t full pc k.log.holdings) (load : k1 ≡ record k { log = after_node_load full.node 5 found k.log }) (tells : HeldTells full.node 5 found k.log) where
   count_is : node_word h.lock.words 5 ≡ found
   count_is = subst (λ o. IfSome o (λ (z : Holding). node_word z.words 5 ≡ found)) h.found tells
@@ -109,28 +86,32 @@ module _ (t : Terms) (full : Held) (pc : ℕ) (k k1 : CallerData) (found : ℕ) 
     subst (λ (z : NodeData). IsFullBody found z.body) (sym h.here.settled) (subst (λ n. IsFullBody n full.content.body) count_is (full_count h.lock.words full.content h.here.spells h.is_full)),
   )
 
-  pub had_no_room : (k' : CallerData) → k' ≡ headed 0 k1 → StaysHeld k k' × HadNoRoom pc (length k.log.receipts.own) k'.log.trace.loads
+  pub had_no_room : (k' : CallerData) → k' ≡ headed 0 k1 → StaysHeld k k' × FoundNoRoom pc k k'
   had_no_room k' is =
       let whole : k' ≡ headed 0 (record k { log = after_node_load full.node 5 found k.log }) = is ∙ ap (headed 0) load in
       let cause = load_of (after_node_load full.node 5 found k.log) HEAD 0 in (
         subst (StaysHeld k) (sym whole) (record { held = refl; out = refl; same = record { table = refl; left = refl; terms = refl; role = refl; past = refl; budget = refl; receipts = refl; loader = refl; made = refl; lineage = refl; loads = keeps_then k (record k { log = after_node_load full.node 5 found k.log }) (headed 0 (record k { log = after_node_load full.node 5 found k.log })) (_ ∷ [], refl) (_ ∷ [], refl) } }),
         record {
-          before = k.log.trace.loads;
-          count = load_of k.log (node_place full.node + 5) found;
-          between = [];
-          cause = cause;
-          behind = [];
-          in_order = ap (λ (z : CallerData). z.log.trace.loads) whole ∙ append_assoc k.log.trace.loads (load_of k.log (node_place full.node + 5) found ∷ []) (cause ∷ []);
-          since = refl;
-          node = h.lock;
-          held = found_there full.node k.log.holdings.held h.lock h.found;
-          full = is_full_count;
-          on_way = subst (IsInFences pc) (sym h.here.settled) h.on_way;
-          last = tt;
-          stores = [];
-          stored = sym (append-nil k.log.trace.stores);
-          unstored = refl;
-          shut = inl (refl, refl, none_or_one h.out);
+          more = load_of k.log (node_place full.node + 5) found ∷ cause ∷ [];
+          loads = ap (λ (z : CallerData). z.log.trace.loads) whole ∙ append_assoc k.log.trace.loads (load_of k.log (node_place full.node + 5) found ∷ []) (cause ∷ []);
+          no_room = record {
+            before = [];
+            count = load_of k.log (node_place full.node + 5) found;
+            between = [];
+            cause = cause;
+            behind = [];
+            in_order = refl;
+            since = refl;
+            node = h.lock;
+            held = found_there full.node k.log.holdings.held h.lock h.found;
+            full = is_full_count;
+            on_way = subst (IsInFences pc) (sym h.here.settled) h.on_way;
+            last = tt;
+            stores = [];
+            stored = sym (append-nil k.log.trace.stores);
+            unstored = refl;
+            shut = inl (refl, refl, none_or_one h.out);
+          };
         },
       )
     where

@@ -1,5 +1,5 @@
 -- Parts of an update call, one after another: what they take of their caller.
-use Rattle.std.proofs.Common.{◌≡◌, ℕ, ◌+◌, ◌≤◌, ◌<◌, List, [], ◌∷◌, ◌++◌, length, append-nil, sym, refl, ap, ◌∙◌, subst, arith}
+use Rattle.std.proofs.Common.{◌≡◌, ℕ, ◌+◌, ◌≤◌, ◌<◌, List, [], ◌++◌, length, append-nil, sym, ap, ◌∙◌, subst, arith}
 use mathlib.Core.List.{IsPrefix}
 use Rattle.reg_model.specs.declared.answer.Inserted.{Inserted}
 use Rattle.reg_model.specs.declared.answer.Inserted.TheVariants as inserted
@@ -9,19 +9,12 @@ use Rattle.word_rule.specs.CallerData.{CallerData, due, surplus}
 use Rattle.reg_model.specs.History.{state_after}
 use Rattle.reg_model.specs.State.{IsFree, IsLowestOverlap}
 use Rattle.word_rule.specs.Callers.{start}
-use Rattle.word_rule.specs.TreeRefusals.{HadNoRoom}
-use Rattle.word_rule.specs.declared.log.LoadEvent.{LoadEvent}
 use Rattle.word_rule.specs.declared.log.Receipts.{Receipts}
 use Rattle.word_rule.specs.declared.log.Terms.{Terms}
 use Rattle.btree_change.specs.Insertion.{IsRightInsertion}
 use Rattle.btree_change.specs.Paths.{StepsOnNodes}
-use Rattle.btree_change.specs.Loads.{KeepsLoads}
 use Rattle.btree_change.specs.Stands.{SpendsCall, SpendsSteps}
 use Rattle.btree_change.proofs.Loading.{keeps_then}
-
-append_assoc : {A : Type 0} (xs ys zs : List A) → (xs ++ ys) ++ zs ≡ xs ++ (ys ++ zs)
-append_assoc [] ys zs = refl
-append_assoc (x ∷ xs) ys zs = ap (λ l. x ∷ l) (append_assoc xs ys zs)
 
 -- one part after another, of which the first answers nothing
 pub spends_after : (a b c : ℕ) (more : List Receipt) (taken : ℕ) (k l m : CallerData) → a + b ≤ c → SpendsCall [] 0 a k l → SpendsCall more taken b l m → SpendsCall more taken c k m
@@ -95,39 +88,15 @@ due_after a k l s some = let x = s.call.allowance in let y = s.call.left in omeg
 pub surplus_steps : (a : ℕ) (k l : CallerData) (need : ℕ) → SpendsSteps a k l → a + need ≤ surplus k → need ≤ surplus l
 surplus_steps a k l need s enough = surplus_after [] 0 a k l need s.call enough
 
--- The causes of a Full stay where more is loaded.
-pub room_kept : (base receipts : ℕ) (loads loads' : List LoadEvent) → (more : List LoadEvent) × (loads' ≡ loads ++ more) → HadNoRoom base receipts loads → HadNoRoom base receipts loads'
-room_kept base receipts loads loads' (more, is) h = record {
-  before = h.before;
-  count = h.count;
-  between = h.between;
-  cause = h.cause;
-  behind = h.behind ++ more;
-  in_order = is ∙ (ap (λ xs. xs ++ more) h.in_order ∙ (append_assoc h.before (h.count ∷ (h.between ++ (h.cause ∷ h.behind))) more ∙ ap (λ xs. h.before ++ (h.count ∷ xs)) (append_assoc h.between (h.cause ∷ h.behind) more)));
-  since = h.since;
-  node = h.node;
-  held = h.held;
-  full = h.full;
-  on_way = h.on_way;
-  last = h.last;
-  stores = h.stores;
-  stored = h.stored;
-  unstored = h.unstored;
-  shut = h.shut;
-}
-
 -- An answer is right also for one that took steps before, and after more steps.
-pub right_after : (t : Terms) (m : Member) (answer : Inserted) (k l n : CallerData) → l.log.past ≡ k.log.past → l.log.receipts.own ≡ k.log.receipts.own → IsRightInsertion t m l n answer → IsRightInsertion t m k n answer
-right_after t m (inserted.Done number) k l n past own (before, (begins, is, number_is)) = (before, (subst (λ p. IsPrefix p before) past begins, is, number_is))
-right_after t m (inserted.Overlap other stamp) k l n past own r = (subst (λ p. IsPrefix p n.log.past) past r.0, r.1, r.2, r.3)
-right_after t m (inserted.Full stamp) k l n past own r = (subst (λ p. IsPrefix p n.log.past) past r.0, r.1, r.2, subst (λ xs. HadNoRoom m.span.first (length xs) n.log.trace.loads) own r.3)
-right_after t m inserted.Spent k l n past own r = absurd r
+pub right_after : (t : Terms) (m : Member) (answer : Inserted) (k l n : CallerData) → l.log.past ≡ k.log.past → IsRightInsertion t m l n answer → IsRightInsertion t m k n answer
+right_after t m (inserted.Done number) k l n past (before, (begins, is, number_is)) = (before, (subst (λ p. IsPrefix p before) past begins, is, number_is))
+right_after t m (inserted.Overlap other stamp) k l n past r = (subst (λ p. IsPrefix p n.log.past) past r.0, r.1, r.2, r.3)
+right_after t m (inserted.Full stamp) k l n past r = (subst (λ p. IsPrefix p n.log.past) past r.0, r.1, r.2)
+right_after t m inserted.Spent k l n past r = absurd r
 
-pub right_before : (t : Terms) (m : Member) (answer : Inserted) (k l n : CallerData) → n.log.past ≡ l.log.past → KeepsLoads l n → IsRightInsertion t m k l answer → IsRightInsertion t m k n answer
-right_before t m answer k l n past loads r = go answer r
-  where
-    go : (answer : Inserted) → IsRightInsertion t m k l answer → IsRightInsertion t m k n answer
-    go (inserted.Done number) r = (r.0, (r.1.0, past ∙ r.1.1, r.1.2 ∙ ap length (sym past)))
-    go (inserted.Overlap other stamp) r = (subst (IsPrefix k.log.past) (sym past) r.0, r.1 ∙ ap length (sym past), subst (λ p. IsLowestOverlap m.span (state_after (start t) p).registered other) (sym past) r.2, r.3)
-    go (inserted.Full stamp) r = (subst (IsPrefix k.log.past) (sym past) r.0, r.1 ∙ ap length (sym past), subst (λ p. IsFree m.span (state_after (start t) p).registered) (sym past) r.2, room_kept m.span.first (length k.log.receipts.own) l.log.trace.loads n.log.trace.loads loads r.3)
-    go inserted.Spent r = absurd r
+pub right_before : (t : Terms) (m : Member) (answer : Inserted) (k l n : CallerData) → n.log.past ≡ l.log.past → IsRightInsertion t m k l answer → IsRightInsertion t m k n answer
+right_before t m (inserted.Done number) k l n past r = (r.0, (r.1.0, past ∙ r.1.1, r.1.2 ∙ ap length (sym past)))
+right_before t m (inserted.Overlap other stamp) k l n past r = (subst (IsPrefix k.log.past) (sym past) r.0, r.1 ∙ ap length (sym past), subst (λ p. IsLowestOverlap m.span (state_after (start t) p).registered other) (sym past) r.2, r.3)
+right_before t m (inserted.Full stamp) k l n past r = (subst (IsPrefix k.log.past) (sym past) r.0, r.1 ∙ ap length (sym past), subst (λ p. IsFree m.span (state_after (start t) p).registered) (sym past) r.2)
+right_before t m inserted.Spent k l n past r = absurd r

@@ -31,7 +31,7 @@ use Rattle.btree_change.specs.declared.stand.Room.TheVariants as room
 use Rattle.btree_change.specs.Paths.{AreHigher, IsLiveLock, IsSettledLock}
 use Rattle.btree_change.specs.Stands.{HasWayOn, HoldsPair, LiesBeyond, IsReach, MayGo, Reaches, StandsOnWay, StandsAt}
 use Rattle.btree_change.proofs.HeldTrees.{OnTree, apart_with, child, child_frame, inner, on_tree}
-use Rattle.btree_change.proofs.Spending.{room_kept}
+use Rattle.btree_change.proofs.NoRoom.{more_loads}
 
 -- an item of a list stands in it
 contains_in : {A : Type 0} (xs : List A) (x : A) → Contains xs x → In x xs
@@ -229,7 +229,7 @@ may_go t at holdings s = record {
 -- a load keeps what is known of the way on
 pub way_kept : (room : Room) (pc : ℕ) (s : NodeData) (v w : Log) → w.receipts.own ≡ v.receipts.own → (more : List LoadEvent) → w.trace.loads ≡ v.trace.loads ++ more → HasWayOn room pc s v → HasWayOn room pc s w
 way_kept room.Splitting pc s v w own more is h = h
-way_kept room.NoneFree pc s v w own more is h = subst (λ xs. HadNoRoom pc (length xs) w.trace.loads) (sym own) (room_kept pc (length v.receipts.own) v.trace.loads w.trace.loads (more, is) h)
+way_kept room.NoneFree pc s v w own more is h = subst (λ xs. HadNoRoom pc (length xs) w.trace.loads) (sym own) (subst (HadNoRoom pc (length v.receipts.own)) (sym is) (more_loads pc (length v.receipts.own) v.trace.loads more h))
 
 -- and so is where an insertion stands
 pub stands_after : (t : Terms) (m : Member) (parent below : Held) (way : Room) (so_far found : Option Beyond) (above : List Holding) (at word : ℕ) (k k' : CallerData) → (pair : HoldsPair t m.span.first parent below above k.log.holdings) → KnowsTree k.log.holdings → HasWayOn way m.span.first below.content k.log → IsReach parent m.span.first m.span.last so_far found → Reaches t m.span.last parent.content so_far pair.upper above

@@ -7,12 +7,15 @@ use Rattle.word_rule.specs.CallerData.{CallerData}
 use Rattle.word_rule.specs.declared.log.Holding.{Holding}
 use Rattle.word_rule.specs.declared.log.Log.{Log}
 use Rattle.word_rule.specs.declared.log.Terms.{Terms}
+use Rattle.word_rule.specs.declared.log.Receipts.{Receipts}
 use Rattle.word_rule.specs.Held.{held_of}
+use Rattle.word_rule.specs.TreeRefusals.{HadNoRoom}
 use Rattle.btree_change.specs.declared.descent.Held.{Held}
 use Rattle.btree_change.specs.declared.split.Split.{Split}
 use Rattle.btree_change.specs.declared.stand.Room.{Room}
 use Rattle.btree_change.specs.declared.stand.Room.TheVariants as room
 use Rattle.btree_change.specs.declared.stand.Step.{Step}
+use Rattle.btree_change.specs.Loads.{FoundNoRoom}
 use Rattle.btree_change.specs.Paths.{AreHigher, StepsOnNodes}
 use Rattle.btree_change.specs.Splits.{HasSpace, HoldsFull, HoldsFullChild, SplitsChild, StaysHeld, TakesRoom, with_release_less}
 use Rattle.word_rule.specs.NodeTells.{KnowsTree}
@@ -21,6 +24,7 @@ use Rattle.btree_change.specs.Stands.{HasSplit, HasWayOn, HoldsPair, LetsGo, May
 use Rattle.btree_change.proofs.Descending.{steps_then}
 use Rattle.btree_change.proofs.Descents.{steps_of_load}
 use Rattle.btree_change.proofs.Loading.{keeps_all}
+use Rattle.btree_change.proofs.NoRoom.{found_cause, no_room_now, same_cause}
 use Rattle.btree_change.proofs.Standing.{may_go, stands_below}
 use Rattle.btree_change.proofs.Lowering.{settled_inner, settled_live}
 use Rattle.btree_change.proofs.Spending.{spends_same, steps_after}
@@ -75,6 +79,7 @@ module _ (t : Terms) (pc : ℕ) (step : Step) (above : List Holding) (k : Caller
   stays_unsplit is way less = record {
     pair = subst (λ hs. HoldsPair t pc step.parent step.child hs k.log.holdings) is pair;
     way = way;
+    cause = same_cause step.room pc k;
     node = refl;
     frame = refl;
     less = less;
@@ -116,8 +121,8 @@ module _ (t : Terms) (pc : ℕ) (step : Step) (above : List Holding) (k : Caller
   )
 
   -- no node was free
-  pub none_split : (k1 : CallerData) → above ≡ drop 2 k.log.holdings.held → StaysHeld k k1 → HasWayOn room.NoneFree pc step.child.content k1.log → step.child.content.level < step.parent.content.level → HasSplit t pc step (record step { room = room.NoneFree }) k k1
-  none_split k1 is stays way less = record {
+  pub none_split : (k1 : CallerData) → above ≡ drop 2 k.log.holdings.held → StaysHeld k k1 → FoundNoRoom pc k k1 → step.child.content.level < step.parent.content.level → HasSplit t pc step (record step { room = room.NoneFree }) k k1
+  none_split k1 is stays found less = record {
     pair = record {
       parent_within = pair.parent_within;
       child_within = pair.child_within;
@@ -133,7 +138,8 @@ module _ (t : Terms) (pc : ℕ) (step : Step) (above : List Holding) (k : Caller
       root = subst (λ hs. IsSome (held_of 0 (pair.upper ∷ hs))) is pair.root;
       out = stays.out ∙ pair.out;
     };
-    way = way;
+    way = subst (λ (rs : Receipts). HadNoRoom pc (length rs.own) k1.log.trace.loads) (sym stays.same.receipts) (no_room_now pc k k1 found);
+    cause = found_cause step.room pc k k1 found;
     node = refl;
     frame = refl;
     less = less;
@@ -207,6 +213,7 @@ module _ (t : Terms) (pc : ℕ) (step : Step) (above : List Holding) (k : Caller
           out = s.out;
         };
         way = s.room;
+        cause = tt;
         node = ap (λ (h : Held). h.node) s.parent;
         frame = ap (λ (h : Held). frame_of h.content) s.parent;
         less = s.lower_level;

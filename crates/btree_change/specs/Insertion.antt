@@ -17,8 +17,8 @@ use Rattle.word_rule.specs.declared.log.Holding.{Holding}
 use Rattle.word_rule.specs.declared.log.Holdings.{Holdings}
 use Rattle.word_rule.specs.declared.log.Terms.{Terms}
 use Rattle.word_rule.specs.Spelling.{SpellsNode}
-use Rattle.word_rule.specs.TreeRefusals.{HadNoRoom}
 use Rattle.btree_change.specs.declared.descent.Held.{Held}
+use Rattle.btree_change.specs.Loads.{FoundNoRoom}
 use Rattle.btree_change.specs.Paths.{IsSettledLock}
 use Rattle.btree_change.specs.Updates.{AnswersUpdate}
 
@@ -62,7 +62,7 @@ pub record PutsMember (m : Member) (n number : ℕ) (k k' : CallerData) : Type 0
   pub out : k'.log.holdings.out ≡ []
 
 -- The answer to an insertion is right, where `k` was its caller when the call was begun and k' is it
--- afterwards. Full has its cause among the caller's loads.
+-- afterwards.
 abbrev pub IsRightInsertion : Terms → Member → CallerData → CallerData → Inserted → Type 0
 IsRightInsertion t m k k' (inserted.Done number) = (before : List Update)
     × (IsPrefix k.log.past before × (k'.log.past ≡ before ++ update.Register m ∷ [])
@@ -74,8 +74,12 @@ IsRightInsertion t m k k' (inserted.Overlap other stamp) = IsPrefix k.log.past k
 IsRightInsertion t m k k' (inserted.Full stamp) = IsPrefix k.log.past k'.log.past
     × (stamp ≡ length k'.log.past)
     × IsFree m.span (state_after (start t) k'.log.past).registered
-    × HadNoRoom m.span.first (length k.log.receipts.own) k'.log.trace.loads
 IsRightInsertion t m k k' inserted.Spent = ⊥
+
+-- what holds where the answer is Full
+abbrev pub IfFull : Inserted → Type 0 → Type 0
+IfFull (inserted.Full stamp) P = P
+IfFull _ P = Unit {0}
 
 -- what an accepted insertion takes of an allowance, and its release of a credit
 abbrev pub taken_by : Inserted → ℕ
@@ -100,10 +104,12 @@ pub record RefusesMember (t : Terms) (m : Member) (answer : Inserted) (k k' : Ca
       own = k.log.receipts.own ++ receipt.Register m answer ∷ [];
     }
 
--- An insertion that was begun was answered, as the state is after all that is seen then.
+-- An insertion that was begun was answered, as the state is after all that is seen then. Full has
+-- its cause among the loads of the call.
 pub record AnswersInsertion (t : Terms) (m : Member) (answer : Inserted) (k k' : CallerData)
     : Type 0 where
   pub right : IsRightInsertion t m k k' answer
+  pub cause : IfFull answer (FoundNoRoom m.span.first k k')
   pub call : AnswersUpdate (receipt.Register m answer) (taken_by answer) k k'
 
 -- a caller that began an update call

@@ -11,7 +11,6 @@ use Rattle.word_rule.specs.CallerData.{CallerData}
 use Rattle.word_rule.specs.Held.{held_of}
 use Rattle.word_rule.specs.Logs.{after_spending}
 use Rattle.word_rule.specs.Spelling.{SpellsNode}
-use Rattle.word_rule.specs.TreeRefusals.{HadNoRoom}
 use Rattle.word_rule.specs.declared.log.Holding.{Holding}
 use Rattle.word_rule.specs.declared.log.Holdings.{Holdings}
 use Rattle.word_rule.specs.declared.log.Terms.{Terms}
@@ -22,7 +21,7 @@ use Rattle.btree_change.specs.declared.split.Parts.{Parts}
 use Rattle.btree_change.specs.declared.split.Split.{Split}
 use Rattle.btree_change.specs.declared.lift.FullRoot.{FullRoot}
 use Rattle.btree_change.specs.declared.lift.TwoNodes.{TwoNodes}
-use Rattle.btree_change.specs.Loads.{FoundTaken}
+use Rattle.btree_change.specs.Loads.{FoundNoRoom, FoundTaken}
 use Rattle.btree_change.specs.Paths.{AreHigher, HasChildFor, IsSettledLock, StepsOnNodes}
 
 -- The lock of a node that was taken off the free list: its words spell a free one.
@@ -162,8 +161,7 @@ pub record StaysHeld (k k' : CallerData) : Type 0 where
 -- that the first one was found locked, by a caller that may give up: its lock.
 abbrev pub IsRoomFor : Bool → ℕ → CallerData → CallerData → Result (Option ℕ) Busy → Type 0
 IsRoomFor gives_up pc k k' (Ok (Some fresh)) = TakesRoom fresh k k'
-IsRoomFor gives_up pc k k' (Ok None) =
-    StaysHeld k k' × HadNoRoom pc (length k.log.receipts.own) k'.log.trace.loads
+IsRoomFor gives_up pc k k' (Ok None) = StaysHeld k k' × FoundNoRoom pc k k'
 IsRoomFor gives_up pc k k' (Err busy) =
     StaysHeld k k' × (gives_up ≡ true) × FoundTaken busy.lock k k'
 
@@ -276,7 +274,6 @@ abbrev pub IsRoomForRoot
     : Bool → Held → ℕ → CallerData → CallerData → Result (Option TwoNodes) Busy → Type 0
 IsRoomForRoot gives_up root pc k k' (Ok (Some two)) =
     (root.content.level < HIGHEST_LEVEL) × TakesTwo two k k'
-IsRoomForRoot gives_up root pc k k' (Ok None) =
-    KeepsHeld k k' × HadNoRoom pc (length k.log.receipts.own) k'.log.trace.loads
+IsRoomForRoot gives_up root pc k k' (Ok None) = KeepsHeld k k' × FoundNoRoom pc k k'
 IsRoomForRoot gives_up root pc k k' (Err busy) =
     KeepsHeld k k' × (gives_up ≡ true) × FoundTaken busy.lock k k'

@@ -26,7 +26,7 @@ use Rattle.btree_change.specs.declared.stand.Room.TheVariants as room
 use Rattle.btree_change.specs.declared.stand.Stand.{Stand}
 use Rattle.btree_change.specs.declared.stand.Step.{Step}
 use Rattle.btree_change.specs.Insertion.{IsRightInsertion, taken_by}
-use Rattle.btree_change.specs.Loads.{KeepsLoads}
+use Rattle.btree_change.specs.Loads.{FoundNoRoom, KeepsLoads}
 use Rattle.btree_change.specs.Paths.{AreHigher, HasChildFor}
 use Rattle.btree_change.specs.Spines.{AreApart, Climbs}
 use Rattle.btree_change.specs.Splits.{HasSpace, IsHeldAs}
@@ -89,6 +89,17 @@ IsReach parent pc last so_far found = let pairs = pairs_of parent.content in
 abbrev pub HasWayOn : Room → ℕ → NodeData → Log → Type 0
 HasWayOn room.Splitting base s v = HasSpace s.body
 HasWayOn room.NoneFree base s v = HadNoRoom base (length v.receipts.own) v.trace.loads
+
+-- what holds where no node is free for a split
+abbrev pub IfNoneFree : Room → Type 0 → Type 0
+IfNoneFree room.Splitting P = Unit {0}
+IfNoneFree room.NoneFree P = P
+
+-- The cause of a Full: where nodes were split before it is among the loads of these steps; where none
+-- was free, it was among those before, and they stay.
+abbrev pub HasCause : Room → ℕ → CallerData → CallerData → Type 0
+HasCause room.Splitting base k k' = FoundNoRoom base k k'
+HasCause room.NoneFree base k k' = KeepsLoads k k'
 
 -- Where an insertion stands.
 pub record StandsOnWay (t : Terms) (m : Member) (stand : Stand) (v : Log) : Type 0 where
@@ -203,6 +214,7 @@ pub record HoldsStep (t : Terms) (pc : ℕ) (step : Step) (above : List Holding)
 pub record HasSplit (t : Terms) (pc : ℕ) (step after : Step) (k k' : CallerData) : Type 0 where
   pub pair : HoldsPair t pc after.parent after.child (drop 2 k.log.holdings.held) k'.log.holdings
   pub way : HasWayOn after.room pc after.child.content k'.log
+  pub cause : IfNoneFree after.room (HasCause step.room pc k k')
   pub node : after.parent.node ≡ step.parent.node
   pub frame : frame_of after.parent.content ≡ frame_of step.parent.content
   pub less : after.child.content.level < step.parent.content.level
@@ -213,6 +225,7 @@ pub record HasSplit (t : Terms) (pc : ℕ) (step after : Step) (k k' : CallerDat
 pub record GoesBelow (t : Terms) (m : Member) (stand : Stand) (passage : Passage)
     (k k' : CallerData) : Type 0 where
   pub stands : StandsOnWay t m passage.stand k'.log
+  pub cause : IfNoneFree passage.stand.room (HasCause stand.room m.span.first k k')
   pub lower : Holding
   pub upper : Holding
   pub held : k'.log.holdings.held ≡ lower ∷ upper ∷ drop 1 k.log.holdings.held

@@ -10,10 +10,11 @@ ghost use Rattle.tree_shape.specs.declared.node.Frame.{Frame};
 ghost use Rattle.word_rule.specs.CallerData.{due, surplus};
 ghost use Rattle.word_rule.specs.NodeTells.{IsLiveNode};
 ghost use Rattle.word_rule.specs.TreeRefusals.{HadNoRoom};
-ghost use Rattle.btree_change.specs.Loads.{FoundTaken};
-ghost use Rattle.btree_change.specs.Insertion.{RefusesMember};
+ghost use Rattle.btree_change.specs.Loads.{FoundTaken, KeepsLoads};
+ghost use Rattle.btree_change.specs.Insertion.{IfFull, RefusesMember};
 ghost use Rattle.btree_change.specs.Spines.{HoldsLeafPair, HoldsNext};
-ghost use Rattle.btree_change.specs.Stands.{AnswersBelow, GivesUpBelow, StandsAt, releases_at};
+ghost use Rattle.btree_change.specs.Stands.{AnswersBelow, GivesUpBelow, HasCause, StandsAt};
+ghost use Rattle.btree_change.specs.Stands.{releases_at};
 ghost use Rattle.btree_change.specs.Far.{AnswersAbove, IsAtNext, IsReadyFar, LeavesFar, StandsFar};
 
 use crate::descent::{Held, let_go_of};
@@ -55,7 +56,8 @@ fn full_next(words: &Words, me: &mut Caller, leaf: &Held, right: &Held, member: 
     requires free_right { IsFree member.now.span (entries_of right.now.content) }
     requires cause { HadNoRoom member.now.span.first (length me.old.log.receipts.own)
         me.old.log.trace.loads }
-    ensures { RefusesMember words.now.terms member.now result me.old me.new }
+    ensures refused { RefusesMember words.now.terms member.now result me.old me.new }
+    ensures loads { KeepsLoads me.old me.new }
 {
     let update = Update::Register { member: *member };
     let clock = words.load_clock(me, Ask::Refused { update });
@@ -85,6 +87,8 @@ fn refused_far(
         me.old.log.trace.loads }
     ensures refused { IfSome result (λ answer. RefusesMember words.now.terms member.now answer
         me.old me.new) }
+    ensures full { IfSome result (λ answer. IfFull answer
+        (HasCause far.now.room member.now.span.first me.old me.new)) }
     ensures none { IfNone result ((me.new ≡ me.old) × (far.now.room ≡ Room.Splitting)
         × LiesAbove member.now.span.last right.now.content.body
         × (member.now.span.last < right.now.content.high)) }
@@ -131,9 +135,10 @@ fn put_far<L: Locking>(
     requires due { 0 < due me.old }
     requires surplus { releases_at 0 ≤ surplus me.old }
     requires payload { member.now.payload < words.now.terms.payloads }
-    ensures { (ready : IsReadyFar words.now.terms member.now far.now me.old.log)
+    ensures answer { (ready : IsReadyFar words.now.terms member.now far.now me.old.log)
         → AnswersAbove words.now.terms member.now result (drop 1 ready.next.base.held)
         (releases_at 0) me.old me.new }
+    ensures never_full { IfFull result.answer ⊥ }
 {
     let above = Ancestor {
         node: far.beyond.node,
@@ -169,9 +174,11 @@ fn at_next<L: Locking>(
     requires due { 0 < due me.old }
     requires surplus { releases_at 0 ≤ surplus me.old }
     requires payload { member.now.payload < words.now.terms.payloads }
-    ensures { (at : IsAtNext words.now.terms member.now next.now me.old.log)
+    ensures answer { (at : IsAtNext words.now.terms member.now next.now me.old.log)
         → AnswersAbove words.now.terms member.now result (drop 1 at.next.base.held)
         (releases_at 0) me.old me.new }
+    ensures full { IfFull result.answer
+        (HasCause next.now.far.room member.now.span.first me.old me.new) }
 {
     match refused_far(words, me, &next.far, &next.right, member) {
         Some(answer) => {
@@ -203,6 +210,8 @@ pub(crate) fn beyond_leaf<L: Locking>(
     requires payload { member.now.payload < words.now.terms.payloads }
     ensures answer { IfOk result (λ reply. AnswersBelow words.now.terms member.now reply
         (releases_at 0) me.old me.new) }
+    ensures full { IfOk result (λ reply. IfFull reply.answer
+        (HasCause far.room member.now.span.first me.old me.new)) }
     ensures busy { IfErr result (λ e. GivesUpBelow (releases_at 0) me.old me.new
         × (L.gives_up ≡ true)) }
     ensures cause { IfErr result (λ e. FoundTaken e.lock me.old me.new) }

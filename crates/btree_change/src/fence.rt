@@ -2,13 +2,13 @@
 //! in the next leaf is named, or the fence is moved on both spines.
 ghost use Rattle.std.specs.Prelude.{◌≡◌, ◌≢◌, ◌<◌, ◌≤◌, true, IfNone, IfOk, IfErr, IfSome};
 ghost use Rattle.reg_model.specs.State.{IsFree};
-ghost use Rattle.tree_shape.specs.NodeData.{IsInFences, NodeData, entries_of};
+ghost use Rattle.tree_shape.specs.NodeData.{IsInFences, entries_of};
 ghost use Rattle.tree_shape.specs.Steps.{LiesAbove};
 ghost use Rattle.tree_shape.specs.declared.node.Frame.{Frame};
 ghost use Rattle.tree_shape.specs.declared.limits.TheConstants.{HIGHEST_LEVEL};
-ghost use Rattle.word_rule.specs.CallerData.{CallerData, surplus};
+ghost use Rattle.word_rule.specs.CallerData.{surplus};
 ghost use Rattle.word_rule.specs.NodeTells.{IsLiveNode};
-ghost use Rattle.btree_change.specs.Insertion.{RefusesMember};
+ghost use Rattle.btree_change.specs.Insertion.{IfFull, RefusesMember};
 ghost use Rattle.btree_change.specs.Paths.{StepsOnNodes};
 ghost use Rattle.btree_change.specs.Loads.{FoundTaken, KeepsLoads};
 ghost use Rattle.btree_change.specs.Spines.{HoldsLeafPair, HoldsNext, HoldsWay};
@@ -93,6 +93,7 @@ pub(crate) fn refused_next(
     requires never_root { right.now.node ≢ 0 }
     ensures overlaps { IfSome result (λ answer. RefusesMember words.now.terms member.now answer
         me.old me.new) }
+    ensures never_full { IfSome result (λ answer. IfFull answer ⊥) }
     ensures free { IfNone result ((me.new ≡ me.old)
         × IsFree member.now.span (entries_of right.now.content)
         × LiesAbove member.now.span.last right.now.content.body

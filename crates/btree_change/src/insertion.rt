@@ -7,11 +7,11 @@ ghost use Rattle.word_rule.specs.CallerData.{due, surplus};
 ghost use Rattle.word_rule.specs.Callers.{IsIdle};
 ghost use Rattle.word_rule.specs.Places.{CALL_CREDIT};
 ghost use Rattle.btree_change.specs.Loads.{FoundTaken};
-ghost use Rattle.btree_change.specs.Insertion.{AnswersInsertion, Inserts};
+ghost use Rattle.btree_change.specs.Insertion.{AnswersInsertion, IfFull, Inserts};
 ghost use Rattle.btree_change.specs.Paths.{HoldsNothing};
 ghost use Rattle.btree_change.specs.Updates.{GivesUp};
-ghost use Rattle.btree_change.specs.Stands.{AnswersBelow, AnswersHere, GivesUpBelow, StandsOnWay};
-ghost use Rattle.btree_change.specs.Stands.{releases_at};
+ghost use Rattle.btree_change.specs.Stands.{AnswersBelow, AnswersHere, GivesUpBelow, HasCause};
+ghost use Rattle.btree_change.specs.Stands.{StandsOnWay, releases_at};
 
 use crate::beyond::{Far, beyond_leaf};
 use crate::descent::{at_root, let_go_of};
@@ -35,7 +35,9 @@ fn in_place(words: &Words, me: &mut Caller, member: &Member, stand: &Stand) -> O
     requires span { IsSpan member.now.span }
     requires due { 0 < due me.old }
     requires payload { member.now.payload < words.now.terms.payloads }
-    ensures { AnswersHere words.now.terms member.now stand.now.at.node result me.old me.new }
+    ensures answer { AnswersHere words.now.terms member.now stand.now.at.node result me.old me.new }
+    ensures full { IfFull result.answer
+        (HasCause stand.now.room member.now.span.first me.old me.new) }
 {
     match stand.room {
         Room::NoneFree => Outcome {
@@ -71,6 +73,8 @@ fn in_free_leaf<L: Locking>(
     requires payload { member.now.payload < words.now.terms.payloads }
     ensures answer { IfOk result (λ reply. AnswersBelow words.now.terms member.now reply
         (releases_at 0) me.old me.new) }
+    ensures full { IfOk result (λ reply. IfFull reply.answer
+        (HasCause stand.room member.now.span.first me.old me.new)) }
     ensures busy { IfErr result (λ e. GivesUpBelow (releases_at 0) me.old me.new
         × (L.gives_up ≡ true)) }
     ensures cause { IfErr result (λ e. FoundTaken e.lock me.old me.new) }
@@ -113,6 +117,8 @@ fn in_leaf<L: Locking>(
     requires payload { member.now.payload < words.now.terms.payloads }
     ensures answer { IfOk result (λ reply. AnswersBelow words.now.terms member.now reply
         (releases_at 0) me.old me.new) }
+    ensures full { IfOk result (λ reply. IfFull reply.answer
+        (HasCause stand.room member.now.span.first me.old me.new)) }
     ensures busy { IfErr result (λ e. GivesUpBelow (releases_at 0) me.old me.new
         × (L.gives_up ≡ true)) }
     ensures cause { IfErr result (λ e. FoundTaken e.lock me.old me.new) }
@@ -143,6 +149,8 @@ pub(crate) fn below<L: Locking>(
     requires payload { member.now.payload < words.now.terms.payloads }
     ensures answer { IfOk result (λ reply. AnswersBelow words.now.terms member.now reply
         (releases_at stand.at.content.level) me.old me.new) }
+    ensures full { IfOk result (λ reply. IfFull reply.answer
+        (HasCause stand.room member.now.span.first me.old me.new)) }
     ensures busy { IfErr result (λ e. GivesUpBelow (releases_at stand.at.content.level) me.old me.new
         × (L.gives_up ≡ true)) }
     ensures cause { IfErr result (λ e. FoundTaken e.lock me.old me.new) }

@@ -5,7 +5,8 @@ ghost use Rattle.reg_model.specs.State.{IsFree};
 ghost use Rattle.tree_shape.specs.NodeData.{IsInFences, entries_of};
 ghost use Rattle.word_rule.specs.CallerData.{due};
 ghost use Rattle.word_rule.specs.TreeRefusals.{HadNoRoom};
-ghost use Rattle.btree_change.specs.Insertion.{HoldsLeaf, PutsMember, RefusesMember};
+ghost use Rattle.btree_change.specs.Insertion.{HoldsLeaf, IfFull, PutsMember, RefusesMember};
+ghost use Rattle.btree_change.specs.Loads.{KeepsLoads};
 ghost use Rattle.btree_change.specs.Stands.{StandsAt};
 
 use crate::descent::Held;
@@ -59,6 +60,7 @@ pub(crate) fn refused(
     requires here { IsInFences member.now.span.first leaf.now.content }
     ensures overlaps { IfSome result (λ answer. RefusesMember words.now.terms member.now answer
         me.old me.new) }
+    ensures never_full { IfSome result (λ answer. IfFull answer ⊥) }
     ensures free { IfNone result (IsFree member.now.span (entries_of leaf.now.content)
         × (me.new ≡ me.old)) }
 {
@@ -82,7 +84,8 @@ pub(crate) fn full_here(words: &Words, me: &mut Caller, leaf: &Held, member: &Me
     requires free { IsFree member.now.span (entries_of leaf.now.content) }
     requires cause { HadNoRoom member.now.span.first (length me.old.log.receipts.own)
         me.old.log.trace.loads }
-    ensures { RefusesMember words.now.terms member.now result me.old me.new }
+    ensures refused { RefusesMember words.now.terms member.now result me.old me.new }
+    ensures loads { KeepsLoads me.old me.new }
 {
     let update = Update::Register { member: *member };
     let clock = words.load_clock(me, Ask::Refused { update });

@@ -1,10 +1,10 @@
 //! The lift of the full root, which is split with it.
-ghost use Rattle.std.specs.Prelude.{◌≡◌, ◌≢◌, ◌<◌, MatchBool, length};
+ghost use Rattle.std.specs.Prelude.{◌≡◌, ◌≢◌, ◌<◌, MatchBool};
 ghost use Rattle.tree_shape.specs.Lawful.{IsOrdered};
 ghost use Rattle.tree_shape.specs.Steps.{IsFull};
 ghost use Rattle.tree_shape.specs.declared.limits.TheConstants.{HIGHEST_LEVEL};
 ghost use Rattle.word_rule.specs.CallerData.{surplus};
-ghost use Rattle.word_rule.specs.TreeRefusals.{HadNoRoom};
+ghost use Rattle.btree_change.specs.Loads.{FoundNoRoom};
 ghost use Rattle.btree_change.specs.Splits.{GivesBack, HoldsFullAlone, HoldsFullRoot};
 ghost use Rattle.btree_change.specs.Splits.{HoldsOneFree, IsRoomForRoot, LiftsRoot, StaysHeld};
 ghost use Rattle.btree_change.specs.Splits.{root_parts_for};
@@ -97,7 +97,7 @@ fn load_height(words: &Words, me: &mut Caller, root: &Held, pc: u64)
     requires held { HoldsFullAlone words.now.terms root.now pc me.old.log.holdings }
     requires highest { root.now.content.level ≡ HIGHEST_LEVEL }
     ensures stays { StaysHeld me.old me.new }
-    ensures cause { HadNoRoom pc (length me.old.log.receipts.own) me.new.log.trace.loads }
+    ensures cause { FoundNoRoom pc me.old me.new }
 {
     let _ = pc;
     words.load_node(me, root.node, COUNT);

@@ -2,11 +2,12 @@
 ghost use Rattle.std.specs.Prelude.{◌≡◌, ◌-◌, ◌^◌, ◌<◌, ◌≤◌, [], true, drop, IfOk, IfErr};
 ghost use Rattle.reg_model.specs.SpanData.{IsSpan};
 ghost use Rattle.word_rule.specs.CallerData.{due, surplus};
-ghost use Rattle.btree_change.specs.Loads.{FoundTaken};
+ghost use Rattle.btree_change.specs.Insertion.{IfFull};
+ghost use Rattle.btree_change.specs.Loads.{FoundNoRoom, FoundTaken};
 ghost use Rattle.btree_change.specs.Roots.{EndsInsertion, GivesUpWhole};
 ghost use Rattle.tree_shape.specs.Steps.{IsFull};
 ghost use Rattle.btree_change.specs.Splits.{HoldsFullRoot};
-ghost use Rattle.btree_change.specs.Stands.{HoldsRoot, StandsOnWay};
+ghost use Rattle.btree_change.specs.Stands.{HasCause, HoldsRoot, StandsOnWay};
 
 use crate::descent::{Held, let_go_of};
 use crate::insertion::below;
@@ -35,6 +36,8 @@ fn alone<L: Locking>(
     requires payload { member.now.payload < words.now.terms.payloads }
     ensures answer { IfOk result (λ answer. EndsInsertion words.now.terms member.now answer 37
         me.old me.new) }
+    ensures full { IfOk result (λ answer. IfFull answer
+        (HasCause stand.room member.now.span.first me.old me.new)) }
     ensures busy { IfErr result (λ e. GivesUpWhole 37 me.old me.new × (L.gives_up ≡ true)) }
     ensures cause { IfErr result (λ e. FoundTaken e.lock me.old me.new) }
 {
@@ -62,6 +65,8 @@ fn lifted<L: Locking>(
     requires payload { member.now.payload < words.now.terms.payloads }
     ensures answer { IfOk result (λ answer. EndsInsertion words.now.terms member.now answer 39
         me.old me.new) }
+    ensures full { IfOk result (λ answer. IfFull answer
+        (FoundNoRoom member.now.span.first me.old me.new)) }
     ensures busy { IfErr result (λ e. GivesUpWhole 39 me.old me.new × (L.gives_up ≡ true)) }
     ensures cause { IfErr result (λ e. FoundTaken e.lock me.old me.new) }
 {
@@ -103,6 +108,8 @@ fn at_full_root<L: Locking>(
     requires payload { member.now.payload < words.now.terms.payloads }
     ensures answer { IfOk result (λ answer. EndsInsertion words.now.terms member.now answer 64
         me.old me.new) }
+    ensures full { IfOk result (λ answer. IfFull answer
+        (FoundNoRoom member.now.span.first me.old me.new)) }
     ensures busy { IfErr result (λ e. GivesUpWhole 64 me.old me.new × (L.gives_up ≡ true)) }
     ensures cause { IfErr result (λ e. FoundTaken e.lock me.old me.new) }
 {
@@ -147,6 +154,8 @@ pub(crate) fn at_held_root<L: Locking>(
     requires payload { member.now.payload < words.now.terms.payloads }
     ensures answer { IfOk result (λ answer. EndsInsertion words.now.terms member.now answer 64
         me.old me.new) }
+    ensures full { IfOk result (λ answer. IfFull answer
+        (FoundNoRoom member.now.span.first me.old me.new)) }
     ensures busy { IfErr result (λ e. GivesUpWhole 64 me.old me.new × (L.gives_up ≡ true)) }
     ensures cause { IfErr result (λ e. FoundTaken e.lock me.old me.new) }
 {

@@ -259,6 +259,7 @@ pub(crate) fn stand_below(
         (drop 2 me.old.log.holdings.held) }
     ensures stands { StandsOnWay words.now.terms member.now result.stand me.new.log }
     ensures at { result.stand.at ≡ step.child }
+    ensures room { result.stand.room ≡ step.room }
     ensures changed { result.changed ≡ step.parent.changed }
     ensures same { StepsOnNodes me.old me.new }
     ensures holdings { me.new.log.holdings ≡ me.old.log.holdings }

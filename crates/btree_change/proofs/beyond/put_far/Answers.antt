@@ -141,8 +141,8 @@ let_go_of-requires-clause-surplus g c =
     let k3 = c.put_in_leaf-number.new.me in let number = c.put_in_leaf-number.result in let puts = c.put_in_leaf-number.ensures in
     put_surplus t m far k ready k1 moves c.raise_fence.ensures.loads k2 shape reads kept number k3 puts c.requires.surplus
 
-pub returns : goal.returns
-returns g c ready =
+pub returns-clause-answer : goal.returns-clause-answer
+returns-clause-answer g c ready =
     let t = c.args.words.now.terms in let m = c.args.member.now in let far = c.args.far.now in let k = c.args.me.now in let e = c.last.ensures.value in
     let high = subst (λ l. ready.next.way.lock.settled.high < l) (sym e) (way_high t m far k ready) in let lies = subst (λ l. LiesAbove l ready.next.right.settled.body) (sym e) ready.lies in let right_high = subst (λ l. l < ready.next.right.settled.high) (sym e) ready.right_high in
     let k1 = c.raise_fence.new.me in

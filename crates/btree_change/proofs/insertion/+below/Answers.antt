@@ -1,6 +1,6 @@
 use Rattle.std.proofs.Common.{arith, subst, sym, ap, nat_le, ◌||◌, ◌∙◌}
 use Rattle.btree_change.specs.Stands.{MayGo, releases_at}
-use Rattle.btree_change.proofs.Going.{answered_may_go, answered_so, given_may_go, given_so}
+use Rattle.btree_change.proofs.Going.{answered_may_go, answered_so, full_below, given_may_go, given_so}
 use Rattle.btree_change.proofs.Loading.{found_between}
 use Rattle.btree_change.proofs.insertion.+below.Goals as goal
 
@@ -31,3 +31,8 @@ returns-in-Err-clause-busy g t c =
 
 pub returns-in-Err-clause-cause : goal.returns-in-Err-clause-cause
 returns-in-Err-clause-cause g t c = found_between c.in-Err.busy.lock c.args.me.now c.go_below.new.me c.below.new.me c.let_go_of-in-Err.new.me c.in_ok-passage.ensures.ok.steps.loads c.in-Err.ensures.cause c.let_go_of-in-Err.ensures.steps.loads
+
+pub returns-in-Ok-clause-full : goal.returns-in-Ok-clause-full
+returns-in-Ok-clause-full g t c =
+    let passage = c.in_ok-passage.passage in
+    full_below c.args.words.now.terms c.args.member.now c.args.stand passage c.args.me.now c.go_below.new.me c.in_ok-passage.ensures.ok c.in-Ok.reply (releases_at passage.stand.at.content.level) c.below.new.me c.in-Ok.ensures.answer c.let_go_of.new.me c.let_go_of.ensures c.in-Ok.ensures.full

@@ -2,6 +2,7 @@ use Rattle.std.proofs.Common.{arith, subst, sym}
 use Rattle.word_rule.specs.CallerData.{CallerData}
 use Rattle.btree_change.specs.Stands.{StandsOnWay}
 use Rattle.btree_change.proofs.Answering.{here_answered, here_may_go, here_surplus, refused_here}
+use Rattle.btree_change.proofs.NoRoom.{if_full}
 use Rattle.btree_change.proofs.insertion.in_leaf.Goals as goal
 
 pub let_go_of-requires-clause-inside : goal.let_go_of-requires-clause-inside
@@ -25,3 +26,6 @@ returns-in-Some-clause-answer g c =
 
 pub in_free_leaf-requires-clause-stands : goal.in_free_leaf-requires-clause-stands
 in_free_leaf-requires-clause-stands g c = subst (λ (z : CallerData). StandsOnWay c.args.words.now.terms c.args.member.now c.args.stand z.log) (sym c.in-None.ensures.free.1) c.requires.stands
+
+pub returns-in-Some-clause-full : goal.returns-in-Some-clause-full
+returns-in-Some-clause-full g c = if_full c.in-Some.answer (λ never. absurd never) c.in-Some.ensures.never_full

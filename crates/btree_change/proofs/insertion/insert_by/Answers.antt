@@ -1,10 +1,10 @@
 use Rattle.std.proofs.Common.{arith, ◌∙◌}
 use Rattle.std.proofs.Common.{◌≡◌, true}
-use Rattle.btree_change.specs.Insertion.{AnswersInsertion}
-use Rattle.btree_change.specs.Loads.{FoundTaken}
+use Rattle.btree_change.specs.Insertion.{AnswersInsertion, IfFull}
+use Rattle.btree_change.specs.Loads.{FoundNoRoom, FoundTaken}
 use Rattle.btree_change.specs.Updates.{GivesUp}
 use Rattle.btree_change.specs.Roots.{EndsInsertion, GivesUpWhole}
-use Rattle.btree_change.proofs.AtRoot.{if_err_both, if_ok, update_answered, update_given_up}
+use Rattle.btree_change.proofs.AtRoot.{if_err_both, if_ok_both, update_answered, update_given_up}
 use Rattle.btree_change.proofs.Spending.{due_after, spends_same, surplus_steps}
 use Rattle.btree_change.proofs.insertion.insert_by.Goals as goal
 
@@ -26,7 +26,7 @@ at_held_root-requires-clause-surplus g c =
 pub returns-clause-answer : goal.returns-clause-answer
 returns-clause-answer g c =
     let t = c.args.words.now.terms in let m = c.args.member in let k = c.args.me.now in let k1 = c.at_root.new.me in let same = c.in_ok-root.ensures.same in
-    if_ok (λ answer. EndsInsertion t m answer 64 k1 c.at_held_root.new.me) (λ answer. AnswersInsertion t m answer k c.at_held_root.new.me) c.at_held_root.result (λ answer e. update_answered t m answer k k1 c.at_held_root.new.me same e) c.at_held_root.ensures.answer
+    if_ok_both (λ answer. EndsInsertion t m answer 64 k1 c.at_held_root.new.me) (λ answer. IfFull answer (FoundNoRoom m.span.first k1 c.at_held_root.new.me)) (λ answer. AnswersInsertion t m answer k c.at_held_root.new.me) c.at_held_root.result (λ answer e full. update_answered t m answer k k1 c.at_held_root.new.me same e full) c.at_held_root.ensures.answer c.at_held_root.ensures.full
 
 pub returns-clause-busy : goal.returns-clause-busy
 returns-clause-busy g c =

@@ -2,11 +2,13 @@ use Rattle.std.proofs.Common.{arith, subst, sym, ap, drop, ◌∙◌, length, Ok
 use Rattle.std.proofs.Common.{◌≡◌, true}
 use Rattle.word_rule.specs.TreeRefusals.{HadNoRoom}
 use Rattle.btree_change.specs.declared.stand.Room.TheVariants as room
-use Rattle.btree_change.specs.Loads.{FoundTaken}
+use Rattle.btree_change.specs.Insertion.{IfFull}
+use Rattle.btree_change.specs.Loads.{FoundNoRoom, FoundTaken, KeepsLoads}
 use Rattle.btree_change.specs.Roots.{EndsInsertion, GivesUpWhole}
 use Rattle.btree_change.specs.Splits.{HoldsFullAlone, IsRoomForRoot}
 use Rattle.btree_change.proofs.AtRoot.{ends_after, full_alone, full_root, gives_up_after, if_err, if_ok, kept_steps, root_gone, root_kept, root_stand, root_stands}
 use Rattle.btree_change.proofs.Loading.{found_after, found_still}
+use Rattle.btree_change.proofs.NoRoom.{if_full, no_room_after, no_room_now, no_room_still}
 use Rattle.btree_change.proofs.Spending.{due_after, own_same, spends_same, surplus_steps}
 use Rattle.btree_change.proofs.Standing.{may_go}
 use Rattle.btree_change.proofs.root.at_full_root.Goals as goal
@@ -77,7 +79,7 @@ alone-requires-clause-stands g c =
     let t = c.args.words.now.terms in let m = c.args.member.now in let k = c.args.me.now in
     let root = c.args.root in let h = c.requires.root in let k1 = c.room_for_root.new.me in
     let none = subst (λ o. IsRoomForRoot g.L.Locking.gives_up root c.first.result k k1 (Ok o)) c.in-Ok-None.field-0-is c.in-Ok-None.ensures in let spent = kept_steps k k1 none.0 in
-    root_stand t root room.NoneFree m k1.log (root_kept t root k.log.holdings k1.log.holdings none.0.held none.0.out h) c.requires.span (subst (λ p. HadNoRoom p (length k1.log.receipts.own) k1.log.trace.loads) c.first.ensures.value (subst (λ xs. HadNoRoom c.first.result (length xs) k1.log.trace.loads) (sym (own_same 1 k k1 spent)) none.1))
+    root_stand t root room.NoneFree m k1.log (root_kept t root k.log.holdings k1.log.holdings none.0.held none.0.out h) c.requires.span (subst (λ xs. HadNoRoom m.span.first (length xs) k1.log.trace.loads) (sym (own_same 1 k k1 spent)) (no_room_now m.span.first k k1 (subst (λ p. FoundNoRoom p k k1) c.first.ensures.value none.1)))
 
 pub alone-requires-clause-root : goal.alone-requires-clause-root
 alone-requires-clause-root g c =
@@ -179,3 +181,16 @@ returns-in-Ok-None-clause-cause g c =
 
 pub returns-in-Err-clause-cause : goal.returns-in-Err-clause-cause
 returns-in-Err-clause-cause g c = found_still c.in-Err.busy.lock c.args.me.now c.room_for_root.new.me c.let_go_of.new.me c.in-Err.ensures.2 c.let_go_of.ensures.steps.loads
+
+pub returns-in-Ok-Some-clause-full : goal.returns-in-Ok-Some-clause-full
+returns-in-Ok-Some-clause-full g c =
+    let first = c.args.member.now.span.first in let k = c.args.me.now in let k1 = c.room_for_root.new.me in let n = c.lifted.new.me in
+    let took = subst (λ o. IsRoomForRoot g.L.Locking.gives_up c.args.root c.first.result k k1 (Ok o)) c.in-Ok-Some.field-0-is c.in-Ok-Some.ensures in
+    if_ok (λ answer. IfFull answer (FoundNoRoom first k1 n)) (λ answer. IfFull answer (FoundNoRoom first k n)) c.lifted.result (λ answer. if_full answer (no_room_after first k k1 n (ap (λ r. r.own) took.1.same.receipts) took.1.same.loads)) c.lifted.ensures.full
+
+pub returns-in-Ok-None-clause-full : goal.returns-in-Ok-None-clause-full
+returns-in-Ok-None-clause-full g c =
+    let first = c.args.member.now.span.first in let k = c.args.me.now in let k1 = c.room_for_root.new.me in let n = c.alone.new.me in
+    let none = subst (λ o. IsRoomForRoot g.L.Locking.gives_up c.args.root c.first.result k k1 (Ok o)) c.in-Ok-None.field-0-is c.in-Ok-None.ensures in
+    let found = subst (λ p. FoundNoRoom p k k1) c.first.ensures.value none.1 in
+    if_ok (λ answer. IfFull answer (KeepsLoads k1 n)) (λ answer. IfFull answer (FoundNoRoom first k n)) c.alone.result (λ answer. if_full answer (no_room_still first k k1 n found)) c.alone.ensures.full

@@ -1,10 +1,11 @@
 use Rattle.std.proofs.Common.{arith, subst, sym, ◌<◌, ◌≤◌}
 use Rattle.btree_change.specs.declared.descent.Held.{Held}
 use Rattle.btree_change.specs.Splits.{HoldsFullRoot, LiftsRoot}
-use Rattle.btree_change.specs.Stands.{releases_at}
+use Rattle.btree_change.specs.Stands.{HasCause, releases_at}
 use Rattle.btree_change.proofs.AtRoot.{gave_may_go, gave_surplus, lifted_ends, lifted_gives_up, lifted_here, lifted_level, lifted_may_go, lifted_reach, lifted_surplus, lifted_two}
 use Rattle.btree_change.proofs.Loading.{found_between}
-use Rattle.btree_change.proofs.Spending.{due_after, surplus_steps}
+use Rattle.btree_change.proofs.NoRoom.{if_full, no_room_after, no_room_still}
+use Rattle.btree_change.proofs.Spending.{due_after, own_same, surplus_steps}
 use Rattle.btree_change.proofs.root.lifted.Goals as goal
 
 pub lift-split-requires-clause-held : goal.lift-split-requires-clause-held
@@ -110,3 +111,11 @@ returns-in-Err-clause-cause g c =
     let full = c.args.full in let split = c.lift-split.result in let k1 = c.lift-split.new.me in let lifts = subst (λ p. LiftsRoot t full p split k k1) c.first.ensures.value c.lift-split.ensures in
     let k2 = c.stand_below-passage.new.me in let same = c.stand_below-passage.ensures.same in let kept = c.stand_below-passage.ensures.holdings in
     found_between c.in-Err.busy.lock k k2 c.below.new.me c.let_go_of-in-Err.new.me (lifted_two t m full k c.requires.held c.requires.high c.requires.span split k1 lifts k2 same kept).loads c.in-Err.ensures.cause c.let_go_of-in-Err.ensures.steps.loads
+
+pub returns-in-Ok-clause-full : goal.returns-in-Ok-clause-full
+returns-in-Ok-clause-full g c =
+    let t = c.args.words.now.terms in let m = c.args.member.now in let k = c.args.me.now in
+    let full = c.args.full in let split = c.lift-split.result in let k1 = c.lift-split.new.me in let lifts = subst (λ p. LiftsRoot t full p split k k1) c.first.ensures.value c.lift-split.ensures in
+    let k2 = c.stand_below-passage.new.me in let k3 = c.below.new.me in let k4 = c.let_go_of.new.me in
+    let two = lifted_two t m full k c.requires.held c.requires.high c.requires.span split k1 lifts k2 c.stand_below-passage.ensures.same c.stand_below-passage.ensures.holdings in
+    if_full c.in-Ok.reply.answer (λ h. no_room_after m.span.first k k2 k4 (own_same 1 k k2 two) two.loads (no_room_still m.span.first k2 k3 k4 (subst (λ w. HasCause w m.span.first k2 k3) c.stand_below-passage.ensures.room h) c.let_go_of.ensures.steps.loads)) c.in-Ok.ensures.full

@@ -40,7 +40,7 @@ returns-in-Ok-split_if_full-clause-ok g c =
     let t = c.args.words.now.terms in let m = c.args.member.now in let stand = c.args.stand in let k = c.args.me.now in let k1 = c.lower.new.me in let child = c.in-Ok.child in
     let pair = subst (λ p. HoldsPair t p stand.at child (drop 1 k.log.holdings.held) k1.log.holdings) c.first-pc.ensures.value c.in-Ok.ensures.ok.0 in
     let split = subst (λ p. HasSplit t p (record { parent = stand.at; child = child; room = stand.room }) c.in-Ok-split_if_full.step k1 c.split_if_full.new.me) c.first-pc.ensures.value c.in-Ok-split_if_full.ensures.ok in
-    gone_below t m stand k c.requires.stands c.requires.inner child k1 pair c.in-Ok.ensures.same c.in-Ok.ensures.same.loads c.in-Ok-split_if_full.step c.split_if_full.new.me split c.stand_below.result c.stand_below.new.me c.stand_below.ensures.stands c.stand_below.ensures.at c.stand_below.ensures.changed c.stand_below.ensures.same c.stand_below.ensures.holdings
+    gone_below t m stand k c.requires.stands c.requires.inner child k1 pair c.in-Ok.ensures.same c.in-Ok.ensures.same.loads c.in-Ok-split_if_full.step c.split_if_full.new.me split c.stand_below.result c.stand_below.new.me c.stand_below.ensures.stands c.stand_below.ensures.at c.stand_below.ensures.room c.stand_below.ensures.changed c.stand_below.ensures.same c.stand_below.ensures.holdings
 
 pub returns-in-Err-clause-busy : goal.returns-in-Err-clause-busy
 returns-in-Err-clause-busy g c =

@@ -1,7 +1,7 @@
 use Rattle.std.proofs.Common.{drop, subst, refl, Ok}
 use Rattle.btree_change.specs.Splits.{IsRoomFor}
 use Rattle.btree_change.proofs.Loading.{found_still, keeps_load, keeps_then}
-use Rattle.btree_change.proofs.Stepping.{busy_go, busy_gone, full_child, was_split}
+use Rattle.btree_change.proofs.Stepping.{busy_go, busy_gone, full_child, none_split, was_split}
 use Rattle.btree_change.proofs.stand.split_full.Goals as goal
 
 pub let_go_of-requires-clause-may : goal.let_go_of-requires-clause-may
@@ -22,3 +22,8 @@ returns-in-Err-clause-cause g c =
 
 pub returns-in-Ok-Some-clause-ok : goal.returns-in-Ok-Some-clause-ok
 returns-in-Ok-Some-clause-ok g c = was_split c.args.words.now.terms c.args.pc c.args.step (drop 2 c.args.me.now.log.holdings.held) c.args.me.now c.requires.pair c.in-Ok-Some.fresh c.split_child-split.result c.room_for.new.me c.split_child-split.new.me refl (subst (λ o. IsRoomFor g.L.Locking.gives_up c.args.pc c.args.me.now c.room_for.new.me (Ok o)) c.in-Ok-Some.field-0-is c.in-Ok-Some.ensures) c.split_child-split.ensures
+
+pub returns-in-Ok-None-clause-ok : goal.returns-in-Ok-None-clause-ok
+returns-in-Ok-None-clause-ok g c =
+    let none = subst (λ o. IsRoomFor g.L.Locking.gives_up c.args.pc c.args.me.now c.room_for.new.me (Ok o)) c.in-Ok-None.field-0-is c.in-Ok-None.ensures in
+    none_split c.args.words.now.terms c.args.pc c.args.step (drop 2 c.args.me.now.log.holdings.held) c.args.me.now c.requires.pair c.room_for.new.me refl none.0 none.1 c.requires.less
