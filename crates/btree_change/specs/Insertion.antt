@@ -1,5 +1,5 @@
 -- What the insertion of a member makes of its caller.
-use Rattle.std.specs.Prelude.{◌≡◌, ℕ, ◌-◌, ◌<◌, false, IsSome, List, [], ◌∷◌, ◌++◌, drop, length}
+use Rattle.std.specs.Prelude.{◌≡◌, ℕ, ◌-◌, ◌<◌, ◌≤◌, false, IsSome, List, [], ◌∷◌, ◌++◌, drop, length}
 use Rattle.std.specs.List.{AllByRecursion}
 use mathlib.Core.List.{IsPrefix}
 use Rattle.reg_model.specs.History.{state_after}
@@ -11,8 +11,9 @@ use Rattle.reg_model.specs.declared.answer.Update.{Update}
 use Rattle.reg_model.specs.declared.answer.Update.TheVariants as update
 use Rattle.reg_model.specs.declared.span.Member.{Member}
 use Rattle.tree_shape.specs.Decisions.{is_entries}
-use Rattle.word_rule.specs.CallerData.{CallerData}
+use Rattle.word_rule.specs.CallerData.{CallerData, surplus}
 use Rattle.word_rule.specs.Callers.{IsMemberOf, start}
+use Rattle.word_rule.specs.Places.{CALL_CREDIT}
 use Rattle.word_rule.specs.declared.log.Holding.{Holding}
 use Rattle.word_rule.specs.declared.log.Holdings.{Holdings}
 use Rattle.word_rule.specs.declared.log.Terms.{Terms}
@@ -121,3 +122,9 @@ call_begun k = record k { left = k.left - 1 }
 abbrev pub Inserts : Terms → Member → CallerData → CallerData → Inserted → Type 0
 Inserts t m k k' inserted.Spent = (k.left ≡ 0) × (k' ≡ k)
 Inserts t m k k' answer = (0 < k.left) × AnswersInsertion t m answer (call_begun k) k'
+
+-- A begun insertion was tried, and answered. Spent where the caller has fewer releases to spare than
+-- a call may make, and then nothing was done.
+abbrev pub TriesInsertion : Terms → Member → CallerData → CallerData → Inserted → Type 0
+TriesInsertion t m k k' inserted.Spent = (surplus k < CALL_CREDIT) × (k' ≡ k)
+TriesInsertion t m k k' answer = (CALL_CREDIT ≤ surplus k) × AnswersInsertion t m answer k k'

@@ -1,5 +1,5 @@
 -- What the removal of the member that begins at an address makes of its caller.
-use Rattle.std.specs.Prelude.{◌≡◌, ℕ, ◌<◌, List, [], ◌∷◌, ◌++◌, length, IsNone, Some}
+use Rattle.std.specs.Prelude.{◌≡◌, ℕ, ◌<◌, ◌≤◌, List, [], ◌∷◌, ◌++◌, length, IsNone, Some}
 use mathlib.Core.List.{IsPrefix}
 use Rattle.reg_model.specs.History.{state_after}
 use Rattle.reg_model.specs.State.{at_base}
@@ -8,8 +8,9 @@ use Rattle.reg_model.specs.declared.answer.Removed.{Removed}
 use Rattle.reg_model.specs.declared.answer.Removed.TheVariants as removed
 use Rattle.reg_model.specs.declared.answer.Update.{Update}
 use Rattle.reg_model.specs.declared.answer.Update.TheVariants as update
-use Rattle.word_rule.specs.CallerData.{CallerData}
+use Rattle.word_rule.specs.CallerData.{CallerData, surplus}
 use Rattle.word_rule.specs.Callers.{IsMemberOf, start}
+use Rattle.word_rule.specs.Places.{CALL_CREDIT}
 use Rattle.word_rule.specs.declared.log.Terms.{Terms}
 use Rattle.btree_change.specs.Updates.{AnswersUpdate}
 use Rattle.btree_change.specs.Insertion.{call_begun}
@@ -42,3 +43,9 @@ pub record AnswersRemoval (t : Terms) (base : ℕ) (answer : Removed) (k k' : Ca
 abbrev pub Removes : Terms → ℕ → CallerData → CallerData → Removed → Type 0
 Removes t base k k' removed.Spent = (k.left ≡ 0) × (k' ≡ k)
 Removes t base k k' answer = (0 < k.left) × AnswersRemoval t base answer (call_begun k) k'
+
+-- A begun removal was tried, and answered. Spent where the caller has fewer releases to spare than a
+-- call may make, and then nothing was done.
+abbrev pub TriesRemoval : Terms → ℕ → CallerData → CallerData → Removed → Type 0
+TriesRemoval t base k k' removed.Spent = (surplus k < CALL_CREDIT) × (k' ≡ k)
+TriesRemoval t base k k' answer = (CALL_CREDIT ≤ surplus k) × AnswersRemoval t base answer k k'

@@ -16,6 +16,9 @@ use word_rule::{Ask, Caller, LockId, Words};
 /// The word of a node that has its level.
 const LEVEL: u32 = 2;
 
+/// The most releases that an update call makes.
+pub(crate) const CALL_CREDIT: u64 = 64;
+
 /// A node of the way down, held, with what it holds.
 #[derive(Drop)]
 pub(crate) struct Held {

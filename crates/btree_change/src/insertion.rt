@@ -7,14 +7,14 @@ ghost use Rattle.word_rule.specs.CallerData.{due, surplus};
 ghost use Rattle.word_rule.specs.Callers.{IsIdle};
 ghost use Rattle.word_rule.specs.Places.{CALL_CREDIT};
 ghost use Rattle.btree_change.specs.Loads.{FoundTaken};
-ghost use Rattle.btree_change.specs.Insertion.{AnswersInsertion, IfFull, Inserts};
+ghost use Rattle.btree_change.specs.Insertion.{AnswersInsertion, IfFull, Inserts, TriesInsertion};
 ghost use Rattle.btree_change.specs.Paths.{HoldsNothing};
 ghost use Rattle.btree_change.specs.Updates.{GivesUp};
 ghost use Rattle.btree_change.specs.Stands.{AnswersBelow, AnswersHere, GivesUpBelow, HasCause};
 ghost use Rattle.btree_change.specs.Stands.{StandsOnWay, releases_at};
 
 use crate::beyond::{Far, beyond_leaf};
-use crate::descent::{at_root, let_go_of};
+use crate::descent::{CALL_CREDIT, at_root, let_go_of};
 use crate::leaf::{full_here, put_in_leaf, refused};
 use crate::root::at_held_root;
 use crate::stand::{Outcome, Reply, Room, Stand, go_below, is_changed, place_of};
@@ -199,17 +199,20 @@ pub fn insert_by<L: Locking>(
 }
 
 /// Registers a member as `insert_by` does, for an update call that was begun, or answers Busy where
-/// a lock on the way is taken: then the call may be tried again.
+/// a lock on the way is taken: then the call may be tried again. Spent where fewer releases are left
+/// than a try may make.
 pub fn try_insert(words: &Words, me: &mut Caller, member: Member) -> Result<Inserted, Busy>
     requires table { me.old.table ≡ words.now.table }
     requires idle { IsIdle me.old.log }
     requires begun { 0 < due me.old }
-    requires surplus { CALL_CREDIT ≤ surplus me.old }
     requires payload { member.payload < words.now.terms.payloads }
-    ensures answer { IfOk result (λ answer. AnswersInsertion words.now.terms member answer
-        me.old me.new) }
-    ensures busy { IfErr result (λ e. GivesUp e.lock me.old me.new) }
+    ensures answer { IfOk result (λ answer. TriesInsertion words.now.terms member
+        me.old me.new answer) }
+    ensures busy { IfErr result (λ e. (CALL_CREDIT ≤ surplus me.old) × GivesUp e.lock me.old me.new) }
 {
+    if me.spare() < CALL_CREDIT {
+        return Ok(Inserted::Spent);
+    }
     insert_by(&Trying, words, me, member)
 }
 

@@ -9,11 +9,11 @@ ghost use Rattle.word_rule.specs.CallerData.{due, surplus};
 ghost use Rattle.word_rule.specs.Callers.{IsIdle};
 ghost use Rattle.word_rule.specs.Places.{CALL_CREDIT};
 ghost use Rattle.btree_change.specs.Paths.{HoldsNothing};
-ghost use Rattle.btree_change.specs.Removal.{AnswersRemoval, Removes};
+ghost use Rattle.btree_change.specs.Removal.{AnswersRemoval, Removes, TriesRemoval};
 ghost use Rattle.btree_change.specs.Removing.{HoldsBesideRoot, IsSpare, Spends};
 ghost use Rattle.btree_change.specs.Updates.{GivesUp};
 
-use crate::descent::at_root;
+use crate::descent::{CALL_CREDIT, at_root};
 use crate::mending::{join, share, sink};
 use crate::sibling::{Siblings, is_small, leave, take_child, take_sibling};
 use crate::taking::{not_found, take_in_leaf};
@@ -201,16 +201,19 @@ pub fn remove_by<L: Locking>(
 }
 
 /// Removes a member as `remove_by` does, for an update call that was begun, or answers Busy where a
-/// lock on the way is taken: then the call may be tried again.
+/// lock on the way is taken: then the call may be tried again. Spent where fewer releases are left
+/// than a try may make.
 pub fn try_remove(words: &Words, me: &mut Caller, base: u64) -> Result<Removed, Busy>
     requires table { me.old.table ≡ words.now.table }
     requires idle { IsIdle me.old.log }
     requires begun { 0 < due me.old }
-    requires surplus { CALL_CREDIT ≤ surplus me.old }
-    ensures answer { IfOk result (λ answer. AnswersRemoval words.now.terms base answer
-        me.old me.new) }
-    ensures busy { IfErr result (λ e. GivesUp e.lock me.old me.new) }
+    ensures answer { IfOk result (λ answer. TriesRemoval words.now.terms base
+        me.old me.new answer) }
+    ensures busy { IfErr result (λ e. (CALL_CREDIT ≤ surplus me.old) × GivesUp e.lock me.old me.new) }
 {
+    if me.spare() < CALL_CREDIT {
+        return Ok(Removed::Spent);
+    }
     remove_by(&Trying, words, me, base)
 }
 
