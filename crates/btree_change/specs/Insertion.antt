@@ -123,8 +123,8 @@ abbrev pub Inserts : Terms → Member → CallerData → CallerData → Inserted
 Inserts t m k k' inserted.Spent = (k.left ≡ 0) × (k' ≡ k)
 Inserts t m k k' answer = (0 < k.left) × AnswersInsertion t m answer (call_begun k) k'
 
--- A begun insertion was tried, and answered. Spent where the caller has fewer releases to spare than
--- a call may make, and then nothing was done.
+-- A begun insertion was tried, and answered. Spent where the caller has fewer releases to spare
+-- than a call may make, and then nothing was done.
 abbrev pub TriesInsertion : Terms → Member → CallerData → CallerData → Inserted → Type 0
 TriesInsertion t m k k' inserted.Spent = (surplus k < CALL_CREDIT) × (k' ≡ k)
 TriesInsertion t m k k' answer = (CALL_CREDIT ≤ surplus k) × AnswersInsertion t m answer k k'

@@ -44,8 +44,8 @@ abbrev pub Removes : Terms → ℕ → CallerData → CallerData → Removed →
 Removes t base k k' removed.Spent = (k.left ≡ 0) × (k' ≡ k)
 Removes t base k k' answer = (0 < k.left) × AnswersRemoval t base answer (call_begun k) k'
 
--- A begun removal was tried, and answered. Spent where the caller has fewer releases to spare than a
--- call may make, and then nothing was done.
+-- A begun removal was tried, and answered. Spent where the caller has fewer releases to spare than
+-- a call may make, and then nothing was done.
 abbrev pub TriesRemoval : Terms → ℕ → CallerData → CallerData → Removed → Type 0
 TriesRemoval t base k k' removed.Spent = (surplus k < CALL_CREDIT) × (k' ≡ k)
 TriesRemoval t base k k' answer = (CALL_CREDIT ≤ surplus k) × AnswersRemoval t base answer k k'

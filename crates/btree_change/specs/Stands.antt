@@ -95,8 +95,8 @@ abbrev pub IfNoneFree : Room → Type 0 → Type 0
 IfNoneFree room.Splitting P = Unit {0}
 IfNoneFree room.NoneFree P = P
 
--- The cause of a Full: where nodes were split before it is among the loads of these steps; where none
--- was free, it was among those before, and they stay.
+-- The cause of a Full: where nodes were split before, it is among the loads of these steps; where
+-- none was free, it was among those before, and they stay.
 abbrev pub HasCause : Room → ℕ → CallerData → CallerData → Type 0
 HasCause room.Splitting base k k' = FoundNoRoom base k k'
 HasCause room.NoneFree base k k' = KeepsLoads k k'

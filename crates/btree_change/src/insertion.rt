@@ -199,8 +199,8 @@ pub fn insert_by<L: Locking>(
 }
 
 /// Registers a member as `insert_by` does, for an update call that was begun, or answers Busy where
-/// a lock on the way is taken: then the call may be tried again. Spent where fewer releases are left
-/// than a try may make.
+/// a lock on the way is taken: then the call may be tried again. Spent where fewer releases are
+/// left than a try may make.
 pub fn try_insert(words: &Words, me: &mut Caller, member: Member) -> Result<Inserted, Busy>
     requires table { me.old.table ≡ words.now.table }
     requires idle { IsIdle me.old.log }
@@ -208,7 +208,8 @@ pub fn try_insert(words: &Words, me: &mut Caller, member: Member) -> Result<Inse
     requires payload { member.payload < words.now.terms.payloads }
     ensures answer { IfOk result (λ answer. TriesInsertion words.now.terms member
         me.old me.new answer) }
-    ensures busy { IfErr result (λ e. (CALL_CREDIT ≤ surplus me.old) × GivesUp e.lock me.old me.new) }
+    ensures busy { IfErr result (λ e. (CALL_CREDIT ≤ surplus me.old)
+        × GivesUp e.lock me.old me.new) }
 {
     if me.spare() < CALL_CREDIT {
         return Ok(Inserted::Spent);

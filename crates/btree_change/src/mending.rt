@@ -76,12 +76,7 @@ fn join_into_left(words: &Words, me: &mut Caller, x: &Siblings, content: &Node)
 
 /// Joins two children that fit into one node: the left one holds both, and the right one leaves the
 /// tree and is given back.
-pub(crate) fn join<L: Locking>(
-    locking: &L,
-    words: &Words,
-    me: &mut Caller,
-    x: &Siblings,
-) -> Held
+pub(crate) fn join<L: Locking>(locking: &L, words: &Words, me: &mut Caller, x: &Siblings) -> Held
     requires table { me.old.table ≡ words.now.table }
     requires terms { me.old.log.terms ≡ words.now.terms }
     requires held { HoldsSiblings words.now.terms x.now me.old.log.holdings }
@@ -232,12 +227,7 @@ fn sink_into_root(words: &Words, me: &mut Caller, x: &Siblings, content: &Node)
 
 /// The root takes the place of its only two children, which fit together: both leave the tree and
 /// are given back.
-pub(crate) fn sink<L: Locking>(
-    locking: &L,
-    words: &Words,
-    me: &mut Caller,
-    x: &Siblings,
-) -> Held
+pub(crate) fn sink<L: Locking>(locking: &L, words: &Words, me: &mut Caller, x: &Siblings) -> Held
     requires table { me.old.table ≡ words.now.table }
     requires terms { me.old.log.terms ≡ words.now.terms }
     requires held { HoldsSiblings words.now.terms x.now me.old.log.holdings }

@@ -209,7 +209,8 @@ pub fn try_remove(words: &Words, me: &mut Caller, base: u64) -> Result<Removed, 
     requires begun { 0 < due me.old }
     ensures answer { IfOk result (λ answer. TriesRemoval words.now.terms base
         me.old me.new answer) }
-    ensures busy { IfErr result (λ e. (CALL_CREDIT ≤ surplus me.old) × GivesUp e.lock me.old me.new) }
+    ensures busy { IfErr result (λ e. (CALL_CREDIT ≤ surplus me.old)
+        × GivesUp e.lock me.old me.new) }
 {
     if me.spare() < CALL_CREDIT {
         return Ok(Removed::Spent);
