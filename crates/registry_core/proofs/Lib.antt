@@ -1,4 +1,5 @@
 pub mod Asking
+pub mod Begun
 pub mod Meetings
 pub mod Counting
 pub mod Following

@@ -1,3 +1,4 @@
 pub mod Queries
+pub mod Begun
 pub mod Calls
 pub mod Rounds

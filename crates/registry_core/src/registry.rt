@@ -1,12 +1,14 @@
 //! The registry, and its calls.
-ghost use Rattle.std.specs.Prelude.{◌≡◌, ◌^◌, ◌<◌, ◌≤◌, ◌↔◌, [], length, None, IfOk, IfErr, IsOk};
+ghost use Rattle.std.specs.Prelude.{◌≡◌, ◌^◌, ◌<◌, ◌≤◌, ◌↔◌, [], length, None, IfOk, IfErr};
+ghost use Rattle.std.specs.Prelude.{IsOk, OnErr, true};
 ghost use Rattle.std.specs.List.{AllByRecursion};
 ghost use Rattle.array_publish.specs.Lookup.{LooksUp};
 ghost use Rattle.array_publish.specs.Update.{IsFreeAgain, LoadsMember, UnloadsMember};
-ghost use Rattle.btree_change.specs.Insertion.{AnswersInsertion, Inserts};
-ghost use Rattle.btree_change.specs.Removal.{AnswersRemoval, Removes};
+ghost use Rattle.btree_change.specs.Insertion.{Inserts, TriesInsertion};
+ghost use Rattle.btree_change.specs.Removal.{Removes, TriesRemoval};
 ghost use Rattle.btree_change.specs.Updates.{GivesUp};
 ghost use Rattle.btree_lookup.specs.Tries.{TriesTree};
+ghost use Rattle.node_store.specs.Locking.{IsBusy};
 ghost use Rattle.reg_model.specs.Chain.{Chain};
 ghost use Rattle.reg_model.specs.Receipt.{IsPlace, receipts_of_place};
 ghost use Rattle.reg_model.specs.SpanData.{IsSpan};
@@ -18,6 +20,7 @@ ghost use Rattle.word_rule.specs.CallerData.{due, surplus};
 ghost use Rattle.word_rule.specs.Callers.{IsAlone, IsIdle, IsWhole};
 ghost use Rattle.word_rule.specs.Logs.{first_log};
 ghost use Rattle.word_rule.specs.Places.{ALLOWANCE, CALL_CREDIT};
+ghost use Rattle.registry_core.specs.Begun.{TriesLoad, TriesUnload};
 ghost use Rattle.registry_core.specs.Calls.{Answered, Receives, receipts_of_deregister};
 ghost use Rattle.registry_core.specs.Calls.{receipts_of_load, receipts_of_register};
 ghost use Rattle.registry_core.specs.Calls.{receipts_of_unload};
@@ -27,13 +30,16 @@ ghost use Rattle.registry_core.specs.Rounds.{IsBetweenRounds};
 use crate::lookup::{loaded_at, registered_at};
 use array_publish::try_object;
 use btree_lookup::try_find;
-use node_store::Busy;
+use node_store::{Busy, Locking, Trying};
 use reg_model::laws::receipts_stay;
 use reg_model::{Again, Found, Inserted, Loading, Member, NoMemory, Place, Removed};
 use std::alloc::Global;
 use std::marker::Model;
 use std::sync::Wait;
 use word_rule::{Caller, Words};
+
+/// The releases that an update call may make.
+const CALL_CREDIT: u64 = 64;
 
 /// The registry that threads share by `&`. Each has a caller of its own.
 #[derive(Drop)]
@@ -115,35 +121,86 @@ impl Registry {
         btree_change::remove(rt, &self.words, me, base)
     }
 
-    /// Registers a member as `register` does, for an update call that was begun, or answers Busy
-    /// where a lock on the way is taken, which it names: then the call is still begun, and may be
-    /// tried again. It waits for nobody.
+    /// Registers a member as `register` does, for an update call that was begun. Spent where the
+    /// caller has fewer than 64 releases to spare. Busy where a lock on the way was found taken and
+    /// `locking` gives up: then the call is still begun, and may be tried again.
+    pub fn register_by<L: Locking>(
+        &self,
+        locking: &L,
+        me: &mut Caller,
+        member: Member,
+    ) -> Result<Inserted, Busy>
+        requires table { me.old.table ≡ self.now.table }
+        requires idle { IsIdle me.old.log }
+        requires begun { 0 < due me.old }
+        requires payload { member.payload < self.now.terms.payloads }
+        ensures answer { IfOk result (TriesInsertion self.now.terms member me.old me.new) }
+        ensures busy { IfErr result (λ e. (CALL_CREDIT ≤ surplus me.old)
+            × GivesUp e.lock me.old me.new × (L.gives_up ≡ true)) }
+        ensures table { me.new.table ≡ me.old.table }
+        ensures idle { IsIdle me.new.log }
+        ensures due { OnErr result (0 < due me.new) }
+    {
+        if me.spare() < CALL_CREDIT {
+            return Ok(Inserted::Spent);
+        }
+        btree_change::insert_by(locking, &self.words, me, member)
+    }
+
+    /// Registers a member as `register_by` does, and waits for nobody.
     pub fn try_register(&self, me: &mut Caller, member: Member) -> Result<Inserted, Busy>
         requires table { me.old.table ≡ self.now.table }
         requires idle { IsIdle me.old.log }
         requires begun { 0 < due me.old }
-        requires surplus { CALL_CREDIT ≤ surplus me.old }
         requires payload { member.payload < self.now.terms.payloads }
-        ensures answer { IfOk result
-            (λ answer. AnswersInsertion self.now.terms member answer me.old me.new) }
-        ensures busy { IfErr result (λ e. GivesUp e.lock me.old me.new) }
+        ensures answer { IfOk result (TriesInsertion self.now.terms member me.old me.new) }
+        ensures busy { IfErr result
+            (λ e. (CALL_CREDIT ≤ surplus me.old) × GivesUp e.lock me.old me.new) }
+        ensures table { me.new.table ≡ me.old.table }
+        ensures idle { IsIdle me.new.log }
+        ensures due { OnErr result (0 < due me.new) }
     {
-        btree_change::try_insert(&self.words, me, member)
+        self.register_by(&Trying, me, member)
     }
 
-    /// Removes a registered member as `deregister` does, for an update call that was begun, or
-    /// answers Busy where a lock on the way is taken, which it names: then the call is still begun,
-    /// and may be tried again. It waits for nobody.
+    /// Removes a registered member as `deregister` does, for an update call that was begun. Spent
+    /// where the caller has fewer than 64 releases to spare. Busy where a lock on the way was found
+    /// taken and `locking` gives up: then the call is still begun, and may be tried again.
+    pub fn deregister_by<L: Locking>(
+        &self,
+        locking: &L,
+        me: &mut Caller,
+        base: u64,
+    ) -> Result<Removed, Busy>
+        requires table { me.old.table ≡ self.now.table }
+        requires idle { IsIdle me.old.log }
+        requires begun { 0 < due me.old }
+        ensures answer { IfOk result (TriesRemoval self.now.terms base me.old me.new) }
+        ensures busy { IfErr result (λ e. (CALL_CREDIT ≤ surplus me.old)
+            × GivesUp e.lock me.old me.new × (L.gives_up ≡ true)) }
+        ensures table { me.new.table ≡ me.old.table }
+        ensures idle { IsIdle me.new.log }
+        ensures due { OnErr result (0 < due me.new) }
+    {
+        if me.spare() < CALL_CREDIT {
+            return Ok(Removed::Spent);
+        }
+        btree_change::remove_by(locking, &self.words, me, base)
+    }
+
+    /// Removes a registered member as `deregister_by` does, and waits for nobody.
     pub fn try_deregister(&self, me: &mut Caller, base: u64) -> Result<Removed, Busy>
         requires table { me.old.table ≡ self.now.table }
         requires idle { IsIdle me.old.log }
         requires begun { 0 < due me.old }
-        requires surplus { CALL_CREDIT ≤ surplus me.old }
-        ensures answer { IfOk result
-            (λ answer. AnswersRemoval self.now.terms base answer me.old me.new) }
-        ensures busy { IfErr result (λ e. GivesUp e.lock me.old me.new) }
+        ensures answer { IfOk result (TriesRemoval self.now.terms base me.old me.new) }
+        ensures busy { IfErr result
+            (λ e. (CALL_CREDIT ≤ surplus me.old) × GivesUp e.lock me.old me.new) }
+        ensures table { me.new.table ≡ me.old.table }
+        ensures idle { IsIdle me.new.log }
+        ensures due { OnErr result (0 < due me.new) }
     {
-        btree_change::try_remove(&self.words, me, base)
+        self.deregister_by(&Trying, me, base)
     }
 
     /// Loads a member. Spent where the caller may begin no more update calls. It waits for the
@@ -159,6 +216,30 @@ impl Registry {
         array_publish::load(rt, &self.words, me, member)
     }
 
+    /// Loads a member as `load` does, for an update call that was begun. Spent where the caller has
+    /// fewer than 64 releases to spare. Busy where the loader's lock was found taken and `locking`
+    /// gives up: then the call is still begun, and may be tried again.
+    pub fn load_by<L: Locking>(
+        &self,
+        locking: &L,
+        me: &mut Caller,
+        member: Member,
+    ) -> Result<Loading, Busy>
+        requires table { me.old.table ≡ self.now.table }
+        requires free { me.old.log.loader ≡ None }
+        requires begun { 0 < due me.old }
+        requires payload { member.payload < self.now.terms.payloads }
+        ensures answer { IfOk result (TriesLoad self.now.terms member me.old me.new) }
+        ensures busy { IfErr result (λ e. (CALL_CREDIT ≤ surplus me.old)
+            × IsBusy e.lock me.old me.new × (L.gives_up ≡ true)) }
+        ensures free { IsFreeAgain me.old me.new }
+    {
+        if me.spare() < CALL_CREDIT {
+            return Ok(Loading::Spent);
+        }
+        array_publish::load_by(locking, &self.words, me, member)
+    }
+
     /// Unloads the loaded member that begins at an address, and names it. A fixed member can't be
     /// unloaded. Spent where the caller may begin no more update calls. It waits for the loader's
     /// lock.
@@ -170,6 +251,29 @@ impl Registry {
         ensures spent { (result ≡ removed.Spent) ↔ (me.old.left ≡ 0) }
     {
         array_publish::unload(rt, &self.words, me, base)
+    }
+
+    /// Unloads a loaded member as `unload` does, for an update call that was begun. Spent where the
+    /// caller has fewer than 64 releases to spare. Busy where the loader's lock was found taken and
+    /// `locking` gives up: then the call is still begun, and may be tried again.
+    pub fn unload_by<L: Locking>(
+        &self,
+        locking: &L,
+        me: &mut Caller,
+        base: u64,
+    ) -> Result<Removed, Busy>
+        requires table { me.old.table ≡ self.now.table }
+        requires free { me.old.log.loader ≡ None }
+        requires begun { 0 < due me.old }
+        ensures answer { IfOk result (TriesUnload self.now.terms base me.old me.new) }
+        ensures busy { IfErr result (λ e. (CALL_CREDIT ≤ surplus me.old)
+            × IsBusy e.lock me.old me.new × (L.gives_up ≡ true)) }
+        ensures free { IsFreeAgain me.old me.new }
+    {
+        if me.spare() < CALL_CREDIT {
+            return Ok(Removed::Spent);
+        }
+        array_publish::unload_by(locking, &self.words, me, base)
     }
 
     /// Looks an address up once among the registered members. Again where the tree was changed or
