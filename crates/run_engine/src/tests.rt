@@ -9,6 +9,7 @@ mod gated;
 mod side_by_side;
 mod slow_reader;
 mod trees;
+mod unfolding;
 
 use crate::{MemorySink, MemorySource, NoGate, Status, run};
 use std::alloc::Global;

@@ -1,13 +1,13 @@
 //! Sixteen threads that register and deregister at addresses that meet, for 64 rounds, with finds
-//! and unwinds. The slow reader holds every answer of their journal against plain lists. The
-//! accepted updates are then made again, one by one, and after each the nodes are looked at: so it
-//! is counted how often nodes were split, joined and shared, fences moved, and the root lifted and
-//! sunk. (Updates that were refused change nodes too, and are left out.)
+//! and unwinds. The slow reader holds every answer of their journal against plain lists, and unwinds
+//! each stack again. The accepted updates are then made again, one by one, and after each the nodes
+//! are looked at: so it is counted how often nodes were split, joined and shared, fences moved, and
+//! the root lifted and sunk. (Updates that were refused change nodes too, and are left out.)
 
 ghost use Rattle.std.specs.Prelude.{◌≡◌, ◌<◌, ◌≤◌};
 ghost use Rattle.word_rule.specs.Callers.{IsIdle};
 
-use super::side_by_side::{SECTION, SNAPSHOT};
+use super::side_by_side::{SECTION, SNAPSHOT, STACK_FRAMES};
 use super::slow_reader::{Change, read_slowly};
 use super::text_of;
 use crate::NoGate;
@@ -288,9 +288,10 @@ fn sixteen_threads_register_for_64_rounds(rt: HostRuntime) -> Result<(), Fail> {
     };
     let journal = play_script(&rt, alloc, &NoGate, &script)?;
     assert_eq!(rt; journal.rounds.len(), 64);
-    let history = read_slowly(&rt, alloc, &script.images, script.loads, &journal)?;
+    let reading = read_slowly(&rt, alloc, &script, &journal)?;
+    assert_eq!(rt; reading.most_lines, STACK_FRAMES);
     let (registry, mut me) = Registry::new(alloc, NODES, 1, IMAGES, Vec::new(alloc))?;
-    let Some(counts) = count_again(&rt, alloc, &registry, &mut me, &history)? else {
+    let Some(counts) = count_again(&rt, alloc, &registry, &mut me, &reading.history)? else {
         panic!(rt; "an update that isn't accepted again")
     };
     assert!(rt; counts.splits > 0 && counts.joins > 0, "{counts:?}");

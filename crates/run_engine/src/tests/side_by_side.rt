@@ -44,6 +44,10 @@ snapshot 0 0 0 0 0 0 0 7010 7000 0 0 0 0 0 0 0 0 1025
 memory 7000 2010000000000000000000000000000000000000000000000000000000000000
 ";
 
+/// The frames of the recorded stack: that of the second function, that of the first one, which
+/// called it, and one at an address that no image has.
+pub const STACK_FRAMES: usize = 3;
+
 #[test]
 fn sixteen_threads_for_64_rounds(rt: HostRuntime) -> Result<(), Fail> {
     let alloc = rt.alloc();
@@ -52,6 +56,7 @@ fn sixteen_threads_for_64_rounds(rt: HostRuntime) -> Result<(), Fail> {
     };
     let journal = play_script(&rt, alloc, &NoGate, &script)?;
     assert_eq!(rt; journal.rounds.len(), 64);
-    read_slowly(&rt, alloc, &script.images, script.loads, &journal)?;
+    let reading = read_slowly(&rt, alloc, &script, &journal)?;
+    assert_eq!(rt; reading.most_lines, STACK_FRAMES);
     Ok(())
 }

@@ -1,11 +1,13 @@
 //! A slow reader of journals: it holds every answer against plain lists, which it makes again from
 //! the accepted updates by their numbers.
 
-use event_script::{Answer, Journal};
+use super::unfolding::{caller_of, innermost, look_of};
+use event_script::{Answer, Journal, Script};
 use reg_model::{Found, Inserted, Loading, Member, Place, Removed, Span};
 use std::alloc::Global;
 use std::process::Abort;
 use std::test::Fail;
+use unwind_step::Trace;
 
 /// An accepted update.
 #[derive(Clone, Copy)]
@@ -54,7 +56,7 @@ fn change_of(images: &[Span], answer: &Answer) -> Option<(u32, Change)> {
 }
 
 /// The changes by their numbers, each of which stands once.
-pub fn history_of(
+fn history_of(
     rt: &impl Abort,
     alloc: Global,
     images: &[Span],
@@ -165,8 +167,7 @@ fn at_base(members: &[Member], base: u64) -> Option<Member> {
 /// Reads the answers of one thread of one round, one after another.
 #[derive(Drop)]
 struct SlowReader<'a> {
-    images: &'a [Span],
-    loads: u32,
+    script: &'a Script,
     history: &'a [Option<Change>],
     /// The lists after so many updates: it goes on with each answer.
     lists: Lists,
@@ -176,6 +177,8 @@ struct SlowReader<'a> {
     after: u32,
     /// The greatest stamp or number so far, in this round or before it.
     since: u32,
+    /// The most lines of a backtrace so far.
+    most_lines: usize,
 }
 
 impl<'a> SlowReader<'a> {
@@ -206,13 +209,11 @@ impl<'a> SlowReader<'a> {
                 read_removed(rt, &self.lists.loaded, *base, *answer);
                 Ok(())
             }
-            Answer::Find { pc, place } => self.read_place(rt, alloc, *pc, *place),
-            Answer::Unwind { trace, .. } => {
-                for line in &trace.frames {
-                    self.read_place(rt, alloc, line.look, line.place)?;
-                }
+            Answer::Find { pc, place } => {
+                self.read_place(rt, alloc, *pc, *place)?;
                 Ok(())
             }
+            Answer::Unwind { snapshot, trace } => self.read_trace(rt, alloc, *snapshot, trace),
         }
     }
 
@@ -254,7 +255,8 @@ impl<'a> SlowReader<'a> {
             }
             Inserted::Spent => panic!(rt; "spent"),
         };
-        let Some(span) = self.images.get(image as usize) else {
+        let script = self.script;
+        let Some(span) = script.images.get(image as usize) else {
             panic!(rt; "no image")
         };
         assert!(rt; lowest_overlap(&self.lists.registered, span) == wanted);
@@ -279,7 +281,8 @@ impl<'a> SlowReader<'a> {
         image: u32,
         answer: Loading,
     ) -> Result<(), Fail> {
-        let loads = self.loads as usize;
+        let script = self.script;
+        let loads = script.loads as usize;
         let (wanted, fits) = match answer {
             Loading::Done { number } => {
                 self.read_number(rt, alloc, number)?;
@@ -295,7 +298,7 @@ impl<'a> SlowReader<'a> {
             }
             Loading::Spent => panic!(rt; "spent"),
         };
-        let Some(span) = self.images.get(image as usize) else {
+        let Some(span) = script.images.get(image as usize) else {
             panic!(rt; "no image")
         };
         assert!(rt; lowest_overlap(&self.lists.loaded, span) == wanted && fits);
@@ -316,23 +319,53 @@ impl<'a> SlowReader<'a> {
         }
     }
 
-    /// Each half answers what contained the address at its stamp.
+    /// Each half answers what contained the address at its stamp: the member that was found.
     fn read_place(
         &mut self,
         rt: &impl Abort,
         alloc: Global,
         pc: u64,
         place: Place,
-    ) -> Result<(), Fail> {
+    ) -> Result<Option<Member>, Fail> {
         let (member, stamp) = found_in(place.registered);
         self.read_stamp(rt, alloc, stamp)?;
         assert!(rt; containing(&self.lists.registered, pc) == member);
         assert!(rt; member.is_some() == place.loaded.is_none());
-        if let Some(found) = place.loaded {
-            let (member, stamp) = found_in(found);
-            self.read_stamp(rt, alloc, stamp)?;
-            assert!(rt; containing(&self.lists.loaded, pc) == member);
+        let Some(found) = place.loaded else {
+            return Ok(member);
+        };
+        let (member, stamp) = found_in(found);
+        self.read_stamp(rt, alloc, stamp)?;
+        assert!(rt; containing(&self.lists.loaded, pc) == member);
+        Ok(member)
+    }
+
+    /// Each line shows the frame that called the one before, and the trace ends where there is none
+    /// and says why. Rows are those of the image that contained the address at the line's stamps.
+    fn read_trace(
+        &mut self,
+        rt: &impl Abort,
+        alloc: Global,
+        snapshot: u32,
+        trace: &Trace,
+    ) -> Result<(), Fail> {
+        let script = self.script;
+        let Some(snapshot) = script.snapshots.get(snapshot as usize) else {
+            panic!(rt; "no snapshot")
+        };
+        let mut called = Ok(innermost(snapshot));
+        for line in &trace.frames {
+            let Ok(frame) = called else {
+                panic!(rt; "a line after the last frame")
+            };
+            assert_eq!(rt; line.pc, frame.regs.columns[16]);
+            assert_eq!(rt; line.sp, frame.regs.columns[7]);
+            assert_eq!(rt; line.look, look_of(&frame));
+            let image = self.read_place(rt, alloc, line.look, line.place)?;
+            called = caller_of(&script.sections, snapshot, &frame, image);
         }
+        assert!(rt; called == Err(trace.end));
+        self.most_lines = self.most_lines.max(trace.frames.len());
         Ok(())
     }
 }
@@ -367,37 +400,46 @@ fn updates_in(images: &[Span], round: &[Vec<Answer>]) -> u32 {
     count
 }
 
-/// Reads a whole journal of a script with these images and so many loads, slowly: its accepted
-/// updates, in order.
+/// What a journal that was read says.
+#[derive(Drop)]
+pub struct Reading {
+    /// The accepted updates, in order.
+    pub history: Vec<Option<Change>>,
+    /// The most lines of a backtrace.
+    pub most_lines: usize,
+}
+
+/// Reads a whole journal of a script, slowly.
 pub fn read_slowly(
     rt: &impl Abort,
     alloc: Global,
-    images: &[Span],
-    loads: u32,
+    script: &Script,
     journal: &Journal,
-) -> Result<Vec<Option<Change>>, Fail> {
-    let history = history_of(rt, alloc, images, journal)?;
+) -> Result<Reading, Fail> {
+    let history = history_of(rt, alloc, &script.images, journal)?;
     let mut lists = Lists {
         registered: Vec::new(alloc),
         loaded: Vec::new(alloc),
     };
     let mut before = 0u32;
+    let mut most_lines = 0;
     for round in &journal.rounds {
-        let after = before.saturating_add(updates_in(images, round));
+        let after = before.saturating_add(updates_in(&script.images, round));
         for thread in round {
             let mut reader = SlowReader {
-                images,
-                loads,
+                script,
                 history: &history,
                 lists: copy_of(alloc, &lists)?,
                 updates: before,
                 before,
                 after,
                 since: before,
+                most_lines,
             };
             for answer in thread {
                 reader.read_answer(rt, alloc, answer)?;
             }
+            most_lines = reader.most_lines;
         }
         for index in before..after {
             if let Some(change) = history.get(index as usize) {
@@ -407,5 +449,8 @@ pub fn read_slowly(
         before = after;
     }
     assert_eq!(rt; before, journal.updates);
-    Ok(history)
+    Ok(Reading {
+        history,
+        most_lines,
+    })
 }
