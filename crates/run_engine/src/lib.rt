@@ -2,9 +2,9 @@
 //!
 //! Above the scripts (`event_script`) and the registry (`registry_core`), below the program. `run`
 //! takes a source to its end, reads the script, plays its rounds against the registry, and writes
-//! the journal; or it plays the script that is generated, and writes a summary. What it promises is in its contract: where it answers Done, the text is that of a
-//! lawful journal of the script. Sources and sinks are traits, so that the promise speaks of bytes
-//! and holds for every device.
+//! the journal; or it plays the script that is generated, and writes a summary. What it promises is
+//! in its contract: where it answers Done, the text is that of a lawful journal of the script.
+//! Sources and sinks are traits, so that the promise speaks of bytes and holds for every device.
 #![tactic(auto)]
 
 mod gate;

@@ -60,8 +60,10 @@ impl Source for MemorySource {
 
     fn read(&mut self, buffer: &mut [u8]) -> Result<usize, Failed>
         ensures count { IfOk result (λ count. count ≤ length buffer.old) }
-        ensures bytes { IfOk result (λ count. self.old.rest ≡ take count buffer.new ++ self.new.rest) }
-        ensures end { IfOk result (λ count. count ≡ 0 → 0 < length buffer.old → self.old.rest ≡ []) }
+        ensures bytes { IfOk result
+            (λ count. self.old.rest ≡ take count buffer.new ++ self.new.rest) }
+        ensures end { IfOk result
+            (λ count. count ≡ 0 → 0 < length buffer.old → self.old.rest ≡ []) }
         ensures err { IsErr result → Rose self.old.faults self.new.faults }
         ensures counted { self.old.faults ≤ self.new.faults }
 
@@ -69,7 +71,8 @@ impl Source for MemorySource {
         // that fits.
         ensures call { self.new.calls ≡ min (self.old.calls + 1) (2 ^ 64 - 1) }
         ensures fails { IsErr result ↔ Contains self.old.fails self.new.calls }
-        ensures all { IfOk result (λ count. count ≡ min (length self.old.rest) (length buffer.old)) }
+        ensures all { IfOk result
+            (λ count. count ≡ min (length self.old.rest) (length buffer.old)) }
         ensures kept { OnErr result (self.new.rest ≡ self.old.rest) }
         ensures fault { OnErr result (self.new.faults ≡ min (self.old.faults + 1) (2 ^ 64 - 1)) }
         ensures sound { IfOk result (λ _. self.new.faults ≡ self.old.faults) }
@@ -203,7 +206,8 @@ impl Sink for MemorySink {
     fn write(&mut self, piece: &[u8]) -> Result<usize, SinkFault>
         ensures count { IfOk result (λ count. count ≤ length piece.now) }
         ensures some { IfOk result (λ count. 0 < length piece.now → 0 < count) }
-        ensures bytes { IfOk result (λ count. self.new.bytes ≡ self.old.bytes ++ take count piece.now) }
+        ensures bytes { IfOk result
+            (λ count. self.new.bytes ≡ self.old.bytes ++ take count piece.now) }
         ensures err { OnErr result (self.new.bytes ≡ self.old.bytes) }
         ensures failed { result ≡ Err SinkFault.Failed → Rose self.old.faults self.new.faults }
         ensures counted { self.old.faults ≤ self.new.faults }

@@ -185,7 +185,8 @@ pub fn play_threads<R: Threads + Wait + Sync, G: Gate + Sync>(
                 (length images.now) registry.now before.now callers.items }
             ensures answered { IfOk result
                 (λ played. AllZip
-                (λ events thread. AllZip (IsRightAnswer sections.entry.now snapshots.entry.now) events thread.items)
+                (λ events thread. AllZip (IsRightAnswer sections.entry.now snapshots.entry.now)
+                events thread.items)
                 before.entry.now played.answers.items) }
             ensures calls { IfOk result
                 (λ played. AreAnswered
