@@ -24,7 +24,8 @@ fn script_of(alloc: Global) -> Result<Vec<u8>, Fail> {
             let base = 0x10_000 + image * 0x100;
             let other = 0x10_000 + (image + 1) * 0x100;
             let lines = format!(in alloc;
-                "thread\nload {image}\nfind {base:x}\nunwind 0\nunload {other:x}\nfind {other:x}\nload 0\nunload {base:x}\n"
+                "thread\nload {image}\nfind {base:x}\nunwind 0\nunload {other:x}\nfind {other:x}\n\
+                load 0\nunload {base:x}\n"
             )?;
             text.extend_from_slice(lines.as_bytes())?;
         }
