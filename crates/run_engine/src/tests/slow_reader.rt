@@ -1,7 +1,7 @@
 //! A slow reader of journals: it holds every answer against plain lists, which it makes again from
 //! the accepted updates by their numbers.
 
-use super::unfolding::{caller_of, innermost, look_of};
+use super::unfolding::{caller_of, innermost, shows};
 use event_script::{Answer, Journal, Script};
 use reg_model::{Found, Inserted, Loading, Member, Place, Removed, Span};
 use std::alloc::Global;
@@ -358,9 +358,7 @@ impl<'a> SlowReader<'a> {
             let Ok(frame) = called else {
                 panic!(rt; "a line after the last frame")
             };
-            assert_eq!(rt; line.pc, frame.regs.columns[16]);
-            assert_eq!(rt; line.sp, frame.regs.columns[7]);
-            assert_eq!(rt; line.look, look_of(&frame));
+            assert!(rt; shows(line, &frame));
             let image = self.read_place(rt, alloc, line.look, line.place)?;
             called = caller_of(&script.sections, snapshot, &frame, image);
         }

@@ -3,7 +3,7 @@
 use event_script::Snapshot;
 use frame_parse::Section;
 use reg_model::Member;
-use unwind_step::{AddressKind, End, Frame, Stepped, step_at};
+use unwind_step::{AddressKind, End, Frame, FrameLine, Stepped, step_at};
 
 /// The frame that was recorded.
 pub fn innermost(snapshot: &Snapshot) -> Frame {
@@ -14,12 +14,18 @@ pub fn innermost(snapshot: &Snapshot) -> Frame {
 }
 
 /// The address at which a frame is looked up: behind a call, one that is still the call's.
-pub fn look_of(frame: &Frame) -> u64 {
+fn look_of(frame: &Frame) -> u64 {
     let pc = frame.regs.columns[16];
     match frame.address {
         AddressKind::Instruction => pc,
         AddressKind::Return => pc.wrapping_sub(1),
     }
+}
+
+/// Whether a line tells of a frame, whatever its place.
+pub fn shows(line: &FrameLine, frame: &Frame) -> bool {
+    let columns = &frame.regs.columns;
+    line.pc == columns[16] && line.sp == columns[7] && line.look == look_of(frame)
 }
 
 /// The frame that called one whose image this is, or why there is none.
