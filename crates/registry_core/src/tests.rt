@@ -1,8 +1,8 @@
 ghost use Rattle.std.specs.Prelude.{◌≡◌, ◌<◌, IfSome, None};
 
 use crate::Registry;
-use node_store::{check, lock, peek, unlock};
-use reg_model::{Again, Found, Loading, Member, Place, Removed, Span};
+use node_store::{Trying, check, lock, peek, unlock};
+use reg_model::{Again, Found, Inserted, Loading, Member, Place, Removed, Span};
 use std::sync::Wait;
 use std::test::Fail;
 use std::thread::{Threads, join};
@@ -185,5 +185,101 @@ fn a_try_beside_a_locked_root(rt: HostRuntime) -> Result<(), Fail> {
     };
     assert!(rt; again == changed);
     assert!(rt; registry.try_registered(&mut b, 5) == Ok(Found::Miss { stamp: 0 }));
+    Ok(())
+}
+
+#[test]
+fn a_try_to_register_beside_a_locked_root(rt: HostRuntime) -> Result<(), Fail> {
+    let alloc = rt.alloc();
+    let (registry, mut a) = Registry::new(alloc, 4, 1, 1, Vec::new(alloc))?;
+    let mut b = registry.words().split(alloc, &mut a, 1)?;
+    let root = LockId::Node { node: 0 };
+    let (Some(one), Some(same)) = (member(0x1000, 0x20, 0), member(0x1000, 0x20, 0)) else {
+        panic!(rt; "spans")
+    };
+    let Ok(version) = registry.words().take(&mut a, root) else {
+        panic!(rt; "nobody has the root")
+    };
+    assert!(rt; version == 0 && b.use_one());
+    let Err(busy) = registry.try_register(&mut b, one) else {
+        panic!(rt; "the root is locked")
+    };
+    assert!(rt; busy.lock == root);
+    assert!(rt; registry.words().release_same(&mut a, root) == 1);
+    assert!(rt; registry.try_register(&mut b, same) == Ok(Inserted::Done { number: 1 }));
+    Ok(())
+}
+
+#[test]
+fn a_try_to_deregister_beside_a_locked_root(rt: HostRuntime) -> Result<(), Fail> {
+    let alloc = rt.alloc();
+    let (registry, mut a) = Registry::new(alloc, 4, 1, 1, Vec::new(alloc))?;
+    let mut b = registry.words().split(alloc, &mut a, 1)?;
+    let root = LockId::Node { node: 0 };
+    let (Some(one), Some(same)) = (member(0x1000, 0x20, 0), member(0x1000, 0x20, 0)) else {
+        panic!(rt; "spans")
+    };
+    assert!(rt; registry.register(&rt, &mut a, one) == Inserted::Done { number: 1 });
+    let Ok(version) = registry.words().take(&mut a, root) else {
+        panic!(rt; "nobody has the root")
+    };
+    assert!(rt; version == 4 && b.use_one());
+    let Err(busy) = registry.try_deregister(&mut b, 0x1000) else {
+        panic!(rt; "the root is locked")
+    };
+    assert!(rt; busy.lock == root);
+    assert!(rt; registry.words().release_same(&mut a, root) == 5);
+    let done = Removed::Done {
+        number: 2,
+        member: same,
+    };
+    assert!(rt; registry.try_deregister(&mut b, 0x1000) == Ok(done));
+    Ok(())
+}
+
+#[test]
+fn a_try_to_load_beside_the_loaders_lock(rt: HostRuntime) -> Result<(), Fail> {
+    let alloc = rt.alloc();
+    let (registry, mut a) = Registry::new(alloc, 4, 1, 1, Vec::new(alloc))?;
+    let mut b = registry.words().split(alloc, &mut a, 1)?;
+    let (Some(one), Some(same)) = (member(0x1000, 0x20, 0), member(0x1000, 0x20, 0)) else {
+        panic!(rt; "spans")
+    };
+    let Ok(version) = registry.words().take(&mut a, LockId::Loader) else {
+        panic!(rt; "nobody has the loader's lock")
+    };
+    assert!(rt; version == 0 && b.use_one());
+    let Err(busy) = registry.load_by(&Trying, &mut b, one) else {
+        panic!(rt; "the loader's lock is taken")
+    };
+    assert!(rt; busy.lock == LockId::Loader);
+    assert!(rt; registry.words().release_same(&mut a, LockId::Loader) == 1);
+    assert!(rt; registry.load_by(&Trying, &mut b, same) == Ok(Loading::Done { number: 1 }));
+    Ok(())
+}
+
+#[test]
+fn a_try_to_unload_beside_the_loaders_lock(rt: HostRuntime) -> Result<(), Fail> {
+    let alloc = rt.alloc();
+    let (registry, mut a) = Registry::new(alloc, 4, 1, 1, Vec::new(alloc))?;
+    let mut b = registry.words().split(alloc, &mut a, 1)?;
+    let (Some(one), Some(same)) = (member(0x1000, 0x20, 0), member(0x1000, 0x20, 0)) else {
+        panic!(rt; "spans")
+    };
+    assert!(rt; registry.load(&rt, &mut a, one) == Loading::Done { number: 1 });
+    let Ok(version) = registry.words().take(&mut a, LockId::Loader) else {
+        panic!(rt; "nobody has the loader's lock")
+    };
+    assert!(rt; version == 4 && b.use_one());
+    let Err(busy) = registry.unload_by(&Trying, &mut b, 0x1000) else {
+        panic!(rt; "the loader's lock is taken")
+    };
+    assert!(rt; busy.lock == LockId::Loader);
+    assert!(rt; registry.words().release_same(&mut a, LockId::Loader) == 5);
+    let done = Removed::Done {
+        number: 2,
+        member: same,
+    };
+    assert!(rt; registry.unload_by(&Trying, &mut b, 0x1000) == Ok(done));
     Ok(())
 }
