@@ -1,0 +1,200 @@
+/* The registry for C and C++: which range of addresses has an address, while ranges come and go.
+ *
+ * A registry has two halves. Ranges of generated code are registered and deregistered; images of
+ * the loader are loaded and unloaded, beside fixed ones that are there for good. Ranges of one half
+ * don't overlap. Each range has a payload, a number that is the program's own.
+ *
+ * Each answer below is proved to be what the comment beside it says, for every call whose caller
+ * keeps to what follows. Nothing checks that: it is what C owes.
+ *
+ *   - What a call writes (`out`, `back`, `other_back`, `answer`, `found`, `place`, `seen`) is
+ *     writable, aligned, and apart from all else that the call is given. What it holds before
+ *     doesn't matter, but for a client: that holds nothing.
+ *   - What a call reads (`limits`, `fixed`, `member`) nobody writes while the call runs. An array
+ *     of length 0 has an address too, which isn't null.
+ *   - A client is one pointer. C owns it from the call that wrote it until it is joined or closed.
+ *     A call takes it by value and gives it back through `back`, which may be the same variable:
+ *     registry_c_find(client, pc, &place, &client). Never pass one that was joined, closed, or
+ *     passed and not given back, and never read or copy what it leads to.
+ *   - One call at a time is given a client. Each thread has one of its own (registry_c_split), and
+ *     threads with a client each don't meet: no call waits. A client goes from one thread to
+ *     another in order: by a lock, or by a thread's start or join.
+ *   - Clients that are joined are of one registry.
+ *   - malloc, realloc and free are those of the program, and don't fail but by NULL. Only the calls
+ *     that make, split, join and close call them.
+ *
+ * Updates have numbers, 1, 2, 3 and so on, in the order in which they were accepted, by whichever
+ * client. A stamp is such a number too: an answer with stamp 7 is right of the ranges after the
+ * first seven updates. What a client is told never goes back: a stamp is at least, and a number
+ * above, any stamp and number that it was told before.
+ *
+ * How to try again. A call that answers BUSY found a lock taken, and one that answers AGAIN found
+ * that something changed on the way. Neither waited. Pause, yield or sleep as the program likes,
+ * and ask again. After BUSY the update call stays begun: the next update, the same or another, goes
+ * on with it and takes no further one.
+ *
+ * In a signal handler: registry_c_left, registry_c_seen, the lookups and the updates take no memory
+ * and wait for nobody, each step is one atomic access of a word. Give the handler a client of its
+ * own, which no call that it may interrupt was given. An update may then be BUSY for as long as the
+ * handler runs, where the lock is that of the call interrupted; a lookup may be AGAIN so. That a
+ * handler interrupts a call is beyond what is proved.
+ *
+ * In the forked child of a process with threads: the same calls, and no other. Where a thread was
+ * within an update when the process was forked, its locks stay taken in the child: updates are BUSY
+ * and lookups that pass there AGAIN, however often they are tried.
+ */
+#ifndef REGISTRY_C_H
+#define REGISTRY_C_H
+
+#include <stdbool.h>
+#include <stddef.h>
+#include <stdint.h>
+
+#ifdef __cplusplus
+extern "C" {
+#endif
+
+/* ---- clients --------------------------------------------------------------------------------- */
+
+/* A client of a registry, or nothing: {0}. */
+typedef struct {
+  void *at;
+} registry_client;
+
+/* `size` addresses from `first` on. There is one at least, and the last is below 2^64 - 1. */
+typedef struct {
+  uint64_t first;
+  uint64_t size;
+  uint32_t payload;
+} registry_member;
+
+/* 4 to 16384 nodes: ranges that are registered take one for each five at worst, and a few more. 1
+ * to 1024 loads: so many may be loaded at a time. Payloads are below `payloads`. */
+typedef struct {
+  uint32_t nodes;
+  uint32_t loads;
+  uint32_t payloads;
+} registry_limits;
+
+enum registry_new {
+  REGISTRY_NEW = 0,           /* `out` has the first client                          */
+  REGISTRY_NEW_NO_MEMORY = 1, /* memory ran out                                      */
+  REGISTRY_NEW_NODES = 2,     /* not so many nodes                                   */
+  REGISTRY_NEW_LOADS = 3,     /* not so many loads                                   */
+  REGISTRY_NEW_FIXED = 4      /* the fixed ones aren't members in ascending order    */
+};
+
+/* Makes a registry and its first client, which has all 67,108,864 update calls. */
+uint64_t registry_c_new(const registry_limits *limits, const registry_member *fixed, size_t count,
+                        registry_client *out);
+
+enum registry_split {
+  REGISTRY_SPLIT = 0,           /* `out` has a client                                          */
+  REGISTRY_SPLIT_NO_MEMORY = 1, /* memory ran out: the calls were kept, or are lost            */
+  REGISTRY_SPLIT_FEW = 2        /* fewer calls are left, and nothing was done                  */
+};
+
+/* Splits off a client, for another thread, and gives it so many of the update calls that are
+ * left. */
+uint64_t registry_c_split(registry_client client, uint32_t give, registry_client *out,
+                          registry_client *back);
+
+/* Joins `other` into a client: its update calls, and what it has seen. False: memory ran out, and
+ * `other_back` has it again; or holds nothing, where it is lost. */
+bool registry_c_join(registry_client client, registry_client other, registry_client *back,
+                     registry_client *other_back);
+
+/* Frees a client, and the registry with its last one. `seen` is how many updates it had seen. True:
+ * every other client was joined into it. */
+bool registry_c_close(registry_client client, uint32_t *seen);
+
+/* How many update calls a client may still begin. One that is begun isn't among them. */
+uint32_t registry_c_left(registry_client client, registry_client *back);
+
+/* How many updates a client has seen. */
+uint32_t registry_c_seen(registry_client client, registry_client *back);
+
+/* ---- lookups --------------------------------------------------------------------------------- */
+
+enum registry_found_kind {
+  REGISTRY_MISS = 0,  /* at the stamp no range has the address       */
+  REGISTRY_HIT = 1,   /* at the stamp `member` has it                */
+  REGISTRY_AGAIN = 2  /* it isn't answered                           */
+};
+
+/* What isn't told is 0. */
+typedef struct {
+  uint32_t kind;
+  uint32_t stamp;
+  registry_member member;
+} registry_found;
+
+/* Looks an address up once among the registered ranges. */
+void registry_c_try_registered(registry_client client, uint64_t pc, registry_found *found,
+                               registry_client *back);
+
+/* Looks an address up once among the fixed and the loaded ranges. */
+void registry_c_try_loaded(registry_client client, uint64_t pc, registry_found *found,
+                           registry_client *back);
+
+enum registry_place_kind {
+  REGISTRY_NOWHERE = 0,    /* neither half has the address, each at its stamp              */
+  REGISTRY_REGISTERED = 1, /* `member` has it, at the stamp `registered`                   */
+  REGISTRY_LOADED = 2,     /* `member` has it at the stamp `loaded`, and no registered one */
+                           /* had it at the stamp `registered`                             */
+  REGISTRY_FIND_AGAIN = 3  /* it isn't answered                                            */
+};
+
+typedef struct {
+  uint32_t kind;
+  uint32_t registered;
+  uint32_t loaded;
+  registry_member member;
+} registry_place;
+
+/* Looks an address up once among the registered ranges, and where none has it, once among the
+ * fixed and the loaded ones. */
+void registry_c_find(registry_client client, uint64_t pc, registry_place *place,
+                     registry_client *back);
+
+/* ---- updates --------------------------------------------------------------------------------- */
+
+enum registry_answer_kind {
+  REGISTRY_DONE = 0,      /* it is the update with this number; a removal has the `member`   */
+  REGISTRY_OVERLAP = 1,   /* at the stamp `member` is the lowest one that overlaps           */
+  REGISTRY_ABSENT = 2,    /* at the stamp no range of this half begins at the address        */
+  REGISTRY_FULL = 3,      /* at the stamp nothing overlaps, and there is no room             */
+  REGISTRY_SPENT = 4,     /* no update call is left; or too often one that was begun was     */
+                          /* BUSY                                                            */
+  REGISTRY_BUSY = 5,      /* a lock was found taken, and nothing was changed                 */
+  REGISTRY_NO_MEMBER = 6  /* no addresses, or not below 2^64 - 1, or no such payload         */
+};
+
+/* What isn't told is 0. */
+typedef struct {
+  uint32_t kind;
+  uint32_t number;
+  uint32_t stamp;
+  registry_member member;
+} registry_answer;
+
+/* Tries to register a range, which must overlap no other registered one. */
+void registry_c_register(registry_client client, const registry_member *member,
+                         registry_answer *answer, registry_client *back);
+
+/* Tries to remove the registered range that begins at an address. */
+void registry_c_deregister(registry_client client, uint64_t first, registry_answer *answer,
+                           registry_client *back);
+
+/* Tries to load a range, which must overlap no fixed or loaded one. */
+void registry_c_load(registry_client client, const registry_member *member,
+                     registry_answer *answer, registry_client *back);
+
+/* Tries to unload the loaded range that begins at an address. A fixed one stays. */
+void registry_c_unload(registry_client client, uint64_t first, registry_answer *answer,
+                       registry_client *back);
+
+#ifdef __cplusplus
+}
+#endif
+#endif

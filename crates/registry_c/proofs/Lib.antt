@@ -1,0 +1,3 @@
+mod Attempting
+mod Boxes
+mod FixedMembers

@@ -1,0 +1,81 @@
+-- What C is told of a try of an update.
+use Rattle.std.specs.Prelude.{◌≡◌, ℕ}
+use Rattle.reg_model.specs.declared.answer.Inserted.{Inserted}
+use Rattle.reg_model.specs.declared.answer.Inserted.TheVariants as inserted
+use Rattle.reg_model.specs.declared.answer.Loading.{Loading}
+use Rattle.reg_model.specs.declared.answer.Loading.TheVariants as loading
+use Rattle.reg_model.specs.declared.answer.Removed.{Removed}
+use Rattle.reg_model.specs.declared.answer.Removed.TheVariants as removed
+use Rattle.reg_model.specs.declared.span.Member.{Member}
+use Rattle.registry_c.specs.Clients.{ClientData}
+use Rattle.registry_c.specs.Members.{member_told, no_member}
+use Rattle.registry_c.specs.declared.attempt.RegistryAnswer.{RegistryAnswer}
+use Rattle.registry_c.specs.declared.attempt.Attempt.{Attempt}
+use Rattle.registry_c.specs.declared.attempt.Attempt.TheVariants.{Answered, Busy, NoMember}
+
+-- the kinds of answers
+abbrev pub DONE : ℕ
+DONE = 0
+
+abbrev pub OVERLAP : ℕ
+OVERLAP = 1
+
+abbrev pub ABSENT : ℕ
+ABSENT = 2
+
+abbrev pub FULL : ℕ
+FULL = 3
+
+abbrev pub SPENT : ℕ
+SPENT = 4
+
+abbrev pub BUSY : ℕ
+BUSY = 5
+
+abbrev pub NO_MEMBER : ℕ
+NO_MEMBER = 6
+
+-- A kind, with the number of an accepted update or the stamp of any other answer, and a member.
+abbrev pub done_told : ℕ → RegistryAnswer
+done_told number = record { kind = DONE; number = number; stamp = 0; member = no_member }
+
+abbrev pub removed_told : ℕ → Member → RegistryAnswer
+removed_told number m = record { kind = DONE; number = number; stamp = 0; member = member_told m }
+
+abbrev pub overlap_told : Member → ℕ → RegistryAnswer
+overlap_told m stamp = record { kind = OVERLAP; number = 0; stamp = stamp; member = member_told m }
+
+abbrev pub stamp_told : ℕ → ℕ → RegistryAnswer
+stamp_told kind stamp = record { kind = kind; number = 0; stamp = stamp; member = no_member }
+
+-- of a registration
+abbrev pub insertion_told : Attempt Inserted → RegistryAnswer
+insertion_told (Answered (inserted.Done number)) = done_told number
+insertion_told (Answered (inserted.Overlap m stamp)) = overlap_told m stamp
+insertion_told (Answered (inserted.Full stamp)) = stamp_told FULL stamp
+insertion_told (Answered inserted.Spent) = stamp_told SPENT 0
+insertion_told (Busy lock) = stamp_told BUSY 0
+insertion_told NoMember = stamp_told NO_MEMBER 0
+
+-- of a load
+abbrev pub loading_told : Attempt Loading → RegistryAnswer
+loading_told (Answered (loading.Done number)) = done_told number
+loading_told (Answered (loading.Overlap m stamp)) = overlap_told m stamp
+loading_told (Answered (loading.LoadFull stamp)) = stamp_told FULL stamp
+loading_told (Answered loading.Spent) = stamp_told SPENT 0
+loading_told (Busy lock) = stamp_told BUSY 0
+loading_told NoMember = stamp_told NO_MEMBER 0
+
+-- of a removal, from either half
+abbrev pub removal_told : Attempt Removed → RegistryAnswer
+removal_told (Answered (removed.Done number m)) = removed_told number m
+removal_told (Answered (removed.NotFound stamp)) = stamp_told ABSENT stamp
+removal_told (Answered removed.Spent) = stamp_told SPENT 0
+removal_told (Busy lock) = stamp_told BUSY 0
+removal_told NoMember = stamp_told NO_MEMBER 0
+
+-- An update was tried, which is told in so many words.
+abbrev pub TellsAttempt : {A : Type 0} → (ClientData → ClientData → Attempt A → Type 0)
+    → (Attempt A → RegistryAnswer) → RegistryAnswer → ClientData → ClientData → Type 0
+TellsAttempt {A} step told answer c c' =
+    (attempt : Attempt A) × (step c c' attempt × (answer ≡ told attempt))

@@ -1,0 +1,94 @@
+-- Lookups of a client, and what C is told of them.
+use Rattle.std.specs.Prelude.{◌≡◌, ℕ, ◌⊎◌, Option, Some, None, Result, Ok, Err, IsOk}
+use Rattle.array_publish.specs.Lookup.{LooksUp}
+use Rattle.btree_lookup.specs.Tries.{TriesTree}
+use Rattle.reg_model.specs.Receipt.{IsPlace}
+use Rattle.reg_model.specs.declared.answer.Again.{Again}
+use Rattle.reg_model.specs.declared.answer.Found.{Found}
+use Rattle.reg_model.specs.declared.answer.Found.TheVariants.{Hit, Miss}
+use Rattle.reg_model.specs.declared.answer.Place.{Place}
+use Rattle.word_rule.specs.CallerData.{CallerData}
+use Rattle.word_rule.specs.Callers.{IsAlone}
+use Rattle.word_rule.specs.declared.log.Terms.{Terms}
+use Rattle.registry_c.specs.Clients.{ClientData}
+use Rattle.registry_c.specs.Members.{member_told, no_member}
+use Rattle.registry_c.specs.declared.find.RegistryFound.{RegistryFound}
+use Rattle.registry_c.specs.declared.find.RegistryPlace.{RegistryPlace}
+
+-- One half was asked once. Whoever is alone is answered.
+pub record Asks (step : Terms → ℕ → CallerData → CallerData → Result Found Again → Type 0) (pc : ℕ)
+    (c c' : ClientData) (result : Result Found Again) : Type 0 where
+  pub stepped : step c.words.terms pc c.me c'.me result
+  pub same : c' ≡ record c { me = c'.me }
+  pub alone : IsAlone c.me.log.lineage → IsOk result
+
+abbrev pub AsksRegistered : ℕ → ClientData → ClientData → Result Found Again → Type 0
+AsksRegistered = Asks TriesTree
+
+abbrev pub AsksLoaded : ℕ → ClientData → ClientData → Result Found Again → Type 0
+AsksLoaded = Asks LooksUp
+
+-- The registered half was asked once, and where that misses the loader's, once. The one that isn't
+-- answered is the last one asked.
+abbrev pub FindsOnce : ℕ → ClientData → ClientData → Result Place Again → Type 0
+FindsOnce pc c c' (Ok place) = IsPlace place × elim place.loaded [
+  | None ↦ AsksRegistered pc c c' (Ok place.registered)
+  | Some found ↦ (mid : ClientData) × (AsksRegistered pc c mid (Ok place.registered)
+      × AsksLoaded pc mid c' (Ok found))
+]
+FindsOnce pc c c' (Err again) = AsksRegistered pc c c' (Err again)
+    ⊎ ((mid : ClientData) × (stamp : ℕ) × (AsksRegistered pc c mid (Ok (Miss stamp))
+    × AsksLoaded pc mid c' (Err again)))
+
+-- the kinds of answers of one half
+abbrev pub MISS : ℕ
+MISS = 0
+
+abbrev pub HIT : ℕ
+HIT = 1
+
+abbrev pub AGAIN : ℕ
+AGAIN = 2
+
+abbrev pub found_told : Result Found Again → RegistryFound
+found_told (Ok (Miss stamp)) = record { kind = MISS; stamp = stamp; member = no_member }
+found_told (Ok (Hit m stamp)) = record { kind = HIT; stamp = stamp; member = member_told m }
+found_told (Err again) = record { kind = AGAIN; stamp = 0; member = no_member }
+
+-- and of both
+abbrev pub NOWHERE : ℕ
+NOWHERE = 0
+
+abbrev pub REGISTERED : ℕ
+REGISTERED = 1
+
+abbrev pub LOADED : ℕ
+LOADED = 2
+
+abbrev pub FIND_AGAIN : ℕ
+FIND_AGAIN = 3
+
+-- what the loader's half answered, where the registered one had a miss at a stamp
+abbrev pub loaded_told : ℕ → Option Found → RegistryPlace
+loaded_told at None =
+    record { kind = NOWHERE; registered = at; loaded = 0; member = no_member }
+loaded_told at (Some (Miss stamp)) =
+    record { kind = NOWHERE; registered = at; loaded = stamp; member = no_member }
+loaded_told at (Some (Hit m stamp)) =
+    record { kind = LOADED; registered = at; loaded = stamp; member = member_told m }
+
+abbrev pub halves_told : Found → Option Found → RegistryPlace
+halves_told (Hit m stamp) loaded =
+    record { kind = REGISTERED; registered = stamp; loaded = 0; member = member_told m }
+halves_told (Miss stamp) loaded = loaded_told stamp loaded
+
+abbrev pub place_told : Result Place Again → RegistryPlace
+place_told (Ok place) = halves_told place.registered place.loaded
+place_told (Err again) =
+    record { kind = FIND_AGAIN; registered = 0; loaded = 0; member = no_member }
+
+-- A lookup was made, which is told so.
+abbrev pub TellsFind : {A T : Type 0} → (ℕ → ClientData → ClientData → Result A Again → Type 0)
+    → (Result A Again → T) → ℕ → T → ClientData → ClientData → Type 0
+TellsFind {A} step told pc answer c c' =
+    (result : Result A Again) × (step pc c c' result × (answer ≡ told result))

@@ -1,0 +1,9 @@
+pub mod Answers
+pub mod Clients
+pub mod Finds
+pub mod Handles
+pub mod Limits
+pub mod Members
+pub mod Splits
+pub mod Tries
+pub mod Updates

@@ -1,0 +1,71 @@
+-- A registry that is made for C, or why it isn't.
+use Rattle.std.specs.Prelude.{◌≡◌, ℕ, ◌≤◌, false, List, map, Option, Result, Ok, Err}
+use Rattle.word_rule.specs.Logs.{first_log}
+use Rattle.word_rule.specs.Places.{ALLOWANCE}
+use Rattle.registry_c.specs.Clients.{ClientData, opened}
+use Rattle.registry_c.specs.Members.{AreGivenMembers, given_member}
+use Rattle.registry_c.specs.declared.limits.LimitFault.{LimitFault}
+use Rattle.registry_c.specs.declared.limits.LimitFault.TheVariants.{Fixed, Loads, NoMemory, Nodes}
+use Rattle.registry_c.specs.declared.limits.RegistryLimits.{RegistryLimits}
+use Rattle.registry_c.specs.declared.member.RegistryMember.{RegistryMember}
+
+-- so many nodes, and so many loads, there may be
+abbrev pub HasNodes : RegistryLimits → Type 0
+HasNodes l = (4 ≤ l.nodes) × (l.nodes ≤ 16384)
+
+abbrev pub HasLoads : RegistryLimits → Type 0
+HasLoads l = (1 ≤ l.loads) × (l.loads ≤ 1024)
+
+-- the fixed members are members, each above the one before
+abbrev pub AreFixedMembers : RegistryLimits → List RegistryMember → Type 0
+AreFixedMembers l fixed = AreGivenMembers l.payloads 0 fixed
+
+-- why so many nodes, or loads, may not be
+abbrev pub IsPastLimits : RegistryLimits → LimitFault → Type 0
+IsPastLimits l Nodes = ¬ HasNodes l
+IsPastLimits l Loads = HasNodes l × (¬ HasLoads l)
+IsPastLimits l _ = ⊥
+
+-- why the fixed members aren't kept
+abbrev pub IsUnfixed : ℕ → List RegistryMember → LimitFault → Type 0
+IsUnfixed payloads fixed NoMemory = Unit {0}
+IsUnfixed payloads fixed Fixed = ¬ AreGivenMembers payloads 0 fixed
+IsUnfixed payloads fixed _ = ⊥
+
+-- the first client of a new registry, which has all update calls
+pub record IsFirst (l : RegistryLimits) (fixed : List RegistryMember) (c : ClientData) : Type 0
+  where
+    pub terms : c.words.terms ≡ record {
+      nodes = l.nodes;
+      loads = l.loads;
+      payloads = l.payloads;
+      fixed = map given_member fixed;
+    }
+    pub me : c.me ≡ record {
+      table = c.words.table;
+      left = ALLOWANCE;
+      log = first_log c.words.terms;
+    }
+    pub idle : c.begun ≡ false
+
+-- The registry was made; or the first thing that stands against it is this one. That memory ran out
+-- says nothing.
+abbrev pub IsNew : RegistryLimits → List RegistryMember → Result ClientData LimitFault → Type 0
+IsNew l fixed (Ok c) = HasNodes l × HasLoads l × AreFixedMembers l fixed × IsFirst l fixed c
+IsNew l fixed (Err NoMemory) = Unit {0}
+IsNew l fixed (Err Nodes) = ¬ HasNodes l
+IsNew l fixed (Err Loads) = HasNodes l × (¬ HasLoads l)
+IsNew l fixed (Err Fixed) = HasNodes l × HasLoads l × (¬ AreFixedMembers l fixed)
+
+-- what C is told of it
+abbrev pub made_told : Result ClientData LimitFault → ℕ
+made_told (Ok c) = 0
+made_told (Err NoMemory) = 1
+made_told (Err Nodes) = 2
+made_told (Err Loads) = 3
+made_told (Err Fixed) = 4
+
+-- C has the handle, or why there is none.
+abbrev pub TellsNew : RegistryLimits → List RegistryMember → ℕ → Option ClientData → Type 0
+TellsNew l fixed told held = (result : Result ClientData LimitFault)
+    × IsNew l fixed result × (told ≡ made_told result) × (held ≡ opened result)

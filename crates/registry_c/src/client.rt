@@ -1,0 +1,93 @@
+//! What the handle of a client leads to: the registry that all clients share, and a caller.
+
+ghost use Rattle.std.specs.Prelude.{◌≡◌, ◌↔◌, MatchResult, Ok, Err, length, true};
+ghost use Rattle.word_rule.specs.Callers.{IsAlone};
+ghost use Rattle.registry_c.specs.Limits.{IsNew};
+
+use crate::limits::{LimitFault, RegistryLimits, fixed_members};
+use crate::member::RegistryMember;
+use registry_core::Registry;
+use std::alloc::Global;
+use std::marker::Model;
+use std::sync::Arc;
+use word_rule::Caller;
+
+/// A client: one thread at a time calls by it.
+#[derive(Drop)]
+pub struct Client {
+    pub(crate) registry: Arc<Registry, Global>,
+    pub(crate) me: Caller,
+    /// Whether an update call is begun, and not answered yet.
+    pub(crate) begun: bool,
+    /// Those that there are.
+    pub(crate) payloads: u32,
+}
+
+impl Model for Client {
+    ghost use Rattle.std.specs.Prelude.{◌≡◌};
+    ghost use Rattle.std.specs.Arc.{arc_value};
+    ghost use Rattle.registry_c.specs.Clients.{ClientData, IsClient};
+
+    ghost Value = { ClientData };
+
+    ghost view = { λ c. record { words = arc_value c.registry; me = c.me; begun = c.begun } };
+
+    ghost invariant = { λ c. IsClient record {
+      words = arc_value c.registry;
+      me = c.me;
+      begun = c.begun;
+    } × (c.payloads ≡ (arc_value c.registry).terms.payloads) };
+}
+
+impl Client {
+    /// The first client of a new registry.
+    pub(crate) fn new(
+        alloc: Global,
+        limits: &RegistryLimits,
+        fixed: &[RegistryMember],
+    ) -> Result<Box<Client, Global>, LimitFault>
+        ensures { MatchResult result (λ client. IsNew limits.now fixed.now (Ok client.value))
+            (λ fault. IsNew limits.now fixed.now (Err fault)) }
+    {
+        limits.checked()?;
+        let members = fixed_members(alloc, limits.payloads, fixed)?;
+        let made = Registry::new(alloc, limits.nodes, limits.loads, limits.payloads, members);
+        let Ok((registry, me)) = made else {
+            return Err(LimitFault::NoMemory);
+        };
+        let Ok(registry) = Arc::new(alloc, registry) else {
+            return Err(LimitFault::NoMemory);
+        };
+        let client = Client {
+            registry,
+            me,
+            begun: false,
+            payloads: limits.payloads,
+        };
+        match Box::new(alloc, client) {
+            Ok(client) => Ok(client),
+            Err(_) => Err(LimitFault::NoMemory),
+        }
+    }
+
+    /// How many update calls it may still begin.
+    pub(crate) fn left(&self) -> u32
+        ensures { result ≡ self.now.me.left }
+    {
+        self.me.left()
+    }
+
+    /// How many updates it has seen.
+    pub(crate) fn seen(&self) -> u32
+        ensures { result ≡ length self.now.me.log.past }
+    {
+        self.me.seen()
+    }
+
+    /// Whether every other client was joined into it.
+    pub(crate) fn alone(&self) -> bool
+        ensures { (result ≡ true) ↔ IsAlone self.now.me.log.lineage }
+    {
+        self.me.alone()
+    }
+}

@@ -1,0 +1,233 @@
+//! Lookups: each is one try, takes no lock, counts no share, and stores nothing.
+
+ghost use Rattle.std.specs.Prelude.{◌≡◌, Ok};
+ghost use Rattle.registry_c.specs.Clients.{LeadsToClient, LeadsNowhere, Makes};
+ghost use Rattle.registry_c.specs.Finds.{AsksLoaded, AsksRegistered, FindsOnce, TellsFind};
+ghost use Rattle.registry_c.specs.Finds.{found_told, loaded_told, place_told};
+
+use crate::client::Client;
+use crate::handle::ClientHandle;
+use crate::member::RegistryMember;
+use reg_model::{Again, Found, Place};
+use std::alloc::Global;
+
+/// What one half answered: a kind, its stamp, and the member that was found.
+#[repr(C)]
+#[derive(Clone, Copy, Debug, PartialEq, Eq)]
+pub struct RegistryFound {
+    pub kind: u32,
+    pub stamp: u32,
+    pub member: RegistryMember,
+}
+
+/// What both halves answered: a kind, the stamp of each half, and the member that was found.
+#[repr(C)]
+#[derive(Clone, Copy, Debug, PartialEq, Eq)]
+pub struct RegistryPlace {
+    pub kind: u32,
+    pub registered: u32,
+    pub loaded: u32,
+    pub member: RegistryMember,
+}
+
+const MISS: u32 = 0;
+
+const HIT: u32 = 1;
+
+const AGAIN: u32 = 2;
+
+const NOWHERE: u32 = 0;
+
+const REGISTERED: u32 = 1;
+
+const LOADED: u32 = 2;
+
+const FIND_AGAIN: u32 = 3;
+
+impl RegistryFound {
+    fn of(answer: Result<Found, Again>) -> RegistryFound
+        ensures { result ≡ found_told answer }
+    {
+        match answer {
+            Ok(Found::Miss { stamp }) => RegistryFound {
+                kind: MISS,
+                stamp,
+                member: RegistryMember::none(),
+            },
+            Ok(Found::Hit { member, stamp }) => RegistryFound {
+                kind: HIT,
+                stamp,
+                member: RegistryMember::of(&member),
+            },
+            Err(_) => RegistryFound {
+                kind: AGAIN,
+                stamp: 0,
+                member: RegistryMember::none(),
+            },
+        }
+    }
+}
+
+impl RegistryPlace {
+    /// The loader's answer, where the registered half had a miss.
+    fn loaded(registered: u32, loaded: Option<Found>) -> RegistryPlace
+        ensures { result ≡ loaded_told registered loaded }
+    {
+        match loaded {
+            None => RegistryPlace {
+                kind: NOWHERE,
+                registered,
+                loaded: 0,
+                member: RegistryMember::none(),
+            },
+            Some(Found::Miss { stamp }) => RegistryPlace {
+                kind: NOWHERE,
+                registered,
+                loaded: stamp,
+                member: RegistryMember::none(),
+            },
+            Some(Found::Hit { member, stamp }) => RegistryPlace {
+                kind: LOADED,
+                registered,
+                loaded: stamp,
+                member: RegistryMember::of(&member),
+            },
+        }
+    }
+
+    fn of(answer: Result<Place, Again>) -> RegistryPlace
+        ensures { result ≡ place_told answer }
+    {
+        let Ok(place) = answer else {
+            return RegistryPlace {
+                kind: FIND_AGAIN,
+                registered: 0,
+                loaded: 0,
+                member: RegistryMember::none(),
+            };
+        };
+        match place.registered {
+            Found::Miss { stamp } => RegistryPlace::loaded(stamp, place.loaded),
+            Found::Hit { member, stamp } => RegistryPlace {
+                kind: REGISTERED,
+                registered: stamp,
+                loaded: 0,
+                member: RegistryMember::of(&member),
+            },
+        }
+    }
+}
+
+impl Client {
+    /// Asks the registered half once.
+    fn try_registered(&mut self, pc: u64) -> Result<Found, Again>
+        ensures { AsksRegistered pc self.old self.new result }
+    {
+        self.registry.try_registered(&mut self.me, pc)
+    }
+
+    /// Asks the loader's half once.
+    fn try_loaded(&mut self, pc: u64) -> Result<Found, Again>
+        ensures { AsksLoaded pc self.old self.new result }
+    {
+        self.registry.try_loaded(&mut self.me, pc)
+    }
+
+    /// Asks the registered half once, and where that misses the loader's.
+    fn find(&mut self, pc: u64) -> Result<Place, Again>
+        ensures { FindsOnce pc self.old self.new result }
+    {
+        let registered = match self.try_registered(pc) {
+            Ok(registered) => registered,
+            Err(again) => return Err(again),
+        };
+        match registered {
+            Found::Hit { .. } => Ok(Place {
+                registered,
+                loaded: None,
+            }),
+            Found::Miss { .. } => match self.try_loaded(pc) {
+                Ok(loaded) => Ok(Place {
+                    registered,
+                    loaded: Some(loaded),
+                }),
+                Err(again) => Err(again),
+            },
+        }
+    }
+}
+
+fn tell_registered(client: &mut Client, pc: u64, found: &mut RegistryFound)
+    ensures { TellsFind AsksRegistered found_told pc found.new client.old client.new }
+{
+    *found = RegistryFound::of(client.try_registered(pc));
+}
+
+fn tell_loaded(client: &mut Client, pc: u64, found: &mut RegistryFound)
+    ensures { TellsFind AsksLoaded found_told pc found.new client.old client.new }
+{
+    *found = RegistryFound::of(client.try_loaded(pc));
+}
+
+fn tell_place(client: &mut Client, pc: u64, place: &mut RegistryPlace)
+    ensures { TellsFind FindsOnce place_told pc place.new client.old client.new }
+{
+    *place = RegistryPlace::of(client.find(pc));
+}
+
+/// Looks an address up once among the registered members: a miss or a hit at a stamp, or again
+/// where the tree was changed or locked on the way.
+#[unsafe(no_mangle)]
+pub extern "C" fn registry_c_try_registered(
+    alloc: Global,
+    client: ClientHandle,
+    pc: u64,
+    found: &mut RegistryFound,
+    back: &mut ClientHandle,
+)
+    requires client { LeadsToClient client.held }
+    requires back { LeadsNowhere back.old.held }
+    ensures { Makes (TellsFind AsksRegistered found_told pc found.new) client.held back.new.held }
+{
+    let mut open = client.open(alloc);
+    tell_registered(&mut open, pc, found);
+    *back = ClientHandle::of(open);
+}
+
+/// Looks an address up once among the fixed and the loaded members: a miss or a hit at a stamp, or
+/// again where the loader published meanwhile.
+#[unsafe(no_mangle)]
+pub extern "C" fn registry_c_try_loaded(
+    alloc: Global,
+    client: ClientHandle,
+    pc: u64,
+    found: &mut RegistryFound,
+    back: &mut ClientHandle,
+)
+    requires client { LeadsToClient client.held }
+    requires back { LeadsNowhere back.old.held }
+    ensures { Makes (TellsFind AsksLoaded found_told pc found.new) client.held back.new.held }
+{
+    let mut open = client.open(alloc);
+    tell_loaded(&mut open, pc, found);
+    *back = ClientHandle::of(open);
+}
+
+/// Looks an address up once among the registered members, and where none has it once among the
+/// fixed and the loaded ones.
+#[unsafe(no_mangle)]
+pub extern "C" fn registry_c_find(
+    alloc: Global,
+    client: ClientHandle,
+    pc: u64,
+    place: &mut RegistryPlace,
+    back: &mut ClientHandle,
+)
+    requires client { LeadsToClient client.held }
+    requires back { LeadsNowhere back.old.held }
+    ensures { Makes (TellsFind FindsOnce place_told pc place.new) client.held back.new.held }
+{
+    let mut open = client.open(alloc);
+    tell_place(&mut open, pc, place);
+    *back = ClientHandle::of(open);
+}

@@ -1,0 +1,79 @@
+//! What a registry is made with.
+
+ghost use Rattle.std.specs.Prelude.{◌≡◌, MatchResult, IfErr, IfOk, OnOk, map};
+ghost use Rattle.registry_c.specs.Limits.{HasLoads, HasNodes, IsPastLimits, IsUnfixed};
+ghost use Rattle.registry_c.specs.Members.{AreGivenMembers, given_member};
+
+use crate::member::RegistryMember;
+use reg_model::Member;
+use std::alloc::Global;
+
+/// How many nodes its tree has, how many members may be loaded at a time, and how many payloads
+/// there are.
+#[repr(C)]
+#[derive(Clone, Copy, Debug, PartialEq, Eq)]
+pub struct RegistryLimits {
+    pub nodes: u32,
+    pub loads: u32,
+    pub payloads: u32,
+}
+
+/// Why a registry isn't made.
+#[derive(Clone, Copy, Debug, PartialEq, Eq)]
+pub enum LimitFault {
+    NoMemory,
+    Nodes,
+    Loads,
+    Fixed,
+}
+
+const MIN_NODES: u32 = 4;
+
+const MAX_NODES: u32 = 16384;
+
+const MAX_LOADS: u32 = 1024;
+
+impl RegistryLimits {
+    /// That there may be so many nodes, and so many members loaded.
+    pub(crate) fn checked(&self) -> Result<(), LimitFault>
+        ensures { MatchResult result (λ _. HasNodes self.now × HasLoads self.now)
+            (IsPastLimits self.now) }
+    {
+        if self.nodes < MIN_NODES || self.nodes > MAX_NODES {
+            return Err(LimitFault::Nodes);
+        }
+        if self.loads < 1 || self.loads > MAX_LOADS {
+            return Err(LimitFault::Loads);
+        }
+        Ok(())
+    }
+}
+
+/// The fixed members that C tells.
+pub(crate) fn fixed_members(
+    alloc: Global,
+    payloads: u32,
+    told: &[RegistryMember],
+) -> Result<Vec<Member>, LimitFault>
+    ensures members { IfOk result (λ v. v.items ≡ map given_member told.now) }
+    ensures told { OnOk result (AreGivenMembers payloads 0 told.now) }
+    ensures fault { IfErr result (IsUnfixed payloads told.now) }
+{
+    let mut members = Vec::new(alloc);
+    let mut low = 0;
+    let mut left = told;
+    while let [member, rest @ ..] = left {
+        let Some(read) = member.member(payloads) else {
+            return Err(LimitFault::Fixed);
+        };
+        if member.first < low {
+            return Err(LimitFault::Fixed);
+        }
+        let Ok(()) = members.push(read) else {
+            return Err(LimitFault::NoMemory);
+        };
+        low = member.first + member.size;
+        left = rest;
+    }
+    Ok(members)
+}

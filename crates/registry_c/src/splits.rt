@@ -1,0 +1,78 @@
+//! Clients are split off and joined.
+
+ghost use Rattle.std.specs.Prelude.{◌≡◌, MatchResult, IfErr, IfSome, OnErr, OnOk, Ok, Err};
+ghost use Rattle.registry_c.specs.Splits.{JoinsClient, SplitsOff};
+
+use crate::client::Client;
+use std::alloc::Global;
+use std::sync::Arc;
+
+/// Why no client is split off.
+#[derive(Clone, Copy, Debug, PartialEq, Eq)]
+pub enum SplitFault {
+    NoMemory,
+    Few,
+}
+
+impl Client {
+    /// Splits off a client with so many of the update calls.
+    pub(crate) fn split(
+        &mut self,
+        alloc: Global,
+        give: u32,
+    ) -> Result<Box<Client, Global>, SplitFault>
+        ensures { MatchResult result (λ other. SplitsOff give self.old self.new (Ok other.value))
+            (λ fault. SplitsOff give self.old self.new (Err fault)) }
+    {
+        if give > self.me.left() {
+            return Err(SplitFault::Few);
+        }
+        let Ok(registry) = Arc::try_clone(&self.registry) else {
+            return Err(SplitFault::NoMemory);
+        };
+        let Ok(me) = self.registry.words().split(alloc, &mut self.me, give) else {
+            return Err(SplitFault::NoMemory);
+        };
+        let other = Client {
+            registry,
+            me,
+            begun: false,
+            payloads: self.payloads,
+        };
+        match Box::new(alloc, other) {
+            Ok(other) => Ok(other),
+            Err(_) => Err(SplitFault::NoMemory),
+        }
+    }
+
+    /// Joins another client of the same registry into this one. Where there is no memory it comes
+    /// back, or is lost.
+    pub(crate) fn join(
+        &mut self,
+        alloc: Global,
+        other: Box<Client, Global>,
+    ) -> Result<(), Option<Box<Client, Global>>>
+        requires same { other.value.words.table ≡ self.old.words.table }
+        ensures joined { OnOk result (JoinsClient other.value self.old self.new) }
+        ensures same { OnErr result (self.new ≡ self.old) }
+        ensures back { IfErr result (λ back. IfSome back (λ b. b.value ≡ other.value)) }
+    {
+        let Client {
+            registry,
+            me,
+            begun,
+            payloads,
+        } = Box::into_inner(other);
+        let Err(me) = self.registry.words().join(alloc, &mut self.me, me) else {
+            self.begun = self.begun || begun;
+            return Ok(());
+        };
+        let other = Client {
+            registry,
+            me,
+            begun,
+            payloads,
+        };
+        Err(Box::new(alloc, other).ok())
+    }
+}

@@ -1,0 +1,208 @@
+//! Tries of updates. Each takes locks by one step or not at all, and wakes nobody.
+//!
+//! A call that was busy is still begun, and whatever update is tried next goes on with it.
+
+ghost use Rattle.std.specs.Prelude.{MatchBool};
+ghost use Rattle.registry_c.specs.Clients.{LeadsToClient, LeadsNowhere, Makes};
+ghost use Rattle.registry_c.specs.Answers.{TellsAttempt, insertion_told, loading_told};
+ghost use Rattle.registry_c.specs.Answers.{removal_told};
+ghost use Rattle.registry_c.specs.Tries.{Begins, IsSpent};
+ghost use Rattle.registry_c.specs.Updates.{Deregisters, Loads, Registers, Unloads};
+
+use crate::attempt::{Attempt, RegistryAnswer};
+use crate::client::Client;
+use crate::handle::ClientHandle;
+use crate::member::RegistryMember;
+use node_store::Once;
+use reg_model::{Inserted, Loading, Removed};
+use std::alloc::Global;
+
+/// The releases that an update call may make.
+const CALL_CREDIT: u64 = 64;
+
+impl Client {
+    /// Begins an update call, unless one is begun; and says whether it may be tried.
+    fn begin(&mut self) -> bool
+        ensures { MatchBool result (Begins self.old self.new) (IsSpent self.old self.new) }
+    {
+        if self.begun {
+            return self.me.spare() >= CALL_CREDIT;
+        }
+        self.begun = self.me.use_one();
+        self.begun
+    }
+
+    /// Tries to register a member.
+    fn register(&mut self, told: &RegistryMember) -> Attempt<Inserted>
+        ensures { Registers told.now self.old self.new result }
+    {
+        let Some(member) = told.member(self.payloads) else {
+            return Attempt::NoMember;
+        };
+        if !self.begin() {
+            let answer = Inserted::Spent;
+            return Attempt::Answered { answer };
+        }
+        match self.registry.register_by(&Once, &mut self.me, member) {
+            Ok(inserted) => {
+                self.begun = false;
+                Attempt::Answered { answer: inserted }
+            }
+            Err(busy) => Attempt::Busy { lock: busy.lock },
+        }
+    }
+
+    /// Tries to remove the registered member that begins at an address.
+    fn deregister(&mut self, base: u64) -> Attempt<Removed>
+        ensures { Deregisters base self.old self.new result }
+    {
+        if !self.begin() {
+            let answer = Removed::Spent;
+            return Attempt::Answered { answer };
+        }
+        match self.registry.deregister_by(&Once, &mut self.me, base) {
+            Ok(removed) => {
+                self.begun = false;
+                Attempt::Answered { answer: removed }
+            }
+            Err(busy) => Attempt::Busy { lock: busy.lock },
+        }
+    }
+
+    /// Tries to load a member.
+    fn load(&mut self, told: &RegistryMember) -> Attempt<Loading>
+        ensures { Loads told.now self.old self.new result }
+    {
+        let Some(member) = told.member(self.payloads) else {
+            return Attempt::NoMember;
+        };
+        if !self.begin() {
+            let answer = Loading::Spent;
+            return Attempt::Answered { answer };
+        }
+        match self.registry.load_by(&Once, &mut self.me, member) {
+            Ok(loading) => {
+                self.begun = false;
+                Attempt::Answered { answer: loading }
+            }
+            Err(busy) => Attempt::Busy { lock: busy.lock },
+        }
+    }
+
+    /// Tries to unload the loaded member that begins at an address.
+    fn unload(&mut self, base: u64) -> Attempt<Removed>
+        ensures { Unloads base self.old self.new result }
+    {
+        if !self.begin() {
+            let answer = Removed::Spent;
+            return Attempt::Answered { answer };
+        }
+        match self.registry.unload_by(&Once, &mut self.me, base) {
+            Ok(unloaded) => {
+                self.begun = false;
+                Attempt::Answered { answer: unloaded }
+            }
+            Err(busy) => Attempt::Busy { lock: busy.lock },
+        }
+    }
+}
+
+fn tell_registration(client: &mut Client, member: &RegistryMember, answer: &mut RegistryAnswer)
+    ensures { TellsAttempt (Registers member.now) insertion_told answer.new client.old client.new }
+{
+    *answer = RegistryAnswer::of_insertion(client.register(member));
+}
+
+fn tell_deregistration(client: &mut Client, base: u64, answer: &mut RegistryAnswer)
+    ensures { TellsAttempt (Deregisters base) removal_told answer.new client.old client.new }
+{
+    *answer = RegistryAnswer::of_removal(client.deregister(base));
+}
+
+fn tell_load(client: &mut Client, member: &RegistryMember, answer: &mut RegistryAnswer)
+    ensures { TellsAttempt (Loads member.now) loading_told answer.new client.old client.new }
+{
+    *answer = RegistryAnswer::of_load(client.load(member));
+}
+
+fn tell_unload(client: &mut Client, base: u64, answer: &mut RegistryAnswer)
+    ensures { TellsAttempt (Unloads base) removal_told answer.new client.old client.new }
+{
+    *answer = RegistryAnswer::of_removal(client.unload(base));
+}
+
+/// Tries to register a member.
+#[unsafe(no_mangle)]
+pub extern "C" fn registry_c_register(
+    alloc: Global,
+    client: ClientHandle,
+    member: &RegistryMember,
+    answer: &mut RegistryAnswer,
+    back: &mut ClientHandle,
+)
+    requires client { LeadsToClient client.held }
+    requires back { LeadsNowhere back.old.held }
+    ensures { Makes (TellsAttempt (Registers member.now) insertion_told answer.new) client.held
+        back.new.held }
+{
+    let mut open = client.open(alloc);
+    tell_registration(&mut open, member, answer);
+    *back = ClientHandle::of(open);
+}
+
+/// Tries to remove the registered member that begins at an address.
+#[unsafe(no_mangle)]
+pub extern "C" fn registry_c_deregister(
+    alloc: Global,
+    client: ClientHandle,
+    base: u64,
+    answer: &mut RegistryAnswer,
+    back: &mut ClientHandle,
+)
+    requires client { LeadsToClient client.held }
+    requires back { LeadsNowhere back.old.held }
+    ensures { Makes (TellsAttempt (Deregisters base) removal_told answer.new) client.held
+        back.new.held }
+{
+    let mut open = client.open(alloc);
+    tell_deregistration(&mut open, base, answer);
+    *back = ClientHandle::of(open);
+}
+
+/// Tries to load a member.
+#[unsafe(no_mangle)]
+pub extern "C" fn registry_c_load(
+    alloc: Global,
+    client: ClientHandle,
+    member: &RegistryMember,
+    answer: &mut RegistryAnswer,
+    back: &mut ClientHandle,
+)
+    requires client { LeadsToClient client.held }
+    requires back { LeadsNowhere back.old.held }
+    ensures { Makes (TellsAttempt (Loads member.now) loading_told answer.new) client.held
+        back.new.held }
+{
+    let mut open = client.open(alloc);
+    tell_load(&mut open, member, answer);
+    *back = ClientHandle::of(open);
+}
+
+/// Tries to unload the loaded member that begins at an address.
+#[unsafe(no_mangle)]
+pub extern "C" fn registry_c_unload(
+    alloc: Global,
+    client: ClientHandle,
+    base: u64,
+    answer: &mut RegistryAnswer,
+    back: &mut ClientHandle,
+)
+    requires client { LeadsToClient client.held }
+    requires back { LeadsNowhere back.old.held }
+    ensures { Makes (TellsAttempt (Unloads base) removal_told answer.new) client.held
+        back.new.held }
+{
+    let mut open = client.open(alloc);
+    tell_unload(&mut open, base, answer);
+    *back = ClientHandle::of(open);
+}
