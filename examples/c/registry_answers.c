@@ -1,0 +1,169 @@
+/* Each call of the registry once, with answers that were worked out by hand. Status 0: all are
+ * so. */
+#include "registry_c.h"
+#include <stdio.h>
+#include <string.h>
+
+#define CHECK(holds)                                          \
+  do {                                                        \
+    if (!(holds)) {                                           \
+      printf("registry_answers.c:%d: %s\n", __LINE__, #holds); \
+      return 1;                                               \
+    }                                                         \
+  } while (0)
+
+static const registry_member no_member;
+
+static bool is_same(registry_member a, registry_member b) {
+  return a.first == b.first && a.size == b.size && a.payload == b.payload;
+}
+
+static bool is_answer(registry_answer answer, uint32_t kind, uint32_t number, uint32_t stamp,
+                      registry_member member) {
+  return answer.kind == kind && answer.number == number && answer.stamp == stamp &&
+         is_same(answer.member, member);
+}
+
+static bool is_found(registry_found found, uint32_t kind, uint32_t stamp, registry_member member) {
+  return found.kind == kind && found.stamp == stamp && is_same(found.member, member);
+}
+
+static bool is_place(registry_place place, uint32_t kind, uint32_t registered, uint32_t loaded,
+                     registry_member member) {
+  return place.kind == kind && place.registered == registered && place.loaded == loaded &&
+         is_same(place.member, member);
+}
+
+static const registry_limits limits = {.nodes = 4, .loads = 1, .payloads = 3};
+static const registry_member fixed[2] = {{0x9000, 0x10, 2}, {0x9010, 0x20, 0}};
+
+static int refusals(void) {
+  registry_client none = {0};
+  registry_limits wrong = limits;
+  wrong.nodes = 3;
+  CHECK(registry_c_new(&wrong, fixed, 2, &none) == REGISTRY_NEW_NODES && none.at == NULL);
+  wrong = limits;
+  wrong.loads = 1025;
+  CHECK(registry_c_new(&wrong, fixed, 2, &none) == REGISTRY_NEW_LOADS && none.at == NULL);
+  const registry_member falling[2] = {fixed[1], fixed[0]};
+  CHECK(registry_c_new(&limits, falling, 2, &none) == REGISTRY_NEW_FIXED && none.at == NULL);
+  const registry_member beyond = {UINT64_MAX - 15, 0x10, 0};
+  CHECK(registry_c_new(&limits, &beyond, 1, &none) == REGISTRY_NEW_FIXED && none.at == NULL);
+  return 0;
+}
+
+static int loads(registry_client *client) {
+  const registry_member one = {0x1000, 0x20, 1}, other = {0x9008, 0x10, 0}, more = {0x5000, 1, 0};
+  registry_answer answer;
+  registry_found found;
+  registry_c_load(*client, &one, &answer, client);
+  CHECK(is_answer(answer, REGISTRY_DONE, 1, 0, no_member));
+  registry_c_load(*client, &other, &answer, client);
+  CHECK(is_answer(answer, REGISTRY_OVERLAP, 0, 1, fixed[0]));
+  registry_c_load(*client, &more, &answer, client);
+  CHECK(is_answer(answer, REGISTRY_FULL, 0, 1, no_member));
+  registry_c_try_loaded(*client, 0x101f, &found, client);
+  CHECK(is_found(found, REGISTRY_HIT, 1, one));
+  registry_c_try_loaded(*client, 0x902f, &found, client);
+  CHECK(is_found(found, REGISTRY_HIT, 1, fixed[1]));
+  registry_c_try_loaded(*client, 0x1020, &found, client);
+  CHECK(is_found(found, REGISTRY_MISS, 1, no_member));
+  registry_c_unload(*client, 0x9000, &answer, client);
+  CHECK(is_answer(answer, REGISTRY_ABSENT, 0, 1, no_member));
+  registry_c_unload(*client, 0x1000, &answer, client);
+  CHECK(is_answer(answer, REGISTRY_DONE, 2, 0, one));
+  registry_c_load(*client, &one, &answer, client);
+  CHECK(is_answer(answer, REGISTRY_DONE, 3, 0, no_member));
+  return 0;
+}
+
+/* Four nodes: the root and two leaves of five take three, and the twenty-first range no fifth. */
+static int registrations(registry_client *client) {
+  registry_answer answer;
+  registry_found found;
+  registry_member code = {0x2000, 0x10, 2};
+  for (uint32_t number = 4; number < 24; number++, code.first += 0x10) {
+    registry_c_register(*client, &code, &answer, client);
+    CHECK(is_answer(answer, REGISTRY_DONE, number, 0, no_member));
+  }
+  registry_c_register(*client, &code, &answer, client);
+  CHECK(is_answer(answer, REGISTRY_FULL, 0, 23, no_member));
+  const registry_member across = {0x200f, 2, 0}, lowest = {0x2000, 0x10, 2};
+  registry_c_register(*client, &across, &answer, client);
+  CHECK(is_answer(answer, REGISTRY_OVERLAP, 0, 23, lowest));
+  registry_c_try_registered(*client, 0x2000, &found, client);
+  CHECK(is_found(found, REGISTRY_HIT, 23, lowest));
+  registry_c_try_registered(*client, 0x1000, &found, client);
+  CHECK(is_found(found, REGISTRY_MISS, 23, no_member));
+  registry_c_deregister(*client, 0x2001, &answer, client);
+  CHECK(is_answer(answer, REGISTRY_ABSENT, 0, 23, no_member));
+  registry_c_deregister(*client, 0x2000, &answer, client);
+  CHECK(is_answer(answer, REGISTRY_DONE, 24, 0, lowest));
+  return 0;
+}
+
+static int places(registry_client *client) {
+  registry_place place;
+  registry_c_find(*client, 0x2010, &place, client);
+  CHECK(is_place(place, REGISTRY_REGISTERED, 24, 0, (registry_member){0x2010, 0x10, 2}));
+  registry_c_find(*client, 0x1000, &place, client);
+  CHECK(is_place(place, REGISTRY_LOADED, 24, 24, (registry_member){0x1000, 0x20, 1}));
+  registry_c_find(*client, 0x2000, &place, client);
+  CHECK(is_place(place, REGISTRY_NOWHERE, 24, 24, no_member));
+  return 0;
+}
+
+static int members(registry_client *client) {
+  const registry_member empty = {0x3000, 0, 0}, beyond = {UINT64_MAX - 1, 1, 0},
+                        unpaid = {0x3000, 1, 3};
+  registry_answer answer;
+  registry_c_register(*client, &empty, &answer, client);
+  CHECK(is_answer(answer, REGISTRY_NO_MEMBER, 0, 0, no_member));
+  registry_c_load(*client, &unpaid, &answer, client);
+  CHECK(is_answer(answer, REGISTRY_NO_MEMBER, 0, 0, no_member));
+  registry_c_load(*client, &beyond, &answer, client);
+  CHECK(is_answer(answer, REGISTRY_FULL, 0, 24, no_member));
+  return 0;
+}
+
+/* A client with one update call, which has seen what its maker had seen. */
+static int splits(registry_client *client) {
+  registry_client other = {0};
+  registry_answer answer;
+  uint32_t left = registry_c_left(*client, client);
+  CHECK(registry_c_split(*client, left + 1, &other, client) == REGISTRY_SPLIT_FEW);
+  CHECK(registry_c_split(*client, 1, &other, client) == REGISTRY_SPLIT);
+  CHECK(registry_c_left(*client, client) == left - 1 && registry_c_left(other, &other) == 1);
+  CHECK(registry_c_seen(other, &other) == 24);
+  registry_c_deregister(other, 0x2010, &answer, &other);
+  CHECK(is_answer(answer, REGISTRY_DONE, 25, 0, (registry_member){0x2010, 0x10, 2}));
+  registry_c_deregister(other, 0x2010, &answer, &other);
+  CHECK(is_answer(answer, REGISTRY_SPENT, 0, 0, no_member));
+  CHECK(registry_c_seen(*client, client) == 24);
+  CHECK(registry_c_join(*client, other, client, &other));
+  CHECK(registry_c_seen(*client, client) == 25 && registry_c_left(*client, client) == left - 1);
+  return 0;
+}
+
+/* One that is closed beside another isn't alone. */
+static int closes(registry_client client) {
+  registry_client other = {0};
+  uint32_t seen = 0;
+  CHECK(registry_c_split(client, 0, &other, &client) == REGISTRY_SPLIT);
+  CHECK(!registry_c_close(other, &seen) && seen == 25);
+  CHECK(!registry_c_close(client, &seen) && seen == 25);
+  registry_client first = {0};
+  CHECK(registry_c_new(&limits, fixed, 0, &first) == REGISTRY_NEW);
+  CHECK(registry_c_close(first, &seen) && seen == 0);
+  return 0;
+}
+
+int main(void) {
+  registry_client client = {0};
+  if (refusals()) return 1;
+  if (registry_c_new(&limits, fixed, 2, &client) != REGISTRY_NEW) return 1;
+  if (loads(&client) || registrations(&client) || places(&client)) return 1;
+  if (members(&client) || splits(&client) || closes(client)) return 1;
+  printf("all answers as worked out\n");
+  return 0;
+}
