@@ -89,6 +89,13 @@ impl Caller {
         self.spare
     }
 
+    /// Whether it has the releases of one more try to spare.
+    pub fn may_try(&self) -> bool
+        ensures { IsTrue result ↔ (CALL_CREDIT ≤ surplus self.now) }
+    {
+        self.spare >= CALL_CREDIT
+    }
+
     /// Whether every other caller and every note that was ever made of these words was joined or
     /// learnt into it.
     pub fn alone(&self) -> bool

@@ -83,8 +83,8 @@ impl Words {
         Ok(Note { seat, seen, names })
     }
 
-    // A load of the clock, by one into which another was joined: so it knows what it has now.
-    fn confirm(&self, seat: &mut Seat<(), Log>)
+    // A load of the clock, which stores nothing in the log.
+    fn confirm_seat(&self, seat: &mut Seat<(), Log>)
         requires { seat.old.table_id ≡ self.now.table }
         ensures same { (seat.new.table_id ≡ seat.old.table_id) × (seat.new.id ≡ seat.old.id)
             × (seat.new.me ≡ seat.old.me) }
@@ -94,6 +94,17 @@ impl Words {
             → IsWhole seat.old.me.0 }
     {
         self.table.shared.load::<Confirms>(seat, CLOCK_WORD);
+    }
+
+    /// Makes sure of what a caller has: where all others were joined into it, every update that was
+    /// accepted. It loads the clock once, and nothing changes.
+    pub fn confirm(&self, me: &mut Caller)
+        requires table { me.old.table ≡ self.now.table }
+        ensures same { me.new ≡ me.old }
+        ensures whole { IsAlone me.new.log.lineage → IsWhole me.new.log }
+    {
+        let seat = &mut me.seat;
+        self.confirm_seat(seat);
     }
 
     /// Joins another caller into this one: its update calls, what it has seen, and its receipts. It
@@ -132,7 +143,7 @@ impl Words {
             });
         }
         self.table.shared.join_seat::<Joins>(&mut me.seat, seat);
-        self.confirm(&mut me.seat);
+        self.confirm_seat(&mut me.seat);
         me.left += left;
         me.spare += spare;
         me.seen = me.seen.max(seen);

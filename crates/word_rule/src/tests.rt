@@ -23,8 +23,9 @@ fn callers_come_and_go(rt: HostRuntime) -> Result<(), Fail> {
         panic!(rt; "no memory")
     };
     assert!(rt; a.left() == ALLOWANCE - 1 && a.seen() == 0);
+    words.confirm(&mut a);
     let alone = a.alone();
-    assert!(rt; alone);
+    assert!(rt; alone && a.may_try());
     let accepted = words.close(a);
     assert!(rt; accepted == 0);
     Ok(())
