@@ -10,3 +10,4 @@ pub mod Giving
 pub mod OutNodes
 pub mod Overwritten
 pub mod Shapes
+pub mod Outlined

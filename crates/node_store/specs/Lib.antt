@@ -3,3 +3,4 @@ pub mod Locking
 pub mod Free
 pub mod Sights
 pub mod Writing
+pub mod Outlines

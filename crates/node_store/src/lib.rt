@@ -4,7 +4,8 @@
 //! The layer between single steps and whole operations. From word_rule it takes the steps and what
 //! each makes of a caller's log; from crossbeam_utils the pause between two tries. A lock is tried
 //! a little, and then slept on; or, by a caller that gives up, tried once. A node is read without a
-//! lock by a version that is found again (`peek`, `check`), or while it is held (`read_held`).
+//! lock by a version that is found again (`peek`, `check`), or while it is held (`read_held`), or then
+//! by the few words that are wanted (`outline_of`).
 #![tactic(auto)]
 
 mod free;
@@ -13,6 +14,9 @@ mod free_tests;
 mod held;
 mod locking;
 mod locks;
+mod outline;
+#[cfg(test)]
+mod outline_tests;
 mod reading;
 mod shaping;
 #[cfg(test)]
@@ -30,6 +34,7 @@ pub use free::{give_free, take_free};
 pub use held::{read_held, write_held};
 pub use locking::{Busy, Locking, Once, Trying, Waiting};
 pub use locks::{lock, unlock, unlock_same};
+pub use outline::{Outline, high_of, outline_of, pair_of, slot_of};
 pub use reading::{CONTENT_WORDS, node_of};
 pub use sight::{Sight, check, peek};
 pub use writing::Store;
