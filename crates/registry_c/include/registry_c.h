@@ -105,7 +105,7 @@ bool registry_c_join(registry_client client, registry_client other, registry_cli
                      registry_client *other_back);
 
 /* Frees a client, and the registry with its last one. `seen` is how many updates it had seen. True:
- * every other client was joined into it. */
+ * every other client was joined into it, and then these are all that were ever accepted. */
 bool registry_c_close(registry_client client, uint32_t *seen);
 
 /* How many update calls a client may still begin. One that is begun isn't among them. */

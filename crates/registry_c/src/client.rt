@@ -3,6 +3,7 @@
 ghost use Rattle.std.specs.Prelude.{◌≡◌, ◌↔◌, MatchResult, Ok, Err, length, true};
 ghost use Rattle.word_rule.specs.Callers.{IsAlone};
 ghost use Rattle.registry_c.specs.Limits.{IsNew};
+ghost use Rattle.registry_core.specs.Rounds.{IsWholeWhereAlone};
 
 use crate::limits::{LimitFault, RegistryLimits, fixed_members};
 use crate::member::RegistryMember;
@@ -68,6 +69,14 @@ impl Client {
             Ok(client) => Ok(client),
             Err(_) => Err(LimitFault::NoMemory),
         }
+    }
+
+    /// Makes sure of what it has seen: all updates, where every other client was joined into it.
+    pub(crate) fn confirm(&mut self)
+        ensures same { self.new ≡ self.old }
+        ensures whole { IsWholeWhereAlone self.new.me.log }
+    {
+        self.registry.words().confirm(&mut self.me);
     }
 
     /// How many update calls it may still begin.

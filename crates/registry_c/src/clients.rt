@@ -2,6 +2,7 @@
 
 ghost use Rattle.std.specs.Prelude.{◌≡◌, ◌↔◌, IsSomeAnd, length, true};
 ghost use Rattle.word_rule.specs.Callers.{IsAlone};
+ghost use Rattle.registry_core.specs.Rounds.{IsWholeWhereAlone};
 ghost use Rattle.registry_c.specs.Clients.{LeadsToClient, LeadsNowhere, Makes};
 ghost use Rattle.registry_c.specs.Limits.{TellsNew};
 ghost use Rattle.registry_c.specs.Splits.{Joins, ShareWords, TellsSplit};
@@ -103,14 +104,16 @@ pub extern "C" fn registry_c_join(
 }
 
 /// Frees a client, and the registry with its last one. Tells how many updates it had seen, and
-/// whether every other client was joined into it.
+/// whether every other client was joined into it: then it has seen all that were accepted.
 #[unsafe(no_mangle)]
 pub extern "C" fn registry_c_close(alloc: Global, client: ClientHandle, seen: &mut u32) -> bool
     requires client { LeadsToClient client.held }
     ensures seen { IsSomeAnd client.held (λ c. seen.new ≡ length c.me.log.past) }
     ensures alone { IsSomeAnd client.held (λ c. (result ≡ true) ↔ IsAlone c.me.log.lineage) }
+    ensures whole { IsSomeAnd client.held (λ c. IsWholeWhereAlone c.me.log) }
 {
-    let open = client.open(alloc);
+    let mut open = client.open(alloc);
+    open.confirm();
     *seen = open.seen();
     open.alone()
 }

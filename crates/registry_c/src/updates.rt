@@ -17,16 +17,13 @@ use node_store::Once;
 use reg_model::{Inserted, Loading, Removed};
 use std::alloc::Global;
 
-/// The releases that an update call may make.
-const CALL_CREDIT: u64 = 64;
-
 impl Client {
     /// Begins an update call, unless one is begun; and says whether it may be tried.
     fn begin(&mut self) -> bool
         ensures { MatchBool result (Begins self.old self.new) (IsSpent self.old self.new) }
     {
         if self.begun {
-            return self.me.spare() >= CALL_CREDIT;
+            return self.me.may_try();
         }
         self.begun = self.me.use_one();
         self.begun

@@ -38,9 +38,6 @@ use std::marker::Model;
 use std::sync::Wait;
 use word_rule::{Caller, Words};
 
-/// The releases that an update call may make.
-const CALL_CREDIT: u64 = 64;
-
 /// The registry that threads share by `&`. Each has a caller of its own.
 #[derive(Drop)]
 pub struct Registry {
@@ -141,7 +138,7 @@ impl Registry {
         ensures idle { IsIdle me.new.log }
         ensures due { OnErr result (0 < due me.new) }
     {
-        if me.spare() < CALL_CREDIT {
+        if !me.may_try() {
             return Ok(Inserted::Spent);
         }
         btree_change::insert_by(locking, &self.words, me, member)
@@ -182,7 +179,7 @@ impl Registry {
         ensures idle { IsIdle me.new.log }
         ensures due { OnErr result (0 < due me.new) }
     {
-        if me.spare() < CALL_CREDIT {
+        if !me.may_try() {
             return Ok(Removed::Spent);
         }
         btree_change::remove_by(locking, &self.words, me, base)
@@ -234,7 +231,7 @@ impl Registry {
             × IsBusy e.lock me.old me.new × (L.gives_up ≡ true)) }
         ensures free { IsFreeAgain me.old me.new }
     {
-        if me.spare() < CALL_CREDIT {
+        if !me.may_try() {
             return Ok(Loading::Spent);
         }
         array_publish::load_by(locking, &self.words, me, member)
@@ -270,7 +267,7 @@ impl Registry {
             × IsBusy e.lock me.old me.new × (L.gives_up ≡ true)) }
         ensures free { IsFreeAgain me.old me.new }
     {
-        if me.spare() < CALL_CREDIT {
+        if !me.may_try() {
             return Ok(Removed::Spent);
         }
         array_publish::unload_by(locking, &self.words, me, base)
