@@ -1,5 +1,5 @@
 -- How many loads a lookup makes.
-use Rattle.std.proofs.Common.{◌≡◌, ℕ, zero, suc, ◌+◌, ◌^◌, ◌<◌, ◌≤◌, [], ◌∷◌, length, length-append, ap, ◌∙◌, arith, Bool, true, false, if◌then◌else◌}
+use Rattle.std.proofs.Common.{◌≡◌, ℕ, zero, suc, ◌+◌, ◌^◌, ◌<◌, ◌≤◌, [], ◌∷◌, length, length-append, ap, ◌∙◌, arith}
 use Rattle.word_rule.specs.CallerData.{CallerData}
 use Rattle.word_rule.specs.Clock.{AfterClock}
 use Rattle.word_rule.specs.Logs.{load_of}
@@ -19,7 +19,3 @@ clock_counted t a found k k' after = ap (λ v. length v.trace.loads) after.2.2 �
 pub half_left : (size half odd left : ℕ) → size ≡ half + half + odd → odd < 2 → 0 < half → size ≤ 2 ^ left → (less : ℕ) × ((left ≡ less + 1) × (half + odd ≤ 2 ^ less))
 half_left size half odd zero is few pos le = absurd (omega (arith, is, pos, le))
 half_left size half odd (suc less) is few pos le = (less, (omega arith, omega (arith, is, few, le)))
-
-pub no_more : (b : Bool) (n : ℕ) → (if b then n else 0) ≤ n
-no_more true n = omega arith
-no_more false n = omega arith

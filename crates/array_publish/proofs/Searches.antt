@@ -29,44 +29,90 @@ below_later : (t : Terms) (c : ℕ) (k k' : CallerData) (pc begun first : ℕ) �
 below_later t c k k' pc begun first p h = ⊎_elim (λ (e : begun ≡ 0). inl e) (λ (one : (b : ℕ) × ((begun ≡ b + 1) × (first ≤ pc) × IsTold t c k (member_place b) first)). inr (one.0, (one.1.0, one.1.1, told_later t c k k' (member_place one.0) first p one.1.2))) h
 
 -- of so many members it is known of so many that they begin at or below the address, and there are
--- `size` ways left in which it can be of more
+-- at most `size` ways left in which it can be of more: `top` ends them, the last of these or the one
+-- before
 pub record AreLeft (t : Terms) (c : ℕ) (k : CallerData) (pc count begun first size : ℕ) : Type 0 where
-  pub some : 0 < size
   pub within : begun + size ≤ count + 1
   pub below : IsBelow t c k pc begun first
-  pub above : BeginsAbove t c k pc count (begun + size - 1)
+  pub top : ℕ
+  pub least : begun ≤ top
+  pub most : top < begun + size
+  pub near : begun + size ≤ top + 2
+  pub above : BeginsAbove t c k pc count top
 
 pub all_left : (t : Terms) (c : ℕ) (k : CallerData) (pc count : ℕ) → AreLeft t c k pc count 0 0 (count + 1)
-all_left t c k pc count = record { some = omega arith; within = omega arith; below = inl refl; above = inl (omega arith) }
+all_left t c k pc count = record { within = omega arith; below = inl refl; top = count; least = omega arith; most = omega arith; near = omega arith; above = inl refl }
 
--- the member in the middle leaves the upper half, or the lower
-pub halved : (t : Terms) (c : ℕ) (k k' : CallerData) (pc count begun first size half odd next : ℕ) → LoadsCopy t c k k' → AreLeft t c k pc count begun first size → size ≡ half + half + odd → 0 < half → IsTold t c k' (member_place (begun + half - 1)) next
-    → (below : Bool) → nat_le next pc ≡ below → AreLeft t c k' pc count (begun + (if below then half else 0)) (if below then next else first) (half + (if below then odd else 0))
-halved t c k k' pc count begun first size half odd next p left is pos told true e =
-    let w = left.within in record {
-      some = omega (arith, pos);
+-- a word that is told to be two numbers is of no copy
+told_twice : (t : Terms) (c : ℕ) (k : CallerData) (pc count at one other i : ℕ) → IsTold t c k at one → IsTold t c k at other → one < other → BeginsAbove t c k pc count i
+told_twice t c k pc count at one other i a b less = inr (pc + 1, ((λ copy agrees. let x = a copy agrees in let y = b copy agrees in absurd (omega (arith, x, y, less))), omega arith))
+
+-- where the member in the middle begins at or below the address, the ways left end as before, or no
+-- copy has what was loaded
+top_stays : (t : Terms) (c : ℕ) (k : CallerData) (pc count begun first size half odd next : ℕ) (left : AreLeft t c k pc count begun first size) → size ≡ half + half + odd → 0 < half → IsTold t c k (member_place (begun + half - 1)) next → next ≤ pc
+    → (top : ℕ) × (begun + half ≤ top) × (top < begun + half + (half + odd)) × (begun + half + (half + odd) ≤ top + 2) × BeginsAbove t c k pc count top
+top_stays t c k pc count begun first size half odd next left is pos told at = go (nat_le (begun + half) left.top) refl
+  where
+    go : (b : Bool) → nat_le (begun + half) left.top ≡ b
+        → (top : ℕ) × (begun + half ≤ top) × (top < begun + half + (half + odd)) × (begun + half + (half + odd) ≤ top + 2) × BeginsAbove t c k pc count top
+    go true e = let m = left.most in let n = left.near in (left.top, leb-true _ _ e, omega (arith, m, is), omega (arith, n, is), left.above)
+    go false e =
+        let less = leb-false _ _ e in let l = left.least in let m = left.most in let n = left.near in let w = left.within in (
+          begun + 1,
+          omega (arith, less, l, m, n, is, pos),
+          omega (arith, pos),
+          omega (arith, less, l, m, n, is, pos),
+          ⊎_elim (λ (z : left.top ≡ count). absurd (omega (arith, z, less, l, m, n, is, pos, w)))
+              (λ (one : (value : ℕ) × (IsTold t c k (member_place left.top) value × (pc < value))). let above = one.1.1 in
+              told_twice t c k pc count (member_place (begun + half - 1)) next one.0 (begun + 1) told (subst (λ i. IsTold t c k (member_place i) one.0) (omega (arith, less, l, m, n, is, pos)) one.1.0) (omega (arith, at, above))) left.above,
+        )
+
+left_later : (t : Terms) (c : ℕ) (k k' : CallerData) (pc count begun first size : ℕ) → LoadsCopy t c k k' → AreLeft t c k pc count begun first size → AreLeft t c k' pc count begun first size
+left_later t c k k' pc count begun first size p left = record {
+  within = left.within;
+  below = below_later t c k k' pc begun first p left.below;
+  top = left.top;
+  least = left.least;
+  most = left.most;
+  near = left.near;
+  above = above_later t c k k' pc count left.top p left.above;
+}
+
+-- the member in the middle leaves one half of the ways; the greater one is counted
+pub halved : (t : Terms) (c : ℕ) (k k' : CallerData) (pc count begun first size half odd next : ℕ) → LoadsCopy t c k k' → AreLeft t c k pc count begun first size → size ≡ half + half + odd → odd < 2 → 0 < half → IsTold t c k' (member_place (begun + half - 1)) next
+    → (below : Bool) → nat_le next pc ≡ below → AreLeft t c k' pc count (begun + (if below then half else 0)) (if below then next else first) (half + odd)
+halved t c k k' pc count begun first size half odd next p left is few pos told true e =
+    let now = left_later t c k k' pc count begun first size p left in let w = left.within in
+    let stays = top_stays t c k' pc count begun first size half odd next now is pos told (leb-true _ _ e) in record {
       within = omega (arith, w, is);
       below = inr (begun + half - 1, (omega (arith, pos), leb-true _ _ e, told));
-      above = subst (λ i. BeginsAbove t c k' pc count i) (omega (arith, is, pos)) (above_later t c k k' pc count _ p left.above);
+      top = stays.0;
+      least = stays.1;
+      most = stays.2;
+      near = stays.3;
+      above = stays.4;
     }
-halved t c k k' pc count begun first size half odd next p left is pos told false e =
+halved t c k k' pc count begun first size half odd next p left is few pos told false e =
     let w = left.within in let none : begun + 0 ≡ begun = omega arith in record {
-      some = omega (arith, pos);
       within = omega (arith, w, is);
       below = subst (λ b. IsBelow t c k' pc b first) (sym none) (below_later t c k k' pc begun first p left.below);
-      above = inr (next, (subst (λ i. IsTold t c k' (member_place i) next) (omega (arith, pos)) told, leb-false _ _ e));
+      top = begun + half - 1;
+      least = omega (arith, pos);
+      most = omega (arith, pos);
+      near = omega (arith, pos, few);
+      above = inr (next, (told, leb-false _ _ e));
     }
 
 -- where one way is left, that many it is
 pub none_begun : (t : Terms) (c : ℕ) (k : CallerData) (pc count begun first size : ℕ) → AreLeft t c k pc count begun first size → size ≤ 1 → begun ≡ 0 → IsLastBegun t c k pc count None
-none_begun t c k pc count begun first size left one is = let some = left.some in subst (λ i. BeginsAbove t c k pc count i) (omega (arith, some, one, is)) left.above
+none_begun t c k pc count begun first size left one is = let most = left.most in subst (λ i. BeginsAbove t c k pc count i) (omega (arith, most, one, is)) left.above
 
 pub one_begun : (t : Terms) (c : ℕ) (k : CallerData) (pc count begun first size : ℕ) → AreLeft t c k pc count begun first size → size ≤ 1 → 0 < begun → IsLastBegun t c k pc count (Some (record { index = begun - 1; first = first }))
 one_begun t c k pc count begun first size left one pos =
-    let some = left.some in let w = left.within in
+    let least = left.least in let most = left.most in let w = left.within in
     ⊎_elim (λ (e : begun ≡ 0). absurd (omega (arith, pos, e)))
     (λ (h : (b : ℕ) × ((begun ≡ b + 1) × (first ≤ pc) × IsTold t c k (member_place b) first)). let is = h.1.0 in
-    (omega (arith, w, some, pos), h.1.1, subst (λ i. IsTold t c k (member_place i) first) (omega (arith, is)) h.1.2, subst (λ i. BeginsAbove t c k pc count i) (omega (arith, some, one, pos)) left.above))
+    (omega (arith, w, least, most, pos), h.1.1, subst (λ i. IsTold t c k (member_place i) first) (omega (arith, is)) h.1.2, subst (λ i. BeginsAbove t c k pc count i) (omega (arith, least, most, one, pos)) left.above))
     left.below
 
 -- ---- what a copy lists

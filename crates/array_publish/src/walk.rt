@@ -92,10 +92,9 @@ fn load_word(words: &Words, me: &mut Caller, at: CopyStart, word: u32) -> u64
 /// guess half of them wrong.
 #[inline(always)]
 fn where_holds(number: u32, holds: bool) -> u32
-    requires { number < 2 ^ 31 }
     ensures { result ≡ (if holds then number else 0) }
 {
-    (number << u32::from(holds)) - number
+    number * u32::from(holds)
 }
 
 /// The one where something holds, else the other.
@@ -108,7 +107,8 @@ fn one_of(holds: bool, one: u64, other: u64) -> u64
 
 /// Of so many members, the last one that begins at or below the address. `begun` of them are known
 /// to, the last of these at `first`; `size` is in how many ways it can go on, and each turn leaves
-/// half of these.
+/// half of these. Of an odd number it leaves the greater half, whatever was loaded, so that the
+/// number of turns is that of the members alone, and can be guessed.
 fn last_begun(words: &Words, me: &mut Caller, at: CopyStart, pc: u64, count: u32) -> Option<Begun>
     requires copy { IsAtCopy words.now at.copy me.old }
     requires start { at.start ≡ copy_place words.now.terms at.copy }
@@ -127,7 +127,7 @@ fn last_begun(words: &Words, me: &mut Caller, at: CopyStart, pc: u64, count: u32
         let below = next <= pc;
         first = one_of(below, next, first);
         begun += where_holds(half, below);
-        size = half + where_holds(size % 2, below);
+        size -= half;
     }
     if begun == 0 {
         return None;

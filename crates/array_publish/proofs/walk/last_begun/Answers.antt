@@ -1,10 +1,10 @@
-use Rattle.std.proofs.Common.{ℕ, ◌/◌, ◌%◌, ◌≤◌, refl, subst, arith, nat_le}
+use Rattle.std.proofs.Common.{ℕ, ◌+◌, ◌/◌, ◌%◌, refl, subst, arith, nat_le, if◌then◌else◌}
 use Rattle.word_rule.specs.CallerData.{CallerData}
 use Rattle.word_rule.specs.declared.log.Terms.{Terms}
 use Rattle.array_publish.specs.CopyLoads.{IsTold}
 use Rattle.array_publish.proofs.CopyWalks.{loads_none, loads_both, at_copy_stays}
-use Rattle.array_publish.proofs.Searches.{all_left, halved, none_begun, one_begun}
-use Rattle.array_publish.proofs.LoadCounts.{half_left, no_more}
+use Rattle.array_publish.proofs.Searches.{AreLeft, all_left, halved, none_begun, one_begun}
+use Rattle.array_publish.proofs.LoadCounts.{half_left}
 use Rattle.array_publish.proofs.walk.last_begun.Goals as goal
 
 pub loop-size-init : goal.loop-size-init
@@ -29,14 +29,14 @@ loop-size-preserved c =
     record {
       loads = loads_both t copy c.args.me.now k k' i.loads more;
       copy = at_copy_stays c.args.words.now copy k k' i.copy more;
-      left = rw (c.one_of-first.ensures, c.where_holds-begun.ensures, c.where_holds.ensures)
-          (halved t copy k k' c.args.pc c.args.count was.begun was.first was.size (was.size / 2) (was.size % 2) next more i.left (omega arith) (omega (arith, test)) told (nat_le next c.args.pc) refl);
+      left = rw (c.one_of-first.ensures, c.where_holds-begun.ensures)
+          (subst (λ n. AreLeft t copy k' c.args.pc c.args.count (was.begun + (if nat_le next c.args.pc then was.size / 2 else 0)) (if nat_le next c.args.pc then next else was.first) n) (omega arith) (halved t copy k k' c.args.pc c.args.count was.begun was.first was.size (was.size / 2) (was.size % 2) next more i.left (omega arith) (omega arith) (omega (arith, test)) told (nat_le next c.args.pc) refl));
       few = λ n small.
           let f = i.few n small in
           let half = half_left was.size (was.size / 2) (was.size % 2) f.0 (omega arith) (omega arith) (omega (arith, test)) f.1.0 in
           let one = c.load_word-next.ensures.one in let room = f.1.1 in let less = half.1.0 in
-          let odd : c.where_holds.result ≤ was.size % 2 = rw c.where_holds.ensures (no_more (nat_le next c.args.pc) (was.size % 2)) in let ways = half.1.1 in
-          (half.0, (omega (arith, odd, ways), omega (arith, one, room, less)));
+          let ways = half.1.1 in
+          (half.0, (omega (arith, ways), omega (arith, one, room, less)));
     }
 
 pub returns-then-begun-eq0-clause-last : goal.returns-then-begun-eq0-clause-last
