@@ -1,5 +1,5 @@
 -- The two programs of an FDE, and the rows that their walks leave.
-use Rattle.std.proofs.Common.{◌≡◌, ℕ, ◌<◌, ◌≤◌, List, [], length, refl, sym, ap, subst, ◌∙◌, arith}
+use Rattle.std.proofs.Common.{◌≡◌, ℕ, ◌<◌, ◌≤◌, List, [], length, Bool, true, false, refl, sym, ap, subst, ◌∙◌, arith}
 use Rattle.std.specs.List.{fold}
 use Rattle.frame_parse.specs.Instructions.{PlacedStep}
 use Rattle.frame_rows.specs.Rows.{HasPlacedInitial, HasPlacedProgram}
@@ -24,6 +24,11 @@ opens p pc steps law has none reached =
 -- what going through a whole program makes of a row
 abbrev pub Leaves : PlacedProgramData → ℕ → PlacedRow → PlacedRow → PlacedRow → Type 0
 Leaves p pc base before after = (steps : List PlacedStep) → GoesOn p pc 0 steps → after ≡ (rows_after base pc (beside before []) steps).row
+
+-- a walk met no rule that isn't told
+pub whole_unless : (told : Bool) → (told ≡ false → ⊥) → told ≡ true
+whole_unless true refute = refl
+whole_unless false refute = absurd (refute refl)
 
 pub initial_left : (f : FdeData) (p : PlacedProgramData) (first : ℕ) (start base : PlacedRow) (initial : List PlacedStep) → Law → p ≡ initial_of f.section f.entry (text_in f.bytes f.entry.cie.initial) → first ≡ f.entry.first → start ≡ unset → Leaves p first unset start base
     → HasPlacedInitial f initial → base ≡ base_row f.entry.first initial

@@ -1,15 +1,18 @@
 -- Single steps of a walk, over plain rows and programs.
-use Rattle.std.proofs.Common.{◌≡◌, ℕ, ◌<◌, ◌≤◌, List, [], ◌∷◌, length, nat_le, true, false, refl, sym, ap, subst, ◌∙◌, arith}
+use Rattle.std.proofs.Common.{◌≡◌, ◌⊎◌, inl, inr, ℕ, ◌<◌, ◌≤◌, List, [], ◌∷◌, length, nat_le, true, false, refl, sym, ap, subst, ◌∙◌, arith}
+use Rattle.std.specs.Prelude.{slice_set, slice_index_or}
 use Rattle.std.proofs.lemmas.Bool.{le-leb, lt-leb}
 use Rattle.frame_parse.specs.Instructions.{PlacedInstruction, PlacedStep}
 use Rattle.frame_parse.specs.declared.instructions.InstructionWith.TheVariants.{Nop, Advance, Set, Restore, Remember, RestoreState, Cfa, CfaColumn, CfaOffset, CfaExpression}
 use Rattle.frame_parse.specs.Programs.{PlacedProgramData, HasPlacedSteps}
 use Rattle.frame_parse.specs.Order.{Moves, IsAscendingFrom, IsBalanced, MayStandAt, remembered_after}
+use Rattle.frame_rows.specs.declared.rule.RuleWith.TheVariants as rules
 use Rattle.frame_rows.specs.declared.placed_row.PlacedRow.{PlacedRow}
 use Rattle.frame_rows.specs.declared.walk.Stop.{Stop}
-use Rattle.frame_rows.specs.declared.walk.Stop.TheVariants.{End, Restored}
+use Rattle.frame_rows.specs.declared.walk.Stop.TheVariants.{End, Restored, Untold}
 use Rattle.frame_rows.specs.Columns.{up_to}
 use Rattle.frame_rows.specs.Rows.{Rows, applied, beside, rows_step, rows_after}
+use Rattle.frame_rows.specs.Rules.{PlacedRule}
 use Rattle.frame_rows.specs.Walk.{GoesOn, ComesTo, TakesBack, Walks}
 
 -- the next step of p is x, and q is what is left
@@ -103,6 +106,7 @@ leads_stop base pc p q r row other last Restored a b = λ steps below g.
     let one = a steps below g in
     let two = b one.more below one.on in
     record { last = two.last; others = two.others; are = two.are; onward = record { more = two.onward.more; on = two.onward.on; same = one.same ∙ two.onward.same } }
+leads_stop base pc p q r row other last Untold a b = tt
 
 -- an instruction that changes the row alone
 record IsPlain (i : PlacedInstruction) : Type 0 where
@@ -133,6 +137,14 @@ leads_plain base pc p q row x gives reached a b =
       on = subst (λ (d : ℕ). GoesOn q pc d n.more) (i.flat (length below)) (n.on le);
       same = rows_on base pc (beside row below) x n.more steps n.are le ∙ ap (λ (s : Rows). rows_after base pc s n.more) (i.stays base row below);
     }
+
+-- after a restore of a column whose rule is told
+pub leads_restore : (base : PlacedRow) (pc : ℕ) (p q : PlacedProgramData) (row new : PlacedRow) (x : PlacedStep) (column : ℕ) (rule : PlacedRule) → Gives p x q → x.instruction ≡ Restore column → rule ≡ slice_index_or base.columns column rules.Unset
+    → new ≡ record row { columns = slice_set row.columns column rule } → ComesTo base pc p row q new
+leads_restore base pc p q row new x column rule gives is told set =
+    let plain = leads_plain base pc p q row x gives (λ e. absurd (let two = sym is ∙ e in cc)) (λ e. absurd (let two = sym is ∙ e in cc)) (λ e. absurd (let two = sym is ∙ e in cc)) in
+    let made : new ≡ applied base row x.instruction = set ∙ ap (λ (k : PlacedRule). record row { columns = slice_set row.columns column k }) told ∙ ap (applied base row) (sym is) in
+    subst (λ (k : PlacedRow). ComesTo base pc p row q k) (sym made) plain
 
 -- after an Advance that doesn't lead past the address
 pub leads_advance : (base : PlacedRow) (pc : ℕ) (p q : PlacedProgramData) (row : PlacedRow) (x : PlacedStep) → Gives p x q → x.location ≤ pc → x.instruction ≡ Advance → ComesTo base pc p row q row
@@ -199,10 +211,12 @@ taken_back base pc row (last ∷ others) steps q x n is =
 pub stops_restored : (base : PlacedRow) (pc : ℕ) (p q : PlacedProgramData) (row other : PlacedRow) (x : PlacedStep) → Gives p x q → x.instruction ≡ RestoreState → Walks base pc p row Restored q other
 stops_restored base pc p q row other x gives is = λ steps below g. taken_back base pc row below steps q x (next_of p q x pc (length below) steps gives g) is
 
--- a walk on which nothing was remembered before goes to the end
-pub whole : (base : PlacedRow) (pc : ℕ) (p q : PlacedProgramData) (row other : PlacedRow) (stop : Stop) → Walks base pc p row stop q other → (steps : List PlacedStep) → GoesOn p pc 0 steps → (rows_after base pc (beside row []) steps).row ≡ other
-whole base pc p q row other End w steps g = w steps [] g
-whole base pc p q row other Restored w steps g = absurd (let none = (w steps [] g).are in cc)
+-- a walk on which nothing was remembered before, and which all rules are told, goes to the end
+pub whole : (base : PlacedRow) (pc : ℕ) (p q : PlacedProgramData) (row other : PlacedRow) (stop : Stop) → Walks base pc p row stop q other → (stop ≡ End) ⊎ (stop ≡ Restored) → (steps : List PlacedStep) → GoesOn p pc 0 steps → (rows_after base pc (beside row []) steps).row ≡ other
+whole base pc p q row other End w ended steps g = w steps [] g
+whole base pc p q row other Restored w ended steps g = absurd (let none = (w steps [] g).are in cc)
+whole base pc p q row other Untold w (inl is) steps g = absurd (let two = is in cc)
+whole base pc p q row other Untold w (inr is) steps g = absurd (let two = is in cc)
 
 -- the laws of a program's steps, at its start
 pub goes_on_from : (p : PlacedProgramData) (pc location : ℕ) (steps : List PlacedStep) → location ≤ pc → HasPlacedSteps p steps → IsAscendingFrom location steps → IsBalanced 0 steps → GoesOn p pc 0 steps

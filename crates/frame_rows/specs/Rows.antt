@@ -35,6 +35,10 @@ applied base row RestoreState = row
 applied base row Nop = row
 applied base row Advance = row
 
+-- any instruction but a restore, which alone asks for another row
+abbrev pub IsNoRestore : PlacedInstruction → Type 0
+IsNoRestore i = (q : ℕ) → i ≡ Restore q → ⊥
+
 -- a row, and the remembered ones, the last one first
 pub record Rows : Type 0 where
   pub row : PlacedRow
@@ -73,8 +77,3 @@ HasPlacedInitial f steps = HasPlacedSteps (left_of_initial f) steps
 
 abbrev pub HasPlacedProgram : FdeData → List PlacedStep → Type 0
 HasPlacedProgram f steps = HasPlacedSteps (left_of_program f) steps
-
--- the row whose rules a restore gives back among the instructions of an FDE itself
-abbrev pub IsBaseRow : FdeData → PlacedRow → Type 0
-IsBaseRow f row = (initial : List PlacedStep) × HasPlacedInitial f initial
-    × (row ≡ base_row f.entry.first initial)

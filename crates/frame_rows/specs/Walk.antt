@@ -3,10 +3,18 @@ use Rattle.std.specs.Prelude.{◌≡◌, ℕ, ◌≤◌, List, ◌∷◌, length
 use Rattle.frame_parse.specs.Instructions.{PlacedStep}
 use Rattle.frame_parse.specs.Programs.{PlacedProgramData, HasPlacedSteps}
 use Rattle.frame_parse.specs.Order.{IsAscendingFrom, IsBalanced}
+use Rattle.frame_rows.specs.declared.base.Base.{Base}
+use Rattle.frame_rows.specs.declared.base.Base.TheVariants as bases
 use Rattle.frame_rows.specs.declared.placed_row.PlacedRow.{PlacedRow}
 use Rattle.frame_rows.specs.declared.walk.Stop.{Stop}
-use Rattle.frame_rows.specs.declared.walk.Stop.TheVariants.{End, Restored}
-use Rattle.frame_rows.specs.Rows.{Rows, beside, rows_after}
+use Rattle.frame_rows.specs.declared.walk.Stop.TheVariants.{End, Restored, Untold}
+use Rattle.frame_rows.specs.Rows.{Rows, beside, rows_after, unset}
+
+-- the row whose rules restores give back, where one tells them
+abbrev pub IsBase : Base → PlacedRow → Type 0
+IsBase bases.NothingSet given = given ≡ unset
+IsBase bases.Untold given = Unit {0}
+IsBase (bases.Kept row) given = row.now ≡ given
 
 -- a program that goes on with these steps from a location up to an address, where so many rows are
 -- remembered
@@ -40,7 +48,7 @@ pub record TakesBack (base : PlacedRow) (pc : ℕ) (row : PlacedRow) (below : Li
   pub onward : IsOnward base pc (beside row below) steps q (beside last others)
 
 -- A walk stops after all steps up to the address, with their row, or after a step that takes a row
--- back.
+-- back. Where it stops at a restore whose rule isn't told, its row says nothing.
 abbrev pub Walks : PlacedRow → ℕ → PlacedProgramData → PlacedRow → Stop → PlacedProgramData → PlacedRow → Type 0
 Walks base pc p row End q other =
     (steps : List PlacedStep) (below : List PlacedRow) → GoesOn p pc (length below) steps
@@ -48,3 +56,4 @@ Walks base pc p row End q other =
 Walks base pc p row Restored q other =
     (steps : List PlacedStep) (below : List PlacedRow) → GoesOn p pc (length below) steps
     → TakesBack base pc row below steps q
+Walks base pc p row Untold q other = Unit {0}

@@ -3,9 +3,8 @@
 ghost use Rattle.std.specs.Prelude.{◌≡◌, slice_index_or, slice_set};
 ghost use Rattle.frame_rows.specs.declared.placed_row.PlacedRow.{PlacedRow};
 ghost use Rattle.frame_rows.specs.declared.rule.RuleWith.TheVariants.{Unset};
-ghost use Rattle.frame_rows.specs.Rows.{applied, unset};
+ghost use Rattle.frame_rows.specs.Rows.{IsNoRestore, applied, unset};
 
-use crate::base::{Base, KeptRow};
 use crate::rule::{PlacedCfaRule, PlacedRule, rule_of};
 use frame_parse::PlacedInstruction;
 
@@ -41,7 +40,7 @@ impl PlacedRow {
     }
 
     /// Sets the rule of a column up to 16.
-    fn set(&mut self, column: u8, rule: PlacedRule)
+    pub(crate) fn set(&mut self, column: u8, rule: PlacedRule)
         ensures { self.new ≡ record self.old { columns = slice_set self.old.columns column rule } }
     {
         let index = column as usize;
@@ -55,26 +54,31 @@ impl PlacedRow {
     pub fn apply(&mut self, initial: &PlacedRow, instruction: PlacedInstruction)
         ensures { self.new ≡ applied initial.now self.old instruction }
     {
-        apply(self, &mut KeptRow { row: initial }, instruction)
+        match instruction {
+            PlacedInstruction::Restore { column } => self.set(
+                column,
+                initial.rule(column as usize),
+            ),
+            instruction => change(self, instruction),
+        }
     }
 }
 
-/// What an instruction makes of a row by itself.
+/// What an instruction other than a restore makes of a row by itself.
 #[inline(always)]
-pub(crate) fn apply<B: Base>(row: &mut PlacedRow, base: &mut B, instruction: PlacedInstruction)
-    ensures row { (given : PlacedRow) → B.gives base.old given
-        → row.new ≡ applied given row.old instruction }
-    ensures base { (given : PlacedRow) → B.gives base.old given → B.gives base.new given }
+pub(crate) fn change(row: &mut PlacedRow, instruction: PlacedInstruction)
+    ensures { (base : PlacedRow) → IsNoRestore instruction
+        → row.new ≡ applied base row.old instruction }
 {
     match instruction {
         PlacedInstruction::Set { column, rule } => row.set(column, rule_of(rule)),
-        PlacedInstruction::Restore { column } => row.set(column, base.rule(column)),
         PlacedInstruction::Cfa { column, by } => row.cfa = PlacedCfaRule::Offset { column, by },
         PlacedInstruction::CfaColumn { column } => row.cfa.set_column(column),
         PlacedInstruction::CfaOffset { by } => row.cfa.set_offset(by),
         PlacedInstruction::CfaExpression { expr } => row.cfa = PlacedCfaRule::Expression { expr },
         PlacedInstruction::Nop
         | PlacedInstruction::Advance
+        | PlacedInstruction::Restore { .. }
         | PlacedInstruction::Remember
         | PlacedInstruction::RestoreState => {}
     }

@@ -1,16 +1,17 @@
 //! Going through a program up to an address.
 
-ghost use Rattle.std.specs.Prelude.{◌≡◌, ℕ, ◌<◌, ◌≤◌, List, [], length, slice_get, Some};
+ghost use Rattle.std.specs.Prelude.{◌≡◌, ℕ, ◌<◌, ◌≤◌, List, [], length, slice_get, Some, false, true};
 ghost use Rattle.frame_parse.specs.Instructions.{PlacedStep, StepData};
+ghost use Rattle.frame_parse.specs.Steps.{left_of_program};
 ghost use Rattle.frame_rows.specs.declared.placed_row.PlacedRow.{PlacedRow};
 ghost use Rattle.frame_rows.specs.Columns.{HasInitial, HasProgram, rule_at, cfa_at};
 ghost use Rattle.frame_rows.specs.Rows.{HasPlacedInitial, HasPlacedProgram};
 ghost use Rattle.frame_rows.specs.Rows.{base_row, beside, rows_after, unset};
-ghost use Rattle.frame_rows.specs.Expressions.{HasExpressions};
-ghost use Rattle.frame_rows.specs.Walk.{GoesOn, Walks};
+ghost use Rattle.frame_rows.specs.RowAt.{IsPlacedRowAt};
+ghost use Rattle.frame_rows.specs.Walk.{GoesOn, IsBase, Walks};
 
-use crate::base::{Base, InitialRow, NothingSet};
-use crate::placed_row::{PlacedRow, apply};
+use crate::base::Base;
+use crate::placed_row::{PlacedRow, change};
 use crate::row::Row;
 use frame_parse::{Fde, PlacedInstruction, PlacedProgram, steps_are_ordered};
 
@@ -21,21 +22,18 @@ enum Stop {
     End,
     /// Behind the step that restores the state remembered before the walk.
     Restored,
+    /// At a restore of a column whose rule isn't told.
+    Untold,
 }
 
 /// Goes on from a row. What is remembered on the way is kept by a walk of its own, so that a
 /// program that remembers nothing pays for no other row.
 #[cycle(walk)]
-fn walk<B: Base>(
-    program: &mut PlacedProgram<'_>,
-    pc: u64,
-    base: &mut B,
-    row: &mut PlacedRow,
-) -> Stop
+fn walk(program: &mut PlacedProgram<'_>, pc: u64, base: &Base<'_>, row: &mut PlacedRow) -> Stop
     ensures shorter { result ≡ Stop.Restored → length program.new.rest.bytes ≤ length program.old.rest.bytes }
-    ensures walks { (given : PlacedRow) → B.gives base.old given
+    ensures walks { (given : PlacedRow) → IsBase base.now given
         → Walks given pc program.old row.old result program.new row.new }
-    ensures base { (given : PlacedRow) → B.gives base.old given → B.gives base.new given }
+    ensures untold { result ≡ Stop.Untold → base.now ≡ Base.Untold }
 {
     while let Some(step) = program.next() {
         match step.instruction {
@@ -47,9 +45,14 @@ fn walk<B: Base>(
             PlacedInstruction::Remember => match walk_back(program, pc, base, row) {
                 Stop::End => return Stop::End,
                 Stop::Restored => {}
+                Stop::Untold => return Stop::Untold,
             },
             PlacedInstruction::RestoreState => return Stop::Restored,
-            instruction => apply(row, base, instruction),
+            PlacedInstruction::Restore { column } => match base.rule(column) {
+                Some(rule) => row.set(column, rule),
+                None => return Stop::Untold,
+            },
+            instruction => change(row, instruction),
         }
     }
     Stop::End
@@ -58,16 +61,11 @@ fn walk<B: Base>(
 /// Goes on from a row that is remembered, and takes it back where it is restored.
 #[cycle(walk)]
 #[inline(never)]
-fn walk_back<B: Base>(
-    program: &mut PlacedProgram<'_>,
-    pc: u64,
-    base: &mut B,
-    row: &mut PlacedRow,
-) -> Stop
+fn walk_back(program: &mut PlacedProgram<'_>, pc: u64, base: &Base<'_>, row: &mut PlacedRow) -> Stop
     ensures shorter { result ≡ Stop.Restored → length program.new.rest.bytes ≤ length program.old.rest.bytes }
-    ensures walks { (given : PlacedRow) → B.gives base.old given
+    ensures walks { (given : PlacedRow) → IsBase base.now given
         → Walks given pc program.old row.old result program.new row.new }
-    ensures base { (given : PlacedRow) → B.gives base.old given → B.gives base.new given }
+    ensures untold { result ≡ Stop.Untold → base.now ≡ Base.Untold }
     ensures kept { result ≡ Stop.Restored → row.new ≡ row.old }
 {
     let kept = *row;
@@ -78,13 +76,18 @@ fn walk_back<B: Base>(
     stop
 }
 
-/// Goes from a row on to the one after all steps of a program up to an address.
-fn go_through<B: Base>(mut program: PlacedProgram<'_>, pc: u64, base: &mut B, row: &mut PlacedRow)
-    ensures { (given : PlacedRow) → B.gives base.old given → (steps : List PlacedStep)
+/// Goes from a row on to the one after all steps of a program up to an address. False where it met
+/// a restore whose rule isn't told.
+fn go_through(mut program: PlacedProgram<'_>, pc: u64, base: &Base<'_>, row: &mut PlacedRow) -> bool
+    ensures row { result ≡ true → (given : PlacedRow) → IsBase base.now given → (steps : List PlacedStep)
         → GoesOn program.entry pc 0 steps
         → row.new ≡ (rows_after given pc (beside row.old []) steps).row }
+    ensures untold { result ≡ false → base.now ≡ Base.Untold }
 {
-    walk(&mut program, pc, base, row);
+    match walk(&mut program, pc, base, row) {
+        Stop::Untold => false,
+        Stop::End | Stop::Restored => true,
+    }
 }
 
 /// Makes of a row in which nothing is set the one that the initial instructions leave.
@@ -96,7 +99,7 @@ fn set_initial(fde: &Fde<'_>, row: &mut PlacedRow)
         → row.new ≡ base_row fde.now.entry.first initial }
 {
     steps_are_ordered();
-    go_through(fde.placed_initial(), fde.first(), &mut NothingSet, row);
+    go_through(fde.placed_initial(), fde.first(), &Base::NothingSet, row);
 }
 
 /// The row that the initial instructions leave, which restores of a program give back.
@@ -110,25 +113,36 @@ pub fn initial_row(fde: &Fde<'_>) -> PlacedRow
     row
 }
 
+/// Goes through an FDE's own program where it restores a column, which is rare. It starts at the
+/// row that the initial instructions leave, and keeps that row for all restores.
+#[cold]
+#[inline(never)]
+fn go_again(fde: &Fde<'_>, pc: u64, row: &mut PlacedRow)
+    requires { fde.now.entry.first ≤ pc }
+    ensures { IsPlacedRowAt fde.now pc row.new }
+{
+    steps_are_ordered();
+    let initial = initial_row(fde);
+    *row = initial;
+    go_through(fde.placed_program(), pc, &Base::Kept(&initial), row);
+}
+
 /// The rules that hold at an address of an FDE, with the places of their expressions.
 #[inline(always)]
 fn rules_at(fde: &Fde<'_>, pc: u64) -> PlacedRow
     ensures known { (initial : List PlacedStep) × (steps : List PlacedStep) × HasPlacedInitial fde.now initial
         × HasPlacedProgram fde.now steps }
-    ensures cfa { (initial steps : List PlacedStep) → HasPlacedInitial fde.now initial
-        → HasPlacedProgram fde.now steps
-        → result.cfa ≡ cfa_at initial steps pc }
-    ensures columns { (initial steps : List PlacedStep) → HasPlacedInitial fde.now initial
-        → HasPlacedProgram fde.now steps
-        → (r : ℕ) → r < 17 → slice_get result.columns r ≡ Some (rule_at r initial steps pc) }
-    ensures full { length result.columns ≡ 17 }
+    ensures row { IsPlacedRowAt fde.now pc result }
 {
     steps_are_ordered();
     let mut row = PlacedRow::unset();
     set_initial(fde, &mut row);
     let program = fde.placed_program();
     if fde.first() <= pc {
-        go_through(program, pc, &mut InitialRow::new(fde), &mut row);
+        let told = go_through(program, pc, &Base::Untold, &mut row);
+        if !told {
+            go_again(fde, pc, &mut row);
+        }
     }
     row
 }
@@ -148,6 +162,7 @@ pub fn row_at<'a>(fde: &Fde<'a>, pc: u64) -> Row<'a>
         → HasProgram fde.now steps
         → (r : ℕ) → r < 17 → slice_get result.columns r ≡ Some (rule_at r initial steps pc) }
 {
+    steps_are_ordered();
     fde.expressions_stand();
     Row::new(fde.bytes(), rules_at(fde, pc))
 }
