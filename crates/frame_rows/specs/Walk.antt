@@ -3,18 +3,10 @@ use Rattle.std.specs.Prelude.{◌≡◌, ℕ, ◌≤◌, List, ◌∷◌, length
 use Rattle.frame_parse.specs.Instructions.{PlacedStep}
 use Rattle.frame_parse.specs.Programs.{PlacedProgramData, HasPlacedSteps}
 use Rattle.frame_parse.specs.Order.{IsAscendingFrom, IsBalanced}
-use Rattle.frame_rows.specs.declared.base.Base.{Base}
-use Rattle.frame_rows.specs.declared.base.Base.TheVariants as bases
 use Rattle.frame_rows.specs.declared.placed_row.PlacedRow.{PlacedRow}
 use Rattle.frame_rows.specs.declared.walk.Stop.{Stop}
 use Rattle.frame_rows.specs.declared.walk.Stop.TheVariants.{End, Restored, Untold}
-use Rattle.frame_rows.specs.Rows.{Rows, beside, rows_after, unset}
-
--- the row whose rules restores give back, where one tells them
-abbrev pub IsBase : Base → PlacedRow → Type 0
-IsBase bases.NothingSet given = given ≡ unset
-IsBase bases.Untold given = Unit {0}
-IsBase (bases.Kept row) given = row.now ≡ given
+use Rattle.frame_rows.specs.Rows.{Rows, beside, rows_after}
 
 -- a program that goes on with these steps from a location up to an address, where so many rows are
 -- remembered

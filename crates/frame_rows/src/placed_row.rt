@@ -55,10 +55,10 @@ impl PlacedRow {
         ensures { self.new ≡ applied initial.now self.old instruction }
     {
         match instruction {
-            PlacedInstruction::Restore { column } => self.set(
-                column,
-                initial.rule(column as usize),
-            ),
+            PlacedInstruction::Restore { column } => {
+                let rule = initial.rule(column as usize);
+                self.set(column, rule);
+            }
             instruction => change(self, instruction),
         }
     }

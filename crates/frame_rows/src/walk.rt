@@ -8,9 +8,9 @@ ghost use Rattle.frame_rows.specs.Columns.{HasInitial, HasProgram, rule_at, cfa_
 ghost use Rattle.frame_rows.specs.Rows.{HasPlacedInitial, HasPlacedProgram};
 ghost use Rattle.frame_rows.specs.Rows.{base_row, beside, rows_after, unset};
 ghost use Rattle.frame_rows.specs.RowAt.{IsPlacedRowAt};
-ghost use Rattle.frame_rows.specs.Walk.{GoesOn, IsBase, Walks};
+ghost use Rattle.frame_rows.specs.Walk.{GoesOn, Walks};
 
-use crate::base::Base;
+use crate::base::{Base, KeptRow, NothingSet, Untold};
 use crate::placed_row::{PlacedRow, change};
 use crate::row::Row;
 use frame_parse::{Fde, PlacedInstruction, PlacedProgram, steps_are_ordered};
@@ -29,11 +29,11 @@ enum Stop {
 /// Goes on from a row. What is remembered on the way is kept by a walk of its own, so that a
 /// program that remembers nothing pays for no other row.
 #[cycle(walk)]
-fn walk(program: &mut PlacedProgram<'_>, pc: u64, base: &Base<'_>, row: &mut PlacedRow) -> Stop
+fn walk<B: Base>(program: &mut PlacedProgram<'_>, pc: u64, base: &B, row: &mut PlacedRow) -> Stop
     ensures shorter { result ≡ Stop.Restored → length program.new.rest.bytes ≤ length program.old.rest.bytes }
-    ensures walks { (given : PlacedRow) → IsBase base.now given
+    ensures walks { (given : PlacedRow) → B.gives base.now given
         → Walks given pc program.old row.old result program.new row.new }
-    ensures untold { result ≡ Stop.Untold → base.now ≡ Base.Untold }
+    ensures untold { result ≡ Stop.Untold → B.gives_up ≡ true }
 {
     while let Some(step) = program.next() {
         match step.instruction {
@@ -61,11 +61,16 @@ fn walk(program: &mut PlacedProgram<'_>, pc: u64, base: &Base<'_>, row: &mut Pla
 /// Goes on from a row that is remembered, and takes it back where it is restored.
 #[cycle(walk)]
 #[inline(never)]
-fn walk_back(program: &mut PlacedProgram<'_>, pc: u64, base: &Base<'_>, row: &mut PlacedRow) -> Stop
+fn walk_back<B: Base>(
+    program: &mut PlacedProgram<'_>,
+    pc: u64,
+    base: &B,
+    row: &mut PlacedRow,
+) -> Stop
     ensures shorter { result ≡ Stop.Restored → length program.new.rest.bytes ≤ length program.old.rest.bytes }
-    ensures walks { (given : PlacedRow) → IsBase base.now given
+    ensures walks { (given : PlacedRow) → B.gives base.now given
         → Walks given pc program.old row.old result program.new row.new }
-    ensures untold { result ≡ Stop.Untold → base.now ≡ Base.Untold }
+    ensures untold { result ≡ Stop.Untold → B.gives_up ≡ true }
     ensures kept { result ≡ Stop.Restored → row.new ≡ row.old }
 {
     let kept = *row;
@@ -78,11 +83,16 @@ fn walk_back(program: &mut PlacedProgram<'_>, pc: u64, base: &Base<'_>, row: &mu
 
 /// Goes from a row on to the one after all steps of a program up to an address. False where it met
 /// a restore whose rule isn't told.
-fn go_through(mut program: PlacedProgram<'_>, pc: u64, base: &Base<'_>, row: &mut PlacedRow) -> bool
-    ensures row { result ≡ true → (given : PlacedRow) → IsBase base.now given → (steps : List PlacedStep)
+fn go_through<B: Base>(
+    mut program: PlacedProgram<'_>,
+    pc: u64,
+    base: &B,
+    row: &mut PlacedRow,
+) -> bool
+    ensures row { result ≡ true → (given : PlacedRow) → B.gives base.now given → (steps : List PlacedStep)
         → GoesOn program.entry pc 0 steps
         → row.new ≡ (rows_after given pc (beside row.old []) steps).row }
-    ensures untold { result ≡ false → base.now ≡ Base.Untold }
+    ensures untold { result ≡ false → B.gives_up ≡ true }
 {
     match walk(&mut program, pc, base, row) {
         Stop::Untold => false,
@@ -99,7 +109,7 @@ fn set_initial(fde: &Fde<'_>, row: &mut PlacedRow)
         → row.new ≡ base_row fde.now.entry.first initial }
 {
     steps_are_ordered();
-    go_through(fde.placed_initial(), fde.first(), &Base::NothingSet, row);
+    go_through(fde.placed_initial(), fde.first(), &NothingSet, row);
 }
 
 /// The row that the initial instructions leave, which restores of a program give back.
@@ -124,7 +134,7 @@ fn go_again(fde: &Fde<'_>, pc: u64, row: &mut PlacedRow)
     steps_are_ordered();
     let initial = initial_row(fde);
     *row = initial;
-    go_through(fde.placed_program(), pc, &Base::Kept(&initial), row);
+    go_through(fde.placed_program(), pc, &KeptRow { row: &initial }, row);
 }
 
 /// The rules that hold at an address of an FDE, with the places of their expressions.
@@ -139,7 +149,7 @@ fn rules_at(fde: &Fde<'_>, pc: u64) -> PlacedRow
     set_initial(fde, &mut row);
     let program = fde.placed_program();
     if fde.first() <= pc {
-        let told = go_through(program, pc, &Base::Untold, &mut row);
+        let told = go_through(program, pc, &Untold, &mut row);
         if !told {
             go_again(fde, pc, &mut row);
         }

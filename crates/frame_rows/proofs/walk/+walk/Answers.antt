@@ -6,13 +6,13 @@ use Rattle.frame_rows.proofs.Onward.{leads_on, leads_stop, leads_plain, leads_re
 use Rattle.frame_rows.proofs.walk.+walk.Goals as goal
 
 pub walk-returns-then-step-pc-clause-walks : goal.walk-returns-then-step-pc-clause-walks
-walk-returns-then-step-pc-clause-walks t c = λ base gives.
+walk-returns-then-step-pc-clause-walks g t c = λ base gives.
     let was = c.loop-step in
     leads_stop base c.args.pc c.args.program.now was.program c.next.new.self c.args.row.now was.row was.row End (was.invariant.leads base gives)
     (stops_above base c.args.pc was.program c.next.new.self was.row c.in-Some.step c.in-Some.ensures.steps c.if-step-pc.true)
 
 pub walk-loop-step-preserved-else-step-pc : goal.walk-loop-step-preserved-else-step-pc
-walk-loop-step-preserved-else-step-pc t c =
+walk-loop-step-preserved-else-step-pc g t c =
     let was = c.loop-step in record {
       shorter = omega (arith, was.invariant.shorter, c.in-Some.ensures.shrinks);
       leads = λ base gives.
@@ -21,13 +21,13 @@ walk-loop-step-preserved-else-step-pc t c =
     }
 
 pub walk-returns-in-End-clause-walks : goal.walk-returns-in-End-clause-walks
-walk-returns-in-End-clause-walks t c = λ base gives.
+walk-returns-in-End-clause-walks g t c = λ base gives.
     let was = c.loop-step in
     leads_stop base c.args.pc c.args.program.now was.program c.walk_back.new.program c.args.row.now was.row c.walk_back.new.row End (was.invariant.leads base gives)
     (stops_inside base c.args.pc was.program c.next.new.self c.walk_back.new.program was.row c.walk_back.new.row c.in-Some.step c.in-Some.ensures.steps c.in-Remember.is (c.in-End.ensures.walks base gives))
 
 pub walk-loop-step-preserved-in-Restored : goal.walk-loop-step-preserved-in-Restored
-walk-loop-step-preserved-in-Restored t c =
+walk-loop-step-preserved-in-Restored g t c =
     let was = c.loop-step in record {
       shorter = omega (arith, was.invariant.shorter, c.in-Some.ensures.shrinks, c.in-Restored.ensures.shorter refl);
       leads = λ base gives.
@@ -38,13 +38,13 @@ walk-loop-step-preserved-in-Restored t c =
     }
 
 pub walk-returns-in-RestoreState-clause-walks : goal.walk-returns-in-RestoreState-clause-walks
-walk-returns-in-RestoreState-clause-walks t c = λ base gives.
+walk-returns-in-RestoreState-clause-walks g t c = λ base gives.
     let was = c.loop-step in
     leads_stop base c.args.pc c.args.program.now was.program c.next.new.self c.args.row.now was.row was.row Restored (was.invariant.leads base gives)
     (stops_restored base c.args.pc was.program c.next.new.self was.row was.row c.in-Some.step c.in-Some.ensures.steps c.in-RestoreState.is)
 
 pub walk-loop-step-preserved-in-Some-rule : goal.walk-loop-step-preserved-in-Some-rule
-walk-loop-step-preserved-in-Some-rule t c =
+walk-loop-step-preserved-in-Some-rule g t c =
     let was = c.loop-step in record {
       shorter = omega (arith, was.invariant.shorter, c.in-Some.ensures.shrinks);
       leads = λ base gives.
@@ -53,7 +53,7 @@ walk-loop-step-preserved-in-Some-rule t c =
     }
 
 pub walk-loop-step-preserved : goal.walk-loop-step-preserved
-walk-loop-step-preserved t c =
+walk-loop-step-preserved g t c =
     let was = c.loop-step in record {
       shorter = omega (arith, was.invariant.shorter, c.in-Some.ensures.shrinks);
       leads = λ base gives.
@@ -63,7 +63,7 @@ walk-loop-step-preserved t c =
     }
 
 pub walk-returns-clause-walks : goal.walk-returns-clause-walks
-walk-returns-clause-walks t c = λ base gives.
+walk-returns-clause-walks g t c = λ base gives.
     let was = c.loop-step in
     leads_stop base c.args.pc c.args.program.now was.program c.next.new.self c.args.row.now was.row was.row End (was.invariant.leads base gives)
     (stops_after base c.args.pc was.program c.next.new.self was.row c.in_default.ensures.steps)
