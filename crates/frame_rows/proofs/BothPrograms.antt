@@ -25,7 +25,7 @@ opens p pc steps law has none reached =
 abbrev pub Leaves : PlacedProgramData → ℕ → PlacedRow → PlacedRow → PlacedRow → Type 0
 Leaves p pc base before after = (steps : List PlacedStep) → GoesOn p pc 0 steps → after ≡ (rows_after base pc (beside before []) steps).row
 
--- a walk met no rule that isn't told
+-- a walk that can't have met a rule that isn't told
 pub whole_unless : (told : Bool) → (told ≡ false → ⊥) → told ≡ true
 whole_unless true refute = refl
 whole_unless false refute = absurd (refute refl)

@@ -1,8 +1,8 @@
 //! Going through a program up to an address.
 
-ghost use Rattle.std.specs.Prelude.{◌≡◌, ℕ, ◌<◌, ◌≤◌, List, [], length, slice_get, Some, false, true};
+ghost use Rattle.std.specs.Prelude.{◌≡◌, ℕ, ◌<◌, ◌≤◌, List, [], length, slice_get, Some};
+ghost use Rattle.std.specs.Prelude.{false, true};
 ghost use Rattle.frame_parse.specs.Instructions.{PlacedStep, StepData};
-ghost use Rattle.frame_parse.specs.Steps.{left_of_program};
 ghost use Rattle.frame_rows.specs.declared.placed_row.PlacedRow.{PlacedRow};
 ghost use Rattle.frame_rows.specs.Columns.{HasInitial, HasProgram, rule_at, cfa_at};
 ghost use Rattle.frame_rows.specs.Rows.{HasPlacedInitial, HasPlacedProgram};
@@ -89,8 +89,8 @@ fn go_through<B: Base>(
     base: &B,
     row: &mut PlacedRow,
 ) -> bool
-    ensures row { result ≡ true → (given : PlacedRow) → B.gives base.now given → (steps : List PlacedStep)
-        → GoesOn program.entry pc 0 steps
+    ensures row { result ≡ true → (given : PlacedRow) → B.gives base.now given
+        → (steps : List PlacedStep) → GoesOn program.entry pc 0 steps
         → row.new ≡ (rows_after given pc (beside row.old []) steps).row }
     ensures untold { result ≡ false → B.gives_up ≡ true }
 {
@@ -123,8 +123,9 @@ pub fn initial_row(fde: &Fde<'_>) -> PlacedRow
     row
 }
 
-/// Goes through an FDE's own program where it restores a column, which is rare. It starts at the
-/// row that the initial instructions leave, and keeps that row for all restores.
+/// Goes through an FDE's own program where it restores a column, which is rare: from the row that
+/// the initial instructions leave, which is kept for all restores. To go on from the first restore
+/// would want that row among the locals of every walk.
 #[cold]
 #[inline(never)]
 fn go_again(fde: &Fde<'_>, pc: u64, row: &mut PlacedRow)
