@@ -1,5 +1,5 @@
 -- The end of a lookup at a leaf, from the load of the clock and of the leaf's version.
-use Rattle.std.proofs.Common.{◌≡◌, ◌≢◌, ℕ, zero, suc, ◌+◌, ◌*◌, ◌<◌, ◌≤◌, ◌==◌, ◌&&◌, Bool, true, false, List, [], ◌∷◌, ◌++◌, length, length-append, map, take_all, option_map, Option, Some, None, is_some, IfSome, IsSome, Contains, Ok, Err, inl, inr, refl, ap, sym, ◌∙◌, subst, arith, append-nil, nat_le, eq-eqb, ne_eqb, le-leb, if◌then◌else◌}
+use Rattle.std.proofs.Common.{◌≡◌, ◌≢◌, ℕ, ◌+◌, ◌≤◌, ◌==◌, ◌&&◌, Bool, true, false, List, [], ◌∷◌, ◌++◌, length, length-append, map, take_all, option_map, Option, Some, None, is_some, IfSome, Ok, inl, refl, ap, sym, ◌∙◌, subst, arith, append-nil, eq-eqb, ne_eqb, le-leb, if◌then◌else◌}
 use Rattle.std.specs.List.{AllByRecursion}
 use Rattle.std.proofs.lemmas.List.{length-map}
 use Rattle.std.proofs.lemmas.Option.{none-some, same_Some}
@@ -9,7 +9,6 @@ use Rattle.reg_model.specs.SpanData.{contains}
 use Rattle.reg_model.specs.History.{state_after, state_at}
 use Rattle.reg_model.specs.Query.{member_at, query}
 use Rattle.reg_model.specs.Receipt.{member_of, stamp_of}
-use Rattle.reg_model.specs.declared.answer.Again.{Again}
 use Rattle.reg_model.specs.declared.answer.Again.TheVariants.{Changed}
 use Rattle.reg_model.specs.declared.answer.Found.{Found}
 use Rattle.reg_model.specs.declared.answer.Found.TheVariants.{Hit, Miss}
@@ -18,12 +17,9 @@ use Rattle.reg_model.specs.declared.answer.Receipt.{Receipt}
 use Rattle.reg_model.specs.declared.answer.Receipt.TheVariants.{Query}
 use Rattle.reg_model.specs.declared.answer.Update.{Update}
 use Rattle.reg_model.specs.declared.span.Member.{Member}
-use Rattle.tree_shape.specs.NodeData.{NodeData, entries_of}
-use Rattle.tree_shape.specs.declared.node.Frame.{Frame}
 use Rattle.word_rule.specs.declared.log.Ask.TheVariants as ask
 use Rattle.word_rule.specs.declared.log.LoadedWord.{LoadedWord}
 use Rattle.word_rule.specs.declared.log.LockId.TheVariants as lock
-use Rattle.word_rule.specs.declared.log.Log.{Log}
 use Rattle.word_rule.specs.declared.log.NodeSight.{NodeSight}
 use Rattle.word_rule.specs.declared.log.Sights.{Sights}
 use Rattle.word_rule.specs.declared.log.Terms.{Terms}
@@ -41,7 +37,7 @@ use Rattle.btree_lookup.specs.Visits.{Agrees, IsEntry, Sees, SeesEntry, entry_me
 use Rattle.btree_lookup.specs.Ways.{AreLed}
 use Rattle.btree_lookup.specs.declared.entry.Entry.{Entry}
 use Rattle.btree_lookup.specs.declared.visit.Visit.{Visit}
-use Rattle.btree_lookup.proofs.Loading.{come_in_order, last_loaded, led_more, looked, more, still_led, version_led}
+use Rattle.btree_lookup.proofs.Loading.{come_in_order, last_loaded, led_more, more, still_led, version_led}
 use Rattle.btree_lookup.proofs.Sighting.{changed_sight}
 use Rattle.btree_lookup.proofs.Visiting.{agrees, still_found, told_again}
 

@@ -1,41 +1,26 @@
 -- The step of a lookup from a node to its child, from what its loads of versions tell.
-use Rattle.std.proofs.Common.{◌≡◌, ◌≢◌, ℕ, zero, suc, ◌+◌, ◌*◌, ◌-◌, ◌%◌, ◌<◌, ◌≤◌, ◌==◌, ◌⊎◌, Bool, true, false, cond, List, [], ◌∷◌, ◌++◌, length, length-append, map, option_map, Option, Some, None, IfSome, IfOk, IfErr, IsOk, Contains, inl, inr, refl, ap, sym, ◌∙◌, subst, arith, append-nil, nat_eq, eq-eqb, ne_eqb, not, if◌then◌else◌}
-use Rattle.std.specs.List.{AllByRecursion}
+use Rattle.std.proofs.Common.{◌≡◌, ◌≢◌, ℕ, ◌+◌, ◌%◌, ◌<◌, ◌==◌, Bool, true, false, cond, List, [], ◌∷◌, ◌++◌, length, length-append, map, option_map, Some, None, IfSome, refl, ap, sym, ◌∙◌, subst, arith, nat_eq, eq-eqb, ne_eqb, not, if◌then◌else◌}
 use Rattle.std.proofs.lemmas.Bool.{eqb-true}
-use Rattle.std.proofs.lemmas.Option.{none-some, same_Some}
-use Rattle.std.proofs.lemmas.List.{append_assoc}
 use Rattle.std.proofs.lemmas.List.Elements.{Contains-append_left}
-use mathlib.Core.List.{IsPrefix}
-use native.Mathlib.Decide.{ℕ_discrete}
-use Rattle.reg_model.specs.declared.answer.Again.{Again}
 use Rattle.reg_model.specs.declared.answer.Again.TheVariants.{Changed, Locked}
-use Rattle.reg_model.specs.declared.answer.Update.{Update}
-use Rattle.tree_shape.specs.NodeData.{NodeData}
-use Rattle.tree_shape.specs.declared.node.Frame.{Frame}
 use Rattle.word_rule.specs.declared.log.Ask.TheVariants as ask
-use Rattle.word_rule.specs.declared.log.Holding.{Holding}
-use Rattle.word_rule.specs.declared.log.LoadEvent.{LoadEvent}
 use Rattle.word_rule.specs.declared.log.LoadedWord.{LoadedWord}
-use Rattle.word_rule.specs.declared.log.LockId.TheVariants as lock
-use Rattle.word_rule.specs.declared.log.Log.{Log}
 use Rattle.word_rule.specs.declared.log.NodeSight.{NodeSight}
 use Rattle.word_rule.specs.declared.log.Sights.{Sights}
 use Rattle.word_rule.specs.declared.log.Terms.{Terms}
 use Rattle.word_rule.specs.CallerData.{CallerData}
 use Rattle.word_rule.specs.Callers.{IsAlone, IsLockedAt}
 use Rattle.word_rule.specs.Held.{held_of}
-use Rattle.word_rule.specs.Logs.{load_of, turns}
-use Rattle.word_rule.specs.NodeTells.{AloneTells, IsLiveNode, IsOfNode, SightTells}
-use Rattle.word_rule.specs.Places.{TOP, node_place}
-use Rattle.word_rule.specs.Sights.{after_node_begin, after_node_load, after_node_version, loaded_word, mark_child, or_mark, place_of, place_under, sight_begun, sight_of, sights_after_begin, sights_after_version, with_word, without_sight}
-use Rattle.word_rule.specs.VersionLocks.{LockAloneTells, VersionTells, after_version}
-use Rattle.btree_lookup.specs.Loads.{after_looks, after_try, load_events, loaded_at, loaded_of}
-use Rattle.btree_lookup.specs.Tries.{EndsAgain, TriesTree}
-use Rattle.btree_lookup.specs.Visits.{Agrees, Sees, SeesChild, SeesNone, Way}
-use Rattle.btree_lookup.specs.Ways.{AreLed, IsCause, IsLed}
+use Rattle.word_rule.specs.NodeTells.{AloneTells}
+use Rattle.word_rule.specs.Places.{node_place}
+use Rattle.word_rule.specs.Sights.{after_node_begin, after_node_version, mark_child, or_mark, place_of, place_under, sight_begun, sight_of, sights_after_begin, sights_after_version, without_sight}
+use Rattle.btree_lookup.specs.Loads.{loaded_at}
+use Rattle.btree_lookup.specs.Tries.{EndsAgain}
+use Rattle.btree_lookup.specs.Visits.{Sees, SeesChild, Way}
+use Rattle.btree_lookup.specs.Ways.{AreLed}
 use Rattle.btree_lookup.specs.declared.visit.Visit.{Visit}
-use Rattle.btree_lookup.proofs.Loading.{come_in_order, last_loaded, led_more, looked, nothing_looked, sight_loaded, sights_then, still_led, version_led, version_loaded, word_loaded}
-use Rattle.btree_lookup.proofs.Sighting.{changed_sight, joined, node_of_sight, sight_joined, word_here, word_other}
+use Rattle.btree_lookup.proofs.Loading.{come_in_order, last_loaded, led_more, looked, sight_loaded, sights_then, still_led, version_led, version_loaded}
+use Rattle.btree_lookup.proofs.Sighting.{changed_sight, node_of_sight}
 use Rattle.btree_lookup.proofs.Visiting.{fails_so, none_held, still_found}
 
 -- the sights of other nodes, where one was taken out

@@ -1,5 +1,5 @@
 -- The entries of the leaf that a lookup visits: what its loads say of them.
-use Rattle.std.proofs.Common.{◌≡◌, ◌≢◌, ℕ, zero, suc, ◌+◌, ◌*◌, ◌-◌, ◌^◌, ◌<◌, ◌≤◌, ◌==◌, ◌⊎◌, ◌&&◌, Bool, true, false, List, [], ◌∷◌, length, min, Option, Some, None, option_map, IfSome, inl, inr, refl, ap, sym, ◌∙◌, subst, arith, nat_le, nat_eq, if◌then◌else◌, lt_of_not-le, true≢false}
+use Rattle.std.proofs.Common.{◌≡◌, ℕ, zero, suc, ◌+◌, ◌*◌, ◌-◌, ◌^◌, ◌<◌, ◌≤◌, ◌==◌, ◌⊎◌, ◌&&◌, Bool, true, false, List, [], ◌∷◌, min, Option, Some, None, option_map, IfSome, inl, inr, refl, ap, sym, ◌∙◌, subst, arith, nat_le, if◌then◌else◌, lt_of_not-le, true≢false}
 use Rattle.std.proofs.lemmas.Bool.{and_parts, leb-true, le-leb, lt-leb, ltb-true}
 use Rattle.std.proofs.lemmas.Option.{none-some, same_Some}
 use native.Mathlib.Decide.{ℕ_discrete, dec_le}
@@ -8,24 +8,21 @@ use Rattle.reg_model.specs.Query.{member_at}
 use Rattle.reg_model.specs.declared.span.Member.{Member}
 use Rattle.segment_array.specs.Ascending.{AscendFrom}
 use Rattle.tree_shape.specs.NodeData.{NodeData, Body, Pairs, Entries, Link, IsInFences, entries_in, entries_of}
-use Rattle.tree_shape.specs.Lawful.{IsOrderedAs, IsFilledAs}
-use Rattle.tree_shape.specs.declared.node.Frame.{Frame}
+use Rattle.tree_shape.specs.Lawful.{IsOrderedAs}
 use Rattle.tree_shape.specs.declared.pair.Pair.{Pair}
-use Rattle.word_rule.specs.declared.log.LoadedWord.{LoadedWord}
-use Rattle.word_rule.specs.declared.log.NodeSight.{NodeSight}
 use Rattle.word_rule.specs.declared.log.Terms.{Terms}
 use Rattle.word_rule.specs.CallerData.{CallerData}
 use Rattle.word_rule.specs.NodeTells.{IsLiveNode}
 use Rattle.word_rule.specs.Places.{TOP}
-use Rattle.word_rule.specs.Sights.{after_node_load, loaded_word, place_of}
-use Rattle.word_rule.specs.Spelling.{body_of_kind, entries_at, entry_at, is_entry_at, is_short, node_word, pairs_at}
+use Rattle.word_rule.specs.Sights.{after_node_load, loaded_word}
+use Rattle.word_rule.specs.Observations.{AreOfNode}
+use Rattle.word_rule.specs.Spelling.{entries_at, entry_at, is_entry_at, is_short, node_word, pairs_at}
 use Rattle.word_rule.proofs.Spells.{reads}
-use Rattle.btree_lookup.specs.Visits.{Agrees, IsEntry, IsBeyond, Sees, SeesBases, SeesBegun, SeesEntry, Way, entry_member}
+use Rattle.btree_lookup.specs.Visits.{Agrees, AreBegun, BeginLater, IsEntry, Sees, SeesBegun, SeesLater, Way, entry_member}
 use Rattle.btree_lookup.specs.declared.entry.Begun.{Begun}
-use Rattle.btree_lookup.specs.declared.entry.Entry.{Entry}
 use Rattle.btree_lookup.specs.declared.visit.Visit.{Visit}
 use Rattle.btree_lookup.proofs.Pairs.{loaded_is}
-use Rattle.btree_lookup.proofs.Sighting.{at_most, one_more, word_here, word_other}
+use Rattle.btree_lookup.proofs.Sighting.{at_most, one_more}
 
 -- words that spell a leaf have a count that may be, and entries from word 6 on
 abbrev IsLeafRead : Bool → Option (List Member) → Body → Type 0
@@ -92,7 +89,7 @@ module _ (words : List ℕ) (pc count begun : ℕ) where
 
   -- the last one that begins at or below the address is the only one that may contain it
   picked : (d i more low : ℕ) (es : List Member) → i + d + 1 ≡ begun → i + more ≡ count → begun ≤ count → entries_at words (6 + 3 * i) more ≡ Some es → AscendFrom low es
-      → ((j : ℕ) → j < begun → node_word words (6 + 3 * j) ≤ pc) → (count ≡ begun) ⊎ (pc < node_word words (6 + 3 * begun))
+      → ((j : ℕ) → 0 < j → j < begun → node_word words (6 + 3 * j) ≤ pc) → (count ≡ begun) ⊎ (pc < node_word words (6 + 3 * begun))
       → (member_at pc es ≡ Picked (entry_at words (6 + 3 * (i + d)))) × (is_entry_at words (6 + 3 * (i + d)) ≡ true)
   picked d i zero low es e whole few read h below past = absurd (omega (arith, e, whole, few))
   picked zero i (suc more) low es e whole few read h below past =
@@ -113,7 +110,7 @@ module _ (words : List ℕ) (pc count begun : ℕ) where
       let rest_read : entries_at words (6 + 3 * (i + 1)) (suc more) ≡ Some u.rest = ap (λ p. entries_at words p (suc more)) (sym next) ∙ u.read in
       let v = entry_unrolled words (6 + 3 * (i + 1)) more u.rest rest_read in
       let second = subst (AscendFrom ((entry_at words (6 + 3 * i)).span.last + 1)) v.whole first.2 in
-      let begins = below (i + 1) (omega (arith, e)) in
+      let begins = below (i + 1) (omega arith) (omega (arith, e)) in
       let over = second.0 in
       let out = below_out (entry_at words (6 + 3 * i)) pc (omega (arith, begins, over)) in
       let later = picked d (i + 1) (suc more) ((entry_at words (6 + 3 * i)).span.last + 1) u.rest (omega (arith, e)) (omega (arith, whole)) few rest_read first.2 below past in (
@@ -169,85 +166,116 @@ module _ (t : Terms) (pc : ℕ) (k : CallerData) (visit : Visit) where
           }
 
   -- the count was loaded
-  pub leaf_count : (k1 k2 : CallerData) (count : ℕ) → Way t pc k visit k1 → k2 ≡ record k1 { log = after_node_load visit.node 5 count k1.log } → SeesBases t pc k visit count 0 0 k2
+  pub leaf_count : (k1 k2 : CallerData) (count : ℕ) → Way t pc k visit k1 → k2 ≡ record k1 { log = after_node_load visit.node 5 count k1.log } → SeesLater t pc k visit count 0 0 k2
   leaf_count k1 k2 count w is = record {
     sees = one_more t pc k visit 0 k1 k2 w.sees 5 count (λ e. omega (arith, e)) (omega arith) is;
-    counted = word_here 5 count w.sees.sight.words;
-    below = λ i l. absurd (omega (arith, l));
-    last = λ i e. absurd (omega (arith, e));
+    told = λ words all. (all.0, (λ i l. absurd (omega (arith, l))), inl refl);
   }
 
-  module _ (k1 k2 : CallerData) (count begun base next : ℕ) (w : SeesBases t pc k visit count begun base k1) (is : k2 ≡ record k1 { log = after_node_load visit.node (6 + 3 * begun) next k1.log }) (room : begun < 10) where
-    abbrev then_sees : Sees t pc k visit (1 + begun + 1) k2
-    then_sees = one_more t pc k visit (1 + begun) k1 k2 w.sees (6 + 3 * begun) next (λ e. omega (arith, e)) (omega (arith, room)) is
+  -- the base of one more entry was loaded
+  pub base_looked : (k1 k2 : CallerData) (count turns later next : ℕ) (ahead low : Bool) → SeesLater t pc k visit count turns later k1 → k2 ≡ record k1 { log = after_node_load visit.node (9 + 3 * turns) next k1.log } → turns < 9
+      → (ahead ≡ true → later ≡ turns) → (ahead ≡ false → later < turns) → nat_le next pc ≡ low → SeesLater t pc k visit count (turns + 1) (later + (if ahead && low then 1 else 0)) k2
+  base_looked k1 k2 count turns later next ahead low w is room all_so fewer same = record {
+    sees = at_most t pc k visit (1 + turns + 1) (1 + (turns + 1)) k2 (omega arith) (one_more t pc k visit (1 + turns) k1 k2 w.sees (9 + 3 * turns) next (λ e. omega (arith, e)) (omega (arith, room)) is);
+    told = λ words all. by_case words ahead low all.0 all_so fewer same (w.told words all.1);
+  }
+    where
+      by_case : (words : List ℕ) (a l : Bool) → node_word words (9 + 3 * turns) ≡ next → (a ≡ true → later ≡ turns) → (a ≡ false → later < turns) → nat_le next pc ≡ l → BeginLater pc count turns later words → BeginLater pc count (turns + 1) (later + (if a && l then 1 else 0)) words
+      by_case words true true at so few low b = (
+        b.0,
+        (λ i l. by_place i l (ℕ_discrete i later)),
+        inl (let e = so refl in omega (arith, e)),
+      )
+        where
+          by_place : (i : ℕ) → i < later + 1 → Dec (i ≡ later) → node_word words (9 + 3 * i) ≤ pc
+          by_place i l (yes e) =
+              let place : 9 + 3 * i ≡ 9 + 3 * turns = (let s = so refl in omega (arith, e, s)) in
+              let is = ap (node_word words) place in let small = leb-true next pc low in omega (arith, is, at, small)
+          by_place i l (no ne) = b.1 i (omega (arith, l, ne))
+      by_case words true false at so few low b = (
+        b.0,
+        (λ i l. b.1 i (omega (arith, l))),
+        inr (
+            let place : 9 + 3 * (later + 0) ≡ 9 + 3 * turns = (let s = so refl in omega (arith, s)) in
+            let is = ap (node_word words) place in let large = lt_of_not-le (λ le. true≢false (sym (le-leb next pc le) ∙ low)) in omega (arith, is, at, large)
+            ),
+      )
+      by_case words false low' at so few low b = (b.0, (λ i l. b.1 i (omega (arith, l))), inr (above b.2))
+        where
+          above : (later ≡ turns) ⊎ (pc < node_word words (9 + 3 * later)) → pc < node_word words (9 + 3 * (later + 0))
+          above (inl e) = absurd (let f = few refl in omega (arith, e, f))
+          above (inr h) = let same : later ≡ later + 0 = omega arith in subst (λ n. pc < node_word words (9 + 3 * n)) same h
 
-    still_counted : loaded_word 5 then_sees.sight.words ≡ Some count
-    still_counted = word_other (6 + 3 * begun) next 5 w.sees.sight.words (λ e. omega (arith, e)) ∙ w.counted
+  -- a leaf without an entry
+  pub none_there : (k1 : CallerData) (count later : ℕ) → SeesLater t pc k visit count 9 later k1 → min count 10 ≡ 0 → SeesBegun t pc k visit (record { count = 0; base = 0 }) k1
+  none_there k1 count later w none = record {
+    sees = at_most t pc k visit 10 11 k1 (omega arith) w.sees;
+    told = λ words all few. let b = w.told words all in let n = b.0 in record {
+      few = omega arith;
+      below = λ i p l. absurd (omega (arith, l));
+      last = λ i e. absurd (omega (arith, e));
+      past = inl (omega (arith, none, n));
+    };
+  }
 
-    still_below : (i : ℕ) → i < begun → (b : ℕ) × ((loaded_word (6 + 3 * i) then_sees.sight.words ≡ Some b) × (b ≤ pc))
-    still_below i l = let b = w.below i l in (b.0, (word_other (6 + 3 * begun) next (6 + 3 * i) w.sees.sight.words (λ e. omega (arith, e, l)) ∙ b.1.0, b.1.1))
+  -- the base of the last entry that begins at or below the address was loaded
+  module _ (k1 k2 : CallerData) (count later place base : ℕ) (w : SeesLater t pc k visit count 9 later k1) (some : 0 < min count 10) (picks : place ≡ min later (min count 10 - 1)) (is : k2 ≡ record k1 { log = after_node_load visit.node (6 + 3 * place) base k1.log }) where
+    abbrev with_base : Sees t pc k visit 11 k2
+    with_base = one_more t pc k visit 10 k1 k2 w.sees (6 + 3 * place) base (λ e. omega (arith, e)) (omega (arith, some, picks)) is
 
-    pub base_below : next ≤ pc → SeesBases t pc k visit count (begun + 1) next k2
-    base_below low = record {
-      sees = at_most t pc k visit (1 + begun + 1) (1 + (begun + 1)) k2 (omega arith) then_sees;
-      counted = still_counted;
-      below = λ i l. by_place i l (ℕ_discrete i begun);
-      last = λ i e. let same : i ≡ begun = omega (arith, e) in subst (λ j. loaded_word (6 + 3 * j) then_sees.sight.words ≡ Some next) (sym same) (word_here (6 + 3 * begun) next w.sees.sight.words);
+    before : (words : List ℕ) → BeginLater pc count 9 later words → (i : ℕ) → 0 < i → i ≤ place → node_word words (6 + 3 * i) ≤ pc
+    before words b i positive l =
+        let low = b.1 (i - 1) (omega (arith, positive, l, picks)) in
+        let same : 9 + 3 * (i - 1) ≡ 6 + 3 * i = omega (arith, positive) in subst (λ p. node_word words p ≤ pc) same low
+
+    pub base_low : base ≤ pc → SeesBegun t pc k visit (record { count = place + 1; base = base }) k2
+    base_low low = record {
+      sees = with_base;
+      told = λ words all few. let b = w.told words all.1 in let n = b.0 in record {
+        few = omega (arith, n, picks, some);
+        below = λ i positive l. before words b i positive (omega (arith, l));
+        last = λ i e. let same : i ≡ place = omega (arith, e) in (subst (λ j. node_word words (6 + 3 * j) ≡ base) (sym same) all.0, low);
+        past = beyond words few n b.2;
+      };
     }
       where
-        by_place : (i : ℕ) → i < begun + 1 → Dec (i ≡ begun) → (b : ℕ) × ((loaded_word (6 + 3 * i) then_sees.sight.words ≡ Some b) × (b ≤ pc))
-        by_place i l (yes e) = subst (λ j. (b : ℕ) × ((loaded_word (6 + 3 * j) then_sees.sight.words ≡ Some b) × (b ≤ pc))) (sym e) (next, (word_here (6 + 3 * begun) next w.sees.sight.words, low))
-        by_place i l (no ne) = still_below i (omega (arith, l, ne))
+        beyond : (words : List ℕ) → node_word words 5 ≤ 10 → node_word words 5 ≡ count → (later ≡ 9) ⊎ (pc < node_word words (9 + 3 * later)) → (node_word words 5 ≡ place + 1) ⊎ (pc < node_word words (6 + 3 * (place + 1)))
+        beyond words few n (inl e) = inl (omega (arith, few, n, e, picks, some))
+        beyond words few n (inr h) = by_place (dec_le count (later + 1))
+          where
+            by_place : Dec (count ≤ later + 1) → (node_word words 5 ≡ place + 1) ⊎ (pc < node_word words (6 + 3 * (place + 1)))
+            by_place (yes l) = inl (omega (arith, few, n, l, picks, some))
+            by_place (no more) = inr (let same : 9 + 3 * later ≡ 6 + 3 * (place + 1) = omega (arith, few, n, more, picks, some) in subst (λ p. pc < node_word words p) same h)
 
-    pub base_above : pc < next → begun ≤ count → SeesBegun t pc k visit (record { count = begun; base = base }) k2
-    base_above high few = record {
-      sees = at_most t pc k visit (1 + begun + 1) 11 k2 (omega (arith, room)) then_sees;
-      count = count;
-      counted = still_counted;
-      few = few;
-      below = still_below;
-      last = λ i e. word_other (6 + 3 * begun) next (6 + 3 * i) w.sees.sight.words (λ s. omega (arith, s, e)) ∙ w.last i e;
-      past = λ _. inr (next, (word_here (6 + 3 * begun) next w.sees.sight.words, high));
+    -- one that begins above it is the first: a later one was found at or below it before
+    pub base_high : pc < base → SeesBegun t pc k visit (record { count = 0; base = 0 }) k2
+    base_high high = record {
+      sees = with_base;
+      told = λ words all few. record {
+        few = omega arith;
+        below = λ i positive l. absurd (omega (arith, l));
+        last = λ i e. absurd (omega (arith, e));
+        past = inr (first words all.0 (w.told words all.1) (ℕ_discrete place 0));
+      };
     }
-
-  -- all that the count allows begin at or below the address
-  pub bases_end : (k1 : CallerData) (count begun base : ℕ) → SeesBases t pc k visit count begun base k1 → begun ≡ min count 10 → SeesBegun t pc k visit (record { count = begun; base = base }) k1
-  bases_end k1 count begun base w end = record {
-    sees = at_most t pc k visit (1 + begun) 11 k1 (omega (arith, end)) w.sees;
-    count = count;
-    counted = w.counted;
-    few = omega (arith, end);
-    below = w.below;
-    last = w.last;
-    past = λ small. inl (omega (arith, end, small));
-  }
+      where
+        first : (words : List ℕ) → node_word words (6 + 3 * place) ≡ base → BeginLater pc count 9 later words → Dec (place ≡ 0) → pc < node_word words (6 + 3 * 0)
+        first words at b (yes e) = let same : 6 + 3 * place ≡ 6 = omega (arith, e) in let is = ap (node_word words) same in omega (arith, is, at, high)
+        first words at b (no ne) = absurd (let low = before words b place (omega (arith, ne)) (omega arith) in omega (arith, low, at, high))
 
   -- what the search says of a leaf that has the words
   module _ (begun : Begun) (k1 : CallerData) (w : SeesBegun t pc k visit begun k1) (bottom : visit.level ≡ 0) (used : ℕ) (k2 : CallerData) (s : Sees t pc k visit used k2)
-      (kept : (at value : ℕ) → loaded_word at w.sees.sight.words ≡ Some value → (at ≡ 5) ⊎ ((i : ℕ) × (at ≡ 6 + 3 * i)) → loaded_word at s.sight.words ≡ Some value) (shape : NodeData) (a : Agrees t s.sight shape) where
+      (kept : (words : List ℕ) → AreOfNode words s.sight.words → AreOfNode words w.sees.sight.words) (shape : NodeData) (a : Agrees t s.sight shape) where
     leaf : LeafNode t pc a.words shape
     leaf = leaf_node used k2 s bottom shape a
 
-    number : node_word a.words 5 ≡ w.count
-    number = loaded_is a.words s.sight.words 5 w.count a.loaded_so (kept 5 w.count w.counted (inl refl))
-
-    bases : (j : ℕ) → j < begun.count → node_word a.words (6 + 3 * j) ≤ pc
-    bases j l = let b = w.below j l in let is = loaded_is a.words s.sight.words (6 + 3 * j) b.0 a.loaded_so (kept (6 + 3 * j) b.0 b.1.0 (inr (j, refl))) in let small = b.1.1 in omega (arith, is, small)
-
-    beyond : (node_word a.words 5 ≡ begun.count) ⊎ (pc < node_word a.words (6 + 3 * begun.count))
-    beyond = go (w.past (let n = number in let f = leaf.few in omega (arith, n, f)))
-      where
-        go : IsBeyond pc w.count begun.count w.sees.sight.words → (node_word a.words 5 ≡ begun.count) ⊎ (pc < node_word a.words (6 + 3 * begun.count))
-        go (inl e) = inl (number ∙ e)
-        go (inr b) = inr (let is = loaded_is a.words s.sight.words (6 + 3 * begun.count) b.0 a.loaded_so (kept (6 + 3 * begun.count) b.0 b.1.0 (inr (begun.count, refl))) in let h = b.1.1 in omega (arith, is, h))
-
-    allowed : begun.count ≤ node_word a.words 5
-    allowed = let n = number in let f = w.few in omega (arith, n, f)
+    begins : AreBegun pc begun a.words
+    begins = w.told a.words (kept a.words a.loaded_so) leaf.few
 
     pub none_begun : begun.count ≡ 0 → (member_at pc (entries_of shape) ≡ None) × (shape.level ≡ 0) × IsInFences pc shape
     none_begun e =
         let start : 6 ≡ 6 + 3 * begun.count = omega (arith, e) in (
-          ap (member_at pc) leaf.is ∙ none_left a.words pc (node_word a.words 5) begun.count (node_word a.words 5) shape.low leaf.entries (omega (arith, e)) (ap (λ p. entries_at a.words p (node_word a.words 5)) (sym start) ∙ leaf.read) leaf.ascend beyond,
+          ap (member_at pc) leaf.is ∙ none_left a.words pc (node_word a.words 5) begun.count (node_word a.words 5) shape.low leaf.entries (omega (arith, e)) (ap (λ p. entries_at a.words p (node_word a.words 5)) (sym start) ∙ leaf.read) leaf.ascend begins.past,
           leaf.level,
           leaf.inside,
         )
@@ -258,16 +286,11 @@ module _ (t : Terms) (pc : ℕ) (k : CallerData) (visit : Visit) where
 
       found : (member_at pc (entries_of shape) ≡ (if contains (entry_at a.words place).span pc then Some (entry_at a.words place) else None)) × (is_entry_at a.words place ≡ true)
       found =
-          let p = picked a.words pc (node_word a.words 5) begun.count (begun.count - 1) 0 (node_word a.words 5) shape.low leaf.entries (omega (arith, some)) (omega arith) allowed leaf.read leaf.ascend bases beyond in
+          let p = picked a.words pc (node_word a.words 5) begun.count (begun.count - 1) 0 (node_word a.words 5) shape.low leaf.entries (omega (arith, some)) (omega arith) begins.few leaf.read leaf.ascend begins.below begins.past in
           (ap (member_at pc) leaf.is ∙ p.0, p.1)
 
-      base_is : node_word a.words place ≡ begun.base
-      base_is =
-          let at : place ≡ 6 + 3 * (begun.count - 1) = omega arith in
-          ap (node_word a.words) at ∙ loaded_is a.words s.sight.words (6 + 3 * (begun.count - 1)) begun.base a.loaded_so (kept (6 + 3 * (begun.count - 1)) begun.base (w.last (begun.count - 1) (omega (arith, some))) (inr (begun.count - 1, refl)))
-
-      base_low : begun.base ≤ pc
-      base_low = let b = bases (begun.count - 1) (omega (arith, some)) in let is = base_is in let at : place ≡ 6 + 3 * (begun.count - 1) = omega arith in let same = ap (node_word a.words) at in omega (arith, b, is, same)
+      last : (node_word a.words place ≡ begun.base) × (begun.base ≤ pc)
+      last = begins.last (0 + (begun.count - 1)) (omega (arith, some))
 
       module _ (size : ℕ) (sized : loaded_word (7 + 3 * (begun.count - 1)) s.sight.words ≡ Some size) where
         size_is : node_word a.words (place + 1) ≡ size
@@ -276,7 +299,7 @@ module _ (t : Terms) (pc : ℕ) (k : CallerData) (visit : Visit) where
         pub too_short : size ≤ pc - begun.base → (member_at pc (entries_of shape) ≡ None) × (shape.level ≡ 0) × IsInFences pc shape
         too_short short =
             let parts = entry_parts a.words place found.1 in
-            let z = parts.0 in let b = base_is in let y = size_is in let low = base_low in
+            let z = parts.0 in let b = last.0 in let y = size_is in let low = last.1 in
             let out = below_out (entry_at a.words place) pc (omega (arith, z, b, y, low, short)) in
             (found.0 ∙ ap (λ c. if c then Some (entry_at a.words place) else None) out, leaf.level, leaf.inside)
 
@@ -286,7 +309,7 @@ module _ (t : Terms) (pc : ℕ) (k : CallerData) (visit : Visit) where
             let parts = entry_parts a.words place found.1 in
             let at : place + 2 ≡ 8 + 3 * (begun.count - 1) = omega arith in
             let payload_is : node_word a.words (place + 2) ≡ payload = ap (node_word a.words) at ∙ loaded_is a.words s.sight.words (8 + 3 * (begun.count - 1)) payload a.loaded_so paid in
-            let z = parts.0 in let top = parts.1 in let p = parts.2 in let b = base_is in let y = size_is in let low = base_low in
+            let z = parts.0 in let top = parts.1 in let p = parts.2 in let b = last.0 in let y = size_is in let low = last.1 in
             let first : nat_le (node_word a.words place) pc ≡ true = le-leb (node_word a.words place) pc (omega (arith, b, low)) in
             let last : nat_le pc (node_word a.words place + node_word a.words (place + 1) - 1) ≡ true = le-leb pc (node_word a.words place + node_word a.words (place + 1) - 1) (omega (arith, z, b, y, low, long)) in
             let inside : contains (entry_at a.words place).span pc ≡ true = (λ i. first i && last i) in

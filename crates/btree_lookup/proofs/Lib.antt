@@ -1,5 +1,6 @@
 pub mod Loading
 pub mod Sighting
+pub mod Turns
 pub mod Pairs
 pub mod Leaves
 pub mod Visiting

@@ -1,9 +1,8 @@
 -- What each load makes of the log of a caller that only loads.
-use Rattle.std.proofs.Common.{◌≡◌, ◌≢◌, ℕ, zero, suc, ◌+◌, ◌*◌, ◌≤◌, Bool, true, false, List, [], ◌∷◌, ◌++◌, map, Option, Some, None, is_some, Contains, inl, inr, ◌⊎◌, refl, ap, sym, ◌∙◌, subst, arith, append-nil, if◌then◌else◌, ◌==◌}
+use Rattle.std.proofs.Common.{◌≡◌, ℕ, zero, suc, ◌+◌, ◌*◌, Bool, true, false, List, [], ◌∷◌, ◌++◌, map, Option, Some, None, is_some, Contains, inl, inr, refl, ap, sym, ◌∙◌, subst, arith, append-nil, if◌then◌else◌, ◌==◌}
 use Rattle.std.proofs.lemmas.List.{append_assoc, map-append}
 use Rattle.std.proofs.lemmas.List.Elements.{Contains-append_left, Contains-append_right}
 use Rattle.word_rule.specs.declared.log.Ask.TheVariants as ask
-use Rattle.word_rule.specs.declared.log.LoadEvent.{LoadEvent}
 use Rattle.word_rule.specs.declared.log.LoadedWord.{LoadedWord}
 use Rattle.word_rule.specs.declared.log.Log.{Log}
 use Rattle.word_rule.specs.declared.log.NodeSight.{NodeSight}

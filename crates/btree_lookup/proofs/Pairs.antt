@@ -1,13 +1,13 @@
 -- The pairs of the inner node that a lookup visits: what its loads say of them.
-use Rattle.std.proofs.Common.{◌≡◌, ◌≢◌, ℕ, zero, suc, ◌+◌, ◌*◌, ◌-◌, ◌<◌, ◌≤◌, ◌==◌, ◌⊎◌, Bool, true, false, List, [], ◌∷◌, ◌++◌, length, Option, Some, None, option_map, IfSome, Contains, inl, inr, refl, ap, sym, ◌∙◌, subst, arith, nat_lt, nat_le, nat_eq, eq-eqb, ne_eqb, if◌then◌else◌, lt-ltb, le-leb}
+use Rattle.std.proofs.Common.{◌≡◌, ◌≢◌, ℕ, zero, suc, ◌+◌, ◌*◌, ◌-◌, ◌<◌, ◌≤◌, ◌⊎◌, Bool, true, false, List, [], ◌∷◌, length, Option, Some, None, option_map, IfSome, Contains, inl, inr, refl, ap, sym, ◌∙◌, subst, arith, nat_lt, nat_eq, eq-eqb, if◌then◌else◌, lt-ltb, le-leb, ◌&&◌, true≢false}
 use Rattle.std.specs.List.{AllByRecursion}
-use Rattle.std.proofs.lemmas.Bool.{eqb-true}
+use Rattle.std.proofs.lemmas.Bool.{eqb-true, ltb-true}
 use Rattle.std.proofs.lemmas.Option.{none-some, same_Some}
 use Rattle.std.proofs.lemmas.List.Elements.{Contains-append_left}
 use native.Mathlib.Decide.{ℕ_discrete}
-use Rattle.tree_shape.specs.NodeData.{NodeData, Body, Pairs, Entries, Link, Cut, frame_of, pairs_in}
+use Rattle.tree_shape.specs.NodeData.{NodeData, Body, Pairs, Entries, Link, Cut, pairs_in}
 use Rattle.tree_shape.specs.Lawful.{IsOrderedAs, IsFilledAs}
-use Rattle.tree_shape.specs.Trees.{Branch, branches, branches_from}
+use Rattle.tree_shape.specs.Trees.{Branch, branches_from}
 use Rattle.tree_shape.specs.declared.node.Frame.{Frame}
 use Rattle.tree_shape.specs.declared.pair.Pair.{Pair}
 use Rattle.word_rule.specs.declared.log.LoadedWord.{LoadedWord}
@@ -20,7 +20,7 @@ use Rattle.word_rule.specs.Sights.{after_node_load, is_loaded_as, loaded_word, l
 use Rattle.word_rule.specs.Spelling.{is_short, node_word, pair_at, pairs_at}
 use Rattle.word_rule.proofs.Spells.{reads_pairs}
 use Rattle.btree_lookup.specs.Loads.{loaded_of}
-use Rattle.btree_lookup.specs.Visits.{Agrees, HoldsAddress, Sees, SeesBelow, SeesChild, SeesNone, Way}
+use Rattle.btree_lookup.specs.Visits.{Agrees, Sees, SeesBelow, SeesChild, SeesNone, Way}
 use Rattle.btree_lookup.specs.declared.visit.Visit.{Visit}
 use Rattle.btree_lookup.proofs.Loading.{last_loaded}
 use Rattle.btree_lookup.proofs.Sighting.{at_most, one_more, word_here, word_other, node_of_sight}
@@ -103,70 +103,124 @@ branch_there P words level i (suc d) (suc more) low ps e less all =
 
 module _ (t : Terms) (pc : ℕ) (k : CallerData) (visit : Visit) where
   -- the count was loaded
-  pub count_loaded : (k1 k2 : CallerData) (count : ℕ) → Way t pc k visit k1 → k2 ≡ record k1 { log = after_node_load visit.node 5 count k1.log } → SeesBelow t pc k visit count 0 k2
+  pub count_loaded : (k1 k2 : CallerData) (count : ℕ) → Way t pc k visit k1 → k2 ≡ record k1 { log = after_node_load visit.node 5 count k1.log } → SeesBelow t pc k visit count 0 0 k2
   count_loaded k1 k2 count w is = record {
     sees = one_more t pc k visit 0 k1 k2 w.sees 5 count (λ e. omega (arith, e)) (omega arith) is;
     counted = word_here 5 count w.sees.sight.words;
     below = λ i l. absurd (omega (arith, l));
+    next = inl refl;
     fresh = λ i. word_other 5 count (6 + 2 * i) w.sees.sight.words (λ e. omega (arith, e)) ∙ w.fresh i;
   }
 
-  module _ (k1 k2 : CallerData) (count slot separator : ℕ) (w : SeesBelow t pc k visit count slot k1) (is : k2 ≡ record k1 { log = after_node_load visit.node (7 + 2 * slot) separator k1.log }) (room : slot < 15) where
-    abbrev then_sees : Sees t pc k visit (1 + slot + 1) k2
-    then_sees = one_more t pc k visit (1 + slot) k1 k2 w.sees (7 + 2 * slot) separator (λ e. omega (arith, e)) (omega (arith, room)) is
+  -- the separator of one more slot was loaded
+  module _ (k1 k2 : CallerData) (count turns slot separator : ℕ) (w : SeesBelow t pc k visit count turns slot k1) (is : k2 ≡ record k1 { log = after_node_load visit.node (7 + 2 * turns) separator k1.log }) (room : turns < 15) (few : slot ≤ turns) where
+    abbrev then_sees : Sees t pc k visit (1 + turns + 1) k2
+    then_sees = one_more t pc k visit (1 + turns) k1 k2 w.sees (7 + 2 * turns) separator (λ e. omega (arith, e)) (omega (arith, room)) is
 
-    -- a separator below the address
-    pub separator_below : separator < pc → SeesBelow t pc k visit count (slot + 1) k2
-    separator_below low = record {
-      sees = at_most t pc k visit (1 + slot + 1) (1 + (slot + 1)) k2 (omega arith) then_sees;
-      counted = word_other (7 + 2 * slot) separator 5 w.sees.sight.words (λ e. omega (arith, e)) ∙ w.counted;
-      below = λ i l. at (ℕ_discrete i slot) i l;
-      fresh = λ i. word_other (7 + 2 * slot) separator (6 + 2 * i) w.sees.sight.words (λ e. omega (arith, e)) ∙ w.fresh i;
+    abbrev IsBelow : ℕ → Type 0
+    IsBelow j = (s : ℕ) × ((loaded_word (7 + 2 * j) then_sees.sight.words ≡ Some s) × Contains then_sees.loaded (loaded_of visit.node (7 + 2 * j) s) × (s < pc))
+
+    abbrev IsAtLeast : ℕ → Type 0
+    IsAtLeast j = (s : ℕ) × ((loaded_word (7 + 2 * j) then_sees.sight.words ≡ Some s) × Contains then_sees.loaded (loaded_of visit.node (7 + 2 * j) s) × (pc ≤ s))
+
+    there : loaded_word (7 + 2 * turns) then_sees.sight.words ≡ Some separator
+    there = word_here (7 + 2 * turns) separator w.sees.sight.words
+
+    stays : (j s : ℕ) → j ≢ turns → loaded_word (7 + 2 * j) w.sees.sight.words ≡ Some s → loaded_word (7 + 2 * j) then_sees.sight.words ≡ Some s
+    stays j s ne e = word_other (7 + 2 * turns) separator (7 + 2 * j) w.sees.sight.words (λ same. ne (omega (arith, same))) ∙ e
+
+    kept_load : (j s : ℕ) → Contains w.sees.loaded (loaded_of visit.node (7 + 2 * j) s) → Contains then_sees.loaded (loaded_of visit.node (7 + 2 * j) s)
+    kept_load j s h = Contains-append_left w.sees.loaded (loaded_of visit.node (7 + 2 * turns) separator ∷ []) (loaded_of visit.node (7 + 2 * j) s) h
+
+    last : Contains then_sees.loaded (loaded_of visit.node (7 + 2 * turns) separator)
+    last = last_loaded w.sees.loaded (loaded_of visit.node (7 + 2 * turns) separator)
+
+    still_below : (j : ℕ) → j < slot → IsBelow j
+    still_below j l = let b = w.below j l in (b.0, (stays j b.0 (λ e. omega (arith, e, l, few)) b.1.0, kept_load j b.0 b.1.1, b.1.2))
+
+    abbrev seen : (n : ℕ) → ((j : ℕ) → j < n → IsBelow j) → (n ≡ turns + 1) ⊎ IsAtLeast n → SeesBelow t pc k visit count (turns + 1) n k2
+    seen n below next = record {
+      sees = at_most t pc k visit (1 + turns + 1) (1 + (turns + 1)) k2 (omega arith) then_sees;
+      counted = word_other (7 + 2 * turns) separator 5 w.sees.sight.words (λ e. omega (arith, e)) ∙ w.counted;
+      below = below;
+      next = next;
+      fresh = λ i. word_other (7 + 2 * turns) separator (6 + 2 * i) w.sees.sight.words (λ e. omega (arith, e)) ∙ w.fresh i;
     }
-      where
-        at : {i : ℕ} → Dec (i ≡ slot) → (j : ℕ) → j < slot + 1 → (s : ℕ) × ((loaded_word (7 + 2 * j) then_sees.sight.words ≡ Some s) × Contains then_sees.loaded (loaded_of visit.node (7 + 2 * j) s) × (s < pc))
-        at d j l = by_place (ℕ_discrete j slot)
-          where
-            by_place : Dec (j ≡ slot) → (s : ℕ) × ((loaded_word (7 + 2 * j) then_sees.sight.words ≡ Some s) × Contains then_sees.loaded (loaded_of visit.node (7 + 2 * j) s) × (s < pc))
-            by_place (yes e) = subst (λ i. (s : ℕ) × ((loaded_word (7 + 2 * i) then_sees.sight.words ≡ Some s) × Contains then_sees.loaded (loaded_of visit.node (7 + 2 * i) s) × (s < pc))) (sym e)
-                (separator, (word_here (7 + 2 * slot) separator w.sees.sight.words, last_loaded w.sees.loaded (loaded_of visit.node (7 + 2 * slot) separator), low))
-            by_place (no ne) =
-                let b = w.below j (omega (arith, l, ne)) in
-                (b.0, (word_other (7 + 2 * slot) separator (7 + 2 * j) w.sees.sight.words (λ e. ne (omega (arith, e))) ∙ b.1.0, Contains-append_left w.sees.loaded (loaded_of visit.node (7 + 2 * slot) separator ∷ []) (loaded_of visit.node (7 + 2 * j) b.0) b.1.1, b.1.2))
 
-    -- the child of the first separator that isn't
-    module _ (k3 : CallerData) (child : ℕ) (at_least : pc ≤ separator) (slots : slot < count) (few : count ≤ 15) (above : 0 < visit.level) (loads : k3 ≡ record k2 { log = after_node_load visit.node (6 + 2 * slot) child k2.log }) where
-      abbrev with_child : Sees t pc k visit (1 + slot + 1 + 1) k3
-      with_child = one_more t pc k visit (1 + slot + 1) k2 k3 then_sees (6 + 2 * slot) child (λ e. omega (arith, e)) (omega (arith, room)) loads
+    -- what so many slots say: whether all before were below the address, and whether this one is
+    pub separator_looked : (ahead low : Bool) → (ahead ≡ true → slot ≡ turns) → (ahead ≡ false → slot < turns) → nat_lt separator pc ≡ low → SeesBelow t pc k visit count (turns + 1) (slot + (if ahead && low then 1 else 0)) k2
+    separator_looked true true all_so fewer is_low = seen (slot + 1) (λ j l. by_place j l (ℕ_discrete j turns)) (inl (let e = all_so refl in omega (arith, e)))
+      where
+        by_place : (j : ℕ) → j < slot + 1 → Dec (j ≡ turns) → IsBelow j
+        by_place j l (yes e) = subst IsBelow (sym e) (separator, (there, last, ltb-true separator pc is_low))
+        by_place j l (no ne) = still_below j (let s = all_so refl in omega (arith, l, ne, s))
+    separator_looked true false all_so fewer is_high = seen (slot + 0) (λ j l. still_below j (omega (arith, l))) (inr (subst IsAtLeast same (separator, (there, last, large))))
+      where
+        same : turns ≡ slot + 0
+        same = let e = all_so refl in omega (arith, e)
+
+        large : pc ≤ separator
+        large = let refute : separator < pc → ⊥ = (λ l. true≢false (sym (lt-ltb separator pc l) ∙ is_high)) in omega (arith, refute)
+    separator_looked false low all_so fewer whichever = seen (slot + 0) (λ j l. still_below j (omega (arith, l))) (inr (subst IsAtLeast same (at_least w.next)))
+      where
+        same : slot ≡ slot + 0
+        same = omega arith
+
+        at_least : (slot ≡ turns) ⊎ ((s : ℕ) × ((loaded_word (7 + 2 * slot) w.sees.sight.words ≡ Some s) × Contains w.sees.loaded (loaded_of visit.node (7 + 2 * slot) s) × (pc ≤ s))) → IsAtLeast slot
+        at_least (inl e) = absurd (let f = fewer refl in omega (arith, e, f))
+        at_least (inr h) = (h.0, (stays slot h.0 (λ e. let f = fewer refl in omega (arith, e, f)) h.1.0, kept_load slot h.0 h.1.1, h.1.2))
+
+  -- a slot before these is one of all
+  pub of_all : (k1 : CallerData) (count turns slot : ℕ) → SeesBelow t pc k visit count turns slot k1 → slot < turns → turns ≤ 15 → SeesBelow t pc k visit count 15 slot k1
+  of_all k1 count turns slot w less most = record {
+    sees = at_most t pc k visit (1 + turns) (1 + 15) k1 (omega (arith, most)) w.sees;
+    counted = w.counted;
+    below = w.below;
+    next = inr (one_of_two (λ e. omega (arith, e, less)) w.next);
+    fresh = w.fresh;
+  }
+    where
+      one_of_two : {A B : Type 0} → (A → ⊥) → A ⊎ B → B
+      one_of_two refute (inl a) = absurd (refute a)
+      one_of_two refute (inr b) = b
+
+  -- the child of the first separator that is at least the address
+  module _ (k2 : CallerData) (count slot : ℕ) (w : SeesBelow t pc k visit count 15 slot k2) where
+    module _ (k3 : CallerData) (child : ℕ) (slots : slot < count) (few : count ≤ 15) (above : 0 < visit.level) (loads : k3 ≡ record k2 { log = after_node_load visit.node (6 + 2 * slot) child k2.log }) where
+      at_slot : (separator : ℕ) × ((loaded_word (7 + 2 * slot) w.sees.sight.words ≡ Some separator) × Contains w.sees.loaded (loaded_of visit.node (7 + 2 * slot) separator) × (pc ≤ separator))
+      at_slot = go w.next
+        where
+          go : (slot ≡ 15) ⊎ ((s : ℕ) × ((loaded_word (7 + 2 * slot) w.sees.sight.words ≡ Some s) × Contains w.sees.loaded (loaded_of visit.node (7 + 2 * slot) s) × (pc ≤ s))) → (s : ℕ) × ((loaded_word (7 + 2 * slot) w.sees.sight.words ≡ Some s) × Contains w.sees.loaded (loaded_of visit.node (7 + 2 * slot) s) × (pc ≤ s))
+          go (inl e) = absurd (omega (arith, e, slots, few))
+          go (inr h) = h
+
+      abbrev separator : ℕ
+      separator = at_slot.0
 
       abbrev all : Sees t pc k visit 17 k3
-      all = at_most t pc k visit (1 + slot + 1 + 1) 17 k3 (omega (arith, room)) with_child
+      all = one_more t pc k visit 16 k2 k3 w.sees (6 + 2 * slot) child (λ e. omega (arith, e)) (omega (arith, slots, few)) loads
 
       abbrev words : List LoadedWord
-      words = with_child.sight.words
+      words = all.sight.words
 
       child_there : loaded_word (6 + 2 * slot) words ≡ Some child
-      child_there = word_here (6 + 2 * slot) child then_sees.sight.words
+      child_there = word_here (6 + 2 * slot) child w.sees.sight.words
 
       separator_there : loaded_word (7 + 2 * slot) words ≡ Some separator
-      separator_there = word_other (6 + 2 * slot) child (7 + 2 * slot) then_sees.sight.words (λ e. omega (arith, e)) ∙ word_here (7 + 2 * slot) separator w.sees.sight.words
+      separator_there = word_other (6 + 2 * slot) child (7 + 2 * slot) w.sees.sight.words (λ e. omega (arith, e)) ∙ at_slot.1.0
 
       count_there : loaded_word 5 words ≡ Some count
-      count_there = word_other (6 + 2 * slot) child 5 then_sees.sight.words (λ e. omega (arith, e)) ∙ (word_other (7 + 2 * slot) separator 5 w.sees.sight.words (λ e. omega (arith, e)) ∙ w.counted)
+      count_there = word_other (6 + 2 * slot) child 5 w.sees.sight.words (λ e. omega (arith, e)) ∙ w.counted
 
       no_other : (i : ℕ) → i ≢ slot → loaded_word (6 + 2 * i) words ≡ None
-      no_other i ne = word_other (6 + 2 * slot) child (6 + 2 * i) then_sees.sight.words (λ e. ne (omega (arith, e))) ∙ (word_other (7 + 2 * slot) separator (6 + 2 * i) w.sees.sight.words (λ e. omega (arith, e)) ∙ w.fresh i)
+      no_other i ne = word_other (6 + 2 * slot) child (6 + 2 * i) w.sees.sight.words (λ e. ne (omega (arith, e))) ∙ w.fresh i
 
-      below_there : (i : ℕ) → i < slot → (s : ℕ) × ((loaded_word (7 + 2 * i) words ≡ Some s) × Contains with_child.loaded (loaded_of visit.node (7 + 2 * i) s) × (s < pc))
+      among : (at value : ℕ) → Contains w.sees.loaded (loaded_of visit.node at value) → Contains all.loaded (loaded_of visit.node at value)
+      among at value h = Contains-append_left w.sees.loaded (loaded_of visit.node (6 + 2 * slot) child ∷ []) (loaded_of visit.node at value) h
+
+      below_there : (i : ℕ) → i < slot → (s : ℕ) × ((loaded_word (7 + 2 * i) words ≡ Some s) × Contains all.loaded (loaded_of visit.node (7 + 2 * i) s) × (s < pc))
       below_there i l =
-          let b = w.below i l in (
-            b.0,
-            (
-              word_other (6 + 2 * slot) child (7 + 2 * i) then_sees.sight.words (λ e. omega (arith, e)) ∙ (word_other (7 + 2 * slot) separator (7 + 2 * i) w.sees.sight.words (λ e. omega (arith, e, l)) ∙ b.1.0),
-              Contains-append_left then_sees.loaded (loaded_of visit.node (6 + 2 * slot) child ∷ []) (loaded_of visit.node (7 + 2 * i) b.0) (Contains-append_left w.sees.loaded (loaded_of visit.node (7 + 2 * slot) separator ∷ []) (loaded_of visit.node (7 + 2 * i) b.0) b.1.1),
-              b.1.2,
-            ),
-          )
+          let b = w.below i l in (b.0, (word_other (6 + 2 * slot) child (7 + 2 * i) w.sees.sight.words (λ e. omega (arith, e)) ∙ b.1.0, among (7 + 2 * i) b.0 b.1.1, b.1.2))
 
       -- the place that the pair gives
       named_at : (d i more : ℕ) → i + d ≡ slot → d < more → named_place child w.sees.place words i more ≡ place_between w.sees.place (low_of w.sees.place slot words) (loaded_word (7 + 2 * slot) words)
@@ -189,9 +243,9 @@ module _ (t : Terms) (pc : ℕ) (k : CallerData) (visit : Visit) where
       abbrev next : Frame
       next = record { level = w.sees.place.level - 1; low = low.0; high = separator }
 
-      gives : place_under child with_child.sight (place_of with_child.sight) ≡ Some next
+      gives : place_under child all.sight (place_of all.sight) ≡ Some next
       gives =
-          ap (place_under child with_child.sight) with_child.placed
+          ap (place_under child all.sight) all.placed
           ∙ (ap (λ b. if b then named_place child w.sees.place words 0 (pairs_in_sight (loaded_word 5 words)) else None) (lt-ltb 0 w.sees.place.level (let l = w.sees.level in omega (arith, l, above)))
           ∙ (ap (λ o. named_place child w.sees.place words 0 (pairs_in_sight o)) count_there
           ∙ (ap (λ b. named_place child w.sees.place words 0 (if b then count else 0)) (le-leb count 15 few)
@@ -207,15 +261,15 @@ module _ (t : Terms) (pc : ℕ) (k : CallerData) (visit : Visit) where
           visit.node,
           slot,
           record {
-            named = last_loaded then_sees.loaded (loaded_of visit.node (6 + 2 * slot) child);
-            separator = (separator, (Contains-append_left then_sees.loaded (loaded_of visit.node (6 + 2 * slot) child ∷ []) (loaded_of visit.node (7 + 2 * slot) separator) (last_loaded w.sees.loaded (loaded_of visit.node (7 + 2 * slot) separator)), at_least));
+            named = last_loaded w.sees.loaded (loaded_of visit.node (6 + 2 * slot) child);
+            separator = (separator, (among (7 + 2 * slot) separator at_slot.1.1, at_slot.1.2));
             before = λ i l. let b = below_there i l in (b.0, (b.1.1, b.1.2));
           },
         );
         next = next;
         placed = gives;
         level = (let l = w.sees.level in omega (arith, l, above));
-        inside = (low.1.1, at_least);
+        inside = (low.1.1, at_slot.1.2);
       }
 
       -- no node has such a child
@@ -228,8 +282,8 @@ module _ (t : Terms) (pc : ℕ) (k : CallerData) (visit : Visit) where
               let number : node_word a.words 5 ≡ count = loaded_is a.words words 5 count a.loaded_so count_there in
               let kids = subst (λ b. AllByRecursion (λ x. (x.child < t.nodes) × (x.child ≢ 0) × (inner.live.places x.child ≡ x.frame)) (branches_from (shape.level - 1) shape.low (pairs_in b))) inner.is inner.live.children in
               let b = branch_there (λ x. (x.child < t.nodes) × (x.child ≢ 0) × (inner.live.places x.child ≡ x.frame)) a.words (shape.level - 1) 0 slot (node_word a.words 5) shape.low inner.pairs inner.read (omega (arith, number, slots)) kids in
-              let at_slot : 6 + 2 * (0 + slot) ≡ 6 + 2 * slot = omega arith in
-              let is_child : b.0.child ≡ child = b.1.1 ∙ (ap (node_word a.words) at_slot ∙ loaded_is a.words words (6 + 2 * slot) child a.loaded_so child_there) in
+              let here : 6 + 2 * (0 + slot) ≡ 6 + 2 * slot = omega arith in
+              let is_child : b.0.child ≡ child = b.1.1 ∙ (ap (node_word a.words) here ∙ loaded_is a.words words (6 + 2 * slot) child a.loaded_so child_there) in
               by_wrong wrong b.0.child inner.live.places b.1.0.0 b.1.0.1 is_child (ap (λ (f : Frame). f.level) b.1.0.2 ∙ b.1.2) (ap (λ (f : Frame). f.level) inner.live.own) shape.level inner.level
             where
               same_node : all.sight.node ≡ visit.node
@@ -242,7 +296,7 @@ module _ (t : Terms) (pc : ℕ) (k : CallerData) (visit : Visit) where
               by_wrong (inr (inr large)) x places inside not_root e one self level positive = omega (arith, inside, e, large)
 
   -- no node has so many pairs
-  pub count_wrong : (k1 : CallerData) (count : ℕ) → SeesBelow t pc k visit count 0 k1 → 15 < count → 0 < visit.level → SeesNone t pc k visit k1
+  pub count_wrong : (k1 : CallerData) (count : ℕ) → SeesBelow t pc k visit count 0 0 k1 → 15 < count → 0 < visit.level → SeesNone t pc k visit k1
   count_wrong k1 count w many above = record {
     sees = at_most t pc k visit 1 17 k1 (omega arith) w.sees;
     never = λ shape a.
@@ -253,9 +307,9 @@ module _ (t : Terms) (pc : ℕ) (k : CallerData) (visit : Visit) where
   }
 
   -- the separators of a node reach its high fence
-  pub all_below : (k1 : CallerData) (count slot : ℕ) → SeesBelow t pc k visit count slot k1 → slot ≡ count → count ≤ 15 → 0 < visit.level → SeesNone t pc k visit k1
-  all_below k1 count slot w end few above = record {
-    sees = at_most t pc k visit (1 + slot) 17 k1 (omega (arith, end, few)) w.sees;
+  pub all_below : (k1 : CallerData) (count slot : ℕ) → SeesBelow t pc k visit count 15 slot k1 → count ≤ slot → 0 < visit.level → SeesNone t pc k visit k1
+  all_below k1 count slot w end above = record {
+    sees = at_most t pc k visit (1 + 15) 17 k1 (omega arith) w.sees;
     never = λ shape a.
         let inner = inner_node t w.sees.sight shape a w.sees.place w.sees.placed (let l = w.sees.level in omega (arith, l, above)) in
         let number : node_word a.words 5 ≡ count = loaded_is a.words w.sees.sight.words 5 count a.loaded_so w.counted in

@@ -1,9 +1,8 @@
 -- What loads make of the sight of the node that a lookup visits.
-use Rattle.std.proofs.Common.{◌≡◌, ◌≢◌, ℕ, ◌+◌, ◌*◌, ◌-◌, ◌<◌, ◌≤◌, ◌==◌, Bool, true, false, cond, List, [], ◌∷◌, ◌++◌, length, length-append, map, option_map, Option, Some, None, Contains, inl, inr, refl, ap, sym, ◌∙◌, subst, arith, nat_eq, eq-eqb, ne_eqb, if◌then◌else◌}
+use Rattle.std.proofs.Common.{◌≡◌, ◌≢◌, ℕ, ◌+◌, ◌≤◌, ◌==◌, Bool, true, false, cond, List, [], ◌∷◌, ◌++◌, length-append, map, option_map, Some, inr, refl, ap, sym, ◌∙◌, arith, nat_eq, eq-eqb, ne_eqb, if◌then◌else◌}
 use Rattle.std.proofs.lemmas.Bool.{eqb-true}
 use Rattle.std.proofs.lemmas.Option.{none-some, same_Some}
 use Rattle.std.proofs.lemmas.List.Elements.{Contains-append_left}
-use Rattle.tree_shape.specs.declared.node.Frame.{Frame}
 use Rattle.word_rule.specs.declared.log.LoadedWord.{LoadedWord}
 use Rattle.word_rule.specs.declared.log.NodeSight.{NodeSight}
 use Rattle.word_rule.specs.declared.log.Terms.{Terms}
@@ -13,7 +12,7 @@ use Rattle.word_rule.specs.Sights.{after_node_load, loaded_word, place_of, sight
 use Rattle.btree_lookup.specs.Loads.{loaded_at, loaded_of}
 use Rattle.btree_lookup.specs.Visits.{Sees}
 use Rattle.btree_lookup.specs.declared.visit.Visit.{Visit}
-use Rattle.btree_lookup.proofs.Loading.{last_loaded, led_more, looked, still_led, word_loaded}
+use Rattle.btree_lookup.proofs.Loading.{led_more, still_led, word_loaded}
 
 -- the sight of a node, where each sight was changed and kept its node
 pub changed_sight : (n : ℕ) (f : NodeSight → NodeSight) → ((s : NodeSight) → (f s).node ≡ s.node) → (sights : List NodeSight) → sight_of n (map f sights) ≡ option_map f (sight_of n sights)

@@ -7,7 +7,6 @@ use Rattle.reg_model.specs.declared.span.Member.{Member}
 use Rattle.tree_shape.specs.NodeData.{NodeData, IsInFences, entries_of}
 use Rattle.tree_shape.specs.declared.node.Frame.{Frame}
 use Rattle.word_rule.specs.declared.log.LoadedWord.{LoadedWord}
-use Rattle.word_rule.specs.declared.log.Log.{Log}
 use Rattle.word_rule.specs.declared.log.NodeSight.{NodeSight}
 use Rattle.word_rule.specs.declared.log.Sights.{Sights}
 use Rattle.word_rule.specs.declared.log.Terms.{Terms}
@@ -16,7 +15,7 @@ use Rattle.word_rule.specs.Held.{held_of}
 use Rattle.word_rule.specs.NodeTells.{IsLiveNode}
 use Rattle.word_rule.specs.Observations.{AreOfNode}
 use Rattle.word_rule.specs.Places.{TOP, node_place}
-use Rattle.word_rule.specs.Spelling.{SpellsNode}
+use Rattle.word_rule.specs.Spelling.{SpellsNode, node_word}
 use Rattle.word_rule.specs.Sights.{loaded_word, place_of, place_under, sight_of}
 use Rattle.btree_lookup.specs.Loads.{after_looks, loaded_at, loaded_of}
 use Rattle.btree_lookup.specs.Ways.{AreLed, IsLed}
@@ -55,13 +54,16 @@ pub record Way (t : Terms) (pc : ℕ) (k : CallerData) (visit : Visit) (k' : Cal
   pub sees : Sees t pc k visit 0 k'
   pub fresh : (i : ℕ) → loaded_word (6 + 2 * i) sees.sight.words ≡ None
 
--- its count was loaded, and so many separators, each below the address
-pub record SeesBelow (t : Terms) (pc : ℕ) (k : CallerData) (visit : Visit) (count slot : ℕ)
-    (k' : CallerData) : Type 0 where
-  pub sees : Sees t pc k visit (1 + slot) k'
+-- Its count was loaded, and so many separators. Those before a slot are below the address, and that
+-- of the slot, if it is one of them, isn't.
+pub record SeesBelow (t : Terms) (pc : ℕ) (k : CallerData) (visit : Visit)
+    (count turns slot : ℕ) (k' : CallerData) : Type 0 where
+  pub sees : Sees t pc k visit (1 + turns) k'
   pub counted : loaded_word 5 sees.sight.words ≡ Some count
   pub below : (i : ℕ) → i < slot → (s : ℕ) × ((loaded_word (7 + 2 * i) sees.sight.words ≡ Some s)
       × Contains sees.loaded (loaded_of visit.node (7 + 2 * i) s) × (s < pc))
+  pub next : (slot ≡ turns) ⊎ ((s : ℕ) × ((loaded_word (7 + 2 * slot) sees.sight.words ≡ Some s)
+      × Contains sees.loaded (loaded_of visit.node (7 + 2 * slot) s) × (pc ≤ s)))
   pub fresh : (i : ℕ) → loaded_word (6 + 2 * i) sees.sight.words ≡ None
 
 -- Words of the node that a sight is of: they have each word that was loaded, spell this content, and
@@ -91,33 +93,36 @@ pub record SeesNone (t : Terms) (pc : ℕ) (k : CallerData) (visit : Visit)
   pub sees : Sees t pc k visit 17 k'
   pub never : (shape : NodeData) → Agrees t sees.sight shape → ⊥
 
--- The count was loaded, and the bases of so many entries, each at or below the address, the last
--- one this.
-pub record SeesBases (t : Terms) (pc : ℕ) (k : CallerData) (visit : Visit) (count begun base : ℕ)
-    (k' : CallerData) : Type 0 where
-  pub sees : Sees t pc k visit (1 + begun) k'
-  pub counted : loaded_word 5 sees.sight.words ≡ Some count
-  pub below : (i : ℕ) → i < begun
-      → (b : ℕ) × ((loaded_word (6 + 3 * i) sees.sight.words ≡ Some b) × (b ≤ pc))
-  pub last : (i : ℕ) → i + 1 ≡ begun → loaded_word (6 + 3 * i) sees.sight.words ≡ Some base
+-- Words of a leaf with this count: the entries after the first begin at or below the address, up to
+-- one; and the next one doesn't, if it is among the first so many of them.
+abbrev pub BeginLater : ℕ → ℕ → ℕ → ℕ → List ℕ → Type 0
+BeginLater pc count turns later words =
+    (node_word words 5 ≡ count)
+    × ((i : ℕ) → i < later → node_word words (9 + 3 * i) ≤ pc)
+    × ((later ≡ turns) ⊎ (pc < node_word words (9 + 3 * later)))
 
--- of so many entries none is left, or the next one begins above the address
-abbrev pub IsBeyond : ℕ → ℕ → ℕ → List LoadedWord → Type 0
-IsBeyond pc count begun words =
-    (count ≡ begun) ⊎ ((b : ℕ) × ((loaded_word (6 + 3 * begun) words ≡ Some b) × (pc < b)))
+-- the count was loaded, and the bases of so many entries after the first
+pub record SeesLater (t : Terms) (pc : ℕ) (k : CallerData) (visit : Visit)
+    (count turns later : ℕ) (k' : CallerData) : Type 0 where
+  pub sees : Sees t pc k visit (1 + turns) k'
+  pub told : (words : List ℕ) → AreOfNode words sees.sight.words
+      → BeginLater pc count turns later words
 
--- the entries that begin at or below the address
+-- So many entries of the words of a leaf begin at or below the address, the last one at this base:
+-- of its count none is left, or the next one begins above the address.
+pub record AreBegun (pc : ℕ) (begun : Begun) (words : List ℕ) : Type 0 where
+  pub few : begun.count ≤ node_word words 5
+  pub below : (i : ℕ) → 0 < i → i < begun.count → node_word words (6 + 3 * i) ≤ pc
+  pub last : (i : ℕ) → i + 1 ≡ begun.count
+      → (node_word words (6 + 3 * i) ≡ begun.base) × (begun.base ≤ pc)
+  pub past : (node_word words 5 ≡ begun.count) ⊎ (pc < node_word words (6 + 3 * begun.count))
+
+-- whatever leaf has the words that were loaded: these entries begin at or below the address
 pub record SeesBegun (t : Terms) (pc : ℕ) (k : CallerData) (visit : Visit) (begun : Begun)
     (k' : CallerData) : Type 0 where
   pub sees : Sees t pc k visit 11 k'
-  pub count : ℕ
-  pub counted : loaded_word 5 sees.sight.words ≡ Some count
-  pub few : begun.count ≤ count
-  pub below : (i : ℕ) → i < begun.count
-      → (b : ℕ) × ((loaded_word (6 + 3 * i) sees.sight.words ≡ Some b) × (b ≤ pc))
-  pub last : (i : ℕ) → i + 1 ≡ begun.count
-      → loaded_word (6 + 3 * i) sees.sight.words ≡ Some begun.base
-  pub past : count ≤ 10 → IsBeyond pc count begun.count sees.sight.words
+  pub told : (words : List ℕ) → AreOfNode words sees.sight.words → node_word words 5 ≤ 10
+      → AreBegun pc begun words
 
 -- the member that an entry is, where it has a span and a payload of 32 bits
 abbrev pub entry_member : Entry → Member

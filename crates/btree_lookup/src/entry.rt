@@ -4,7 +4,7 @@
 //! said of the leaf that has the words that were loaded.
 ghost use Rattle.std.specs.Prelude.{◌≡◌, ℕ, ◌<◌, ◌≤◌, Some};
 ghost use Rattle.word_rule.specs.CallerData.{CallerData};
-ghost use Rattle.btree_lookup.specs.Visits.{IsEntry, SeesBegun, SeesEntry, Way, entry_member};
+ghost use Rattle.btree_lookup.specs.Visits.{IsEntry, SeesBegun, SeesEntry, SeesLater, Way, entry_member};
 
 use crate::visit::{COUNT, Visit};
 use reg_model::{Member, Span};
@@ -50,6 +50,27 @@ impl Entry {
     }
 }
 
+/// How many entries after the first one begin at or below the address, up to one that doesn't. All
+/// of a leaf's are looked at, also those behind its count: so no branch depends on the address.
+#[inline(always)]
+fn later_begun(words: &Words, me: &mut Caller, visit: Visit, pc: u64) -> u32
+    requires table { me.old.table ≡ words.now.table }
+    requires inside { visit.node < words.now.terms.nodes }
+    ensures table { me.new.table ≡ me.old.table }
+    ensures later { (k : CallerData) → (count : ℕ)
+        → SeesLater words.now.terms pc k visit count 0 0 me.old
+        → SeesLater words.now.terms pc k visit count 9 result me.new }
+{
+    let mut later = 0;
+    let mut ahead = true;
+    for at in 0..ENTRIES as u32 - 1 {
+        let next = words.load_node(me, visit.node, BASE + ENTRY_WORDS * (at + 1));
+        ahead &= next <= pc;
+        later += u32::from(ahead);
+    }
+    later
+}
+
 /// The entries that begin at or below the address: they stand before the others.
 fn begun_at(words: &Words, me: &mut Caller, visit: Visit, pc: u64) -> Begun
     requires table { me.old.table ≡ words.now.table }
@@ -60,16 +81,21 @@ fn begun_at(words: &Words, me: &mut Caller, visit: Visit, pc: u64) -> Begun
     ensures begun { (k : CallerData) → Way words.now.terms pc k visit me.old
         → SeesBegun words.now.terms pc k visit result me.new }
 {
+    let none = Begun { count: 0, base: 0 };
     let count = words.load_node(me, visit.node, COUNT).min(ENTRIES as u64) as u32;
-    let mut base = 0;
-    for begun in 0..count {
-        let next = words.load_node(me, visit.node, BASE + ENTRY_WORDS * begun);
-        if next > pc {
-            return Begun { count: begun, base };
-        }
-        base = next;
+    let later = later_begun(words, me, visit, pc);
+    if count == 0 {
+        return none;
     }
-    Begun { count, base }
+    let place = later.min(count - 1);
+    let base = words.load_node(me, visit.node, BASE + ENTRY_WORDS * place);
+    if base > pc {
+        return none;
+    }
+    Begun {
+        count: place + 1,
+        base,
+    }
 }
 
 /// The entry that contains the address: the last one that begins at or below it, where it is long

@@ -9,9 +9,10 @@ ghost use Rattle.word_rule.specs.CallerData.{CallerData};
 ghost use Rattle.word_rule.specs.Callers.{IsAlone};
 ghost use Rattle.word_rule.specs.Places.{TOP, node_place};
 ghost use Rattle.btree_lookup.specs.Tries.{EndsAgain};
-ghost use Rattle.btree_lookup.specs.Visits.{SeesChild, SeesNone, Way};
+ghost use Rattle.btree_lookup.specs.Visits.{SeesBelow, SeesChild, SeesNone, Way};
 
 use reg_model::Again;
+use std::ops::Range;
 use tree_shape::PAIRS;
 use tree_shape::limits::HIGHEST_LEVEL;
 use word_rule::{Ask, Caller, FIRST_NODE, LockId, NODE_WORDS, Words};
@@ -27,6 +28,9 @@ const CHILD: u32 = 6;
 const SEPARATOR: u32 = 7;
 
 const PAIR_WORDS: u32 = 2;
+
+/// How many separators are looked at before the others are loaded.
+const HALF: u32 = 8;
 
 /// A node on the way down: the version with which the sight of it began, and its level.
 #[derive(Clone, Copy)]
@@ -96,6 +100,48 @@ pub fn root(words: &Words, me: &mut Caller) -> Result<Visit, Again>
     Ok(visit)
 }
 
+/// Of the separators up to one of these slots, how many are below the address, up to one that isn't.
+/// Those before the slots are below it. All of the slots are looked at, also those behind the count:
+/// so no branch depends on the address.
+#[inline(always)]
+fn below(words: &Words, me: &mut Caller, visit: Visit, pc: u64, slots: Range<u32>) -> u32
+    requires table { me.old.table ≡ words.now.table }
+    requires inside { visit.node < words.now.terms.nodes }
+    requires slots { (slots.start ≤ slots.end) × (slots.end ≤ 15) }
+    ensures table { me.new.table ≡ me.old.table }
+    ensures few { result ≤ slots.end }
+    ensures below { (k : CallerData) → (count : ℕ)
+        → SeesBelow words.now.terms pc k visit count slots.start slots.start me.old
+        → SeesBelow words.now.terms pc k visit count slots.end result me.new }
+{
+    let mut slot = slots.start;
+    let mut ahead = true;
+    for at in slots.start..slots.end {
+        let separator = words.load_node(me, visit.node, SEPARATOR + PAIR_WORDS * at);
+        ahead &= separator < pc;
+        slot += u32::from(ahead);
+    }
+    slot
+}
+
+/// The first slot whose separator is at least the address, whatever the count says. The second half
+/// is loaded only where all of the first are below it.
+#[inline(always)]
+fn slot_for(words: &Words, me: &mut Caller, visit: Visit, pc: u64) -> u32
+    requires table { me.old.table ≡ words.now.table }
+    requires inside { visit.node < words.now.terms.nodes }
+    ensures table { me.new.table ≡ me.old.table }
+    ensures below { (k : CallerData) → (count : ℕ)
+        → SeesBelow words.now.terms pc k visit count 0 0 me.old
+        → SeesBelow words.now.terms pc k visit count 15 result me.new }
+{
+    let slot = below(words, me, visit, pc, 0..HALF);
+    if slot < HALF {
+        return slot;
+    }
+    below(words, me, visit, pc, HALF..PAIRS as u32)
+}
+
 /// The child of the first pair whose separator is at least the address. None where there is no such
 /// pair, or where it names no other node below the root: then the version has changed.
 fn child_for(words: &Words, me: &mut Caller, visit: Visit, pc: u64) -> Option<u32>
@@ -112,16 +158,15 @@ fn child_for(words: &Words, me: &mut Caller, visit: Visit, pc: u64) -> Option<u3
     if count > PAIRS as u64 {
         return None;
     }
-    for slot in 0..count as u32 {
-        if pc <= words.load_node(me, visit.node, SEPARATOR + PAIR_WORDS * slot) {
-            let child = words.load_node(me, visit.node, CHILD + PAIR_WORDS * slot);
-            if child == 0 || child == visit.node as u64 || child >= words.nodes() as u64 {
-                return None;
-            }
-            return Some(child as u32);
-        }
+    let slot = slot_for(words, me, visit, pc);
+    if slot as u64 >= count {
+        return None;
     }
-    None
+    let child = words.load_node(me, visit.node, CHILD + PAIR_WORDS * slot);
+    if child == 0 || child == visit.node as u64 || child >= words.nodes() as u64 {
+        return None;
+    }
+    Some(child as u32)
 }
 
 /// From a node to the child that the address leads to.

@@ -1,4 +1,4 @@
-use Rattle.std.proofs.Common.{◌≡◌, ◌≢◌, ℕ, ◌+◌, ◌*◌, ◌-◌, ◌<◌, ◌≤◌, Some, inl, inr, arith}
+use Rattle.std.proofs.Common.{arith}
 use Rattle.btree_lookup.proofs.Entries.{entry_none, entry_short, entry_long}
 use Rattle.btree_lookup.proofs.entry.entry_at.Goals as goal
 

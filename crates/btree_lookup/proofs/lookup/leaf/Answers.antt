@@ -1,5 +1,4 @@
-use Rattle.std.proofs.Common.{◌≡◌, ◌∙◌, sym, ap, subst}
-use Rattle.word_rule.specs.CallerData.{CallerData}
+use Rattle.std.proofs.Common.{sym, subst}
 use Rattle.btree_lookup.specs.Tries.{EndsAgain}
 use Rattle.btree_lookup.proofs.Answering.{leaf_alone, leaf_changed, leaf_entry, leaf_found, terms}
 use Rattle.btree_lookup.proofs.lookup.leaf.Goals as goal

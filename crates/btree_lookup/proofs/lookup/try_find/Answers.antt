@@ -1,5 +1,4 @@
-use Rattle.std.proofs.Common.{◌≡◌, ◌<◌, ◌≤◌, ◌∙◌, Err, Ok, IfOk, IfErr, sym, ap, subst, arith}
-use Rattle.btree_lookup.specs.Tries.{EndsAgain}
+use Rattle.std.proofs.Common.{◌∙◌, arith}
 use Rattle.btree_lookup.proofs.Answering.{few_loads, writes_same}
 use Rattle.btree_lookup.proofs.lookup.try_find.Goals as goal
 

@@ -1,5 +1,4 @@
-use Rattle.std.proofs.Common.{◌≡◌, ◌≢◌, ◌+◌, ◌-◌, ◌%◌, ◌<◌, ◌≤◌, ◌∙◌, IfSome, is_some, sym, ap, subst, arith}
-use Rattle.word_rule.specs.CallerData.{CallerData}
+use Rattle.std.proofs.Common.{◌-◌, ◌<◌, IfSome, is_some, sym, ap, subst, arith}
 use Rattle.btree_lookup.specs.Tries.{EndsAgain}
 use Rattle.btree_lookup.specs.Visits.{SeesChild}
 use Rattle.btree_lookup.proofs.Visiting.{alone_same, fails_changed, never_again}

@@ -1,5 +1,4 @@
-use Rattle.std.proofs.Common.{◌≡◌, ◌≢◌, ◌%◌, ◌<◌, ◌≤◌, ◌∙◌, sym, ap, subst, arith}
-use Rattle.word_rule.specs.CallerData.{CallerData}
+use Rattle.std.proofs.Common.{sym, subst, arith}
 use Rattle.btree_lookup.specs.Tries.{EndsAgain}
 use Rattle.btree_lookup.proofs.Visiting.{root_alone, root_changed, root_locked, root_never, root_seen}
 use Rattle.btree_lookup.proofs.visit.root.Goals as goal

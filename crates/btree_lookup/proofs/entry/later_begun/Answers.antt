@@ -1,0 +1,29 @@
+use Rattle.std.proofs.Common.{◌≡◌, ◌+◌, ◌*◌, ◌&&◌, ◌∙◌, Bool, ap, sym, refl, subst, arith, nat_le, if◌then◌else◌}
+use Rattle.word_rule.specs.Sights.{after_node_load}
+use Rattle.btree_lookup.specs.Visits.{SeesLater}
+use Rattle.btree_lookup.proofs.Leaves.{base_looked}
+use Rattle.btree_lookup.proofs.Turns.{Goes, goes_on, number_of}
+use Rattle.btree_lookup.proofs.entry.later_begun.Goals as goal
+
+pub loop-at-preserved : goal.loop-at-preserved
+loop-at-preserved c =
+    let i = c.loop-at.invariant in let less = c.loop-at-test.true in
+    let low : Bool = nat_le c.load_node-next.result c.args.pc in
+    let number : (if c.loop-at.ahead && low then 1 else 0) ≡ c.from-later.result = sym (c.from-later.ensures ∙ number_of (c.loop-at.ahead && low)) in
+    let goes = subst (λ n. Goes (c.loop-at.ahead && low) (c.loop-at.at + 1) (c.loop-at.later + n)) number (goes_on c.loop-at.ahead low c.loop-at.at c.loop-at.later i.few i.all_so i.fewer) in
+    record {
+      table = ap (λ k. k.table) c.load_node-next.ensures.log ∙ i.table;
+      few = goes.few;
+      all_so = goes.all_so;
+      fewer = goes.fewer;
+      later = λ k count w.
+          let place : 6 + 3 * (c.loop-at.at + 1) ≡ 9 + 3 * c.loop-at.at = omega arith in
+          let log = subst (λ p. c.load_node-next.new.me ≡ record c.loop-at.me { log = after_node_load c.args.visit.node p c.load_node-next.result c.loop-at.me.log }) place c.load_node-next.ensures.log in
+          subst (λ n. SeesLater c.args.words.now.terms c.args.pc k c.args.visit count (c.loop-at.at + 1) (c.loop-at.later + n) c.load_node-next.new.me) number
+          (base_looked c.args.words.now.terms c.args.pc k c.args.visit c.loop-at.me c.load_node-next.new.me count c.loop-at.at c.loop-at.later c.load_node-next.result c.loop-at.ahead low (i.later k count w) log less i.all_so i.fewer refl);
+    }
+
+pub returns-clause-later : goal.returns-clause-later
+returns-clause-later c k count w =
+    let end : c.loop-at.at ≡ 9 = (let t = c.loop-at-test.false in let e = c.loop-at.auto.at-end in omega (arith, t, e)) in
+    subst (λ n. SeesLater c.args.words.now.terms c.args.pc k c.args.visit count n c.loop-at.later c.loop-at.me) end (c.loop-at.invariant.later k count w)
