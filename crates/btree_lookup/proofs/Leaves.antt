@@ -207,9 +207,9 @@ module _ (t : Terms) (pc : ℕ) (k : CallerData) (visit : Visit) where
           above (inr h) = let same : later ≡ later + 0 = omega arith in subst (λ n. pc < node_word words (9 + 3 * n)) same h
 
   -- a leaf without an entry
-  pub none_there : (k1 : CallerData) (count later : ℕ) → SeesLater t pc k visit count 9 later k1 → min count 10 ≡ 0 → SeesBegun t pc k visit (record { count = 0; base = 0 }) k1
-  none_there k1 count later w none = record {
-    sees = at_most t pc k visit 10 11 k1 (omega arith) w.sees;
+  pub none_there : (k1 : CallerData) (count : ℕ) → SeesLater t pc k visit count 0 0 k1 → min count 10 ≡ 0 → SeesBegun t pc k visit (record { count = 0; base = 0 }) k1
+  none_there k1 count w none = record {
+    sees = at_most t pc k visit 1 11 k1 (omega arith) w.sees;
     told = λ words all few. let b = w.told words all in let n = b.0 in record {
       few = omega arith;
       below = λ i p l. absurd (omega (arith, l));

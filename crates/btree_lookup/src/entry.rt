@@ -83,11 +83,10 @@ fn begun_at(words: &Words, me: &mut Caller, visit: Visit, pc: u64) -> Begun
 {
     let none = Begun { count: 0, base: 0 };
     let count = words.load_node(me, visit.node, COUNT).min(ENTRIES as u64) as u32;
-    let later = later_begun(words, me, visit, pc);
     if count == 0 {
         return none;
     }
-    let place = later.min(count - 1);
+    let place = later_begun(words, me, visit, pc).min(count - 1);
     let base = words.load_node(me, visit.node, BASE + ENTRY_WORDS * place);
     if base > pc {
         return none;
