@@ -1,5 +1,5 @@
 -- Tries of update calls that were begun.
-use Rattle.std.proofs.Common.{ℕ, ◌≤◌, Result, Ok, Err, IfOk}
+use Rattle.std.proofs.Common.{◌≤◌, Result, Ok, Err, IfOk}
 use Rattle.array_publish.specs.Update.{TellsLoad}
 use Rattle.btree_change.specs.Insertion.{AnswersInsertion, TriesInsertion}
 use Rattle.node_store.specs.declared.locking.Busy.{Busy}
