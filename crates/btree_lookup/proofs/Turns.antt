@@ -1,10 +1,12 @@
--- A turn of a search that has no branch: what a flag is as a number, and how it goes on.
+-- A turn of a search that has no branch: a flag that is 1 while all turns held, and how it goes on.
 use Rattle.std.proofs.Common.{◌≡◌, ℕ, ◌+◌, ◌<◌, ◌≤◌, ◌&&◌, Bool, true, false, refl, sym, arith, if◌then◌else◌, true≢false}
-use mir.Val.{bool_byte}
 
-pub number_of : (b : Bool) → bool_byte b ≡ (if b then 1 else 0)
-number_of true = refl
-number_of false = refl
+-- the flag after one more turn
+pub after_turn : (ahead low : Bool) (flag : ℕ) → flag ≡ (if ahead then 1 else 0) → (if low then flag else 0) ≡ (if ahead && low then 1 else 0)
+after_turn true true flag e = e
+after_turn false true flag e = e
+after_turn true false flag e = refl
+after_turn false false flag e = refl
 
 -- the number of turns that held so far, while all of them did or no longer
 pub record Goes (ahead : Bool) (turns held : ℕ) : Type 0 where

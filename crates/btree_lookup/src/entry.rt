@@ -6,7 +6,7 @@ ghost use Rattle.std.specs.Prelude.{◌≡◌, ℕ, ◌<◌, ◌≤◌, Some};
 ghost use Rattle.word_rule.specs.CallerData.{CallerData};
 ghost use Rattle.btree_lookup.specs.Visits.{IsEntry, SeesBegun, SeesEntry, SeesLater, Way, entry_member};
 
-use crate::visit::{COUNT, Visit};
+use crate::visit::{COUNT, Visit, where_holds};
 use reg_model::{Member, Span};
 use tree_shape::ENTRIES;
 use word_rule::{Caller, Words};
@@ -62,11 +62,11 @@ fn later_begun(words: &Words, me: &mut Caller, visit: Visit, pc: u64) -> u32
         → SeesLater words.now.terms pc k visit count 9 result me.new }
 {
     let mut later = 0;
-    let mut ahead = true;
+    let mut ahead = 1;
     for at in 0..ENTRIES as u32 - 1 {
         let next = words.load_node(me, visit.node, BASE + ENTRY_WORDS * (at + 1));
-        ahead &= next <= pc;
-        later += u32::from(ahead);
+        ahead = where_holds(ahead, next <= pc);
+        later += ahead;
     }
     later
 }

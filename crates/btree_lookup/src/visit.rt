@@ -4,6 +4,7 @@
 //! parent's version is found again, since the parent then still named the node. Nothing that was
 //! loaded of a node is trusted before its own version is found again.
 ghost use Rattle.std.specs.Prelude.{◌≡◌, ℕ, ◌+◌, ◌<◌, ◌≤◌, [], IfOk, IfErr, IfSome, IsNone, IsOk};
+ghost use Rattle.std.specs.Prelude.{if◌then◌else◌};
 ghost use Rattle.reg_model.specs.declared.answer.Again.TheVariants.{Changed, Locked};
 ghost use Rattle.word_rule.specs.CallerData.{CallerData};
 ghost use Rattle.word_rule.specs.Callers.{IsAlone};
@@ -100,6 +101,14 @@ pub fn root(words: &Words, me: &mut Caller) -> Result<Visit, Again>
     Ok(visit)
 }
 
+/// All of a number where something holds, else 0, without a branch.
+#[inline(always)]
+pub fn where_holds(number: u32, holds: bool) -> u32
+    ensures { result ≡ (if holds then number else 0) }
+{
+    number * u32::from(holds)
+}
+
 /// Of the separators up to one of these slots, how many are below the address, up to one that isn't.
 /// Those before the slots are below it. All of the slots are looked at, also those behind the count:
 /// so no branch depends on the address.
@@ -115,11 +124,11 @@ fn below(words: &Words, me: &mut Caller, visit: Visit, pc: u64, slots: Range<u32
         → SeesBelow words.now.terms pc k visit count slots.end result me.new }
 {
     let mut slot = slots.start;
-    let mut ahead = true;
+    let mut ahead = 1;
     for at in slots.start..slots.end {
         let separator = words.load_node(me, visit.node, SEPARATOR + PAIR_WORDS * at);
-        ahead &= separator < pc;
-        slot += u32::from(ahead);
+        ahead = where_holds(ahead, separator < pc);
+        slot += ahead;
     }
     slot
 }

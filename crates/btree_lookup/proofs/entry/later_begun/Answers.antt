@@ -1,26 +1,32 @@
-use Rattle.std.proofs.Common.{◌≡◌, ◌+◌, ◌*◌, ◌&&◌, ◌∙◌, Bool, ap, sym, refl, subst, arith, nat_le, if◌then◌else◌}
+use Rattle.std.proofs.Common.{◌≡◌, ◌+◌, ◌*◌, ◌&&◌, ◌∙◌, Bool, true, true≢false, ap, sym, refl, subst, arith, nat_le, if◌then◌else◌}
 use Rattle.word_rule.specs.Sights.{after_node_load}
 use Rattle.btree_lookup.specs.Visits.{SeesLater}
 use Rattle.btree_lookup.proofs.Leaves.{base_looked}
-use Rattle.btree_lookup.proofs.Turns.{Goes, goes_on, number_of}
+use Rattle.btree_lookup.proofs.Turns.{Goes, after_turn, goes_on}
 use Rattle.btree_lookup.proofs.entry.later_begun.Goals as goal
+
+pub loop-at-init : goal.loop-at-init
+loop-at-init c = record {
+  table = c.requires.table;
+  goes = (true, refl, record { few = omega arith; all_so = λ _. refl; fewer = λ e. absurd (true≢false e) });
+  later = λ k count w. w;
+}
 
 pub loop-at-preserved : goal.loop-at-preserved
 loop-at-preserved c =
     let i = c.loop-at.invariant in let less = c.loop-at-test.true in
     let low : Bool = nat_le c.load_node-next.result c.args.pc in
-    let number : (if c.loop-at.ahead && low then 1 else 0) ≡ c.from-later.result = sym (c.from-later.ensures ∙ number_of (c.loop-at.ahead && low)) in
-    let goes = subst (λ n. Goes (c.loop-at.ahead && low) (c.loop-at.at + 1) (c.loop-at.later + n)) number (goes_on c.loop-at.ahead low c.loop-at.at c.loop-at.later i.few i.all_so i.fewer) in
+    let was = i.goes.2 in
+    let number : (if i.goes.0 && low then 1 else 0) ≡ c.where_holds-ahead.result = sym (c.where_holds-ahead.ensures ∙ after_turn i.goes.0 low c.loop-at.ahead i.goes.1) in
+    let goes = subst (λ n. Goes (i.goes.0 && low) (c.loop-at.at + 1) (c.loop-at.later + n)) number (goes_on i.goes.0 low c.loop-at.at c.loop-at.later was.few was.all_so was.fewer) in
     record {
       table = ap (λ k. k.table) c.load_node-next.ensures.log ∙ i.table;
-      few = goes.few;
-      all_so = goes.all_so;
-      fewer = goes.fewer;
+      goes = (i.goes.0 && low, sym number, goes);
       later = λ k count w.
           let place : 6 + 3 * (c.loop-at.at + 1) ≡ 9 + 3 * c.loop-at.at = omega arith in
           let log = subst (λ p. c.load_node-next.new.me ≡ record c.loop-at.me { log = after_node_load c.args.visit.node p c.load_node-next.result c.loop-at.me.log }) place c.load_node-next.ensures.log in
           subst (λ n. SeesLater c.args.words.now.terms c.args.pc k c.args.visit count (c.loop-at.at + 1) (c.loop-at.later + n) c.load_node-next.new.me) number
-          (base_looked c.args.words.now.terms c.args.pc k c.args.visit c.loop-at.me c.load_node-next.new.me count c.loop-at.at c.loop-at.later c.load_node-next.result c.loop-at.ahead low (i.later k count w) log less i.all_so i.fewer refl);
+          (base_looked c.args.words.now.terms c.args.pc k c.args.visit c.loop-at.me c.load_node-next.new.me count c.loop-at.at c.loop-at.later c.load_node-next.result i.goes.0 low (i.later k count w) log less was.all_so was.fewer refl);
     }
 
 pub returns-clause-later : goal.returns-clause-later
