@@ -4,7 +4,8 @@
 //! said of the leaf that has the words that were loaded.
 ghost use Rattle.std.specs.Prelude.{◌≡◌, ℕ, ◌<◌, ◌≤◌, Some};
 ghost use Rattle.word_rule.specs.CallerData.{CallerData};
-ghost use Rattle.btree_lookup.specs.Visits.{IsEntry, SeesBegun, SeesEntry, SeesLater, Way, entry_member};
+ghost use Rattle.btree_lookup.specs.Visits.{IsEntry, SeesBegun, SeesEntry, SeesLater, Way};
+ghost use Rattle.btree_lookup.specs.Visits.{entry_member};
 
 use crate::visit::{COUNT, Visit, where_holds};
 use reg_model::{Member, Span};
@@ -51,7 +52,7 @@ impl Entry {
 }
 
 /// How many entries after the first one begin at or below the address, up to one that doesn't. All
-/// of a leaf's are looked at, also those behind its count: so no branch depends on the address.
+/// are looked at, also those behind the count: so no branch depends on the address.
 #[inline(always)]
 fn later_begun(words: &Words, me: &mut Caller, visit: Visit, pc: u64) -> u32
     requires table { me.old.table ≡ words.now.table }

@@ -109,9 +109,8 @@ pub fn where_holds(number: u32, holds: bool) -> u32
     number * u32::from(holds)
 }
 
-/// Of the separators up to one of these slots, how many are below the address, up to one that isn't.
-/// Those before the slots are below it. All of the slots are looked at, also those behind the count:
-/// so no branch depends on the address.
+/// The first of these slots whose separator is at least the address, or their end. All of them are
+/// looked at, also those behind the count: so no branch depends on the address.
 #[inline(always)]
 fn below(words: &Words, me: &mut Caller, visit: Visit, pc: u64, slots: Range<u32>) -> u32
     requires table { me.old.table ≡ words.now.table }
