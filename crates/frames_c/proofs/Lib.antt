@@ -1,6 +1,4 @@
-mod Boxes
 mod Covers
-mod MemoryBoxes
-mod RowBoxes
+mod Handles
 mod Tables
 mod ToldRows

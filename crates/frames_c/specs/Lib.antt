@@ -1,14 +1,11 @@
-pub mod Handles
 pub mod Held
 pub mod Refusals
 pub mod Loads
 pub mod Fdes
 pub mod Rows
-pub mod MemoryHandles
 pub mod Recorded
 pub mod FrameSteps
 pub mod TableEntries
 pub mod Batches
 pub mod HeaderAnswers
-pub mod RowHandles
 pub mod RowTables

@@ -2,12 +2,14 @@
 //! alone.
 
 ghost use Rattle.std.specs.Prelude.{◌≡◌, Option, Some};
+ghost use Rattle.std.specs.Coded.{coded_option};
+ghost use Rattle.c_handle.specs.Handles.{handle_owns};
 ghost use Rattle.frame_parse.specs.Sections.{SectionData};
 ghost use Rattle.frames_c.specs.Held.{IsHeld};
-ghost use Rattle.frames_c.specs.Handles.{held_coded, handle_owns};
+ghost use Rattle.frames_c.specs.contracts.share.SectionShare.{the_row};
 
-use crate::parts::Parts;
 use crate::share::SectionShare;
+use c_handle::Parts;
 use std::alloc::Global;
 use std::marker::{Model, Send};
 
@@ -17,11 +19,11 @@ use std::marker::{Model, Send};
 #[derive(Drop)]
 pub struct SectionHandle {
     at: *mut u8,
-    pub ghost held: { Option SectionData } by { held_coded },
+    pub ghost held: { Option SectionData } by { coded_option the_row.coded },
 }
 
 impl Model for SectionHandle {
-    ghost also_owns = { λ h. handle_owns h.at h.held };
+    ghost also_owns = { λ h. handle_owns the_row h.at h.held };
 }
 
 impl SectionHandle {

@@ -7,7 +7,6 @@ mod handle;
 mod header;
 mod load;
 mod memory;
-mod parts;
 mod record;
 mod refusal;
 mod row;

@@ -1,11 +1,13 @@
 //! The handle of recorded memory, as C keeps it.
 
 ghost use Rattle.std.specs.Prelude.{◌≡◌, List, Option, Some};
+ghost use Rattle.std.specs.Coded.{coded_option};
+ghost use Rattle.c_handle.specs.Handles.{handle_owns};
 ghost use Rattle.frame_expr.specs.Regions.{RegionData};
 ghost use Rattle.frames_c.specs.Recorded.{IsRecorded};
-ghost use Rattle.frames_c.specs.MemoryHandles.{memory_coded, memory_owns};
+ghost use Rattle.frame_expr.specs.contracts.memory.Memory.{the_row};
 
-use crate::parts::Parts;
+use c_handle::Parts;
 use frame_expr::Memory;
 use std::alloc::Global;
 use std::marker::{Model, Send};
@@ -16,11 +18,11 @@ use std::marker::{Model, Send};
 #[derive(Drop)]
 pub struct MemoryHandle {
     at: *mut u8,
-    pub ghost held: { Option (List RegionData) } by { memory_coded },
+    pub ghost held: { Option (List RegionData) } by { coded_option the_row.coded },
 }
 
 impl Model for MemoryHandle {
-    ghost also_owns = { λ h. memory_owns h.at h.held };
+    ghost also_owns = { λ h. handle_owns the_row h.at h.held };
 }
 
 impl MemoryHandle {

@@ -1,12 +1,14 @@
 //! The handle of a row table, as C keeps it. It leads to the section whose rows the table has.
 
 ghost use Rattle.std.specs.Prelude.{◌≡◌, Option, Some};
+ghost use Rattle.std.specs.Coded.{coded_option};
+ghost use Rattle.c_handle.specs.Handles.{handle_owns};
 ghost use Rattle.frame_parse.specs.Sections.{SectionData};
 ghost use Rattle.frames_c.specs.Held.{IsHeld};
-ghost use Rattle.frames_c.specs.RowHandles.{rows_coded, rows_owns};
+ghost use Rattle.frames_c.specs.contracts.row_share.TableShare.{the_row};
 
-use crate::parts::Parts;
 use crate::row_share::TableShare;
+use c_handle::Parts;
 use std::alloc::Global;
 use std::marker::{Model, Send};
 
@@ -16,11 +18,11 @@ use std::marker::{Model, Send};
 #[derive(Drop)]
 pub struct RowTableHandle {
     at: *mut u8,
-    pub ghost held: { Option SectionData } by { rows_coded },
+    pub ghost held: { Option SectionData } by { coded_option the_row.coded },
 }
 
 impl Model for RowTableHandle {
-    ghost also_owns = { λ h. rows_owns h.at h.held };
+    ghost also_owns = { λ h. handle_owns the_row h.at h.held };
 }
 
 impl RowTableHandle {

@@ -1,3 +1,3 @@
 mod Attempting
-mod Boxes
+mod Handles
 mod FixedMembers

@@ -1,7 +1,6 @@
 pub mod Answers
 pub mod Clients
 pub mod Finds
-pub mod Handles
 pub mod Limits
 pub mod Members
 pub mod Splits

@@ -2,11 +2,13 @@
 //! alone.
 
 ghost use Rattle.std.specs.Prelude.{◌≡◌, Option, Some};
+ghost use Rattle.std.specs.Coded.{coded_option};
+ghost use Rattle.c_handle.specs.Handles.{handle_owns};
 ghost use Rattle.registry_c.specs.Clients.{ClientData, LeadsToClient};
-ghost use Rattle.registry_c.specs.Handles.{client_coded, client_owns};
+ghost use Rattle.registry_c.specs.contracts.client.Client.{the_row};
 
 use crate::client::Client;
-use crate::parts::Parts;
+use c_handle::Parts;
 use std::alloc::Global;
 use std::marker::{Model, Send};
 
@@ -16,11 +18,11 @@ use std::marker::{Model, Send};
 #[derive(Drop)]
 pub struct ClientHandle {
     at: *mut u8,
-    pub ghost held: { Option ClientData } by { client_coded },
+    pub ghost held: { Option ClientData } by { coded_option the_row.coded },
 }
 
 impl Model for ClientHandle {
-    ghost also_owns = { λ h. client_owns h.at h.held };
+    ghost also_owns = { λ h. handle_owns the_row h.at h.held };
 }
 
 impl ClientHandle {

@@ -12,7 +12,6 @@ mod find;
 mod handle;
 mod limits;
 mod member;
-mod parts;
 mod splits;
 mod updates;
 

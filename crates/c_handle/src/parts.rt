@@ -1,4 +1,4 @@
-//! A box with its fields in sight of the module that hands its pointer out.
+//! A box with its fields in sight of whoever hands its pointer out.
 
 ghost use Rattle.std.specs.Prelude.{◌≡◌};
 ghost use Rattle.std.specs.Box.Ownership.{box_owns};
@@ -6,9 +6,10 @@ ghost use Rattle.std.specs.Box.Ownership.{box_owns};
 use std::alloc::Allocator;
 use std::marker::Model;
 
+/// What a box is made of. To let it go frees nothing.
 pub struct Parts<T, A: Allocator> {
-    pub(crate) ptr: *mut T,
-    pub(crate) alloc: A,
+    pub ptr: *mut T,
+    pub alloc: A,
     pub ghost value: { T },
 }
 
@@ -17,6 +18,7 @@ impl<T, A: Allocator> Model for Parts<T, A> {
 }
 
 impl<T, A: Allocator> Parts<T, A> {
+    /// Takes a box apart.
     pub fn of(b: Box<T, A>) -> Parts<T, A>
     where
         T: Drop,
@@ -26,6 +28,7 @@ impl<T, A: Allocator> Parts<T, A> {
         Parts { ptr, alloc }
     }
 
+    /// The box again.
     pub fn into_box(self) -> Box<T, A>
         ensures { result.value ≡ self.value }
     {

@@ -1,0 +1,17 @@
+-- What a handle owns.
+use mir.Syntax.{Ty}
+use base.Fml.{Fml, ftrue}
+use denote.RattleType.{RattleType}
+use denote.RawPtr.{Ptr}
+use Rattle.std.specs.Prelude.{Option, Some, None}
+use Rattle.std.specs.Box.Ownership.{box_owns}
+use Rattle.std_heap.specs.contracts.GlobalAllocator.TheImpl.{ghosts}
+
+-- the right to free a block of the heap
+abbrev pub frees_block : Ty → Ptr → Fml
+frees_block = ghosts.dealloc_token (record { memory = record { seal = tt } })
+
+-- nothing, or what a box on the heap owns
+abbrev pub handle_owns : (R : RattleType) → Ptr → Option R.Denot → Fml
+handle_owns R at None = ftrue
+handle_owns R at (Some value) = box_owns frees_block R at value
