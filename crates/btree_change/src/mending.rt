@@ -16,8 +16,8 @@ ghost use Rattle.btree_change.specs.Siblings.{HoldsSunk, sunk_root};
 ghost use Rattle.btree_change.specs.Siblings.{IsGoneOrSettled, MendsSiblings, SinksRoot};
 ghost use Rattle.btree_change.specs.Siblings.{is_small_body};
 
-use crate::descent::Held;
 use crate::sibling::Siblings;
+use crate::way::HeldNode;
 use node_store::{Locking, give_free, write_held};
 use tree_shape::{Node, drop_pair, even_pair, join_pair, laws, set_separator, sink_root};
 use word_rule::exchange::exchange_decided;
@@ -76,7 +76,12 @@ fn join_into_left(words: &Words, me: &mut Caller, x: &Siblings, content: &Node)
 
 /// Joins two children that fit into one node: the left one holds both, and the right one leaves the
 /// tree and is given back.
-pub(crate) fn join<L: Locking>(locking: &L, words: &Words, me: &mut Caller, x: &Siblings) -> Held
+pub(crate) fn join<L: Locking>(
+    locking: &L,
+    words: &Words,
+    me: &mut Caller,
+    x: &Siblings,
+) -> HeldNode
     requires table { me.old.table ≡ words.now.table }
     requires terms { me.old.log.terms ≡ words.now.terms }
     requires held { HoldsSiblings words.now.terms x.now me.old.log.holdings }
@@ -91,7 +96,7 @@ pub(crate) fn join<L: Locking>(locking: &L, words: &Words, me: &mut Caller, x: &
     join_into_left(words, me, x, &content);
     give_back(locking, words, me, x.right.node);
     words.load_node(me, node, LEVEL);
-    Held {
+    HeldNode {
         node,
         content,
         changed: true,
@@ -124,7 +129,7 @@ fn shares_of(x: &Siblings) -> Shares
 /// Of two children with even shares the one that has an address, and the other.
 #[derive(Drop)]
 struct Chosen {
-    way: Held,
+    way: HeldNode,
     other: u32,
 }
 
@@ -134,7 +139,7 @@ fn choose(x: &Siblings, shares: Shares, pc: u64) -> Chosen
     ensures { IsChosen x.now pc result }
 {
     if pc <= shares.left.high {
-        let way = Held {
+        let way = HeldNode {
             node: x.left.node,
             content: shares.left,
             changed: true,
@@ -144,7 +149,7 @@ fn choose(x: &Siblings, shares: Shares, pc: u64) -> Chosen
             other: x.right.node,
         }
     } else {
-        let way = Held {
+        let way = HeldNode {
             node: x.right.node,
             content: shares.right,
             changed: true,
@@ -164,7 +169,7 @@ pub(crate) fn share<L: Locking>(
     me: &mut Caller,
     x: &Siblings,
     pc: u64,
-) -> Held
+) -> HeldNode
     requires table { me.old.table ≡ words.now.table }
     requires terms { me.old.log.terms ≡ words.now.terms }
     requires held { HoldsSiblings words.now.terms x.now me.old.log.holdings }
@@ -227,7 +232,12 @@ fn sink_into_root(words: &Words, me: &mut Caller, x: &Siblings, content: &Node)
 
 /// The root takes the place of its only two children, which fit together: both leave the tree and
 /// are given back.
-pub(crate) fn sink<L: Locking>(locking: &L, words: &Words, me: &mut Caller, x: &Siblings) -> Held
+pub(crate) fn sink<L: Locking>(
+    locking: &L,
+    words: &Words,
+    me: &mut Caller,
+    x: &Siblings,
+) -> HeldNode
     requires table { me.old.table ≡ words.now.table }
     requires terms { me.old.log.terms ≡ words.now.terms }
     requires held { HoldsSiblings words.now.terms x.now me.old.log.holdings }
@@ -243,7 +253,7 @@ pub(crate) fn sink<L: Locking>(locking: &L, words: &Words, me: &mut Caller, x: &
     give_back(locking, words, me, x.left.node);
     give_back(locking, words, me, x.right.node);
     words.load_node(me, 0, LEVEL);
-    Held {
+    HeldNode {
         node: 0,
         content,
         changed: true,

@@ -13,11 +13,11 @@ ghost use Rattle.btree_change.specs.Removal.{AnswersRemoval, Removes, TriesRemov
 ghost use Rattle.btree_change.specs.Removing.{HoldsBesideRoot, IsSpare, Spends};
 ghost use Rattle.btree_change.specs.Updates.{GivesUp};
 
-use crate::descent::{CALL_CREDIT, at_root};
+use crate::descent::CALL_CREDIT;
 use crate::mending::{join, share, sink};
 use crate::sibling::{Siblings, is_small, leave, take_child, take_sibling};
 use crate::taking::{not_found, take_in_leaf};
-use crate::way::{Way, let_go_of_way};
+use crate::way::{Way, at_root, let_go_of_way};
 use node_store::{Busy, Locking, Trying, Waiting};
 use reg_model::Removed;
 use std::sync::Wait;

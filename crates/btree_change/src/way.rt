@@ -1,19 +1,35 @@
 //! The way of a removal: one node is held, and the root where that is another.
-ghost use Rattle.std.specs.Prelude.{◌≡◌, ◌<◌, IsSomeAnd};
+ghost use Rattle.std.specs.Prelude.{◌≡◌, ◌<◌, true, IfErr, IfOk, IsSomeAnd};
 ghost use Rattle.word_rule.specs.CallerData.{surplus};
 ghost use Rattle.word_rule.specs.Held.{held_of};
-ghost use Rattle.btree_change.specs.Paths.{HoldsNothing};
+ghost use Rattle.word_rule.specs.Callers.{IsIdle};
+ghost use Rattle.btree_change.specs.Loads.{FoundTaken};
+ghost use Rattle.btree_change.specs.Paths.{HoldsNothing, StepsOnNodes};
+ghost use Rattle.btree_change.specs.Stands.{HoldsRoot};
 ghost use Rattle.btree_change.specs.Removing.{HaveSettled, HoldsLocks, LetsGoOf, Spends};
 
-use crate::descent::Held;
-use node_store::Locking;
+use crate::descent::take_node;
+use node_store::{Busy, Locking, read_held};
+use tree_shape::Node;
 use word_rule::exchange::exchange_decided;
-use word_rule::{Caller, LockId, Words};
+use word_rule::{Ask, Caller, LockId, Words};
+
+/// The word of a node that has its level.
+const LEVEL: u32 = 2;
+
+/// A node of the way down, held, with what it holds.
+#[derive(Drop)]
+pub(crate) struct HeldNode {
+    pub(crate) node: u32,
+    pub(crate) content: Node,
+    /// Whether a word was stored under its lock.
+    pub(crate) changed: bool,
+}
 
 /// A node of the way down, and whether a word was stored under the root's lock beside it.
 #[derive(Drop)]
 pub(crate) struct Way {
-    pub(crate) at: Held,
+    pub(crate) at: HeldNode,
     pub(crate) root_changed: bool,
 }
 
@@ -55,4 +71,36 @@ pub(crate) fn let_go_of_way<L: Locking>(locking: &L, words: &Words, me: &mut Cal
     if way.at.node != 0 {
         let_go_of(locking, words, me, 0, way.root_changed);
     }
+}
+
+/// Takes the root, and reads it.
+pub(crate) fn at_root<L: Locking>(
+    locking: &L,
+    words: &Words,
+    me: &mut Caller,
+) -> Result<HeldNode, Busy>
+    requires table { me.old.table ≡ words.now.table }
+    requires idle { IsIdle me.old.log }
+    ensures ok { IfOk result (λ at. HoldsRoot words.now.terms (record {
+      node = at.node;
+      content = at.content;
+      changed = at.changed;
+    }) me.new.log.holdings) }
+    ensures busy { IfErr result (λ e. HoldsNothing me.new.log.holdings × (L.gives_up ≡ true)) }
+    ensures cause { IfErr result (λ e. FoundTaken e.lock me.old me.new) }
+    ensures same { StepsOnNodes me.old me.new }
+    ensures terms { me.old.log.terms ≡ words.now.terms }
+{
+    let node = 0;
+    let _some = words.nodes();
+    words.load_version(me, LockId::Node { node }, Ask::Nothing);
+    take_node(locking, words, me, node)?;
+    // By this load it is known that what is held is of a tree, so that the root has all addresses.
+    words.load_node(me, node, LEVEL);
+    let content = read_held(words, me, node);
+    Ok(HeldNode {
+        node,
+        content,
+        changed: false,
+    })
 }
