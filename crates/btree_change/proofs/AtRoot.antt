@@ -5,7 +5,7 @@ use Rattle.reg_model.specs.declared.answer.Inserted.{Inserted}
 use Rattle.reg_model.specs.declared.answer.Receipt.TheVariants as receipt
 use Rattle.reg_model.specs.declared.span.Member.{Member}
 use Rattle.tree_shape.specs.NodeData.{IsInFences}
-use Rattle.tree_shape.specs.Lawful.{IsOrdered}
+use Rattle.tree_shape.specs.Lawful.{IsFilled, IsOrdered}
 use Rattle.tree_shape.specs.Steps.{IsFull}
 use Rattle.word_rule.specs.CallerData.{CallerData, surplus}
 use Rattle.word_rule.specs.Held.{held_of}
@@ -63,6 +63,9 @@ root_stand t root way m v h span on = record {
 
 pub root_order : (t : Terms) (root : Held) (holdings : Holdings) → HoldsRoot t root holdings → IsOrdered root.content
 root_order t root holdings h = (settled_live t root.node root.content root.changed h.lock h.here).1.1.ordered
+
+pub root_filled : (t : Terms) (root : Held) (holdings : Holdings) → HoldsRoot t root holdings → IsFilled root.node root.content
+root_filled t root holdings h = (settled_live t root.node root.content root.changed h.lock h.here).1.1.filled
 
 pub root_kept : (t : Terms) (root : Held) (a b : Holdings) → b.held ≡ a.held → b.out ≡ a.out → HoldsRoot t root a → HoldsRoot t root b
 root_kept t root a b held out h = record { within = h.within; lock = h.lock; held = held ∙ h.held; root = h.root; unchanged = h.unchanged; here = h.here; low = h.low; high = h.high; out = out ∙ h.out }

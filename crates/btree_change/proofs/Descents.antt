@@ -15,18 +15,17 @@ use Rattle.word_rule.specs.Spelling.{spelled}
 use Rattle.std.specs.List.{AllByRecursion}
 use Rattle.word_rule.specs.declared.log.LockId.TheVariants as lock
 use Rattle.word_rule.specs.declared.log.Terms.{Terms}
-use Rattle.node_store.specs.Holding.{ReadsHeld}
+use Rattle.node_store.specs.Holding.{SpellsHeld}
 use Rattle.node_store.specs.Locking.{Locks}
 use Rattle.btree_change.specs.Paths.{HoldsNothing, IsSettledLock, StepsOnNodes}
 use Rattle.btree_change.specs.Stands.{HoldsRoot}
-use Rattle.node_store.specs.Sights.{after_words}
 use Rattle.word_rule.specs.Spelling.{SpellsNode}
 use Rattle.std.proofs.lemmas.Option.{same_Some}
 
 -- the root was locked and read, by one that held nothing
-pub at_the_root : (t : Terms) (shape : NodeData) (k k1 k2 k3 : CallerData) (found : ℕ) → 0 < t.nodes → k.log.terms ≡ t → HoldsNothing k.log.holdings → Locks (lock.Node 0) k k1 → KnowsTree k1.log.holdings → k2 ≡ record k1 { log = after_node_load 0 2 found k1.log } → ReadsHeld 0 k2 k3 shape → k3.log.holdings ≡ k2.log.holdings
+pub at_the_root : (t : Terms) (shape : NodeData) (k k1 k2 k3 : CallerData) (found : ℕ) → 0 < t.nodes → k.log.terms ≡ t → HoldsNothing k.log.holdings → Locks (lock.Node 0) k k1 → KnowsTree k1.log.holdings → k2 ≡ record k1 { log = after_node_load 0 2 found k1.log } → SpellsHeld 0 shape k2.log → k3.log.holdings ≡ k2.log.holdings
     → HoldsRoot t (record { node = 0; content = shape; changed = false }) k3.log.holdings
-at_the_root t shape k k1 k2 k3 found some_nodes terms nothing locks tree loads reads same = go locks
+at_the_root t shape k k1 k2 k3 found some_nodes terms nothing locks tree loads spells same = go locks
   where
     go : Locks (lock.Node 0) k k1 → HoldsRoot t (record { node = 0; content = shape; changed = false }) k3.log.holdings
     go (more, marks, nodes, version, settled, words, (tries, taken, is)) =
@@ -36,8 +35,8 @@ at_the_root t shape k k1 k2 k3 found some_nodes terms nothing locks tree loads r
         let kept : k2.log.holdings ≡ k1.log.holdings = ap (λ (z : CallerData). z.log.holdings) loads in
         let held2 : k2.log.holdings.held ≡ new ∷ [] = ap (λ hs. hs.held) kept ∙ held in
         let found2 : held_of 0 k2.log.holdings.held ≡ Some new = ap (held_of 0) held2 in
-        let told2 = subst (λ o. IsSomeAnd o (λ h. SpellsNode h.words shape × (k3 ≡ record k2 { log = after_words 0 h.words 35 k2.log }))) found2 reads in
-        let e : settled ≡ shape = same_Some _ _ (sym taken.spells ∙ told2.0) in
+        let told2 = subst (λ o. IsSomeAnd o (λ h. SpellsNode h.words shape)) found2 spells in
+        let e : settled ≡ shape = same_Some _ _ (sym taken.spells ∙ told2) in
         let told : IsTrue (tree.live 0) × (tree.contents 0 ≡ settled) = (subst (AllByRecursion (λ (h : Holding). IsSome h.mark → IsTrue (tree.live h.node) × (tree.contents h.node ≡ h.settled))) held tree.marked).0 refl in
         let content : tree.contents 0 ≡ shape = told.1 ∙ e in
         let live : IsLiveNode t 0 settled place = subst (λ z. IsLiveNode z 0 settled place) terms taken.live in record {

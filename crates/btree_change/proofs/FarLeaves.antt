@@ -24,7 +24,7 @@ use Rattle.word_rule.specs.declared.log.Budget.{Budget}
 use Rattle.word_rule.specs.declared.log.Holding.{Holding}
 use Rattle.word_rule.specs.declared.log.Holdings.{Holdings}
 use Rattle.word_rule.specs.declared.log.Terms.{Terms}
-use Rattle.node_store.specs.Holding.{ReadsHeld}
+use Rattle.node_store.specs.Holding.{ReadsHeld, SpellsHeld}
 use Rattle.btree_change.specs.declared.beyond.Far.{Far}
 use Rattle.btree_change.specs.declared.beyond.Next.{Next}
 use Rattle.btree_change.specs.declared.descent.Held.{Held}
@@ -39,7 +39,8 @@ use Rattle.btree_change.specs.Stands.{AnswersBelow, AreLeftAs, GivesUpBelow, Has
 use Rattle.btree_change.proofs.Answering.{inner_above, leaf_room, unmoved}
 use Rattle.btree_change.proofs.Descending.{steps_of_read}
 use Rattle.btree_change.proofs.Going.{apart_left, far_left, way_lowered}
-use Rattle.btree_change.proofs.LockedSpines.{may_read_found, reads_spelled}
+use Rattle.btree_change.proofs.LockedSpines.{found_head, may_read_found, reads_spelled}
+use Rattle.btree_change.proofs.Outlining.{spells_held}
 use Rattle.btree_change.proofs.NextOverlaps.{both_free, both_leaves}
 use Rattle.btree_change.proofs.Refusing.{refused_full}
 use Rattle.btree_change.proofs.Settling.{found_first}
@@ -311,6 +312,15 @@ module _ (t : Terms) (m : Member) (n : Next) (k : CallerData) (at : IsAtNext t m
 
   pub still_next : (k1 : CallerData) → k1.log.holdings ≡ k.log.holdings → (next : HoldsNext t n.far.beyond.node n.far.beyond.slot k1.log.holdings) × StandsAt t n.far.leaf next.base
   still_next k1 same = let u = under k1 same in (u.0, u.1.1)
+
+  -- the next leaf is there, and its words are its own
+  pub next_within : n.right.node < t.nodes
+  next_within = subst (λ r. r < t.nodes) at.node at.next.fresh.0.within
+
+  pub next_spelled : SpellsHeld n.right.node n.right.content k.log
+  next_spelled =
+      let found = ap (held_of n.right.node) at.next.held ∙ found_head n.right.node at.next.right (at.next.more ++ at.next.base.held) at.node in
+      spells_held n.right.node n.right.content at.next.right k.log found (subst (SpellsNode at.next.right.words) at.content at.next.fresh.0.live.spells)
 
   refused_call : (answer : Inserted) (k1 : CallerData) → RefusesMember t m answer k k1 → SpendsCall (receipt.Register m answer ∷ []) (taken_by answer) 0 k k1
   refused_call answer k1 r = record {

@@ -23,6 +23,8 @@ pub mod Stepping
 pub mod Going
 pub mod Answering
 pub mod LockedSpines
+pub mod Outlining
+pub mod Preceding
 pub mod FreshSpines
 pub mod NextLeaves
 pub mod NextOverlaps

@@ -13,7 +13,6 @@ use Rattle.word_rule.specs.declared.log.Terms.{Terms}
 use Rattle.word_rule.specs.Exchange.{exchange}
 use Rattle.word_rule.specs.Held.{held_of, without_lock}
 use Rattle.word_rule.specs.NodeTells.{HolderTells}
-use Rattle.word_rule.specs.Sights.{after_node_load}
 use Rattle.word_rule.specs.Spelling.{SpellsNode}
 use Rattle.word_rule.specs.Steps.{MayRelease, after_node_release}
 use Rattle.btree_change.specs.declared.descent.Held.{Held}
@@ -22,12 +21,13 @@ use Rattle.btree_change.specs.declared.split.Split.{Split}
 use Rattle.btree_change.specs.Paths.{HasChildFor, StepsOnNodes}
 use Rattle.btree_change.specs.Splits.{HasSpace, HoldsFullRoot, IsHeldAs, LiftsRoot, half_for, other_half, root_for, root_parts_for, with_release_less}
 use Rattle.btree_change.proofs.Descending.{steps_then}
-use Rattle.btree_change.proofs.Descents.{steps_of_load}
+use Rattle.btree_change.proofs.Outlining.{spell_one, spells_held}
+use Rattle.node_store.specs.Holding.{SpellsHeld}
 use Rattle.btree_change.proofs.HeldParts.{dropped, is_first, is_second, is_third, told_place}
 use Rattle.btree_change.proofs.Lifting.{IsLiftWritten}
 use Rattle.btree_change.proofs.Loading.{none_more}
 use Rattle.btree_change.proofs.Settling.{SettlingLaws, may_release, released, settled_group, settled_new}
-use Rattle.btree_change.proofs.SplitEnds.{less_release_then, settled_lock}
+use Rattle.btree_change.proofs.SplitEnds.{half_changed, less_release_then, same_held, settled_lock}
 use Rattle.btree_change.proofs.SplitParts.{are_halves}
 use Rattle.btree_change.proofs.Storing.{found_at}
 
@@ -152,33 +152,48 @@ module _ (laws : SettlingLaws) (t : Terms) (full : FullRoot) (pc : ℕ) (f : Con
         same = subst (StepsOnNodes (with_release_less k')) (sym whole) (record { table = refl; left = refl; terms = refl; role = refl; past = refl; budget = refl; receipts = refl; loader = refl; made = refl; lineage = refl; loads = none_more k'.log.trace.loads });
       }
 
-  -- and after a load of both that are held
-  pub lift_so : k.log.terms ≡ t
-      → (k5 k6 k7 : CallerData) (split : Split) (found6 found7 : ℕ) → k5 ≡ record k' { log = after_node_release (other_half full.left full.right pc full.root.content) k'.log }
-      → split.way ≡ half_for full.left full.right pc full.root.content → split.parent ≡ root_for full
-      → k6 ≡ record k5 { log = after_node_load (half_for full.left full.right pc full.root.content).node 2 found6 k5.log } → HolderTells (half_for full.left full.right pc full.root.content).node k5.log
-      → k7 ≡ record k6 { log = after_node_load full.root.node 2 found7 k6.log } → HolderTells full.root.node k6.log
-      → LiftsRoot t full pc split k k7
-  lift_so terms k5 k6 k7 split found6 found7 is5 way_is parent_is is6 told6 is7 told7 =
+  -- both that are held may be read then
+  pub may_read_both : (k5 : CallerData) → k5 ≡ record k' { log = after_node_release (other_half full.left full.right pc full.root.content) k'.log }
+      → SpellsHeld (half_for full.left full.right pc full.root.content).node (half_for full.left full.right pc full.root.content).content k5.log × SpellsHeld full.root.node (root_parts_for full).above k5.log
+  may_read_both k5 is5 =
       let way = half_for full.left full.right pc full.root.content in
       let r = is_released k5 is5 in
-      let steps5 : StepsOnNodes (with_release_less k) k5 = steps_then (with_release_less k) (with_release_less k') k5 (less_release_then k k' w.same) r.same in
-      let steps6 : StepsOnNodes (with_release_less k) k6 = steps_then (with_release_less k) k5 k6 steps5 (steps_of_load way.node 2 found6 k5 k6 is6) in
-      let steps7 : StepsOnNodes (with_release_less k) k7 = steps_then (with_release_less k) k6 k7 steps6 (steps_of_load full.root.node 2 found7 k6 k7 is7) in
-      let held6 : k6.log.holdings.held ≡ ends.lock ∷ upper' ∷ [] = ap (λ (z : CallerData). z.log.holdings.held) is6 ∙ r.held in
       let found_way : held_of way.node k5.log.holdings.held ≡ Some ends.lock = ap (held_of way.node) r.held ∙ found_at way.node [] ends.lock (upper' ∷ []) ends.node tt in
-      let found_up : held_of full.root.node k6.log.holdings.held ≡ Some upper' = ap (held_of full.root.node) held6 ∙ found_at full.root.node (ends.lock ∷ []) upper' [] w.upper_node ((λ e. ends.far (sym ends.node ∙ e)), tt) in record {
+      let found_up : held_of full.root.node k5.log.holdings.held ≡ Some upper' = ap (held_of full.root.node) r.held ∙ found_at full.root.node (ends.lock ∷ []) upper' [] w.upper_node ((λ e. ends.far (sym ends.node ∙ e)), tt) in
+      (spells_held way.node way.content ends.lock k5.log found_way ends.spells, spells_held full.root.node (root_parts_for full).above upper' k5.log found_up w.upper_spells)
+
+  pub way_within : (half_for full.left full.right pc full.root.content).node < t.nodes
+  way_within = ends.within
+
+  -- and after loads of both
+  pub lift_so : k.log.terms ≡ t
+      → (k5 k7 : CallerData) (split : Split) → k5 ≡ record k' { log = after_node_release (other_half full.left full.right pc full.root.content) k'.log }
+      → (split.parent.node ≡ full.root.node) × (split.parent.changed ≡ true) → (split.way.node ≡ (half_for full.left full.right pc full.root.content).node) × (split.way.changed ≡ true)
+      → SpellsHeld full.root.node split.parent.content k5.log → SpellsHeld (half_for full.left full.right pc full.root.content).node split.way.content k5.log
+      → HolderTells full.root.node k5.log → HolderTells (half_for full.left full.right pc full.root.content).node k5.log
+      → StepsOnNodes k5 k7 → k7.log.holdings ≡ k5.log.holdings
+      → LiftsRoot t full pc split k k7
+  lift_so terms k5 k7 split is5 parent_as way_as spells_parent spells_way told_parent told_way same kept =
+      let way = half_for full.left full.right pc full.root.content in
+      let r = is_released k5 is5 in
+      let both = may_read_both k5 is5 in
+      let way_is : split.way ≡ way = same_held split.way way way_as.0 (sym (spell_one way.node way.content split.way.content k5.log both.0 spells_way)) (way_as.1 ∙ sym (half_changed full.left full.right pc full.root.content)) in
+      let parent_is : split.parent ≡ root_for full = same_held split.parent (root_for full) parent_as.0 (sym (spell_one full.root.node (root_parts_for full).above split.parent.content k5.log both.1 spells_parent)) parent_as.1 in
+      let steps5 : StepsOnNodes (with_release_less k) k5 = steps_then (with_release_less k) (with_release_less k') k5 (less_release_then k k' w.same) r.same in
+      let steps7 : StepsOnNodes (with_release_less k) k7 = steps_then (with_release_less k) k5 k7 steps5 same in
+      let found_way : held_of way.node k5.log.holdings.held ≡ Some ends.lock = ap (held_of way.node) r.held ∙ found_at way.node [] ends.lock (upper' ∷ []) ends.node tt in
+      let found_up : held_of full.root.node k5.log.holdings.held ≡ Some upper' = ap (held_of full.root.node) r.held ∙ found_at full.root.node (ends.lock ∷ []) upper' [] w.upper_node ((λ e. ends.far (sym ends.node ∙ e)), tt) in record {
         lower = ends.lock;
         upper = upper';
-        held = ap (λ (z : CallerData). z.log.holdings.held) is7 ∙ held6;
-        out = ap (λ (z : CallerData). z.log.holdings.out) is7 ∙ (ap (λ (z : CallerData). z.log.holdings.out) is6 ∙ r.out);
+        held = ap (λ (z : Holdings). z.held) kept ∙ r.held;
+        out = ap (λ (z : Holdings). z.out) kept ∙ r.out;
         way_held = subst (λ z. IsHeldAs t z ends.lock) (sym way_is) (record {
           node = ends.node;
           settled = ends.settled;
           spells = ends.spells;
           stored = ends.stored;
           marked = ends.marked;
-          live = told_place t way.node way.content ends.lock k5.log (steps5.terms ∙ terms) found_way ends.node ends.settled told6;
+          live = told_place t way.node way.content ends.lock k5.log (steps5.terms ∙ terms) found_way ends.node ends.settled told_way;
         });
         parent_held = subst (λ z. IsHeldAs t z upper') (sym parent_is) (record {
           node = w.upper_node;
@@ -186,7 +201,7 @@ module _ (laws : SettlingLaws) (t : Terms) (full : FullRoot) (pc : ℕ) (f : Con
           spells = w.upper_spells;
           stored = w.upper_stored;
           marked = refl;
-          live = told_place t full.root.node (root_parts_for full).above upper' k6.log (steps6.terms ∙ terms) found_up w.upper_node refl told7;
+          live = told_place t full.root.node (root_parts_for full).above upper' k5.log (steps5.terms ∙ terms) found_up w.upper_node refl told_parent;
         });
         way = way_is;
         parent = parent_is;

@@ -30,6 +30,8 @@ use Rattle.btree_change.proofs.HeldParts.{AreFar, IsTold, is_first, is_second, i
 use Rattle.btree_change.proofs.HeldLists.{HeldOnce}
 use Rattle.btree_change.proofs.Settling.{FitsChange, IsHeldChange, left_out, marked_at, none_out}
 use Rattle.btree_change.proofs.SplitParts.{are_halves, never_free}
+use Rattle.btree_change.proofs.Outlining.{spells_held}
+use Rattle.word_rule.specs.declared.log.Log.{Log}
 use Rattle.btree_change.proofs.Splitting.{IsPartWritten, part_written}
 use Rattle.btree_change.proofs.Storing.{IsRewritten, found_at, rewritten_so}
 
@@ -113,6 +115,12 @@ module _ (t : Terms) (full : FullRoot) (pc : ℕ) (hs : Holdings) (h : HoldsFull
 
   right_zero : full.right ≢ 0
   right_zero e = lives_apart tree.live 0 full.right root_live right_dead (sym e)
+
+  -- the words of the root are its own
+  pub root_spelled : (v : Log) → v.holdings ≡ hs → SpellsHeld full.root.node full.root.content v
+  root_spelled v same =
+      let far : AreFar full.root.node (h.right ∷ h.left ∷ []) = ((λ e. right_zero (sym h.right_free.node ∙ (e ∙ h.is_root))), ((λ e. left_zero (sym h.left_free.node ∙ (e ∙ h.is_root))), tt)) in
+      spells_held full.root.node full.root.content h.upper v (ap (λ (z : Holdings). held_of full.root.node z.held) same ∙ (ap (held_of full.root.node) h.held ∙ found_at full.root.node (h.right ∷ h.left ∷ []) h.upper [] h.root.node far)) h.root.spells
 
   -- the tree with the three nodes changed
   pub g : Contents

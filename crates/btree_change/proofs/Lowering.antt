@@ -1,6 +1,5 @@
 -- From a node that is held down to its child for an address.
 use Rattle.std.proofs.Common.{◌≡◌, ℕ, ◌-◌, ◌<◌, [], ◌∷◌, drop, sym, refl, ap, ◌∙◌, subst, arith, Bool, false, true≢false, Option, Some, None, IfSome, IsSome, IsSomeAnd, eq-eqb, ne_eqb, cond, if◌then◌else◌}
-use Rattle.std.proofs.lemmas.Option.{same_Some}
 use Rattle.tree_shape.specs.declared.node.Frame.{Frame}
 use Rattle.tree_shape.specs.NodeData.{NodeData, InOrder, IsInFences, IsInner}
 use Rattle.tree_shape.specs.Trees.{branches}
@@ -12,15 +11,16 @@ use Rattle.word_rule.specs.declared.log.LockId.TheVariants as lock
 use Rattle.word_rule.specs.declared.log.Terms.{Terms}
 use Rattle.word_rule.specs.Held.{held_of}
 use Rattle.word_rule.specs.NodeTells.{IsLiveNode}
-use Rattle.word_rule.specs.Spelling.{spelled, SpellsNode}
+use Rattle.word_rule.specs.Spelling.{spelled}
 use Rattle.word_rule.specs.Steps.{mark_at_lock, place_by, place_by_held, place_in, first_mark}
-use Rattle.node_store.specs.Holding.{ReadsHeld}
+use Rattle.node_store.specs.Holding.{SpellsHeld}
 use Rattle.node_store.specs.Locking.{IsBusy, Locks}
-use Rattle.node_store.specs.Sights.{after_words}
+use Rattle.node_store.specs.Outlines.{OnlyLoads}
 use Rattle.btree_change.specs.declared.descent.Held.{Held}
 use Rattle.btree_change.specs.Paths.{AreHigher, HasChildFor, IsSettledLock, StepsOnNodes}
 use Rattle.btree_change.specs.Stands.{HoldsPair, StandsAt}
-use Rattle.btree_change.proofs.Descending.{IsChildOf, child_of, in_order, is_inner, steps_of_read, steps_of_take, steps_then}
+use Rattle.btree_change.proofs.Descending.{IsChildOf, child_of, in_order, is_inner, steps_of_take, steps_then}
+use Rattle.btree_change.proofs.Outlining.{spells_same, steps_of_loads}
 
 -- what is marked has its place
 pub settled_live : (t : Terms) (n : ℕ) (s : NodeData) (changed : Bool) (h : Holding) → IsSettledLock t n s changed h → (f : Frame) × ((h.mark ≡ Some f) × IsLiveNode t n s f)
@@ -88,10 +88,9 @@ module _ (t : Terms) (at : Held) (pc c : ℕ) (k k1 : CallerData) (terms : k.log
   pub may_read_child : IsSomeAnd (held_of c k1.log.holdings.held) (λ h. IsSome (spelled h.words))
   may_read_child = subst (λ o. IsSomeAnd o (λ h. IsSome (spelled h.words))) (sym found) (subst IsSome (sym taken.here.spells) refl)
 
-  pub lowered : (shape : NodeData) (k2 : CallerData) → ReadsHeld c k1 k2 shape → k2.log.holdings ≡ k1.log.holdings → HoldsPair t pc at (record { node = c; content = shape; changed = false }) (drop 1 k.log.holdings.held) k2.log.holdings × (shape.level < at.content.level)
-  lowered shape k2 reads same =
-      let told = subst (λ o. IsSomeAnd o (λ h. SpellsNode h.words shape × (k2 ≡ record k1 { log = after_words c h.words 35 k1.log }))) found reads in
-      let is : taken.content ≡ shape = same_Some _ _ (sym taken.here.spells ∙ told.0) in (
+  pub lowered : (shape : NodeData) (k2 : CallerData) → SpellsHeld c shape k1.log → k2.log.holdings ≡ k1.log.holdings → HoldsPair t pc at (record { node = c; content = shape; changed = false }) (drop 1 k.log.holdings.held) k2.log.holdings × (shape.level < at.content.level)
+  lowered shape k2 spells same =
+      let is = spells_same c taken.content shape taken.new k1.log found taken.here.spells spells in (
         record {
           parent_within = stands.within;
           child_within = child.within;
@@ -110,8 +109,8 @@ module _ (t : Terms) (at : Held) (pc c : ℕ) (k k1 : CallerData) (terms : k.log
         subst (λ (z : NodeData). z.level < at.content.level) is taken.less,
       )
 
-  pub steps_lowered : (shape : NodeData) (k2 : CallerData) → ReadsHeld c k1 k2 shape → StepsOnNodes k k2
-  steps_lowered shape k2 reads = steps_then k k1 k2 (steps_of_take c k k1 locks) (steps_of_read c k1 k2 shape reads)
+  pub steps_lowered : (k2 : CallerData) → OnlyLoads k1 k2 → StepsOnNodes k k2
+  steps_lowered k2 loads = steps_then k k1 k2 (steps_of_take c k k1 locks) (steps_of_loads k1 k2 loads)
 
 -- a lock was found taken
 pub busy_steps : (id : LockId) (k k' : CallerData) → IsBusy id k k' → StepsOnNodes k k'

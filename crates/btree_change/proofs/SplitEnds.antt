@@ -3,7 +3,8 @@ use Rattle.std.proofs.Common.{◌≡◌, ◌≢◌, ℕ, ◌-◌, ◌<◌, List,
 use Rattle.std.proofs.lemmas.Bool.{leb-true, leb-false}
 use Rattle.tree_shape.specs.NodeData.{NodeData, IsInFences, frame_of, pairs_of}
 use Rattle.tree_shape.specs.Numbers.{is_among}
-use Rattle.tree_shape.specs.Steps.{middle_fence}
+use Rattle.tree_shape.specs.Changes.{first_half, last_half}
+use Rattle.tree_shape.specs.Steps.{middle, middle_fence}
 use Rattle.tree_shape.specs.Trees.{Contents}
 use Rattle.word_rule.specs.CallerData.{CallerData}
 use Rattle.word_rule.specs.declared.log.Holding.{Holding}
@@ -13,7 +14,6 @@ use Rattle.word_rule.specs.declared.log.Terms.{Terms}
 use Rattle.word_rule.specs.Exchange.{exchange}
 use Rattle.word_rule.specs.Held.{held_of, without_lock}
 use Rattle.word_rule.specs.NodeTells.{HolderTells, KnowsTree}
-use Rattle.word_rule.specs.Sights.{after_node_load}
 use Rattle.word_rule.specs.Logs.{after_spending}
 use Rattle.word_rule.specs.Spelling.{SpellsNode}
 use Rattle.word_rule.specs.Steps.{MayRelease, after_node_release}
@@ -23,7 +23,8 @@ use Rattle.btree_change.specs.declared.split.Split.{Split}
 use Rattle.btree_change.specs.Paths.{HasChildFor, StepsOnNodes}
 use Rattle.btree_change.specs.Splits.{HasSpace, HoldsFullChild, IsHeldAs, SplitsChild, half_for, other_half, parent_for, parts_for, with_release_less}
 use Rattle.btree_change.proofs.Descending.{steps_then}
-use Rattle.btree_change.proofs.Descents.{steps_of_load}
+use Rattle.btree_change.proofs.Outlining.{spell_one, spells_held}
+use Rattle.node_store.specs.Holding.{SpellsHeld}
 use Rattle.btree_change.proofs.HeldParts.{dropped, is_first, is_second, is_third, told_place}
 use Rattle.btree_change.proofs.Loading.{none_more}
 use Rattle.btree_change.proofs.Settling.{SettlingLaws, may_release, released, settled_group, settled_new, stay_settled}
@@ -81,6 +82,20 @@ half_is t full pc hs h tree = go (nat_le pc (middle_fence full.child.content)) r
       level = level t full pc hs h tree;
       room = (are_halves full.child.content.body h.is_full).right_room;
     }
+
+-- what is held is known by its parts
+pub same_held : (a b : Held) → a.node ≡ b.node → a.content ≡ b.content → a.changed ≡ b.changed → a ≡ b
+same_held a b node content changed = (λ i. record { node = node i; content = content i; changed = changed i })
+
+pub half_changed : (left right pc : ℕ) (s : NodeData) → (half_for left right pc s).changed ≡ true
+half_changed left right pc s = go (nat_le pc (middle_fence s))
+  where
+    changed_in : Held → Bool
+    changed_in at = at.changed
+
+    go : (b : Bool) → changed_in (if b then record { node = left; content = first_half (middle s.body) s; changed = true } else record { node = right; content = last_half (middle s.body) s; changed = true }) ≡ true
+    go true = refl
+    go false = refl
 
 abbrev node_in : Held → ℕ
 node_in at = at.node
@@ -184,36 +199,48 @@ module _ (laws : SettlingLaws) (t : Terms) (full : FullChild) (pc : ℕ) (f : Co
         same = subst (StepsOnNodes (with_release_less k')) (sym whole) (record { table = refl; left = refl; terms = refl; role = refl; past = refl; budget = refl; receipts = refl; loader = refl; made = refl; lineage = refl; loads = none_more k'.log.trace.loads });
       }
 
-  -- and after a load of both that are held
+  -- both that are held may be read then
+  pub may_read_both : (k5 : CallerData) → k5 ≡ record k' { log = after_node_release (other_half full.child.node full.fresh pc full.child.content) k'.log }
+      → SpellsHeld (half_for full.child.node full.fresh pc full.child.content).node (half_for full.child.node full.fresh pc full.child.content).content k5.log × SpellsHeld full.parent.node (parts_for full pc).above k5.log
+  may_read_both k5 is5 =
+      let way = half_for full.child.node full.fresh pc full.child.content in
+      let r = is_released k5 is5 in
+      let found_way : held_of way.node k5.log.holdings.held ≡ Some ends.lock = ap (held_of way.node) r.held ∙ found_at way.node [] ends.lock (upper' ∷ rest) ends.node tt in
+      let found_up : held_of full.parent.node k5.log.holdings.held ≡ Some upper' = ap (held_of full.parent.node) r.held ∙ found_at full.parent.node (ends.lock ∷ []) upper' rest w.upper_node ((λ e. ends.far (sym ends.node ∙ e)), tt) in
+      (spells_held way.node way.content ends.lock k5.log found_way ends.spells, spells_held full.parent.node (parts_for full pc).above upper' k5.log found_up w.upper_spells)
+
+  -- and after loads of both
   pub split_so : (hs : Holdings) (h : HoldsFullChild t full pc hs) (tree : KnowsTree hs) → h.rest ≡ rest → k.log.holdings ≡ hs → k.log.terms ≡ t
-      → (k5 k6 k7 : CallerData) (split : Split) (found6 found7 : ℕ) → k5 ≡ record k' { log = after_node_release (other_half full.child.node full.fresh pc full.child.content) k'.log }
-      → split.way ≡ half_for full.child.node full.fresh pc full.child.content → split.parent ≡ parent_for full pc
-      → k6 ≡ record k5 { log = after_node_load (half_for full.child.node full.fresh pc full.child.content).node 2 found6 k5.log } → HolderTells (half_for full.child.node full.fresh pc full.child.content).node k5.log
-      → k7 ≡ record k6 { log = after_node_load full.parent.node 2 found7 k6.log } → HolderTells full.parent.node k6.log
+      → (k5 k7 : CallerData) (split : Split) → k5 ≡ record k' { log = after_node_release (other_half full.child.node full.fresh pc full.child.content) k'.log }
+      → (split.parent.node ≡ full.parent.node) × (split.parent.changed ≡ true) → (split.way.node ≡ (half_for full.child.node full.fresh pc full.child.content).node) × (split.way.changed ≡ true)
+      → SpellsHeld full.parent.node split.parent.content k5.log → SpellsHeld (half_for full.child.node full.fresh pc full.child.content).node split.way.content k5.log
+      → HolderTells full.parent.node k5.log → HolderTells (half_for full.child.node full.fresh pc full.child.content).node k5.log
+      → StepsOnNodes k5 k7 → k7.log.holdings ≡ k5.log.holdings
       → SplitsChild t full pc split k k7
-  split_so hs h tree rest_is start terms k5 k6 k7 split found6 found7 is5 way_is parent_is is6 told6 is7 told7 =
+  split_so hs h tree rest_is start terms k5 k7 split is5 parent_as way_as spells_parent spells_way told_parent told_way same kept =
       let way = half_for full.child.node full.fresh pc full.child.content in
       let r = is_released k5 is5 in
       let half = half_is t full pc hs h tree in
+      let both = may_read_both k5 is5 in
+      let way_is : split.way ≡ way = same_held split.way way way_as.0 (sym (spell_one way.node way.content split.way.content k5.log both.0 spells_way)) (way_as.1 ∙ sym (half_changed full.child.node full.fresh pc full.child.content)) in
+      let parent_is : split.parent ≡ parent_for full pc = same_held split.parent (parent_for full pc) parent_as.0 (sym (spell_one full.parent.node (parts_for full pc).above split.parent.content k5.log both.1 spells_parent)) parent_as.1 in
       let steps5 : StepsOnNodes (with_release_less k) k5 = steps_then (with_release_less k) (with_release_less k') k5 (less_release_then k k' w.same) r.same in
-      let steps6 : StepsOnNodes (with_release_less k) k6 = steps_then (with_release_less k) k5 k6 steps5 (steps_of_load way.node 2 found6 k5 k6 is6) in
-      let steps7 : StepsOnNodes (with_release_less k) k7 = steps_then (with_release_less k) k6 k7 steps6 (steps_of_load full.parent.node 2 found7 k6 k7 is7) in
-      let held6 : k6.log.holdings.held ≡ ends.lock ∷ upper' ∷ rest = ap (λ (z : CallerData). z.log.holdings.held) is6 ∙ r.held in
-      let held7 : k7.log.holdings.held ≡ ends.lock ∷ upper' ∷ rest = ap (λ (z : CallerData). z.log.holdings.held) is7 ∙ held6 in
+      let steps7 : StepsOnNodes (with_release_less k) k7 = steps_then (with_release_less k) k5 k7 steps5 same in
+      let held7 : k7.log.holdings.held ≡ ends.lock ∷ upper' ∷ rest = ap (λ (z : Holdings). z.held) kept ∙ r.held in
       let found_way : held_of way.node k5.log.holdings.held ≡ Some ends.lock = ap (held_of way.node) r.held ∙ found_at way.node [] ends.lock (upper' ∷ rest) ends.node tt in
-      let found_up : held_of full.parent.node k6.log.holdings.held ≡ Some upper' = ap (held_of full.parent.node) held6 ∙ found_at full.parent.node (ends.lock ∷ []) upper' rest w.upper_node ((λ e. ends.far (sym ends.node ∙ e)), tt) in
+      let found_up : held_of full.parent.node k5.log.holdings.held ≡ Some upper' = ap (held_of full.parent.node) r.held ∙ found_at full.parent.node (ends.lock ∷ []) upper' rest w.upper_node ((λ e. ends.far (sym ends.node ∙ e)), tt) in
       let dropped_is : drop 3 k.log.holdings.held ≡ rest = ap (λ (z : Holdings). drop 3 z.held) start ∙ (ap (drop 3) h.held ∙ rest_is) in record {
         lower = ends.lock;
         upper = upper';
         held = held7 ∙ ap (λ xs. ends.lock ∷ upper' ∷ xs) (sym dropped_is);
-        out = ap (λ (z : CallerData). z.log.holdings.out) is7 ∙ (ap (λ (z : CallerData). z.log.holdings.out) is6 ∙ r.out);
+        out = ap (λ (z : Holdings). z.out) kept ∙ r.out;
         way_held = subst (λ z. IsHeldAs t z ends.lock) (sym way_is) (record {
           node = ends.node;
           settled = ends.settled;
           spells = ends.spells;
           stored = ends.stored;
           marked = ends.marked;
-          live = told_place t way.node way.content ends.lock k5.log (steps5.terms ∙ terms) found_way ends.node ends.settled told6;
+          live = told_place t way.node way.content ends.lock k5.log (steps5.terms ∙ terms) found_way ends.node ends.settled told_way;
         });
         parent_held = subst (λ z. IsHeldAs t z upper') (sym parent_is) (record {
           node = w.upper_node;
@@ -221,7 +248,7 @@ module _ (laws : SettlingLaws) (t : Terms) (full : FullChild) (pc : ℕ) (f : Co
           spells = w.upper_spells;
           stored = w.upper_stored;
           marked = refl;
-          live = told_place t full.parent.node (parts_for full pc).above upper' k6.log (steps6.terms ∙ terms) found_up w.upper_node refl told7;
+          live = told_place t full.parent.node (parts_for full pc).above upper' k5.log (steps5.terms ∙ terms) found_up w.upper_node refl told_parent;
         });
         way = way_is;
         parent = parent_is;

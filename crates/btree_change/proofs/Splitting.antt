@@ -30,6 +30,8 @@ use Rattle.btree_change.proofs.Descending.{all_there, level_of, steps_then}
 use Rattle.btree_change.proofs.HeldParts.{AreFar, IsTold, higher_dead, higher_far, higher_once, higher_stay, is_first, is_none, is_second, is_third, lives_apart, place_of_lock}
 use Rattle.btree_change.proofs.HeldLists.{HeldOnce}
 use Rattle.btree_change.proofs.Settling.{FitsChange, IsHeldChange, StaysSettled, left_out, marked_at, none_out, stays_fit}
+use Rattle.btree_change.proofs.Outlining.{spells_held}
+use Rattle.word_rule.specs.declared.log.Log.{Log}
 use Rattle.btree_change.proofs.SplitParts.{above_differs, are_halves, left_differs, never_free, slot_of}
 use Rattle.btree_change.proofs.Storing.{IsRewritten, found_at, rewritten_so}
 
@@ -181,6 +183,17 @@ module _ (t : Terms) (full : FullChild) (pc : ℕ) (hs : Holdings) (h : HoldsFul
 
   pub before_new : AreFar full.fresh (h.lower ∷ h.upper ∷ h.rest)
   before_new = (moved full.fresh full.child.node h.lower h.child.node (λ e. new_down (sym e)), (moved full.fresh full.parent.node h.upper h.parent.node (λ e. new_up (sym e)), rest_new))
+
+  -- the words of the child and of its parent are theirs
+  pub parent_spelled : (v : Log) → v.holdings ≡ hs → SpellsHeld full.parent.node full.parent.content v
+  parent_spelled v same =
+      let far : AreFar full.parent.node (h.new ∷ h.lower ∷ []) = (moved full.parent.node full.fresh h.new h.free.node new_up, (moved full.parent.node full.child.node h.lower h.child.node down_up, tt)) in
+      spells_held full.parent.node full.parent.content h.upper v (ap (λ (z : Holdings). held_of full.parent.node z.held) same ∙ (ap (held_of full.parent.node) h.held ∙ found_at full.parent.node (h.new ∷ h.lower ∷ []) h.upper h.rest h.parent.node far)) h.parent.spells
+
+  pub child_spelled : (v : Log) → v.holdings ≡ hs → SpellsHeld full.child.node full.child.content v
+  child_spelled v same =
+      let far : AreFar full.child.node (h.new ∷ []) = (moved full.child.node full.fresh h.new h.free.node new_down, tt) in
+      spells_held full.child.node full.child.content h.lower v (ap (λ (z : Holdings). held_of full.child.node z.held) same ∙ (ap (held_of full.child.node) h.held ∙ found_at full.child.node (h.new ∷ []) h.lower (h.upper ∷ h.rest) h.child.node far)) h.child.spells
 
   pub found_child : (p : Pair) × ((slice_get (pairs_of full.parent.content) (slot_for pc (pairs_of full.parent.content)) ≡ Some p) × (p.child ≡ full.child.node))
   found_child =

@@ -1,6 +1,6 @@
 -- Where an insertion stands after a step down: what it holds is of one tree, and the node above both
 -- leaves is known where the span ends beyond the child.
-use Rattle.std.proofs.Common.{◌≡◌, ℕ, zero, suc, ◌+◌, ◌-◌, ◌<◌, ◌≤◌, List, [], ◌∷◌, ◌++◌, length, sym, refl, ap, ◌∙◌, subst, arith, inl, inr, ◌⊎◌, Bool, true, false, ◌==◌, Option, Some, None, IsSome, Contains, cond, if◌then◌else◌}
+use Rattle.std.proofs.Common.{◌≡◌, ◌≢◌, ℕ, zero, suc, ◌+◌, ◌-◌, ◌<◌, ◌≤◌, List, [], ◌∷◌, ◌++◌, length, sym, refl, ap, ◌∙◌, subst, arith, inl, inr, ◌⊎◌, Bool, true, false, ◌==◌, Option, Some, None, IsSome, Contains, cond, if◌then◌else◌}
 use Rattle.std.proofs.lemmas.Option.{same_Some}
 use Rattle.std.proofs.lemmas.Bool.{le-leb, lt-leb}
 use Rattle.std.specs.List.{AllByRecursion, slice_get}
@@ -18,10 +18,7 @@ use Rattle.word_rule.specs.declared.log.LoadEvent.{LoadEvent}
 use Rattle.word_rule.specs.declared.log.Log.{Log}
 use Rattle.word_rule.specs.declared.log.Terms.{Terms}
 use Rattle.word_rule.specs.Held.{held_of}
-use Rattle.word_rule.specs.Logs.{load_of}
-use Rattle.word_rule.specs.Places.{node_place}
 use Rattle.word_rule.specs.NodeTells.{KnowsTree}
-use Rattle.word_rule.specs.Sights.{after_node_load}
 use Rattle.word_rule.specs.Spelling.{SpellsNode}
 use Rattle.word_rule.specs.TreeRefusals.{HadNoRoom}
 use Rattle.btree_change.specs.declared.descent.Held.{Held}
@@ -32,6 +29,9 @@ use Rattle.btree_change.specs.Paths.{AreHigher, IsLiveLock, IsSettledLock}
 use Rattle.btree_change.specs.Stands.{HasWayOn, HoldsPair, LiesBeyond, IsReach, MayGo, Reaches, StandsOnWay, StandsAt}
 use Rattle.btree_change.proofs.HeldTrees.{OnTree, apart_with, child, child_frame, inner, on_tree}
 use Rattle.btree_change.proofs.NoRoom.{more_loads}
+use Rattle.btree_change.proofs.Outlining.{spells_held}
+use Rattle.btree_change.proofs.Storing.{found_at}
+use Rattle.node_store.specs.Holding.{SpellsHeld}
 
 -- an item of a list stands in it
 contains_in : {A : Type 0} (xs : List A) (x : A) → Contains xs x → In x xs
@@ -148,6 +148,23 @@ module _ (t : Terms) (pc last : ℕ) (parent below : Held) (above : List Holding
       go true = refl
       go false = pair.root
 
+  -- the words of both are theirs
+  pub upper_spelled : (v : Log) → v.holdings ≡ holdings → SpellsHeld parent.node parent.content v
+  upper_spelled v same =
+      let far : pair.lower.node ≢ parent.node = λ e. stands_below.apart.0.0 (pair.parent_is.node ∙ sym e) in
+      spells_held parent.node parent.content pair.upper v (ap (λ (hs : Holdings). held_of parent.node hs.held) same ∙ (ap (held_of parent.node) pair.held ∙ found_at parent.node (pair.lower ∷ []) pair.upper above pair.parent_is.node (far, tt))) pair.parent_is.spells
+
+  pub lower_spelled : (v : Log) → v.holdings ≡ holdings → SpellsHeld below.node below.content v
+  lower_spelled v same =
+      spells_held below.node below.content pair.lower v (ap (λ (hs : Holdings). held_of below.node hs.held) same ∙ (ap (held_of below.node) pair.held ∙ found_at below.node [] pair.lower (pair.upper ∷ above) pair.child_is.node tt)) pair.child_is.spells
+
+  -- the child ends at its pair's separator
+  pub child_ends : (p : Pair) → slice_get (pairs_of parent.content) (slot_for pc (pairs_of parent.content)) ≡ Some p → p.separator ≡ below.content.high
+  child_ends p at =
+      let at_upper : slice_get (pairs_of pair.upper.settled) (slot_for pc (pairs_of pair.upper.settled)) ≡ Some p = ap (λ (s : NodeData). slice_get (pairs_of s) (slot_for pc (pairs_of s))) pair.parent_is.settled ∙ at in
+      let same : slot.pair ≡ p = same_Some _ _ (sym slot.at ∙ at_upper) in
+      ap (λ (z : Pair). z.separator) (sym same) ∙ (sym child_high ∙ ap (λ (s : NodeData). s.high) pair.child_is.settled)
+
   pub reaches_below : (so_far found : Option Beyond) → IsReach parent pc last so_far found → Reaches t last parent.content so_far pair.upper above → Reaches t last below.content found pair.lower (pair.upper ∷ above)
   reaches_below so_far found (p, (at, which)) before =
       let at_upper : slice_get (pairs_of pair.upper.settled) (slot_for pc (pairs_of pair.upper.settled)) ≡ Some p = ap (λ (s : NodeData). slice_get (pairs_of s) (slot_for pc (pairs_of s))) pair.parent_is.settled ∙ at in
@@ -231,16 +248,12 @@ pub way_kept : (room : Room) (pc : ℕ) (s : NodeData) (v w : Log) → w.receipt
 way_kept room.Splitting pc s v w own more is h = h
 way_kept room.NoneFree pc s v w own more is h = subst (λ xs. HadNoRoom pc (length xs) w.trace.loads) (sym own) (subst (HadNoRoom pc (length v.receipts.own)) (sym is) (more_loads pc (length v.receipts.own) v.trace.loads more h))
 
--- and so is where an insertion stands
-pub stands_after : (t : Terms) (m : Member) (parent below : Held) (way : Room) (so_far found : Option Beyond) (above : List Holding) (at word : ℕ) (k k' : CallerData) → (pair : HoldsPair t m.span.first parent below above k.log.holdings) → KnowsTree k.log.holdings → HasWayOn way m.span.first below.content k.log → IsReach parent m.span.first m.span.last so_far found → Reaches t m.span.last parent.content so_far pair.upper above
-    → k' ≡ record k { log = after_node_load below.node at word k.log } → StandsOnWay t m (record { at = below; beyond = found; room = way }) k'.log
-stands_after t m parent below way so_far found above at word k k' pair tree on is_reach before is =
-    let same : k'.log.holdings ≡ k.log.holdings = ap (λ (z : CallerData). z.log.holdings) is in
-    let here = stands_below t m.span.first m.span.last parent below above k.log.holdings pair tree in
-    let reach = reaches_below t m.span.first m.span.last parent below above k.log.holdings pair tree so_far found is_reach before in
-    subst (λ (z : CallerData). StandsOnWay t m (record { at = below; beyond = found; room = way }) z.log) (sym is) (record {
-      at = here;
-      here = pair.here;
-      reach = reach;
-      way = way_kept way m.span.first below.content k.log (after_node_load below.node at word k.log) refl (load_of k.log (node_place below.node + at) word ∷ []) refl on;
-    })
+-- and where an insertion stands after a step
+pub stands_after : (t : Terms) (m : Member) (parent below : Held) (way : Room) (so_far found : Option Beyond) (above : List Holding) (k : CallerData) → (pair : HoldsPair t m.span.first parent below above k.log.holdings) → KnowsTree k.log.holdings → HasWayOn way m.span.first below.content k.log → IsReach parent m.span.first m.span.last so_far found → Reaches t m.span.last parent.content so_far pair.upper above
+    → StandsOnWay t m (record { at = below; beyond = found; room = way }) k.log
+stands_after t m parent below way so_far found above k pair tree on is_reach before = record {
+  at = stands_below t m.span.first m.span.last parent below above k.log.holdings pair tree;
+  here = pair.here;
+  reach = reaches_below t m.span.first m.span.last parent below above k.log.holdings pair tree so_far found is_reach before;
+  way = on;
+}

@@ -1,7 +1,7 @@
 -- A full child is split on the way down where a node is free; then the insertion goes on below.
 use Rattle.std.proofs.Common.{◌≡◌, ℕ, ◌<◌, List, [], ◌∷◌, length, drop, append-nil, sym, refl, ap, ◌∙◌, subst, arith, inl, Bool, true, false, ◌==◌, Some, IsSome, is_some, cond}
 use Rattle.tree_shape.specs.NodeData.{NodeData, Pairs, IsInFences, frame_of, pairs_of}
-use Rattle.tree_shape.specs.Lawful.{IsOrdered}
+use Rattle.tree_shape.specs.Lawful.{IsFilled, IsOrdered}
 use Rattle.tree_shape.specs.Steps.{IsFull}
 use Rattle.word_rule.specs.CallerData.{CallerData}
 use Rattle.word_rule.specs.declared.log.Holding.{Holding}
@@ -59,6 +59,9 @@ none_free_on way pc s u v is h = subst (λ w. HasWayOn w pc u v) (sym is) (subst
 module _ (t : Terms) (pc : ℕ) (step : Step) (above : List Holding) (k : CallerData) (pair : HoldsPair t pc step.parent step.child above k.log.holdings) where
   pub child_order : IsOrdered step.child.content
   child_order = (settled_live t step.child.node step.child.content step.child.changed pair.lower pair.child_is).1.1.ordered
+
+  pub child_filled : IsFilled step.child.node step.child.content
+  child_filled = (settled_live t step.child.node step.child.content step.child.changed pair.lower pair.child_is).1.1.filled
 
   pub full_held : IsFull step.child.content.body → HoldsFull t step.child pc k.log.holdings
   full_held full = record {

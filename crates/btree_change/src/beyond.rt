@@ -10,7 +10,9 @@ ghost use Rattle.tree_shape.specs.declared.node.Frame.{Frame};
 ghost use Rattle.word_rule.specs.CallerData.{due, surplus};
 ghost use Rattle.word_rule.specs.NodeTells.{IsLiveNode};
 ghost use Rattle.word_rule.specs.TreeRefusals.{HadNoRoom};
+ghost use Rattle.node_store.specs.Holding.{SpellsHeld};
 ghost use Rattle.btree_change.specs.Loads.{FoundTaken, KeepsLoads};
+ghost use Rattle.btree_change.specs.Paths.{StepsOnNodes};
 ghost use Rattle.btree_change.specs.Insertion.{IfFull, RefusesMember};
 ghost use Rattle.btree_change.specs.Spines.{HoldsLeafPair, HoldsNext};
 ghost use Rattle.btree_change.specs.Stands.{AnswersBelow, GivesUpBelow, HasCause, StandsAt};
@@ -80,6 +82,8 @@ fn refused_far(
         right.now.content me.old.log.holdings
         × ((place : Frame) × IsLiveNode words.now.terms right.now.node right.now.content place) }
     requires here { IsInFences member.now.span.first far.now.leaf.content }
+    requires inside { right.now.node < words.now.terms.nodes }
+    requires spells { SpellsHeld right.now.node right.now.content me.old.log }
     requires free { IsFree member.now.span (entries_of far.now.leaf.content) }
     requires never_root { right.now.node ≢ 0 }
     requires cause { far.now.room ≡ Room.NoneFree
@@ -89,7 +93,9 @@ fn refused_far(
         me.old me.new) }
     ensures full { IfSome result (λ answer. IfFull answer
         (HasCause far.now.room member.now.span.first me.old me.new)) }
-    ensures none { IfNone result ((me.new ≡ me.old) × (far.now.room ≡ Room.Splitting)
+    ensures same { IfNone result (StepsOnNodes me.old me.new) }
+    ensures none { IfNone result ((me.new.log.holdings ≡ me.old.log.holdings)
+        × (far.now.room ≡ Room.Splitting)
         × LiesAbove member.now.span.last right.now.content.body
         × (member.now.span.last < right.now.content.high)) }
 {
@@ -145,14 +151,10 @@ fn put_far<L: Locking>(
         slot: far.beyond.slot,
     };
     raise_fence(locking, words, me, &above, member.span.last());
-    let content = read_held(words, me, far.leaf.node);
-    let leaf = Held {
-        node: far.leaf.node,
-        content,
-        changed: true,
-    };
-    let number = put_in_leaf(words, me, &leaf, member);
-    let_go_of(locking, words, me, leaf.node, true);
+    let node = far.leaf.node;
+    let content = read_held(words, me, node);
+    let number = put_in_leaf(words, me, node, &content, member);
+    let_go_of(locking, words, me, node, true);
     Reply {
         answer: Inserted::Done { number },
         moved: far.beyond.level,

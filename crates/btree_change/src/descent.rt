@@ -3,27 +3,25 @@ ghost use Rattle.std.specs.Prelude.{◌≡◌, ◌<◌, true, OnOk, IfOk, IfErr}
 ghost use Rattle.tree_shape.specs.NodeData.{InOrder, IsInFences, IsInner};
 ghost use Rattle.word_rule.specs.CallerData.{surplus};
 ghost use Rattle.word_rule.specs.Callers.{IsIdle};
+ghost use Rattle.node_store.specs.Holding.{SpellsHeld};
 ghost use Rattle.node_store.specs.Locking.{IsBusy, Locks};
+ghost use Rattle.node_store.specs.Outlines.{OnlyLoads};
 ghost use Rattle.btree_change.specs.Loads.{FoundTaken};
 ghost use Rattle.btree_change.specs.Paths.{HasChildFor, HoldsNothing, StepsOnNodes};
 ghost use Rattle.btree_change.specs.Stands.{HoldsRoot, LetsGo, MayGo};
 
-use node_store::{Busy, Locking, read_held};
-use tree_shape::{Node, inner_slot};
+use node_store::{Busy, Locking, Outline, outline_of, pair_of, slot_of};
 use word_rule::exchange::exchange_decided;
 use word_rule::{Ask, Caller, LockId, Words};
 
 /// The word of a node that has its level.
 const LEVEL: u32 = 2;
 
-/// The most releases that an update call makes.
-pub(crate) const CALL_CREDIT: u64 = 64;
-
-/// A node of the way down, held, with what it holds.
+/// A node of the way down, held, in outline.
 #[derive(Drop)]
 pub(crate) struct Held {
     pub(crate) node: u32,
-    pub(crate) content: Node,
+    pub(crate) content: Outline,
     /// Whether a word was stored under its lock.
     pub(crate) changed: bool,
 }
@@ -73,18 +71,22 @@ pub(crate) fn let_go_of<L: Locking>(
     }
 }
 
-/// The child of an inner node to which an address leads.
-pub(crate) fn child_for(content: &Node, pc: u64) -> u32
-    requires inner { IsInner content.now }
-    requires ordered { InOrder content.now }
-    requires here { IsInFences pc content.now }
-    ensures { HasChildFor content.now pc result }
+/// The child of a held inner node to which an address leads.
+pub(crate) fn child_for(words: &Words, me: &mut Caller, at: &Held, pc: u64) -> u32
+    requires table { me.old.table ≡ words.now.table }
+    requires inside { at.now.node < words.now.terms.nodes }
+    requires spells { SpellsHeld at.now.node at.now.content me.old.log }
+    requires inner { IsInner at.now.content }
+    requires ordered { InOrder at.now.content }
+    requires here { IsInFences pc at.now.content }
+    ensures child { HasChildFor at.now.content pc result }
+    ensures loads { OnlyLoads me.old me.new }
 {
-    let slot = inner_slot(content, pc);
-    content.pairs()[slot].child
+    let slot = slot_of(words, me, at.node, &at.content, pc);
+    pair_of(words, me, at.node, &at.content, slot).child
 }
 
-/// Takes the root, and reads it.
+/// Takes the root, and outlines it.
 pub(crate) fn at_root<L: Locking>(locking: &L, words: &Words, me: &mut Caller) -> Result<Held, Busy>
     requires table { me.old.table ≡ words.now.table }
     requires idle { IsIdle me.old.log }
@@ -100,7 +102,7 @@ pub(crate) fn at_root<L: Locking>(locking: &L, words: &Words, me: &mut Caller) -
     take_node(locking, words, me, node)?;
     // By this load it is known that what is held is of a tree, so that the root has all addresses.
     words.load_node(me, node, LEVEL);
-    let content = read_held(words, me, node);
+    let content = outline_of(words, me, node);
     Ok(Held {
         node,
         content,

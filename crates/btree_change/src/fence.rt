@@ -8,6 +8,7 @@ ghost use Rattle.tree_shape.specs.declared.node.Frame.{Frame};
 ghost use Rattle.tree_shape.specs.declared.limits.TheConstants.{HIGHEST_LEVEL};
 ghost use Rattle.word_rule.specs.CallerData.{surplus};
 ghost use Rattle.word_rule.specs.NodeTells.{IsLiveNode};
+ghost use Rattle.node_store.specs.Holding.{SpellsHeld};
 ghost use Rattle.btree_change.specs.Insertion.{IfFull, RefusesMember};
 ghost use Rattle.btree_change.specs.Paths.{StepsOnNodes};
 ghost use Rattle.btree_change.specs.Loads.{FoundTaken, KeepsLoads};
@@ -89,17 +90,21 @@ pub(crate) fn refused_next(
         right.now.content me.old.log.holdings
         × ((place : Frame) × IsLiveNode words.now.terms right.now.node right.now.content place) }
     requires here { IsInFences member.now.span.first leaf.now.content }
+    requires inside { right.now.node < words.now.terms.nodes }
+    requires spells { SpellsHeld right.now.node right.now.content me.old.log }
     requires free { IsFree member.now.span (entries_of leaf.now.content) }
     requires never_root { right.now.node ≢ 0 }
     ensures overlaps { IfSome result (λ answer. RefusesMember words.now.terms member.now answer
         me.old me.new) }
     ensures never_full { IfSome result (λ answer. IfFull answer ⊥) }
-    ensures free { IfNone result ((me.new ≡ me.old)
+    ensures same { IfNone result (StepsOnNodes me.old me.new) }
+    ensures free { IfNone result ((me.new.log.holdings ≡ me.old.log.holdings)
         × IsFree member.now.span (entries_of right.now.content)
         × LiesAbove member.now.span.last right.now.content.body
         × (member.now.span.last < right.now.content.high)) }
 {
-    let other = first_overlap(&right.content, &member.span)?;
+    let content = read_held(words, me, right.node);
+    let other = first_overlap(&content, &member.span)?;
     let update = Update::Register { member: *member };
     let clock = words.load_clock(me, Ask::Refused { update });
     Some(Inserted::Overlap {

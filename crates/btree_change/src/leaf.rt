@@ -1,5 +1,5 @@
 //! The answers of an insertion at its leaf, and the change of it.
-ghost use Rattle.std.specs.Prelude.{◌≡◌, ◌<◌, ◌≤◌, IfNone, IfSome, length};
+ghost use Rattle.std.specs.Prelude.{◌≡◌, ◌<◌, ◌≤◌, Bool, IfNone, IfSome, length};
 ghost use Rattle.reg_model.specs.SpanData.{IsSpan};
 ghost use Rattle.reg_model.specs.State.{IsFree};
 ghost use Rattle.tree_shape.specs.NodeData.{IsInFences, entries_of};
@@ -12,7 +12,7 @@ ghost use Rattle.btree_change.specs.Stands.{StandsAt};
 use crate::descent::Held;
 use node_store::write_held;
 use reg_model::{Inserted, Member, Update};
-use tree_shape::{ENTRIES, first_overlap, laws, put_entry};
+use tree_shape::{ENTRIES, Node, first_overlap, laws, put_entry};
 use word_rule::exchange::exchange_decided;
 use word_rule::{Ask, Caller, Words};
 
@@ -22,49 +22,66 @@ const LOWER: u64 = 1 << 32;
 /// The word of a node that has its count.
 const COUNT: u32 = 5;
 
-/// Writes a member into a leaf that is held, in which it has room and overlaps nothing, and commits
-/// it: its number.
-pub(crate) fn put_in_leaf(words: &Words, me: &mut Caller, at: &Held, member: &Member) -> u32
+/// Writes a member into a leaf that is held and was read, in which it has room and overlaps nothing,
+/// and commits it: its number.
+pub(crate) fn put_in_leaf(
+    words: &Words,
+    me: &mut Caller,
+    node: u32,
+    leaf: &Node,
+    member: &Member,
+) -> u32
     requires table { me.old.table ≡ words.now.table }
     requires terms { me.old.log.terms ≡ words.now.terms }
-    requires leaf { HoldsLeaf words.now.terms at.now me.old.log.holdings }
-    requires level { at.now.content.level ≡ 0 }
+    requires leaf { (changed : Bool) × HoldsLeaf words.now.terms (record {
+      node = node;
+      content = leaf.now;
+      changed = changed;
+    }) me.old.log.holdings }
+    requires level { leaf.now.level ≡ 0 }
     requires span { IsSpan member.now.span }
-    requires low { at.now.content.low ≤ member.now.span.first }
-    requires high { member.now.span.last ≤ at.now.content.high }
-    requires room { length (entries_of at.now.content) < ENTRIES }
-    requires free { IsFree member.now.span (entries_of at.now.content) }
+    requires low { leaf.now.low ≤ member.now.span.first }
+    requires high { member.now.span.last ≤ leaf.now.high }
+    requires room { length (entries_of leaf.now) < ENTRIES }
+    requires free { IsFree member.now.span (entries_of leaf.now) }
     requires due { 0 < due me.old }
     requires payload { member.now.payload < words.now.terms.payloads }
-    ensures { PutsMember member.now at.now.node result me.old me.new }
+    ensures { PutsMember member.now node result me.old me.new }
 {
     laws::put();
     laws::transfer();
     exchange_decided();
     // By this load it is known of which tree the leaf is.
-    words.load_node(me, at.node, COUNT);
-    write_held(words, me, at.node, &put_entry(&at.content, member));
+    words.load_node(me, node, COUNT);
+    write_held(words, me, node, &put_entry(leaf, member));
     words.commit(me, Update::Register { member: *member })
 }
 
-/// Tells that a member is refused where a held leaf has one that overlaps: the lowest.
+/// Tells that a member is refused where a held leaf, which was read, has one that overlaps: the
+/// lowest.
 pub(crate) fn refused(
     words: &Words,
     me: &mut Caller,
-    leaf: &Held,
+    node: u32,
+    leaf: &Node,
     member: &Member,
 ) -> Option<Inserted>
     requires table { me.old.table ≡ words.now.table }
-    requires stands { StandsAt words.now.terms leaf.now me.old.log.holdings }
-    requires level { leaf.now.content.level ≡ 0 }
-    requires here { IsInFences member.now.span.first leaf.now.content }
+    requires stands { (changed : Bool) × StandsAt words.now.terms (record {
+      node = node;
+      content = leaf.now;
+      changed = changed;
+    }) me.old.log.holdings }
+    requires level { leaf.now.level ≡ 0 }
+    requires here { IsInFences member.now.span.first leaf.now }
     ensures overlaps { IfSome result (λ answer. RefusesMember words.now.terms member.now answer
         me.old me.new) }
     ensures never_full { IfSome result (λ answer. IfFull answer ⊥) }
-    ensures free { IfNone result (IsFree member.now.span (entries_of leaf.now.content)
+    ensures free { IfNone result (IsFree member.now.span (entries_of leaf.now)
         × (me.new ≡ me.old)) }
 {
-    let other = first_overlap(&leaf.content, &member.span)?;
+    let _ = node;
+    let other = first_overlap(leaf, &member.span)?;
     let update = Update::Register { member: *member };
     let clock = words.load_clock(me, Ask::Refused { update });
     Some(Inserted::Overlap {

@@ -4,14 +4,16 @@ ghost use Rattle.tree_shape.specs.Lawful.{IsOrdered};
 ghost use Rattle.tree_shape.specs.Steps.{IsFull};
 ghost use Rattle.tree_shape.specs.declared.limits.TheConstants.{HIGHEST_LEVEL};
 ghost use Rattle.word_rule.specs.CallerData.{surplus};
+ghost use Rattle.node_store.specs.Holding.{SpellsHeld};
 ghost use Rattle.btree_change.specs.Loads.{FoundNoRoom};
+ghost use Rattle.btree_change.specs.Paths.{StepsOnNodes};
 ghost use Rattle.btree_change.specs.Splits.{GivesBack, HoldsFullAlone, HoldsFullRoot};
 ghost use Rattle.btree_change.specs.Splits.{HoldsOneFree, IsRoomForRoot, LiftsRoot, StaysHeld};
 ghost use Rattle.btree_change.specs.Splits.{root_parts_for};
 
 use crate::descent::Held;
-use crate::split::{Parts, Split, halves, room_for, ways_of};
-use node_store::{Busy, Locking, give_free, write_held};
+use crate::split::{Parts, Split, halves, room_for, settled_split, ways_of};
+use node_store::{Busy, Locking, give_free, read_held, write_held};
 use tree_shape::limits::HIGHEST_LEVEL;
 use tree_shape::{laws, lift_root, put_pair};
 use word_rule::exchange::exchange_decided;
@@ -31,14 +33,20 @@ pub(crate) struct FullRoot {
 }
 
 /// The halves of the full root, and the root over them.
-fn root_parts(full: &FullRoot) -> Parts
+fn root_parts(words: &Words, me: &mut Caller, full: &FullRoot) -> Parts
+    requires table { me.old.table ≡ words.now.table }
+    requires inside { full.now.root.node < words.now.terms.nodes }
+    requires root { SpellsHeld full.now.root.node full.now.root.content me.old.log }
     requires ordered { IsOrdered full.now.root.content }
     requires is_full { IsFull full.now.root.content.body }
     requires height { full.now.root.content.level < HIGHEST_LEVEL }
-    ensures { result ≡ root_parts_for full.now }
+    ensures parts { result ≡ root_parts_for full.now }
+    ensures same { StepsOnNodes me.old me.new }
+    ensures holdings { me.new.log.holdings ≡ me.old.log.holdings }
 {
-    let (left, right) = halves(&full.root.content);
-    let (lifted, _) = lift_root(&full.root.content, full.left);
+    let root = read_held(words, me, full.root.node);
+    let (left, right) = halves(&root);
+    let (lifted, _) = lift_root(&root, full.left);
     let above = put_pair(&lifted, 0, left.high, full.right);
     Parts { left, right, above }
 }
@@ -64,16 +72,13 @@ pub(crate) fn lift<L: Locking>(
     exchange_decided();
     // By this load it is known of which tree the root is.
     words.load_node(me, full.root.node, LEVEL);
-    let parts = root_parts(full);
+    let parts = root_parts(words, me, full);
     write_held(words, me, full.left, &parts.left);
     write_held(words, me, full.right, &parts.right);
     write_held(words, me, full.root.node, &parts.above);
-    let ways = ways_of(full.root.node, full.left, full.right, parts, pc);
+    let ways = ways_of(full.left, full.right, &parts, pc);
     locking.let_go(words, me, LockId::Node { node: ways.other });
-    // And by these that both that are held are at their places in it.
-    words.load_node(me, ways.split.way.node, LEVEL);
-    words.load_node(me, full.root.node, LEVEL);
-    ways.split
+    settled_split(words, me, full.root.node, ways.way)
 }
 
 /// Two free nodes.
@@ -88,7 +93,7 @@ fn is_highest(root: &Held) -> bool
     ensures { MatchBool result (root.now.content.level ≡ HIGHEST_LEVEL)
         (root.now.content.level ≢ HIGHEST_LEVEL) }
 {
-    root.content.level == HIGHEST_LEVEL
+    root.content.level() == HIGHEST_LEVEL
 }
 
 /// Loads the full root's count and then its level, which is the highest: so there is no room.

@@ -13,7 +13,6 @@ ghost use Rattle.btree_change.specs.Removal.{AnswersRemoval, Removes, TriesRemov
 ghost use Rattle.btree_change.specs.Removing.{HoldsBesideRoot, IsSpare, Spends};
 ghost use Rattle.btree_change.specs.Updates.{GivesUp};
 
-use crate::descent::CALL_CREDIT;
 use crate::mending::{join, share, sink};
 use crate::sibling::{Siblings, is_small, leave, take_child, take_sibling};
 use crate::taking::{not_found, take_in_leaf};
@@ -212,7 +211,7 @@ pub fn try_remove(words: &Words, me: &mut Caller, base: u64) -> Result<Removed, 
     ensures busy { IfErr result (λ e. (CALL_CREDIT ≤ surplus me.old)
         × GivesUp e.lock me.old me.new) }
 {
-    if me.spare() < CALL_CREDIT {
+    if !me.may_try() {
         return Ok(Removed::Spent);
     }
     remove_by(&Trying, words, me, base)

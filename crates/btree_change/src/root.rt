@@ -159,7 +159,7 @@ pub(crate) fn at_held_root<L: Locking>(
     ensures busy { IfErr result (λ e. GivesUpWhole 64 me.old me.new × (L.gives_up ≡ true)) }
     ensures cause { IfErr result (λ e. FoundTaken e.lock me.old me.new) }
 {
-    if is_full(&root.content) {
+    if is_full(&root) {
         return at_full_root(locking, words, me, member, root);
     }
     let stand = Stand {

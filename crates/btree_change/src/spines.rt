@@ -9,7 +9,7 @@ ghost use Rattle.btree_change.specs.Spines.{HoldsFresh, HoldsSpines, IsPending};
 ghost use Rattle.btree_change.specs.Spines.{LetsGoSettled, LocksSpine, NamesChild, WritesSpines};
 
 use crate::descent::{Held, take_node};
-use node_store::{Busy, Locking, read_held, write_held};
+use node_store::{Busy, Locking, outline_of, read_held, write_held};
 use tree_shape::{Node, Pair, move_fence};
 use word_rule::exchange::exchange_decided;
 use word_rule::{Caller, LockId, Words};
@@ -86,14 +86,14 @@ pub(crate) fn lock_spine<L: Locking>(
     ensures same { StepsOnNodes me.old me.new }
 {
     take_node(locking, words, me, node)?;
-    let content = read_held(words, me, node);
     if level == 0 {
         return Ok(Held {
             node,
-            content,
+            content: outline_of(words, me, node),
             changed: false,
         });
     }
+    let content = read_held(words, me, node);
     // By this load it is known of which tree the node is, so that its child isn't held yet.
     words.load_node(me, node, LEVEL);
     let child = child_at_start(&content);

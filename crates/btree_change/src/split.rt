@@ -1,5 +1,5 @@
 //! The split of a full child under its parent.
-ghost use Rattle.std.specs.Prelude.{◌≡◌, ◌<◌, IsSome, length, true};
+ghost use Rattle.std.specs.Prelude.{◌≡◌, ◌<◌, IsSome, IsSomeAnd, length, true};
 ghost use Rattle.tree_shape.specs.Changes.{first_half, last_half};
 ghost use Rattle.tree_shape.specs.Lawful.{IsOrdered};
 ghost use Rattle.tree_shape.specs.NodeData.{InOrder, IsInFences, IsInner, pairs_of};
@@ -7,11 +7,15 @@ ghost use Rattle.tree_shape.specs.declared.limits.TheConstants.{PAIRS};
 ghost use Rattle.tree_shape.specs.Steps.{IsFull, middle};
 ghost use Rattle.word_rule.specs.CallerData.{surplus};
 ghost use Rattle.word_rule.specs.Held.{held_of};
+ghost use Rattle.word_rule.specs.NodeTells.{HolderTells};
+ghost use Rattle.word_rule.specs.Spelling.{spelled};
+ghost use Rattle.node_store.specs.Holding.{SpellsHeld};
+ghost use Rattle.btree_change.specs.Paths.{StepsOnNodes};
 ghost use Rattle.btree_change.specs.Splits.{HoldsFull, HoldsFullChild, IsRoomFor, SplitsChild};
 ghost use Rattle.btree_change.specs.Splits.{other_in, parts_for, way_in};
 
 use crate::descent::Held;
-use node_store::{Busy, Locking, take_free, write_held};
+use node_store::{Busy, Locking, outline_of, read_held, take_free, write_held};
 use tree_shape::{Node, inner_slot, laws, put_pair, split_inner, split_leaf};
 use word_rule::exchange::exchange_decided;
 use word_rule::{Caller, LockId, Words};
@@ -59,55 +63,88 @@ pub(crate) struct Parts {
 }
 
 /// The halves of a full child, and its parent with a pair more.
-fn parts_of(full: &FullChild, pc: u64) -> Parts
+fn parts_of(words: &Words, me: &mut Caller, full: &FullChild, pc: u64) -> Parts
+    requires table { me.old.table ≡ words.now.table }
+    requires above { full.now.parent.node < words.now.terms.nodes }
+    requires below { full.now.child.node < words.now.terms.nodes }
+    requires parent { SpellsHeld full.now.parent.node full.now.parent.content me.old.log }
+    requires child { SpellsHeld full.now.child.node full.now.child.content me.old.log }
     requires ordered { IsOrdered full.now.child.content }
     requires is_full { IsFull full.now.child.content.body }
     requires inner { IsInner full.now.parent.content }
     requires in_order { InOrder full.now.parent.content }
     requires here { IsInFences pc full.now.parent.content }
     requires room { length (pairs_of full.now.parent.content) < PAIRS }
-    ensures { result ≡ parts_for full.now pc }
+    ensures parts { result ≡ parts_for full.now pc }
+    ensures same { StepsOnNodes me.old me.new }
+    ensures holdings { me.new.log.holdings ≡ me.old.log.holdings }
 {
-    let (left, right) = halves(&full.child.content);
-    let slot = inner_slot(&full.parent.content, pc);
-    let above = put_pair(&full.parent.content, slot, left.high, full.fresh);
+    let child = read_held(words, me, full.child.node);
+    let parent = read_held(words, me, full.parent.node);
+    let (left, right) = halves(&child);
+    let slot = inner_slot(&parent, pc);
+    let above = put_pair(&parent, slot, left.high, full.fresh);
     Parts { left, right, above }
 }
 
 /// The node of a split to which an address leads, and the other one.
-#[derive(Drop)]
+#[derive(Clone, Copy)]
 pub(crate) struct Ways {
-    pub(crate) split: Split,
+    pub(crate) way: u32,
     pub(crate) other: u32,
 }
 
-/// What of a split is on the way to an address, and the node that isn't. The three nodes are the
-/// one above and those of the halves.
-pub(crate) fn ways_of(above: u32, left: u32, right: u32, parts: Parts, pc: u64) -> Ways
-    ensures way { result.split.way ≡ way_in left right pc parts }
-    ensures parent { result.split.parent
-        ≡ record { node = above; content = parts.above; changed = true } }
-    ensures other { result.other ≡ other_in left right pc parts }
+/// Which of the nodes of two halves is on the way to an address, and which isn't.
+pub(crate) fn ways_of(left: u32, right: u32, parts: &Parts, pc: u64) -> Ways
+    ensures way { result.way ≡ (way_in left right pc parts.now).node }
+    ensures other { result.other ≡ other_in left right pc parts.now }
 {
+    if pc <= parts.left.high {
+        Ways {
+            way: left,
+            other: right,
+        }
+    } else {
+        Ways {
+            way: right,
+            other: left,
+        }
+    }
+}
+
+/// What a split left on the way, where it has settled: the node above, and the half for the
+/// address.
+pub(crate) fn settled_split(words: &Words, me: &mut Caller, above: u32, way: u32) -> Split
+    requires table { me.old.table ≡ words.now.table }
+    requires above { above < words.now.terms.nodes }
+    requires below { way < words.now.terms.nodes }
+    requires held_above { IsSomeAnd (held_of above me.old.log.holdings.held)
+        (λ h. IsSome (spelled h.words)) }
+    requires held_way { IsSomeAnd (held_of way me.old.log.holdings.held)
+        (λ h. IsSome (spelled h.words)) }
+    ensures parent { (result.parent.node ≡ above) × (result.parent.changed ≡ true) }
+    ensures way { (result.way.node ≡ way) × (result.way.changed ≡ true) }
+    ensures spells_parent { SpellsHeld above result.parent.content me.old.log }
+    ensures spells_way { SpellsHeld way result.way.content me.old.log }
+    ensures tells_parent { HolderTells above me.old.log }
+    ensures tells_way { HolderTells way me.old.log }
+    ensures same { StepsOnNodes me.old me.new }
+    ensures holdings { me.new.log.holdings ≡ me.old.log.holdings }
+{
+    // By these loads it is known that both are at their places in the tree.
+    words.load_node(me, way, LEVEL);
+    words.load_node(me, above, LEVEL);
     let parent = Held {
         node: above,
-        content: parts.above,
+        content: outline_of(words, me, above),
         changed: true,
-    };
-    let (node, other, content) = if pc <= parts.left.high {
-        (left, right, parts.left)
-    } else {
-        (right, left, parts.right)
     };
     let way = Held {
-        node,
-        content,
+        node: way,
+        content: outline_of(words, me, way),
         changed: true,
     };
-    Ways {
-        split: Split { parent, way },
-        other,
-    }
+    Split { parent, way }
 }
 
 /// Splits a full child under its parent, and lets go of the half that isn't on the way to an
@@ -131,16 +168,13 @@ pub(crate) fn split_child<L: Locking>(
     exchange_decided();
     // By this load it is known of which tree the nodes are.
     words.load_node(me, full.parent.node, LEVEL);
-    let parts = parts_of(full, pc);
+    let parts = parts_of(words, me, full, pc);
     write_held(words, me, full.fresh, &parts.right);
     write_held(words, me, full.parent.node, &parts.above);
     write_held(words, me, full.child.node, &parts.left);
-    let ways = ways_of(full.parent.node, full.child.node, full.fresh, parts, pc);
+    let ways = ways_of(full.child.node, full.fresh, &parts, pc);
     locking.let_go(words, me, LockId::Node { node: ways.other });
-    // And by these that both that are held are at their places in it.
-    words.load_node(me, ways.split.way.node, LEVEL);
-    words.load_node(me, full.parent.node, LEVEL);
-    ways.split
+    settled_split(words, me, full.parent.node, ways.way)
 }
 
 /// Takes a free node for one that is full, on the way to an address, or None where none is free:

@@ -3,11 +3,14 @@
 //! All nodes of the way stay held to the end of the call, as the root does: until writers work side
 //! by side nobody else gets past it.
 ghost use Rattle.std.specs.Prelude.{◌≡◌, ◌<◌, true, [], drop, IfOk, IfErr, MatchBool};
-ghost use Rattle.std.specs.Prelude.{◌||◌, nat_le};
-ghost use Rattle.tree_shape.specs.NodeData.{IsInFences, IsInner, InOrder};
-ghost use Rattle.tree_shape.specs.Lawful.{IsOrdered};
+ghost use Rattle.std.specs.Prelude.{◌||◌, nat_le, Some, slice_get};
+ghost use Rattle.tree_shape.specs.NodeData.{IsInFences, IsInner, InOrder, pairs_of, slot_for};
+ghost use Rattle.tree_shape.specs.declared.pair.Pair.{Pair};
+ghost use Rattle.tree_shape.specs.Lawful.{IsFilled, IsOrdered};
 ghost use Rattle.tree_shape.specs.Steps.{IsFull};
 ghost use Rattle.word_rule.specs.CallerData.{surplus};
+ghost use Rattle.node_store.specs.Holding.{SpellsHeld};
+ghost use Rattle.node_store.specs.Outlines.{OnlyLoads};
 ghost use Rattle.btree_change.specs.Paths.{StepsOnNodes};
 ghost use Rattle.btree_change.specs.Loads.{FoundTaken};
 ghost use Rattle.btree_change.specs.Splits.{HasSpace};
@@ -17,9 +20,9 @@ ghost use Rattle.btree_change.specs.Stands.{SpendsSteps, StandsOnWay, StandsAt};
 
 use crate::descent::{Held, child_for, let_go_of, take_node};
 use crate::split::{FullChild, room_for, split_child};
-use node_store::{Busy, Locking, read_held};
+use node_store::{Busy, Locking, high_of, outline_of, slot_of};
 use reg_model::{Inserted, Member};
-use tree_shape::{ENTRIES, Node, PAIRS, inner_slot};
+use tree_shape::{ENTRIES, PAIRS};
 use word_rule::{Caller, Words};
 
 /// The word of a node that has its level.
@@ -83,7 +86,7 @@ pub(crate) fn place_of(stand: &Stand) -> (u32, u32)
     ensures node { result.0 ≡ stand.now.at.node }
     ensures level { result.1 ≡ stand.now.at.content.level }
 {
-    (stand.at.node, stand.at.content.level)
+    (stand.at.node, stand.at.content.level())
 }
 
 /// Whether a word was stored in a node of this level, before or when a fence was moved.
@@ -94,18 +97,19 @@ pub(crate) fn is_changed(changed: bool, level: u32, reply: &Reply) -> bool
 }
 
 /// Whether a node is full.
-pub(crate) fn is_full(node: &Node) -> bool
-    requires ordered { IsOrdered node.now }
-    ensures { MatchBool result (IsFull node.now.body) (HasSpace node.now.body) }
+pub(crate) fn is_full(at: &Held) -> bool
+    requires ordered { IsOrdered at.now.content }
+    requires filled { IsFilled at.now.node at.now.content }
+    ensures { MatchBool result (IsFull at.now.content.body) (HasSpace at.now.content.body) }
 {
-    if node.level == 0 {
-        node.entries().len() == ENTRIES
+    if at.content.level() == 0 {
+        at.content.count() == ENTRIES as u64
     } else {
-        node.pairs().len() == PAIRS
+        at.content.count() == PAIRS as u64
     }
 }
 
-/// Locks the child for an address, and reads it.
+/// Locks the child for an address, and outlines it.
 fn lower<L: Locking>(
     locking: &L,
     words: &Words,
@@ -126,9 +130,9 @@ fn lower<L: Locking>(
     ensures cause { IfErr result (λ e. FoundTaken e.lock me.old me.new) }
     ensures same { StepsOnNodes me.old me.new }
 {
-    let node = child_for(&at.content, pc);
+    let node = child_for(words, me, at, pc);
     take_node(locking, words, me, node)?;
-    let content = read_held(words, me, node);
+    let content = outline_of(words, me, node);
     Ok(Held {
         node,
         content,
@@ -159,7 +163,7 @@ fn split_full<L: Locking>(
         × SpendsSteps 1 me.old me.new × (L.gives_up ≡ true)) }
     ensures cause { IfErr result (λ e. FoundTaken e.lock me.old me.new) }
 {
-    if !is_full(&step.child.content) {
+    if !is_full(&step.child) {
         return Ok(step);
     }
     let Step { parent, child, .. } = step;
@@ -220,21 +224,38 @@ fn split_if_full<L: Locking>(
 
 /// The node above both leaves as it is seen from the child for an address, where a span that begins
 /// there ends beyond the child's fences. So far it is this one.
-fn beyond_child(parent: &Held, pc: u64, last: u64, so_far: Option<Beyond>) -> Option<Beyond>
-    requires inner { IsInner parent.now.content }
-    requires ordered { InOrder parent.now.content }
-    requires here { IsInFences pc parent.now.content }
-    ensures { IsReach parent.now pc last so_far result }
+fn beyond_child(
+    words: &Words,
+    me: &mut Caller,
+    member: &Member,
+    step: &Step,
+    so_far: Option<Beyond>,
+) -> Option<Beyond>
+    requires table { me.old.table ≡ words.now.table }
+    requires above { step.now.parent.node < words.now.terms.nodes }
+    requires below { step.now.child.node < words.now.terms.nodes }
+    requires parent { SpellsHeld step.now.parent.node step.now.parent.content me.old.log }
+    requires child { SpellsHeld step.now.child.node step.now.child.content me.old.log }
+    requires inner { IsInner step.now.parent.content }
+    requires ordered { InOrder step.now.parent.content }
+    requires here { IsInFences member.now.span.first step.now.parent.content }
+    requires high { (p : Pair) → slice_get (pairs_of step.now.parent.content)
+        (slot_for member.now.span.first (pairs_of step.now.parent.content)) ≡ Some p
+        → p.separator ≡ step.now.child.content.high }
+    ensures reach { IsReach step.now.parent member.now.span.first member.now.span.last so_far
+        result }
+    ensures loads { OnlyLoads me.old me.new }
 {
-    let slot = inner_slot(&parent.content, pc);
-    let pairs = parent.content.pairs();
-    if last <= pairs[slot].separator {
-        None
-    } else if slot + 1 < pairs.len() {
+    let (parent, child) = (&step.parent, &step.child);
+    if member.span.last() <= high_of(words, me, child.node, &child.content) {
+        return None;
+    }
+    let slot = slot_of(words, me, parent.node, &parent.content, member.span.first());
+    if slot as u64 + 1 < parent.content.count() {
         Some(Beyond {
             node: parent.node,
             slot,
-            level: parent.content.level,
+            level: parent.content.level(),
         })
     } else {
         so_far
@@ -266,12 +287,12 @@ pub(crate) fn stand_below(
 {
     // By this load it is known of which tree both nodes are.
     words.load_node(me, step.child.node, LEVEL);
+    let beyond = beyond_child(words, me, member, &step, so_far);
     let Step {
         parent,
         child,
         room,
     } = step;
-    let beyond = beyond_child(&parent, member.span.first(), member.span.last(), so_far);
     Passage {
         stand: Stand {
             at: child,

@@ -1,4 +1,4 @@
-use Rattle.std.proofs.Common.{subst, sym, ◌∙◌, ◌<◌}
+use Rattle.std.proofs.Common.{true, subst, sym, ◌∙◌, ◌<◌}
 use Rattle.tree_shape.specs.Steps.{LiesAbove}
 use Rattle.btree_change.specs.Spines.{MovesFence}
 use Rattle.btree_change.proofs.FarLeaves.{leaf_held, may_read_leaf, put_answers, put_may_go, put_surplus, shape_free, shape_high, shape_level, shape_low, shape_room, still_due, table2, table3, terms2, way_high}
@@ -55,7 +55,7 @@ put_in_leaf-number-requires-clause-leaf g c =
     let k1 = c.raise_fence.new.me in
     let moves = subst (λ l. MovesFence t l ready.next.way.lock ready.next.way.spine ready.next.way.top ready.next.way.rest k k1) e (c.raise_fence.ensures.moves ready.next high lies right_high) in
     let k2 = c.read_held-content.new.me in let shape = c.read_held-content.result in let reads = c.read_held-content.ensures.reads in let kept = c.read_held-content.ensures.holdings in
-    leaf_held t m far k ready k1 moves c.raise_fence.ensures.loads k2 shape reads kept
+    (true, leaf_held t m far k ready k1 moves c.raise_fence.ensures.loads k2 shape reads kept)
 
 pub put_in_leaf-number-requires-clause-level : goal.put_in_leaf-number-requires-clause-level
 put_in_leaf-number-requires-clause-level g c =

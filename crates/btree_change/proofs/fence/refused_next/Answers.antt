@@ -1,26 +1,60 @@
-use Rattle.std.proofs.Common.{inl, refl, Option, Some, None, IfNone}
+use Rattle.std.proofs.Common.{◌≡◌, ℕ, inl, sym, subst, Option, Some, None, IfNone}
+use Rattle.reg_model.specs.State.{IsFree, IsLowestOverlap}
+use Rattle.tree_shape.specs.NodeData.{NodeData, IsLeaf, InOrder, entries_of}
+use Rattle.word_rule.specs.CallerData.{CallerData}
+use Rattle.node_store.specs.Holding.{ReadsHeld, SpellsHeld}
+use Rattle.btree_change.specs.Spines.{HoldsLeafPair}
+use Rattle.btree_change.proofs.Descending.{steps_of_read}
 use Rattle.btree_change.proofs.NextOverlaps.{lies_above, refused_next_so, right_leaf, right_order, shows_next}
+use Rattle.btree_change.proofs.Outlining.{may_read, spell_one, spells_read}
+use Rattle.btree_change.proofs.Preceding.{refused_after}
 use Rattle.btree_change.proofs.fence.refused_next.Goals as goal
 
+-- the next leaf was read as it is known
+same_read : (n : ℕ) (k k1 : CallerData) (s shape : NodeData) → SpellsHeld n s k.log → ReadsHeld n k k1 shape → s ≡ shape
+same_read n k k1 s shape spells reads = spell_one n s shape k.log spells (spells_read n k k1 shape reads)
+
+pub read_held-content-requires-clause-held : goal.read_held-content-requires-clause-held
+read_held-content-requires-clause-held c = may_read c.args.right.now.node c.args.right.now.content c.args.me.now.log c.requires.spells
+
 pub first_overlap-requires-clause-leaf : goal.first_overlap-requires-clause-leaf
-first_overlap-requires-clause-leaf c = right_leaf c.args.words.now.terms c.args.leaf.now.node c.args.leaf.now.content c.args.right.now.node c.args.right.now.content c.args.member.now c.args.me.now c.requires.leaves.0 c.requires.leaves.1 c.requires.here
+first_overlap-requires-clause-leaf c =
+    let is = same_read c.args.right.now.node c.args.me.now c.read_held-content.new.me c.args.right.now.content c.read_held-content.result c.requires.spells c.read_held-content.ensures.reads in
+    subst IsLeaf is (right_leaf c.args.words.now.terms c.args.leaf.now.node c.args.leaf.now.content c.args.right.now.node c.args.right.now.content c.args.member.now c.args.me.now c.requires.leaves.0 c.requires.leaves.1 c.requires.here)
 
 pub first_overlap-requires-clause-ordered : goal.first_overlap-requires-clause-ordered
-first_overlap-requires-clause-ordered c = right_order c.args.words.now.terms c.args.leaf.now.node c.args.leaf.now.content c.args.right.now.node c.args.right.now.content c.args.member.now c.args.me.now c.requires.leaves.0 c.requires.leaves.1 c.requires.here
+first_overlap-requires-clause-ordered c =
+    let is = same_read c.args.right.now.node c.args.me.now c.read_held-content.new.me c.args.right.now.content c.read_held-content.result c.requires.spells c.read_held-content.ensures.reads in
+    subst InOrder is (right_order c.args.words.now.terms c.args.leaf.now.node c.args.leaf.now.content c.args.right.now.node c.args.right.now.content c.args.member.now c.args.me.now c.requires.leaves.0 c.requires.leaves.1 c.requires.here)
 
 pub load_clock-clock-requires-clause-ask : goal.load_clock-clock-requires-clause-ask
-load_clock-clock-requires-clause-ask c = inl (c.in_ok-other.other, shows_next c.args.words.now.terms c.args.leaf.now.node c.args.leaf.now.content c.args.right.now.node c.args.right.now.content c.args.member.now c.args.me.now c.requires.leaves.0 c.requires.leaves.1 c.requires.here c.requires.free c.in_ok-other.other c.in_ok-other.ensures.found)
+load_clock-clock-requires-clause-ask c =
+    let k1 = c.read_held-content.new.me in
+    let is = same_read c.args.right.now.node c.args.me.now k1 c.args.right.now.content c.read_held-content.result c.requires.spells c.read_held-content.ensures.reads in
+    let pair = subst (HoldsLeafPair c.args.leaf.now.node c.args.leaf.now.content c.args.right.now.node c.args.right.now.content) (sym c.read_held-content.ensures.holdings) c.requires.leaves.0 in
+    let found = subst (λ (s : NodeData). IsLowestOverlap c.args.member.now.span (entries_of s) c.in_ok-other.other) (sym is) c.in_ok-other.ensures.found in
+    inl (c.in_ok-other.other, shows_next c.args.words.now.terms c.args.leaf.now.node c.args.leaf.now.content c.args.right.now.node c.args.right.now.content c.args.member.now k1 pair c.requires.leaves.1 c.requires.here c.requires.free c.in_ok-other.other found)
 
 pub returns-clause-overlaps : goal.returns-clause-overlaps
 returns-clause-overlaps c =
-    refused_next_so c.args.words.now.terms c.args.leaf.now.node c.args.leaf.now.content c.args.right.now.node c.args.right.now.content c.args.member.now c.args.me.now c.requires.leaves.0 c.requires.leaves.1 c.requires.here c.requires.free c.in_ok-other.other c.in_ok-other.ensures.found
-    c.load_clock-clock.new.me c.load_clock-clock.result c.load_clock-clock.ensures.log c.load_clock-clock.ensures.refusal c.load_clock-clock.ensures.rest
+    let t = c.args.words.now.terms in let m = c.args.member.now in let k = c.args.me.now in let k1 = c.read_held-content.new.me in let kept = c.read_held-content.ensures.holdings in
+    let is = same_read c.args.right.now.node k k1 c.args.right.now.content c.read_held-content.result c.requires.spells c.read_held-content.ensures.reads in
+    let pair = subst (HoldsLeafPair c.args.leaf.now.node c.args.leaf.now.content c.args.right.now.node c.args.right.now.content) (sym kept) c.requires.leaves.0 in
+    let found = subst (λ (s : NodeData). IsLowestOverlap m.span (entries_of s) c.in_ok-other.other) (sym is) c.in_ok-other.ensures.found in
+    refused_after t m _ k k1 c.load_clock-clock.new.me kept (steps_of_read c.args.right.now.node k k1 c.read_held-content.result c.read_held-content.ensures.reads)
+    (refused_next_so t c.args.leaf.now.node c.args.leaf.now.content c.args.right.now.node c.args.right.now.content m k1 pair c.requires.leaves.1 c.requires.here c.requires.free c.in_ok-other.other found
+    c.load_clock-clock.new.me c.load_clock-clock.result c.load_clock-clock.ensures.log c.load_clock-clock.ensures.refusal c.load_clock-clock.ensures.rest)
 
 if_none : {A : Type 0} (P : Type 0) (o : Option A) → P → IfNone o P
 if_none P None p = p
 if_none P (Some x) p = tt
 
+pub returns-in_err-other-clause-same : goal.returns-in_err-other-clause-same
+returns-in_err-other-clause-same c = if_none _ c.from_residual.result (steps_of_read c.args.right.now.node c.args.me.now c.read_held-content.new.me c.read_held-content.result c.read_held-content.ensures.reads)
+
 pub returns-in_err-other-clause-free : goal.returns-in_err-other-clause-free
 returns-in_err-other-clause-free c =
-    let above = lies_above c.args.words.now.terms c.args.leaf.now.node c.args.leaf.now.content c.args.right.now.node c.args.right.now.content c.args.member.now c.args.me.now c.requires.leaves.0 c.requires.leaves.1 c.requires.here c.requires.never_root c.in_err-other.ensures.none in
-    if_none _ c.from_residual.result (refl, c.in_err-other.ensures.none, above.0, above.1)
+    let is = same_read c.args.right.now.node c.args.me.now c.read_held-content.new.me c.args.right.now.content c.read_held-content.result c.requires.spells c.read_held-content.ensures.reads in
+    let none = subst (λ (s : NodeData). IsFree c.args.member.now.span (entries_of s)) (sym is) c.in_err-other.ensures.none in
+    let above = lies_above c.args.words.now.terms c.args.leaf.now.node c.args.leaf.now.content c.args.right.now.node c.args.right.now.content c.args.member.now c.args.me.now c.requires.leaves.0 c.requires.leaves.1 c.requires.here c.requires.never_root none in
+    if_none _ c.from_residual.result (c.read_held-content.ensures.holdings, none, above.0, above.1)

@@ -13,10 +13,10 @@ use Rattle.btree_change.proofs.leaf.put_in_leaf.Goals as goal
 
 pub commit-requires-clause-due : goal.commit-requires-clause-due
 commit-requires-clause-due c =
-    let t = c.args.words.now.terms in let n = c.args.at.now.node in let s = c.args.at.now.content in let m = c.args.member.now in
+    let t = c.args.words.now.terms in let n = c.args.node in let s = c.args.leaf.now in let m = c.args.member.now in
     let k = c.args.me.now in let k1 = c.load_node.new.me in let k2 = c.write_held.new.me in
-    let b = c.args.at.now.changed in let kept = ap (λ (z : CallerData). z.log.holdings) c.load_node.ensures.log in
-    let path : HoldsLeaf t (record { node = n; content = s; changed = b }) k1.log.holdings = subst (HoldsLeaf t (record { node = n; content = s; changed = b })) (sym kept) c.requires.leaf in
+    let b = c.requires.leaf.0 in let kept = ap (λ (z : CallerData). z.log.holdings) c.load_node.ensures.log in
+    let path : HoldsLeaf t (record { node = n; content = s; changed = b }) k1.log.holdings = subst (HoldsLeaf t (record { node = n; content = s; changed = b })) (sym kept) c.requires.leaf.1 in
     let tree : KnowsTree k1.log.holdings = subst KnowsTree (sym (ap (λ (z : CallerData). z.log.holdings) c.load_node.ensures.log)) c.load_node.ensures.tree in
     let now : NodeData = record s { body = Entries (with_entry m (entries_of s)) } in
     let written = written_so now n path.lock path.above k1 k2 (λ e. omega (arith, e)) path.here.node (leaf_far t n s b k1.log.holdings path tree c.requires.level) path.held (subst (λ z. WritesHeld n z k1 k2) c.put_entry.ensures c.write_held.ensures.stores) (subst (λ z. SpellsHeld n z k2.log) c.put_entry.ensures c.write_held.ensures.spells) in
@@ -26,10 +26,10 @@ commit-requires-clause-due c =
 
 pub commit-requires-clause-may : goal.commit-requires-clause-may
 commit-requires-clause-may c =
-    let t = c.args.words.now.terms in let n = c.args.at.now.node in let s = c.args.at.now.content in let m = c.args.member.now in
+    let t = c.args.words.now.terms in let n = c.args.node in let s = c.args.leaf.now in let m = c.args.member.now in
     let k = c.args.me.now in let k1 = c.load_node.new.me in let k2 = c.write_held.new.me in
-    let b = c.args.at.now.changed in let kept = ap (λ (z : CallerData). z.log.holdings) c.load_node.ensures.log in
-    let path : HoldsLeaf t (record { node = n; content = s; changed = b }) k1.log.holdings = subst (HoldsLeaf t (record { node = n; content = s; changed = b })) (sym kept) c.requires.leaf in
+    let b = c.requires.leaf.0 in let kept = ap (λ (z : CallerData). z.log.holdings) c.load_node.ensures.log in
+    let path : HoldsLeaf t (record { node = n; content = s; changed = b }) k1.log.holdings = subst (HoldsLeaf t (record { node = n; content = s; changed = b })) (sym kept) c.requires.leaf.1 in
     let tree : KnowsTree k1.log.holdings = subst KnowsTree (sym (ap (λ (z : CallerData). z.log.holdings) c.load_node.ensures.log)) c.load_node.ensures.tree in
     let now : NodeData = record s { body = Entries (with_entry m (entries_of s)) } in
     let written = written_so now n path.lock path.above k1 k2 (λ e. omega (arith, e)) path.here.node (leaf_far t n s b k1.log.holdings path tree c.requires.level) path.held (subst (λ z. WritesHeld n z k1 k2) c.put_entry.ensures c.write_held.ensures.stores) (subst (λ z. SpellsHeld n z k2.log) c.put_entry.ensures c.write_held.ensures.spells) in
@@ -39,10 +39,10 @@ commit-requires-clause-may c =
 
 pub returns : goal.returns
 returns c =
-    let t = c.args.words.now.terms in let n = c.args.at.now.node in let s = c.args.at.now.content in let m = c.args.member.now in
+    let t = c.args.words.now.terms in let n = c.args.node in let s = c.args.leaf.now in let m = c.args.member.now in
     let k = c.args.me.now in let k1 = c.load_node.new.me in let k2 = c.write_held.new.me in
-    let b = c.args.at.now.changed in let kept = ap (λ (z : CallerData). z.log.holdings) c.load_node.ensures.log in
-    let path : HoldsLeaf t (record { node = n; content = s; changed = b }) k1.log.holdings = subst (HoldsLeaf t (record { node = n; content = s; changed = b })) (sym kept) c.requires.leaf in
+    let b = c.requires.leaf.0 in let kept = ap (λ (z : CallerData). z.log.holdings) c.load_node.ensures.log in
+    let path : HoldsLeaf t (record { node = n; content = s; changed = b }) k1.log.holdings = subst (HoldsLeaf t (record { node = n; content = s; changed = b })) (sym kept) c.requires.leaf.1 in
     let tree : KnowsTree k1.log.holdings = subst KnowsTree (sym (ap (λ (z : CallerData). z.log.holdings) c.load_node.ensures.log)) c.load_node.ensures.tree in
     let now : NodeData = record s { body = Entries (with_entry m (entries_of s)) } in
     let written = written_so now n path.lock path.above k1 k2 (λ e. omega (arith, e)) path.here.node (leaf_far t n s b k1.log.holdings path tree c.requires.level) path.held (subst (λ z. WritesHeld n z k1 k2) c.put_entry.ensures c.write_held.ensures.stores) (subst (λ z. SpellsHeld n z k2.log) c.put_entry.ensures c.write_held.ensures.spells) in

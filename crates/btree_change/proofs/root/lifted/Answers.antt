@@ -97,16 +97,16 @@ returns-in-Ok-clause-answer g c =
     let level = c.stand_below-passage.result.stand.at.content.level in let l = subst (λ (h : Held). h.content.level ≤ 12) (sym c.stand_below-passage.ensures.at) (lifted_level t m full k c.requires.held c.requires.high c.requires.span split k1 lifts) in
     lifted_ends t m full k c.requires.held c.requires.high c.requires.span split k1 lifts k2 same kept c.in-Ok.reply (releases_at level) c.below.new.me (omega (arith, l)) c.in-Ok.ensures.answer c.let_go_of.new.me c.let_go_of.ensures
 
-pub returns-in-Err-clause-busy : goal.returns-in-Err-clause-busy
-returns-in-Err-clause-busy g c =
+pub returns-clause-busy : goal.returns-clause-busy
+returns-clause-busy g c =
     let t = c.args.words.now.terms in let m = c.args.member.now in let k = c.args.me.now in
     let full = c.args.full in let split = c.lift-split.result in let k1 = c.lift-split.new.me in let lifts = subst (λ p. LiftsRoot t full p split k k1) c.first.ensures.value c.lift-split.ensures in
     let k2 = c.stand_below-passage.new.me in let same = c.stand_below-passage.ensures.same in let kept = c.stand_below-passage.ensures.holdings in
     let level = c.stand_below-passage.result.stand.at.content.level in let l = subst (λ (h : Held). h.content.level ≤ 12) (sym c.stand_below-passage.ensures.at) (lifted_level t m full k c.requires.held c.requires.high c.requires.span split k1 lifts) in
     (lifted_gives_up t m full k c.requires.held c.requires.high c.requires.span split k1 lifts k2 same kept (releases_at level) c.below.new.me (omega (arith, l)) c.in-Err.ensures.busy.0 c.let_go_of-in-Err.new.me c.let_go_of-in-Err.ensures, c.in-Err.ensures.busy.1)
 
-pub returns-in-Err-clause-cause : goal.returns-in-Err-clause-cause
-returns-in-Err-clause-cause g c =
+pub returns-clause-cause : goal.returns-clause-cause
+returns-clause-cause g c =
     let t = c.args.words.now.terms in let m = c.args.member.now in let k = c.args.me.now in
     let full = c.args.full in let split = c.lift-split.result in let k1 = c.lift-split.new.me in let lifts = subst (λ p. LiftsRoot t full p split k k1) c.first.ensures.value c.lift-split.ensures in
     let k2 = c.stand_below-passage.new.me in let same = c.stand_below-passage.ensures.same in let kept = c.stand_below-passage.ensures.holdings in

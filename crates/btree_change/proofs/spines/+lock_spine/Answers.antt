@@ -14,7 +14,9 @@ use Rattle.btree_change.specs.Spines.{LocksSpine, NamesChild}
 use Rattle.btree_change.proofs.Descending.{steps_of_letting_go, steps_of_read, steps_of_take, steps_then}
 use Rattle.btree_change.proofs.Descents.{steps_of_load}
 use Rattle.btree_change.proofs.Loading.{found_between, keeps_none}
-use Rattle.btree_change.proofs.LockedSpines.{IsLocked, Relocked, locked_so, relocked, read_locked, names_first, locks_leaf, locks_more, let_go_again, clean_again}
+use Rattle.btree_change.proofs.LockedSpines.{IsLocked, found_head, Relocked, locked_so, relocked, read_locked, names_first, locks_leaf, locks_more, let_go_again, clean_again}
+use Rattle.word_rule.specs.Held.{held_of}
+use Rattle.btree_change.proofs.Outlining.{spells_same, steps_of_loads}
 use Rattle.btree_change.proofs.spines.+lock_spine.Goals as goal
 
 -- the node was locked, read, and a word of it loaded
@@ -55,13 +57,14 @@ module _ (t : Terms) (n level found : ℕ) (shape : NodeData) (k k1 k2 k3 : Call
 
 pub returns-then-level-eq0-clause-ok : goal.returns-then-level-eq0-clause-ok
 returns-then-level-eq0-clause-ok g t c =
-    let terms = c.args.words.now.terms in let n = c.args.node in let k = c.args.me.now in let k1 = c.take_node.new.me in let k2 = c.read_held-content.new.me in let names = c.requires.child in
+    let terms = c.args.words.now.terms in let n = c.args.node in let k = c.args.me.now in let k1 = c.take_node.new.me in let k2 = c.outline_of.new.me in let names = c.requires.child in
     let l = locked_so terms n c.args.level k k1 c.requires.terms names c.in_ok-take_node.ensures.ok in
-    let l2 = relocked terms n c.args.level names.frame.low k.log.holdings k1.log.holdings k2.log.holdings l c.read_held-content.ensures.holdings in
-    locks_leaf terms n c.args.level c.read_held-content.result k.log.holdings k2.log.holdings names l2.now (ap (λ (h : Holding). h.settled) l2.is ∙ read_locked terms n c.args.level names.frame.low c.read_held-content.result k.log.holdings k1 k2 l c.read_held-content.ensures.reads) c.if-level-eq0.true
+    let l2 = relocked terms n c.args.level names.frame.low k.log.holdings k1.log.holdings k2.log.holdings l c.outline_of.ensures.holdings in
+    let found = ap (held_of n) l.held ∙ found_head n l.new k.log.holdings.held l.node in
+    locks_leaf terms n c.args.level c.outline_of.result k.log.holdings k2.log.holdings names l2.now (ap (λ (h : Holding). h.settled) l2.is ∙ spells_same n l.new.settled c.outline_of.result l.new k1.log found l.fresh.live.spells c.outline_of.ensures.spells) c.if-level-eq0.true
 
 pub returns-then-level-eq0-clause-same : goal.returns-then-level-eq0-clause-same
-returns-then-level-eq0-clause-same g t c = steps_then c.args.me.now c.take_node.new.me c.read_held-content.new.me (steps_of_take c.args.node c.args.me.now c.take_node.new.me c.in_ok-take_node.ensures.ok) (steps_of_read c.args.node c.take_node.new.me c.read_held-content.new.me c.read_held-content.result c.read_held-content.ensures.reads)
+returns-then-level-eq0-clause-same g t c = steps_then c.args.me.now c.take_node.new.me c.outline_of.new.me (steps_of_take c.args.node c.args.me.now c.take_node.new.me c.in_ok-take_node.ensures.ok) (steps_of_loads c.take_node.new.me c.outline_of.new.me c.outline_of.ensures.loads)
 
 pub child_at_start-child-requires : goal.child_at_start-child-requires
 child_at_start-child-requires g t c = has_pairs c.args.words.now.terms c.args.node c.args.level c.load_node.result c.read_held-content.result c.args.me.now c.take_node.new.me c.read_held-content.new.me c.load_node.new.me c.requires.terms c.requires.child c.in_ok-take_node.ensures.ok c.read_held-content.ensures.reads c.read_held-content.ensures.holdings c.load_node.ensures.log c.if-level-eq0.false

@@ -1,8 +1,14 @@
 use Rattle.std.proofs.Common.{drop, subst, refl, Ok}
 use Rattle.btree_change.specs.Splits.{IsRoomFor}
 use Rattle.btree_change.proofs.Loading.{found_still, keeps_load, keeps_then}
-use Rattle.btree_change.proofs.Stepping.{busy_go, busy_gone, full_child, none_split, was_split}
+use Rattle.btree_change.proofs.Stepping.{busy_go, busy_gone, child_filled, child_order, full_child, none_split, was_split}
 use Rattle.btree_change.proofs.stand.split_full.Goals as goal
+
+pub is_full-requires-clause-ordered : goal.is_full-requires-clause-ordered
+is_full-requires-clause-ordered g c = child_order c.args.words.now.terms c.args.pc c.args.step (drop 2 c.args.me.now.log.holdings.held) c.args.me.now c.requires.pair
+
+pub is_full-requires-clause-filled : goal.is_full-requires-clause-filled
+is_full-requires-clause-filled g c = child_filled c.args.words.now.terms c.args.pc c.args.step (drop 2 c.args.me.now.log.holdings.held) c.args.me.now c.requires.pair
 
 pub let_go_of-requires-clause-may : goal.let_go_of-requires-clause-may
 let_go_of-requires-clause-may g c = busy_go c.args.words.now.terms c.args.pc c.args.step (drop 2 c.args.me.now.log.holdings.held) c.args.me.now c.requires.pair c.room_for.new.me c.load_node.result c.load_node.new.me c.in-Err.ensures.0 c.load_node.ensures.tree c.load_node.ensures.log

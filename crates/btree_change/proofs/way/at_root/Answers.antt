@@ -2,6 +2,7 @@ use Rattle.std.proofs.Common.{ap, ◌∙◌, arith}
 use Rattle.word_rule.specs.CallerData.{CallerData}
 use Rattle.btree_change.proofs.Descending.{steps_of_read, steps_of_take, steps_then}
 use Rattle.btree_change.proofs.Descents.{at_the_root, may_read_root, steps_of_load, steps_of_version}
+use Rattle.btree_change.proofs.Outlining.{spells_read}
 use Rattle.btree_change.proofs.way.at_root.Goals as goal
 
 pub read_held-content-requires-clause-held : goal.read_held-content-requires-clause-held
@@ -14,7 +15,7 @@ returns-clause-ok g c =
     at_the_root c.args.words.now.terms c.read_held-content.result c.load_version.new.me c.take_node.new.me c.load_node.new.me c.read_held-content.new.me c.load_node.result (omega (arith, some, value))
     (ap (λ (k : CallerData). k.log.terms) version ∙ c.load_version.ensures.tells.0)
     (ap (λ (k : CallerData). k.log.holdings.held) version ∙ c.requires.idle.held, ap (λ (k : CallerData). k.log.holdings.out) version ∙ c.requires.idle.out)
-    c.in_ok-take_node.ensures.ok c.load_node.ensures.tree c.load_node.ensures.log c.read_held-content.ensures.reads c.read_held-content.ensures.holdings
+    c.in_ok-take_node.ensures.ok c.load_node.ensures.tree c.load_node.ensures.log (spells_read 0 c.load_node.new.me c.read_held-content.new.me c.read_held-content.result c.read_held-content.ensures.reads) c.read_held-content.ensures.holdings
 
 pub returns-clause-same : goal.returns-clause-same
 returns-clause-same g c =
