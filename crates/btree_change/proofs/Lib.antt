@@ -1,4 +1,5 @@
 pub mod HeldLists
+pub mod HeldOutlines
 pub mod Settling
 pub mod LeafCommits
 pub mod HeldTrees

@@ -18,17 +18,19 @@ use Rattle.word_rule.specs.declared.log.Holding.{Holding}
 use Rattle.word_rule.specs.declared.log.Holdings.{Holdings}
 use Rattle.word_rule.specs.declared.log.LockId.{LockId}
 use Rattle.word_rule.specs.declared.log.LockId.TheVariants as lock
+use Rattle.word_rule.specs.declared.log.Log.{Log}
 use Rattle.word_rule.specs.declared.log.Terms.{Terms}
-use Rattle.node_store.specs.Holding.{ReadsHeld}
+use Rattle.node_store.specs.Holding.{SpellsHeld}
 use Rattle.node_store.specs.Locking.{IsBusy, Locks}
-use Rattle.node_store.specs.Sights.{after_words}
+use Rattle.node_store.specs.Outlines.{OnlyLoads}
 use Rattle.btree_change.specs.Paths.{IsSettledLock, StepsOnNodes}
 use Rattle.btree_change.specs.Removing.{HoldsBesideRoot, IsBeside, IsSettledRoot, LetsGoOf}
 use Rattle.btree_change.specs.Siblings.{HoldsChild, HoldsUnder}
 use Rattle.btree_change.specs.declared.way.HeldNode.{HeldNode}
 use Rattle.btree_change.proofs.Mended.{without_high}
 use Rattle.btree_change.proofs.Pairings.{IsBesideLock, beside_each, each_more}
-use Rattle.btree_change.proofs.Descending.{all_there, steps_of_read, steps_of_take, steps_then}
+use Rattle.btree_change.proofs.Descending.{all_there, steps_of_take, steps_then}
+use Rattle.btree_change.proofs.HeldOutlines.{steps_of_loads}
 use Rattle.btree_change.proofs.Takings.{placed_of}
 
 -- a pair of a node names a branch
@@ -130,12 +132,12 @@ by_parent t n c s changed h b lock named =
     let own = placed_of t n s changed h lock in
     rw own.1.0 (ap (λ (z : NodeData). place_in c (branches (z.level - 1) z)) lock.settled ∙ named.placed)
 
--- what is read is what is held
-pub read_first : (n : ℕ) (content shape : NodeData) (new : Holding) (before : List Holding) (k k' : CallerData) → k.log.holdings.held ≡ new ∷ before → new.node ≡ n → SpellsNode new.words content → ReadsHeld n k k' shape → content ≡ shape
-read_first n content shape new before k k' held is spells reads =
-    let found : held_of n k.log.holdings.held ≡ Some new = ap (held_of n) held ∙ ap (λ b. cond b (Some new) (held_of n before)) (eq-eqb new.node n is) in
-    let told = subst (λ o. IsSomeAnd o (λ h. SpellsNode h.words shape × (k' ≡ record k { log = after_words n h.words 35 k.log }))) found reads in
-    same_Some _ _ (sym spells ∙ told.0)
+-- what is outlined is what is held
+pub read_first : (n : ℕ) (content shape : NodeData) (new : Holding) (before : List Holding) (v : Log) → v.holdings.held ≡ new ∷ before → new.node ≡ n → SpellsNode new.words content → SpellsHeld n shape v → content ≡ shape
+read_first n content shape new before v held is spells here =
+    let found : held_of n v.holdings.held ≡ Some new = ap (held_of n) held ∙ ap (λ b. cond b (Some new) (held_of n before)) (eq-eqb new.node n is) in
+    let told = subst (λ o. IsSomeAnd o (λ (h : Holding). SpellsNode h.words shape)) found here in
+    same_Some _ _ (sym spells ∙ told)
 
 pub may_read_first : (n : ℕ) (content : NodeData) (new : Holding) (before : List Holding) (k : CallerData) → k.log.holdings.held ≡ new ∷ before → new.node ≡ n → SpellsNode new.words content → IsSomeAnd (held_of n k.log.holdings.held) (λ h. IsSome (spelled h.words))
 may_read_first n content new before k held is spells =
@@ -162,9 +164,9 @@ none_named f live tree c q lives same = go (f c).body refl (tree.ordered c lives
     go (Link next) e ordered = absurd ordered
 
 -- the child for an address is held under its parent
-pub child_so : (t : Terms) (n : ℕ) (s : NodeData) (changed root_changed : Bool) (pc slot : ℕ) (p : Pair) (k k1 k2 : CallerData) (shape : NodeData) → k.log.terms ≡ t → HoldsBesideRoot t n s changed root_changed k.log.holdings → 0 < s.level → IsInFences pc s → slot ≡ slot_for pc (pairs_of s) → slice_get (pairs_of s) slot ≡ Some p → Locks (lock.Node p.child) k k1 → ReadsHeld p.child k1 k2 shape → k2.log.holdings ≡ k1.log.holdings
+pub child_so : (t : Terms) (n : ℕ) (s : NodeData) (changed root_changed : Bool) (pc slot : ℕ) (p : Pair) (k k1 k2 : CallerData) (shape : NodeData) → k.log.terms ≡ t → HoldsBesideRoot t n s changed root_changed k.log.holdings → 0 < s.level → IsInFences pc s → slot ≡ slot_for pc (pairs_of s) → slice_get (pairs_of s) slot ≡ Some p → Locks (lock.Node p.child) k k1 → SpellsHeld p.child shape k1.log → k2.log.holdings ≡ k1.log.holdings
     → HoldsChild t (record { above = record { at = record { node = n; content = s; changed = changed }; root_changed = root_changed }; at = record { node = p.child; content = shape; changed = false }; slot = slot }) pc k2.log.holdings
-child_so t n s changed root_changed pc slot p k k1 k2 shape terms path above fences first at locks reads same =
+child_so t n s changed root_changed pc slot p k k1 k2 shape terms path above fences first at locks spells same =
     let own = placed_of t n s changed path.lock path.here in
     let holds = slot_holds (s.level - 1) s.low pc (pairs_of s) p fences.0 (ap (slice_get (pairs_of s)) (sym first) ∙ at) in
     let exact = branch_at (s.level - 1) s.low (pairs_of s) slot p at in
@@ -173,7 +175,7 @@ child_so t n s changed root_changed pc slot p k k1 k2 shape terms path above fen
     let high : holds.0.frame.high ≡ p.separator = ap (λ (z : Frame). z.high) (sym frame) ∙ exact.1.2 in
     let level : holds.0.frame.level ≡ s.level - 1 = ap (λ (z : Frame). z.level) (sym frame) ∙ exact.1.3 in
     let taken = taken_at t p.child holds.0.frame (path.lock ∷ path.above) k k1 terms path.held path.out named.no_root (ap (λ o. first_mark o (place_by_held p.child path.above)) (by_parent t n p.child s changed path.lock holds.0 path.here named)) locks in
-    let is : taken.content ≡ shape = read_first p.child taken.content shape taken.new (path.lock ∷ path.above) k1 k2 taken.held taken.here.node taken.here.spells reads in
+    let is : taken.content ≡ shape = read_first p.child taken.content shape taken.new (path.lock ∷ path.above) k1.log taken.held taken.here.node taken.here.spells spells in
     let ends : shape.high ≡ p.separator = ap (λ (z : NodeData). z.high) (sym is) ∙ (taken.high ∙ high) in record {
       parent_within = path.within;
       within = named.within;
@@ -199,8 +201,8 @@ child_within t n s changed root_changed holdings slot p path at =
     let exact = branch_at (s.level - 1) s.low (pairs_of s) slot p at in
     (names t n s own.0 p.child exact.0 own.1.1 exact.1.0 exact.1.1).within
 
-pub child_steps : (c : ℕ) (k k1 k2 : CallerData) (shape : NodeData) → Locks (lock.Node c) k k1 → ReadsHeld c k1 k2 shape → StepsOnNodes k k2
-child_steps c k k1 k2 shape locks reads = steps_then k k1 k2 (steps_of_take c k k1 locks) (steps_of_read c k1 k2 shape reads)
+pub child_steps : (c : ℕ) (k k1 k2 : CallerData) → Locks (lock.Node c) k k1 → OnlyLoads k1 k2 → StepsOnNodes k k2
+child_steps c k k1 k2 locks loads = steps_then k k1 k2 (steps_of_take c k k1 locks) (steps_of_loads k1 k2 loads)
 
 -- what was locked last spells a node
 pub may_read_taken : (t : Terms) (c : ℕ) (k k1 : CallerData) → Locks (lock.Node c) k k1 → IsSomeAnd (held_of c k1.log.holdings.held) (λ h. IsSome (spelled h.words))

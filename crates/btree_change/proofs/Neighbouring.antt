@@ -18,7 +18,7 @@ use Rattle.word_rule.specs.declared.log.Holding.{Holding}
 use Rattle.word_rule.specs.declared.log.Holdings.{Holdings}
 use Rattle.word_rule.specs.declared.log.LockId.TheVariants as lock
 use Rattle.word_rule.specs.declared.log.Terms.{Terms}
-use Rattle.node_store.specs.Holding.{ReadsHeld}
+use Rattle.node_store.specs.Holding.{SpellsHeld}
 use Rattle.node_store.specs.Locking.{Locks}
 use Rattle.btree_change.specs.Paths.{IsSettledLock}
 use Rattle.btree_change.specs.Removing.{HoldsLocks}
@@ -69,7 +69,7 @@ sibling_within t n s changed h slot p lock at =
     (names t n s own.0 p.child exact.0 own.1.1 exact.1.0 exact.1.1).within
 
 module _ (t : Terms) (child : Child) (pc first beside : ℕ) (q : Pair) (k k1 k2 k3 : CallerData) (found : ℕ) (shape : NodeData) (h : HoldsChild t child pc k.log.holdings) (tree : KnowsTree k.log.holdings) (terms : k.log.terms ≡ t) (loads : k1 ≡ record k { log = after_node_load child.at.node 2 found k.log })
-    (near : (first ≡ child.slot) ⊎ (first + 1 ≡ child.slot)) (at : slice_get (pairs_of child.above.at.content) beside ≡ Some q) (locks : Locks (lock.Node q.child) k1 k2) (reads : ReadsHeld q.child k2 k3 shape) (same : k3.log.holdings ≡ k2.log.holdings) where
+    (near : (first ≡ child.slot) ⊎ (first + 1 ≡ child.slot)) (at : slice_get (pairs_of child.above.at.content) beside ≡ Some q) (locks : Locks (lock.Node q.child) k1 k2) (spells : SpellsHeld q.child shape k2.log) (same : k3.log.holdings ≡ k2.log.holdings) where
   abbrev s : NodeData
   s = child.above.at.content
 
@@ -132,7 +132,7 @@ module _ (t : Terms) (child : Child) (pc first beside : ℕ) (q : Pair) (k k1 k2
         (ap (λ o. first_mark o (place_by_held q.child (h.upper ∷ h.rest))) none_by_child ∙ ap (λ o. first_mark o (place_by_held q.child h.rest)) (by_parent t n q.child child.above.at.content child.above.at.changed h.upper exact.0 h.parent named)) locks
 
     shape_is : taken.content ≡ shape
-    shape_is = read_first q.child taken.content shape taken.new (h.lower ∷ h.upper ∷ h.rest) k2 k3 taken.held taken.here.node taken.here.spells reads
+    shape_is = read_first q.child taken.content shape taken.new (h.lower ∷ h.upper ∷ h.rest) k2.log taken.held taken.here.node taken.here.spells spells
 
     shape_high : shape.high ≡ q.separator
     shape_high = ap (λ (z : NodeData). z.high) (sym shape_is) ∙ (taken.high ∙ exact.1.2)

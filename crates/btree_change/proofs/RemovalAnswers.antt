@@ -1,5 +1,5 @@
 -- What a removal answers, from the steps of its way.
-use Rattle.std.proofs.Common.{◌≡◌, ℕ, zero, suc, ◌+◌, [], ◌∷◌, ◌++◌, length, sym, ap, ◌∙◌, subst, arith, false, IsNone}
+use Rattle.std.proofs.Common.{◌≡◌, ℕ, zero, suc, ◌+◌, ◌*◌, ◌<◌, ◌≤◌, [], ◌∷◌, ◌++◌, length, sym, refl, ap, ◌∙◌, subst, arith, Bool, false, IsNone}
 use Rattle.std.proofs.lemmas.Bool.{ltb-false}
 use mathlib.Core.List.{IsPrefix}
 use Rattle.reg_model.specs.History.{state_after}
@@ -7,21 +7,25 @@ use Rattle.reg_model.specs.State.{at_base}
 use Rattle.reg_model.specs.declared.answer.Receipt.TheVariants as receipt
 use Rattle.reg_model.specs.declared.answer.Removed.{Removed}
 use Rattle.reg_model.specs.declared.answer.Removed.TheVariants as removed
+use Rattle.reg_model.specs.declared.span.Member.{Member}
 use Rattle.tree_shape.specs.NodeData.{NodeData, Body, Pairs, Entries, Link, IsInFences}
-use Rattle.word_rule.specs.CallerData.{CallerData}
+use Rattle.word_rule.specs.CallerData.{CallerData, surplus}
 use Rattle.word_rule.specs.Callers.{start}
 use Rattle.word_rule.specs.declared.log.Holdings.{Holdings}
 use Rattle.word_rule.specs.declared.log.Receipts.{Receipts}
 use Rattle.word_rule.specs.declared.log.Terms.{Terms}
-use Rattle.btree_change.specs.Paths.{HoldsNothing}
+use Rattle.btree_change.specs.Paths.{HoldsNothing, StepsOnNodes}
 use Rattle.btree_change.specs.Removal.{AnswersRemoval, AnswersRightly}
 use Rattle.btree_change.specs.Removing.{HoldsBesideRoot, IsSpare, IsSpareAs, Spends}
 use Rattle.btree_change.specs.Siblings.{HoldsChild, is_small_body}
-use Rattle.btree_change.specs.Takings.{RefusesBase}
+use Rattle.btree_change.specs.Takings.{RefusesBase, TakesMember}
 use Rattle.btree_change.specs.declared.sibling.Child.{Child}
 use Rattle.btree_change.specs.declared.way.HeldNode.{HeldNode}
 use Rattle.btree_change.specs.declared.way.Way.{Way}
 use Rattle.btree_change.proofs.Joining.{spare_of}
+use Rattle.btree_change.proofs.Mended.{spends_none}
+use Rattle.btree_change.proofs.Releases.{spends_then}
+use Rattle.btree_change.proofs.Rooted.{surplus_left}
 
 not_small : (b : Body) → is_small_body b ≡ false → IsSpareAs b
 not_small (Pairs pairs) e = let l = ltb-false (length pairs) 7 e in omega (arith, l)
@@ -67,3 +71,33 @@ refusal_so t base answer k k1 k2 k3 down refuses up nothing = record {
     nothing = nothing;
   };
 }
+
+-- the same of one that was done
+pub done_so : (t : Terms) (base n number : ℕ) (root_changed : Bool) (m : Member) (k k1 k2 k3 : CallerData) → Spends 26 k k1 → TakesMember t base n root_changed number m k1 k2 → Spends 2 k2 k3 → HoldsNothing k3.log.holdings → AnswersRemoval t base (removed.Done number m) k k3
+done_so t base n number root_changed m k k1 k2 k3 down takes up nothing = record {
+  right = rightly_seen t base (removed.Done number m) k1 k k2 k3 down.past (sym up.past) takes.right;
+  call = record {
+    table = up.table ∙ (takes.table ∙ down.table);
+    left = up.left ∙ (takes.left ∙ down.left);
+    terms = up.terms ∙ (takes.terms ∙ down.terms);
+    role = up.role ∙ (takes.role ∙ down.role);
+    loader = up.loader ∙ (takes.loader ∙ down.loader);
+    made = up.made ∙ (takes.made ∙ down.made);
+    lineage = up.lineage ∙ (takes.lineage ∙ down.lineage);
+    receipts = up.receipts ∙ (takes.receipts ∙ ap (λ (rs : Receipts). record rs { own = rs.own ++ receipt.Deregister base (removed.Done number m) ∷ [] }) down.receipts);
+    allowance = (let a = up.allowance in let b = ap (λ z. z.allowance) takes.budget in let c = down.allowance in omega (arith, a, b, c));
+    credit = (let a = up.credit in let b = ap (λ z. z.credit) takes.budget in let c = down.credit in omega (arith, a, b, c));
+    nothing = nothing;
+  };
+}
+
+-- the way down, and the leaf read
+pub read_spends : (k k1 k2 : CallerData) → Spends 26 k k1 → StepsOnNodes k1 k2 → Spends 26 k k2
+read_spends k k1 k2 down steps = spends_then 26 0 26 k k1 k2 refl down (spends_none k1 k2 steps)
+
+-- releases are left to let go of the way
+pub surplus_refused : (t : Terms) (base : ℕ) (answer : Removed) (k k1 k2 : CallerData) → Spends 26 k k1 → 64 ≤ surplus k → RefusesBase t base answer k1 k2 → 1 < surplus k2
+surplus_refused t base answer k k1 k2 down most refuses = let left = surplus_left 26 k k1 down most (omega arith) in let a = ap (λ z. z.credit) refuses.budget in let b : 64 * k2.left ≡ 64 * k1.left = ap (λ z. 64 * z) refuses.left in omega (arith, left, a, b)
+
+pub surplus_taken : (t : Terms) (base n number : ℕ) (root_changed : Bool) (m : Member) (k k1 k2 : CallerData) → Spends 26 k k1 → 64 ≤ surplus k → TakesMember t base n root_changed number m k1 k2 → 1 < surplus k2
+surplus_taken t base n number root_changed m k k1 k2 down most takes = let left = surplus_left 26 k k1 down most (omega arith) in let a = ap (λ z. z.credit) takes.budget in let b : 64 * k2.left ≡ 64 * k1.left = ap (λ z. 64 * z) takes.left in omega (arith, left, a, b)

@@ -30,7 +30,6 @@ use Rattle.btree_change.specs.Shares.{IsChosen, shares_for}
 use Rattle.btree_change.specs.Siblings.{HoldsSiblings, IsInEither, MendsSiblings, both_of, is_small_body}
 use Rattle.btree_change.specs.declared.mending.Chosen.{Chosen}
 use Rattle.btree_change.specs.declared.sibling.Siblings.{Siblings}
-use Rattle.btree_change.specs.declared.way.HeldNode.{HeldNode}
 use Rattle.btree_change.proofs.Descending.{steps_then}
 use Rattle.btree_change.proofs.Descents.{steps_of_load}
 use Rattle.btree_change.proofs.Joining.{may_store, spare_of}
@@ -48,8 +47,8 @@ ShareLaw = (f : Contents) (live : ℕ → Bool) (parent slot : ℕ) (p q : Pair)
 
 -- the other one is one of the two
 pub others_of : (x : Siblings) (pc : ℕ) (c : Chosen) → IsChosen x pc c → (c.other ≡ x.left.node) ⊎ (c.other ≡ x.right.node)
-others_of x pc c (inl (way, other, below)) = inr other
-others_of x pc c (inr (way, other, above)) = inl other
+others_of x pc c (inl (node, other, below)) = inr other
+others_of x pc c (inr (node, other, above)) = inl other
 
 module _ (t : Terms) (x : Siblings) (k k1 : CallerData) (found : ℕ) (hs : HoldsSiblings t x k.log.holdings) (tree : KnowsTree k.log.holdings) (loads : k1 ≡ record k { log = after_node_load x.above.at.node 2 found k.log })
     (over : Overfill x.left.content x.right.content) where
@@ -293,34 +292,36 @@ module _ (t : Terms) (x : Siblings) (k k1 : CallerData) (found : ℕ) (hs : Hold
           out = refl;
         })
 
-        pub shares_so : (pc : ℕ) (c : Chosen) (k5 k6 : CallerData) (seen : ℕ) → k.log.terms ≡ t → IsInEither pc x → IsChosen x pc c → k5 ≡ record k4 { log = after_node_release c.other k4.log } → HolderTells c.way.node k5.log → k6 ≡ record k5 { log = after_node_load c.way.node 2 seen k5.log } → MendsSiblings t x c.way k k6 × IsInFences pc c.way.content
-        shares_so pc c k5 k6 seen terms between (inl (way, other, below)) lets tells loads' =
+        pub shares_so : (pc : ℕ) (c : Chosen) (k5 k6 : CallerData) (seen : ℕ) → k.log.terms ≡ t → IsInEither pc x → IsChosen x pc c → k5 ≡ record k4 { log = after_node_release c.other k4.log } → HolderTells c.node k5.log → k6 ≡ record k5 { log = after_node_load c.node 2 seen k5.log } → (s : NodeData) × (MendsSiblings t x (record { node = c.node; content = s; changed = true }) k k6 × IsInFences pc s)
+        shares_so pc c k5 k6 seen terms between (inl (node, other, below)) lets tells loads' =
             let lets' = subst (λ m. k5 ≡ record k4 { log = after_node_release m k4.log }) other lets in
-            let node : c.way.node ≡ l = ap (λ (z : HeldNode). z.node) way in
             let tells' = subst (λ m. HolderTells m k5.log) node tells in
             let loads2 = subst (λ m. k6 ≡ record k5 { log = after_node_load m 2 seen k5.log }) node loads' in
-            let spends = spends_then 1 0 1 k k5 k6 refl (spends_then 0 1 1 k k4 k5 refl (spends_none k k4 steps4) (spent r k5 lets')) (loaded_none l 2 seen k5 k6 loads2) in
-            subst (λ (z : HeldNode). MendsSiblings t x z k k6 × IsInFences pc z.content) (sym way) (
-              record {
-                holds = under_so t n l (shares_for x).left x.above.root_changed k5 k6 seen hs.left_within (family t x k hs tree).left.no_root l_far_n ((spent r k5 lets').terms ∙ (steps4.terms ∙ terms)) (left_stays k5 lets') tells' loads2;
-                level = hs.level;
-                spare = spare_of l (shares_for x).left (share_spares x.left.content.body x.right.content.body over).0;
-                spends = spends;
-              },
-              (between.0, below),
+            let spends = spends_then 1 0 1 k k5 k6 refl (spends_then 0 1 1 k k4 k5 refl (spends_none k k4 steps4) (spent r k5 lets')) (loaded_none l 2 seen k5 k6 loads2) in (
+              (shares_for x).left,
+              (
+                subst (λ m. MendsSiblings t x (record { node = m; content = (shares_for x).left; changed = true }) k k6) (sym node) (record {
+                  holds = under_so t n l (shares_for x).left x.above.root_changed k5 k6 seen hs.left_within (family t x k hs tree).left.no_root l_far_n ((spent r k5 lets').terms ∙ (steps4.terms ∙ terms)) (left_stays k5 lets') tells' loads2;
+                  level = hs.level;
+                  spare = spare_of l (shares_for x).left (share_spares x.left.content.body x.right.content.body over).0;
+                  spends = spends;
+                }),
+                (between.0, below),
+              ),
             )
-        shares_so pc c k5 k6 seen terms between (inr (way, other, above)) lets tells loads' =
+        shares_so pc c k5 k6 seen terms between (inr (node, other, above)) lets tells loads' =
             let lets' = subst (λ m. k5 ≡ record k4 { log = after_node_release m k4.log }) other lets in
-            let node : c.way.node ≡ r = ap (λ (z : HeldNode). z.node) way in
             let tells' = subst (λ m. HolderTells m k5.log) node tells in
             let loads2 = subst (λ m. k6 ≡ record k5 { log = after_node_load m 2 seen k5.log }) node loads' in
-            let spends = spends_then 1 0 1 k k5 k6 refl (spends_then 0 1 1 k k4 k5 refl (spends_none k k4 steps4) (spent l k5 lets')) (loaded_none r 2 seen k5 k6 loads2) in
-            subst (λ (z : HeldNode). MendsSiblings t x z k k6 × IsInFences pc z.content) (sym way) (
-              record {
-                holds = under_so t n r (shares_for x).right x.above.root_changed k5 k6 seen hs.right_within (family t x k hs tree).no_root r_far_n ((spent l k5 lets').terms ∙ (steps4.terms ∙ terms)) (right_stays k5 lets') tells' loads2;
-                level = hs.level;
-                spare = spare_of r (shares_for x).right (share_spares x.left.content.body x.right.content.body over).1;
-                spends = spends;
-              },
-              (omega (arith, above), between.1),
+            let spends = spends_then 1 0 1 k k5 k6 refl (spends_then 0 1 1 k k4 k5 refl (spends_none k k4 steps4) (spent l k5 lets')) (loaded_none r 2 seen k5 k6 loads2) in (
+              (shares_for x).right,
+              (
+                subst (λ m. MendsSiblings t x (record { node = m; content = (shares_for x).right; changed = true }) k k6) (sym node) (record {
+                  holds = under_so t n r (shares_for x).right x.above.root_changed k5 k6 seen hs.right_within (family t x k hs tree).no_root r_far_n ((spent l k5 lets').terms ∙ (steps4.terms ∙ terms)) (right_stays k5 lets') tells' loads2;
+                  level = hs.level;
+                  spare = spare_of r (shares_for x).right (share_spares x.left.content.body x.right.content.body over).1;
+                  spends = spends;
+                }),
+                (omega (arith, above), between.1),
+              ),
             )

@@ -1,5 +1,5 @@
 -- Even shares of two neighbouring children.
-use Rattle.std.specs.Prelude.{◌≡◌, ℕ, ◌<◌, ◌≤◌, ◌⊎◌, true}
+use Rattle.std.specs.Prelude.{◌≡◌, ℕ, ◌<◌, ◌≤◌, ◌⊎◌}
 use Rattle.tree_shape.specs.Changes.{at_slot, first_half, joined, last_half, separate_at, share_of}
 use Rattle.tree_shape.specs.NodeData.{Pairs, pairs_of}
 use Rattle.btree_change.specs.declared.mending.Chosen.{Chosen}
@@ -20,12 +20,6 @@ shares_for x =
 
 -- the one that has an address, and the other
 abbrev pub IsChosen : Siblings → ℕ → Chosen → Type 0
-IsChosen x pc c = ((c.way ≡ record {
-  node = x.left.node;
-  content = (shares_for x).left;
-  changed = true;
-}) × (c.other ≡ x.right.node) × (pc ≤ (shares_for x).left.high)) ⊎ ((c.way ≡ record {
-  node = x.right.node;
-  content = (shares_for x).right;
-  changed = true;
-}) × (c.other ≡ x.left.node) × ((shares_for x).left.high < pc))
+IsChosen x pc c =
+    ((c.node ≡ x.left.node) × (c.other ≡ x.right.node) × (pc ≤ (shares_for x).left.high))
+    ⊎ ((c.node ≡ x.right.node) × (c.other ≡ x.left.node) × ((shares_for x).left.high < pc))

@@ -2,10 +2,9 @@
 //! takes the place of its only two.
 ghost use Rattle.std.specs.Prelude.{◌≡◌, ◌+◌, ◌<◌, ◌||◌, IsSome, IsTrue, length};
 ghost use Rattle.std.specs.List.{AllByRecursion};
-ghost use Rattle.tree_shape.specs.Changes.{Fit, Overfill, joined};
+ghost use Rattle.tree_shape.specs.Changes.{Fit, Overfill, at_slot, joined, swallow_next};
 ghost use Rattle.tree_shape.specs.Lawful.{fewest_pairs};
-ghost use Rattle.tree_shape.specs.NodeData.{AreNeighbours, InOrder, IsInFences, IsInner};
-ghost use Rattle.tree_shape.specs.NodeData.{pairs_of};
+ghost use Rattle.tree_shape.specs.NodeData.{IsInFences, Pairs, pairs_of};
 ghost use Rattle.tree_shape.specs.Numbers.{is_among};
 ghost use Rattle.word_rule.specs.CallerData.{surplus};
 ghost use Rattle.word_rule.specs.Held.{held_of};
@@ -17,8 +16,8 @@ ghost use Rattle.btree_change.specs.Siblings.{IsGoneOrSettled, MendsSiblings, Si
 ghost use Rattle.btree_change.specs.Siblings.{is_small_body};
 
 use crate::sibling::Siblings;
-use crate::way::HeldNode;
-use node_store::{Locking, give_free, write_held};
+use crate::way::{HeldNode, content_of};
+use node_store::{Locking, Outline, give_free, outline_of, write_held};
 use tree_shape::{Node, drop_pair, even_pair, join_pair, laws, set_separator, sink_root};
 use word_rule::exchange::exchange_decided;
 use word_rule::{Caller, LockId, Words};
@@ -49,14 +48,17 @@ fn give_back<L: Locking>(locking: &L, words: &Words, me: &mut Caller, node: u32)
 }
 
 /// Writes what two children hold into the left one, and makes the right one free: with that it has
-/// left the tree.
-fn join_into_left(words: &Words, me: &mut Caller, x: &Siblings, content: &Node)
+/// left the tree. Their parent has one pair less.
+fn join_into_left(words: &Words, me: &mut Caller, x: &Siblings, content: &Node, above: &Node)
     requires table { me.old.table ≡ words.now.table }
     requires terms { me.old.log.terms ≡ words.now.terms }
     requires held { HoldsSiblings words.now.terms x.now me.old.log.holdings }
     requires fit { Fit x.now.left.content x.now.right.content }
     requires spare { fewest_pairs x.now.above.at.node < length (pairs_of x.now.above.at.content) }
     requires content { content.now ≡ joined x.now.left.content x.now.right.content }
+    requires above { above.now ≡ record x.now.above.at.content {
+      body = Pairs (at_slot swallow_next x.now.slot (pairs_of x.now.above.at.content));
+    } }
     ensures gone { HoldsGone words.now.terms x.now me.new.log.holdings }
     ensures same { StepsOnNodes me.old me.new }
 {
@@ -66,9 +68,8 @@ fn join_into_left(words: &Words, me: &mut Caller, x: &Siblings, content: &Node)
     exchange_decided();
     // By this load it is known of which tree the nodes are.
     words.load_node(me, x.right.node, LEVEL);
-    let above = drop_pair(&x.above.at.content, x.slot);
     write_held(words, me, x.left.node, content);
-    write_held(words, me, x.above.at.node, &above);
+    write_held(words, me, x.above.at.node, above);
     // A base above 2^32 in the place of the link would spell no node.
     words.store_node(me, x.right.node, LINK, 0);
     words.store_node(me, x.right.node, KIND, FREE);
@@ -91,11 +92,18 @@ pub(crate) fn join<L: Locking>(
     ensures mends { MendsSiblings words.now.terms x.now result me.old me.new }
     ensures content { result.content ≡ joined x.now.left.content x.now.right.content }
 {
-    let node = x.left.node;
-    let content = join_pair(&x.left.content, &x.right.content);
-    join_into_left(words, me, x, &content);
+    // By this load it is known that they are three nodes.
+    words.load_node(me, x.right.node, LEVEL);
+    let left = content_of(words, me, &x.left);
+    let right = content_of(words, me, &x.right);
+    let parent = content_of(words, me, &x.above.at);
+    let both = join_pair(&left, &right);
+    let above = drop_pair(&parent, x.slot);
+    join_into_left(words, me, x, &both, &above);
     give_back(locking, words, me, x.right.node);
+    let node = x.left.node;
     words.load_node(me, node, LEVEL);
+    let content = outline_of(words, me, node);
     HeldNode {
         node,
         content,
@@ -112,50 +120,44 @@ pub(crate) struct Shares {
 }
 
 /// Even shares of two children that don't fit into one node.
-fn shares_of(x: &Siblings) -> Shares
+fn shares_of(words: &Words, me: &mut Caller, x: &Siblings) -> Shares
+    requires table { me.old.table ≡ words.now.table }
+    requires held { HoldsSiblings words.now.terms x.now me.old.log.holdings }
     requires overfill { Overfill x.now.left.content x.now.right.content }
-    requires neighbours { AreNeighbours x.now.left.content x.now.right.content }
-    requires left { InOrder x.now.left.content }
-    requires right { InOrder x.now.right.content }
-    requires inner { IsInner x.now.above.at.content }
-    requires slot { x.now.slot < length (pairs_of x.now.above.at.content) }
-    ensures { result ≡ shares_for x.now }
+    ensures shares { result ≡ shares_for x.now }
+    ensures steps { StepsOnNodes me.old me.new }
+    ensures holdings { me.new.log.holdings ≡ me.old.log.holdings }
 {
-    let (left, right) = even_pair(&x.left.content, &x.right.content);
-    let above = set_separator(&x.above.at.content, x.slot, left.high);
+    // By this load it is known that they are three nodes.
+    words.load_node(me, x.right.node, LEVEL);
+    let first = content_of(words, me, &x.left);
+    let last = content_of(words, me, &x.right);
+    let parent = content_of(words, me, &x.above.at);
+    let (left, right) = even_pair(&first, &last);
+    let above = set_separator(&parent, x.slot, left.high);
     Shares { left, right, above }
 }
 
 /// Of two children with even shares the one that has an address, and the other.
 #[derive(Drop)]
 struct Chosen {
-    way: HeldNode,
+    node: u32,
     other: u32,
 }
 
 /// Which of two children has an address once they have even shares.
-fn choose(x: &Siblings, shares: Shares, pc: u64) -> Chosen
-    requires { shares ≡ shares_for x.now }
+fn choose(x: &Siblings, shares: &Shares, pc: u64) -> Chosen
+    requires { shares.now ≡ shares_for x.now }
     ensures { IsChosen x.now pc result }
 {
     if pc <= shares.left.high {
-        let way = HeldNode {
-            node: x.left.node,
-            content: shares.left,
-            changed: true,
-        };
         Chosen {
-            way,
+            node: x.left.node,
             other: x.right.node,
         }
     } else {
-        let way = HeldNode {
-            node: x.right.node,
-            content: shares.right,
-            changed: true,
-        };
         Chosen {
-            way,
+            node: x.right.node,
             other: x.left.node,
         }
     }
@@ -185,23 +187,29 @@ pub(crate) fn share<L: Locking>(
     laws::transfer();
     laws::widen();
     exchange_decided();
+    let shares = shares_of(words, me, x);
     // By this load it is known of which tree the nodes are.
     words.load_node(me, x.above.at.node, LEVEL);
-    let shares = shares_of(x);
     write_held(words, me, x.left.node, &shares.left);
     write_held(words, me, x.right.node, &shares.right);
     write_held(words, me, x.above.at.node, &shares.above);
-    let chosen = choose(x, shares, pc);
+    let chosen = choose(x, &shares, pc);
     locking.let_go(words, me, LockId::Node { node: chosen.other });
-    words.load_node(me, chosen.way.node, LEVEL);
-    chosen.way
+    let node = chosen.node;
+    words.load_node(me, node, LEVEL);
+    let content = outline_of(words, me, node);
+    HeldNode {
+        node,
+        content,
+        changed: true,
+    }
 }
 
 /// The level above that of a node.
-fn next_level(node: &Node) -> u64
+fn next_level(node: &Outline) -> u64
     ensures { result ≡ node.now.level + 1 }
 {
-    node.level as u64 + 1
+    node.level() as u64 + 1
 }
 
 /// Writes what the root's only two children hold into the root, and makes both leave the tree.
@@ -248,11 +256,17 @@ pub(crate) fn sink<L: Locking>(
     ensures sinks { SinksRoot words.now.terms x.now result me.old me.new }
     ensures content { result.content ≡ sunk_root x.now }
 {
-    let content = sink_root(&x.above.at.content, &x.left.content, &x.right.content);
-    sink_into_root(words, me, x, &content);
+    // By this load it is known that they are three nodes.
+    words.load_node(me, x.right.node, LEVEL);
+    let left = content_of(words, me, &x.left);
+    let right = content_of(words, me, &x.right);
+    let root = content_of(words, me, &x.above.at);
+    let sunk = sink_root(&root, &left, &right);
+    sink_into_root(words, me, x, &sunk);
     give_back(locking, words, me, x.left.node);
     give_back(locking, words, me, x.right.node);
     words.load_node(me, 0, LEVEL);
+    let content = outline_of(words, me, 0);
     HeldNode {
         node: 0,
         content,

@@ -1,7 +1,8 @@
 //! The removal of the member that begins at an address.
 ghost use Rattle.std.specs.Prelude.{◌≡◌, ◌≤◌, ◌<◌, ◌-◌, ◌^◌, ◌+◌, ◌||◌, ◌≢◌, ℕ, true, false, IsTrue, IfOk, IfErr, length};
 ghost use Rattle.tree_shape.specs.Changes.{Fit, Overfill};
-ghost use Rattle.tree_shape.specs.NodeData.{IsInFences, pairs_of};
+ghost use Rattle.tree_shape.specs.Lawful.{IsFilled, IsOrdered};
+ghost use Rattle.tree_shape.specs.NodeData.{IsInFences, IsInner, pairs_of};
 ghost use Rattle.btree_change.specs.Loads.{FoundTaken};
 ghost use Rattle.btree_change.specs.Siblings.{HoldsSiblings, IsInEither, SameKind};
 ghost use Rattle.btree_change.specs.Siblings.{is_small_body};
@@ -14,16 +15,16 @@ ghost use Rattle.btree_change.specs.Removing.{HoldsBesideRoot, IsSpare, Spends};
 ghost use Rattle.btree_change.specs.Updates.{GivesUp};
 
 use crate::mending::{join, share, sink};
-use crate::sibling::{Siblings, is_small, leave, take_child, take_sibling};
+use crate::sibling::{Siblings, is_leaf, is_small, leave, pair_count, take_child, take_sibling};
 use crate::taking::{not_found, take_in_leaf};
-use crate::way::{Way, at_root, let_go_of_way};
+use crate::way::{Way, at_root, content_of, let_go_of_way};
 use node_store::{Busy, Locking, Trying, Waiting};
 use reg_model::Removed;
 use std::sync::Wait;
-use tree_shape::{Content, ENTRIES, Node, PAIRS};
+use tree_shape::{ENTRIES, PAIRS};
 use word_rule::{Caller, Words};
 
-/// Takes the root, and reads it: the way begins there.
+/// Takes the root, and outlines it: the way begins there.
 fn root_of_way<L: Locking>(locking: &L, words: &Words, me: &mut Caller) -> Result<Way, Busy>
     requires table { me.old.table ≡ words.now.table }
     requires idle { IsIdle me.old.log }
@@ -44,14 +45,19 @@ fn root_of_way<L: Locking>(locking: &L, words: &Words, me: &mut Caller) -> Resul
 }
 
 /// Whether two neighbours fit into one node.
-fn fit(left: &Node, right: &Node) -> bool
-    requires kind { SameKind left.now.body right.now.body }
-    ensures fit { result ≡ true → Fit left.now right.now }
-    ensures over { result ≡ false → Overfill left.now right.now }
+fn fit(x: &Siblings) -> bool
+    requires kind { SameKind x.now.left.content.body x.now.right.content.body }
+    requires ordered { IsOrdered x.now.left.content }
+    requires left { IsFilled x.now.left.node x.now.left.content }
+    requires right { IsFilled x.now.right.node x.now.right.content }
+    ensures fit { result ≡ true → Fit x.now.left.content x.now.right.content }
+    ensures over { result ≡ false → Overfill x.now.left.content x.now.right.content }
 {
-    match &left.content {
-        Content::Leaf { .. } => left.entries().len() + right.entries().len() <= ENTRIES,
-        _ => left.pairs().len() + right.pairs().len() <= PAIRS,
+    let count = x.left.content.count() + x.right.content.count();
+    if is_leaf(&x.left.content) {
+        count <= ENTRIES as u64
+    } else {
+        count <= PAIRS as u64
     }
 }
 
@@ -65,12 +71,13 @@ fn changed(mut way: Way) -> Way
 
 /// Whether two children that fit into one leave a root that has no others.
 fn sinks(x: &Siblings) -> bool
+    requires { IsInner x.now.above.at.content }
     ensures root { result ≡ true → x.now.above.at.node ≡ 0 }
     ensures two { result ≡ true → length (pairs_of x.now.above.at.content) ≡ 2 }
     ensures more { result ≡ false → x.now.above.at.node ≡ 0
         → length (pairs_of x.now.above.at.content) ≢ 2 }
 {
-    x.above.at.node == 0 && x.above.at.content.pairs().len() == 2
+    x.above.at.node == 0 && pair_count(&x.above.at.content) == 2
 }
 
 /// Joins two children of a node of the way, or gives them even shares, or sinks the root: the way
@@ -92,7 +99,7 @@ fn mend<L: Locking>(locking: &L, words: &Words, me: &mut Caller, x: Siblings, pc
     ensures spare { IsSpare result.at.node result.at.content }
     ensures spends { Spends 2 me.old me.new }
 {
-    if !fit(&x.left.content, &x.right.content) {
+    if !fit(&x) {
         let at = share(locking, words, me, &x, pc);
         return leave(locking, words, me, changed(x.above), at);
     }
@@ -162,7 +169,7 @@ fn leaf_on_way<L: Locking>(
     ensures terms { me.old.log.terms ≡ words.now.terms }
 {
     let mut way = root_of_way(locking, words, me)?;
-    while way.at.content.level > 0 {
+    while way.at.content.level() > 0 {
         way = match step_down(locking, words, me, way, pc) {
             Ok(below) => below,
             Err(busy) => return Err(busy),
@@ -189,11 +196,12 @@ pub fn remove_by<L: Locking>(
     ensures busy { IfErr result (λ e. GivesUp e.lock me.old me.new × (L.gives_up ≡ true)) }
 {
     let mut way = leaf_on_way(locking, words, me, base)?;
-    if let Some(answer) = not_found(words, me, &way, base) {
+    let leaf = content_of(words, me, &way.at);
+    if let Some(answer) = not_found(words, me, &way, &leaf, base) {
         let_go_of_way(locking, words, me, &way);
         return Ok(answer);
     }
-    let (number, member) = take_in_leaf(words, me, &way, base);
+    let (number, member) = take_in_leaf(words, me, &way, &leaf, base);
     way.at.changed = true;
     let_go_of_way(locking, words, me, &way);
     Ok(Removed::Done { number, member })

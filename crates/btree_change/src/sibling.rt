@@ -1,7 +1,8 @@
-//! A child of a held node, and a neighbour beside it, locked and read.
-ghost use Rattle.std.specs.Prelude.{◌≡◌, ◌≢◌, ◌<◌, ◌+◌, ◌^◌, ◌⊎◌, true, Some, IfOk, IfErr, length, ℕ};
-ghost use Rattle.std.specs.List.{slice_get};
-ghost use Rattle.tree_shape.specs.NodeData.{IsInFences, pairs_of};
+//! A child of a held node, and a neighbour beside it, locked and outlined.
+ghost use Rattle.std.specs.Prelude.{◌≡◌, ◌≢◌, ◌<◌, ◌+◌, ◌^◌, ◌⊎◌, true, IfOk, IfErr, length, ℕ};
+ghost use Rattle.tree_shape.specs.Decisions.{is_entries};
+ghost use Rattle.tree_shape.specs.Lawful.{IsOrdered};
+ghost use Rattle.tree_shape.specs.NodeData.{IsInFences, IsInner, pairs_of};
 ghost use Rattle.word_rule.specs.CallerData.{surplus};
 ghost use Rattle.btree_change.specs.Loads.{FoundTaken};
 ghost use Rattle.btree_change.specs.Paths.{HoldsNothing};
@@ -11,17 +12,16 @@ ghost use Rattle.btree_change.specs.Siblings.{is_small_body};
 
 use crate::descent::take_node;
 use crate::way::{HeldNode, Way, let_go_of, let_go_of_way};
-use node_store::{Busy, Locking, read_held};
-use tree_shape::{Content, Node, Pair, inner_slot};
+use node_store::{Busy, Locking, Outline, outline_of, pair_of, slot_of};
 use word_rule::{Caller, LockId, Words};
 
 /// The word of a node that has its level.
 const LEVEL: u32 = 2;
 
 /// Below so many entries, or so many pairs, a node can't lose one.
-const ENTRIES_TO_SPARE: usize = 5;
+const ENTRIES_TO_SPARE: u64 = 5;
 
-const PAIRS_TO_SPARE: usize = 7;
+const PAIRS_TO_SPARE: u64 = 7;
 
 /// A child that is held under its parent: that of the pair at the slot.
 #[derive(Drop)]
@@ -41,26 +41,35 @@ pub(crate) struct Siblings {
     pub(crate) slot: usize,
 }
 
-/// Whether a node has no pair or entry to spare.
-pub(crate) fn is_small(node: &Node) -> bool
+/// Whether a node of a tree is a leaf.
+pub(crate) fn is_leaf(node: &Outline) -> bool
+    requires { IsOrdered node.now }
+    ensures { result ≡ is_entries node.now.body }
+{
+    node.level() == 0
+}
+
+/// Whether a node of a tree has no pair or entry to spare.
+pub(crate) fn is_small(node: &Outline) -> bool
+    requires { IsOrdered node.now }
     ensures { result ≡ is_small_body node.now.body }
 {
-    match &node.content {
-        Content::Leaf { .. } => node.entries().len() < ENTRIES_TO_SPARE,
-        Content::Inner { .. } => node.pairs().len() < PAIRS_TO_SPARE,
-        Content::Free { .. } => false,
+    if is_leaf(node) {
+        node.count() < ENTRIES_TO_SPARE
+    } else {
+        node.count() < PAIRS_TO_SPARE
     }
 }
 
-/// The pair of an inner node at a slot.
-fn pair_at(parent: &Node, slot: usize) -> Pair
-    requires { slot < length (pairs_of parent.now) }
-    ensures { slice_get (pairs_of parent.now) slot ≡ Some result }
+/// How many pairs an inner node has.
+pub(crate) fn pair_count(node: &Outline) -> u64
+    requires { IsInner node.now }
+    ensures { result ≡ length (pairs_of node.now) }
 {
-    parent.pairs()[slot]
+    node.count()
 }
 
-/// Locks and reads the child for an address, under a node of the way.
+/// Locks and outlines the child for an address, under a node of the way.
 pub(crate) fn take_child<L: Locking>(
     locking: &L,
     words: &Words,
@@ -82,13 +91,13 @@ pub(crate) fn take_child<L: Locking>(
     ensures spends { Spends 2 me.old me.new }
     ensures free { IfOk result (λ child. Spends 0 me.old me.new) }
 {
-    let slot = inner_slot(&above.at.content, pc);
-    let node = pair_at(&above.at.content, slot).child;
+    let slot = slot_of(words, me, above.at.node, &above.at.content, pc);
+    let node = pair_of(words, me, above.at.node, &above.at.content, slot).child;
     if let Err(busy) = take_node(locking, words, me, node) {
         let_go_of_way(locking, words, me, &above);
         return Err(busy);
     }
-    let content = read_held(words, me, node);
+    let content = outline_of(words, me, node);
     let at = HeldNode {
         node,
         content,
@@ -112,14 +121,15 @@ fn let_go_of_child<L: Locking>(locking: &L, words: &Words, me: &mut Caller, chil
 
 /// The place of the first of two neighbouring pairs: a pair's and the next one's, where there is a
 /// next one, else that of the pair before it.
-fn slot_of_two(parent: &Node, slot: usize) -> usize
+fn slot_of_two(parent: &Outline, slot: usize) -> usize
+    requires inner { IsInner parent.now }
     requires inside { slot < length (pairs_of parent.now) }
     requires two { 1 < length (pairs_of parent.now) }
     ensures inside { result + 1 < length (pairs_of parent.now) }
     ensures near { (result ≡ slot) ⊎ (result + 1 ≡ slot) }
 {
-    let count = parent.pairs().len();
-    if slot < count - 1 { slot } else { slot - 1 }
+    let last = pair_count(parent) - 1;
+    if (slot as u64) < last { slot } else { slot - 1 }
 }
 
 /// Of two slots of which the first is this one the one that isn't the child's.
@@ -130,7 +140,7 @@ fn slot_beside(first: usize, slot: usize) -> usize
     if first == slot { first + 1 } else { first }
 }
 
-/// Locks and reads a neighbour of a child: the next child of its parent, or the one before.
+/// Locks and outlines a neighbour of a child: the next child of its parent, or the one before.
 pub(crate) fn take_sibling<L: Locking>(
     locking: &L,
     words: &Words,
@@ -151,14 +161,21 @@ pub(crate) fn take_sibling<L: Locking>(
 {
     let first = slot_of_two(&child.above.at.content, child.slot);
     let beside = slot_beside(first, child.slot);
-    let node = pair_at(&child.above.at.content, beside).child;
+    let node = pair_of(
+        words,
+        me,
+        child.above.at.node,
+        &child.above.at.content,
+        beside,
+    )
+    .child;
     // By this load it is known that the neighbour is no child of the child.
     words.load_node(me, child.at.node, LEVEL);
     if let Err(busy) = take_node(locking, words, me, node) {
         let_go_of_child(locking, words, me, &child);
         return Err(busy);
     }
-    let content = read_held(words, me, node);
+    let content = outline_of(words, me, node);
     let other = HeldNode {
         node,
         content,

@@ -35,18 +35,25 @@ fn entry_at(leaf: &Node, base: u64) -> Option<Member>
 }
 
 /// Tells that no member begins at the base, where the held leaf has none.
-pub(crate) fn not_found(words: &Words, me: &mut Caller, way: &Way, base: u64) -> Option<Removed>
+pub(crate) fn not_found(
+    words: &Words,
+    me: &mut Caller,
+    way: &Way,
+    leaf: &Node,
+    base: u64,
+) -> Option<Removed>
     requires table { me.old.table ≡ words.now.table }
     requires path { HoldsBesideRoot words.now.terms way.now.at.node way.now.at.content way.now.at.changed
         way.now.root_changed me.old.log.holdings }
     requires level { way.now.at.content.level ≡ 0 }
+    requires content { leaf.now ≡ way.now.at.content }
     requires here { IsInFences base way.now.at.content }
     ensures none { IfSome result (λ answer. RefusesBase words.now.terms base answer
         me.old me.new) }
     ensures found { IfNone result (IsSome (at_base base (entries_of way.now.at.content))
         × (me.new ≡ me.old)) }
 {
-    if entry_at(&way.at.content, base).is_some() {
+    if entry_at(leaf, base).is_some() {
         return None;
     }
     let update = Update::Deregister { base };
@@ -58,12 +65,19 @@ pub(crate) fn not_found(words: &Words, me: &mut Caller, way: &Way, base: u64) ->
 
 /// Takes the member that begins at a base out of a held leaf, and commits that: its number, and the
 /// member.
-pub(crate) fn take_in_leaf(words: &Words, me: &mut Caller, way: &Way, base: u64) -> (u32, Member)
+pub(crate) fn take_in_leaf(
+    words: &Words,
+    me: &mut Caller,
+    way: &Way,
+    leaf: &Node,
+    base: u64,
+) -> (u32, Member)
     requires table { me.old.table ≡ words.now.table }
     requires terms { me.old.log.terms ≡ words.now.terms }
     requires path { HoldsBesideRoot words.now.terms way.now.at.node way.now.at.content way.now.at.changed
         way.now.root_changed me.old.log.holdings }
     requires leaf { way.now.at.content.level ≡ 0 }
+    requires content { leaf.now ≡ way.now.at.content }
     requires here { IsInFences base way.now.at.content }
     requires spare { IsSpare way.now.at.node way.now.at.content }
     requires held { IsSome (at_base base (entries_of way.now.at.content)) }
@@ -76,7 +90,7 @@ pub(crate) fn take_in_leaf(words: &Words, me: &mut Caller, way: &Way, base: u64)
     exchange_decided();
     // By this load it is known of which tree the leaf is.
     words.load_node(me, way.at.node, COUNT);
-    let (left, member) = take_entry(&way.at.content, base);
+    let (left, member) = take_entry(leaf, base);
     write_held(words, me, way.at.node, &left);
     let number = words.commit(me, Update::Deregister { base });
     (number, member)

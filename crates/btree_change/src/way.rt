@@ -3,13 +3,14 @@ ghost use Rattle.std.specs.Prelude.{◌≡◌, ◌<◌, true, IfErr, IfOk, IsSom
 ghost use Rattle.word_rule.specs.CallerData.{surplus};
 ghost use Rattle.word_rule.specs.Held.{held_of};
 ghost use Rattle.word_rule.specs.Callers.{IsIdle};
+ghost use Rattle.node_store.specs.Holding.{SpellsHeld};
 ghost use Rattle.btree_change.specs.Loads.{FoundTaken};
 ghost use Rattle.btree_change.specs.Paths.{HoldsNothing, StepsOnNodes};
 ghost use Rattle.btree_change.specs.Stands.{HoldsRoot};
 ghost use Rattle.btree_change.specs.Removing.{HaveSettled, HoldsLocks, LetsGoOf, Spends};
 
 use crate::descent::take_node;
-use node_store::{Busy, Locking, read_held};
+use node_store::{Busy, Locking, Outline, outline_of, read_held};
 use tree_shape::Node;
 use word_rule::exchange::exchange_decided;
 use word_rule::{Ask, Caller, LockId, Words};
@@ -17,11 +18,11 @@ use word_rule::{Ask, Caller, LockId, Words};
 /// The word of a node that has its level.
 const LEVEL: u32 = 2;
 
-/// A node of the way down, held, with what it holds.
+/// A node of the way down, held, and its outline.
 #[derive(Drop)]
 pub(crate) struct HeldNode {
     pub(crate) node: u32,
-    pub(crate) content: Node,
+    pub(crate) content: Outline,
     /// Whether a word was stored under its lock.
     pub(crate) changed: bool,
 }
@@ -73,7 +74,19 @@ pub(crate) fn let_go_of_way<L: Locking>(locking: &L, words: &Words, me: &mut Cal
     }
 }
 
-/// Takes the root, and reads it.
+/// What a held node holds.
+pub(crate) fn content_of(words: &Words, me: &mut Caller, at: &HeldNode) -> Node
+    requires table { me.old.table ≡ words.now.table }
+    requires inside { at.now.node < words.now.terms.nodes }
+    requires spells { SpellsHeld at.now.node at.now.content me.old.log }
+    ensures content { result ≡ at.now.content }
+    ensures steps { StepsOnNodes me.old me.new }
+    ensures holdings { me.new.log.holdings ≡ me.old.log.holdings }
+{
+    read_held(words, me, at.node)
+}
+
+/// Takes the root, and outlines it.
 pub(crate) fn at_root<L: Locking>(
     locking: &L,
     words: &Words,
@@ -97,7 +110,7 @@ pub(crate) fn at_root<L: Locking>(
     take_node(locking, words, me, node)?;
     // By this load it is known that what is held is of a tree, so that the root has all addresses.
     words.load_node(me, node, LEVEL);
-    let content = read_held(words, me, node);
+    let content = outline_of(words, me, node);
     Ok(HeldNode {
         node,
         content,

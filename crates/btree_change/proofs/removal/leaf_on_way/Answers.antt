@@ -4,8 +4,8 @@ use Rattle.btree_change.proofs.RemovalAnswers.{root_spare}
 use Rattle.btree_change.proofs.Releases.{more_spent}
 use Rattle.btree_change.proofs.removal.leaf_on_way.Goals as goal
 
-pub loop-way-init : goal.loop-way-init
-loop-way-init g c = let ok = c.in_ok-way.ensures.ok in let fits = c.ranges.pc.fits in record {
+pub loop-me-init : goal.loop-me-init
+loop-me-init g c = let ok = c.in_ok-way.ensures.ok in let fits = c.ranges.pc.fits in record {
   path = ok.0;
   here = ok.3 c.args.pc (omega (arith, fits));
   spare = root_spare c.in_ok-way.way.at.node c.in_ok-way.way.at.content ok.1;
@@ -14,4 +14,4 @@ loop-way-init g c = let ok = c.in_ok-way.ensures.ok in let fits = c.ranges.pc.fi
 }
 
 pub returns-in-Err-clause-cause : goal.returns-in-Err-clause-cause
-returns-in-Err-clause-cause g c = found_after c.in-Err.busy.lock c.args.me.now c.loop-way.me c.step_down.new.me c.loop-way.invariant.spends.loads c.in-Err.ensures.cause
+returns-in-Err-clause-cause g c = found_after c.in-Err.busy.lock c.args.me.now c.loop-me.me c.step_down.new.me c.loop-me.invariant.spends.loads c.in-Err.ensures.cause

@@ -3,8 +3,8 @@ use Rattle.tree_shape.specs.NodeData.{IsInFences}
 use Rattle.btree_change.specs.Removing.{HoldsBesideRoot, IsSpare, Spends}
 use Rattle.btree_change.proofs.removal.leaf_on_way.Given as goal
 
-abbrev pub invariant-loop-way : goal.invariant-loop-way
-invariant-loop-way g l = record {
+abbrev pub invariant-loop-me : goal.invariant-loop-me
+invariant-loop-me g l = record {
   path : HoldsBesideRoot l.words.terms l.way.at.node l.way.at.content l.way.at.changed l.way.root_changed l.me.log.holdings;
   here : IsInFences l.pc l.way.at.content;
   spare : IsSpare l.way.at.node l.way.at.content;
@@ -12,5 +12,5 @@ invariant-loop-way g l = record {
   spends : Spends (24 - (l.way.at.content.level + l.way.at.content.level)) l.fn.me l.me;
 }
 
-abbrev pub decreases-loop-way : goal.decreases-loop-way
-decreases-loop-way g l = l.way.at.content.level
+abbrev pub decreases-loop-me : goal.decreases-loop-me
+decreases-loop-me g l = l.way.at.content.level

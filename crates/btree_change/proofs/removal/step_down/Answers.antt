@@ -1,4 +1,5 @@
 use Rattle.std.proofs.Common.{◌∙◌, refl, sym}
+use Rattle.btree_change.proofs.HeldOutlines.{ordered_of}
 use Rattle.btree_change.proofs.Loading.{found_after}
 use Rattle.btree_change.proofs.Releases.{spends_then}
 use Rattle.btree_change.proofs.RemovalAnswers.{kept_so}
@@ -15,3 +16,6 @@ returns-in-Err-clause-spends g c = spends_then 0 2 2 c.args.me.now c.take_child.
 
 pub returns-in-Ok-clause-spends : goal.returns-in-Ok-clause-spends
 returns-in-Ok-clause-spends g c = spends_then 0 2 2 c.args.me.now c.take_child.new.me c.mend.new.me refl c.in_ok-child.ensures.free (spends_then 0 2 2 c.take_child.new.me c.take_sibling.new.me c.mend.new.me refl c.in-Ok.ensures.free c.mend.ensures.spends)
+
+pub is_small-requires : goal.is_small-requires
+is_small-requires g c = ordered_of c.args.words.now.terms c.in_ok-child.child.at.node c.in_ok-child.child.at.content c.in_ok-child.child.at.changed c.in_ok-child.ensures.ok.0.lower c.in_ok-child.ensures.ok.0.here

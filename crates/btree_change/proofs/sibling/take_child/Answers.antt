@@ -1,24 +1,58 @@
-use Rattle.std.proofs.Common.{refl, arith}
+use Rattle.std.proofs.Common.{◌<◌, ◌∙◌, sym, ap, subst, refl, arith}
+use Rattle.word_rule.specs.CallerData.{CallerData, surplus}
+use Rattle.btree_change.specs.Removing.{HoldsBesideRoot}
+use Rattle.btree_change.proofs.Descending.{steps_then}
+use Rattle.btree_change.proofs.HeldOutlines.{still_spells, steps_of_loads, way_spells}
 use Rattle.btree_change.proofs.Joining.{in_order_of}
-use Rattle.btree_change.proofs.Locked.{child_so, child_steps, child_within, may_read_taken}
+use Rattle.btree_change.proofs.Loading.{found_between, found_busy}
+use Rattle.btree_change.proofs.Locked.{busy_kept, child_so, child_steps, child_within, may_read_taken}
 use Rattle.btree_change.proofs.Mended.{spends_none}
-use Rattle.btree_change.proofs.Releases.{more_spent}
+use Rattle.btree_change.proofs.Releases.{more_spent, spends_then}
 use Rattle.btree_change.proofs.sibling.take_child.Goals as goal
 
-pub inner_slot-slot-requires-clause-ordered : goal.inner_slot-slot-requires-clause-ordered
-inner_slot-slot-requires-clause-ordered g c = in_order_of c.args.words.now.terms c.args.above.at.node c.args.above.at.content c.args.above.at.changed c.requires.path.lock c.requires.path.here
+pub slot_of-slot-requires-clause-spells : goal.slot_of-slot-requires-clause-spells
+slot_of-slot-requires-clause-spells g c = way_spells c.args.words.now.terms c.args.above.at.node c.args.above.at.content c.args.above.at.changed c.args.above.root_changed c.args.me.now.log c.requires.path
 
-pub take_node-requires-clause-inside : goal.take_node-requires-clause-inside
-take_node-requires-clause-inside g c = child_within c.args.words.now.terms c.args.above.at.node c.args.above.at.content c.args.above.at.changed c.args.above.root_changed c.args.me.now.log.holdings c.inner_slot-slot.result c.pair_at-node.result c.requires.path c.pair_at-node.ensures
+pub slot_of-slot-requires-clause-ordered : goal.slot_of-slot-requires-clause-ordered
+slot_of-slot-requires-clause-ordered g c = in_order_of c.args.words.now.terms c.args.above.at.node c.args.above.at.content c.args.above.at.changed c.requires.path.lock c.requires.path.here
 
-pub read_held-content-requires-clause-held : goal.read_held-content-requires-clause-held
-read_held-content-requires-clause-held g c = may_read_taken c.args.words.now.terms c.pair_at-node.result.child c.args.me.now c.take_node.new.me c.in_default.ensures.ok
+pub pair_of-node-requires-clause-spells : goal.pair_of-node-requires-clause-spells
+pair_of-node-requires-clause-spells g c = still_spells c.args.above.at.node c.args.above.at.content c.args.me.now.log c.slot_of-slot.new.me.log c.slot_of-slot.ensures.holdings (way_spells c.args.words.now.terms c.args.above.at.node c.args.above.at.content c.args.above.at.changed c.args.above.root_changed c.args.me.now.log c.requires.path)
+
+pub let_go_of_way-requires-clause-surplus : goal.let_go_of_way-requires-clause-surplus
+let_go_of_way-requires-clause-surplus g c = subst (λ d. 1 < d) (sym ((busy_kept c.in-Err.busy.lock c.pair_of-node.new.me c.take_node.new.me c.in-Err.ensures.busy.1).1 ∙ (ap surplus c.pair_of-node.ensures.loads.1 ∙ ap surplus c.slot_of-slot.ensures.loads.1))) c.requires.surplus
+
+pub outline_of-content-requires-clause-held : goal.outline_of-content-requires-clause-held
+outline_of-content-requires-clause-held g c = may_read_taken c.args.words.now.terms c.pair_of-node.result.child c.pair_of-node.new.me c.take_node.new.me c.in_default.ensures.ok
 
 pub returns-clause-ok : goal.returns-clause-ok
-returns-clause-ok g c = (child_so c.args.words.now.terms c.args.above.at.node c.args.above.at.content c.args.above.at.changed c.args.above.root_changed c.args.pc c.inner_slot-slot.result c.pair_at-node.result c.args.me.now c.take_node.new.me c.read_held-content.new.me c.read_held-content.result c.requires.terms c.requires.path c.requires.inner c.requires.here c.inner_slot-slot.ensures.first c.pair_at-node.ensures c.in_default.ensures.ok c.read_held-content.ensures.reads c.read_held-content.ensures.holdings, refl)
+returns-clause-ok g c =
+    let path = subst (HoldsBesideRoot c.args.words.now.terms c.args.above.at.node c.args.above.at.content c.args.above.at.changed c.args.above.root_changed) (sym (c.pair_of-node.ensures.holdings ∙ c.slot_of-slot.ensures.holdings)) c.requires.path in
+    let terms = ap (λ (z : CallerData). z.log.terms) c.pair_of-node.ensures.loads.1 ∙ (ap (λ (z : CallerData). z.log.terms) c.slot_of-slot.ensures.loads.1 ∙ c.requires.terms) in
+    (child_so c.args.words.now.terms c.args.above.at.node c.args.above.at.content c.args.above.at.changed c.args.above.root_changed c.args.pc c.slot_of-slot.result c.pair_of-node.result c.pair_of-node.new.me c.take_node.new.me c.outline_of-content.new.me c.outline_of-content.result terms path c.requires.inner c.requires.here c.slot_of-slot.ensures.first c.pair_of-node.ensures.pair c.in_default.ensures.ok c.outline_of-content.ensures.spells c.outline_of-content.ensures.holdings, refl)
 
 pub returns-clause-spends : goal.returns-clause-spends
-returns-clause-spends g c = let none = spends_none c.args.me.now c.read_held-content.new.me (child_steps c.pair_at-node.result.child c.args.me.now c.take_node.new.me c.read_held-content.new.me c.read_held-content.result c.in_default.ensures.ok c.read_held-content.ensures.reads) in more_spent 0 2 c.args.me.now c.read_held-content.new.me (omega arith) none
+returns-clause-spends g c =
+    let k = c.args.me.now in let k1 = c.slot_of-slot.new.me in let k2 = c.pair_of-node.new.me in let k4 = c.outline_of-content.new.me in
+    let down = steps_then k k2 k4 (steps_then k k1 k2 (steps_of_loads k k1 c.slot_of-slot.ensures.loads) (steps_of_loads k1 k2 c.pair_of-node.ensures.loads)) (child_steps c.pair_of-node.result.child k2 c.take_node.new.me k4 c.in_default.ensures.ok c.outline_of-content.ensures.loads) in
+    more_spent 0 2 k k4 (omega arith) (spends_none k k4 down)
 
 pub returns-clause-free : goal.returns-clause-free
-returns-clause-free g c = spends_none c.args.me.now c.read_held-content.new.me (child_steps c.pair_at-node.result.child c.args.me.now c.take_node.new.me c.read_held-content.new.me c.read_held-content.result c.in_default.ensures.ok c.read_held-content.ensures.reads)
+returns-clause-free g c =
+    let k = c.args.me.now in let k1 = c.slot_of-slot.new.me in let k2 = c.pair_of-node.new.me in let k4 = c.outline_of-content.new.me in
+    spends_none k k4 (steps_then k k2 k4 (steps_then k k1 k2 (steps_of_loads k k1 c.slot_of-slot.ensures.loads) (steps_of_loads k1 k2 c.pair_of-node.ensures.loads)) (child_steps c.pair_of-node.result.child k2 c.take_node.new.me k4 c.in_default.ensures.ok c.outline_of-content.ensures.loads))
+
+pub returns-in-Err-clause-cause : goal.returns-in-Err-clause-cause
+returns-in-Err-clause-cause g c =
+    let k = c.args.me.now in let k1 = c.slot_of-slot.new.me in let k2 = c.pair_of-node.new.me in
+    let before = (steps_then k k1 k2 (steps_of_loads k k1 c.slot_of-slot.ensures.loads) (steps_of_loads k1 k2 c.pair_of-node.ensures.loads)).loads in
+    found_between c.in-Err.busy.lock k k2 c.take_node.new.me c.let_go_of_way.new.me before (found_busy c.in-Err.busy.lock k2 c.take_node.new.me c.in-Err.ensures.busy.1) c.let_go_of_way.ensures.spends.loads
+
+pub returns-in-Err-clause-spends : goal.returns-in-Err-clause-spends
+returns-in-Err-clause-spends g c =
+    let k = c.args.me.now in let k1 = c.slot_of-slot.new.me in let k2 = c.pair_of-node.new.me in let k3 = c.take_node.new.me in
+    let before = steps_then k k2 k3 (steps_then k k1 k2 (steps_of_loads k k1 c.slot_of-slot.ensures.loads) (steps_of_loads k1 k2 c.pair_of-node.ensures.loads)) (busy_kept c.in-Err.busy.lock k2 k3 c.in-Err.ensures.busy.1).2 in
+    spends_then 0 2 2 k k3 c.let_go_of_way.new.me refl (spends_none k k3 before) c.let_go_of_way.ensures.spends
+
+pub take_node-requires-clause-inside : goal.take_node-requires-clause-inside
+take_node-requires-clause-inside g c = child_within c.args.words.now.terms c.args.above.at.node c.args.above.at.content c.args.above.at.changed c.args.above.root_changed c.args.me.now.log.holdings c.slot_of-slot.result c.pair_of-node.result c.requires.path c.pair_of-node.ensures.pair

@@ -1,18 +1,20 @@
 use Rattle.std.proofs.Common.{◌<◌, length, ◌∙◌, sym, ap, subst, refl, arith}
-use Rattle.word_rule.specs.CallerData.{CallerData, surplus}
-use Rattle.btree_change.specs.Siblings.{HoldsChild}
-use Rattle.btree_change.proofs.Loading.{found_between, found_busy, keeps_load}
-use Rattle.btree_change.proofs.Locked.{busy_kept, child_steps, may_read_taken}
-use Rattle.btree_change.proofs.Mended.{loaded_none, spends_none}
-use Rattle.btree_change.proofs.Releases.{more_spent, spends_then}
 use Rattle.tree_shape.specs.Changes.{pair}
 use Rattle.tree_shape.specs.NodeData.{pairs_of}
-use Rattle.btree_change.proofs.Joining.{inside_of}
+use Rattle.word_rule.specs.CallerData.{CallerData, surplus}
+use Rattle.btree_change.specs.Siblings.{HoldsChild}
+use Rattle.btree_change.proofs.Descending.{steps_then}
+use Rattle.btree_change.proofs.Descents.{steps_of_load}
+use Rattle.btree_change.proofs.HeldOutlines.{inner_of, parent_spells, steps_of_loads}
+use Rattle.btree_change.proofs.Loading.{found_between, found_busy}
+use Rattle.btree_change.proofs.Locked.{busy_kept, child_steps, may_read_taken}
+use Rattle.btree_change.proofs.Mended.{spends_none}
 use Rattle.btree_change.proofs.Neighbouring.{beside_inside, sibling_within, siblings_so, some_pairs}
+use Rattle.btree_change.proofs.Releases.{more_spent, spends_then}
 use Rattle.btree_change.proofs.sibling.take_sibling.Goals as goal
 
-pub slot_of_two-first-requires-clause-inside : goal.slot_of_two-first-requires-clause-inside
-slot_of_two-first-requires-clause-inside g c = inside_of (pairs_of c.args.child.above.at.content) c.args.child.slot (pair c.args.child.at.node c.args.child.at.content.high) c.requires.held.at
+pub slot_of_two-first-requires-clause-inner : goal.slot_of_two-first-requires-clause-inner
+slot_of_two-first-requires-clause-inner g c = inner_of c.args.words.now.terms c.args.child.above.at.node c.args.child.above.at.content c.args.child.above.at.changed c.requires.held.upper c.requires.held.parent (let level = c.requires.held.level in omega (arith, level))
 
 pub slot_of_two-first-requires-clause-two : goal.slot_of_two-first-requires-clause-two
 slot_of_two-first-requires-clause-two g c = (some_pairs c.args.words.now.terms c.args.child.above.at.node c.args.child.above.at.content c.args.child.above.at.changed c.requires.held.upper c.args.child.slot (pair c.args.child.at.node c.args.child.at.content.high) c.requires.held.parent c.requires.held.at).0
@@ -20,29 +22,49 @@ slot_of_two-first-requires-clause-two g c = (some_pairs c.args.words.now.terms c
 pub slot_beside-beside-requires : goal.slot_beside-beside-requires
 slot_beside-beside-requires g c = let most = (some_pairs c.args.words.now.terms c.args.child.above.at.node c.args.child.above.at.content c.args.child.above.at.changed c.requires.held.upper c.args.child.slot (pair c.args.child.at.node c.args.child.at.content.high) c.requires.held.parent c.requires.held.at).1 in let inside = c.slot_of_two-first.ensures.inside in omega (arith, most, inside)
 
-pub pair_at-node-requires : goal.pair_at-node-requires
-pair_at-node-requires g c = beside_inside c.slot_of_two-first.result c.args.child.slot c.slot_beside-beside.result (length (pairs_of c.args.child.above.at.content)) c.slot_beside-beside.ensures c.slot_of_two-first.ensures.inside
+pub pair_of-node-requires-clause-spells : goal.pair_of-node-requires-clause-spells
+pair_of-node-requires-clause-spells g c = parent_spells c.args.words.now.terms c.args.child c.args.pc c.args.me.now.log c.requires.held
 
-pub take_node-requires-clause-inside : goal.take_node-requires-clause-inside
-take_node-requires-clause-inside g c = sibling_within c.args.words.now.terms c.args.child.above.at.node c.args.child.above.at.content c.args.child.above.at.changed c.requires.held.upper c.slot_beside-beside.result c.pair_at-node.result c.requires.held.parent c.pair_at-node.ensures
+pub pair_of-node-requires-clause-inner : goal.pair_of-node-requires-clause-inner
+pair_of-node-requires-clause-inner g c = inner_of c.args.words.now.terms c.args.child.above.at.node c.args.child.above.at.content c.args.child.above.at.changed c.requires.held.upper c.requires.held.parent (let level = c.requires.held.level in omega (arith, level))
+
+pub pair_of-node-requires-clause-slot : goal.pair_of-node-requires-clause-slot
+pair_of-node-requires-clause-slot g c = beside_inside c.slot_of_two-first.result c.args.child.slot c.slot_beside-beside.result (length (pairs_of c.args.child.above.at.content)) c.slot_beside-beside.ensures c.slot_of_two-first.ensures.inside
 
 pub let_go_of_child-requires-clause-held : goal.let_go_of_child-requires-clause-held
-let_go_of_child-requires-clause-held g c = (c.args.pc, subst (HoldsChild c.args.words.now.terms c.args.child c.args.pc) (sym ((busy_kept c.in-Err.busy.lock c.load_node.new.me c.take_node.new.me c.in-Err.ensures.busy.1).0 ∙ ap (λ (z : CallerData). z.log.holdings) c.load_node.ensures.log)) c.requires.held)
+let_go_of_child-requires-clause-held g c = (c.args.pc, subst (HoldsChild c.args.words.now.terms c.args.child c.args.pc) (sym ((busy_kept c.in-Err.busy.lock c.load_node.new.me c.take_node.new.me c.in-Err.ensures.busy.1).0 ∙ (ap (λ (z : CallerData). z.log.holdings) c.load_node.ensures.log ∙ c.pair_of-node.ensures.holdings))) c.requires.held)
 
 pub let_go_of_child-requires-clause-surplus : goal.let_go_of_child-requires-clause-surplus
-let_go_of_child-requires-clause-surplus g c = subst (λ d. 1 < d) (sym ((busy_kept c.in-Err.busy.lock c.load_node.new.me c.take_node.new.me c.in-Err.ensures.busy.1).1 ∙ ap surplus c.load_node.ensures.log)) c.requires.surplus
+let_go_of_child-requires-clause-surplus g c = subst (λ d. 1 < d) (sym ((busy_kept c.in-Err.busy.lock c.load_node.new.me c.take_node.new.me c.in-Err.ensures.busy.1).1 ∙ (ap surplus c.load_node.ensures.log ∙ ap surplus c.pair_of-node.ensures.loads.1))) c.requires.surplus
 
-pub read_held-content-requires-clause-held : goal.read_held-content-requires-clause-held
-read_held-content-requires-clause-held g c = may_read_taken c.args.words.now.terms c.pair_at-node.result.child c.load_node.new.me c.take_node.new.me c.in_default.ensures.ok
+pub outline_of-content-requires-clause-held : goal.outline_of-content-requires-clause-held
+outline_of-content-requires-clause-held g c = may_read_taken c.args.words.now.terms c.pair_of-node.result.child c.load_node.new.me c.take_node.new.me c.in_default.ensures.ok
 
 pub returns-clause-ok : goal.returns-clause-ok
-returns-clause-ok g c = siblings_so c.args.words.now.terms c.args.child c.args.pc c.slot_of_two-first.result c.slot_beside-beside.result c.pair_at-node.result c.args.me.now c.load_node.new.me c.take_node.new.me c.read_held-content.new.me c.load_node.result c.read_held-content.result c.requires.held c.load_node.ensures.tree c.requires.terms c.load_node.ensures.log c.slot_of_two-first.ensures.near c.pair_at-node.ensures c.in_default.ensures.ok c.read_held-content.ensures.reads c.read_held-content.ensures.holdings c.siblings_of.result c.siblings_of.ensures.above c.siblings_of.ensures.slot c.siblings_of.ensures.order c.slot_beside-beside.ensures
+returns-clause-ok g c =
+    let held = subst (HoldsChild c.args.words.now.terms c.args.child c.args.pc) (sym c.pair_of-node.ensures.holdings) c.requires.held in
+    let terms = ap (λ (z : CallerData). z.log.terms) c.pair_of-node.ensures.loads.1 ∙ c.requires.terms in
+    siblings_so c.args.words.now.terms c.args.child c.args.pc c.slot_of_two-first.result c.slot_beside-beside.result c.pair_of-node.result c.pair_of-node.new.me c.load_node.new.me c.take_node.new.me c.outline_of-content.new.me c.load_node.result c.outline_of-content.result held c.load_node.ensures.tree terms c.load_node.ensures.log c.slot_of_two-first.ensures.near c.pair_of-node.ensures.pair c.in_default.ensures.ok c.outline_of-content.ensures.spells c.outline_of-content.ensures.holdings c.siblings_of.result c.siblings_of.ensures.above c.siblings_of.ensures.slot c.siblings_of.ensures.order c.slot_beside-beside.ensures
 
 pub returns-clause-spends : goal.returns-clause-spends
-returns-clause-spends g c = more_spent 0 2 c.args.me.now c.read_held-content.new.me (omega arith) (spends_then 0 0 0 c.args.me.now c.load_node.new.me c.read_held-content.new.me refl (loaded_none c.args.child.at.node 2 c.load_node.result c.args.me.now c.load_node.new.me c.load_node.ensures.log) (spends_none c.load_node.new.me c.read_held-content.new.me (child_steps c.pair_at-node.result.child c.load_node.new.me c.take_node.new.me c.read_held-content.new.me c.read_held-content.result c.in_default.ensures.ok c.read_held-content.ensures.reads)))
+returns-clause-spends g c =
+    let k = c.args.me.now in let k1 = c.pair_of-node.new.me in let k2 = c.load_node.new.me in let k3 = c.take_node.new.me in let k4 = c.outline_of-content.new.me in
+    more_spent 0 2 k k4 (omega arith) (spends_none k k4 (steps_then k k2 k4 (steps_then k k1 k2 (steps_of_loads k k1 c.pair_of-node.ensures.loads) (steps_of_load c.args.child.at.node 2 c.load_node.result k1 k2 c.load_node.ensures.log)) (child_steps c.pair_of-node.result.child k2 k3 k4 c.in_default.ensures.ok c.outline_of-content.ensures.loads)))
 
 pub returns-clause-free : goal.returns-clause-free
-returns-clause-free g c = (spends_then 0 0 0 c.args.me.now c.load_node.new.me c.read_held-content.new.me refl (loaded_none c.args.child.at.node 2 c.load_node.result c.args.me.now c.load_node.new.me c.load_node.ensures.log) (spends_none c.load_node.new.me c.read_held-content.new.me (child_steps c.pair_at-node.result.child c.load_node.new.me c.take_node.new.me c.read_held-content.new.me c.read_held-content.result c.in_default.ensures.ok c.read_held-content.ensures.reads)))
+returns-clause-free g c =
+    let k = c.args.me.now in let k1 = c.pair_of-node.new.me in let k2 = c.load_node.new.me in let k3 = c.take_node.new.me in let k4 = c.outline_of-content.new.me in
+    spends_none k k4 (steps_then k k2 k4 (steps_then k k1 k2 (steps_of_loads k k1 c.pair_of-node.ensures.loads) (steps_of_load c.args.child.at.node 2 c.load_node.result k1 k2 c.load_node.ensures.log)) (child_steps c.pair_of-node.result.child k2 k3 k4 c.in_default.ensures.ok c.outline_of-content.ensures.loads))
 
 pub returns-in-Err-clause-cause : goal.returns-in-Err-clause-cause
-returns-in-Err-clause-cause g c = found_between c.in-Err.busy.lock c.args.me.now c.load_node.new.me c.take_node.new.me c.let_go_of_child.new.me (keeps_load c.args.child.at.node 2 c.load_node.result c.args.me.now c.load_node.new.me c.load_node.ensures.log) (found_busy c.in-Err.busy.lock c.load_node.new.me c.take_node.new.me c.in-Err.ensures.busy.1) c.let_go_of_child.ensures.spends.loads
+returns-in-Err-clause-cause g c =
+    let k = c.args.me.now in let k1 = c.pair_of-node.new.me in let k2 = c.load_node.new.me in let k3 = c.take_node.new.me in
+    found_between c.in-Err.busy.lock k k2 k3 c.let_go_of_child.new.me (steps_then k k1 k2 (steps_of_loads k k1 c.pair_of-node.ensures.loads) (steps_of_load c.args.child.at.node 2 c.load_node.result k1 k2 c.load_node.ensures.log)).loads (found_busy c.in-Err.busy.lock k2 k3 c.in-Err.ensures.busy.1) c.let_go_of_child.ensures.spends.loads
+
+pub returns-in-Err-clause-spends : goal.returns-in-Err-clause-spends
+returns-in-Err-clause-spends g c =
+    let k = c.args.me.now in let k1 = c.pair_of-node.new.me in let k2 = c.load_node.new.me in let k3 = c.take_node.new.me in
+    spends_then 0 2 2 k k3 c.let_go_of_child.new.me refl (spends_none k k3 (steps_then k k2 k3 (steps_then k k1 k2 (steps_of_loads k k1 c.pair_of-node.ensures.loads) (steps_of_load c.args.child.at.node 2 c.load_node.result k1 k2 c.load_node.ensures.log)) (busy_kept c.in-Err.busy.lock k2 k3 c.in-Err.ensures.busy.1).2)) c.let_go_of_child.ensures.spends
+
+pub take_node-requires-clause-inside : goal.take_node-requires-clause-inside
+take_node-requires-clause-inside g c = sibling_within c.args.words.now.terms c.args.child.above.at.node c.args.child.above.at.content c.args.child.above.at.changed c.requires.held.upper c.slot_beside-beside.result c.pair_of-node.result c.requires.held.parent c.pair_of-node.ensures.pair
