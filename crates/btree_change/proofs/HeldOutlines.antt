@@ -21,31 +21,13 @@ use Rattle.btree_change.specs.Removing.{HoldsBesideRoot}
 use Rattle.btree_change.specs.Siblings.{HoldsChild, HoldsSiblings, HoldsUnder, MendsSiblings, SinksRoot}
 use Rattle.btree_change.specs.declared.sibling.Child.{Child}
 use Rattle.btree_change.specs.declared.sibling.Siblings.{Siblings}
-use Rattle.btree_change.specs.declared.way.HeldNode.{HeldNode}
+use Rattle.btree_change.specs.declared.descent.Held.{Held}
 use Rattle.btree_change.proofs.Descending.{is_inner}
 use Rattle.btree_change.proofs.Mended.{spends_none}
+use Rattle.btree_change.proofs.Outlining.{spell_one, spells_held, steps_of_loads}
 use Rattle.btree_change.proofs.Pairings.{both_high, both_low, both_more, family, first_found}
 use Rattle.btree_change.proofs.Releases.{spends_then}
 use Rattle.btree_change.proofs.Takings.{placed_of}
-
--- loads are steps on nodes
-pub steps_of_loads : (k k' : CallerData) → OnlyLoads k k' → StepsOnNodes k k'
-steps_of_loads k k' only = subst (StepsOnNodes k) (sym only.1) (record { table = refl; left = refl; terms = refl; role = refl; past = refl; budget = refl; receipts = refl; loader = refl; made = refl; lineage = refl; loads = (only.0, refl) })
-
--- what a held node spells is one node
-pub one_node : (n : ℕ) (s shape : NodeData) (v : Log) → SpellsHeld n s v → SpellsHeld n shape v → shape ≡ s
-one_node n s shape v here there = go (held_of n v.holdings.held) here there
-  where
-    go : (o : Option Holding) → IsSomeAnd o (λ h. SpellsNode h.words s) → IsSomeAnd o (λ h. SpellsNode h.words shape) → shape ≡ s
-    go None x y = absurd x
-    go (Some h) x y = same_Some _ _ (sym y ∙ x)
-
-pub may_read : (n : ℕ) (s : NodeData) (v : Log) → SpellsHeld n s v → IsSomeAnd (held_of n v.holdings.held) (λ h. IsSome (spelled h.words))
-may_read n s v here = go (held_of n v.holdings.held) here
-  where
-    go : (o : Option Holding) → IsSomeAnd o (λ h. SpellsNode h.words s) → IsSomeAnd o (λ h. IsSome (spelled h.words))
-    go None x = absurd x
-    go (Some h) x = subst IsSome (sym x) refl
 
 pub read_as : (n : ℕ) (s shape : NodeData) (k k' : CallerData) → SpellsHeld n s k.log → ReadsHeld n k k' shape → shape ≡ s
 read_as n s shape k k' here reads = go (held_of n k.log.holdings.held) here reads
@@ -54,22 +36,15 @@ read_as n s shape k k' here reads = go (held_of n k.log.holdings.held) here read
     go None x y = absurd x
     go (Some h) x y = same_Some _ _ (sym y.0 ∙ x)
 
-found_spells : (n : ℕ) (s : NodeData) (v : Log) (h : Holding) → held_of n v.holdings.held ≡ Some h → SpellsNode h.words s → SpellsHeld n s v
-found_spells n s v h found spells = subst (λ (o : Option Holding). IsSomeAnd o (λ h. SpellsNode h.words s)) (sym found) spells
-
--- the same is held
-pub still_spells : (n : ℕ) (s : NodeData) (v w : Log) → w.holdings ≡ v.holdings → SpellsHeld n s v → SpellsHeld n s w
-still_spells n s v w same here = subst (λ (hs : Holdings). IsSomeAnd (held_of n hs.held) (λ h. SpellsNode h.words s)) (sym same) here
-
 -- a node of the way
 pub way_spells : (t : Terms) (n : ℕ) (s : NodeData) (changed root_changed : Bool) (v : Log) → HoldsBesideRoot t n s changed root_changed v.holdings → SpellsHeld n s v
-way_spells t n s changed root_changed v path = found_spells n s v path.lock (ap (held_of n) path.held ∙ first_found n path.lock path.above path.here.node) path.here.spells
+way_spells t n s changed root_changed v path = spells_held n s path.lock v (ap (held_of n) path.held ∙ first_found n path.lock path.above path.here.node) path.here.spells
 
 -- the parent of a child
 pub parent_spells : (t : Terms) (child : Child) (pc : ℕ) (v : Log) → HoldsChild t child pc v.holdings → SpellsHeld child.above.at.node child.above.at.content v
 parent_spells t child pc v h =
     let n = child.above.at.node in
-    found_spells n child.above.at.content v h.upper
+    spells_held n child.above.at.content h.upper v
     (ap (held_of n) h.held ∙ (ap (λ b. cond b (Some h.lower) (held_of n (h.upper ∷ h.rest))) (ne_eqb h.lower.node n (λ e. h.no_parent (sym h.here.node ∙ e))) ∙ first_found n h.upper h.rest h.parent.node)) h.parent.spells
 
 -- two neighbouring children, and their parent
@@ -87,13 +62,13 @@ module _ (t : Terms) (x : Siblings) (k : CallerData) (hs : HoldsSiblings t x k.l
   held_now m = ap (λ (z : Holdings). held_of m z.held) same
 
   pub left_spells : SpellsHeld x.left.node x.left.content v
-  left_spells = found_spells x.left.node x.left.content v hs.low (held_now x.left.node ∙ (ap (held_of x.left.node) hs.held ∙ both_low hs.left_first hs.low hs.high (hs.upper ∷ hs.rest) x.left.node hs.left.node high_far)) hs.left.spells
+  left_spells = spells_held x.left.node x.left.content hs.low v (held_now x.left.node ∙ (ap (held_of x.left.node) hs.held ∙ both_low hs.left_first hs.low hs.high (hs.upper ∷ hs.rest) x.left.node hs.left.node high_far)) hs.left.spells
 
   pub right_spells : SpellsHeld x.right.node x.right.content v
-  right_spells = found_spells x.right.node x.right.content v hs.high (held_now x.right.node ∙ (ap (held_of x.right.node) hs.held ∙ both_high hs.left_first hs.low hs.high (hs.upper ∷ hs.rest) x.right.node hs.right.node low_far)) hs.right.spells
+  right_spells = spells_held x.right.node x.right.content hs.high v (held_now x.right.node ∙ (ap (held_of x.right.node) hs.held ∙ both_high hs.left_first hs.low hs.high (hs.upper ∷ hs.rest) x.right.node hs.right.node low_far)) hs.right.spells
 
   pub upper_spells : SpellsHeld x.above.at.node x.above.at.content v
-  upper_spells = found_spells n x.above.at.content v hs.upper
+  upper_spells = spells_held n x.above.at.content hs.upper v
       (held_now n ∙ (ap (held_of n) hs.held ∙ (both_more hs.left_first hs.low hs.high (hs.upper ∷ hs.rest) n (λ e. (family t x k hs tree).left.no_parent (sym hs.left.node ∙ e)) (λ e. (family t x k hs tree).no_parent (sym hs.right.node ∙ e)) ∙ first_found n hs.upper hs.rest hs.parent.node)))
       hs.parent.spells
 
@@ -112,11 +87,11 @@ leaf_is s (Link next) o = absurd o
 
 -- a mended child is outlined
 pub mended_spells : (t : Terms) (x : Siblings) (node : ℕ) (s : NodeData) (k k3 : CallerData) → MendsSiblings t x (record { node = node; content = s; changed = true }) k k3 → SpellsHeld node s k3.log
-mended_spells t x node s k k3 m = let h = m.holds in found_spells node s k3.log h.lower (ap (held_of node) h.held ∙ first_found node h.lower (h.upper ∷ h.rest) h.here.node) h.here.spells
+mended_spells t x node s k k3 m = let h = m.holds in spells_held node s h.lower k3.log (ap (held_of node) h.held ∙ first_found node h.lower (h.upper ∷ h.rest) h.here.node) h.here.spells
 
 pub outlined_mends : (t : Terms) (x : Siblings) (node : ℕ) (s shape : NodeData) (k k3 k4 : CallerData) → MendsSiblings t x (record { node = node; content = s; changed = true }) k k3 → SpellsHeld node shape k3.log → OnlyLoads k3 k4 → k4.log.holdings ≡ k3.log.holdings → MendsSiblings t x (record { node = node; content = shape; changed = true }) k k4 × (shape ≡ s)
 outlined_mends t x node s shape k k3 k4 m spells loads same =
-    let is : shape ≡ s = one_node node s shape k3.log (mended_spells t x node s k k3 m) spells in (
+    let is : shape ≡ s = spell_one node shape s k3.log spells (mended_spells t x node s k k3 m) in (
       subst (λ z. MendsSiblings t x (record { node = node; content = z; changed = true }) k k4) (sym is) (record {
         holds = subst (HoldsUnder t x.above.at.node true x.above.root_changed (record { node = node; content = s; changed = true })) (sym same) m.holds;
         level = m.level;
@@ -132,7 +107,7 @@ sunk_spells t x s k k3 m = way_spells t 0 s true false k3.log m.holds
 
 pub outlined_sinks : (t : Terms) (x : Siblings) (s shape : NodeData) (k k3 k4 : CallerData) → SinksRoot t x (record { node = 0; content = s; changed = true }) k k3 → SpellsHeld 0 shape k3.log → OnlyLoads k3 k4 → k4.log.holdings ≡ k3.log.holdings → SinksRoot t x (record { node = 0; content = shape; changed = true }) k k4 × (shape ≡ s)
 outlined_sinks t x s shape k k3 k4 m spells loads same =
-    let is : shape ≡ s = one_node 0 s shape k3.log (sunk_spells t x s k k3 m) spells in (
+    let is : shape ≡ s = spell_one 0 shape s k3.log spells (sunk_spells t x s k k3 m) in (
       subst (λ z. SinksRoot t x (record { node = 0; content = z; changed = true }) k k4) (sym is) (record {
         node = m.node;
         holds = subst (HoldsBesideRoot t 0 s true false) (sym same) m.holds;
@@ -143,7 +118,7 @@ outlined_sinks t x s shape k k3 k4 m spells loads same =
     )
 
 -- steps before it
-pub mends_after : (t : Terms) (x : Siblings) (way : HeldNode) (k k1 k2 : CallerData) → StepsOnNodes k k1 → MendsSiblings t x way k1 k2 → MendsSiblings t x way k k2
+pub mends_after : (t : Terms) (x : Siblings) (way : Held) (k k1 k2 : CallerData) → StepsOnNodes k k1 → MendsSiblings t x way k1 k2 → MendsSiblings t x way k k2
 mends_after t x way k k1 k2 steps m = record {
   holds = m.holds;
   level = m.level;

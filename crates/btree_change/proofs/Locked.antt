@@ -26,11 +26,11 @@ use Rattle.node_store.specs.Outlines.{OnlyLoads}
 use Rattle.btree_change.specs.Paths.{IsSettledLock, StepsOnNodes}
 use Rattle.btree_change.specs.Removing.{HoldsBesideRoot, IsBeside, IsSettledRoot, LetsGoOf}
 use Rattle.btree_change.specs.Siblings.{HoldsChild, HoldsUnder}
-use Rattle.btree_change.specs.declared.way.HeldNode.{HeldNode}
+use Rattle.btree_change.specs.declared.descent.Held.{Held}
 use Rattle.btree_change.proofs.Mended.{without_high}
 use Rattle.btree_change.proofs.Pairings.{IsBesideLock, beside_each, each_more}
 use Rattle.btree_change.proofs.Descending.{all_there, steps_of_take, steps_then}
-use Rattle.btree_change.proofs.HeldOutlines.{steps_of_loads}
+use Rattle.btree_change.proofs.Outlining.{steps_of_loads}
 use Rattle.btree_change.proofs.Takings.{placed_of}
 
 -- a pair of a node names a branch
@@ -221,7 +221,7 @@ beside_root zero zero changed root_changed upper rest z b lock root = absurd (b 
 beside_root zero (suc m) changed root_changed upper rest z b lock root = (upper, (ap (λ hs. upper ∷ hs) root, lock))
 beside_root (suc n) m changed root_changed upper rest z b lock root = absurd (omega (arith, z))
 
-pub left_root : (t : Terms) (n : ℕ) (changed root_changed : Bool) (at : HeldNode) (holdings : Holdings) → n ≡ 0 → HoldsUnder t n changed root_changed at holdings → HoldsBesideRoot t at.node at.content at.changed changed holdings
+pub left_root : (t : Terms) (n : ℕ) (changed root_changed : Bool) (at : Held) (holdings : Holdings) → n ≡ 0 → HoldsUnder t n changed root_changed at holdings → HoldsBesideRoot t at.node at.content at.changed changed holdings
 left_root t n changed root_changed at holdings is h = record {
   within = h.within;
   lock = h.lower;
@@ -232,7 +232,7 @@ left_root t n changed root_changed at holdings is h = record {
   out = h.out;
 }
 
-pub left_other : (t : Terms) (n : ℕ) (changed root_changed : Bool) (at : HeldNode) (k k' : CallerData) → n ≢ 0 → HoldsUnder t n changed root_changed at k.log.holdings → LetsGoOf n k k' → HoldsBesideRoot t at.node at.content at.changed root_changed k'.log.holdings
+pub left_other : (t : Terms) (n : ℕ) (changed root_changed : Bool) (at : Held) (k k' : CallerData) → n ≢ 0 → HoldsUnder t n changed root_changed at k.log.holdings → LetsGoOf n k k' → HoldsBesideRoot t at.node at.content at.changed root_changed k'.log.holdings
 left_other t n changed root_changed at k k' some h l = record {
   within = h.within;
   lock = h.lower;

@@ -25,7 +25,7 @@ use Rattle.btree_change.specs.Removing.{HoldsLocks}
 use Rattle.btree_change.specs.Siblings.{HoldsChild, HoldsSiblings, IsInEither}
 use Rattle.btree_change.specs.declared.sibling.Child.{Child}
 use Rattle.btree_change.specs.declared.sibling.Siblings.{Siblings}
-use Rattle.btree_change.specs.declared.way.HeldNode.{HeldNode}
+use Rattle.btree_change.specs.declared.descent.Held.{Held}
 use Rattle.btree_change.specs.declared.way.Way.{Way}
 use Rattle.btree_change.proofs.Descending.{all_there}
 use Rattle.btree_change.proofs.Joining.{inside_of}
@@ -33,7 +33,7 @@ use Rattle.btree_change.proofs.Locked.{IsTakenAt, branch_at, by_parent, names, n
 use Rattle.btree_change.proofs.Mended.{rest_far, without_low}
 use Rattle.btree_change.proofs.Takings.{placed_of}
 
-pub siblings_are : (x : Siblings) (above : Way) (left right : HeldNode) (slot : ℕ) → x.above ≡ above → x.left ≡ left → x.right ≡ right → x.slot ≡ slot → record { above = above; left = left; right = right; slot = slot } ≡ x
+pub siblings_are : (x : Siblings) (above : Way) (left right : Held) (slot : ℕ) → x.above ≡ above → x.left ≡ left → x.right ≡ right → x.slot ≡ slot → record { above = above; left = left; right = right; slot = slot } ≡ x
 siblings_are x above left right slot a l r e = (λ i. record { above = sym a i; left = sym l i; right = sym r i; slot = sym e i })
 
 -- the child is let go of, and the way is left
@@ -76,7 +76,7 @@ module _ (t : Terms) (child : Child) (pc first beside : ℕ) (q : Pair) (k k1 k2
   abbrev n : ℕ
   n = child.above.at.node
 
-  abbrev c : HeldNode
+  abbrev c : Held
   c = child.at
 
   abbrev f : Contents
@@ -155,7 +155,7 @@ module _ (t : Terms) (child : Child) (pc first beside : ℕ) (q : Pair) (k k1 k2
     q_within : q.child < t.nodes
     q_within = sibling_within t n child.above.at.content child.above.at.changed h.upper beside q h.parent at
 
-  abbrev other : HeldNode
+  abbrev other : Held
   other = record { node = q.child; content = shape; changed = false }
 
   pub right_so : first ≡ child.slot → beside ≡ first + 1 → HoldsSiblings t (record { above = child.above; left = child.at; right = record { node = q.child; content = shape; changed = false }; slot = first }) k3.log.holdings × IsInEither pc (record { above = child.above; left = child.at; right = record { node = q.child; content = shape; changed = false }; slot = first })

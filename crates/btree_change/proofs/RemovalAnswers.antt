@@ -20,7 +20,7 @@ use Rattle.btree_change.specs.Removing.{HoldsBesideRoot, IsSpare, IsSpareAs, Spe
 use Rattle.btree_change.specs.Siblings.{HoldsChild, is_small_body}
 use Rattle.btree_change.specs.Takings.{RefusesBase, TakesMember}
 use Rattle.btree_change.specs.declared.sibling.Child.{Child}
-use Rattle.btree_change.specs.declared.way.HeldNode.{HeldNode}
+use Rattle.btree_change.specs.declared.descent.Held.{Held}
 use Rattle.btree_change.specs.declared.way.Way.{Way}
 use Rattle.btree_change.proofs.Joining.{spare_of}
 use Rattle.btree_change.proofs.Mended.{spends_none}
@@ -36,7 +36,7 @@ not_small (Link next) e = tt
 pub kept_so : (t : Terms) (child : Child) (pc : ℕ) (way below : Way) (holdings holdings' : Holdings) → HoldsChild t child pc holdings → child.above ≡ way → is_small_body child.at.content.body ≡ false → HoldsBesideRoot t child.at.node child.at.content child.at.changed below.root_changed holdings' → below.at ≡ child.at
     → HoldsBesideRoot t below.at.node below.at.content below.at.changed below.root_changed holdings' × IsInFences pc below.at.content × IsSpare below.at.node below.at.content × (below.at.content.level + 1 ≡ way.at.content.level)
 kept_so t child pc way below holdings holdings' h above large held at =
-    subst (λ (z : HeldNode). HoldsBesideRoot t z.node z.content z.changed below.root_changed holdings' × IsInFences pc z.content × IsSpare z.node z.content × (z.content.level + 1 ≡ way.at.content.level)) (sym at)
+    subst (λ (z : Held). HoldsBesideRoot t z.node z.content z.changed below.root_changed holdings' × IsInFences pc z.content × IsSpare z.node z.content × (z.content.level + 1 ≡ way.at.content.level)) (sym at)
     (held, h.fences, spare_of child.at.node child.at.content (not_small child.at.content.body large), h.level ∙ ap (λ (w : Way). w.at.content.level) above)
 
 -- the root is no child, so it needs nothing to spare

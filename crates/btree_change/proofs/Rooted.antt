@@ -28,35 +28,6 @@ use Rattle.btree_change.specs.declared.sibling.Siblings.{Siblings}
 use Rattle.btree_change.proofs.Neighbouring.{some_pairs}
 use Rattle.btree_change.proofs.Takings.{placed_of}
 
--- the root was locked and outlined, by one that held nothing
-pub root_outlined : (t : Terms) (shape : NodeData) (k k1 k2 k3 : CallerData) (found : ℕ) → 0 < t.nodes → k.log.terms ≡ t → HoldsNothing k.log.holdings → Locks (lock.Node 0) k k1 → KnowsTree k1.log.holdings → k2 ≡ record k1 { log = after_node_load 0 2 found k1.log } → SpellsHeld 0 shape k2.log → k3.log.holdings ≡ k2.log.holdings
-    → HoldsRoot t (record { node = 0; content = shape; changed = false }) k3.log.holdings
-root_outlined t shape k k1 k2 k3 found some_nodes terms nothing locks tree loads spells same = go locks
-  where
-    go : Locks (lock.Node 0) k k1 → HoldsRoot t (record { node = 0; content = shape; changed = false }) k3.log.holdings
-    go (more, marks, nodes, version, settled, words, (tries, taken, is)) =
-        let place : Frame = record { level = settled.level; low = settled.low; high = settled.high } in
-        let new : Holding = record { node = 0; version = version; settled = settled; words = words; stored = false; mark = Some place } in
-        let held : k1.log.holdings.held ≡ new ∷ [] = ap (λ (z : CallerData). z.log.holdings.held) is ∙ ap (λ hs. new ∷ hs) nothing.0 in
-        let kept : k2.log.holdings ≡ k1.log.holdings = ap (λ (z : CallerData). z.log.holdings) loads in
-        let held2 : k2.log.holdings.held ≡ new ∷ [] = ap (λ hs. hs.held) kept ∙ held in
-        let found2 : held_of 0 k2.log.holdings.held ≡ Some new = ap (held_of 0) held2 in
-        let told2 = subst (λ o. IsSomeAnd o (λ (h : Holding). SpellsNode h.words shape)) found2 spells in
-        let e : settled ≡ shape = same_Some _ _ (sym taken.spells ∙ told2) in
-        let told : IsTrue (tree.live 0) × (tree.contents 0 ≡ settled) = (subst (AllByRecursion (λ (h : Holding). IsSome h.mark → IsTrue (tree.live h.node) × (tree.contents h.node ≡ h.settled))) held tree.marked).0 refl in
-        let content : tree.contents 0 ≡ shape = told.1 ∙ e in
-        let live : IsLiveNode t 0 settled place = subst (λ z. IsLiveNode z 0 settled place) terms taken.live in record {
-          within = some_nodes;
-          lock = new;
-          held = ap (λ hs. hs.held) same ∙ held2;
-          root = refl;
-          unchanged = refl;
-          here = subst (λ s. IsSettledLock t 0 s false new) e (record { node = refl; settled = refl; spells = taken.spells; stored = refl; marked = refl; live = live });
-          low = ap (λ (z : NodeData). z.low) (sym content) ∙ tree.lawful.tree.root_low;
-          high = ap (λ (z : NodeData). z.high) (sym content) ∙ tree.lawful.tree.root_high;
-          out = ap (λ hs. hs.out) same ∙ (ap (λ hs. hs.out) kept ∙ (ap (λ (z : CallerData). z.log.holdings.out) is ∙ nothing.1));
-        }
-
 pub root_beside : (t : Terms) (at : Held) (holdings : Holdings) → HoldsRoot t at holdings
     → HoldsBesideRoot t at.node at.content at.changed false holdings × (at.node ≡ 0) × (at.content.level ≤ 12) × ((pc : ℕ) → pc ≤ 18446744073709551615 → IsInFences pc at.content)
 root_beside t at holdings r = (

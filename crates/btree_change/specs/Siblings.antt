@@ -15,16 +15,12 @@ use Rattle.word_rule.specs.declared.log.Holdings.{Holdings}
 use Rattle.word_rule.specs.declared.log.Terms.{Terms}
 use Rattle.btree_change.specs.declared.sibling.Child.{Child}
 use Rattle.btree_change.specs.declared.sibling.Siblings.{Siblings}
-use Rattle.btree_change.specs.declared.way.HeldNode.{HeldNode}
+use Rattle.btree_change.specs.declared.descent.Held.{Held}
 use Rattle.btree_change.specs.Removing.{HoldsBesideRoot, IsBeside, IsSpare, Spends}
-use Rattle.btree_change.specs.Paths.{IsSettledLock}
-
--- the lock of a node on a removal's way, as it is held
-abbrev pub IsNodeHeldAs : Terms → HeldNode → Holding → Type 0
-IsNodeHeldAs t at h = IsSettledLock t at.node at.content at.changed h
+use Rattle.btree_change.specs.Splits.{IsHeldAs}
 
 -- A node is held under another, which has settled, and beside that the root; no node is out.
-pub record HoldsUnder (t : Terms) (n : ℕ) (changed root_changed : Bool) (at : HeldNode)
+pub record HoldsUnder (t : Terms) (n : ℕ) (changed root_changed : Bool) (at : Held)
     (holdings : Holdings) : Type 0 where
   pub within : at.node < t.nodes
   pub no_root : at.node ≢ 0
@@ -33,7 +29,7 @@ pub record HoldsUnder (t : Terms) (n : ℕ) (changed root_changed : Bool) (at : 
   pub upper : Holding
   pub rest : List Holding
   pub held : holdings.held ≡ lower ∷ upper ∷ rest
-  pub here : IsNodeHeldAs t at lower
+  pub here : IsHeldAs t at lower
   pub node : upper.node ≡ n
   pub spells : SpellsNode upper.words upper.settled
   pub inner : is_entries upper.settled.body ≡ false
@@ -52,9 +48,9 @@ pub record HoldsChild (t : Terms) (child : Child) (pc : ℕ) (holdings : Holding
   pub upper : Holding
   pub rest : List Holding
   pub held : holdings.held ≡ lower ∷ upper ∷ rest
-  pub here : IsNodeHeldAs t child.at lower
+  pub here : IsHeldAs t child.at lower
   pub clean : child.at.changed ≡ false
-  pub parent : IsNodeHeldAs t child.above.at upper
+  pub parent : IsHeldAs t child.above.at upper
   pub root : IsBeside child.above.at.node child.above.root_changed rest
   pub out : holdings.out ≡ []
   pub at : slice_get (pairs_of child.above.at.content) child.slot
@@ -79,9 +75,9 @@ pub record HoldsSiblings (t : Terms) (x : Siblings) (holdings : Holdings) : Type
   pub upper : Holding
   pub rest : List Holding
   pub held : holdings.held ≡ both_of left_first low high (upper ∷ rest)
-  pub left : IsNodeHeldAs t x.left low
-  pub right : IsNodeHeldAs t x.right high
-  pub parent : IsNodeHeldAs t x.above.at upper
+  pub left : IsHeldAs t x.left low
+  pub right : IsHeldAs t x.right high
+  pub parent : IsHeldAs t x.above.at upper
   pub root : IsBeside x.above.at.node x.above.root_changed rest
   pub out : holdings.out ≡ []
   pub at : slice_get (pairs_of x.above.at.content) x.slot
@@ -109,14 +105,14 @@ is_small_body (Link next) = false
 
 -- Two children were joined, or given even shares: one of them is held under its parent, and both
 -- have settled.
-pub record MendsSiblings (t : Terms) (x : Siblings) (way : HeldNode) (k k' : CallerData) : Type 0 where
+pub record MendsSiblings (t : Terms) (x : Siblings) (way : Held) (k k' : CallerData) : Type 0 where
   pub holds : HoldsUnder t x.above.at.node true x.above.root_changed way k'.log.holdings
   pub level : way.content.level + 1 ≡ x.above.at.content.level
   pub spare : IsSpare way.node way.content
   pub spends : Spends 1 k k'
 
 -- The root took the place of its only two children, which aren't held any more.
-pub record SinksRoot (t : Terms) (x : Siblings) (way : HeldNode) (k k' : CallerData) : Type 0 where
+pub record SinksRoot (t : Terms) (x : Siblings) (way : Held) (k k' : CallerData) : Type 0 where
   pub node : way.node ≡ 0
   pub holds : HoldsBesideRoot t way.node way.content way.changed false k'.log.holdings
   pub level : way.content.level + 1 ≡ x.above.at.content.level

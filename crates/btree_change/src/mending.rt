@@ -15,8 +15,9 @@ ghost use Rattle.btree_change.specs.Siblings.{HoldsSunk, sunk_root};
 ghost use Rattle.btree_change.specs.Siblings.{IsGoneOrSettled, MendsSiblings, SinksRoot};
 ghost use Rattle.btree_change.specs.Siblings.{is_small_body};
 
+use crate::descent::Held;
 use crate::sibling::Siblings;
-use crate::way::{HeldNode, content_of};
+use crate::way::content_of;
 use node_store::{Locking, Outline, give_free, outline_of, write_held};
 use tree_shape::{Node, drop_pair, even_pair, join_pair, laws, set_separator, sink_root};
 use word_rule::exchange::exchange_decided;
@@ -77,12 +78,7 @@ fn join_into_left(words: &Words, me: &mut Caller, x: &Siblings, content: &Node, 
 
 /// Joins two children that fit into one node: the left one holds both, and the right one leaves the
 /// tree and is given back.
-pub(crate) fn join<L: Locking>(
-    locking: &L,
-    words: &Words,
-    me: &mut Caller,
-    x: &Siblings,
-) -> HeldNode
+pub(crate) fn join<L: Locking>(locking: &L, words: &Words, me: &mut Caller, x: &Siblings) -> Held
     requires table { me.old.table ≡ words.now.table }
     requires terms { me.old.log.terms ≡ words.now.terms }
     requires held { HoldsSiblings words.now.terms x.now me.old.log.holdings }
@@ -104,7 +100,7 @@ pub(crate) fn join<L: Locking>(
     let node = x.left.node;
     words.load_node(me, node, LEVEL);
     let content = outline_of(words, me, node);
-    HeldNode {
+    Held {
         node,
         content,
         changed: true,
@@ -171,7 +167,7 @@ pub(crate) fn share<L: Locking>(
     me: &mut Caller,
     x: &Siblings,
     pc: u64,
-) -> HeldNode
+) -> Held
     requires table { me.old.table ≡ words.now.table }
     requires terms { me.old.log.terms ≡ words.now.terms }
     requires held { HoldsSiblings words.now.terms x.now me.old.log.holdings }
@@ -198,7 +194,7 @@ pub(crate) fn share<L: Locking>(
     let node = chosen.node;
     words.load_node(me, node, LEVEL);
     let content = outline_of(words, me, node);
-    HeldNode {
+    Held {
         node,
         content,
         changed: true,
@@ -240,12 +236,7 @@ fn sink_into_root(words: &Words, me: &mut Caller, x: &Siblings, content: &Node)
 
 /// The root takes the place of its only two children, which fit together: both leave the tree and
 /// are given back.
-pub(crate) fn sink<L: Locking>(
-    locking: &L,
-    words: &Words,
-    me: &mut Caller,
-    x: &Siblings,
-) -> HeldNode
+pub(crate) fn sink<L: Locking>(locking: &L, words: &Words, me: &mut Caller, x: &Siblings) -> Held
     requires table { me.old.table ≡ words.now.table }
     requires terms { me.old.log.terms ≡ words.now.terms }
     requires held { HoldsSiblings words.now.terms x.now me.old.log.holdings }
@@ -267,7 +258,7 @@ pub(crate) fn sink<L: Locking>(
     give_back(locking, words, me, x.right.node);
     words.load_node(me, 0, LEVEL);
     let content = outline_of(words, me, 0);
-    HeldNode {
+    Held {
         node: 0,
         content,
         changed: true,

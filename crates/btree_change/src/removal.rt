@@ -14,10 +14,11 @@ ghost use Rattle.btree_change.specs.Removal.{AnswersRemoval, Removes, TriesRemov
 ghost use Rattle.btree_change.specs.Removing.{HoldsBesideRoot, IsSpare, Spends};
 ghost use Rattle.btree_change.specs.Updates.{GivesUp};
 
+use crate::descent::at_root;
 use crate::mending::{join, share, sink};
 use crate::sibling::{Siblings, is_leaf, is_small, leave, pair_count, take_child, take_sibling};
 use crate::taking::{not_found, take_in_leaf};
-use crate::way::{Way, at_root, content_of, let_go_of_way};
+use crate::way::{Way, content_of, let_go_of_way};
 use node_store::{Busy, Locking, Trying, Waiting};
 use reg_model::Removed;
 use std::sync::Wait;

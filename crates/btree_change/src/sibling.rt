@@ -10,8 +10,8 @@ ghost use Rattle.btree_change.specs.Removing.{HoldsBesideRoot, Spends};
 ghost use Rattle.btree_change.specs.Siblings.{HoldsChild, HoldsSiblings, HoldsUnder, IsInEither};
 ghost use Rattle.btree_change.specs.Siblings.{is_small_body};
 
-use crate::descent::take_node;
-use crate::way::{HeldNode, Way, let_go_of, let_go_of_way};
+use crate::descent::{Held, take_node};
+use crate::way::{Way, let_go_of, let_go_of_way};
 use node_store::{Busy, Locking, Outline, outline_of, pair_of, slot_of};
 use word_rule::{Caller, LockId, Words};
 
@@ -27,7 +27,7 @@ const PAIRS_TO_SPARE: u64 = 7;
 #[derive(Drop)]
 pub(crate) struct Child {
     pub(crate) above: Way,
-    pub(crate) at: HeldNode,
+    pub(crate) at: Held,
     pub(crate) slot: usize,
 }
 
@@ -36,8 +36,8 @@ pub(crate) struct Child {
 #[derive(Drop)]
 pub(crate) struct Siblings {
     pub(crate) above: Way,
-    pub(crate) left: HeldNode,
-    pub(crate) right: HeldNode,
+    pub(crate) left: Held,
+    pub(crate) right: Held,
     pub(crate) slot: usize,
 }
 
@@ -98,7 +98,7 @@ pub(crate) fn take_child<L: Locking>(
         return Err(busy);
     }
     let content = outline_of(words, me, node);
-    let at = HeldNode {
+    let at = Held {
         node,
         content,
         changed: false,
@@ -176,7 +176,7 @@ pub(crate) fn take_sibling<L: Locking>(
         return Err(busy);
     }
     let content = outline_of(words, me, node);
-    let other = HeldNode {
+    let other = Held {
         node,
         content,
         changed: false,
@@ -185,7 +185,7 @@ pub(crate) fn take_sibling<L: Locking>(
 }
 
 /// A child and the neighbour beside it, from left to right.
-fn siblings_of(child: Child, other: HeldNode, first: usize) -> Siblings
+fn siblings_of(child: Child, other: Held, first: usize) -> Siblings
     ensures above { result.above ≡ child.above }
     ensures slot { result.slot ≡ first }
     ensures order { ((first ≡ child.slot) × (result.left ≡ child.at) × (result.right ≡ other))
@@ -214,7 +214,7 @@ pub(crate) fn leave<L: Locking>(
     words: &Words,
     me: &mut Caller,
     above: Way,
-    at: HeldNode,
+    at: Held,
 ) -> Way
     requires table { me.old.table ≡ words.now.table }
     requires inside { above.at.node < words.now.terms.nodes }

@@ -6,7 +6,8 @@ use Rattle.btree_change.specs.Paths.{StepsOnNodes}
 use Rattle.btree_change.specs.Siblings.{HoldsSiblings}
 use Rattle.btree_change.proofs.Descending.{steps_then}
 use Rattle.btree_change.proofs.Descents.{steps_of_load}
-use Rattle.btree_change.proofs.HeldOutlines.{inner_of, left_spells, may_read, mended_spells, outlined_mends, right_spells, upper_spells}
+use Rattle.btree_change.proofs.HeldOutlines.{inner_of, left_spells, mended_spells, outlined_mends, right_spells, upper_spells}
+use Rattle.btree_change.proofs.Outlining.{may_read}
 use Rattle.btree_change.proofs.Joining.{inside_of}
 use Rattle.btree_change.proofs.Mended.{gone_held, gone_out, gone_ready, gone_root, joins_so, surplus_kept}
 use Rattle.btree_change.proofs.mending.join.Goals as goal

@@ -4,7 +4,8 @@ use Rattle.tree_shape.specs.NodeData.{IsInFences}
 use Rattle.word_rule.specs.CallerData.{CallerData}
 use Rattle.btree_change.specs.Siblings.{HoldsSiblings}
 use Rattle.btree_change.specs.declared.mending.Shares.{Shares}
-use Rattle.btree_change.proofs.HeldOutlines.{may_read, mended_spells, mends_after, outlined_mends}
+use Rattle.btree_change.proofs.HeldOutlines.{mended_spells, mends_after, outlined_mends}
+use Rattle.btree_change.proofs.Outlining.{may_read}
 use Rattle.btree_change.proofs.Mended.{surplus_kept}
 use Rattle.btree_change.proofs.Sharing.{may_above, may_leave, may_left, may_right, others_of, shares_so, steps4, table3}
 use Rattle.btree_change.proofs.mending.share.Goals as goal

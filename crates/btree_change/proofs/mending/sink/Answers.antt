@@ -6,7 +6,8 @@ use Rattle.btree_change.specs.Paths.{StepsOnNodes}
 use Rattle.btree_change.specs.Siblings.{HoldsSiblings, sunk_root}
 use Rattle.btree_change.proofs.Descending.{steps_then}
 use Rattle.btree_change.proofs.Descents.{steps_of_load}
-use Rattle.btree_change.proofs.HeldOutlines.{left_spells, may_read, outlined_sinks, right_spells, sunk_spells, upper_spells}
+use Rattle.btree_change.proofs.HeldOutlines.{left_spells, outlined_sinks, right_spells, sunk_spells, upper_spells}
+use Rattle.btree_change.proofs.Outlining.{may_read}
 use Rattle.btree_change.proofs.Mended.{surplus_kept}
 use Rattle.btree_change.proofs.Sinking.{left_held, left_ready, left_root, right_held, right_is_out, right_ready, right_root, sinks_so}
 use Rattle.btree_change.proofs.mending.sink.Goals as goal

@@ -2,7 +2,8 @@ use Rattle.std.proofs.Common.{◌<◌, ◌∙◌, sym, ap, subst, refl, arith}
 use Rattle.word_rule.specs.CallerData.{CallerData, surplus}
 use Rattle.btree_change.specs.Removing.{HoldsBesideRoot}
 use Rattle.btree_change.proofs.Descending.{steps_then}
-use Rattle.btree_change.proofs.HeldOutlines.{still_spells, steps_of_loads, way_spells}
+use Rattle.btree_change.proofs.HeldOutlines.{way_spells}
+use Rattle.btree_change.proofs.Outlining.{spells_later, steps_of_loads}
 use Rattle.btree_change.proofs.Joining.{in_order_of}
 use Rattle.btree_change.proofs.Loading.{found_between, found_busy}
 use Rattle.btree_change.proofs.Locked.{busy_kept, child_so, child_steps, child_within, may_read_taken}
@@ -17,7 +18,7 @@ pub slot_of-slot-requires-clause-ordered : goal.slot_of-slot-requires-clause-ord
 slot_of-slot-requires-clause-ordered g c = in_order_of c.args.words.now.terms c.args.above.at.node c.args.above.at.content c.args.above.at.changed c.requires.path.lock c.requires.path.here
 
 pub pair_of-node-requires-clause-spells : goal.pair_of-node-requires-clause-spells
-pair_of-node-requires-clause-spells g c = still_spells c.args.above.at.node c.args.above.at.content c.args.me.now.log c.slot_of-slot.new.me.log c.slot_of-slot.ensures.holdings (way_spells c.args.words.now.terms c.args.above.at.node c.args.above.at.content c.args.above.at.changed c.args.above.root_changed c.args.me.now.log c.requires.path)
+pair_of-node-requires-clause-spells g c = spells_later c.args.above.at.node c.args.above.at.content c.args.me.now.log c.slot_of-slot.new.me.log c.slot_of-slot.ensures.holdings (way_spells c.args.words.now.terms c.args.above.at.node c.args.above.at.content c.args.above.at.changed c.args.above.root_changed c.args.me.now.log c.requires.path)
 
 pub let_go_of_way-requires-clause-surplus : goal.let_go_of_way-requires-clause-surplus
 let_go_of_way-requires-clause-surplus g c = subst (λ d. 1 < d) (sym ((busy_kept c.in-Err.busy.lock c.pair_of-node.new.me c.take_node.new.me c.in-Err.ensures.busy.1).1 ∙ (ap surplus c.pair_of-node.ensures.loads.1 ∙ ap surplus c.slot_of-slot.ensures.loads.1))) c.requires.surplus

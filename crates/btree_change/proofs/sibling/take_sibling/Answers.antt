@@ -5,7 +5,8 @@ use Rattle.word_rule.specs.CallerData.{CallerData, surplus}
 use Rattle.btree_change.specs.Siblings.{HoldsChild}
 use Rattle.btree_change.proofs.Descending.{steps_then}
 use Rattle.btree_change.proofs.Descents.{steps_of_load}
-use Rattle.btree_change.proofs.HeldOutlines.{inner_of, parent_spells, steps_of_loads}
+use Rattle.btree_change.proofs.HeldOutlines.{inner_of, parent_spells}
+use Rattle.btree_change.proofs.Outlining.{steps_of_loads}
 use Rattle.btree_change.proofs.Loading.{found_between, found_busy}
 use Rattle.btree_change.proofs.Locked.{busy_kept, child_steps, may_read_taken}
 use Rattle.btree_change.proofs.Mended.{spends_none}

@@ -1,5 +1,6 @@
 use Rattle.btree_change.proofs.Descending.{steps_of_read}
-use Rattle.btree_change.proofs.HeldOutlines.{may_read, read_as}
+use Rattle.btree_change.proofs.HeldOutlines.{read_as}
+use Rattle.btree_change.proofs.Outlining.{may_read}
 use Rattle.btree_change.proofs.way.content_of.Goals as goal
 
 pub read_held-requires-clause-held : goal.read_held-requires-clause-held
