@@ -17,7 +17,6 @@ fn script_of(alloc: Global) -> Result<Vec<u8>, Fail> {
         text.extend_from_slice(line.as_bytes())?;
     }
     text.extend_from_slice(SNAPSHOT.as_bytes())?;
-    text.extend_from_slice(ALONE.as_bytes())?;
     for round in 0..64u64 {
         text.extend_from_slice(b"round\n")?;
         for thread in 1..17u64 {
@@ -34,15 +33,6 @@ fn script_of(alloc: Global) -> Result<Vec<u8>, Fail> {
     text.extend_from_slice(b"end\n")?;
     Ok(text)
 }
-
-/// A round of one thread, for which there is always room: so one backtrace has all frames.
-const ALONE: &str = "\
-round
-thread
-load 0
-unwind 0
-unload 1000
-";
 
 pub const SECTION: &str = "\
 image 0 1000 30 2000 1400000000000000017a5200017810011b0c0708900100001c0000001c000000e0eff\
@@ -66,7 +56,7 @@ fn sixteen_threads_for_64_rounds(rt: HostRuntime) -> Result<(), Fail> {
         panic!(rt; "no script")
     };
     let journal = play_script(&rt, alloc, &NoGate, &script)?;
-    assert_eq!(rt; journal.rounds.len(), 65);
+    assert_eq!(rt; journal.rounds.len(), 64);
     let reading = read_slowly(&rt, alloc, &script, &journal)?;
     assert_eq!(rt; reading.most_lines, STACK_FRAMES);
     Ok(())
