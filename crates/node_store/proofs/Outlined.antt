@@ -13,12 +13,12 @@ use Rattle.word_rule.specs.Logs.{after_load}
 use Rattle.word_rule.specs.NodeTells.{HeldTells, HolderTells}
 use Rattle.word_rule.specs.Places.{node_place}
 use Rattle.word_rule.specs.Sights.{after_node_load, with_word}
-use Rattle.word_rule.specs.Spelling.{node_word, is_short, pair_at, pairs_at, entry_at, is_entry_at, entries_at, spelled, SpellsNode}
+use Rattle.word_rule.specs.Spelling.{node_word, is_short, pair_at, pairs_at, entries_at, spelled, SpellsNode}
 use Rattle.word_rule.specs.declared.log.Holding.{Holding}
 use Rattle.word_rule.specs.declared.log.Holdings.{Holdings}
 use Rattle.word_rule.specs.declared.log.Log.{Log}
 use Rattle.word_rule.specs.Logs.{load_of}
-use Rattle.word_rule.proofs.Spells.{reads, reads_pairs}
+use Rattle.word_rule.proofs.Spells.{entries_length, pairs_length, reads, reads_pairs}
 use Rattle.node_store.specs.Holding.{IsLiveHeld, SpellsHeld}
 use Rattle.node_store.specs.Outlines.{IsCountOf, OnlyLoads, loaded}
 use Rattle.node_store.proofs.HeldWords.{live_held}
@@ -82,25 +82,6 @@ spells_now n v held = go (held_of n v.holdings.held) held
 pub told : (n at found : ℕ) (s : NodeData) (v w : Log) (x : Known n s v) → w.holdings ≡ v.holdings → HeldTells n at found w → node_word x.lock.words at ≡ found
 told n at found s v w x same tells =
     subst (λ (o : Option Holding). IfSome o (λ h. node_word h.words at ≡ found)) (ap (λ (hs : Holdings). held_of n hs.held) same ∙ x.found) tells
-
--- so many pairs and entries
-pairs_length : (words : List ℕ) (at count : ℕ) (xs : List Pair) → pairs_at words at count ≡ Some xs → length xs ≡ count
-pairs_length words at zero xs e = ap length (sym (same_Some _ _ e))
-pairs_length words at (suc count) xs e = go (is_short (node_word words at)) (pairs_at words (at + 2) count) (pairs_length words (at + 2) count) e
-  where
-    go : (b : Bool) (o : Option (List Pair)) → ((ys : List Pair) → o ≡ Some ys → length ys ≡ count) → ◌≡◌ {A = Option (List Pair)} (if b then option_map (λ pairs. pair_at words at ∷ pairs) o else None) (Some xs) → length xs ≡ suc count
-    go true None rest f = absurd (none-some xs f)
-    go true (Some ys) rest f = ap length (sym (same_Some _ _ f)) ∙ ap suc (rest ys refl)
-    go false o rest f = absurd (none-some xs f)
-
-entries_length : (words : List ℕ) (at count : ℕ) (xs : List Member) → entries_at words at count ≡ Some xs → length xs ≡ count
-entries_length words at zero xs e = ap length (sym (same_Some _ _ e))
-entries_length words at (suc count) xs e = go (is_entry_at words at) (entries_at words (at + 3) count) (entries_length words (at + 3) count) e
-  where
-    go : (b : Bool) (o : Option (List Member)) → ((ys : List Member) → o ≡ Some ys → length ys ≡ count) → ◌≡◌ {A = Option (List Member)} (if b then option_map (λ entries. entry_at words at ∷ entries) o else None) (Some xs) → length xs ≡ suc count
-    go true None rest f = absurd (none-some xs f)
-    go true (Some ys) rest f = ap length (sym (same_Some _ _ f)) ∙ ap suc (rest ys refl)
-    go false o rest f = absurd (none-some xs f)
 
 -- the count that the words of a body have
 body_count : (words : List ℕ) (count : ℕ) (inner few leaf low free : Bool) (link : ℕ) (body : Body)

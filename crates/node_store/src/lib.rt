@@ -4,8 +4,8 @@
 //! The layer between single steps and whole operations. From word_rule it takes the steps and what
 //! each makes of a caller's log; from crossbeam_utils the pause between two tries. A lock is tried
 //! a little, and then slept on; or, by a caller that gives up, tried once. A node is read without a
-//! lock by a version that is found again (`peek`, `check`), or while it is held (`read_held`), or then
-//! by the few words that are wanted (`outline_of`).
+//! lock by a version that is found again (`peek`, `check`); while it is held, whole (`read_held`)
+//! or by the few words that are wanted (`outline_of`).
 #![tactic(auto)]
 
 mod free;

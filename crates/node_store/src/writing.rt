@@ -73,8 +73,8 @@ pub(crate) fn node_fits(node: &Node)
     }
 }
 
-// Writes pairs over words: word 1 is the kind then, word 5 the count, and from word 6 on they stand.
-// How many words matter.
+// Writes pairs over words: word 1 is the kind then, word 5 the count, and from word 6 on they
+// stand. How many words matter.
 fn spell_pairs(pairs: &[Pair], words: &mut [u64; CONTENT_WORDS]) -> usize
     requires wide { length words.old ≡ CONTENT_WORDS }
     requires room { length (pair_words pairs.now) ≤ 30 }

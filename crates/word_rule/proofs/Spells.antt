@@ -18,8 +18,8 @@ eqb_true n m h = go (ℕ_discrete n m)
     go (yes e) = e
     go (no ne) = absurd (true≢false (sym h ∙ ne_eqb n m ne))
 
--- so many pairs, or entries
-pairs_length : (words : List ℕ) (at count : ℕ) (xs : List Pair) → pairs_at words at count ≡ Some xs → length xs ≡ count
+-- so many pairs, or entries, are read
+pub pairs_length : (words : List ℕ) (at count : ℕ) (xs : List Pair) → pairs_at words at count ≡ Some xs → length xs ≡ count
 pairs_length words at zero xs e = ap length (sym (same_Some _ _ e))
 pairs_length words at (suc count) xs e = go (is_short (node_word words at)) (pairs_at words (at + 2) count) (pairs_length words (at + 2) count) e
   where
@@ -28,7 +28,7 @@ pairs_length words at (suc count) xs e = go (is_short (node_word words at)) (pai
     go true (Some ys) rest f = ap length (sym (same_Some _ _ f)) ∙ ap suc (rest ys refl)
     go false o rest f = absurd (none-some xs f)
 
-entries_length : (words : List ℕ) (at count : ℕ) (xs : List Member) → entries_at words at count ≡ Some xs → length xs ≡ count
+pub entries_length : (words : List ℕ) (at count : ℕ) (xs : List Member) → entries_at words at count ≡ Some xs → length xs ≡ count
 entries_length words at zero xs e = ap length (sym (same_Some _ _ e))
 entries_length words at (suc count) xs e = go (is_entry_at words at) (entries_at words (at + 3) count) (entries_length words (at + 3) count) e
   where
