@@ -1,21 +1,18 @@
 -- Held nodes on a removal's way, by their outlines: what their locks spell, and what loads of their
 -- words leave as it was.
-use Rattle.std.proofs.Common.{◌≡◌, ◌≢◌, ℕ, ◌<◌, ◌∷◌, sym, refl, ap, ◌∙◌, subst, arith, Bool, true, false, ◌==◌, Option, Some, None, IsSome, IsSomeAnd, eq-eqb, ne_eqb, cond}
-use Rattle.std.proofs.lemmas.Option.{same_Some}
+use Rattle.std.proofs.Common.{◌≡◌, ◌≢◌, ℕ, ◌<◌, ◌∷◌, sym, refl, ap, ◌∙◌, subst, arith, Bool, true, false, ◌==◌, Some, eq-eqb, ne_eqb, cond}
 use Rattle.tree_shape.specs.Decisions.{is_entries}
 use Rattle.tree_shape.specs.Lawful.{IsOrdered, IsOrderedAs}
 use Rattle.tree_shape.specs.NodeData.{NodeData, Body, Pairs, Entries, Link, IsInner}
 use Rattle.word_rule.specs.CallerData.{CallerData}
 use Rattle.word_rule.specs.Held.{held_of}
 use Rattle.word_rule.specs.NodeTells.{KnowsTree}
-use Rattle.word_rule.specs.Spelling.{spelled, SpellsNode}
 use Rattle.word_rule.specs.declared.log.Holding.{Holding}
 use Rattle.word_rule.specs.declared.log.Holdings.{Holdings}
 use Rattle.word_rule.specs.declared.log.Log.{Log}
 use Rattle.word_rule.specs.declared.log.Terms.{Terms}
-use Rattle.node_store.specs.Holding.{ReadsHeld, SpellsHeld}
+use Rattle.node_store.specs.Holding.{SpellsHeld}
 use Rattle.node_store.specs.Outlines.{OnlyLoads}
-use Rattle.node_store.specs.Sights.{after_words}
 use Rattle.btree_change.specs.Paths.{IsSettledLock, StepsOnNodes}
 use Rattle.btree_change.specs.Removing.{HoldsBesideRoot}
 use Rattle.btree_change.specs.Siblings.{HoldsChild, HoldsSiblings, HoldsUnder, MendsSiblings, SinksRoot}
@@ -28,13 +25,6 @@ use Rattle.btree_change.proofs.Outlining.{spell_one, spells_held, steps_of_loads
 use Rattle.btree_change.proofs.Pairings.{both_high, both_low, both_more, family, first_found}
 use Rattle.btree_change.proofs.Releases.{spends_then}
 use Rattle.btree_change.proofs.Takings.{placed_of}
-
-pub read_as : (n : ℕ) (s shape : NodeData) (k k' : CallerData) → SpellsHeld n s k.log → ReadsHeld n k k' shape → shape ≡ s
-read_as n s shape k k' here reads = go (held_of n k.log.holdings.held) here reads
-  where
-    go : (o : Option Holding) → IsSomeAnd o (λ h. SpellsNode h.words s) → IsSomeAnd o (λ h. SpellsNode h.words shape × (k' ≡ record k { log = after_words n h.words 35 k.log })) → shape ≡ s
-    go None x y = absurd x
-    go (Some h) x y = same_Some _ _ (sym y.0 ∙ x)
 
 -- a node of the way
 pub way_spells : (t : Terms) (n : ℕ) (s : NodeData) (changed root_changed : Bool) (v : Log) → HoldsBesideRoot t n s changed root_changed v.holdings → SpellsHeld n s v

@@ -1,10 +1,8 @@
 -- The lowest member that overlaps, where it stands in the next leaf; and what is known where none does.
-use Rattle.std.proofs.Common.{◌≡◌, ◌≢◌, ℕ, ◌+◌, ◌<◌, ◌≤◌, ◌%◌, max, List, [], ◌∷◌, ◌++◌, length, sym, refl, ap, ◌∙◌, subst, arith, inl, inr, append-nil, Contains, Bool, true, false, ◌&&◌, nat_le, IsTrue, le-leb}
+use Rattle.std.proofs.Common.{◌≡◌, ◌≢◌, ℕ, ◌+◌, ◌<◌, ◌≤◌, ◌%◌, max, List, [], ◌∷◌, ◌++◌, length, sym, refl, ap, ◌∙◌, subst, arith, inl, inr, append-nil, Bool, true, false, ◌&&◌, nat_le, IsTrue, le-leb}
 use Rattle.std.proofs.lemmas.Bool.{leb-true, leb-false}
 use Rattle.std.proofs.lemmas.List.Elements.{All-from_recursion, recursion_from_All}
 use Rattle.std.specs.List.{AllByRecursion}
-use mathlib.Core.List.{IsPrefix}
-use Rattle.reg_model.specs.History.{state_after}
 use Rattle.reg_model.specs.SpanData.{Overlaps}
 use Rattle.reg_model.specs.State.{IsFree, IsLowestOverlap}
 use Rattle.reg_model.specs.declared.answer.Inserted.TheVariants as inserted
@@ -19,7 +17,6 @@ use Rattle.tree_shape.proofs.Leads.{contains_in, in_contains, entry_inside, entr
 use Rattle.tree_shape.proofs.Leads as leads
 use Rattle.tree_shape.proofs.Times.{In, in_right}
 use Rattle.word_rule.specs.CallerData.{CallerData}
-use Rattle.word_rule.specs.Callers.{IsMemberOf, start}
 use Rattle.word_rule.specs.Clock.{AfterClock}
 use Rattle.word_rule.specs.Held.{is_marked, settled_in, settled_shape}
 use Rattle.word_rule.specs.NodeTells.{IsLiveNode}
@@ -28,9 +25,10 @@ use Rattle.word_rule.specs.declared.log.Ask.TheVariants as ask
 use Rattle.word_rule.specs.declared.log.Terms.{Terms}
 use Rattle.btree_change.specs.Insertion.{RefusesMember}
 use Rattle.btree_change.specs.Spines.{HoldsLeafPair}
-use Rattle.btree_change.proofs.Descending.{all_there, in_order}
+use Rattle.btree_change.proofs.Descending.{in_order}
 use Rattle.btree_change.proofs.FreshSpines.{all_both}
 use Rattle.btree_change.proofs.Putting.{leaf_at_zero}
+use Rattle.btree_change.proofs.Refusing.{refused_overlap}
 
 all_so : {A : Type 0} (P Q : A → Type 0) → ((x : A) → P x → Q x) → (xs : List A) → AllByRecursion P xs → AllByRecursion Q xs
 all_so P Q each [] all = tt
@@ -143,28 +141,4 @@ module _ (t : Terms) (n : ℕ) (s : NodeData) (r : ℕ) (u : NodeData) (m : Memb
     }
 
     pub refused_next_so : (k' : CallerData) (clock : ℕ) → AfterClock t (ask.Refused (update.Register m)) clock k.log k'.log → AppendsRefusal (ask.Refused (update.Register m)) clock k.log k'.log → k' ≡ record k { log = k'.log } → RefusesMember t m (inserted.Overlap other (clock % 4294967296)) k k'
-    refused_next_so k' clock (past, receipts, (tells, asked, is)) refusal rest =
-        let appended = refusal.0 other shows_next in
-        let now : k'.log.past ≡ past = ap (λ z. z.past) is in
-        let terms : k'.log.terms ≡ t = ap (λ z. z.terms) is ∙ tells.terms in
-        let own : k'.log.receipts ≡ record k.log.receipts { own = k'.log.receipts.own } = ap (λ z. z.receipts) is ∙ ap (λ o. record k.log.receipts { own = o }) (sym (ap (λ z. z.receipts.own) is)) in record {
-          table = ap (λ z. z.table) rest;
-          left = ap (λ z. z.left) rest;
-          terms = ap (λ z. z.terms) is;
-          role = ap (λ z. z.role) is;
-          budget = ap (λ z. z.budget) is;
-          loader = ap (λ z. z.loader) is;
-          made = ap (λ z. z.made) is;
-          lineage = ap (λ z. z.lineage) is;
-          holdings = ap (λ z. z.holdings) is;
-          right = (
-            subst (IsPrefix k.log.past) (sym now) tells.begins,
-            tells.updates ∙ ap length (sym now),
-            subst (λ z. IsLowestOverlap m.span (state_after (start z) k'.log.past).registered other) terms appended.right,
-            subst (λ p. (z : Member) → Contains (state_after (start t) p).registered z → IsMemberOf t z) (sym now)
-                (λ z. all_there (IsMemberOf t) (state_after (start t) past).registered z tells.entries) other
-                (subst (λ z. IsLowestOverlap m.span (state_after (start z) k'.log.past).registered other) terms appended.right).listed,
-          );
-          none_taken = refl;
-          receipts = own ∙ ap (λ o. record k.log.receipts { own = o }) appended.own;
-        }
+    refused_next_so k' clock = refused_overlap t m k k' clock other shows_next

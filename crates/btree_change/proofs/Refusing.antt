@@ -4,6 +4,7 @@ use mathlib.Core.List.{IsPrefix}
 use Rattle.reg_model.specs.History.{state_after}
 use Rattle.reg_model.specs.State.{IsFree, IsLowestOverlap}
 use Rattle.reg_model.specs.declared.answer.Receipt.TheVariants as receipt
+use Rattle.reg_model.specs.declared.answer.Inserted.{Inserted}
 use Rattle.reg_model.specs.declared.answer.Inserted.TheVariants as inserted
 use Rattle.reg_model.specs.declared.answer.Update.TheVariants as update
 use Rattle.reg_model.specs.declared.span.Member.{Member}
@@ -17,7 +18,7 @@ use Rattle.word_rule.specs.Logs.{load_of}
 use Rattle.word_rule.specs.TreeRefusals.{Appends, AppendsRefusal, HadNoRoom, ShowsFull, ShowsOverlap}
 use Rattle.word_rule.specs.declared.log.Ask.TheVariants as ask
 use Rattle.word_rule.specs.declared.log.Terms.{Terms}
-use Rattle.btree_change.specs.Insertion.{RefusesMember}
+use Rattle.btree_change.specs.Insertion.{IsRightInsertion, RefusesMember, taken_by}
 use Rattle.btree_change.specs.Loads.{KeepsLoads}
 use Rattle.btree_change.specs.Stands.{StandsAt}
 use Rattle.btree_change.proofs.Descending.{all_there}
@@ -34,29 +35,50 @@ ordered_there low high (y ∷ xs) x h (suc k, l, e) = ordered_there (y.span.last
 pub clock_load : (t : Terms) (m : Member) (k k' : CallerData) (clock : ℕ) → AfterClock t (ask.Refused (update.Register m)) clock k.log k'.log → KeepsLoads k k'
 clock_load t m k k' clock (past, receipts, (tells, asked, is)) = (load_of k.log 0 clock ∷ [], ap (λ z. z.trace.loads) is)
 
--- what a load of the clock makes of one that is refused for want of room
-pub refused_full : (t : Terms) (m : Member) (k k' : CallerData) (clock : ℕ) → AfterClock t (ask.Refused (update.Register m)) clock k.log k'.log → Appends (receipt.Register m (inserted.Full (clock % 4294967296))) k.log k'.log → k' ≡ record k { log = k'.log } → RefusesMember t m (inserted.Full (clock % 4294967296)) k k'
-refused_full t m k k' clock (past, receipts, (tells, asked, is)) appended rest =
-    let now : k'.log.past ≡ past = ap (λ z. z.past) is in
-    let terms : k'.log.terms ≡ t = ap (λ z. z.terms) is ∙ tells.terms in
-    let own : k'.log.receipts ≡ record k.log.receipts { own = k'.log.receipts.own } = ap (λ z. z.receipts) is ∙ ap (λ o. record k.log.receipts { own = o }) (sym (ap (λ z. z.receipts.own) is)) in record {
-      table = ap (λ z. z.table) rest;
-      left = ap (λ z. z.left) rest;
-      terms = ap (λ z. z.terms) is;
-      role = ap (λ z. z.role) is;
-      budget = ap (λ z. z.budget) is;
-      loader = ap (λ z. z.loader) is;
-      made = ap (λ z. z.made) is;
-      lineage = ap (λ z. z.lineage) is;
-      holdings = ap (λ z. z.holdings) is;
-      right = (
+-- a load of the clock that appends a refusal leaves all else as it was
+module _ (t : Terms) (m : Member) (k k' : CallerData) (clock : ℕ) where
+  refuses : (answer : Inserted) → taken_by answer ≡ 0 → AfterClock t (ask.Refused (update.Register m)) clock k.log k'.log → Appends (receipt.Register m answer) k.log k'.log → k' ≡ record k { log = k'.log } → IsRightInsertion t m k k' answer → RefusesMember t m answer k k'
+  refuses answer none (past, receipts, (tells, asked, is)) appended rest right =
+      let own : k'.log.receipts ≡ record k.log.receipts { own = k'.log.receipts.own } = ap (λ z. z.receipts) is ∙ ap (λ o. record k.log.receipts { own = o }) (sym (ap (λ z. z.receipts.own) is)) in record {
+        table = ap (λ z. z.table) rest;
+        left = ap (λ z. z.left) rest;
+        terms = ap (λ z. z.terms) is;
+        role = ap (λ z. z.role) is;
+        budget = ap (λ z. z.budget) is;
+        loader = ap (λ z. z.loader) is;
+        made = ap (λ z. z.made) is;
+        lineage = ap (λ z. z.lineage) is;
+        holdings = ap (λ z. z.holdings) is;
+        right = right;
+        none_taken = none;
+        receipts = own ∙ ap (λ o. record k.log.receipts { own = o }) appended.own;
+      }
+
+  -- for want of room
+  pub refused_full : AfterClock t (ask.Refused (update.Register m)) clock k.log k'.log → Appends (receipt.Register m (inserted.Full (clock % 4294967296))) k.log k'.log → k' ≡ record k { log = k'.log } → RefusesMember t m (inserted.Full (clock % 4294967296)) k k'
+  refused_full (past, receipts, (tells, asked, is)) appended rest =
+      let now : k'.log.past ≡ past = ap (λ z. z.past) is in
+      let terms : k'.log.terms ≡ t = ap (λ z. z.terms) is ∙ tells.terms in
+      refuses (inserted.Full (clock % 4294967296)) refl (past, receipts, (tells, asked, is)) appended rest (
         subst (IsPrefix k.log.past) (sym now) tells.begins,
         tells.updates ∙ ap length (sym now),
         subst (λ z. IsFree m.span (state_after (start z) k'.log.past).registered) terms appended.right,
-      );
-      none_taken = refl;
-      receipts = own ∙ ap (λ o. record k.log.receipts { own = o }) appended.own;
-    }
+      )
+
+  -- for the lowest member that overlaps
+  pub refused_overlap : (other : Member) → ShowsOverlap m other k.log → AfterClock t (ask.Refused (update.Register m)) clock k.log k'.log → AppendsRefusal (ask.Refused (update.Register m)) clock k.log k'.log → k' ≡ record k { log = k'.log } → RefusesMember t m (inserted.Overlap other (clock % 4294967296)) k k'
+  refused_overlap other shown (past, receipts, (tells, asked, is)) refusal rest =
+      let appended = refusal.0 other shown in
+      let now : k'.log.past ≡ past = ap (λ z. z.past) is in
+      let terms : k'.log.terms ≡ t = ap (λ z. z.terms) is ∙ tells.terms in
+      let lowest : IsLowestOverlap m.span (state_after (start t) k'.log.past).registered other = subst (λ z. IsLowestOverlap m.span (state_after (start z) k'.log.past).registered other) terms appended.right in
+      refuses (inserted.Overlap other (clock % 4294967296)) refl (past, receipts, (tells, asked, is)) appended rest (
+        subst (IsPrefix k.log.past) (sym now) tells.begins,
+        tells.updates ∙ ap length (sym now),
+        lowest,
+        subst (λ p. (z : Member) → Contains (state_after (start t) p).registered z → IsMemberOf t z) (sym now)
+            (λ z. all_there (IsMemberOf t) (state_after (start t) past).registered z tells.entries) other lowest.listed,
+      )
 
 module _ (t : Terms) (n : ℕ) (s : NodeData) (changed : Bool) (m other : Member) (k : CallerData) (path : StandsAt t (record { node = n; content = s; changed = changed }) k.log.holdings) (level : s.level ≡ 0) (here : IsInFences m.span.first s) (lowest : IsLowestOverlap m.span (entries_of s) other) where
   found : held_of n k.log.holdings.held ≡ Some path.lock
@@ -85,31 +107,7 @@ module _ (t : Terms) (n : ℕ) (s : NodeData) (changed : Bool) (m other : Member
   }
 
   pub refused_so : (k' : CallerData) (clock : ℕ) → AfterClock t (ask.Refused (update.Register m)) clock k.log k'.log → AppendsRefusal (ask.Refused (update.Register m)) clock k.log k'.log → k' ≡ record k { log = k'.log } → RefusesMember t m (inserted.Overlap other (clock % 4294967296)) k k'
-  refused_so k' clock (past, receipts, (tells, asked, is)) refusal rest =
-      let appended = refusal.0 other shows_overlap in
-      let now : k'.log.past ≡ past = ap (λ z. z.past) is in
-      let terms : k'.log.terms ≡ t = ap (λ z. z.terms) is ∙ tells.terms in
-      let own : k'.log.receipts ≡ record k.log.receipts { own = k'.log.receipts.own } = ap (λ z. z.receipts) is ∙ ap (λ o. record k.log.receipts { own = o }) (sym (ap (λ z. z.receipts.own) is)) in record {
-        table = ap (λ z. z.table) rest;
-        left = ap (λ z. z.left) rest;
-        terms = ap (λ z. z.terms) is;
-        role = ap (λ z. z.role) is;
-        budget = ap (λ z. z.budget) is;
-        loader = ap (λ z. z.loader) is;
-        made = ap (λ z. z.made) is;
-        lineage = ap (λ z. z.lineage) is;
-        holdings = ap (λ z. z.holdings) is;
-        right = (
-          subst (IsPrefix k.log.past) (sym now) tells.begins,
-          tells.updates ∙ ap length (sym now),
-          subst (λ z. IsLowestOverlap m.span (state_after (start z) k'.log.past).registered other) terms appended.right,
-          subst (λ p. (z : Member) → Contains (state_after (start t) p).registered z → IsMemberOf t z) (sym now)
-              (λ z. all_there (IsMemberOf t) (state_after (start t) past).registered z tells.entries) other
-              (subst (λ z. IsLowestOverlap m.span (state_after (start z) k'.log.past).registered other) terms appended.right).listed,
-        );
-        none_taken = refl;
-        receipts = own ∙ ap (λ o. record k.log.receipts { own = o }) appended.own;
-      }
+  refused_so k' clock = refused_overlap t m k k' clock other shows_overlap
 
 -- No member overlaps, as the leaf shows, and there was no room.
 module _ (t : Terms) (n : ℕ) (s : NodeData) (changed : Bool) (m : Member) (k : CallerData) (path : StandsAt t (record { node = n; content = s; changed = changed }) k.log.holdings) (level : s.level ≡ 0) (here : IsInFences m.span.first s) (high : m.span.last ≤ s.high) (free : IsFree m.span (entries_of s))

@@ -1,5 +1,5 @@
 -- A free node is taken for a full one; or none is free, and the loads say so.
-use Rattle.std.proofs.Common.{◌≡◌, ◌≢◌, ℕ, zero, suc, ◌+◌, ◌⊎◌, inl, inr, List, [], ◌∷◌, length, sym, refl, ap, ◌∙◌, subst, arith, Bool, true, false, ◌==◌, ◌&&◌, nat_le, Option, Some, None, Result, Ok, Err, IsSome, IfSome, option_map, is_some, append_assoc, append-nil, Contains, eq-eqb, ne_eqb, if◌then◌else◌}
+use Rattle.std.proofs.Common.{◌≡◌, ◌≢◌, ℕ, suc, ◌+◌, ◌⊎◌, inl, inr, List, [], ◌∷◌, length, sym, refl, ap, ◌∙◌, subst, arith, Bool, true, false, ◌==◌, ◌&&◌, nat_le, Option, Some, None, Result, Ok, Err, IsSome, IfSome, option_map, is_some, append_assoc, append-nil, Contains, eq-eqb, ne_eqb, if◌then◌else◌}
 use Rattle.std.proofs.lemmas.Option.{none-some, same_Some}
 use native.Mathlib.Decide.{ℕ_discrete}
 use Rattle.reg_model.specs.declared.span.Member.{Member}
@@ -13,12 +13,12 @@ use Rattle.word_rule.specs.NodeTells.{HeldTells}
 use Rattle.word_rule.specs.Observations.{IsFullBody, IsFullCount}
 use Rattle.word_rule.specs.Places.{HEAD, node_place}
 use Rattle.word_rule.specs.Sights.{after_node_load}
-use Rattle.word_rule.specs.Spelling.{entries_at, entry_at, is_entry_at, is_short, node_word, pair_at, pairs_at, SpellsNode}
+use Rattle.word_rule.specs.Spelling.{entries_at, is_short, node_word, pairs_at, SpellsNode}
 use Rattle.word_rule.specs.Steps.{after_node_lock, after_take, mark_at_lock}
 use Rattle.word_rule.specs.declared.log.Holding.{Holding}
 use Rattle.word_rule.specs.declared.log.LockId.TheVariants as lock
 use Rattle.word_rule.specs.declared.log.Terms.{Terms}
-use Rattle.word_rule.proofs.Spells.{reads}
+use Rattle.word_rule.proofs.Spells.{entries_length, pairs_length, reads}
 use Rattle.node_store.specs.declared.locking.Busy.{Busy}
 use Rattle.node_store.specs.Free.{IsFreeTaken, TakesFree, headed}
 use Rattle.node_store.specs.Locking.{IsBusy, Locks, sighted, tried}
@@ -26,25 +26,6 @@ use Rattle.btree_change.specs.declared.descent.Held.{Held}
 use Rattle.btree_change.specs.Loads.{FoundNoRoom, FoundTaken}
 use Rattle.btree_change.specs.Splits.{HoldsFull, IsRoomFor, StaysHeld, TakesRoom}
 use Rattle.btree_change.proofs.Loading.{found_after, found_busy, keeps_load, keeps_then}
-
--- so many pairs, or entries, are read
-pairs_read : (words : List ℕ) (at count : ℕ) (xs : List Pair) → pairs_at words at count ≡ Some xs → length xs ≡ count
-pairs_read words at zero xs e = ap length (sym (same_Some _ _ e))
-pairs_read words at (suc count) xs e = go (is_short (node_word words at)) (pairs_at words (at + 2) count) (pairs_read words (at + 2) count) e
-  where
-    go : (b : Bool) (o : Option (List Pair)) → ((ys : List Pair) → o ≡ Some ys → length ys ≡ count) → ◌≡◌ {A = Option (List Pair)} (if b then option_map (λ pairs. pair_at words at ∷ pairs) o else None) (Some xs) → length xs ≡ suc count
-    go true None rest f = absurd (none-some xs f)
-    go true (Some ys) rest f = ap length (sym (same_Some _ _ f)) ∙ ap suc (rest ys refl)
-    go false o rest f = absurd (none-some xs f)
-
-entries_read : (words : List ℕ) (at count : ℕ) (xs : List Member) → entries_at words at count ≡ Some xs → length xs ≡ count
-entries_read words at zero xs e = ap length (sym (same_Some _ _ e))
-entries_read words at (suc count) xs e = go (is_entry_at words at) (entries_at words (at + 3) count) (entries_read words (at + 3) count) e
-  where
-    go : (b : Bool) (o : Option (List Member)) → ((ys : List Member) → o ≡ Some ys → length ys ≡ count) → ◌≡◌ {A = Option (List Member)} (if b then option_map (λ entries. entry_at words at ∷ entries) o else None) (Some xs) → length xs ≡ suc count
-    go true None rest f = absurd (none-some xs f)
-    go true (Some ys) rest f = ap length (sym (same_Some _ _ f)) ∙ ap suc (rest ys refl)
-    go false o rest f = absurd (none-some xs f)
 
 -- the count of a full node is the greatest
 full_body : (inner few leaf low free : Bool) (pairs : Option (List Pair)) (entries : Option (List Member)) (link count : ℕ) (body : Body) → ((xs : List Pair) → pairs ≡ Some xs → length xs ≡ count) → ((xs : List Member) → entries ≡ Some xs → length xs ≡ count)
@@ -62,7 +43,7 @@ full_body false few false low false pairs entries link count body ps es e = absu
 full_count : (words : List ℕ) (s : NodeData) → SpellsNode words s → IsFull s.body → IsFullBody (node_word words 5) s.body
 full_count words s spells full =
     full_body (node_word words 1 == 0) (nat_le (node_word words 5) 15) (node_word words 1 == 1) (nat_le (node_word words 5) 10) ((node_word words 1 == 2) && is_short (node_word words 6)) (pairs_at words 6 (node_word words 5)) (entries_at words 6 (node_word words 5)) (node_word words 6) (node_word words 5) s.body
-    (pairs_read words 6 (node_word words 5)) (entries_read words 6 (node_word words 5)) (reads words s spells).body full
+    (pairs_length words 6 (node_word words 5)) (entries_length words 6 (node_word words 5)) (reads words s spells).body full
 
 -- a lock that is found is one of those held
 pub found_there : (n : ℕ) (held : List Holding) (h : Holding) → held_of n held ≡ Some h → Contains held h

@@ -1,25 +1,13 @@
 -- The way of a removal begins at the root; and what a mended child of it is.
-use Rattle.std.proofs.Common.{◌≡◌, ◌≢◌, ℕ, zero, suc, ◌*◌, ◌<◌, ◌≤◌, length, refl, ap, ◌∙◌, subst, arith, false, sym, [], ◌∷◌, Some, IsTrue, IsSome, IsSomeAnd}
-use Rattle.std.proofs.lemmas.Option.{same_Some}
-use Rattle.std.specs.List.{AllByRecursion}
+use Rattle.std.proofs.Common.{◌≡◌, ◌≢◌, ℕ, zero, suc, ◌*◌, ◌<◌, ◌≤◌, length, refl, ap, subst, arith, false, sym, []}
 use Rattle.tree_shape.specs.Changes.{pair}
 use Rattle.tree_shape.specs.Lawful.{IsOrderedAs, fewest_pairs}
 use Rattle.tree_shape.specs.NodeData.{IsInFences, NodeData, Body, Pairs, Entries, Link, pairs_of}
 use Rattle.tree_shape.proofs.Halves.{fewest_below}
 use Rattle.tree_shape.proofs.Slotted.{filled_pairs}
-use Rattle.tree_shape.specs.declared.node.Frame.{Frame}
 use Rattle.word_rule.specs.CallerData.{CallerData, surplus}
-use Rattle.word_rule.specs.Held.{held_of}
-use Rattle.word_rule.specs.NodeTells.{IsLiveNode, KnowsTree}
-use Rattle.word_rule.specs.Sights.{after_node_load}
-use Rattle.word_rule.specs.Spelling.{SpellsNode}
-use Rattle.word_rule.specs.declared.log.Holding.{Holding}
 use Rattle.word_rule.specs.declared.log.Holdings.{Holdings}
-use Rattle.word_rule.specs.declared.log.LockId.TheVariants as lock
 use Rattle.word_rule.specs.declared.log.Terms.{Terms}
-use Rattle.node_store.specs.Holding.{SpellsHeld}
-use Rattle.node_store.specs.Locking.{Locks}
-use Rattle.btree_change.specs.Paths.{HoldsNothing, IsSettledLock}
 use Rattle.btree_change.specs.Stands.{HoldsRoot}
 use Rattle.btree_change.specs.declared.descent.Held.{Held}
 use Rattle.btree_change.specs.Removing.{HoldsBesideRoot, IsBeside, IsSpare, IsSpareAs, Spends}

@@ -192,8 +192,8 @@ fn at_next<L: Locking>(
 }
 
 /// Answers an insertion that stands at a leaf in which nothing overlaps, and whose span ends in the
-/// next leaf: names the lowest that overlaps there, says Full, or moves the fence between them. Lets
-/// go of the leaf.
+/// next leaf: names the lowest that overlaps there, says Full, or moves the fence between them.
+/// Lets go of the leaf.
 pub(crate) fn beyond_leaf<L: Locking>(
     locking: &L,
     words: &Words,

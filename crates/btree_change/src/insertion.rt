@@ -31,8 +31,8 @@ struct InLeaf<'a> {
     content: &'a Node,
 }
 
-/// Puts a member into its leaf, in which nothing overlaps it and whose fences hold its span, or says
-/// Full.
+/// Puts a member into its leaf, in which nothing overlaps it and whose fences hold its span, or
+/// says Full.
 fn in_place(
     words: &Words,
     me: &mut Caller,

@@ -22,8 +22,8 @@ const LOWER: u64 = 1 << 32;
 /// The word of a node that has its count.
 const COUNT: u32 = 5;
 
-/// Writes a member into a leaf that is held and was read, in which it has room and overlaps nothing,
-/// and commits it: its number.
+/// Writes a member into a leaf that is held and was read, in which it has room and overlaps
+/// nothing, and commits it: its number.
 pub(crate) fn put_in_leaf(
     words: &Words,
     me: &mut Caller,
@@ -90,8 +90,8 @@ pub(crate) fn refused(
     })
 }
 
-/// Tells that there is no room for a member that overlaps nothing in its leaf, whose fences hold its
-/// span.
+/// Tells that there is no room for a member that overlaps nothing in its leaf, whose fences hold
+/// its span.
 pub(crate) fn full_here(words: &Words, me: &mut Caller, leaf: &Held, member: &Member) -> Inserted
     requires table { me.old.table ≡ words.now.table }
     requires stands { StandsAt words.now.terms leaf.now me.old.log.holdings }
