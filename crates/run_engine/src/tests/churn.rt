@@ -1,8 +1,9 @@
 //! Sixteen threads that register and deregister at addresses that meet, for 64 rounds, with finds
 //! and unwinds. The slow reader holds every answer of their journal against plain lists, and makes
 //! every backtrace again. The accepted updates are then made again, one by one, and after each the
-//! nodes are looked at: so it is counted how often nodes were split, joined and shared, fences moved,
-//! and the root lifted and sunk. (Updates that were refused change nodes too, and are left out.)
+//! nodes are looked at: so it is counted how often nodes were split, joined and shared, fences
+//! moved, and the root lifted and sunk. (Updates that were refused change nodes too, and are left
+//! out.)
 
 ghost use Rattle.std.specs.Prelude.{◌≡◌, ◌<◌, ◌≤◌};
 ghost use Rattle.word_rule.specs.Callers.{IsIdle};

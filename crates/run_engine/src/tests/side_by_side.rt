@@ -17,7 +17,8 @@ fn script_of(alloc: Global) -> Result<Vec<u8>, Fail> {
         text.extend_from_slice(line.as_bytes())?;
     }
     text.extend_from_slice(SNAPSHOT.as_bytes())?;
-    for round in 0..64u64 {
+    text.extend_from_slice(ALONE.as_bytes())?;
+    for round in 1..64u64 {
         text.extend_from_slice(b"round\n")?;
         for thread in 1..17u64 {
             let image = (thread + 5 * round) % 17;
@@ -33,6 +34,16 @@ fn script_of(alloc: Global) -> Result<Vec<u8>, Fail> {
     text.extend_from_slice(b"end\n")?;
     Ok(text)
 }
+
+/// The first round has one thread, for which there is always room: so one backtrace has all frames,
+/// whatever the schedule.
+const ALONE: &str = "\
+round
+thread
+load 0
+unwind 0
+unload 1000
+";
 
 pub const SECTION: &str = "\
 image 0 1000 30 2000 1400000000000000017a5200017810011b0c0708900100001c0000001c000000e0eff\
