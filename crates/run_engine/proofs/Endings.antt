@@ -3,7 +3,7 @@ use Rattle.std.proofs.Common.{◌≡◌, ◌⊎◌, ℕ, ◌≤◌, List, length
 use Rattle.event_script.specs.ScriptData.{ScriptData}
 use Rattle.event_script.specs.Spelling.{IsScript}
 use Rattle.event_script.specs.Refusal.{HasOneReading}
-use Rattle.command_line.specs.CommandLine.{IsCommandLine, AreTaken}
+use Rattle.command_line.specs.CommandLine.{IsCommandLine}
 use Rattle.command_line.specs.declared.taking.Command.TheVariants.{Run, Generate}
 use Rattle.run_engine.specs.Ports.{Rose, Gains}
 use Rattle.run_engine.specs.Outcome.{IsDue, Change, Ends, EndsGenerated, Concludes, limit}

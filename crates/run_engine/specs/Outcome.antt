@@ -1,5 +1,5 @@
 -- What a run writes, and when it ends how.
-use Rattle.std.specs.Prelude.{◌≡◌, ◌⊎◌, ℕ, ◌<◌, ◌≤◌, List, [], ◌∷◌, length, Option, IfSome}
+use Rattle.std.specs.Prelude.{◌≡◌, ◌⊎◌, ℕ, ◌<◌, ◌≤◌, List, length, Option, IfSome}
 use Rattle.std.specs.Prelude.{codes}
 use Rattle.event_script.specs.ScriptData.{ScriptData}
 use Rattle.event_script.specs.Spelling.{IsScript}

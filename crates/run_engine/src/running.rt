@@ -31,8 +31,8 @@ use std::thread::Threads;
 ///
 /// Each status but ReadFault has a text that is due with it: for Done the journal's or the
 /// summary's, else one line that says why. Where the text can't be written, the status is
-/// WriteFault. Memory may be wanted at any time. A source that failed, or said its end, is not asked
-/// again.
+/// WriteFault. Memory may be wanted at any time. A source that failed, or said its end, is not
+/// asked again.
 pub fn run<R: Threads + Wait + Sync, S: Source, K: Sink, G: Gate + Sync>(
     rt: &R,
     alloc: Global,

@@ -1,4 +1,4 @@
-use Rattle.std.proofs.Common.{◌≡◌, List, ℕ, map, refl}
+use Rattle.std.proofs.Common.{map, refl}
 use Rattle.std.specs.String.{string_bytes}
 use Rattle.command_line.specs.CommandLine.{IsCommandLine, AreTaken}
 use Rattle.command_line.specs.declared.taking.Command.TheVariants.{Run, Generate}

@@ -1,4 +1,4 @@
-use Rattle.std.proofs.Common.{◌≡◌, refl, inr}
+use Rattle.std.proofs.Common.{refl, inr}
 use Rattle.script_generator.specs.Summaries.{summary_of, summary_text}
 use Rattle.run_engine.proofs.Countable.{countable}
 use Rattle.run_engine.proofs.running.run_generated.Goals as goal

@@ -1,4 +1,4 @@
-use Rattle.std.proofs.Common.{◌<◌, ◌≤◌, List, ℕ, length, vec_len, refl, sym, ◌∙◌, inr, arith}
+use Rattle.std.proofs.Common.{◌<◌, ◌≤◌, List, ℕ, length, vec_len, refl, inr, arith}
 use Rattle.event_script.specs.Refusal.{IsFirstBad}
 use Rattle.event_script.specs.Spelling.{IsScript}
 use Rattle.event_script.specs.Text.{journal_text}
