@@ -1,6 +1,6 @@
 -- Loads of words of one copy, and what they tell.
-use Rattle.std.specs.Prelude.{◌≡◌, ℕ, ◌<◌, ◌%◌, List, [], ◌++◌, length, Option, Some, None, option_map}
-use Rattle.std.specs.Prelude.{IsSomeAnd, IsTrue, slice_index}
+use Rattle.std.specs.Prelude.{◌≡◌, ℕ, ◌<◌, ◌%◌, List, [], ◌++◌, length, Option, Some, None}
+use Rattle.std.specs.Prelude.{option_map, IsSomeAnd, IsTrue, slice_index}
 use Rattle.std.specs.List.{AllByRecursion}
 use Rattle.word_rule.specs.declared.log.CopySight.{CopySight}
 use Rattle.word_rule.specs.declared.log.LoadEvent.{LoadEvent}

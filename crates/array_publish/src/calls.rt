@@ -1,7 +1,6 @@
 //! The update calls of the loader. Each takes the loader's lock, waits for it or gives up where it
 //! is taken, and lets go of it again.
-ghost use Rattle.std.specs.Prelude.{◌≡◌, ◌*◌, ◌<◌, false, true, None, OnOk, IfOk, IfErr};
-ghost use Rattle.std.specs.Prelude.{IsSomeAnd};
+ghost use Rattle.std.specs.Prelude.{◌≡◌, ◌<◌, false, true, None, OnOk, IfOk, IfErr, IsSomeAnd};
 ghost use Rattle.word_rule.specs.CallerData.{due, surplus};
 ghost use Rattle.node_store.specs.Locking.{IsBusy, Locks};
 ghost use Rattle.array_publish.specs.Update.{IsFreeAgain, LoadsMember, TellsLoad, TellsUnload};

@@ -1,14 +1,11 @@
 //! Updates of the loader by who holds its lock, so one is made at a time; lookups go on.
-ghost use Rattle.std.specs.Prelude.{◌≡◌, ◌≢◌, ◌<◌, ◌≤◌, ◌⊎◌, ◌++◌, List, length, IfSome};
-ghost use Rattle.std.specs.Prelude.{IfNone};
+ghost use Rattle.std.specs.Prelude.{◌≡◌, ◌≢◌, ◌<◌, ◌≤◌, ◌⊎◌, ◌++◌, List, IfSome, IfNone};
 ghost use Rattle.reg_model.specs.State.{IsFree, IsLowestOverlap};
 ghost use Rattle.reg_model.specs.declared.span.Member.{Member};
 ghost use Rattle.segment_array.specs.Ascending.{AscendFrom};
 ghost use Rattle.word_rule.specs.CallerData.{due};
-ghost use Rattle.word_rule.specs.Callers.{IsMemberOf};
 ghost use Rattle.word_rule.specs.Copies.{ListsMembers};
-ghost use Rattle.array_publish.specs.Holders.{IsHolder, Spells, active_words, member_in};
-ghost use Rattle.array_publish.specs.Holders.{spare_words};
+ghost use Rattle.array_publish.specs.Holders.{Spells, active_words, member_in, spare_words};
 ghost use Rattle.array_publish.specs.Writing.{EndsBelow, EndsFrom};
 ghost use Rattle.array_publish.specs.Update.{AnswersLoad, AnswersUnload, HoldsCopies, IsClean};
 ghost use Rattle.array_publish.specs.Update.{KnowsCopy, Works};
@@ -61,7 +58,8 @@ fn lowest_overlap(
     requires knows { KnowsCopy words.now active.now me.old }
     requires inside { place ≤ active.now.count }
     requires below { EndsBelow (active_words me.old.log.loader) span.now.first place }
-    requires above { EndsFrom (active_words me.old.log.loader) span.now.first active.now.count place }
+    requires above { EndsFrom (active_words me.old.log.loader) span.now.first active.now.count
+        place }
     ensures same { Spells (spare_words me.old.log.loader) me.old me.new }
     ensures kept { me.new.log.loader ≡ me.old.log.loader }
     ensures found { (xs : List Member) → ListsMembers (active_words me.old.log.loader) xs

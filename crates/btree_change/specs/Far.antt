@@ -20,7 +20,8 @@ use Rattle.btree_change.specs.declared.stand.Room.TheVariants as room
 use Rattle.btree_change.specs.Insertion.{IsRightInsertion, taken_by}
 use Rattle.btree_change.specs.Spines.{HoldsLeafPair, HoldsNext}
 use Rattle.btree_change.specs.Splits.{HasSpace}
-use Rattle.btree_change.specs.Stands.{AreLeftAs, LiesBeyond, SpendsCall, SpendsSteps, StandsOnWay, StandsAt}
+use Rattle.btree_change.specs.Stands.{AreLeftAs, LiesBeyond, SpendsCall, SpendsSteps, StandsOnWay}
+use Rattle.btree_change.specs.Stands.{StandsAt}
 
 -- It stands at the leaf, and the node above both leaves is known.
 abbrev pub StandsFar : Terms → Member → Far → Log → Type 0

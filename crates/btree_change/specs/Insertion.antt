@@ -1,5 +1,6 @@
 -- What the insertion of a member makes of its caller.
-use Rattle.std.specs.Prelude.{◌≡◌, ℕ, ◌-◌, ◌<◌, ◌≤◌, false, IsSome, List, [], ◌∷◌, ◌++◌, drop, length}
+use Rattle.std.specs.Prelude.{◌≡◌, ℕ, ◌-◌, ◌<◌, ◌≤◌, false, IsSome, List, [], ◌∷◌, ◌++◌, drop}
+use Rattle.std.specs.Prelude.{length}
 use Rattle.std.specs.List.{AllByRecursion}
 use mathlib.Core.List.{IsPrefix}
 use Rattle.reg_model.specs.History.{state_after}
@@ -62,8 +63,8 @@ pub record PutsMember (m : Member) (n number : ℕ) (k k' : CallerData) : Type 0
   pub spells : SpellsNode lock.words lock.settled
   pub out : k'.log.holdings.out ≡ []
 
--- The answer to an insertion is right, where `k` was its caller when the call was begun and k' is it
--- afterwards.
+-- The answer to an insertion is right, where `k` was its caller when the call was begun and k' is
+-- it afterwards.
 abbrev pub IsRightInsertion : Terms → Member → CallerData → CallerData → Inserted → Type 0
 IsRightInsertion t m k k' (inserted.Done number) = (before : List Update)
     × (IsPrefix k.log.past before × (k'.log.past ≡ before ++ update.Register m ∷ [])

@@ -1,5 +1,5 @@
--- The way of a removal down the tree, by what its caller holds: one node, and the root where that is
--- another.
+-- The way of a removal down the tree, by what its caller holds: one node, and the root where that
+-- is another.
 use Rattle.std.specs.Prelude.{◌≡◌, ℕ, zero, suc, ◌+◌, ◌<◌, ◌≤◌, Bool, false, List, [], ◌∷◌, length}
 use Rattle.std.specs.Prelude.{IsSome}
 use Rattle.std.specs.List.{AllByRecursion}

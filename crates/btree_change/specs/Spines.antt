@@ -3,8 +3,8 @@
 -- `X` is the node above both leaves. From it the left spine goes down to the leaf that ends too
 -- early, by last children below X's slot, and the right one to the next leaf, by first children
 -- below the slot after it.
-use Rattle.std.specs.Prelude.{◌≡◌, ◌≢◌, ℕ, zero, suc, ◌+◌, ◌-◌, ◌<◌, ◌≤◌, true, false, List, [], ◌∷◌}
-use Rattle.std.specs.Prelude.{◌++◌, ◌⊎◌, IsSome, IsTrue, None, Some, length, map, slice_get}
+use Rattle.std.specs.Prelude.{◌≡◌, ◌≢◌, ℕ, zero, suc, ◌+◌, ◌-◌, ◌<◌, ◌≤◌, true, false, List, []}
+use Rattle.std.specs.Prelude.{◌∷◌, ◌++◌, ◌⊎◌, IsSome, IsTrue, None, Some, length, map, slice_get}
 use Rattle.std.specs.List.{AllByRecursion}
 use Rattle.tree_shape.specs.Changes.{begins_after, ends_at_fence}
 use Rattle.tree_shape.specs.Decisions.{is_entries}

@@ -129,8 +129,8 @@ pub record SplitsChild (t : Terms) (full : FullChild) (pc : ℕ) (split : Split)
   pub room : HasSpace split.way.content.body
   pub same : StepsOnNodes (with_release_less k) k'
 
--- A full node on the way is held as the words spell it; no node is out, or one where it is the root,
--- which needs two.
+-- A full node on the way is held as the words spell it; no node is out, or one where it is the
+-- root, which needs two.
 pub record HoldsFull (t : Terms) (full : Held) (pc : ℕ) (holdings : Holdings) : Type 0 where
   pub lock : Holding
   pub found : held_of full.node holdings.held ≡ Some lock

@@ -1,6 +1,6 @@
 -- Where an insertion stands on its way down, and what each part of it makes of its caller.
-use Rattle.std.specs.Prelude.{◌≡◌, ℕ, ◌+◌, ◌-◌, ◌*◌, ◌^◌, ◌<◌, ◌≤◌, Bool, false, ◌||◌, List, [], ◌∷◌, ◌++◌}
-use Rattle.std.specs.Prelude.{length, drop, nat_le, Option, Some, None, IsSome}
+use Rattle.std.specs.Prelude.{◌≡◌, ℕ, ◌+◌, ◌-◌, ◌*◌, ◌^◌, ◌<◌, ◌≤◌, Bool, false, ◌||◌, List, []}
+use Rattle.std.specs.Prelude.{◌∷◌, ◌++◌, length, drop, nat_le, Option, Some, None, IsSome}
 use Rattle.std.specs.Prelude.{slice_get, ◌⊎◌}
 use Rattle.std.specs.List.{AllByRecursion}
 use Rattle.reg_model.specs.declared.answer.Receipt.{Receipt}
@@ -57,7 +57,8 @@ pub record HoldsRoot (t : Terms) (at : Held) (holdings : Holdings) : Type 0 wher
   pub out : holdings.out ≡ []
 
 -- The node above both leaves is held above this one, which lies on its left spine.
-pub record LiesBeyond (t : Terms) (b : Beyond) (lower : Holding) (above : List Holding) : Type 0 where
+pub record LiesBeyond (t : Terms) (b : Beyond) (lower : Holding) (above : List Holding)
+    : Type 0 where
   pub spine : List Holding
   pub top : Holding
   pub rest : List Holding
@@ -144,8 +145,8 @@ pub record LetsGo (k k' : CallerData) : Type 0 where
   pub held : k'.log.holdings.held ≡ drop 1 k.log.holdings.held
   pub out : k'.log.holdings.out ≡ k.log.holdings.out
 
--- a lock above after the way below it: it has settled, and it was changed by the fence that was moved
--- where its level is at most that of the node above both leaves
+-- a lock above after the way below it: it has settled, and it was changed by the fence that was
+-- moved where its level is at most that of the node above both leaves
 pub record IsLeftAs (moved : ℕ) (before after : Holding) : Type 0 where
   pub node : after.node ≡ before.node
   pub spells : SpellsNode after.words after.settled

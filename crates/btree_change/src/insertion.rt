@@ -172,7 +172,8 @@ pub(crate) fn below<L: Locking>(
         (releases_at stand.at.content.level) me.old me.new) }
     ensures full { IfOk result (λ reply. IfFull reply.answer
         (HasCause stand.room member.now.span.first me.old me.new)) }
-    ensures busy { IfErr result (λ e. GivesUpBelow (releases_at stand.at.content.level) me.old me.new
+    ensures busy { IfErr result
+        (λ e. GivesUpBelow (releases_at stand.at.content.level) me.old me.new
         × (L.gives_up ≡ true)) }
     ensures cause { IfErr result (λ e. FoundTaken e.lock me.old me.new) }
 {

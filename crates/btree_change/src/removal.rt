@@ -1,11 +1,11 @@
 //! The removal of the member that begins at an address.
-ghost use Rattle.std.specs.Prelude.{◌≡◌, ◌≤◌, ◌<◌, ◌-◌, ◌^◌, ◌+◌, ◌||◌, ◌≢◌, ℕ, true, false, IsTrue, IfOk, IfErr, length};
+ghost use Rattle.std.specs.Prelude.{◌≡◌, ◌≤◌, ◌<◌, ◌-◌, ◌^◌, ◌+◌, ◌||◌, ◌≢◌, ℕ, true, false};
+ghost use Rattle.std.specs.Prelude.{IsTrue, IfOk, IfErr, length};
 ghost use Rattle.tree_shape.specs.Changes.{Fit, Overfill};
 ghost use Rattle.tree_shape.specs.Lawful.{IsFilled, IsOrdered};
 ghost use Rattle.tree_shape.specs.NodeData.{IsInFences, IsInner, pairs_of};
 ghost use Rattle.btree_change.specs.Loads.{FoundTaken};
-ghost use Rattle.btree_change.specs.Siblings.{HoldsSiblings, IsInEither, SameKind};
-ghost use Rattle.btree_change.specs.Siblings.{is_small_body};
+ghost use Rattle.btree_change.specs.Siblings.{HoldsSiblings, IsInEither, SameKind, is_small_body};
 ghost use Rattle.word_rule.specs.CallerData.{due, surplus};
 ghost use Rattle.word_rule.specs.Callers.{IsIdle};
 ghost use Rattle.word_rule.specs.Places.{CALL_CREDIT};

@@ -153,7 +153,8 @@ pub(crate) fn take_sibling<L: Locking>(
     requires held { HoldsChild words.now.terms child pc me.old.log.holdings }
     requires surplus { 1 < surplus me.old }
     ensures ok { IfOk result (λ x. HoldsSiblings words.now.terms x me.new.log.holdings
-        × IsInEither pc x × (x.above ≡ child.above) × ((x.left ≡ child.at) ⊎ (x.right ≡ child.at))) }
+        × IsInEither pc x × (x.above ≡ child.above)
+        × ((x.left ≡ child.at) ⊎ (x.right ≡ child.at))) }
     ensures busy { IfErr result (λ e. HoldsNothing me.new.log.holdings × (L.gives_up ≡ true)) }
     ensures cause { IfErr result (λ e. FoundTaken e.lock me.old me.new) }
     ensures spends { Spends 2 me.old me.new }

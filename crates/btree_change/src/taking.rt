@@ -43,8 +43,8 @@ pub(crate) fn not_found(
     base: u64,
 ) -> Option<Removed>
     requires table { me.old.table ≡ words.now.table }
-    requires path { HoldsBesideRoot words.now.terms way.now.at.node way.now.at.content way.now.at.changed
-        way.now.root_changed me.old.log.holdings }
+    requires path { HoldsBesideRoot words.now.terms way.now.at.node way.now.at.content
+        way.now.at.changed way.now.root_changed me.old.log.holdings }
     requires level { way.now.at.content.level ≡ 0 }
     requires content { leaf.now ≡ way.now.at.content }
     requires here { IsInFences base way.now.at.content }
@@ -74,8 +74,8 @@ pub(crate) fn take_in_leaf(
 ) -> (u32, Member)
     requires table { me.old.table ≡ words.now.table }
     requires terms { me.old.log.terms ≡ words.now.terms }
-    requires path { HoldsBesideRoot words.now.terms way.now.at.node way.now.at.content way.now.at.changed
-        way.now.root_changed me.old.log.holdings }
+    requires path { HoldsBesideRoot words.now.terms way.now.at.node way.now.at.content
+        way.now.at.changed way.now.root_changed me.old.log.holdings }
     requires leaf { way.now.at.content.level ≡ 0 }
     requires content { leaf.now ≡ way.now.at.content }
     requires here { IsInFences base way.now.at.content }

@@ -50,7 +50,8 @@ pub record Sees (t : Terms) (pc : ℕ) (k : CallerData) (visit : Visit) (used : 
   pub inside : HoldsAddress place pc
 
 -- the same where no child was loaded yet
-pub record Way (t : Terms) (pc : ℕ) (k : CallerData) (visit : Visit) (k' : CallerData) : Type 0 where
+pub record Way (t : Terms) (pc : ℕ) (k : CallerData) (visit : Visit) (k' : CallerData)
+    : Type 0 where
   pub sees : Sees t pc k visit 0 k'
   pub fresh : (i : ℕ) → loaded_word (6 + 2 * i) sees.sight.words ≡ None
 
@@ -66,8 +67,8 @@ pub record SeesBelow (t : Terms) (pc : ℕ) (k : CallerData) (visit : Visit)
       × Contains sees.loaded (loaded_of visit.node (7 + 2 * slot) s) × (pc ≤ s)))
   pub fresh : (i : ℕ) → loaded_word (6 + 2 * i) sees.sight.words ≡ None
 
--- Words of the node that a sight is of: they have each word that was loaded, spell this content, and
--- where the sight has a place, the node is live there.
+-- Words of the node that a sight is of: they have each word that was loaded, spell this content,
+-- and where the sight has a place, the node is live there.
 pub record Agrees (t : Terms) (s : NodeSight) (shape : NodeData) : Type 0 where
   pub words : List ℕ
   pub spells : SpellsNode words shape

@@ -80,7 +80,8 @@ pub fn root(words: &Words, me: &mut Caller) -> Result<Visit, Again>
     ensures inside { IfOk result (λ visit. visit.node < words.now.terms.nodes) }
     ensures ok { (pc : ℕ) → pc ≤ TOP
         → IfOk result (λ visit. Way words.now.terms pc me.old visit me.new) }
-    ensures err { (pc : ℕ) → IfErr result (λ again. EndsAgain words.now.terms pc me.old again me.new) }
+    ensures err { (pc : ℕ)
+        → IfErr result (λ again. EndsAgain words.now.terms pc me.old again me.new) }
     ensures alone { IsAlone me.old.log.lineage → me.old.log.holdings.held ≡ [] → IsOk result }
 {
     let _some = words.nodes();

@@ -1,5 +1,5 @@
 -- Words of one to three digits.
-use Rattle.std.proofs.Common.{◌≡◌, ◌∙◌, ℕ, ◌-◌, ◌<◌, ◌≤◌, ◌^◌, ◌&&◌, List, [], ◌∷◌, length, All, Bool, true, false, Some, nat_eq, nat_lt, nat_le, refl, sym, ap, arith, lt-ltb, le-leb, le-ltb, true≢false}
+use Rattle.std.proofs.Common.{◌≡◌, ◌∙◌, ℕ, ◌-◌, ◌^◌, List, [], ◌∷◌, length, All, Bool, true, false, nat_eq, nat_lt, nat_le, refl, sym, ap, arith, lt-ltb, le-leb, le-ltb, true≢false}
 use Rattle.std.specs.Char.{digit_value}
 use Rattle.std.specs.List.{list_all}
 use Rattle.std.specs.Str.Parse.{digits_value, without_leading_plus}

@@ -1,5 +1,5 @@
 -- What was found, as what was read.
-use Rattle.std.proofs.Common.{◌≡◌, ◌∙◌, ℕ, List, [], ◌∷◌, Option, Some, None, Bool, true, false, codes, refl, sym, ap, MatchOption, option_map, is_some, unwrap_or, true≢false}
+use Rattle.std.proofs.Common.{◌≡◌, ℕ, List, [], ◌∷◌, Option, Some, None, true, false, codes, refl, sym, ap, MatchOption, option_map, is_some, unwrap_or, true≢false}
 use Rattle.std.specs.Box.{box_value}
 use Rattle.std.specs.Prelude.{Box}
 use Rattle.std.specs.Str.{bytes_eq}

@@ -1,12 +1,12 @@
 -- What `clap` reads of the words that are taken.
-use Rattle.std.proofs.Common.{◌≡◌, ◌∙◌, ℕ, List, [], ◌∷◌, Option, Some, Bool, true, false, codes, refl, sym, ap, arith, ◌≤◌, length}
+use Rattle.std.proofs.Common.{◌≡◌, ℕ, List, [], ◌∷◌, Some, true, codes, refl, arith}
 use Rattle.std.proofs.lemmas.List.Elements.{All-head}
 use Rattle.clap.specs.Takes.{takes}
 use Rattle.clap.specs.Simple.{is_simple, subcommand_of}
 use Rattle.clap.specs.ValueTests.{is_unsigned_in}
 use Rattle.clap.proofs.OnLiterals.{clap_on_literals}
 use Rattle.command_line.specs.Grammar.{subcommands, words_read}
-use Rattle.command_line.specs.CommandLine.{IsDecimalDigit, IsCount, IsCommandLine, AreTaken}
+use Rattle.command_line.specs.CommandLine.{IsDecimalDigit, IsCount, AreTaken}
 use Rattle.command_line.specs.declared.taking.Command.TheVariants.{Run, Generate}
 use Rattle.command_line.proofs.Digits.{of_each, unsigned}
 

@@ -33,7 +33,8 @@ pub fn command_of(alloc: Global, words: &[String]) -> Result<Option<Command>, No
 /// The command that was read, where the words are exactly its own.
 fn spelled(words: &[String], asked: Asked<'_>) -> Option<Command>
     ensures { MatchOption result
-        (words_of asked.entry ≡ map string_bytes words.now → ¬ AreTaken (map string_bytes words.now))
+        (words_of asked.entry ≡ map string_bytes words.now
+        → ¬ AreTaken (map string_bytes words.now))
         (IsCommandLine (map string_bytes words.now)) }
 {
     match asked {

@@ -2,10 +2,9 @@
 
 ghost use Rattle.std.specs.Prelude.{◌≡◌};
 ghost use Rattle.eh_bytes.specs.CursorData.{Gives};
-ghost use Rattle.eh_hdr.specs.Headers.{octet, relative, header_version, kind_by_count};
+ghost use Rattle.eh_hdr.specs.Headers.{octet, relative, header_version};
 ghost use Rattle.eh_hdr.specs.Headers.{table_encoding, pointer_encoding, count_encoding};
-ghost use Rattle.eh_hdr.specs.Headers.{entry_encoding, section_pointer, entry_count};
-ghost use Rattle.eh_hdr.specs.Headers.{header_head};
+ghost use Rattle.eh_hdr.specs.Headers.{entry_encoding, section_pointer, entry_count, header_head};
 
 use crate::fault::HeaderFault;
 use eh_bytes::{Cursor, DW_EH_PE_omit, DW_EH_PE_udata4};

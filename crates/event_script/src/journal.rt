@@ -1,7 +1,5 @@
 //! What came of a script.
 
-ghost use Rattle.std.specs.Prelude.{◌≡◌, ℕ, List};
-
 use reg_model::{Inserted, Loading, Place, Removed};
 use std::marker::Model;
 use unwind_step::Trace;

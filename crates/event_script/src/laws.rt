@@ -38,7 +38,8 @@ pub fn no_script_begins_with_a_bad_line()
 /// read prints back, and what was printed is read again.
 pub fn scripts_print_back()
     ensures printed { (bytes : List ℕ) (s : ScriptData) → IsScript bytes s → script_text s ≡ bytes }
-    ensures read_again { (bytes : List ℕ) (s : ScriptData) → IsScript bytes s → IsScript (script_text s) s }
+    ensures read_again { (bytes : List ℕ) (s : ScriptData) → IsScript bytes s
+        → IsScript (script_text s) s }
 {}
 
 /// No two fixed images of a script overlap: so a registry can open with them.

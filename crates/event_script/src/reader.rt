@@ -1,6 +1,6 @@
 //! The reader of scripts.
 
-ghost use Rattle.std.specs.Prelude.{◌≡◌, Result, IfOk, IfErr};
+ghost use Rattle.std.specs.Prelude.{Result, IfOk, IfErr};
 ghost use Rattle.event_script.specs.Spelling.{IsScript};
 ghost use Rattle.event_script.specs.declared.reader.fault.Reason.{Reason};
 ghost use Rattle.event_script.specs.Draft.{DraftData};

@@ -1,6 +1,6 @@
 //! The value of an expression.
 
-ghost use Rattle.std.specs.Prelude.{◌≡◌, ◌<◌, ◌≤◌, length, drop, get_or, true, if◌then◌else◌};
+ghost use Rattle.std.specs.Prelude.{◌≡◌, ◌<◌, length, drop, get_or, true};
 ghost use Rattle.frame_expr.specs.Depth.{fits};
 ghost use Rattle.frame_expr.specs.Regions.{word_at};
 ghost use Rattle.frame_expr.specs.Values.{unary, binary, compare, entry, with_loaded, stack_after};

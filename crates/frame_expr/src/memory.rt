@@ -1,11 +1,10 @@
 //! Recorded memory: a list of regions, of which each is an address and the bytes from there on.
 
-ghost use Rattle.std.specs.Prelude.{◌≡◌, ◌<◌, ◌≤◌, ◌+◌, ◌^◌, None, if◌then◌else◌, IfErr, ℕ, length};
+ghost use Rattle.std.specs.Prelude.{◌≡◌, ◌<◌, ◌+◌, ◌^◌, None, if◌then◌else◌, IfErr, length};
 ghost use Rattle.std.specs.Prelude.{◌++◌, ◌∷◌, [], slice_get, Some, OnOk, OnErr};
 ghost use Rattle.std.specs.Option.{option_map};
 ghost use Rattle.frame_expr.specs.Regions.{RegionData, end, holds_word, word_in, word_at};
 ghost use Rattle.frame_expr.specs.Regions.{regions_end, Accepts, IsRefusedRegion, AreRegions};
-ghost use Rattle.frame_expr.specs.Regions.{AreFrom};
 
 use byteorder::{ByteOrder, LittleEndian};
 use std::alloc::{AllocError, AllocFailed, Global};

@@ -1,7 +1,7 @@
 -- The fields, records and their lengths are exact, part by part.
 use Rattle.std.proofs.Common.{ℕ, ◌+◌, ◌^◌, List, [], ◌∷◌, Bool, None, nat_lt}
 use Rattle.std.specs.Prelude.{◌==◌, ◌||◌, ◌&&◌, not}
-use Rattle.frame_parse.specs.declared.fault.RecordFault.TheVariants.{Short, TooWide, Encoding, NoCie, Version, Column, Range}
+use Rattle.frame_parse.specs.declared.fault.RecordFault.TheVariants.{Short, Encoding, Version, Column, Range}
 use Rattle.frame_parse.specs.declared.fault.RecordFault.TheVariants as faults
 use Rattle.frame_parse.specs.declared.records.augmentation.Augmentation.{Augmentation}
 use Rattle.frame_parse.specs.declared.records.CieRecord.{CieRecord}

@@ -7,7 +7,8 @@ use Rattle.eh_bytes.specs.Fields.{uleb}
 use Rattle.eh_bytes.specs.Leb.{uleb_at}
 use Rattle.frame_expr.specs.Expressions.{expression}
 use Rattle.frame_parse.specs.Instructions.{PlacedInstruction, PlacedReadRule, PlacedStep}
-use Rattle.frame_parse.specs.declared.instructions.ReadRuleWith.TheVariants.{Expression, ValExpression}
+use Rattle.frame_parse.specs.declared.instructions.ReadRuleWith.TheVariants.{Expression}
+use Rattle.frame_parse.specs.declared.instructions.ReadRuleWith.TheVariants.{ValExpression}
 use Rattle.frame_parse.specs.declared.instructions.InstructionWith.TheVariants.{Set, CfaExpression}
 
 -- as many of the next bytes as the number says that was read before them

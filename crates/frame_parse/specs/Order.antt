@@ -44,7 +44,8 @@ IsBalanced depth (x ∷ xs) =
     MayStandAt depth x.instruction × IsBalanced (remembered_after depth x.instruction) xs
 
 -- what holds along the steps that a program goes on with
-pub record AreOrdered {A B : Type 0} (p : PlacedProgramData) (steps : List (StepWith A B)) : Type 0 where
+pub record AreOrdered {A B : Type 0} (p : PlacedProgramData) (steps : List (StepWith A B))
+    : Type 0 where
   pub ascending : IsAscendingFrom p.state.location steps
   -- in a CIE
   pub staying : p.context.kind ≡ Initial → AreAt p.state.location steps

@@ -17,7 +17,8 @@ use Rattle.frame_parse.specs.declared.instructions.ReadRuleWith.TheVariants as r
 use Rattle.frame_parse.specs.declared.instructions.InstructionWith.TheVariants.{Nop, Advance, Set}
 use Rattle.frame_parse.specs.declared.instructions.InstructionWith.TheVariants.{Restore, Remember}
 use Rattle.frame_parse.specs.declared.instructions.InstructionWith.TheVariants.{RestoreState, Cfa}
-use Rattle.frame_parse.specs.declared.instructions.InstructionWith.TheVariants.{CfaColumn, CfaOffset}
+use Rattle.frame_parse.specs.declared.instructions.InstructionWith.TheVariants.{CfaColumn}
+use Rattle.frame_parse.specs.declared.instructions.InstructionWith.TheVariants.{CfaOffset}
 use Rattle.frame_parse.specs.declared.instructions.InstructionWith.TheVariants.{CfaExpression}
 use Rattle.frame_parse.specs.declared.instructions.Operation.{Operation}
 use Rattle.frame_parse.specs.declared.instructions.Operation.TheVariants as operations
@@ -268,7 +269,8 @@ pub record PlacedProgramData : Type 0 where
 
 -- the steps that a program goes on with: the pairs of location and instruction that its bytes spell
 unfoldable pub HasPlacedSteps : PlacedProgramData → List PlacedStep → Type 0
-HasPlacedSteps p steps = (t : State) × AreSteps (step p.context) p.rest.at p.state p.rest.bytes steps t
+HasPlacedSteps p steps =
+    (t : State) × AreSteps (step p.context) p.rest.at p.state p.rest.bytes steps t
 
 -- the text that stands at an extent of the bytes
 abbrev pub IsExtent : List ℕ → Extent → List ℕ → Type 0

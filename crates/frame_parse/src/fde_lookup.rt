@@ -49,7 +49,8 @@ impl Model for FdeList {
 
     ghost view = { λ l. map (fde_among l.cies.items) l.fdes.items };
 
-    ghost invariant = { λ l. Finds l.fdes.items l.lookup × All (HasCie (length l.cies.items)) l.fdes.items };
+    ghost invariant = { λ l. Finds l.fdes.items l.lookup
+        × All (HasCie (length l.cies.items)) l.fdes.items };
 }
 
 impl FdeList {

@@ -9,7 +9,8 @@ use Rattle.frame_parse.specs.declared.instructions.InstructionWith.{InstructionW
 use Rattle.frame_parse.specs.declared.instructions.InstructionWith.TheVariants.{Nop, Advance, Set}
 use Rattle.frame_parse.specs.declared.instructions.InstructionWith.TheVariants.{Restore, Remember}
 use Rattle.frame_parse.specs.declared.instructions.InstructionWith.TheVariants.{RestoreState, Cfa}
-use Rattle.frame_parse.specs.declared.instructions.InstructionWith.TheVariants.{CfaColumn, CfaOffset}
+use Rattle.frame_parse.specs.declared.instructions.InstructionWith.TheVariants.{CfaColumn}
+use Rattle.frame_parse.specs.declared.instructions.InstructionWith.TheVariants.{CfaOffset}
 use Rattle.frame_parse.specs.declared.instructions.InstructionWith.TheVariants.{CfaExpression}
 use Rattle.frame_parse.specs.declared.instructions.StepWith.{StepWith}
 use Rattle.frame_parse.specs.Instructions.{StepData}
@@ -54,7 +55,8 @@ rule_of (read.Expression e) = rules.Expression e
 rule_of (read.ValExpression e) = rules.ValExpression e
 
 -- what an instruction does to column r: it may set it, or give it back the rule `base`
-abbrev pub register_step : {C E : Type 0} → ℕ → RuleWith E → Column (RuleWith E) → InstructionWith C E
+abbrev pub register_step
+    : {C E : Type 0} → ℕ → RuleWith E → Column (RuleWith E) → InstructionWith C E
     → Column (RuleWith E)
 register_step r base c (Set q rule) = if q == r then record c { rule = rule_of rule } else c
 register_step r base c (Restore q) = if q == r then record c { rule = base } else c

@@ -6,7 +6,8 @@ use Rattle.frame_parse.specs.Instructions.{PlacedInstruction, PlacedStep}
 use Rattle.frame_parse.specs.declared.instructions.InstructionWith.TheVariants.{Nop, Advance, Set}
 use Rattle.frame_parse.specs.declared.instructions.InstructionWith.TheVariants.{Restore, Remember}
 use Rattle.frame_parse.specs.declared.instructions.InstructionWith.TheVariants.{RestoreState, Cfa}
-use Rattle.frame_parse.specs.declared.instructions.InstructionWith.TheVariants.{CfaColumn, CfaOffset}
+use Rattle.frame_parse.specs.declared.instructions.InstructionWith.TheVariants.{CfaColumn}
+use Rattle.frame_parse.specs.declared.instructions.InstructionWith.TheVariants.{CfaOffset}
 use Rattle.frame_parse.specs.declared.instructions.InstructionWith.TheVariants.{CfaExpression}
 use Rattle.frame_parse.specs.Programs.{HasPlacedSteps}
 use Rattle.frame_parse.specs.Sections.{FdeData}
@@ -14,8 +15,7 @@ use Rattle.frame_parse.specs.Steps.{left_of_initial, left_of_program}
 use Rattle.frame_rows.specs.declared.rule.RuleWith.TheVariants as rules
 use Rattle.frame_rows.specs.declared.rule.CfaRuleWith.TheVariants as cfas
 use Rattle.frame_rows.specs.declared.placed_row.PlacedRow.{PlacedRow}
-use Rattle.frame_rows.specs.Columns.{rule_of, with_column, with_offset, instructions}
-use Rattle.frame_rows.specs.Columns.{up_to}
+use Rattle.frame_rows.specs.Columns.{rule_of, with_column, with_offset, instructions, up_to}
 
 -- the row before any instruction
 abbrev pub unset : PlacedRow

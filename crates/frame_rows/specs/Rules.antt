@@ -1,5 +1,5 @@
--- Rules, by how their expressions are told: by the places of their blocks in the section's bytes, or
--- by their own bytes.
+-- Rules, by how their expressions are told: by the places of their blocks in the section's bytes,
+-- or by their own bytes.
 use Rattle.std.specs.Prelude.{ℕ, List, map}
 use Rattle.frame_parse.specs.Blocks.{block_in}
 use Rattle.frame_rows.specs.declared.rule.RuleWith.{RuleWith}

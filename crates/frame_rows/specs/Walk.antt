@@ -19,21 +19,22 @@ pub record GoesOn (p : PlacedProgramData) (pc depth : ℕ) (steps : List PlacedS
 
 -- some of the steps are done: at q more of them are left, and the rows after all are those from
 -- here on
-pub record IsOnward (base : PlacedRow) (pc : ℕ) (from : Rows) (steps : List PlacedStep) (q : PlacedProgramData)
-    (to : Rows) : Type 0 where
+pub record IsOnward (base : PlacedRow) (pc : ℕ) (from : Rows) (steps : List PlacedStep)
+    (q : PlacedProgramData) (to : Rows) : Type 0 where
   pub more : List PlacedStep
   pub on : GoesOn q pc (length to.remembered) more
   pub same : rows_after base pc from steps ≡ rows_after base pc to more
 
 -- from a row at p to another row at q, with the same rows remembered
-abbrev pub ComesTo : PlacedRow → ℕ → PlacedProgramData → PlacedRow → PlacedProgramData → PlacedRow → Type 0
+abbrev pub ComesTo
+    : PlacedRow → ℕ → PlacedProgramData → PlacedRow → PlacedProgramData → PlacedRow → Type 0
 ComesTo base pc p row q other =
     (steps : List PlacedStep) (below : List PlacedRow) → GoesOn p pc (length below) steps
     → IsOnward base pc (beside row below) steps q (beside other below)
 
 -- after the step that takes back the last of the remembered rows
-pub record TakesBack (base : PlacedRow) (pc : ℕ) (row : PlacedRow) (below : List PlacedRow) (steps : List PlacedStep)
-    (q : PlacedProgramData) : Type 0 where
+pub record TakesBack (base : PlacedRow) (pc : ℕ) (row : PlacedRow) (below : List PlacedRow)
+    (steps : List PlacedStep) (q : PlacedProgramData) : Type 0 where
   pub last : PlacedRow
   pub others : List PlacedRow
   pub are : below ≡ last ∷ others
@@ -41,7 +42,9 @@ pub record TakesBack (base : PlacedRow) (pc : ℕ) (row : PlacedRow) (below : Li
 
 -- A walk stops after all steps up to the address, with their row, or after a step that takes a row
 -- back. Where it stops at a restore whose rule isn't told, its row says nothing.
-abbrev pub Walks : PlacedRow → ℕ → PlacedProgramData → PlacedRow → Stop → PlacedProgramData → PlacedRow → Type 0
+abbrev pub Walks
+    : PlacedRow → ℕ → PlacedProgramData → PlacedRow → Stop → PlacedProgramData → PlacedRow
+    → Type 0
 Walks base pc p row End q other =
     (steps : List PlacedStep) (below : List PlacedRow) → GoesOn p pc (length below) steps
     → (rows_after base pc (beside row below) steps).row ≡ other

@@ -50,7 +50,8 @@ impl<'a> Row<'a> {
     /// The rule of a column; those above 16 have none.
     #[inline(always)]
     pub fn rule(&self, column: usize) -> Rule<'a>
-        ensures { rule_told (λ e. e.bytes.now) result ≡ slice_index_or self.now.columns column Unset }
+        ensures { rule_told (λ e. e.bytes.now) result
+            ≡ slice_index_or self.now.columns column Unset }
     {
         lent_rule(self.bytes, self.placed.rule(column))
     }

@@ -30,7 +30,8 @@ enum Stop {
 /// program that remembers nothing pays for no other row.
 #[cycle(walk)]
 fn walk<B: Base>(program: &mut PlacedProgram<'_>, pc: u64, base: &B, row: &mut PlacedRow) -> Stop
-    ensures shorter { result ≡ Stop.Restored → length program.new.rest.bytes ≤ length program.old.rest.bytes }
+    ensures shorter { result ≡ Stop.Restored
+        → length program.new.rest.bytes ≤ length program.old.rest.bytes }
     ensures walks { (given : PlacedRow) → B.gives base.now given
         → Walks given pc program.old row.old result program.new row.new }
     ensures untold { result ≡ Stop.Untold → B.gives_up ≡ true }
@@ -67,7 +68,8 @@ fn walk_back<B: Base>(
     base: &B,
     row: &mut PlacedRow,
 ) -> Stop
-    ensures shorter { result ≡ Stop.Restored → length program.new.rest.bytes ≤ length program.old.rest.bytes }
+    ensures shorter { result ≡ Stop.Restored
+        → length program.new.rest.bytes ≤ length program.old.rest.bytes }
     ensures walks { (given : PlacedRow) → B.gives base.now given
         → Walks given pc program.old row.old result program.new row.new }
     ensures untold { result ≡ Stop.Untold → B.gives_up ≡ true }
@@ -141,8 +143,8 @@ fn go_again(fde: &Fde<'_>, pc: u64, row: &mut PlacedRow)
 /// The rules that hold at an address of an FDE, with the places of their expressions.
 #[inline(always)]
 fn rules_at(fde: &Fde<'_>, pc: u64) -> PlacedRow
-    ensures known { (initial : List PlacedStep) × (steps : List PlacedStep) × HasPlacedInitial fde.now initial
-        × HasPlacedProgram fde.now steps }
+    ensures known { (initial : List PlacedStep) × (steps : List PlacedStep)
+        × HasPlacedInitial fde.now initial × HasPlacedProgram fde.now steps }
     ensures row { IsPlacedRowAt fde.now pc result }
 {
     steps_are_ordered();

@@ -1,5 +1,6 @@
 -- The rows of many addresses.
-use Rattle.std.specs.Prelude.{◌≡◌, ◌≢◌, ℕ, ◌<◌, List, length, Bool, true, false, Option, Some, None, replicate, slice_index, slice_index_or}
+use Rattle.std.specs.Prelude.{◌≡◌, ◌≢◌, ℕ, ◌<◌, List, length, Bool, true, false, Option, Some, None}
+use Rattle.std.specs.Prelude.{replicate, slice_index, slice_index_or}
 use Rattle.frame_parse.specs.Sections.{SectionData, FdeData}
 use Rattle.unwind_step.specs.Backtrace.{fde_in}
 use Rattle.frames_c.specs.declared.row.FramesRow.{FramesRow}

@@ -35,7 +35,8 @@ frame_after signal NoRow frame = frame
 frame_after signal Undefined frame = frame
 frame_after signal (NoBytes a) frame = record frame { missing = a }
 
-abbrev pub AnswersOutcome : Option FdeData → List RegionData → FramesFrame → ℕ → FramesFrame → Type 0
+abbrev pub AnswersOutcome
+    : Option FdeData → List RegionData → FramesFrame → ℕ → FramesFrame → Type 0
 AnswersOutcome None memory old result new = (result ≡ 1) × (new ≡ old)
 AnswersOutcome (Some f) memory old result new =
     (outcome : Stepped) × IsNextFrame f (frame_look old) old.columns memory outcome

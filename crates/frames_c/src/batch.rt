@@ -1,9 +1,8 @@
 //! The rows of many addresses at once.
 
-ghost use Rattle.std.specs.Prelude.{◌≡◌, ◌≢◌, ◌<◌, ℕ, length, true, false, slice_index};
-ghost use Rattle.unwind_step.specs.Backtrace.{fde_in};
+ghost use Rattle.std.specs.Prelude.{◌≡◌, length};
 ghost use Rattle.frames_c.specs.Held.{IsHeld, IsVacant, held_section};
-ghost use Rattle.frames_c.specs.Batches.{no_row, IsBatchRow, AreRowsBelow, AnswersRows};
+ghost use Rattle.frames_c.specs.Batches.{IsBatchRow, AreRowsBelow, AnswersRows};
 
 use crate::handle::SectionHandle;
 use crate::row::{FramesRow, row_in};

@@ -4,10 +4,9 @@ ghost use Rattle.std.specs.Prelude.{◌≡◌, ◌⊎◌, ◌<◌, ◌^◌, leng
 ghost use Rattle.eh_hdr.specs.Headers.{IsHeader, IsRefusedHeader};
 ghost use Rattle.eh_hdr.specs.Tables.{IsSortedTable};
 ghost use Rattle.eh_hdr.specs.declared.fault.HeaderFault.TheVariants.{NoMemory};
-ghost use Rattle.frame_parse.specs.Sections.{SectionData};
 ghost use Rattle.frames_c.specs.Held.{IsVacant};
-ghost use Rattle.frames_c.specs.Loads.{IsLoaded, LeadsToLoaded};
-ghost use Rattle.frames_c.specs.Refusals.{IsLoadFault, IsToldRefusal};
+ghost use Rattle.frames_c.specs.Loads.{LeadsToLoaded};
+ghost use Rattle.frames_c.specs.Refusals.{IsToldRefusal};
 ghost use Rattle.frames_c.specs.HeaderAnswers.{header_refused, IsHeaderTold, LeadsWithHeader};
 
 use crate::handle::SectionHandle;

@@ -1,11 +1,8 @@
 //! The row of an address.
 
 ghost use Rattle.std.specs.Prelude.{◌≡◌, length, true, false};
-ghost use Rattle.frame_parse.specs.Sections.{FdeData};
-ghost use Rattle.frame_rows.specs.RowAt.{IsRowAt};
 ghost use Rattle.unwind_step.specs.Backtrace.{fde_in};
 ghost use Rattle.frames_c.specs.Held.{IsHeld, IsVacant, held_section};
-ghost use Rattle.frames_c.specs.Fdes.{is_there};
 ghost use Rattle.frames_c.specs.Rows.{rule_kind, rule_number, cfa_rule_kind, cfa_rule_column};
 ghost use Rattle.frames_c.specs.Rows.{cfa_rule_offset};
 ghost use Rattle.frames_c.specs.Rows.{AreToldRules, IsToldRow, IsRowOf, AnswersRow};

@@ -44,8 +44,8 @@ fn told(fault: TableFault) -> u64
     }
 }
 
-/// Works out all rows of a section, and keeps those that differ. What came of it: 0 the table, which
-/// has a share of the section, 1 memory ran out, 2 more than 65,536 rows differ.
+/// Works out all rows of a section, and keeps those that differ. What came of it: 0 the table,
+/// which has a share of the section, 1 memory ran out, 2 more than 65,536 rows differ.
 #[unsafe(no_mangle)]
 pub extern "C" fn frames_c_row_table(
     alloc: Global,

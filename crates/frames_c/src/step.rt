@@ -1,10 +1,6 @@
 //! One frame of a stack from another.
 
-ghost use Rattle.std.specs.Prelude.{◌≡◌, length};
-ghost use Rattle.std.specs.Option.{unwrap_or};
-ghost use Rattle.frame_parse.specs.Sections.{FdeData};
-ghost use Rattle.unwind_step.specs.Backtrace.{fde_in};
-ghost use Rattle.unwind_step.specs.NextFrame.{IsNextFrame};
+ghost use Rattle.std.specs.Prelude.{◌≡◌};
 ghost use Rattle.frames_c.specs.Held.{IsHeld, IsVacant, held_section};
 ghost use Rattle.frames_c.specs.Recorded.{IsRecorded, HasNone, recorded_in};
 ghost use Rattle.frames_c.specs.FrameSteps.{frame_look, outcome_told, frame_after, AnswersStep};

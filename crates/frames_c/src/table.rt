@@ -1,6 +1,6 @@
 //! The FDEs of a section as a plain table, which any number of threads search at once.
 
-ghost use Rattle.std.specs.Prelude.{◌≡◌, ◌≤◌, ◌<◌, ℕ, Option, length, take, if◌then◌else◌};
+ghost use Rattle.std.specs.Prelude.{◌≡◌, ◌≤◌, ◌<◌, Option, length, take, if◌then◌else◌};
 ghost use Rattle.std.specs.List.Sorted.{IsPermutation, IsNonDecreasingBy};
 ghost use Rattle.std.specs.Option.{unwrap_or};
 ghost use Rattle.frames_c.specs.declared.table.FramesEntry.{FramesEntry};

@@ -1,5 +1,5 @@
 //! The words of nodes that a caller holds, read and written.
-ghost use Rattle.std.specs.Prelude.{◌≡◌, ◌+◌, ◌<◌, ◌≤◌, length, IsSome, IsSomeAnd};
+ghost use Rattle.std.specs.Prelude.{◌≡◌, ◌+◌, ◌<◌, length, IsSome, IsSomeAnd};
 ghost use Rattle.word_rule.specs.Held.{held_of};
 ghost use Rattle.word_rule.specs.NodeTells.{HolderTells};
 ghost use Rattle.word_rule.specs.Places.{CONTENT_WORDS};

@@ -1,6 +1,6 @@
 //! How an update gets its locks, and lets go of them: it waits for each, or it tries each once and
 //! gives up. An update has one body for all of these ways.
-ghost use Rattle.std.specs.Prelude.{◌≡◌, ◌*◌, ◌<◌, ◌%◌, Bool, true, false, MatchBool};
+ghost use Rattle.std.specs.Prelude.{◌≡◌, ◌<◌, Bool, true, false, MatchBool};
 ghost use Rattle.word_rule.specs.CallerData.{surplus};
 ghost use Rattle.word_rule.specs.VersionLocks.{IsHeldClean, IsLock, MayLetGo, after_release};
 ghost use Rattle.word_rule.specs.VersionLocks.{after_release_same};

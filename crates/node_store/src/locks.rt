@@ -4,7 +4,7 @@
 //! tries again for a while, then sets bit 1 and sleeps while the word stays as it was. Who lets go
 //! clears both bits and wakes one sleeper where bit 1 was set; others may sleep on, so one that has
 //! slept sets bit 1 again once it has the lock.
-ghost use Rattle.std.specs.Prelude.{◌≡◌, ◌*◌, ◌<◌, ◌%◌};
+ghost use Rattle.std.specs.Prelude.{◌≡◌, ◌<◌, ◌%◌};
 ghost use Rattle.word_rule.specs.CallerData.{surplus};
 ghost use Rattle.word_rule.specs.VersionLocks.{IsHeldClean, IsLock, MayLetGo, after_release};
 ghost use Rattle.word_rule.specs.VersionLocks.{after_release_same};

@@ -2,7 +2,7 @@
 //!
 //! A node has 36 words. The first is its version; the 35 after it are its kind, its level, its two
 //! fences, its count, and from word 6 on its pairs, its entries, or the next free node.
-ghost use Rattle.std.specs.Prelude.{◌≡◌, ◌+◌, ◌^◌, ◌≤◌, Some, None, option_map, IfSome, nat_le};
+ghost use Rattle.std.specs.Prelude.{◌≡◌, ◌+◌, ◌≤◌, Some, None, option_map, IfSome, nat_le};
 ghost use Rattle.std.specs.Prelude.{if◌then◌else◌};
 ghost use Rattle.tree_shape.specs.NodeData.{Pairs, Entries};
 ghost use Rattle.tree_shape.specs.Nodes.{body_of, IsCounted};

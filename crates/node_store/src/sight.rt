@@ -2,7 +2,7 @@
 //!
 //! Nothing that a sight has is trusted before its version is found again. Then its words are those
 //! of one node that the tree once had, and had still when the version was found again.
-ghost use Rattle.std.specs.Prelude.{◌≡◌, ◌≢◌, ◌+◌, ◌*◌, ◌<◌, ◌≤◌, IfOk, IsErr, length};
+ghost use Rattle.std.specs.Prelude.{◌≡◌, ◌≢◌, ◌+◌, ◌*◌, ◌<◌, IfOk, IsErr, length};
 ghost use Rattle.word_rule.specs.Places.{node_place};
 ghost use Rattle.node_store.specs.declared.sight.Sight.{Sight};
 ghost use Rattle.node_store.specs.Sights.{Checks, IsKept, Peeks};

@@ -1,6 +1,6 @@
 //! A registry for one thread, over plain lists.
 
-ghost use Rattle.std.specs.Prelude.{◌≡◌, ℕ, ◌+◌, ◌^◌, ◌<◌, ◌≤◌, ◌↔◌, ◌==◌, ◌++◌, vec_len, not, []};
+ghost use Rattle.std.specs.Prelude.{◌≡◌, ◌+◌, ◌^◌, ◌<◌, ◌≤◌, ◌↔◌, ◌==◌, ◌++◌, vec_len, not};
 ghost use Rattle.std.specs.Prelude.{IsTrue, IfOk, IfSome, OnErr, MatchOption};
 ghost use Rattle.reg_model.specs.State.{opening, at_base, IsFree, AreDisjoint, IsLowestOverlap};
 ghost use Rattle.reg_model.specs.History.{without};
@@ -75,7 +75,8 @@ impl PlainRegistry {
     /// least first address is named.
     pub fn register(&mut self, member: Member) -> Result<Inserted, NoMemory>
         requires { self.old.updates < 2 ^ 26 }
-        ensures step { IfOk result (λ answer. Step self.old (receipt.Register member answer) self.new) }
+        ensures step { IfOk result
+            (λ answer. Step self.old (receipt.Register member answer) self.new) }
         ensures answers { IfOk result IsDoneOrOverlap }
         ensures err { OnErr result (self.new ≡ self.old) }
     {
@@ -148,7 +149,8 @@ impl PlainRegistry {
 
     /// The registered member that contains the address, or else the fixed or loaded one.
     pub fn find(&self, pc: u64) -> Place
-        ensures registered { Step self.now (receipt.Query half.Registered pc result.registered) self.now }
+        ensures registered { Step self.now (receipt.Query half.Registered pc result.registered)
+            self.now }
         ensures loaded { IfSome result.loaded
             (λ found. Step self.now (receipt.Query half.Loaded pc found) self.now) }
         ensures halves { IsPlace result }

@@ -1,6 +1,6 @@
 //! Members, as C tells them and is told them.
 
-ghost use Rattle.std.specs.Prelude.{◌≡◌, ◌+◌, ◌-◌, ◌^◌, ◌<◌, ◌≤◌, IfSome, IsNone};
+ghost use Rattle.std.specs.Prelude.{◌≡◌, ◌+◌, ◌-◌, ◌<◌, IfSome, IsNone};
 ghost use Rattle.registry_c.specs.Members.{IsGivenMember, given_member, member_told, no_member};
 
 use reg_model::{Member, Span};

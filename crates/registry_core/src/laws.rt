@@ -1,6 +1,6 @@
 //! Laws of calls and rounds. Each is the contract of a function that does nothing.
 ghost use Rattle.std.specs.Prelude.{◌≡◌, ℕ, ◌≤◌, List, [], ◌++◌, length, All};
-ghost use Rattle.std.specs.List.{AllByRecursion, AllZip};
+ghost use Rattle.std.specs.List.{AllZip};
 ghost use mathlib.Core.List.{IsPrefix};
 ghost use Rattle.reg_model.specs.Chain.{Chain, made_count};
 ghost use Rattle.reg_model.specs.Numbers.{AreNumbered};

@@ -1,5 +1,5 @@
 //! The registry, and its calls.
-ghost use Rattle.std.specs.Prelude.{◌≡◌, ◌^◌, ◌<◌, ◌≤◌, ◌↔◌, [], length, None, IfOk, IfErr};
+ghost use Rattle.std.specs.Prelude.{◌≡◌, ◌<◌, ◌≤◌, ◌↔◌, [], length, None, IfOk, IfErr};
 ghost use Rattle.std.specs.Prelude.{IsOk, OnErr, true};
 ghost use Rattle.std.specs.List.{AllByRecursion};
 ghost use Rattle.array_publish.specs.Lookup.{LooksUp};

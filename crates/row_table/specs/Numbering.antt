@@ -1,5 +1,5 @@
--- How rows that differ are numbered: the first ones are looked at one after another, each after them
--- is written out in words, and found by these in an ordered map.
+-- How rows that differ are numbered: the first ones are looked at one after another, each after
+-- them is written out in words, and found by these in an ordered map.
 use Rattle.std.specs.Prelude.{◌≡◌, ◌≢◌, ℕ, ◌<◌, ◌≤◌, List, [], ◌∷◌, length, get_or, Some}
 use Rattle.std.specs.BTreeMap.{BTreeMap, get}
 use Rattle.std.specs.Cmp.Lexicographic.{slice_cmp}
@@ -73,8 +73,8 @@ IsNoneOfTheFirst rows row = (i : ℕ) → i < first_rows → i < length rows →
 abbrev pub compare_words : {K : Type 0} → (K → List ℕ) → K → K → Ordering
 compare_words words a b = slice_cmp nat_cmp (words a) (words b)
 
--- The rows differ, and a map from their words to their numbers has all of them but the first ones, and
--- none that isn't among them.
+-- The rows differ, and a map from their words to their numbers has all of them but the first ones,
+-- and none that isn't among them.
 pub record IsIndexOf (K : Type 0) (words : K → List ℕ) (index : BTreeMap K ℕ)
     (rows : List PlacedRow) : Type 0 where
   pub different : AreDifferent rows

@@ -94,7 +94,8 @@ pub record IsExtended (old new : RowsData) : Type 0 where
 
 -- A row has this number among those that differ; those before it have theirs as before, and nothing
 -- but the row was added.
-pub record IsNumbered (old : List PlacedRow) (row : PlacedRow) (number : ℕ) (new : List PlacedRow) : Type 0 where
+pub record IsNumbered (old : List PlacedRow) (row : PlacedRow) (number : ℕ) (new : List PlacedRow)
+    : Type 0 where
   pub more : List PlacedRow
   pub are : new ≡ old ++ more
   pub alone : All (λ other. other ≡ row) more

@@ -17,9 +17,9 @@ use std::marker::Model;
 /// So many rows are compared one after another. Small sections have no more.
 const FIRST_ROWS: usize = 64;
 
-/// Rows with their numbers, and how a row's number is found: among the first ones by a look at each,
-/// among those after them by its words in an ordered map, which no choice of rows makes slow. The
-/// numbers that were given last are found faster.
+/// Rows with their numbers, and how a row's number is found: among the first ones by a look at
+/// each, among those after them by its words in an ordered map, which no choice of rows makes slow.
+/// The numbers that were given last are found faster.
 #[derive(Drop)]
 pub(crate) struct DistinctRows {
     alloc: Global,

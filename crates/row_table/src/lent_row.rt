@@ -56,7 +56,8 @@ impl<'t> LentRow<'t> {
     /// The rule of a column; those above 16 have none.
     #[inline(always)]
     pub fn rule(&self, column: usize) -> Rule<'t>
-        ensures { rule_told (λ e. e.bytes.now) result ≡ slice_index_or self.now.columns column Unset }
+        ensures { rule_told (λ e. e.bytes.now) result
+            ≡ slice_index_or self.now.columns column Unset }
     {
         self.to_row().rule(column)
     }

@@ -1,8 +1,8 @@
 //! The rows of a section, made once: for those who look up a section many times, as a profiler
 //! does. Above `frame_rows`, which goes through the instructions of an FDE for each row, this crate
 //! goes through all of them once, and keeps of each row where it begins and its number among those
-//! that differ, of which there are few. A lookup then finds the FDE as its section does, and the row
-//! by halves among the FDE's own. What a table has is stated in `specs/Tables`.
+//! that differ, of which there are few. A lookup then finds the FDE as its section does, and the
+//! row by halves among the FDE's own. What a table has is stated in `specs/Tables`.
 #![tactic(auto)]
 
 mod distinct_rows;

@@ -1,6 +1,5 @@
 -- What a run writes, and when it ends how.
-use Rattle.std.specs.Prelude.{◌≡◌, ◌⊎◌, ℕ, ◌<◌, ◌≤◌, List, length, Option, IfSome}
-use Rattle.std.specs.Prelude.{codes}
+use Rattle.std.specs.Prelude.{◌≡◌, ◌⊎◌, ℕ, ◌<◌, ◌≤◌, List, length, Option, IfSome, codes}
 use Rattle.event_script.specs.ScriptData.{ScriptData}
 use Rattle.event_script.specs.Spelling.{IsScript}
 use Rattle.event_script.specs.Refusal.{IsFirstBad}
@@ -99,7 +98,8 @@ Ends words input change Usage = Writes words input Usage change.held change.held
 Ends words input change Script = Writes words input Script change.held change.held_after
 Ends words input change TooLong = Writes words input TooLong change.held change.held_after
 Ends words input change ReadFault =
-    IsCommandLine words Run × Rose change.reads change.reads_after × (change.held_after ≡ change.held)
+    IsCommandLine words Run × Rose change.reads change.reads_after
+    × (change.held_after ≡ change.held)
 Ends words input change WriteFault =
     Rose change.writes change.writes_after × WritesPart words input change.held change.held_after
 Ends words input change NoMemory = WritesPart words input change.held change.held_after

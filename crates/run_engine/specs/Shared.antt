@@ -59,8 +59,8 @@ AreManned bound registry threads callers =
     AllZip (λ events k. IsReady bound registry k × (updates_in events ≤ k.left)) threads callers
 
 -- What rounds make of a caller that stood between two: the receipts of their threads come after
--- those that were joined before, in order of round and thread. They hold in the history that is seen
--- now, and each round keeps its bounds.
+-- those that were joined before, in order of round and thread. They hold in the history that is
+-- seen now, and each round keeps its bounds.
 pub record IsAfterRounds (rounds : List (List (List Receipt))) (k k' : CallerData) : Type 0 where
   pub table : k'.table ≡ k.table
   pub terms : k'.log.terms ≡ k.log.terms

@@ -1,6 +1,6 @@
 //! Takes a source to its end.
 
-ghost use Rattle.std.specs.Prelude.{◌≡◌, ◌≢◌, ℕ, ◌+◌, ◌≤◌, IfOk, IfSome, Err, vec_len};
+ghost use Rattle.std.specs.Prelude.{◌≡◌, ◌≢◌, ◌+◌, ◌≤◌, IfOk, IfSome, Err, vec_len};
 ghost use Rattle.run_engine.specs.Ports.{Rose, Hands, HandsUpTo};
 ghost use Rattle.run_engine.specs.declared.reading.TheConstants.{LIMIT};
 

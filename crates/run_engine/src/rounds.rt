@@ -1,9 +1,9 @@
 //! Plays rounds of threads over one registry.
 
-ghost use Rattle.std.specs.Prelude.{◌≡◌, ◌+◌, ◌*◌, ◌≤◌, All, IfOk, flat_map, length, map, sum};
+ghost use Rattle.std.specs.Prelude.{◌≡◌, ◌+◌, ◌*◌, ◌≤◌, All, IfOk, flat_map, length, map};
 ghost use Rattle.std.specs.List.{AllZip};
 ghost use Rattle.event_script.specs.Lawful.{receipts_of};
-ghost use Rattle.event_script.specs.ScriptData.{IsRound, IsThread};
+ghost use Rattle.event_script.specs.ScriptData.{IsRound};
 ghost use Rattle.registry_core.specs.Rounds.{IsAfterRound, IsBetweenRounds};
 ghost use Rattle.run_engine.specs.Played.{AreImages, IsPlayedThread, IsRightAnswer};
 ghost use Rattle.run_engine.specs.Played.{updates_in, updates_of};

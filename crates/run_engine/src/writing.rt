@@ -1,9 +1,9 @@
 //! Writes a journal, a piece for each line.
 
-ghost use Rattle.std.specs.Prelude.{◌≡◌, ◌≢◌, ℕ, ◌<◌, ◌≤◌, [], length, map, slice_index_or};
+ghost use Rattle.std.specs.Prelude.{◌≡◌, ◌≢◌, ◌<◌, ◌≤◌, [], length, map, slice_index_or};
 ghost use Rattle.std.specs.Prelude.{All, OnOk, OnErr, Err};
 ghost use Rattle.event_script.specs.Text.{IsPrintable, numbered, answer_text, thread_text};
-ghost use Rattle.event_script.specs.Text.{round_text, journal_text, answer_lines, event_line};
+ghost use Rattle.event_script.specs.Text.{journal_text, answer_lines, event_line};
 ghost use Rattle.std.specs.List.{flat_map};
 ghost use Rattle.script_generator.specs.Summaries.{summary_of, summary_text, IsCountable};
 ghost use Rattle.run_engine.specs.Ports.{Rose, Gains, GainsPart};

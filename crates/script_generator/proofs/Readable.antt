@@ -1,6 +1,6 @@
 -- The bytes of a generated section are one.
-use Rattle.std.proofs.Common.{◌≡◌, ◌∙◌, ℕ, suc, ◌+◌, ◌%◌, ◌^◌, ◌<◌, List, [], ◌∷◌, ◌++◌, lt-ltb, Result, Ok, Err, Bool, true, false, Option, None, pos, negsuc, refl, sym, ap, arith, nat_lt}
-use Rattle.std.specs.Prelude.{Some, is_ok, slice_index}
+use Rattle.std.proofs.Common.{◌≡◌, ◌∙◌, ℕ, ◌+◌, ◌%◌, ◌^◌, ◌<◌, List, [], ◌∷◌, ◌++◌, lt-ltb, Ok, Err, true, false, None, negsuc, refl, sym, ap, arith, nat_lt}
+use Rattle.std.specs.Prelude.{is_ok, slice_index}
 use Rattle.std.proofs.lemmas.Bool.{true≢false}
 use Rattle.frame_parse.specs.declared.fault.FrameFault.{FrameFault}
 use Rattle.script_generator.proofs.Runnable.{is_bytes}
@@ -11,14 +11,14 @@ use Rattle.frame_parse.specs.declared.program_state.State.{State}
 use Rattle.frame_parse.specs.Reading.{section_of, read_all}
 use Rattle.eh_bytes.specs.CursorData.{CursorData, text_len, text_of}
 use Rattle.eh_bytes.specs.Leb.{leb_len, uleb_value, sleb_value, uleb_of, sleb_of}
-use Rattle.eh_bytes.specs.Pointer.{encoded_number, encoded_pointer}
+use Rattle.eh_bytes.specs.Pointer.{encoded_number}
 use Rattle.eh_bytes.specs.Steps.{run}
 use Rattle.frame_parse.specs.declared.records.CieRecord.{CieRecord}
-use Rattle.frame_parse.specs.Entries.{Record, FdeRecord, Cie, Fde}
+use Rattle.frame_parse.specs.Entries.{FdeRecord, Cie, Fde}
 use Rattle.frame_parse.specs.Records.{letter, letters, augmentation_data, version, augmentation, return_column, cie, fde, range, lsda, content, record_length, record_at, whole_record}
-use Rattle.frame_parse.specs.Fields.{pointer, optional_pointer, encoding}
+use Rattle.frame_parse.specs.Fields.{pointer, encoding}
 use Rattle.frame_parse.specs.Programs.{cfa_column, operation, extended_operation, step}
-use Rattle.script_generator.specs.SectionBytes.{usual_cie, first_fde, second_fde, end_mark, generated_section_bytes}
+use Rattle.script_generator.specs.SectionBytes.{first_fde, second_fde, end_mark, generated_section_bytes}
 
 abbrev the_cie : CieRecord
 the_cie = record {

@@ -1,11 +1,11 @@
 -- The generated script is within every limit.
 use Rattle.std.proofs.Common.{◌≡◌, ◌∙◌, ℕ, zero, suc, ◌+◌, ◌*◌, ◌^◌, ◌<◌, ◌≤◌, List, [], ◌∷◌, ◌++◌, length, map, All, Bool, true, false, ◌&&◌, nat_lt, refl, sym, ap, subst, arith, length-append, replicate}
-use Rattle.std.specs.Prelude.{reverse, count_by, if◌then◌else◌, slice_index, ◌%◌, ◌==◌}
-use Rattle.std.specs.List.{range_with_len, flat_map, list_all, sum_by}
+use Rattle.std.specs.Prelude.{reverse, count_by, if◌then◌else◌, ◌%◌, ◌==◌}
+use Rattle.std.specs.List.{range_with_len, flat_map, list_all}
 use Rattle.std.proofs.lemmas.Bool.{ltb-true, true≢false}
 use Rattle.std.proofs.lemmas.Nat.{mul-le}
 use Rattle.std.proofs.lemmas.List.Sums.{count_by-le-length}
-use Rattle.std.proofs.lemmas.List.{length-map, length-reverse, length-replicate}
+use Rattle.std.proofs.lemmas.List.{length-map, length-reverse}
 use Rattle.std.proofs.lemmas.List.Concat.{flat_map-cons, length-flat_map}
 use Rattle.std.proofs.lemmas.List.Elements.{All-nil, All-cons, All-head, All-tail, All-append, All-replicate, All-map}
 use Rattle.std.proofs.lemmas.List.FromFn.{length-range_with_len}
@@ -17,7 +17,7 @@ use Rattle.reg_model.specs.SpanData.{IsSpan}
 use Rattle.event_script.specs.ScriptData.{ScriptData, Counts, IsEvent, IsThread, IsRound, IsSnapshot, IsSectionOf, IsRunnable, is_unwind, count_unwinds, counts_of}
 use Rattle.event_script.specs.declared.script.Event.{Event}
 use Rattle.event_script.specs.declared.script.Event.TheVariants.{Register, Deregister, Load, Unload, Find, Unwind}
-use Rattle.script_generator.specs.Generator.{IsGenerated, IsImageCount, generated_base, generated_span, generated_images, images_up, generator_threads, generated_columns, generated_memory, generated_stack, image_order, phase_events, phase_of, generated_events, adding, removing}
+use Rattle.script_generator.specs.Generator.{IsGenerated, IsImageCount, generated_base, generated_span, generated_images, images_up, generator_threads, generated_columns, generated_memory, generated_stack, image_order, phase_events, phase_of, generated_events, removing}
 use Rattle.script_generator.specs.declared.events.Phase.{Phase}
 use Rattle.script_generator.specs.declared.events.Phase.TheVariants.{Adding, FindingEnds, RemovingEven, FindingBases}
 

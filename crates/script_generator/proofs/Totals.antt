@@ -7,10 +7,10 @@ use Rattle.std.proofs.lemmas.List.Sums.{sum_by-cons, sum_by-le-sum_by}
 use Rattle.unwind_step.specs.Backtrace.{hit_of}
 use Rattle.event_script.specs.declared.journal.Answer.{Answer}
 use Rattle.event_script.specs.declared.journal.Answer.TheVariants.{Register, Deregister, Load, Unload, Find, Unwind}
-use Rattle.script_generator.specs.Summaries.{counted_in, counted_total, thread_total, IsCountable, summary_of}
+use Rattle.script_generator.specs.Summaries.{counted_in, counted_total, thread_total, IsCountable}
 use Rattle.script_generator.specs.declared.summing.Summary.{Summary}
 use Rattle.script_generator.specs.declared.counting.Counted.{Counted}
-use Rattle.script_generator.specs.declared.counting.Counted.TheVariants.{Events, Hits, Misses, Frames}
+use Rattle.script_generator.specs.declared.counting.Counted.TheVariants.{Events, Hits, Misses}
 
 abbrev summary_with : ℕ → ℕ → ℕ → ℕ → ℕ → ℕ → Summary
 summary_with t e u h m f = record { threads = t; events = e; updates = u; hits = h; misses = m; frames = f }

@@ -42,7 +42,8 @@ generated_images images = flat_map (λ thread. map (generated_span thread) image
 -- has follows from its bytes.
 pub record AreGeneratedSections (images : List SpanData) (sections : List SectionData) : Type 0
   where
-    pub addresses : map (λ section. section.address) sections ≡ map (λ image. image.first + 4096) images
+    pub addresses
+        : map (λ section. section.address) sections ≡ map (λ image. image.first + 4096) images
     pub bytes : All (λ section. section.bytes ≡ generated_section_bytes) sections
 
 -- ---- recorded stacks

@@ -1,6 +1,6 @@
 //! The counts of a journal.
 
-ghost use Rattle.std.specs.Prelude.{◌≡◌, ◌^◌, ◌<◌, ◌≤◌, length, is_some};
+ghost use Rattle.std.specs.Prelude.{◌≡◌, ◌^◌, ◌<◌, length, is_some};
 ghost use Rattle.std.specs.List.{sum_by};
 ghost use Rattle.unwind_step.specs.Backtrace.{hit_of};
 ghost use Rattle.script_generator.specs.Summaries.{counted_in, summary_of, IsCountable};

@@ -1,10 +1,11 @@
 //! The events of a generated script.
 
-ghost use Rattle.std.specs.Prelude.{◌≡◌, ◌*◌, ◌+◌, ◌<◌, ◌≤◌, ◌++◌, ◌^◌, length, IfOk, All, nat_lt};
+ghost use Rattle.std.specs.Prelude.{◌≡◌, ◌*◌, ◌+◌, ◌<◌, ◌≤◌, ◌++◌, length, IfOk, All, nat_lt};
 ghost use Rattle.std.specs.Prelude.{if◌then◌else◌};
 ghost use Rattle.std.specs.List.{flat_map};
-ghost use Rattle.script_generator.specs.Generator.{IsImageCount, images_up, image_order, phase_events};
-ghost use Rattle.script_generator.specs.Generator.{generated_base, generated_events, adding, removing};
+ghost use Rattle.script_generator.specs.Generator.{IsImageCount, images_up, image_order};
+ghost use Rattle.script_generator.specs.Generator.{phase_events, generated_events, adding};
+ghost use Rattle.script_generator.specs.Generator.{removing};
 
 use crate::images::base_of;
 use event_script::{Event, Thread};

@@ -1,10 +1,10 @@
 //! Two neighbours made into one, or given even shares, or a new fence between them.
 
 ghost use Rattle.std.specs.Prelude.{◌≡◌, ◌+◌, ◌/◌, ◌<◌};
-ghost use Rattle.tree_shape.specs.NodeData.{IsInner, InOrder, AreNeighbours};
+ghost use Rattle.tree_shape.specs.NodeData.{InOrder, AreNeighbours};
 ghost use Rattle.tree_shape.specs.Nodes.{body_of, IsCounted};
 ghost use Rattle.tree_shape.specs.Changes.{both, Fit, Overfill, joined, first_half, last_half};
-ghost use Rattle.tree_shape.specs.Changes.{share_of, size, ends_at_as, ends_at_fence, begins_after};
+ghost use Rattle.tree_shape.specs.Changes.{share_of, ends_at_as, ends_at_fence, begins_after};
 
 use crate::node::{Content, Frame, Node, inner_of, leaf_of};
 use crate::pair::Pair;

@@ -33,7 +33,8 @@ pub fn cut<'a, T: Copy>(
     requires { n ≤ length first.now + length last.now }
     ensures before { result.0.0.now ++ result.0.1.now ≡ take n (first.now ++ last.now) }
     ensures before_len { length result.0.0.now + length result.0.1.now ≡ n }
-    ensures after_len { length result.1.0.now + length result.1.1.now + n ≡ length first.now + length last.now }
+    ensures after_len { length result.1.0.now + length result.1.1.now + n
+        ≡ length first.now + length last.now }
     ensures after { result.1.0.now ++ result.1.1.now ≡ drop n (first.now ++ last.now) }
 {
     if n <= first.len() {

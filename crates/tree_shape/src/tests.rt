@@ -1,9 +1,8 @@
 //! The calls run on outside values, and a plain tree over an array of nodes run by these calls.
 
-ghost use Rattle.std.specs.Prelude.{◌≡◌, ◌≤◌, ◌<◌, ◌↔◌, length, IsTrue, IsSome};
+ghost use Rattle.std.specs.Prelude.{◌<◌, ◌↔◌, IsTrue, IsSome};
 ghost use Rattle.reg_model.specs.State.{at_base};
 ghost use Rattle.tree_shape.specs.NodeData.{IsLeaf, IsInner, InOrder, EntriesWithin, Cut};
-ghost use Rattle.tree_shape.specs.NodeData.{entries_of, pairs_of};
 ghost use Rattle.tree_shape.specs.Changes.{Fit, Overfill};
 
 use crate::edits::{drop_pair, put_entry, put_pair, set_separator, take_entry};

@@ -174,8 +174,8 @@ pub fn step(fde: &Fde<'_>, look: u64, regs: &Regs, memory: &Memory) -> Stepped
     follow(&row, &Callee { regs, memory })
 }
 
-/// What comes of a frame by the FDE of the address where it was looked up, in a section or in a table
-/// made of it. None where no FDE covers the address. It takes no memory.
+/// What comes of a frame by the FDE of the address where it was looked up, in a section or in a
+/// table made of it. None where no FDE covers the address. It takes no memory.
 pub fn step_at<S: RowSource>(
     source: &S,
     look: u64,

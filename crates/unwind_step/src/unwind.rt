@@ -1,7 +1,7 @@
 //! Whole backtraces.
 
 ghost use Rattle.std.specs.Prelude.{◌≡◌, ℕ, ◌+◌, ◌<◌, ◌≤◌, [], ◌∷◌, ◌++◌, All, IfOk, IfErr, OnErr};
-ghost use Rattle.std.specs.Prelude.{length, vec_len, vec_capacity, slice_index};
+ghost use Rattle.std.specs.Prelude.{length, vec_len, vec_capacity};
 ghost use Rattle.reg_model.specs.Receipt.{IsPlace};
 ghost use Rattle.unwind_step.specs.Backtrace.{hit_of, IsBelow, Shows, IsCallingFrame, IsEnd};
 ghost use Rattle.unwind_step.specs.Backtrace.{Unfolds};

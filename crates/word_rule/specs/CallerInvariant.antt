@@ -36,7 +36,8 @@ pub record IsCaller (left spare seen : ℕ) (versions : List ℕ) (names : Names
     pub counted : me.0.budget.credit ≤ CREDIT
     pub names_are : AreNamesOf names me.0.lineage
     pub wide : length versions ≡ me.0.terms.nodes + 1
-    pub loader : IfSome me.0.loader (λ h. (h.version ≡ slice_index versions 0) × (h.version < 2 ^ 63))
+    pub loader
+        : IfSome me.0.loader (λ h. (h.version ≡ slice_index versions 0) × (h.version < 2 ^ 63))
     pub nodes : AreVersionsOf versions me.0.holdings.held
 
 -- A note's log has what its maker had seen, and names; it may do nothing and has done nothing.

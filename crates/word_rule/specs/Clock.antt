@@ -52,8 +52,8 @@ pub record ClockTells (t : Terms) (found : ℕ) (v : Log) (past : List Update) :
   -- where nobody else can step, nothing was accepted since
   pub alone : IsAlone v.lineage → past ≡ v.past
 
--- What a load of the clock asks for: the refusal of an update of the tree, that held live leaves show
--- it; of one of the loader's, that the active copy and the fixed members refuse it, under the
+-- What a load of the clock asks for: the refusal of an update of the tree, that held live leaves
+-- show it; of one of the loader's, that the active copy and the fixed members refuse it, under the
 -- loader's lock.
 abbrev pub MayAsk : Terms → Ask → Log → Type 0
 MayAsk t (ask.Refused (update.Register m)) v =

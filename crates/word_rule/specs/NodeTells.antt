@@ -1,6 +1,6 @@
 -- What steps on nodes tell.
-use Rattle.std.specs.Prelude.{◌≡◌, ◌≢◌, ℕ, ◌-◌, ◌<◌, ◌≤◌, ◌%◌, false, IsTrue, List, [], length, IfSome}
-use Rattle.std.specs.Prelude.{Bool, IsSome, Some, None}
+use Rattle.std.specs.Prelude.{◌≡◌, ◌≢◌, ℕ, ◌-◌, ◌<◌, ◌≤◌, ◌%◌, false, IsTrue, List, [], length}
+use Rattle.std.specs.Prelude.{IfSome, Bool, IsSome, Some, None}
 use Rattle.std.specs.List.{AllByRecursion}
 use Rattle.reg_model.specs.History.{state_after}
 use Rattle.reg_model.specs.declared.answer.Update.{Update}
@@ -56,8 +56,8 @@ abbrev pub SightTells : ℕ → ℕ → Log → Type 0
 SightTells n found v =
     IfSome (sight_of n v.sights.nodes) (λ s. s.version ≡ found → IsOfNode v.terms v.past s)
 
--- What a node's version tells one that is alone. It isn't locked where the caller holds no node, and
--- it is as each load of it found it since the caller last changed anything.
+-- What a node's version tells one that is alone. It isn't locked where the caller holds no node,
+-- and it is as each load of it found it since the caller last changed anything.
 abbrev pub AloneTells : ℕ → ℕ → Log → Type 0
 AloneTells n found v = IsAlone v.lineage
     → (v.holdings.held ≡ [] → found % 2 ≡ 0) × AllByRecursion
@@ -83,8 +83,8 @@ abbrev pub OutTells : ℕ → Log → Type 0
 OutTells n v = IsTrue (is_among v.holdings.out n)
     → (n ≢ 0) × AllByRecursion (λ h. h.node ≡ n → h.mark ≡ None) v.holdings.held
 
--- What a caller knows of the tree by what it holds: there is a lawful one in which each node that it
--- holds marked live is live with its settled content, and none that it has out is.
+-- What a caller knows of the tree by what it holds: there is a lawful one in which each node that
+-- it holds marked live is live with its settled content, and none that it has out is.
 pub record KnowsTree (holdings : Holdings) : Type 0 where
   pub contents : Contents
   pub live : ℕ → Bool
@@ -93,9 +93,9 @@ pub record KnowsTree (holdings : Holdings) : Type 0 where
       × (contents h.node ≡ h.settled)) holdings.held
   pub dead : (n : ℕ) → IsTrue (is_among holdings.out n) → live n ≡ false
 
--- What the lock of a node tells: it wasn't held before, and its words spell its settled content. Where it is marked live, it
--- has that place in the tree; where it is the first free node, as it is known under the root's
--- lock, it is a free one.
+-- What the lock of a node tells: it wasn't held before, and its words spell its settled content.
+-- Where it is marked live, it has that place in the tree; where it is the first free node, as it is
+-- known under the root's lock, it is a free one.
 pub record IsTakenNode (n : ℕ) (v : Log) (words : List ℕ) (settled : NodeData) : Type 0 where
   pub within : n < v.terms.nodes
   pub new : held_of n v.holdings.held ≡ None

@@ -53,7 +53,8 @@ entries_at words at (suc count) =
 -- what a node of this kind with this count holds
 abbrev pub body_of_kind : List ℕ → ℕ → ℕ → Option Body
 body_of_kind words kind count =
-    if kind == 0 then (if nat_le count PAIRS then option_map Pairs (pairs_at words 6 count) else None)
+    if kind == 0
+    then (if nat_le count PAIRS then option_map Pairs (pairs_at words 6 count) else None)
     else (if kind == 1
     then (if nat_le count ENTRIES then option_map Entries (entries_at words 6 count) else None)
     else (if (kind == 2) && is_short (node_word words 6)

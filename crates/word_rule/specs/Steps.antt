@@ -2,8 +2,8 @@
 -- and what they ask for.
 use Rattle.std.specs.Prelude.{◌≡◌, ◌≢◌, ◌↔◌, Contains, is_some, option_map, ℕ, ◌+◌, ◌-◌, ◌<◌, ◌≤◌}
 use Rattle.std.specs.Prelude.{◌⊎◌, ◌%◌, slice_index, IfSome, IsNone}
-use Rattle.std.specs.Prelude.{Bool, true, false, ◌==◌, ◌&&◌, IsTrue, List, [], ◌∷◌, ◌++◌, length, Option, Some}
-use Rattle.std.specs.Prelude.{None, IsSome, IsSomeAnd, slice_set, if◌then◌else◌}
+use Rattle.std.specs.Prelude.{Bool, true, false, ◌==◌, ◌&&◌, IsTrue, List, [], ◌∷◌, ◌++◌, length}
+use Rattle.std.specs.Prelude.{Option, Some, None, IsSome, IsSomeAnd, slice_set, if◌then◌else◌}
 use Rattle.std.specs.List.{find}
 use Rattle.reg_model.specs.History.{state_after}
 use mathlib.Core.List.{IsPrefix}

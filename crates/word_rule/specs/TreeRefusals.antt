@@ -1,5 +1,5 @@
--- What a caller shows, by the leaves that it holds, when it asks for the refusal of an update of the
--- tree.
+-- What a caller shows, by the leaves that it holds, when it asks for the refusal of an update of
+-- the tree.
 use Rattle.std.specs.Prelude.{◌≡◌, ℕ, ◌+◌, ◌≤◌, ◌⊎◌, false, IsTrue, IsSome, IsNone, List, [], ◌∷◌}
 use Rattle.std.specs.Prelude.{◌++◌, length, flat_map, max, Contains}
 use Rattle.std.specs.List.{AllByRecursion}

@@ -1,5 +1,5 @@
 //! Steps on the clock and on the loader's copies.
-ghost use Rattle.std.specs.Prelude.{◌≡◌, ℕ, ◌+◌, ◌*◌, ◌<◌, ◌≤◌, length, IfSome, IsSomeAnd};
+ghost use Rattle.std.specs.Prelude.{◌≡◌, ℕ, ◌+◌, ◌<◌, ◌≤◌, length, IfSome, IsSomeAnd};
 ghost use Rattle.word_rule.specs.CallerData.{due};
 ghost use Rattle.word_rule.specs.Places.{copy_place, word_count};
 ghost use Rattle.word_rule.specs.Steps.{AfterPublish, IsHeldWord, MayPublish, MayStoreCopy};

@@ -1,5 +1,5 @@
 //! Steps on the free head, by one writer at a time.
-ghost use Rattle.std.specs.Prelude.{◌≡◌, ◌*◌, ◌<◌, ◌≤◌, IfSome};
+ghost use Rattle.std.specs.Prelude.{◌≡◌, ◌<◌, ◌≤◌, IfSome};
 ghost use Rattle.word_rule.specs.Steps.{HeadStored, MayStoreHead, after_head_load};
 
 use crate::caller::Caller;

@@ -1,5 +1,5 @@
 //! How the words are made and taken apart.
-ghost use Rattle.std.specs.Prelude.{◌≡◌, ◌+◌, ◌*◌, ◌^◌, ◌<◌, ◌≤◌, [], length, None, IfOk};
+ghost use Rattle.std.specs.Prelude.{◌≡◌, ◌+◌, ◌<◌, ◌≤◌, [], length, None, IfOk};
 ghost use Rattle.std.specs.List.{AllByRecursion};
 ghost use Rattle.reg_model.specs.SpanData.{IsSpan};
 ghost use Rattle.segment_array.specs.Ascending.{AscendFrom};
@@ -38,7 +38,8 @@ impl Words {
         requires nodes { (4 ≤ nodes) × (nodes ≤ 16384) }
         requires loads { (1 ≤ loads) × (loads ≤ 1024) }
         requires ascending { AscendFrom 0 fixed.items }
-        requires members { AllByRecursion (λ m. IsSpan m.span × (m.payload < payloads)) fixed.items }
+        requires members { AllByRecursion (λ m. IsSpan m.span × (m.payload < payloads))
+            fixed.items }
         ensures terms { IfOk result
             (λ made. made.0.terms
             ≡ record { nodes = nodes; loads = loads; payloads = payloads; fixed = fixed.items }) }
@@ -74,7 +75,8 @@ impl Words {
         requires table { me.table ≡ self.table }
         requires first { me.log.lineage.name ≡ [] }
         requires alone { IsAlone me.log.lineage }
-        requires idle { (me.log.loader ≡ None) × (me.log.holdings.held ≡ []) × (me.log.holdings.out ≡ []) }
+        requires idle { (me.log.loader ≡ None) × (me.log.holdings.held ≡ [])
+            × (me.log.holdings.out ≡ []) }
         ensures number { result ≡ length me.log.past }
         ensures whole { IsWhole me.log }
     {

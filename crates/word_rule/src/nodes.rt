@@ -64,7 +64,8 @@ impl Words {
     pub(crate) fn load_node_version(&self, me: &mut Caller, node: u32, ask: Ask) -> u64
         requires table { me.old.table ≡ self.now.table }
         requires inside { node < self.now.terms.nodes }
-        ensures log { me.new ≡ record me.old { log = after_node_version ask node result me.old.log } }
+        ensures log { me.new
+            ≡ record me.old { log = after_node_version ask node result me.old.log } }
         ensures terms { me.old.log.terms ≡ self.now.terms }
         ensures tells { SightTells node result me.old.log }
         ensures held { IfSome (held_of node me.old.log.holdings.held)

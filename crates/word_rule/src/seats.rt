@@ -1,5 +1,5 @@
 //! Callers and notes that come and go.
-ghost use Rattle.std.specs.Prelude.{◌≡◌, ◌≢◌, ◌+◌, ◌-◌, ◌*◌, ◌^◌, ◌<◌, ◌≤◌, [], length, None};
+ghost use Rattle.std.specs.Prelude.{◌≡◌, ◌+◌, ◌-◌, ◌*◌, ◌<◌, ◌≤◌, [], None};
 ghost use Rattle.std.specs.Prelude.{OnErr, IfOk, IfErr, OnOk, false};
 ghost use Rattle.word_rule.specs.Places.{ALLOWANCE, CALL_CREDIT, CREDIT};
 ghost use Rattle.word_rule.specs.Logs.{is_spent, after_split, split_off, after_note, note_of};
@@ -73,7 +73,8 @@ impl Words {
     /// Makes a note of what a caller has seen.
     pub fn note(&self, alloc: Global, me: &mut Caller) -> Result<Note, NoMemory>
         requires { me.old.table ≡ self.now.table }
-        ensures note { IfOk result (λ note. note ≡ record { table = me.old.table; log = note_of me.old.log }) }
+        ensures note { IfOk result
+            (λ note. note ≡ record { table = me.old.table; log = note_of me.old.log }) }
         ensures me { OnOk result (me.new ≡ record me.old { log = after_note me.old.log }) }
         ensures err { OnErr result (me.new ≡ me.old) }
     {

@@ -1,17 +1,15 @@
 //! The words, and the steps on version locks.
-ghost use Rattle.std.specs.Prelude.{◌≡◌, ◌≢◌, ◌+◌, ◌*◌, ◌%◌, ◌<◌, ◌≤◌, ℕ, List, IfOk, IfErr};
+ghost use Rattle.std.specs.Prelude.{◌≡◌, ◌≢◌, ◌+◌, ◌%◌, ◌<◌, ◌≤◌, IfOk, IfErr};
 ghost use Rattle.std.specs.Prelude.{IfSome, IsSome, IsSomeAnd, false};
-ghost use Rattle.word_rule.specs.Logs.{IsTaken, after_load, after_loader_lock, after_write};
+ghost use Rattle.word_rule.specs.Logs.{after_load, after_write};
 ghost use Rattle.word_rule.specs.Logs.{after_loader_release, after_loader_release_same};
-ghost use Rattle.word_rule.specs.declared.log.LoaderHolding.{LoaderHolding};
 ghost use Rattle.word_rule.specs.CallerData.{surplus};
 ghost use Rattle.word_rule.specs.Places.{LOADER};
 ghost use Rattle.word_rule.specs.Callers.{IsLockedAt};
 ghost use Rattle.word_rule.specs.VersionLocks.{IsHeldClean, IsLock, IsLockTaken, LoaderTaken};
 ghost use Rattle.word_rule.specs.VersionLocks.{LockAloneTells, MayLetGo};
 ghost use Rattle.word_rule.specs.VersionLocks.{VersionTells, WasLockedAs, after_release};
-ghost use Rattle.word_rule.specs.VersionLocks.{after_release_same, after_version};
-ghost use Rattle.word_rule.specs.VersionLocks.{lock_place};
+ghost use Rattle.word_rule.specs.VersionLocks.{after_release_same, after_version, lock_place};
 
 use crate::caller::Caller;
 use crate::log::{Ask, LockId, Log};

@@ -1,6 +1,6 @@
 //! What is told of a script that is refused.
 
-ghost use Rattle.std.specs.Prelude.{◌≡◌, ℕ, ◌++◌, IfOk, OnOk};
+ghost use Rattle.std.specs.Prelude.{◌≡◌, ◌++◌, IfOk, OnOk};
 ghost use Rattle.std.specs.String.{string_bytes};
 ghost use Rattle.event_script.specs.FaultText.{fault_text, section_fault_at, reason_text};
 ghost use Rattle.event_script.specs.FaultText.{section_fault_text};

@@ -7,7 +7,7 @@ ghost use Rattle.event_script.specs.declared.limits.TheConstants.{MOST_SECTION_B
 ghost use Rattle.event_script.specs.declared.reader.kinds.Stage.TheVariants as stage;
 ghost use Rattle.event_script.specs.declared.reader.statement.Statement.TheVariants as statement;
 ghost use Rattle.event_script.specs.Draft.{no_snapshot, nothing_known, threads_so_far};
-ghost use Rattle.event_script.specs.Draft.{after_snapshot, after_round, with_statement};
+ghost use Rattle.event_script.specs.Draft.{after_snapshot, after_round};
 ghost use Rattle.event_script.specs.Reading.{GivesLine, LeavesDraft, spoken_added, section_or};
 ghost use Rattle.event_script.specs.Reading.{image_added, last_fixed, is_above, fixed_added};
 ghost use Rattle.event_script.specs.Reading.{snapshot_added, memory_added, is_named, added};

@@ -1,6 +1,6 @@
 //! What a line says, whatever stands before it.
 
-ghost use Rattle.std.specs.Prelude.{◌≡◌, length, IfSome, MatchOption, None, Some};
+ghost use Rattle.std.specs.Prelude.{◌≡◌, length, MatchOption, None, Some};
 ghost use Rattle.event_script.specs.Fields.{fields_after};
 ghost use Rattle.event_script.specs.Reading.{GivesLine, one_decimal, one_hex, image_fields};
 ghost use Rattle.event_script.specs.Reading.{snapshot_fields, memory_fields, fieldless};

@@ -17,7 +17,9 @@ find 1010\nload 2\nunwind 1\nunload 3000\nderegister 1010\nend\n";
 /// A script with a section that ends after a record (section_without_end_mark), and how many bytes
 /// that has.
 const SECTION: (&[u8], usize) = (
-    b"frames 1\nnodes 16\nloads 8\nimage 0 1000 30 2000 1400000000000000017a5200017810011b0c0708900100001c0000001c000000e0efffff2000000000410e108602430d0600000000000000140000003c000000e0efffff100000000000000000000000\nround\nthread\nend\n",
+    b"frames 1\nnodes 16\nloads 8\nimage 0 1000 30 2000 1400000000000000017a5200017810011b0c0708900\
+100001c0000001c000000e0efffff2000000000410e108602430d0600000000000000140000003c000000e0efffff1000\
+00000000000000000000\nround\nthread\nend\n",
     80,
 );
 

@@ -1,6 +1,6 @@
 //! What one instruction spells, read where it stands.
 
-ghost use Rattle.std.specs.Prelude.{◌≡◌, ◌<◌, ◌≤◌, ◌*◌, ◌%◌, ◌^◌, ◌⊎◌, nat_lt, if◌then◌else◌, IfOk};
+ghost use Rattle.std.specs.Prelude.{◌≡◌, ◌<◌, ◌*◌, ◌⊎◌, IfOk};
 ghost use Rattle.eh_bytes.specs.CursorData.{Gives};
 ghost use Rattle.frame_parse.specs.declared.instructions.ReadRuleWith.TheVariants as rules;
 ghost use Rattle.frame_parse.specs.Programs.{other, factored, set, restore, cfa_column};

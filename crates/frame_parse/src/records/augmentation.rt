@@ -2,7 +2,7 @@
 
 ghost use Rattle.std.specs.Prelude.{◌≡◌};
 ghost use Rattle.eh_bytes.specs.CursorData.{Gives};
-ghost use Rattle.frame_parse.specs.Records.{is_letter, is_one_of, are_letters, is_augmentation};
+ghost use Rattle.frame_parse.specs.Records.{is_one_of, are_letters, is_augmentation};
 ghost use Rattle.frame_parse.specs.Records.{letter, letters, augmentation_data};
 
 use super::fields::{code_encoding, data, data_encoding, optional_pointer, uleb};

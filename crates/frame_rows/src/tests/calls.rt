@@ -1,5 +1,5 @@
-//! Six functions, some with early returns, made by `gcc -O2` and linked without a linkage table, and
-//! the rows that `readelf --debug-dump=frames-interp` (binutils 2.40) shows of them.
+//! Six functions, some with early returns, made by `gcc -O2` and linked without a linkage table,
+//! and the rows that `readelf --debug-dump=frames-interp` (binutils 2.40) shows of them.
 
 use super::{Seen, Shown};
 

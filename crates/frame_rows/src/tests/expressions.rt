@@ -1,4 +1,5 @@
-//! Sections with expressions, and their rows, which `readelf` doesn't show whole: worked out by hand.
+//! Sections with expressions, and their rows, which `readelf` doesn't show whole: worked out by
+//! hand.
 
 use super::{ToldCfaRule, ToldRule};
 

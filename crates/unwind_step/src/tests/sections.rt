@@ -1,6 +1,6 @@
-//! Sections and memory written by hand. S1, S2 and S3 are those of the cases; EXPRESSIONS was worked
-//! out by hand; of the others `readelf --debug-dump=frames-interp` (binutils 2.40) shows the rows
-//! that are told here.
+//! Sections and memory written by hand. S1, S2 and S3 are those of the cases; EXPRESSIONS was
+//! worked out by hand; of the others `readelf --debug-dump=frames-interp` (binutils 2.40) shows the
+//! rows that are told here.
 
 /// A function with a frame pointer, from 0x1000 on, and one without, from 0x1020 on. At 0x2000.
 pub(crate) const S1: [u8; 84] = [
@@ -21,8 +21,8 @@ pub(crate) const S2: [u8; 68] = [
     0x00, 0x00, 0x00, 0x00,
 ];
 
-/// A frame that a signal interrupted, from 0x5000 on: the CFA is saved 16 above column 7, and column
-/// 16 is saved 24 above it. At 0x6000.
+/// A frame that a signal interrupted, from 0x5000 on: the CFA is saved 16 above column 7, and
+/// column 16 is saved 24 above it. At 0x6000.
 pub(crate) const S3: [u8; 56] = [
     0x14, 0x00, 0x00, 0x00, 0x00, 0x00, 0x00, 0x00, 0x01, 0x7a, 0x52, 0x53, 0x00, 0x01, 0x78, 0x10,
     0x01, 0x1b, 0x0c, 0x07, 0x08, 0x90, 0x01, 0x00, 0x18, 0x00, 0x00, 0x00, 0x1c, 0x00, 0x00, 0x00,

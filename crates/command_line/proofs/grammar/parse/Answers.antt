@@ -1,7 +1,7 @@
-use Rattle.std.proofs.Common.{◌≡◌, ◌∙◌, ap, sym, map, refl, List, ℕ, true, false}
+use Rattle.std.proofs.Common.{◌≡◌, ◌∙◌, ap, sym, map, List, ℕ, true, false}
 use Rattle.std.specs.String.{string_bytes}
 use Rattle.std.proofs.lemmas.Bool.{false≢true}
-use Rattle.clap.specs.Simple.{App, is_simple, app_of, subcommand_of}
+use Rattle.clap.specs.Simple.{App, is_simple, subcommand_of}
 use Rattle.clap.specs.Takes.{takes}
 use Rattle.clap.specs.declared.error.kind.ErrorKind.TheVariants.{OutOfMemory}
 use Rattle.command_line.specs.Grammar.{words_read}

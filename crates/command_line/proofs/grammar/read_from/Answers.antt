@@ -1,6 +1,5 @@
-use Rattle.std.proofs.Common.{◌≡◌, ◌∙◌, ap, sym, codes, Bool, not, true, false, option_map}
+use Rattle.std.proofs.Common.{◌∙◌, ap, sym, codes, not, false, option_map}
 use Rattle.std.proofs.lemmas.Bool.{not-false}
-use Rattle.clap.specs.Walk.{rows_of}
 use Rattle.clap.specs.Matches.{found_of}
 use Rattle.clap.proofs.WalkLemmas.{first_value-rows}
 use Rattle.command_line.specs.Grammar.{words_of}

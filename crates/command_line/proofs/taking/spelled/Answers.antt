@@ -1,4 +1,4 @@
-use Rattle.std.proofs.Common.{◌≡◌, ap, ◌∙◌, sym, codes, arith, List, ℕ, [], ◌∷◌, map, length, refl}
+use Rattle.std.proofs.Common.{◌≡◌, ap, ◌∙◌, sym, codes, arith, length}
 use Rattle.std.specs.String.{string_bytes}
 use Rattle.std.specs.Str.{bytes_eq}
 use Rattle.std.proofs.lemmas.Bool.{false≢true}

@@ -1,4 +1,4 @@
-use Rattle.std.proofs.Common.{◌≡◌, take, length}
+use Rattle.std.proofs.Common.{◌≡◌, take}
 use Rattle.std.specs.List.{sum_by}
 use Rattle.script_generator.specs.Summaries.{counted_in}
 use Rattle.script_generator.proofs.counting.count_in_thread.Given as goal

@@ -1,4 +1,4 @@
-use Rattle.std.proofs.Common.{◌≡◌, ◌∙◌, sym, refl}
+use Rattle.std.proofs.Common.{◌∙◌, sym, refl}
 use Rattle.script_generator.specs.declared.counting.Counted.TheVariants.{Events, Hits, Misses, Frames}
 use Rattle.script_generator.proofs.Totals.{few, hit_once, miss_once, total_is, threads_are, summary_is}
 use Rattle.script_generator.proofs.counting.summary.Goals as goal

@@ -1,7 +1,5 @@
-use Rattle.std.proofs.Common.{◌≡◌, ◌∙◌, ◌<◌, ap, sym, subst, refl, All, List, ℕ, [], ◌∷◌, ◌++◌}
-use Rattle.reg_model.specs.SpanData.{SpanData}
-use Rattle.event_script.specs.ScriptData.{ScriptData}
-use Rattle.script_generator.specs.Generator.{IsGenerated, generated_images, images_up}
+use Rattle.std.proofs.Common.{◌≡◌, ◌∙◌, ◌<◌, ap, sym, subst, refl, All, [], ◌∷◌, ◌++◌}
+use Rattle.script_generator.specs.Generator.{generated_images, images_up}
 use Rattle.script_generator.proofs.Runnable.{up_within, images_low, runnable}
 use Rattle.script_generator.proofs.generating.generate.Goals as goal
 

@@ -1,4 +1,4 @@
-use Rattle.std.proofs.Common.{◌∙◌, ◌++◌, ◌∷◌, [], List, ℕ, map, sym, ap}
+use Rattle.std.proofs.Common.{◌∙◌, ◌++◌, ◌∷◌, [], List, map, sym, ap}
 use Rattle.std.specs.List.{range_with_len}
 use Rattle.event_script.specs.declared.script.Event.{Event}
 use Rattle.script_generator.specs.Generator.{generated_events}

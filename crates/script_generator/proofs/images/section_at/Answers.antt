@@ -1,4 +1,4 @@
-use Rattle.std.proofs.Common.{◌≡◌, refl, inl, inr, arith, ◌+◌, ◌<◌, ◌≤◌, length}
+use Rattle.std.proofs.Common.{◌≡◌, inl, inr, arith, ◌+◌}
 use Rattle.script_generator.specs.SectionBytes.{generated_section_bytes}
 use Rattle.script_generator.proofs.Readable.{never_refused, bytes_are}
 use Rattle.script_generator.proofs.images.section_at.Goals as goal
