@@ -25,13 +25,6 @@ starts-length (f ∷ fs) = ap suc (starts-length fs)
 pub place_told : (fs : List FdeRecord) (k r : ℕ) → option_map (λ (f : FdeRecord). f.start) (slice_get fs k) ≡ Some r → get_or (fde_starts fs) k 0 ≡ r
 place_told fs k r e = get_or_from_slice_get (fde_starts fs) k r 0 (slice_get-map (λ (f : FdeRecord). f.start) fs k ∙ e)
 
-pub up_to : (ns : List ℕ) (i j : ℕ) → IsAscending ns → i ≤ j → j < length ns → get_or ns i 0 ≤ get_or ns j 0
-up_to ns i j up le lt =
-    elim (cases_lt i j) [
-      | inl below ↦ let less = up i j below lt in omega arith
-      | inr above ↦ let same : i ≡ j = omega arith in rw same (omega arith)
-    ]
-
 -- the places before a number are below a place, and those from it on are not
 pub record IsFirstFrom (fs : List FdeRecord) (place k : ℕ) : Type 0 where
   pub within : k ≤ length fs

@@ -7,7 +7,7 @@ use Rattle.std.proofs.lemmas.Option.{slice_get_within, slice_get-get_or}
 use Rattle.frame_parse.specs.Sections.{IsAscending}
 use Rattle.eh_hdr.specs.declared.table.TableEntry.{TableEntry}
 use Rattle.eh_hdr.specs.Tables.{IsLastUpTo, locations}
-use Rattle.eh_hdr.proofs.Places.{up_to}
+use Rattle.frame_parse.proofs.Searches.{up_to}
 use Rattle.eh_hdr.proofs.Tables.{location_at}
 
 -- all locations behind the `size` from `base` on are above the address, and that at `base` isn't,

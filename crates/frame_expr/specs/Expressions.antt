@@ -4,7 +4,7 @@ use Rattle.std.specs.Prelude.{if◌then◌else◌}
 use Rattle.eh_bytes.specs.declared.fault.ByteFault.{ByteFault}
 use Rattle.eh_bytes.specs.declared.fault.ByteFault.TheVariants as bytes
 use Rattle.eh_bytes.specs.CursorData.{CursorData}
-use Rattle.eh_bytes.specs.Grammar.{Part, give, here, check, found, lift, ended, bytes_of}
+use Rattle.eh_bytes.specs.Grammar.{Part, ◌>>=◌, give, here, check, found, lift, ended, bytes_of}
 use Rattle.eh_bytes.specs.Fields.{fixed}
 use Rattle.eh_bytes.specs.Steps.{AreSteps, steps_from}
 use Rattle.frame_expr.specs.declared.operation.Operation.{Operation}

@@ -9,7 +9,7 @@ use Rattle.eh_bytes.specs.Fields.{fixed}
 use Rattle.eh_bytes.specs.Pointer.{is_pointer, encoded_number, base_of}
 use Rattle.frame_parse.specs.declared.fault.RecordFault.{RecordFault}
 use Rattle.frame_parse.specs.declared.fault.RecordFault.TheVariants.{Short, TooWide, Encoding}
-use Rattle.eh_bytes.specs.Grammar.{Part, give, here, check, lift}
+use Rattle.eh_bytes.specs.Grammar.{Part, ◌>>=◌, give, here, check, lift}
 
 -- a field's fault as the record's
 abbrev pub field_fault : ByteFault → RecordFault

@@ -17,6 +17,7 @@ use Rattle.frame_rows.specs.Rows.{unset}
 use Rattle.frame_rows.specs.Rules.{RowData, RuleData, CfaRuleData, PlacedRule, rule_told, cfa_rule_told, lent_row}
 use Rattle.row_table.specs.Tables.{IsNumberAt}
 use Rattle.unwind_step.specs.Backtrace.{fde_in}
+use Rattle.unwind_step.proofs.OneStep.{fde_with}
 use Rattle.frames_c.specs.Rows.{rule_kind, rule_number, cfa_rule_kind, cfa_rule_column, cfa_rule_offset, column_rule, AreToldRules, IsToldRow, IsToldPlaced, AnswersRow}
 use Rattle.frames_c.specs.declared.row.FramesRow.{FramesRow}
 
@@ -109,9 +110,6 @@ told_at (x ∷ xs) (y ∷ ys) zero d e are lt = are.0
 told_at (x ∷ xs) (y ∷ ys) (suc k) d e are lt = told_at xs ys k d e are.1 (omega arith)
 
 -- ---- the row of an address
-
-abbrev fde_with : ℕ → List ℕ → FdeRecord → FdeData
-fde_with section bytes entry = record { section = section; bytes = bytes; entry = entry }
 
 pub none_covers : (s : SectionData) (pc : ℕ) (out : FramesRow) → first_cover pc s.fdes ≡ None → AnswersRow (fde_in pc s) pc false out out
 none_covers s pc out none = subst (λ (o : Option FdeRecord). AnswersRow (option_map (λ (e : FdeRecord). fde_with s.address s.bytes e) o) pc false out out) (sym none) (refl, refl)

@@ -12,6 +12,7 @@ use Rattle.frame_rows.specs.Rows.{unset}
 use Rattle.frame_rows.specs.Rules.{RowData, lent_row}
 use Rattle.unwind_step.specs.Backtrace.{fde_in}
 use Rattle.unwind_step.specs.Sources.{IsFound}
+use Rattle.unwind_step.proofs.OneStep.{fde_with}
 use Rattle.row_table.specs.Tables.{RowsData, TableData, row_in, AreRowsOf, IsFdeOf, IsRowTableOf, HasRowsFrom, HasNumber}
 
 chosen_covers : (pc : ℕ) (b : Bool) (f g : FdeRecord) (o : Option FdeRecord) → covers pc g ≡ b → cond b (Some g) o ≡ Some f → (o ≡ Some f → covers pc f ≡ true) → covers pc f ≡ true
@@ -119,9 +120,6 @@ found_lent s pc number f rows row bytes told cover section_is bytes_are has at a
 }
 
 -- ---- the FDE of an address
-
-abbrev fde_with : ℕ → List ℕ → FdeRecord → FdeData
-fde_with section bytes entry = record { section = section; bytes = bytes; entry = entry }
 
 pub fde_there : (s : SectionData) (pc : ℕ) (f : FdeData) → first_cover pc s.fdes ≡ Some f.entry → f.section ≡ s.address → f.bytes ≡ s.bytes → fde_in pc s ≡ Some f
 fde_there s pc f cover section_is bytes_are =

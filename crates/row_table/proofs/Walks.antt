@@ -9,13 +9,10 @@ use Rattle.frame_parse.specs.Order.{Moves, IsAscendingFrom, IsBalanced, MayStand
 use Rattle.frame_parse.specs.Sections.{FdeData}
 use Rattle.frame_parse.specs.Steps.{left_of_program}
 use Rattle.frame_rows.specs.declared.placed_row.PlacedRow.{PlacedRow}
+use Rattle.frame_rows.proofs.Onward.{Gives, none_up_to}
 use Rattle.frame_rows.specs.Columns.{instructions, up_to}
 use Rattle.frame_rows.specs.RowAt.{IsPlacedRowAt}
 use Rattle.frame_rows.specs.Rows.{Rows, HasPlacedInitial, HasPlacedProgram, applied, base_row, beside, rows_step, rows_after}
-
--- the next step of p is x, and q is what is left
-abbrev pub Gives : PlacedProgramData → PlacedStep → PlacedProgramData → Type 0
-Gives p x q = (steps : List PlacedStep) → HasPlacedSteps p steps → (more : List PlacedStep) × (steps ≡ x ∷ more) × HasPlacedSteps q more
 
 -- of these steps some are done, up to a location: at p more of them are left, and from there on the
 -- rows are those that the row here leads to
@@ -144,25 +141,6 @@ pub has_one : (base : PlacedRow) (p q : PlacedProgramData) (l : ℕ) (row : Plac
 has_one base p q l row kept x steps o gives is = stands base p q l row kept x steps RestoreState o gives is
 
 -- ---- the row here
-
-upward : (i : PlacedInstruction) (k l : ℕ) → Moves i k l → k ≤ l
-upward Advance k l m = m
-upward Nop k l m = omega arith
-upward (Set q rule) k l m = omega arith
-upward (Restore q) k l m = omega arith
-upward Remember k l m = omega arith
-upward RestoreState k l m = omega arith
-upward (Cfa q n) k l m = omega arith
-upward (CfaColumn q) k l m = omega arith
-upward (CfaOffset n) k l m = omega arith
-upward (CfaExpression e) k l m = omega arith
-
-none_up_to : (pc l : ℕ) (xs : List PlacedStep) → pc < l → IsAscendingFrom l xs → up_to pc xs ≡ []
-none_up_to pc l [] lt a = refl
-none_up_to pc l (x ∷ xs) lt a =
-    let up = upward x.instruction l x.location a.0 in
-    let above : nat_le x.location pc ≡ false = lt-leb _ _ (omega (arith, up)) in
-    rw above (none_up_to pc x.location xs (omega (arith, up)) a.1)
 
 -- no step that is left holds at an address
 abbrev NoneLeft : PlacedProgramData → ℕ → ℕ → Type 0

@@ -11,7 +11,7 @@ use Rattle.unwind_step.specs.NextFrame.{IsNextFrame, IsStep}
 use Rattle.unwind_step.specs.Sources.{IsFound, IsStepIn}
 use Rattle.unwind_step.proofs.OneOutcome.{ExprLaw, one_outcome, same_outcome, same_rules}
 
-abbrev fde_with : ℕ → List ℕ → FdeRecord → FdeData
+abbrev pub fde_with : ℕ → List ℕ → FdeRecord → FdeData
 fde_with section bytes entry = record { section = section; bytes = bytes; entry = entry }
 
 abbrev fde_from : SectionData → FdeRecord → FdeData

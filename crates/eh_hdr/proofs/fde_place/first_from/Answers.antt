@@ -1,6 +1,7 @@
 use Rattle.std.proofs.Common.{◌≡◌, ◌+◌, ◌-◌, ◌/◌, length, arith}
 use Rattle.frame_parse.specs.Sections.{fde_starts}
-use Rattle.eh_hdr.proofs.Places.{starts-length, place_told, up_to}
+use Rattle.frame_parse.proofs.Searches.{up_to}
+use Rattle.eh_hdr.proofs.Places.{starts-length, place_told}
 use Rattle.eh_hdr.proofs.fde_place.first_from.Goals as goal
 
 pub loop-low-preserved-then-fde_place-place : goal.loop-low-preserved-then-fde_place-place
