@@ -39,6 +39,7 @@ use Rattle.array_publish.proofs.Lookups.{all_contains, prefix_both}
 use Rattle.array_publish.proofs.Overlaps.{ends_listed, free_split, listed_is}
 use Rattle.array_publish.proofs.Works.{Holds, spells_active}
 use Rattle.word_rule.proofs.Each.{some_of, some_with}
+use Rattle.word_rule.proofs.TreeRefusals.{ordered_in}
 use Rattle.word_rule.specs.Sights.{after_clock}
 use native.Mathlib.Decide.{ℕ_discrete}
 
@@ -182,11 +183,6 @@ not_found_told base s stamp (receipt.Query w pc f) r = absurd r.0
 not_found_told base s stamp (receipt.Unload b (removed.Done k m)) r = absurd (none-some _ (sym r.1))
 not_found_told base s stamp (receipt.Unload b removed.Spent) r = absurd r.3
 not_found_told base s stamp (receipt.Unload b (removed.NotFound k)) r = let same : base ≡ b = ap base_of r.0 in (λ i. receipt.Unload (sym same i) (removed.NotFound (r.2 i)))
-
-ordered_in : (low : ℕ) (xs : List Member) (m : Member) → AscendFrom low xs → Contains xs m → m.span.first ≤ m.span.last
-ordered_in low [] m h (k, l, e) = absurd (omega (arith, l))
-ordered_in low (x ∷ xs) m h (zero, l, e) = subst (λ (z : Member). z.span.first ≤ z.span.last) e h.1
-ordered_in low (x ∷ xs) m h (suc k, l, e) = ordered_in (x.span.last + 1) xs m h.2 (k, omega (arith, l), e)
 
 find_there : (base : ℕ) (xs : List Member) (x : Member) → at_base base xs ≡ Some x → Contains xs x × (x.span.first ≡ base)
 find_there base [] x e = absurd (none-some x e)

@@ -12,12 +12,9 @@ use Rattle.word_rule.specs.Copies.{AreOfCopy}
 use Rattle.word_rule.specs.Logs.{load_of}
 use Rattle.word_rule.specs.Places.{copy_place, copy_words, is_of_copy}
 use Rattle.word_rule.specs.Sights.{with_copy_word, after_copy_load}
+use Rattle.word_rule.proofs.Each.{all_append}
 use Rattle.array_publish.specs.CopyLoads.{sight_words, with_words, after_copy_loads, LoadsCopy, IsTold, IsAtCopy}
 use Rattle.array_publish.specs.Search.{BeginsAbove}
-
-all_append : {A : Type 0} (P : A → Type 0) (xs ys : List A) → AllByRecursion P xs → AllByRecursion P ys → AllByRecursion P (xs ++ ys)
-all_append P [] ys h i = i
-all_append P (x ∷ xs) ys h i = (h.0, all_append P xs ys h.1 i)
 
 all_behind : {A : Type 0} (P : A → Type 0) (xs ys : List A) → AllByRecursion P (xs ++ ys) → AllByRecursion P ys
 all_behind P [] ys h = h

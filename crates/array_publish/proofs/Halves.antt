@@ -6,13 +6,10 @@ use Rattle.reg_model.specs.SpanData.{contains}
 use Rattle.reg_model.specs.Query.{member_at}
 use Rattle.reg_model.specs.declared.span.Member.{Member}
 use Rattle.segment_array.specs.Ascending.{AscendFrom}
+use Rattle.segment_array.proofs.Places.{front_ascends}
 use Rattle.array_publish.proofs.Searches.{unheld_below, none_above}
 
--- a part in front, the rest behind it, and where that begins
-front_ascends : (low : ℕ) (xs ys : List Member) → AscendFrom low (xs ++ ys) → AscendFrom low xs
-front_ascends low [] ys h = tt
-front_ascends low (x ∷ xs) ys h = (h.0, h.1, front_ascends (x.span.last + 1) xs ys h.2)
-
+-- the rest behind a part in front, and where that begins
 back_ascends : (low : ℕ) (xs : List Member) (y : Member) (ys : List Member) → AscendFrom low (xs ++ y ∷ ys) → (high : ℕ) × (AscendFrom high (y ∷ ys) × (low ≤ high))
 back_ascends low [] y ys h = (low, (h, omega arith))
 back_ascends low (x ∷ xs) y ys h = let r = back_ascends (x.span.last + 1) xs y ys h.2 in let a = h.0 in let b = h.1 in let l = r.1.1 in (r.0, (r.1.0, omega (arith, a, b, l)))

@@ -4,7 +4,6 @@ use Rattle.std.specs.List.{AllByRecursion, find}
 use Rattle.std.specs.Option.{option_or}
 use Rattle.std.proofs.lemmas.Bool.{leb-true, and_parts}
 use Rattle.std.proofs.lemmas.List.Folds.{find-append}
-use Rattle.std.proofs.lemmas.Option.{none-some, same_Some}
 use mathlib.Core.List.{IsPrefix}
 use Rattle.reg_model.specs.SpanData.{contains}
 use Rattle.reg_model.specs.State.{State, objects}
@@ -33,6 +32,7 @@ use Rattle.word_rule.specs.Places.{lower, upper}
 use Rattle.word_rule.specs.Sights.{after_clock, copies_after_clock, found_at}
 use Rattle.word_rule.proofs.Listings.{contains_find, state_fixed}
 use Rattle.word_rule.proofs.Memories.{by_same}
+use Rattle.word_rule.proofs.TreeRefusals.{found_there}
 use Rattle.array_publish.specs.CopyLoads.{LoadsCopy, after_copy_loads, sight_words, with_words}
 use Rattle.array_publish.specs.Lookup.{LooksUp, after_lookup}
 use Rattle.array_publish.specs.Search.{IsMember, IsObjectAt, listed_member}
@@ -54,15 +54,6 @@ finds pc low (x ∷ members) m h (suc k, l, e) is =
     let from = begins_above (x.span.last + 1) members m h.2 inside in
     let first = leb-true m.span.first pc (and_parts (nat_le m.span.first pc) (nat_le pc m.span.last) is).0 in
     rw (unheld_below x pc (omega (arith, from, first))) (finds pc (x.span.last + 1) members m h.2 inside is)
-
--- what is found is there, and contains the address
-found_there : (pc : ℕ) (members : List Member) (m : Member) → member_at pc members ≡ Some m → Contains members m × (contains m.span pc ≡ true)
-found_there pc [] m e = absurd (none-some m e)
-found_there pc (x ∷ members) m e = go (contains x.span pc) refl (found_there pc members m)
-  where
-    go : (b : Bool) → contains x.span pc ≡ b → (member_at pc members ≡ Some m → Contains members m × (contains m.span pc ≡ true)) → Contains (x ∷ members) m × (contains m.span pc ≡ true)
-    go true is rest = let same : x ≡ m = same_Some _ _ (rw is at e) in ((0, omega arith, same), subst (λ (z : Member). contains z.span pc ≡ true) same is)
-    go false is rest = let r = rest (rw is at e) in ((suc r.0.0, (let l = r.0.1 in omega (arith, l)), r.0.2), r.1)
 
 -- what a list that ascends finds, another of the same members finds
 same_found : (pc low : ℕ) (members loaded : List Member) → AscendFrom low members → ((m : Member) → Contains members m ↔ Contains loaded m) → member_at pc loaded ≡ member_at pc members

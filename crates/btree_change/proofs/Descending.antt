@@ -71,7 +71,7 @@ all_there P (y ∷ xs) x all (zero, l, e) = subst P e all.0
 all_there P (y ∷ xs) x all (suc k, l, e) = all_there P xs x all.1 (k, omega (arith, l), e)
 
 -- a child that is there is found, and all that are found have its place
-found_child : (c : ℕ) (places : ℕ → Frame) (bs : List Branch) (b : Branch) → AllByRecursion (λ x. places x.child ≡ x.frame) bs → Contains bs b → b.child ≡ c → place_in c bs ≡ Some (places c)
+pub found_child : (c : ℕ) (places : ℕ → Frame) (bs : List Branch) (b : Branch) → AllByRecursion (λ x. places x.child ≡ x.frame) bs → Contains bs b → b.child ≡ c → place_in c bs ≡ Some (places c)
 found_child c places [] b all there is = absurd (let l = there.1 in omega (arith, l))
 found_child c places (x ∷ bs) b all there is = go (ℕ_discrete x.child c) there (λ later. found_child c places bs b all.1 later is)
   where
@@ -80,7 +80,7 @@ found_child c places (x ∷ bs) b all there is = go (ℕ_discrete x.child c) the
     go (no ne) (zero, l, e) rest = absurd (ne (ap (λ (z : Branch). z.child) e ∙ is))
     go (no ne) (suc k, l, e) rest = rw (ne_eqb x.child c ne) (rest (k, omega (arith, l), e))
 
-weaken : (t : Terms) (places : ℕ → Frame) (bs : List Branch) → AllByRecursion (λ b. (b.child < t.nodes) × (b.child ≢ 0) × (places b.child ≡ b.frame)) bs → AllByRecursion (λ x. places x.child ≡ x.frame) bs
+pub weaken : (t : Terms) (places : ℕ → Frame) (bs : List Branch) → AllByRecursion (λ b. (b.child < t.nodes) × (b.child ≢ 0) × (places b.child ≡ b.frame)) bs → AllByRecursion (λ x. places x.child ≡ x.frame) bs
 weaken t places [] all = tt
 weaken t places (b ∷ bs) all = (all.0.2, weaken t places bs all.1)
 

@@ -18,7 +18,7 @@ use Rattle.word_rule.proofs.Exchanges.{spelled_decides}
 use Rattle.btree_change.specs.Removing.{Spends}
 use Rattle.btree_change.specs.Siblings.{ReturnsNode, IsGoneOrSettled}
 use Rattle.btree_change.proofs.LeafCommits.{all_nothing}
-use Rattle.btree_change.proofs.LettingGo.{ExchangeLaw}
+use Rattle.node_store.proofs.Settled.{ExchangeLaw}
 use Rattle.btree_change.proofs.Loading.{keeps_then, none_more}
 
 -- What the stores in one lock leave: the others as they were, and that it isn't marked.

@@ -19,7 +19,7 @@ use Rattle.word_rule.specs.declared.log.Receipts.{Receipts}
 use Rattle.word_rule.specs.declared.log.Terms.{Terms}
 use Rattle.word_rule.proofs.Spells.{reads}
 use Rattle.node_store.specs.Free.{GivesFree, IsSettled, after_linking, after_setting, held_word}
-use Rattle.node_store.proofs.Settled.{settles_free}
+use Rattle.node_store.proofs.Settled.{ExchangeLaw, settles_free}
 use Rattle.btree_change.specs.declared.descent.Held.{Held}
 use Rattle.btree_change.specs.declared.lift.TwoNodes.{TwoNodes}
 use Rattle.btree_change.specs.Loads.{FoundNoRoom}
@@ -29,7 +29,6 @@ use Rattle.btree_change.proofs.Descending.{steps_none, steps_then}
 use Rattle.btree_change.proofs.Descents.{steps_of_load}
 use Rattle.btree_change.proofs.HeldParts.{AreFar, dropped, place_of_lock}
 use Rattle.btree_change.proofs.LeafCommits.{all_stay}
-use Rattle.btree_change.proofs.LettingGo.{ExchangeLaw}
 use Rattle.btree_change.proofs.Loading.{keeps_then, none_more}
 use Rattle.btree_change.proofs.NoRoom.{no_room_after, no_room_still}
 use Rattle.btree_change.proofs.Rooms.{found_there, is_full_count}

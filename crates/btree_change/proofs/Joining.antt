@@ -1,7 +1,7 @@
 -- Two children are written as one, and the right one leaves the tree.
 use Rattle.std.proofs.Common.{◌≡◌, ◌≢◌, ℕ, zero, suc, ◌+◌, ◌<◌, ◌⊎◌, inl, List, [], ◌∷◌, length, length-append, sym, refl, ap, ◌∙◌, subst, arith, Bool, true, false, not, IsTrue, Some, None, IfSome, IsSome, IsSomeAnd, eq-eqb, ne_eqb, if◌then◌else◌, cond}
 use Rattle.std.proofs.lemmas.Option.{none-some}
-use Rattle.std.specs.List.{AllByRecursion, slice_get}
+use Rattle.std.specs.List.{slice_get}
 use Rattle.tree_shape.specs.Changes.{Fit, FitAs, at_slot, both, joined, pair, swallow_next}
 use Rattle.tree_shape.specs.Decisions.{is_entries}
 use Rattle.tree_shape.specs.Lawful.{IsFilledAs, IsLawfulTree, IsOrderedAs, fewest_pairs}
@@ -32,7 +32,7 @@ use Rattle.btree_change.specs.declared.sibling.Siblings.{Siblings}
 use Rattle.btree_change.proofs.Descending.{in_order, steps_then}
 use Rattle.btree_change.proofs.Descents.{steps_of_load}
 use Rattle.btree_change.proofs.Loading.{none_more}
-use Rattle.btree_change.proofs.Pairings.{IsBesideLock, IsNow, at_slot_is, beside, both_high, both_left, both_low, both_more, each_more, family, first_found, in_l, in_r, left_told, next_slot_is, not_in, here, later, parent_told, right_told, settles}
+use Rattle.btree_change.proofs.Pairings.{AreThree, IsNow, at_slot_is, both_high, both_left, both_low, both_more, family, first_found, here, in_l, in_r, later, left_told, next_slot_is, not_in, parent_told, right_told, settles, three}
 use Rattle.btree_change.proofs.Settling.{SettlingLaws, settled_gone, settled_group}
 use Rattle.btree_change.proofs.Takings.{placed_of}
 use Rattle.btree_change.proofs.Written.{IsWrittenAs, edit_high, spells_freed, write_low, write_upper}
@@ -115,40 +115,25 @@ module _ (t : Terms) (x : Siblings) (k k1 : CallerData) (found : ℕ) (hs : Hold
   out1 : k1.log.holdings.out ≡ []
   out1 = ap (λ (z : CallerData). z.log.holdings.out) loads ∙ hs.out
 
-  l_far_r : l ≢ r
-  l_far_r = (family t x k hs tree).different
-
-  l_far_n : l ≢ n
-  l_far_n = (family t x k hs tree).left.no_parent
-
-  r_far_n : r ≢ n
-  r_far_n = (family t x k hs tree).no_parent
-
-  rest_l : AllByRecursion (λ a. a.node ≢ l) hs.rest
-  rest_l = each_more (IsBesideLock n) (λ a. a.node ≢ l) (λ h b e. (family t x k hs tree).left.no_root (sym e ∙ b.node)) hs.rest (beside t x k hs tree)
-
-  rest_r : AllByRecursion (λ a. a.node ≢ r) hs.rest
-  rest_r = each_more (IsBesideLock n) (λ a. a.node ≢ r) (λ h b e. (family t x k hs tree).no_root (sym e ∙ b.node)) hs.rest (beside t x k hs tree)
-
-  rest_n : AllByRecursion (λ a. a.node ≢ n) hs.rest
-  rest_n = each_more (IsBesideLock n) (λ a. a.node ≢ n) (λ h b e. b.far (sym e ∙ b.node)) hs.rest (beside t x k hs tree)
+  apart : AreThree l r n hs.rest
+  apart = three t x k hs tree
 
   pub may_low : MayStore x.left.node k1.log
-  may_low = may_store l hs.low k1.log (ap (held_of l) held1 ∙ both_low hs.left_first hs.low hs.high (hs.upper ∷ hs.rest) l hs.left.node (λ e. l_far_r (sym (sym hs.right.node ∙ e)))) hs.left.marked
+  may_low = may_store l hs.low k1.log (ap (held_of l) held1 ∙ both_low hs.left_first hs.low hs.high (hs.upper ∷ hs.rest) l hs.left.node (λ e. apart.left_right (sym (sym hs.right.node ∙ e)))) hs.left.marked
 
   module _ (k2 : CallerData) (writes1 : WritesHeld x.left.node (joined x.left.content x.right.content) k1 k2) (spells1 : SpellsHeld x.left.node (joined x.left.content x.right.content) k2.log) where
     w1 : IsWrittenAs (joined x.left.content x.right.content) hs.low (λ z. both_of hs.left_first z hs.high (hs.upper ∷ hs.rest)) k1 k2
-    w1 = write_low hs.left_first one l hs.low hs.high (hs.upper ∷ hs.rest) k1 k2 (fit_kind x.left.content.body x.right.content.body fit) hs.left.node (λ e. l_far_r (sym (sym hs.right.node ∙ e))) ((λ e. l_far_n (sym (sym hs.parent.node ∙ e))), rest_l) held1 writes1 spells1
+    w1 = write_low hs.left_first one l hs.low hs.high (hs.upper ∷ hs.rest) k1 k2 (fit_kind x.left.content.body x.right.content.body fit) hs.left.node (λ e. apart.left_right (sym (sym hs.right.node ∙ e))) ((λ e. apart.left_above (sym (sym hs.parent.node ∙ e))), apart.rest_left) held1 writes1 spells1
 
     low_node : w1.lock.node ≡ l
     low_node = w1.node ∙ hs.left.node
 
     pub may_upper : MayStore x.above.at.node k2.log
-    may_upper = may_store n hs.upper k2.log (ap (held_of n) w1.held ∙ (both_more hs.left_first w1.lock hs.high (hs.upper ∷ hs.rest) n (λ e. l_far_n (sym low_node ∙ e)) (λ e. r_far_n (sym hs.right.node ∙ e)) ∙ first_found n hs.upper hs.rest hs.parent.node)) hs.parent.marked
+    may_upper = may_store n hs.upper k2.log (ap (held_of n) w1.held ∙ (both_more hs.left_first w1.lock hs.high (hs.upper ∷ hs.rest) n (λ e. apart.left_above (sym low_node ∙ e)) (λ e. apart.right_above (sym hs.right.node ∙ e)) ∙ first_found n hs.upper hs.rest hs.parent.node)) hs.parent.marked
 
     module _ (k3 : CallerData) (writes2 : WritesHeld x.above.at.node (record x.above.at.content { body = Pairs (at_slot swallow_next x.slot (pairs_of x.above.at.content)) }) k2 k3) (spells2 : SpellsHeld x.above.at.node (record x.above.at.content { body = Pairs (at_slot swallow_next x.slot (pairs_of x.above.at.content)) }) k3.log) where
       w2 : IsWrittenAs (record x.above.at.content { body = Pairs (at_slot swallow_next x.slot (pairs_of x.above.at.content)) }) hs.upper (λ z. both_of hs.left_first w1.lock hs.high (z ∷ hs.rest)) k2 k3
-      w2 = write_upper hs.left_first less n w1.lock hs.high hs.upper hs.rest k2 k3 (λ e. omega (arith, e)) hs.parent.node (λ e. l_far_n (sym low_node ∙ e)) (λ e. r_far_n (sym hs.right.node ∙ e)) rest_n w1.held writes2 spells2
+      w2 = write_upper hs.left_first less n w1.lock hs.high hs.upper hs.rest k2 k3 (λ e. omega (arith, e)) hs.parent.node (λ e. apart.left_above (sym low_node ∙ e)) (λ e. apart.right_above (sym hs.right.node ∙ e)) apart.rest_above w1.held writes2 spells2
 
       upper_node : w2.lock.node ≡ n
       upper_node = w2.node ∙ hs.parent.node
@@ -157,7 +142,7 @@ module _ (t : Terms) (x : Siblings) (k k1 : CallerData) (found : ℕ) (hs : Hold
       table3 = w2.same.table ∙ (w1.same.table ∙ ap (λ (z : CallerData). z.table) loads)
 
       found_right : (high : Holding) (hs' : List Holding) → high.node ≡ r → hs' ≡ both_of hs.left_first w1.lock high (w2.lock ∷ hs.rest) → held_of r hs' ≡ Some high
-      found_right high hs' is held = ap (held_of r) held ∙ both_high hs.left_first w1.lock high (w2.lock ∷ hs.rest) r is (λ e. l_far_r (sym low_node ∙ e))
+      found_right high hs' is held = ap (held_of r) held ∙ both_high hs.left_first w1.lock high (w2.lock ∷ hs.rest) r is (λ e. apart.left_right (sym low_node ∙ e))
 
       pub may_link : MayStore x.right.node k3.log
       may_link = may_store r hs.high k3.log (found_right hs.high k3.log.holdings.held hs.right.node w2.held) hs.right.marked
@@ -167,7 +152,7 @@ module _ (t : Terms) (x : Siblings) (k k1 : CallerData) (found : ℕ) (hs : Hold
         linked = store_in 6 0 hs.high
 
         held4 : k4.log.holdings.held ≡ both_of hs.left_first w1.lock (store_in 6 0 hs.high) (w2.lock ∷ hs.rest)
-        held4 = ap (λ (z : CallerData). z.log.holdings.held) stores4 ∙ (ap (edited r (store_in 6 0)) w2.held ∙ edit_high hs.left_first r (store_in 6 0) w1.lock hs.high (w2.lock ∷ hs.rest) hs.right.node (λ e. l_far_r (sym low_node ∙ e)) ((λ e. r_far_n (sym (sym upper_node ∙ e))), rest_r))
+        held4 = ap (λ (z : CallerData). z.log.holdings.held) stores4 ∙ (ap (edited r (store_in 6 0)) w2.held ∙ edit_high hs.left_first r (store_in 6 0) w1.lock hs.high (w2.lock ∷ hs.rest) hs.right.node (λ e. apart.left_right (sym low_node ∙ e)) ((λ e. apart.right_above (sym (sym upper_node ∙ e))), apart.rest_right))
 
         pub table4 : k4.table ≡ k.table
         table4 = ap (λ (z : CallerData). z.table) stores4 ∙ table3
@@ -186,10 +171,10 @@ module _ (t : Terms) (x : Siblings) (k k1 : CallerData) (found : ℕ) (hs : Hold
           g_l = rw (eq-eqb l l refl) refl
 
           g_n : g n ≡ less
-          g_n = rw (ne_eqb n l (λ e. l_far_n (sym e)), eq-eqb n n refl) refl
+          g_n = rw (ne_eqb n l (λ e. apart.left_above (sym e)), eq-eqb n n refl) refl
 
           g_r : g r ≡ gone
-          g_r = rw (ne_eqb r l (λ e. l_far_r (sym e)), ne_eqb r n r_far_n, eq-eqb r r refl) refl
+          g_r = rw (ne_eqb r l (λ e. apart.left_right (sym e)), ne_eqb r n apart.right_above, eq-eqb r r refl) refl
 
           is_join : IsJoin f tree.live n x.slot (pair x.left.node x.left.content.high) (pair x.right.node x.right.content.high) g
           is_join =
@@ -230,13 +215,13 @@ module _ (t : Terms) (x : Siblings) (k k1 : CallerData) (found : ℕ) (hs : Hold
           freed = store_in 1 2 (store_in 6 0 hs.high)
 
           held5 : (stored_log x.right.node 1 2 k4.log).holdings.held ≡ both_of hs.left_first w1.lock (store_in 1 2 (store_in 6 0 hs.high)) (w2.lock ∷ hs.rest)
-          held5 = ap (edited r (store_in 1 2)) held4 ∙ edit_high hs.left_first r (store_in 1 2) w1.lock (store_in 6 0 hs.high) (w2.lock ∷ hs.rest) hs.right.node (λ e. l_far_r (sym low_node ∙ e)) ((λ e. r_far_n (sym (sym upper_node ∙ e))), rest_r)
+          held5 = ap (edited r (store_in 1 2)) held4 ∙ edit_high hs.left_first r (store_in 1 2) w1.lock (store_in 6 0 hs.high) (w2.lock ∷ hs.rest) hs.right.node (λ e. apart.left_right (sym low_node ∙ e)) ((λ e. apart.right_above (sym (sym upper_node ∙ e))), apart.rest_right)
 
           out5 : (stored_log x.right.node 1 2 k4.log).holdings.out ≡ []
           out5 = ap (λ (z : CallerData). z.log.holdings.out) stores4 ∙ (w2.out ∙ (w1.out ∙ out1))
 
           wide : length hs.high.words ≡ 35
-          wide = wide_of t r hs.high k.log (ap (held_of r) hs.held ∙ both_high hs.left_first hs.low hs.high (hs.upper ∷ hs.rest) r hs.right.node (λ e. l_far_r (sym hs.left.node ∙ e))) holder
+          wide = wide_of t r hs.high k.log (ap (held_of r) hs.held ∙ both_high hs.left_first hs.low hs.high (hs.upper ∷ hs.rest) r hs.right.node (λ e. apart.left_right (sym hs.left.node ∙ e))) holder
 
           now_low : IsNow hs.low (g l) w1.lock
           now_low = record { node = w1.node; mark = w1.mark; settled = w1.settled; spells = w1.spells ∙ ap Some (sym g_l); stored = w1.stored x.left.content hs.left.spells (λ e. left_differs (g_l ∙ (sym e ∙ sym (left_told t x k hs tree).1))) }
@@ -254,7 +239,7 @@ module _ (t : Terms) (x : Siblings) (k k1 : CallerData) (found : ℕ) (hs : Hold
           on_l = later l n (l ∷ []) (here l [])
 
           off_r : is_among (n ∷ l ∷ []) r ≡ false
-          off_r = not_in r n (l ∷ []) r_far_n (not_in r l [] (λ e. l_far_r (sym e)) refl)
+          off_r = not_in r n (l ∷ []) apart.right_above (not_in r l [] (λ e. apart.left_right (sym e)) refl)
 
           off_root : n ≢ 0 → is_among (n ∷ l ∷ []) 0 ≡ false
           off_root some = not_in 0 n (l ∷ []) (λ e. some (sym e)) (not_in 0 l [] (λ e. (family t x k hs tree).left.no_root (sym e)) refl)
@@ -307,8 +292,8 @@ module _ (t : Terms) (x : Siblings) (k k1 : CallerData) (found : ℕ) (hs : Hold
                 parent_marked = refl;
                 root = hs.root;
                 no_root = (fam.left.no_root, fam.no_root);
-                no_parent = (l_far_n, r_far_n);
-                different = l_far_r;
+                no_parent = (apart.left_above, apart.right_above);
+                different = apart.left_right;
                 spare = spare_of l one (join_spare l r x.left.content.body x.right.content.body fam.left.no_root fam.no_root fit own.1.1.filled other.1.1.filled);
               }
 

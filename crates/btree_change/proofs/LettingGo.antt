@@ -1,23 +1,19 @@
 -- Where all that is held has settled, nothing settles.
-use Rattle.std.proofs.Common.{◌≡◌, [], map, sym, refl, ap, ◌∙◌, Bool, true, false, not, ◌&&◌, ◌||◌, true≢false, Option, None, is_some, if◌then◌else◌}
-use Rattle.std.specs.Bool.{Decides}
+use Rattle.std.proofs.Common.{◌≡◌, [], map, sym, refl, ap, ◌∙◌, Bool, true, false, not, ◌&&◌, ◌||◌, true≢false, None, is_some, if◌then◌else◌}
 use Rattle.std.specs.List.{AllByRecursion}
-use Rattle.reg_model.specs.declared.answer.Update.{Update}
 use Rattle.tree_shape.specs.Numbers.{is_among}
-use Rattle.word_rule.specs.Exchange.{IsLawfulExchange, after_exchange, changed_of, exchange, group_of, is_changed, is_lawful, node_of, nothing_reached, settle, settle_free, top_of}
+use Rattle.word_rule.specs.Exchange.{after_exchange, changed_of, exchange, group_of, is_changed, is_lawful, node_of, nothing_reached, settle, settle_free, top_of}
 use Rattle.word_rule.specs.Held.{now_of}
 use Rattle.word_rule.specs.Spelling.{spelled, SpellsNode}
 use Rattle.word_rule.specs.declared.log.Holding.{Holding}
 use Rattle.word_rule.specs.declared.log.Log.{Log}
 use Rattle.word_rule.proofs.Exchanges.{spelled_decides}
+use Rattle.node_store.proofs.Settled.{ExchangeLaw}
 use Rattle.btree_change.proofs.LeafCommits.{all_nothing, all_stay, and_false}
 
 -- a lock whose words spell its settled content
 abbrev pub IsSettled : Holding → Type 0
 IsSettled h = SpellsNode h.words h.settled
-
-abbrev pub ExchangeLaw : Type 0
-ExchangeLaw = (v : Log) (update : Option Update) → Decides (is_lawful v update) (IsLawfulExchange v update (top_of v update) (is_among (group_of v update)))
 
 unchanged : (h : Holding) → IsSettled h → is_changed None h ≡ false
 unchanged h s = ap (λ b. is_some h.mark && (not b || false)) ((spelled_decides (spelled h.words) h.settled).1 s) ∙ and_false (is_some h.mark)

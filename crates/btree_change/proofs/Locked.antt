@@ -3,7 +3,6 @@ use Rattle.std.proofs.Common.{◌≡◌, ◌≢◌, ℕ, zero, suc, ◌+◌, ◌
 use Rattle.std.proofs.lemmas.Bool.{leb-true, leb-false}
 use Rattle.std.proofs.lemmas.Option.{none-some, same_Some}
 use Rattle.std.specs.List.{AllByRecursion, slice_get}
-use native.Mathlib.Decide.{ℕ_discrete}
 use Rattle.tree_shape.specs.Lawful.{FitsParent, IsOrderedAs, IsTree}
 use Rattle.tree_shape.specs.NodeData.{NodeData, Body, Pairs, Entries, Link, IsInFences, pairs_in, pairs_of, slot_for}
 use Rattle.tree_shape.specs.Trees.{Branch, Contents, branches, branches_from}
@@ -29,7 +28,7 @@ use Rattle.btree_change.specs.Siblings.{HoldsChild, HoldsUnder}
 use Rattle.btree_change.specs.declared.descent.Held.{Held}
 use Rattle.btree_change.proofs.Mended.{without_high}
 use Rattle.btree_change.proofs.Pairings.{IsBesideLock, beside_each, each_more}
-use Rattle.btree_change.proofs.Descending.{all_there, steps_of_take, steps_then}
+use Rattle.btree_change.proofs.Descending.{all_there, found_child, steps_of_take, steps_then, weaken}
 use Rattle.btree_change.proofs.Outlining.{steps_of_loads}
 use Rattle.btree_change.proofs.Takings.{placed_of}
 
@@ -56,20 +55,6 @@ slot_holds level low pc (x ∷ pairs) p least at = go (nat_le pc x.separator) re
         let next : slot_for pc pairs + 1 ≡ suc (slot_for pc pairs) = omega arith in
         let rest = later (omega (arith, above)) (ap (slice_get (x ∷ pairs)) (sym next) ∙ there) in
         (rest.0, ((suc rest.1.0.0, (let l = rest.1.0.1 in omega (arith, l)), rest.1.0.2), rest.1.1, rest.1.2, rest.1.3))
-
--- a child that is there is found, and all that are found have its place
-found_child : (c : ℕ) (places : ℕ → Frame) (bs : List Branch) (b : Branch) → AllByRecursion (λ x. places x.child ≡ x.frame) bs → Contains bs b → b.child ≡ c → place_in c bs ≡ Some (places c)
-found_child c places [] b all there is = absurd (let l = there.1 in omega (arith, l))
-found_child c places (x ∷ bs) b all there is = go (ℕ_discrete x.child c) there (λ later. found_child c places bs b all.1 later is)
-  where
-    go : Dec (x.child ≡ c) → Contains (x ∷ bs) b → (Contains bs b → place_in c bs ≡ Some (places c)) → place_in c (x ∷ bs) ≡ Some (places c)
-    go (yes e) there rest = rw (eq-eqb x.child c e) (ap Some (sym all.0 ∙ ap places e))
-    go (no ne) (zero, l, e) rest = absurd (ne (ap (λ (z : Branch). z.child) e ∙ is))
-    go (no ne) (suc k, l, e) rest = rw (ne_eqb x.child c ne) (rest (k, omega (arith, l), e))
-
-weaken : (t : Terms) (places : ℕ → Frame) (bs : List Branch) → AllByRecursion (λ b. (b.child < t.nodes) × (b.child ≢ 0) × (places b.child ≡ b.frame)) bs → AllByRecursion (λ x. places x.child ≡ x.frame) bs
-weaken t places [] all = tt
-weaken t places (b ∷ bs) all = (all.0.2, weaken t places bs all.1)
 
 -- What a live node says of a child, by a branch that names it.
 pub record Names (t : Terms) (n : ℕ) (s : NodeData) (c : ℕ) (b : Branch) : Type 0 where

@@ -124,6 +124,15 @@ pub record IsNow (h : Holding) (s : NodeData) (h' : Holding) : Type 0 where
   pub spells : SpellsNode h'.words s
   pub stored : h'.stored ≡ true
 
+-- siblings and the node above them are three nodes, and the locks beside theirs are of others
+pub record AreThree (l r n : ℕ) (rest : List Holding) : Type 0 where
+  pub left_right : l ≢ r
+  pub left_above : l ≢ n
+  pub right_above : r ≢ n
+  pub rest_left : AllByRecursion (λ a. a.node ≢ l) rest
+  pub rest_right : AllByRecursion (λ a. a.node ≢ r) rest
+  pub rest_above : AllByRecursion (λ a. a.node ≢ n) rest
+
 module _ (t : Terms) (x : Siblings) (k : CallerData) (hs : HoldsSiblings t x k.log.holdings) (tree : KnowsTree k.log.holdings) where
   abbrev n : ℕ
   n = x.above.at.node
@@ -191,6 +200,16 @@ module _ (t : Terms) (x : Siblings) (k : CallerData) (hs : HoldsSiblings t x k.l
 
   rest_parent : AllByRecursion (λ a. a.node ≢ n) hs.rest
   rest_parent = each_more (IsBesideLock n) (λ a. a.node ≢ n) (λ h b e. b.far (sym e ∙ b.node)) hs.rest beside
+
+  pub three : AreThree l r n hs.rest
+  three = record {
+    left_right = family.different;
+    left_above = family.left.no_parent;
+    right_above = family.no_parent;
+    rest_left = rest_far l family.left.no_root;
+    rest_right = rest_far r family.no_root;
+    rest_above = rest_parent;
+  }
 
   -- The three locks with other words, where these make a lawful change of the tree.
   module _ (laws : SettlingLaws) (g : Contents) (reached : List ℕ) (change : IsChangeOf tree.contents tree.live n (n ∷ l ∷ r ∷ []) [] g None reached) (differ : (g n ≢ tree.contents n) × (g l ≢ tree.contents l) × (g r ≢ tree.contents r))

@@ -22,7 +22,8 @@ use Rattle.btree_change.specs.Loads.{KeepsLoads}
 use Rattle.btree_change.specs.Spines.{AreApart, IsLockAt, IsPending, IsReadable, IsSpine, LetsGoSettled}
 use Rattle.btree_change.proofs.Descending.{steps_of_read}
 use Rattle.btree_change.proofs.FreshSpines.{all_parts, apart_mid, leaf_of, top_of as top_below}
-use Rattle.btree_change.proofs.LettingGo.{ExchangeLaw, IsSettled, settles_nothing}
+use Rattle.node_store.proofs.Settled.{ExchangeLaw}
+use Rattle.btree_change.proofs.LettingGo.{IsSettled, settles_nothing}
 use Rattle.btree_change.proofs.Loading.{keeps_none}
 use Rattle.btree_change.proofs.LockedSpines.{found_head, may_read_found, reads_spelled}
 use Rattle.btree_change.proofs.WrittenSpines.{in_mid}

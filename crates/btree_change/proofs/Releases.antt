@@ -10,7 +10,8 @@ use Rattle.word_rule.specs.declared.log.Holding.{Holding}
 use Rattle.word_rule.specs.declared.log.Log.{Log}
 use Rattle.word_rule.proofs.Each.{held_is, some_with}
 use Rattle.btree_change.specs.Removing.{HaveSettled, HoldsLocks, IsBeside, LetsGoOf, Spends}
-use Rattle.btree_change.proofs.LettingGo.{ExchangeLaw, settles_nothing}
+use Rattle.node_store.proofs.Settled.{ExchangeLaw}
+use Rattle.btree_change.proofs.LettingGo.{settles_nothing}
 use Rattle.btree_change.proofs.Loading.{keeps_all, keeps_then, none_more}
 
 -- where all that is held has settled, each may be let go of

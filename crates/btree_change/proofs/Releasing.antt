@@ -10,7 +10,8 @@ use Rattle.word_rule.specs.Steps.{MayRelease, after_node_release, after_node_rel
 use Rattle.word_rule.specs.declared.log.Holding.{Holding}
 use Rattle.word_rule.specs.declared.log.Log.{Log}
 use Rattle.btree_change.specs.Stands.{LetsGo, MayGo}
-use Rattle.btree_change.proofs.LettingGo.{ExchangeLaw, settles_nothing}
+use Rattle.node_store.proofs.Settled.{ExchangeLaw}
+use Rattle.btree_change.proofs.LettingGo.{settles_nothing}
 use Rattle.btree_change.proofs.Loading.{none_more}
 use Rattle.btree_change.proofs.Settling.{found_first}
 

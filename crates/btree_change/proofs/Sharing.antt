@@ -2,7 +2,7 @@
 use Rattle.std.proofs.Common.{◌≡◌, ◌≢◌, ℕ, ◌<◌, ◌⊎◌, ◌||◌, inl, inr, List, [], ◌∷◌, ◌++◌, sym, refl, ap, ◌∙◌, subst, arith, Bool, true, false, not, IsTrue, Some, None, IsSome, eq-eqb, ne_eqb, cond}
 use Rattle.std.proofs.lemmas.List.{append_cancel_left}
 use Rattle.std.proofs.lemmas.Option.{same_Some}
-use Rattle.std.specs.List.{AllByRecursion, slice_get}
+use Rattle.std.specs.List.{slice_get}
 use Rattle.tree_shape.specs.Changes.{Overfill, at_slot, first_half, joined, last_half, pair, separate_at, share_of, size}
 use Rattle.tree_shape.specs.Decisions.{is_entries}
 use Rattle.tree_shape.specs.Lawful.{IsLawfulTree}
@@ -35,7 +35,7 @@ use Rattle.btree_change.proofs.Descents.{steps_of_load}
 use Rattle.btree_change.proofs.Joining.{may_store, spare_of}
 use Rattle.btree_change.proofs.Loading.{none_more}
 use Rattle.btree_change.proofs.Mended.{AreSettled, loaded_none, spends_none, under_so, without_high, without_low}
-use Rattle.btree_change.proofs.Pairings.{IsBesideLock, IsNow, at_slot_is, beside, both_high, both_left, both_low, both_more, each_more, family, first_found, held_change, in_l, in_n, in_r, left_told, next_slot_is, not_in, parent_told, right_told, settles}
+use Rattle.btree_change.proofs.Pairings.{AreThree, IsNow, at_slot_is, both_high, both_left, both_low, both_more, family, first_found, held_change, in_l, in_n, in_r, left_told, next_slot_is, not_in, parent_told, right_told, settles, three}
 use Rattle.btree_change.proofs.Releases.{spends_then}
 use Rattle.btree_change.proofs.Settling.{SettlingLaws, may_release, settled_group}
 use Rattle.btree_change.proofs.ShareEnds.{fence_moves, share_kinds, share_moves, share_sizes, share_spares}
@@ -73,46 +73,31 @@ module _ (t : Terms) (x : Siblings) (k k1 : CallerData) (found : ℕ) (hs : Hold
   held1 : k1.log.holdings.held ≡ both_of hs.left_first hs.low hs.high (hs.upper ∷ hs.rest)
   held1 = ap (λ (z : CallerData). z.log.holdings.held) loads ∙ hs.held
 
-  l_far_r : l ≢ r
-  l_far_r = (family t x k hs tree).different
-
-  l_far_n : l ≢ n
-  l_far_n = (family t x k hs tree).left.no_parent
-
-  r_far_n : r ≢ n
-  r_far_n = (family t x k hs tree).no_parent
-
-  rest_l : AllByRecursion (λ a. a.node ≢ l) hs.rest
-  rest_l = each_more (IsBesideLock n) (λ a. a.node ≢ l) (λ h b e. (family t x k hs tree).left.no_root (sym e ∙ b.node)) hs.rest (beside t x k hs tree)
-
-  rest_r : AllByRecursion (λ a. a.node ≢ r) hs.rest
-  rest_r = each_more (IsBesideLock n) (λ a. a.node ≢ r) (λ h b e. (family t x k hs tree).no_root (sym e ∙ b.node)) hs.rest (beside t x k hs tree)
-
-  rest_n : AllByRecursion (λ a. a.node ≢ n) hs.rest
-  rest_n = each_more (IsBesideLock n) (λ a. a.node ≢ n) (λ h b e. b.far (sym e ∙ b.node)) hs.rest (beside t x k hs tree)
+  apart : AreThree l r n hs.rest
+  apart = three t x k hs tree
 
   high_far_l : hs.high.node ≢ l
-  high_far_l e = l_far_r (sym (sym hs.right.node ∙ e))
+  high_far_l e = apart.left_right (sym (sym hs.right.node ∙ e))
 
   pub may_left : MayStore x.left.node k1.log
   may_left = may_store l hs.low k1.log (ap (held_of l) held1 ∙ both_low hs.left_first hs.low hs.high (hs.upper ∷ hs.rest) l hs.left.node high_far_l) hs.left.marked
 
   module _ (k2 : CallerData) (writes1 : WritesHeld x.left.node (shares_for x).left k1 k2) (spells1 : SpellsHeld x.left.node (shares_for x).left k2.log) where
     w1 : IsWrittenAs (shares_for x).left hs.low (λ z. both_of hs.left_first z hs.high (hs.upper ∷ hs.rest)) k1 k2
-    w1 = write_low hs.left_first fst l hs.low hs.high (hs.upper ∷ hs.rest) k1 k2 (share_kinds x.left.content.body x.right.content.body over).0 hs.left.node high_far_l ((λ e. l_far_n (sym (sym hs.parent.node ∙ e))), rest_l) held1 writes1 spells1
+    w1 = write_low hs.left_first fst l hs.low hs.high (hs.upper ∷ hs.rest) k1 k2 (share_kinds x.left.content.body x.right.content.body over).0 hs.left.node high_far_l ((λ e. apart.left_above (sym (sym hs.parent.node ∙ e))), apart.rest_left) held1 writes1 spells1
 
     low_node : w1.lock.node ≡ l
     low_node = w1.node ∙ hs.left.node
 
     low_far_r : w1.lock.node ≢ r
-    low_far_r e = l_far_r (sym low_node ∙ e)
+    low_far_r e = apart.left_right (sym low_node ∙ e)
 
     pub may_right : MayStore x.right.node k2.log
     may_right = may_store r hs.high k2.log (ap (held_of r) w1.held ∙ both_high hs.left_first w1.lock hs.high (hs.upper ∷ hs.rest) r hs.right.node low_far_r) hs.right.marked
 
     module _ (k3 : CallerData) (writes2 : WritesHeld x.right.node (shares_for x).right k2 k3) (spells2 : SpellsHeld x.right.node (shares_for x).right k3.log) where
       w2 : IsWrittenAs (shares_for x).right hs.high (λ z. both_of hs.left_first w1.lock z (hs.upper ∷ hs.rest)) k2 k3
-      w2 = write_high hs.left_first snd r w1.lock hs.high (hs.upper ∷ hs.rest) k2 k3 (share_kinds x.left.content.body x.right.content.body over).1 hs.right.node low_far_r ((λ e. r_far_n (sym (sym hs.parent.node ∙ e))), rest_r) w1.held writes2 spells2
+      w2 = write_high hs.left_first snd r w1.lock hs.high (hs.upper ∷ hs.rest) k2 k3 (share_kinds x.left.content.body x.right.content.body over).1 hs.right.node low_far_r ((λ e. apart.right_above (sym (sym hs.parent.node ∙ e))), apart.rest_right) w1.held writes2 spells2
 
       high_node : w2.lock.node ≡ r
       high_node = w2.node ∙ hs.right.node
@@ -121,12 +106,12 @@ module _ (t : Terms) (x : Siblings) (k k1 : CallerData) (found : ℕ) (hs : Hold
       table3 = w2.same.table ∙ (w1.same.table ∙ ap (λ (z : CallerData). z.table) loads)
 
       pub may_above : MayStore x.above.at.node k3.log
-      may_above = may_store n hs.upper k3.log (ap (held_of n) w2.held ∙ (both_more hs.left_first w1.lock w2.lock (hs.upper ∷ hs.rest) n (λ e. l_far_n (sym low_node ∙ e)) (λ e. r_far_n (sym high_node ∙ e)) ∙ first_found n hs.upper hs.rest hs.parent.node)) hs.parent.marked
+      may_above = may_store n hs.upper k3.log (ap (held_of n) w2.held ∙ (both_more hs.left_first w1.lock w2.lock (hs.upper ∷ hs.rest) n (λ e. apart.left_above (sym low_node ∙ e)) (λ e. apart.right_above (sym high_node ∙ e)) ∙ first_found n hs.upper hs.rest hs.parent.node)) hs.parent.marked
 
       module _ (k4 : CallerData) (writes3 : WritesHeld x.above.at.node (shares_for x).above k3 k4) (spells3 : SpellsHeld x.above.at.node (shares_for x).above k4.log)
           (laws : SettlingLaws) (law : ShareLaw) (small : IsTrue (is_small_body x.left.content.body || is_small_body x.right.content.body)) where
         w3 : IsWrittenAs (shares_for x).above hs.upper (λ z. both_of hs.left_first w1.lock w2.lock (z ∷ hs.rest)) k3 k4
-        w3 = write_upper hs.left_first top n w1.lock w2.lock hs.upper hs.rest k3 k4 (λ e. omega (arith, e)) hs.parent.node (λ e. l_far_n (sym low_node ∙ e)) (λ e. r_far_n (sym high_node ∙ e)) rest_n w2.held writes3 spells3
+        w3 = write_upper hs.left_first top n w1.lock w2.lock hs.upper hs.rest k3 k4 (λ e. omega (arith, e)) hs.parent.node (λ e. apart.left_above (sym low_node ∙ e)) (λ e. apart.right_above (sym high_node ∙ e)) apart.rest_above w2.held writes3 spells3
 
         upper_node : w3.lock.node ≡ n
         upper_node = w3.node ∙ hs.parent.node
@@ -144,10 +129,10 @@ module _ (t : Terms) (x : Siblings) (k k1 : CallerData) (found : ℕ) (hs : Hold
         g_l = rw (eq-eqb l l refl) refl
 
         g_n : g n ≡ top
-        g_n = rw (ne_eqb n l (λ e. l_far_n (sym e)), eq-eqb n n refl) refl
+        g_n = rw (ne_eqb n l (λ e. apart.left_above (sym e)), eq-eqb n n refl) refl
 
         g_r : g r ≡ snd
-        g_r = rw (ne_eqb r l (λ e. l_far_r (sym e)), ne_eqb r n r_far_n, eq-eqb r r refl) refl
+        g_r = rw (ne_eqb r l (λ e. apart.left_right (sym e)), ne_eqb r n apart.right_above, eq-eqb r r refl) refl
 
         is_share : IsShare f tree.live n x.slot (pair x.left.node x.left.content.high) (pair x.right.node x.right.content.high) g
         is_share =
@@ -213,9 +198,9 @@ module _ (t : Terms) (x : Siblings) (k k1 : CallerData) (found : ℕ) (hs : Hold
 
         pub may_leave : (m : ℕ) → (m ≡ l) ⊎ (m ≡ r) → MayRelease m k4.log
         may_leave m (inl e) = may_release laws k4.log f tree.live n (n ∷ l ∷ r ∷ []) [] g (n ∷ l ∷ r ∷ []) (held_change t x k hs tree laws g (n ∷ l ∷ r ∷ []) change (parent_differs, left_differs, right_differs) k4.log w1.lock w2.lock w3.lock w3.held out4 now_low now_high now_upper on_n off_root) m w1.lock
-            (ap (held_of m) w3.held ∙ both_low hs.left_first w1.lock w2.lock (w3.lock ∷ hs.rest) m (low_node ∙ sym e) (λ z. l_far_r (sym (sym high_node ∙ (z ∙ e))))) (subst IsSome (sym now_low.spells) refl)
+            (ap (held_of m) w3.held ∙ both_low hs.left_first w1.lock w2.lock (w3.lock ∷ hs.rest) m (low_node ∙ sym e) (λ z. apart.left_right (sym (sym high_node ∙ (z ∙ e))))) (subst IsSome (sym now_low.spells) refl)
         may_leave m (inr e) = may_release laws k4.log f tree.live n (n ∷ l ∷ r ∷ []) [] g (n ∷ l ∷ r ∷ []) (held_change t x k hs tree laws g (n ∷ l ∷ r ∷ []) change (parent_differs, left_differs, right_differs) k4.log w1.lock w2.lock w3.lock w3.held out4 now_low now_high now_upper on_n off_root) m w2.lock
-            (ap (held_of m) w3.held ∙ both_high hs.left_first w1.lock w2.lock (w3.lock ∷ hs.rest) m (high_node ∙ sym e) (λ z. l_far_r (sym low_node ∙ (z ∙ e)))) (subst IsSome (sym now_high.spells) refl)
+            (ap (held_of m) w3.held ∙ both_high hs.left_first w1.lock w2.lock (w3.lock ∷ hs.rest) m (high_node ∙ sym e) (λ z. apart.left_right (sym low_node ∙ (z ∙ e)))) (subst IsSome (sym now_high.spells) refl)
 
         abbrev low5 : Holding
         low5 = record w1.lock { settled = g l; mark = Some (frame_of (g l)) }
@@ -257,7 +242,7 @@ module _ (t : Terms) (x : Siblings) (k k1 : CallerData) (found : ℕ) (hs : Hold
           lower = low5;
           upper = upper5;
           rest = hs.rest;
-          held = without_high hs.left_first low5 high5 (upper5 ∷ hs.rest) r high_node low_far_r ((λ e. r_far_n (sym (sym upper_node ∙ e))), rest_r);
+          held = without_high hs.left_first low5 high5 (upper5 ∷ hs.rest) r high_node low_far_r ((λ e. apart.right_above (sym (sym upper_node ∙ e))), apart.rest_right);
           node = low_node;
           settled = g_l;
           spells = now_low.spells;
@@ -277,7 +262,7 @@ module _ (t : Terms) (x : Siblings) (k k1 : CallerData) (found : ℕ) (hs : Hold
           lower = high5;
           upper = upper5;
           rest = hs.rest;
-          held = without_low hs.left_first low5 high5 (upper5 ∷ hs.rest) l low_node (λ e. l_far_r (sym (sym high_node ∙ e))) ((λ e. l_far_n (sym (sym upper_node ∙ e))), rest_l);
+          held = without_low hs.left_first low5 high5 (upper5 ∷ hs.rest) l low_node (λ e. apart.left_right (sym (sym high_node ∙ e))) ((λ e. apart.left_above (sym (sym upper_node ∙ e))), apart.rest_left);
           node = high_node;
           settled = g_r;
           spells = now_high.spells;
@@ -301,7 +286,7 @@ module _ (t : Terms) (x : Siblings) (k k1 : CallerData) (found : ℕ) (hs : Hold
               (shares_for x).left,
               (
                 subst (λ m. MendsSiblings t x (record { node = m; content = (shares_for x).left; changed = true }) k k6) (sym node) (record {
-                  holds = under_so t n l (shares_for x).left x.above.root_changed k5 k6 seen hs.left_within (family t x k hs tree).left.no_root l_far_n ((spent r k5 lets').terms ∙ (steps4.terms ∙ terms)) (left_stays k5 lets') tells' loads2;
+                  holds = under_so t n l (shares_for x).left x.above.root_changed k5 k6 seen hs.left_within (family t x k hs tree).left.no_root apart.left_above ((spent r k5 lets').terms ∙ (steps4.terms ∙ terms)) (left_stays k5 lets') tells' loads2;
                   level = hs.level;
                   spare = spare_of l (shares_for x).left (share_spares x.left.content.body x.right.content.body over).0;
                   spends = spends;
@@ -317,7 +302,7 @@ module _ (t : Terms) (x : Siblings) (k k1 : CallerData) (found : ℕ) (hs : Hold
               (shares_for x).right,
               (
                 subst (λ m. MendsSiblings t x (record { node = m; content = (shares_for x).right; changed = true }) k k6) (sym node) (record {
-                  holds = under_so t n r (shares_for x).right x.above.root_changed k5 k6 seen hs.right_within (family t x k hs tree).no_root r_far_n ((spent l k5 lets').terms ∙ (steps4.terms ∙ terms)) (right_stays k5 lets') tells' loads2;
+                  holds = under_so t n r (shares_for x).right x.above.root_changed k5 k6 seen hs.right_within (family t x k hs tree).no_root apart.right_above ((spent l k5 lets').terms ∙ (steps4.terms ∙ terms)) (right_stays k5 lets') tells' loads2;
                   level = hs.level;
                   spare = spare_of r (shares_for x).right (share_spares x.left.content.body x.right.content.body over).1;
                   spends = spends;

@@ -28,6 +28,7 @@ use Rattle.btree_change.specs.declared.stand.Room.TheVariants as room
 use Rattle.btree_change.specs.Paths.{AreHigher, IsLiveLock, IsSettledLock}
 use Rattle.btree_change.specs.Stands.{HasWayOn, HoldsPair, LiesBeyond, IsReach, MayGo, Reaches, StandsOnWay, StandsAt}
 use Rattle.btree_change.proofs.HeldTrees.{OnTree, apart_with, child, child_frame, inner, on_tree}
+use Rattle.btree_change.proofs.NextLeaves.{higher_marked}
 use Rattle.btree_change.proofs.NoRoom.{more_loads}
 use Rattle.btree_change.proofs.Outlining.{spells_held}
 use Rattle.btree_change.proofs.Storing.{found_at}
@@ -82,10 +83,6 @@ next_pair (suc slot) (q ∷ pairs) inside = next_pair slot pairs (omega (arith, 
 pub live_lock : (t : Terms) (n : ℕ) (s : NodeData) (changed : Bool) (h : Holding) → IsSettledLock t n s changed h → IsLiveLock t h
 live_lock t n s changed h l =
     subst (λ k. IsSettledLock t k h.settled h.stored h) (sym l.node) (subst (λ z. IsSettledLock t n z h.stored h) (sym l.settled) (subst (λ b. IsSettledLock t n s b h) (sym l.stored) l))
-
-pub higher_marked : (t : Terms) (level : ℕ) (held : List Holding) → AreHigher t level held → AllByRecursion (λ (h : Holding). IsSome h.mark) held
-higher_marked t level [] all = tt
-higher_marked t level (h ∷ held) all = (all.0.marked, higher_marked t h.settled.level held all.2)
 
 module _ (t : Terms) (pc last : ℕ) (parent below : Held) (above : List Holding) (holdings : Holdings) (pair : HoldsPair t pc parent below above holdings) (tree : KnowsTree holdings) where
   upper_live : IsLiveLock t pair.upper

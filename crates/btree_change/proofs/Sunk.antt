@@ -1,6 +1,5 @@
 -- The root takes the place of its only two children, which leave the tree.
 use Rattle.std.proofs.Common.{◌≡◌, ◌≢◌, ℕ, zero, suc, ◌+◌, ◌<◌, List, [], ◌∷◌, ◌++◌, length, sym, refl, ap, ◌∙◌, subst, arith, Bool, true, false, not, IsTrue, Some, None, eq-eqb, ne_eqb, if◌then◌else◌, cond}
-use Rattle.std.specs.List.{AllByRecursion}
 use Rattle.tree_shape.specs.Changes.{Fit, FitAs, both, joined, pair}
 use Rattle.tree_shape.specs.Lawful.{IsLawfulTree}
 use Rattle.tree_shape.specs.LocalChange.{IsChangeOf}
@@ -27,7 +26,7 @@ use Rattle.btree_change.specs.declared.sibling.Siblings.{Siblings}
 use Rattle.btree_change.proofs.Descending.{steps_then}
 use Rattle.btree_change.proofs.Descents.{steps_of_load}
 use Rattle.btree_change.proofs.Loading.{none_more}
-use Rattle.btree_change.proofs.Pairings.{IsBesideLock, IsNow, beside, both_high, both_left, both_low, each_more, family, in_l, in_r, left_told, not_in, here, later, parent_told, right_told, settles}
+use Rattle.btree_change.proofs.Pairings.{AreThree, IsNow, both_high, both_left, both_low, family, here, in_l, in_r, later, left_told, not_in, parent_told, right_told, settles, three}
 use Rattle.btree_change.proofs.Settling.{SettlingLaws, settled_gone}
 use Rattle.btree_change.proofs.Takings.{placed_of}
 use Rattle.btree_change.proofs.Written.{IsWrittenAs, edit_high, edit_low, spells_freed, write_upper}
@@ -89,29 +88,14 @@ module _ (t : Terms) (x : Siblings) (k k1 k2 : CallerData) (seen seen' : ℕ) (h
   out2 : k2.log.holdings.out ≡ []
   out2 = ap (λ (z : CallerData). z.log.holdings.out) loads' ∙ (ap (λ (z : CallerData). z.log.holdings.out) loads ∙ hs.out)
 
-  l_far_r : l ≢ r
-  l_far_r = (family t x k hs tree).different
-
-  l_far_n : l ≢ n
-  l_far_n = (family t x k hs tree).left.no_parent
-
-  r_far_n : r ≢ n
-  r_far_n = (family t x k hs tree).no_parent
-
-  rest_l : AllByRecursion (λ a. a.node ≢ l) hs.rest
-  rest_l = each_more (IsBesideLock n) (λ a. a.node ≢ l) (λ h b e. (family t x k hs tree).left.no_root (sym e ∙ b.node)) hs.rest (beside t x k hs tree)
-
-  rest_r : AllByRecursion (λ a. a.node ≢ r) hs.rest
-  rest_r = each_more (IsBesideLock n) (λ a. a.node ≢ r) (λ h b e. (family t x k hs tree).no_root (sym e ∙ b.node)) hs.rest (beside t x k hs tree)
-
-  rest_n : AllByRecursion (λ a. a.node ≢ n) hs.rest
-  rest_n = each_more (IsBesideLock n) (λ a. a.node ≢ n) (λ h b e. b.far (sym e ∙ b.node)) hs.rest (beside t x k hs tree)
+  apart : AreThree l r n hs.rest
+  apart = three t x k hs tree
 
   low_far_r : hs.low.node ≢ r
-  low_far_r e = l_far_r (sym hs.left.node ∙ e)
+  low_far_r e = apart.left_right (sym hs.left.node ∙ e)
 
   high_far_l : hs.high.node ≢ l
-  high_far_l e = l_far_r (sym (sym hs.right.node ∙ e))
+  high_far_l e = apart.left_right (sym (sym hs.right.node ∙ e))
 
   wide_low : length hs.low.words ≡ 35
   wide_low = wide_of t l hs.low k.log (ap (held_of l) hs.held ∙ both_low hs.left_first hs.low hs.high (hs.upper ∷ hs.rest) l hs.left.node high_far_l) holder
@@ -121,16 +105,16 @@ module _ (t : Terms) (x : Siblings) (k k1 k2 : CallerData) (seen seen' : ℕ) (h
 
   module _ (k3 : CallerData) (writes : WritesHeld x.above.at.node (sunk_root x) k2 k3) (spells : SpellsHeld x.above.at.node (sunk_root x) k3.log) where
     w : IsWrittenAs (sunk_root x) hs.upper (λ z. both_of hs.left_first hs.low hs.high (z ∷ hs.rest)) k2 k3
-    w = write_upper hs.left_first (sunk_root x) n hs.low hs.high hs.upper hs.rest k2 k3 (fits_no_free x.left.content.body x.right.content.body fit) hs.parent.node (λ e. l_far_n (sym hs.left.node ∙ e)) (λ e. r_far_n (sym hs.right.node ∙ e)) rest_n held2 writes spells
+    w = write_upper hs.left_first (sunk_root x) n hs.low hs.high hs.upper hs.rest k2 k3 (fits_no_free x.left.content.body x.right.content.body fit) hs.parent.node (λ e. apart.left_above (sym hs.left.node ∙ e)) (λ e. apart.right_above (sym hs.right.node ∙ e)) apart.rest_above held2 writes spells
 
     upper_node : w.lock.node ≡ n
     upper_node = w.node ∙ hs.parent.node
 
     upper_far_l : w.lock.node ≢ l
-    upper_far_l e = l_far_n (sym (sym upper_node ∙ e))
+    upper_far_l e = apart.left_above (sym (sym upper_node ∙ e))
 
     upper_far_r : w.lock.node ≢ r
-    upper_far_r e = r_far_n (sym (sym upper_node ∙ e))
+    upper_far_r e = apart.right_above (sym (sym upper_node ∙ e))
 
     pub may_raise : MayStore x.right.node k3.log
     may_raise = may_store r hs.high k3.log (ap (held_of r) w.held ∙ both_high hs.left_first hs.low hs.high (w.lock ∷ hs.rest) r hs.right.node low_far_r) hs.right.marked
@@ -140,14 +124,14 @@ module _ (t : Terms) (x : Siblings) (k k1 k2 : CallerData) (seen seen' : ℕ) (h
       high4 = store_in 2 (x.right.content.level + 1) hs.high
 
       held4 : k4.log.holdings.held ≡ both_of hs.left_first hs.low (store_in 2 (x.right.content.level + 1) hs.high) (w.lock ∷ hs.rest)
-      held4 = ap (λ (z : CallerData). z.log.holdings.held) stores4 ∙ (ap (edited r (store_in 2 (x.right.content.level + 1))) w.held ∙ edit_high hs.left_first r (store_in 2 (x.right.content.level + 1)) hs.low hs.high (w.lock ∷ hs.rest) hs.right.node low_far_r (upper_far_r, rest_r))
+      held4 = ap (λ (z : CallerData). z.log.holdings.held) stores4 ∙ (ap (edited r (store_in 2 (x.right.content.level + 1))) w.held ∙ edit_high hs.left_first r (store_in 2 (x.right.content.level + 1)) hs.low hs.high (w.lock ∷ hs.rest) hs.right.node low_far_r (upper_far_r, apart.rest_right))
 
       pub may_link : MayStore x.left.node k4.log
       may_link = may_store l hs.low k4.log (ap (held_of l) held4 ∙ both_low hs.left_first hs.low high4 (w.lock ∷ hs.rest) l hs.left.node high_far_l) hs.left.marked
 
       module _ (k5 : CallerData) (stores5 : k5 ≡ record k4 { log = after_node_store x.left.node 6 0 k4.log }) where
         held5 : k5.log.holdings.held ≡ both_of hs.left_first (store_in 6 0 hs.low) (store_in 2 (x.right.content.level + 1) hs.high) (w.lock ∷ hs.rest)
-        held5 = ap (λ (z : CallerData). z.log.holdings.held) stores5 ∙ (ap (edited l (store_in 6 0)) held4 ∙ edit_low hs.left_first l (store_in 6 0) hs.low high4 (w.lock ∷ hs.rest) hs.left.node high_far_l (upper_far_l, rest_l))
+        held5 = ap (λ (z : CallerData). z.log.holdings.held) stores5 ∙ (ap (edited l (store_in 6 0)) held4 ∙ edit_low hs.left_first l (store_in 6 0) hs.low high4 (w.lock ∷ hs.rest) hs.left.node high_far_l (upper_far_l, apart.rest_left))
 
         found_low : held_of l k5.log.holdings.held ≡ Some (store_in 6 0 hs.low)
         found_low = ap (held_of l) held5 ∙ both_low hs.left_first (store_in 6 0 hs.low) high4 (w.lock ∷ hs.rest) l hs.left.node high_far_l
@@ -163,10 +147,10 @@ module _ (t : Terms) (x : Siblings) (k k1 k2 : CallerData) (seen seen' : ℕ) (h
           g_n = rw (eq-eqb n n refl) refl
 
           g_l : g l ≡ record x.left.content { body = Link 0 }
-          g_l = rw (ne_eqb l n l_far_n, eq-eqb l l refl) refl
+          g_l = rw (ne_eqb l n apart.left_above, eq-eqb l l refl) refl
 
           g_r : g r ≡ record x.right.content { level = x.right.content.level + 1 }
-          g_r = rw (ne_eqb r n r_far_n, ne_eqb r l (λ e. l_far_r (sym e)), eq-eqb r r refl) refl
+          g_r = rw (ne_eqb r n apart.right_above, ne_eqb r l (λ e. apart.left_right (sym e)), eq-eqb r r refl) refl
 
           f_n : tree.contents n ≡ x.above.at.content
           f_n = (parent_told t x k hs tree).1
@@ -213,7 +197,7 @@ module _ (t : Terms) (x : Siblings) (k k1 k2 : CallerData) (seen seen' : ℕ) (h
           v6 = stored_log x.left.node 1 2 k5.log
 
           held6 : (stored_log x.left.node 1 2 k5.log).holdings.held ≡ both_of hs.left_first (store_in 1 2 (store_in 6 0 hs.low)) (store_in 2 (x.right.content.level + 1) hs.high) (w.lock ∷ hs.rest)
-          held6 = ap (edited l (store_in 1 2)) held5 ∙ edit_low hs.left_first l (store_in 1 2) (store_in 6 0 hs.low) high4 (w.lock ∷ hs.rest) hs.left.node high_far_l (upper_far_l, rest_l)
+          held6 = ap (edited l (store_in 1 2)) held5 ∙ edit_low hs.left_first l (store_in 1 2) (store_in 6 0 hs.low) high4 (w.lock ∷ hs.rest) hs.left.node high_far_l (upper_far_l, apart.rest_left)
 
           out6 : (stored_log x.left.node 1 2 k5.log).holdings.out ≡ []
           out6 = ap (λ (z : CallerData). z.log.holdings.out) stores5 ∙ (ap (λ (z : CallerData). z.log.holdings.out) stores4 ∙ (w.out ∙ out2))
@@ -222,10 +206,10 @@ module _ (t : Terms) (x : Siblings) (k k1 k2 : CallerData) (seen seen' : ℕ) (h
           on_n = here n []
 
           off_l : is_among (n ∷ []) l ≡ false
-          off_l = not_in l n [] l_far_n refl
+          off_l = not_in l n [] apart.left_above refl
 
           off_r : is_among (n ∷ []) r ≡ false
-          off_r = not_in r n [] r_far_n refl
+          off_r = not_in r n [] apart.right_above refl
 
           settled6 : settle None (stored_log x.left.node 1 2 k5.log) ≡ record (stored_log x.left.node 1 2 k5.log) {
             holdings = record (stored_log x.left.node 1 2 k5.log).holdings {
@@ -247,7 +231,7 @@ module _ (t : Terms) (x : Siblings) (k k1 k2 : CallerData) (seen seen' : ℕ) (h
           pub sunk_so : HoldsSunk x k6.log.holdings
           sunk_so =
               let fam = family t x k hs tree in
-              let outs = without_two l r hs.left_first l_far_r in record {
+              let outs = without_two l r hs.left_first apart.left_right in record {
                 left_first = hs.left_first;
                 low = record (store_in 1 2 (store_in 6 0 hs.low)) { settled = g l; mark = None };
                 high = record (store_in 2 (x.right.content.level + 1) hs.high) { settled = g r; mark = None };
@@ -268,7 +252,7 @@ module _ (t : Terms) (x : Siblings) (k k1 k2 : CallerData) (seen seen' : ℕ) (h
                 stored = now_upper.stored;
                 marked = refl;
                 no_root = (fam.left.no_root, fam.no_root);
-                different = l_far_r;
+                different = apart.left_right;
                 left_out = subst (λ os. IsTrue (is_among os l)) (sym out_is) outs.0;
                 right_out = subst (λ os. IsTrue (is_among (all_but l os) r)) (sym out_is) outs.1;
                 no_other = ap (λ os. all_but r (all_but l os)) out_is ∙ outs.2;

@@ -6,18 +6,11 @@ use Rattle.std.specs.Option.{option_to_list}
 use native.Mathlib.Decide.{ℕ_discrete}
 use Rattle.word_rule.specs.Places.{CONTENT_WORDS}
 use Rattle.word_rule.specs.Spelling.{node_word}
+use Rattle.word_rule.proofs.Each.{all_append, all_map}
 use Rattle.tree_shape.specs.NodeData.{NodeData}
 use Rattle.node_store.specs.declared.writing.Store.{Store}
 use Rattle.node_store.specs.Writing.{FitsWords, Write, ComesBefore, AreStoresInOrder, wanted_node_word, place_in_turn, store_of, store_in_turn, stores_upto, stores, after_stores}
 use Rattle.node_store.proofs.Spelled.{wanted_is_spelled}
-
-all_map : {A : Type 0} (P Q : A → Type 0) → ((a : A) → P a → Q a) → (xs : List A) → AllByRecursion P xs → AllByRecursion Q xs
-all_map P Q f [] h = tt
-all_map P Q f (x ∷ xs) h = (f x h.0, all_map P Q f xs h.1)
-
-all_append : {A : Type 0} (P : A → Type 0) (xs ys : List A) → AllByRecursion P xs → AllByRecursion P ys → AllByRecursion P (xs ++ ys)
-all_append P [] ys h i = i
-all_append P (x ∷ xs) ys h i = (h.0, all_append P xs ys h.1 i)
 
 -- which word has its turn
 pub high_place : (t : ℕ) → t < 30 → place_in_turn t ≡ 35 - t

@@ -24,10 +24,8 @@ use Rattle.word_rule.specs.declared.log.LoadedWord.{LoadedWord}
 use Rattle.word_rule.specs.declared.log.Log.{Log}
 use Rattle.word_rule.specs.declared.log.Sights.{Sights}
 use Rattle.word_rule.specs.declared.log.Terms.{Terms}
+use Rattle.array_publish.proofs.Lookups.{prefix_both}
 use Rattle.registry_core.specs.Queries.{IsStamped, Queries}
-
-pub prefix_both : (a b c : List Update) → IsPrefix a b → IsPrefix b c → IsPrefix a c
-prefix_both a b c p q = (p.0 ++ q.0, sym (append_assoc a p.0 q.0) ∙ (ap (λ z. z ++ q.0) p.1 ∙ q.1))
 
 pub prefix_length : (a b : List Update) → IsPrefix a b → length a ≤ length b
 prefix_length a b p = let n = length-append a p.0 in let e = ap length p.1 in omega (arith, n, e)

@@ -16,7 +16,8 @@ use Rattle.word_rule.specs.declared.log.Terms.{Terms}
 use Rattle.registry_core.specs.Calls.{Answered, Receives, is_of_update}
 use Rattle.registry_core.specs.Queries.{Queries}
 use Rattle.registry_core.proofs.Counting.{count_both}
-use Rattle.registry_core.proofs.Asking.{all_both, all_weaker, prefix_both, prefix_length}
+use Rattle.array_publish.proofs.Lookups.{prefix_both}
+use Rattle.registry_core.proofs.Asking.{all_both, all_weaker, prefix_length}
 
 -- receipts with these of one's own
 abbrev with_own : List Receipt → Receipts → Receipts

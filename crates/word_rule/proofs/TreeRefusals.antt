@@ -125,7 +125,7 @@ not_free span members a p free = All-contains (λ z. ¬ Overlaps z.span span) me
 
 -- ---- what is so of what is held
 
-ordered_in : (low : ℕ) (xs : List Member) (m : Member) → AscendFrom low xs → Contains xs m → m.span.first ≤ m.span.last
+pub ordered_in : (low : ℕ) (xs : List Member) (m : Member) → AscendFrom low xs → Contains xs m → m.span.first ≤ m.span.last
 ordered_in low [] m h (k, l, e) = absurd (omega (arith, l))
 ordered_in low (x ∷ xs) m h (zero, l, e) = subst (λ (z : Member). z.span.first ≤ z.span.last) e h.1
 ordered_in low (x ∷ xs) m h (suc k, l, e) = ordered_in (x.span.last + 1) xs m h.2 (k, omega (arith, l), e)
