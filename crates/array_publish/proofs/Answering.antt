@@ -1,6 +1,6 @@
 -- How an update is answered under the lock: refused, or published.
-use Rattle.std.proofs.Common.{◌≡◌, ℕ, zero, suc, ◌+◌, ◌-◌, ◌<◌, ◌≤◌, ◌⊎◌, ◌↔◌, eq-eqb, ne_eqb, inl, inr, ⊎_elim, List, [], ◌∷◌, ◌++◌, length, length-append, get_or, Contains, sym, refl, ap, ◌∙◌, subst, arith, Bool, true, false, true≢false, Option, Some, None, IfSome, is_some, IsSome, IsSomeAnd, IsTrue, option_map, append_assoc, add_assoc}
-use Rattle.std.proofs.lemmas.Option.{none-some, same_Some}
+use Rattle.std.proofs.Common.{◌≡◌, ℕ, zero, suc, ◌+◌, ◌-◌, ◌<◌, ◌≤◌, ◌⊎◌, ◌↔◌, inl, inr, ⊎_elim, List, [], ◌∷◌, ◌++◌, length, length-append, get_or, Contains, sym, refl, ap, ◌∙◌, subst, arith, Bool, true, false, true≢false, Option, Some, None, IfSome, is_some, IsSome, IsSomeAnd, IsTrue, option_map, append_assoc, add_assoc}
+use Rattle.std.proofs.lemmas.Option.{none-some}
 use Rattle.std.proofs.lemmas.List.Elements.{All-contains, Contains-get_or, Contains-append_left, Contains-append_right, Contains-append_cases}
 use mathlib.Core.List.{IsPrefix}
 use Rattle.reg_model.specs.SpanData.{SpanData, Overlaps, contains}
@@ -27,7 +27,7 @@ use Rattle.word_rule.specs.Copies.{ListsAll, ListsMembers}
 use Rattle.word_rule.specs.Logs.{load_of}
 use Rattle.word_rule.specs.Places.{copy_words, lower}
 use Rattle.word_rule.specs.Steps.{IsRefusalOf, MayRefuse, Refuses, AfterPublish, MayPublish, after_publish, exchange_copies}
-use Rattle.word_rule.proofs.Listings.{ascending_disjoint, free_of, lists_same, state_fixed}
+use Rattle.word_rule.proofs.Listings.{ascending_disjoint, free_of, lists_same, state_fixed, there_at}
 use Rattle.array_publish.specs.Holders.{Spells, active_words, after_work, spare_words, with_spare}
 use Rattle.array_publish.specs.Update.{AnswersLoad, AnswersUnload, AnswersWith, IsClean, IsRightUnload, IsRightLoad, KnowsCopy, Works, after_seeing}
 use Rattle.array_publish.specs.declared.writing.ActiveCopy.{ActiveCopy}
@@ -35,11 +35,11 @@ use Rattle.array_publish.specs.Holders.{member_in}
 use Rattle.array_publish.specs.Writing.{EndsBelow, IsWritten}
 use Rattle.array_publish.specs.declared.writing.Change.TheVariants.{Put}
 use Rattle.array_publish.proofs.Changed.{may_load}
-use Rattle.array_publish.proofs.Lookups.{all_contains, prefix_both}
+use Rattle.array_publish.proofs.Lookups.{prefix_both}
 use Rattle.array_publish.proofs.Overlaps.{ends_listed, free_split, listed_is}
 use Rattle.array_publish.proofs.Works.{Holds, spells_active}
-use Rattle.word_rule.proofs.Each.{some_of, some_with}
-use Rattle.word_rule.proofs.TreeRefusals.{ordered_in}
+use Rattle.word_rule.proofs.Each.{all_with, some_of, some_with}
+use Rattle.word_rule.proofs.TreeRefusals.{not_free, one_lowest, ordered_in}
 use Rattle.word_rule.specs.Sights.{after_clock}
 use native.Mathlib.Decide.{ℕ_discrete}
 
@@ -67,16 +67,6 @@ disjoint_one (x ∷ xs) a b h (suc k, l, e) (suc j, m, f) over = disjoint_one xs
 
 ordered_of : (a b : SpanData) → Overlaps a b → a.first ≤ a.last
 ordered_of a b over = let c = contains_bounds a over.0 over.1.0 in let x = c.0 in let y = c.1 in omega (arith, x, y)
-
-one_lowest : (span : SpanData) (xs : List Member) (a b : Member) → AreDisjoint xs → IsLowestOverlap span xs a → IsLowestOverlap span xs b → a ≡ b
-one_lowest span xs a b h p q =
-    let low = All-contains (λ z. Overlaps z.span span → a.span.first ≤ z.span.first) xs b p.lowest q.listed q.overlaps in
-    let high = All-contains (λ z. Overlaps z.span span → b.span.first ≤ z.span.first) xs a q.lowest p.listed p.overlaps in
-    let one = ordered_of a.span span p.overlaps in let two = ordered_of b.span span q.overlaps in
-    disjoint_one xs a b h p.listed q.listed (a.span.first, (contains_from a.span a.span.first (omega arith) one, contains_from b.span a.span.first high (omega (arith, low, high, two))))
-
-not_free : (span : SpanData) (xs : List Member) (a : Member) → IsLowestOverlap span xs a → IsFree span xs → ⊥
-not_free span xs a p free = All-contains (λ z. ¬ Overlaps z.span span) xs a free p.listed p.overlaps
 
 overlap_told : (m other : Member) (s : State) (stamp : ℕ) (r : Receipt) → AreDisjoint (objects s) → IsLowestOverlap m.span (objects s) other → IsRefusalOf (update.Load m) s stamp r → r ≡ receipt.Load m (loading.Overlap other stamp)
 overlap_told m other s stamp (receipt.Register n a) h low r = absurd (true≢false (ap is_load r.0))
@@ -184,14 +174,6 @@ not_found_told base s stamp (receipt.Unload b (removed.Done k m)) r = absurd (no
 not_found_told base s stamp (receipt.Unload b removed.Spent) r = absurd r.3
 not_found_told base s stamp (receipt.Unload b (removed.NotFound k)) r = let same : base ≡ b = ap base_of r.0 in (λ i. receipt.Unload (sym same i) (removed.NotFound (r.2 i)))
 
-find_there : (base : ℕ) (xs : List Member) (x : Member) → at_base base xs ≡ Some x → Contains xs x × (x.span.first ≡ base)
-find_there base [] x e = absurd (none-some x e)
-find_there base (y ∷ xs) x e = go (ℕ_discrete y.span.first base) (find_there base xs x)
-  where
-    go : Dec (y.span.first ≡ base) → (at_base base xs ≡ Some x → Contains xs x × (x.span.first ≡ base)) → Contains (y ∷ xs) x × (x.span.first ≡ base)
-    go (yes same) rest = let is : y ≡ x = same_Some _ _ (rw (eq-eqb y.span.first base same) at e) in ((0, omega arith, is), ap (λ (z : Member). z.span.first) (sym is) ∙ same)
-    go (no ne) rest = let r = rest (rw (ne_eqb y.span.first base ne) at e) in ((suc r.0.0, (let l = r.0.1 in omega (arith, l)), r.0.2), r.1)
-
 active_lists : {loaded : List Member} → (o : Option LoaderHolding) → IsSome o → IfSome o (λ h. ListsAll h.active loaded) → ListsAll (active_words o) loaded
 active_lists None some_lock h = absurd (true≢false (sym some_lock))
 active_lists (Some g) some_lock h = h
@@ -260,7 +242,7 @@ module _ (t : Terms) (k0 k3 k4 : CallerData) (found : ℕ) (m : Member) (works :
   overlap_so other lowest =
       let low = lowest_objects (state_after (start t) after.0) t.fixed mine.members m.span other (state_fixed (start t) after.0).0 mine.same (lowest mine.members mine.lists) in
       answered t k0 k3 k4 found (update.Load m) works held after rest (λ past. IsRightLoad t m k0.log.past past (loading.Overlap other (lower found))) (receipt.Load m (loading.Overlap other (lower found)))
-      (begins t k0 k3 k4 found (update.Load m) works held after rest, after.2.0.updates, low, all_contains (IsMemberOf t) (objects (state_after (start t) after.0)) other after.2.0.members low.listed) (overlap_told m other (state_after (start t) after.0) (lower found) after.2.1.0 after.2.0.lawful.objects low (told t k0 k3 k4 found (update.Load m) works held after rest))
+      (begins t k0 k3 k4 found (update.Load m) works held after rest, after.2.0.updates, low, all_with (IsMemberOf t) (objects (state_after (start t) after.0)) other after.2.0.members low.listed) (overlap_told m other (state_after (start t) after.0) (lower found) after.2.1.0 after.2.0.lawful.objects low (told t k0 k3 k4 found (update.Load m) works held after rest))
 
   pub full_so : ((xs : List Member) → ListsMembers (active_words k3.log.loader) xs → IsFree m.span (t.fixed ++ xs)) → AnswersLoad t m k0 k4 (loading.LoadFull (lower found))
   full_so free =
@@ -322,7 +304,7 @@ published_so t k0 k4 k5 found number m works held after rest is =
 -- the member that an unload takes is the one of the copy with its base
 taken_from : (base : ℕ) (xs loaded : List Member) (m x : Member) → AscendFrom 0 xs → ((z : Member) → Contains xs z ↔ Contains loaded z) → Contains xs m → m.span.first ≡ base → at_base base loaded ≡ Some x → x ≡ m
 taken_from base xs loaded m x h same inside is found =
-    let d = find_there base loaded x found in
+    let d = there_at base loaded x found in
     disjoint_one xs x m (ascending_disjoint 0 xs h) ((same x).1 d.0) inside
     (base, (contains_from x.span base (let e = d.1 in omega (arith, e)) (let e = d.1 in let o = ordered_in 0 xs x h ((same x).1 d.0) in omega (arith, e, o)), contains_from m.span base (omega (arith, is)) (let o = ordered_in 0 xs m h inside in omega (arith, is, o))))
 

@@ -11,7 +11,7 @@ use Rattle.reg_model.specs.declared.span.Member.{Member}
 use Rattle.reg_model.proofs.Spans.{overlap_bounds}
 use Rattle.segment_array.specs.Ascending.{AscendFrom}
 use Rattle.segment_array.specs.Placing.{IsPlaceOf}
-use Rattle.segment_array.proofs.Places.{with_member}
+use Rattle.segment_array.proofs.Places.{ascend_lower, dropped_at, with_member}
 use Rattle.word_rule.specs.Places.{segments}
 use Rattle.word_rule.specs.Copies.{ListsMembers, StandFrom, count_in}
 use Rattle.word_rule.specs.Callers.{IsMemberOf}
@@ -41,11 +41,6 @@ get_taken zero i xs d h = absurd (omega (arith, h))
 get_taken (suc k) i [] d h = refl
 get_taken (suc k) zero (x ∷ xs) d h = refl
 get_taken (suc k) (suc i) (x ∷ xs) d h = get_taken k i xs d (omega (arith, h))
-
-get_dropped : (k i : ℕ) (xs : List Member) (d : Member) → get_or (drop k xs) i d ≡ get_or xs (k + i) d
-get_dropped zero i xs d = let e : i ≡ zero + i = omega arith in ap (λ j. get_or xs j d) e
-get_dropped (suc k) i [] d = refl
-get_dropped (suc k) i (x ∷ xs) d = get_dropped k i xs d ∙ (let e : suc (k + i) ≡ suc k + i = omega arith in ap (λ j. get_or (x ∷ xs) j d) e)
 
 -- what the words say of a member is that member
 pub stands_at : (words : List ℕ) (j i : ℕ) (xs : List Member) (d : Member) → StandFrom words j xs → i < length xs → member_in words (j + i) ≡ get_or xs i d
@@ -91,7 +86,7 @@ put_member words xs k i m h le less = go (dec_le k i) (ℕ_discrete i k)
         rw (le-ltb i k low, eq-eqb i k e) (sym (ap (λ j. get_or (put_at k m xs) j m) place ∙ get_behind (take k xs) (m ∷ drop k xs) 0 m))
     go (yes low) (no ne) =
         let l = len in let place : i ≡ length (take k xs) + suc (i - 1 - k) = omega (arith, ne, low, l) in let back : k + (i - 1 - k) ≡ i - 1 = omega (arith, ne, low) in
-        rw (le-ltb i k low, ne_eqb i k ne) (at (i - 1) (omega (arith, less, ne, low)) ∙ sym (ap (λ j. get_or (put_at k m xs) j m) place ∙ (get_behind (take k xs) (m ∷ drop k xs) (suc (i - 1 - k)) m ∙ (get_dropped k (i - 1 - k) xs m ∙ ap (λ j. get_or xs j m) back))))
+        rw (le-ltb i k low, ne_eqb i k ne) (at (i - 1) (omega (arith, less, ne, low)) ∙ sym (ap (λ j. get_or (put_at k m xs) j m) place ∙ (get_behind (take k xs) (m ∷ drop k xs) (suc (i - 1 - k)) m ∙ (dropped_at k (i - 1 - k) xs m ∙ ap (λ j. get_or xs j m) back))))
 
 -- ---- where a span fits among members that ascend
 
@@ -197,11 +192,7 @@ cut_member words xs k i d h inside less = go (dec_le k i)
         rw (lt-ltb i k less_k) (at i (omega (arith, less)) ∙ sym (get_front (take k xs) (drop (suc k) xs) i d (omega (arith, l, less_k)) ∙ get_taken k i xs d less_k))
     go (yes low) =
         let l = len in let place : i ≡ length (take k xs) + (i - k) = omega (arith, low, l) in let back : suc k + (i - k) ≡ i + 1 = omega (arith, low) in
-        rw (le-ltb i k low) (at (i + 1) less ∙ sym (ap (λ j. get_or (cut_at k xs) j d) place ∙ (get_behind (take k xs) (drop (suc k) xs) (i - k) d ∙ (get_dropped (suc k) (i - k) xs d ∙ ap (λ j. get_or xs j d) back))))
-
-ascend_lower : (low high : ℕ) (xs : List Member) → low ≤ high → AscendFrom high xs → AscendFrom low xs
-ascend_lower low high [] le h = tt
-ascend_lower low high (x ∷ xs) le h = let a = h.0 in (omega (arith, a, le), h.1, h.2)
+        rw (le-ltb i k low) (at (i + 1) less ∙ sym (ap (λ j. get_or (cut_at k xs) j d) place ∙ (get_behind (take k xs) (drop (suc k) xs) (i - k) d ∙ (dropped_at (suc k) (i - k) xs d ∙ ap (λ j. get_or xs j d) back))))
 
 pub cut_ascends : (low k : ℕ) (xs : List Member) → AscendFrom low xs → AscendFrom low (cut_at k xs)
 cut_ascends low zero [] h = tt

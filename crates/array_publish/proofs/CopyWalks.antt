@@ -1,6 +1,5 @@
 -- Loads of words of one copy, one after another.
 use Rattle.std.proofs.Common.{◌≡◌, ℕ, ◌+◌, ◌-◌, ◌<◌, inl, inr, ⊎_elim, ◌%◌, List, [], ◌∷◌, ◌++◌, get_or, sym, refl, ap, ◌∙◌, subst, arith, IsTrue, Option, Some, None, option_map, IsSomeAnd, append-nil, append_assoc, true}
-use Rattle.std.specs.List.{AllByRecursion}
 use Rattle.std.proofs.lemmas.Bool.{and_from, le-leb, lt-ltb}
 use Rattle.word_rule.specs.declared.log.CopySight.{CopySight}
 use Rattle.word_rule.specs.declared.log.LoadEvent.{LoadEvent}
@@ -12,13 +11,9 @@ use Rattle.word_rule.specs.Copies.{AreOfCopy}
 use Rattle.word_rule.specs.Logs.{load_of}
 use Rattle.word_rule.specs.Places.{copy_place, copy_words, is_of_copy}
 use Rattle.word_rule.specs.Sights.{with_copy_word, after_copy_load}
-use Rattle.word_rule.proofs.Each.{all_append}
+use Rattle.word_rule.proofs.Each.{all_append, all_behind}
 use Rattle.array_publish.specs.CopyLoads.{sight_words, with_words, after_copy_loads, LoadsCopy, IsTold, IsAtCopy}
 use Rattle.array_publish.specs.Search.{BeginsAbove}
-
-all_behind : {A : Type 0} (P : A → Type 0) (xs ys : List A) → AllByRecursion P (xs ++ ys) → AllByRecursion P ys
-all_behind P [] ys h = h
-all_behind P (x ∷ xs) ys h = all_behind P xs ys h.1
 
 -- a caller after loads of a copy
 abbrev loaded_by : CallerData → List LoadEvent → List LoadedWord → CallerData

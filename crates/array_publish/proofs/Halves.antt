@@ -6,8 +6,7 @@ use Rattle.reg_model.specs.SpanData.{contains}
 use Rattle.reg_model.specs.Query.{member_at}
 use Rattle.reg_model.specs.declared.span.Member.{Member}
 use Rattle.segment_array.specs.Ascending.{AscendFrom}
-use Rattle.segment_array.proofs.Places.{front_ascends}
-use Rattle.array_publish.proofs.Searches.{unheld_below, none_above}
+use Rattle.segment_array.proofs.Places.{front_ascends, none_above, unheld_below}
 
 -- the rest behind a part in front, and where that begins
 back_ascends : (low : ℕ) (xs : List Member) (y : Member) (ys : List Member) → AscendFrom low (xs ++ y ∷ ys) → (high : ℕ) × (AscendFrom high (y ∷ ys) × (low ≤ high))

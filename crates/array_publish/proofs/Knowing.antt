@@ -14,13 +14,12 @@ use Rattle.word_rule.specs.Callers.{IsMemberOf, start}
 use Rattle.word_rule.specs.Clock.{AfterClock, ClockTells}
 use Rattle.word_rule.specs.Copies.{ListsAll, ListsMembers}
 use Rattle.word_rule.specs.Places.{copy_words, upper}
-use Rattle.word_rule.proofs.Each.{some_with}
+use Rattle.word_rule.proofs.Each.{all_with, some_with}
 use Rattle.word_rule.proofs.Listings.{ascending_disjoint, disjoint_fit, state_fixed}
 use Rattle.array_publish.specs.Holders.{IsHolder, Spells, active_words, member_in, spare_words}
 use Rattle.array_publish.proofs.Overlaps.{listed_is}
 use Rattle.array_publish.specs.Update.{HoldsCopies, KnowsCopy}
 use Rattle.array_publish.specs.declared.writing.ActiveCopy.{ActiveCopy}
-use Rattle.array_publish.proofs.Lookups.{all_contains}
 use Rattle.array_publish.proofs.Works.{Holds, holder_stays, spells_active}
 
 all_there : (P : Member → Type 0) (xs : List Member) → ((x : Member) → Contains xs x → P x) → AllByRecursion P xs
@@ -56,11 +55,11 @@ module _ (w : WordsData) (k0 k1 k2 : CallerData) (found count : ℕ) (table : k0
   past_is = ap (λ k. k.log.past) two.4 ∙ ap (λ v. v.past) one.2.2
 
   members_known : AllByRecursion (IsMemberOf w.terms) told.1.members
-  members_known = all_there (IsMemberOf w.terms) told.1.members (λ x c. all_contains (IsMemberOf w.terms) (objects (state_after (start w.terms) one.0)) x tells.members (Contains-append_right (state_after (start w.terms) one.0).fixed (state_after (start w.terms) one.0).loaded x ((told.1.same x).0 c)))
+  members_known = all_there (IsMemberOf w.terms) told.1.members (λ x c. all_with (IsMemberOf w.terms) (objects (state_after (start w.terms) one.0)) x tells.members (Contains-append_right (state_after (start w.terms) one.0).fixed (state_after (start w.terms) one.0).loaded x ((told.1.same x).0 c)))
 
   few : length told.1.members ≤ w.terms.loads
   few =
-      let less = disjoint_fit told.1.members (state_after (start w.terms) one.0).loaded (ascending_disjoint 0 told.1.members told.1.lists.ascending) (λ x c. (all_contains (IsMemberOf w.terms) told.1.members x members_known c).0) (λ x c. (told.1.same x).0 c) in
+      let less = disjoint_fit told.1.members (state_after (start w.terms) one.0).loaded (ascending_disjoint 0 told.1.members told.1.lists.ascending) (λ x c. (all_with (IsMemberOf w.terms) told.1.members x members_known c).0) (λ x c. (told.1.same x).0 c) in
       let room = tells.lawful.room in let loads = (state_fixed (start w.terms) one.0).1 in omega (arith, less, room, loads)
 
   pub knows : KnowsCopy w (record { copy = upper found % 2; count = count }) k2
@@ -96,7 +95,7 @@ known_at w a k i h less =
     let d : Member = member_in (active_words k.log.loader) i in
     let count = h.count in
     let inside : i < length members = omega (arith, less, count) in
-    subst (IsMemberOf w.terms) (sym (listed_is (active_words k.log.loader) members i d h.listing.lists.stand inside)) (all_contains (IsMemberOf w.terms) members (get_or members i d) h.known (Contains-get_or members i d inside))
+    subst (IsMemberOf w.terms) (sym (listed_is (active_words k.log.loader) members i d h.listing.lists.stand inside)) (all_with (IsMemberOf w.terms) members (get_or members i d) h.known (Contains-get_or members i d inside))
 
 -- whatever the active copy lists is as many as the holder counted
 pub counted_so : (w : WordsData) (a : ActiveCopy) (k : CallerData) (xs : List Member) → KnowsCopy w a k → ListsMembers (active_words k.log.loader) xs → a.count ≡ length xs

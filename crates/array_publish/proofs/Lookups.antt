@@ -1,6 +1,6 @@
 -- A lookup of the loader's half, from its two loads of the clock and what was loaded between them.
 use Rattle.std.proofs.Common.{◌≡◌, ◌≢◌, ℕ, zero, suc, ◌+◌, ◌≤◌, ◌%◌, List, [], ◌∷◌, ◌++◌, length, take_all, Contains, ◌↔◌, sym, refl, ap, ◌∙◌, subst, arith, true, false, true≢false, Bool, nat_le, eq-eqb, ne_eqb, Option, Some, None, IfSome, IsSome, option_map, append-nil, append_assoc, Ok, Err, if◌then◌else◌}
-use Rattle.std.specs.List.{AllByRecursion, find}
+use Rattle.std.specs.List.{find}
 use Rattle.std.specs.Option.{option_or}
 use Rattle.std.proofs.lemmas.Bool.{leb-true, and_parts}
 use Rattle.std.proofs.lemmas.List.Folds.{find-append}
@@ -13,7 +13,6 @@ use Rattle.reg_model.specs.Receipt.{member_of, stamp_of}
 use Rattle.reg_model.specs.declared.span.Member.{Member}
 use Rattle.reg_model.specs.declared.answer.Again.TheVariants.{Changed}
 use Rattle.reg_model.specs.declared.answer.Found.{Found}
-use Rattle.reg_model.specs.declared.answer.Found.TheVariants.{Hit, Miss}
 use Rattle.reg_model.specs.declared.answer.Half.TheVariants.{Loaded}
 use Rattle.reg_model.specs.declared.answer.Receipt.{Receipt}
 use Rattle.reg_model.specs.declared.answer.Receipt.TheVariants.{Query}
@@ -37,7 +36,9 @@ use Rattle.array_publish.specs.CopyLoads.{LoadsCopy, after_copy_loads, sight_wor
 use Rattle.array_publish.specs.Lookup.{LooksUp, after_lookup}
 use Rattle.array_publish.specs.Search.{IsMember, IsObjectAt, listed_member}
 use Rattle.array_publish.specs.declared.walk.Listed.{Listed}
-use Rattle.array_publish.proofs.Searches.{unheld_below}
+use Rattle.word_rule.proofs.Each.{all_with}
+use Rattle.word_rule.proofs.NodeSights.{found_is}
+use Rattle.segment_array.proofs.Places.{unheld_below}
 
 -- ---- members that ascend, and another list of the same ones
 
@@ -64,15 +65,6 @@ same_found pc low members loaded h same = go (member_at pc loaded) refl (member_
     go None e None f = e ∙ sym f
     go None e (Some m) f = let d = found_there pc members m f in
         let found : IsSome (member_at pc loaded) = contains_find (λ (x : Member). contains x.span pc) loaded m ((same m).0 d.0) d.1 in absurd (true≢false (sym (subst IsSome e found)))
-
-pub all_contains : (P : Member → Type 0) (members : List Member) (m : Member) → AllByRecursion P members → Contains members m → P m
-all_contains P [] m h (k, l, e) = absurd (omega (arith, l))
-all_contains P (x ∷ members) m h (zero, l, e) = subst P e h.0
-all_contains P (x ∷ members) m h (suc k, l, e) = all_contains P members m h.1 (k, omega (arith, l), e)
-
-found_is : (found : Found) → found_at (member_of found) (stamp_of found) ≡ found
-found_is (Hit m stamp) = refl
-found_is (Miss stamp) = refl
 
 -- a sight after a load of the clock
 guarded : (first : ℕ) (o : Option CopySight) → (s : CopySight) × ((copies_after_clock first o ≡ Some s) × (s.guard ≡ upper first))
@@ -188,7 +180,7 @@ module _ (t : Terms) (pc first second : ℕ) (k0 k1 k2 k3 : CallerData) (object 
     -- what was found may be made known
     known : (o : Option Member) → query Loaded pc (state_after (start t) two.0) ≡ o → IfSome o (IsMemberOf t)
     known None e = tt
-    known (Some m) e = all_contains (IsMemberOf t) (objects (state_after (start t) two.0)) m two.2.0.members (found_there pc (objects (state_after (start t) two.0)) m e).0
+    known (Some m) e = all_with (IsMemberOf t) (objects (state_after (start t) two.0)) m two.2.0.members (found_there pc (objects (state_after (start t) two.0)) m e).0
 
     pub is_member : IfSome object IsMember
     is_member = go object (known (option_map listed_member object) found_now)

@@ -18,6 +18,7 @@ use Rattle.array_publish.specs.Search.{BeginsAbove, IsLastBegun, IsObjectAt, lis
 use Rattle.array_publish.specs.declared.walk.Begun.{Begun}
 use Rattle.array_publish.specs.declared.walk.Listed.{Listed}
 use Rattle.array_publish.proofs.CopyWalks.{told_later, above_later}
+use Rattle.segment_array.proofs.Places.{none_above, unheld_above, unheld_below}
 
 -- ---- the halves
 
@@ -120,19 +121,6 @@ one_begun t c k pc count begun first size left one pos =
 and_no : (a b : Bool) → b ≡ false → (a && b) ≡ false
 and_no true b e = e
 and_no false b e = refl
-
-pub unheld_below : (m : Member) (pc : ℕ) → m.span.last < pc → contains m.span pc ≡ false
-unheld_below m pc h = and_no (nat_le m.span.first pc) (nat_le pc m.span.last) (lt-leb pc m.span.last h)
-
-unheld_above : (m : Member) (pc : ℕ) → pc < m.span.first → contains m.span pc ≡ false
-unheld_above m pc h = rw (lt-leb m.span.first pc h) refl
-
--- members that begin above the address don't contain it
-pub none_above : (pc low : ℕ) (members : List Member) → AscendFrom low members → pc < low → member_at pc members ≡ None
-none_above pc low [] h less = refl
-none_above pc low (m ∷ members) h less =
-    let a = h.0 in let b = h.1 in
-    rw (unheld_above m pc (omega (arith, a, less))) (none_above pc (m.span.last + 1) members h.2 (omega (arith, a, b, less)))
 
 -- the word with which a member begins is at least where they all begin
 begins_from : (words : List ℕ) (i b low : ℕ) (members : List Member) → AscendFrom low members → StandFrom words i members → i ≤ b → b < i + length members → low ≤ get_or words (member_place b) 0

@@ -22,7 +22,7 @@ use Rattle.btree_change.specs.Stands.{AnswersBelow, AnswersHere, AreLeftAs, Lets
 use Rattle.btree_change.proofs.Descending.{is_inner}
 use Rattle.btree_change.proofs.Lowering.{settled_live}
 use Rattle.btree_change.proofs.Spending.{right_before, spends_before, surplus_after}
-use Rattle.btree_change.proofs.Standing.{higher_spelled}
+use Rattle.btree_change.proofs.NextLeaves.{higher_spelled}
 
 -- what stands above a leaf is inner nodes
 pub inner_above : (t : Terms) (level : ℕ) (held : List Holding) → AreHigher t level held → AllByRecursion IsInnerLock held

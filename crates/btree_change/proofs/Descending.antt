@@ -22,6 +22,7 @@ use Rattle.node_store.specs.Locking.{Locks}
 use Rattle.node_store.specs.Sights.{after_words}
 use Rattle.btree_change.specs.Paths.{HasChildFor, StepsOnNodes}
 use Rattle.btree_change.proofs.Loading.{keeps_all, keeps_then, keeps_words, none_more}
+use Rattle.word_rule.proofs.Each.{all_with}
 
 -- the first slot for an address leads to a child whose fences hold it
 pub slot_branch : (level low pc : ℕ) (pairs : List Pair) (d : Pair) → low ≤ pc → slot_for pc pairs < length pairs
@@ -64,12 +65,6 @@ is_inner s = go s.body refl
     go (Pairs pairs) e ordered above = (e ∙ ap Pairs (ap pairs_in (sym e)), ap is_entries e)
     go (Link next) e ordered above = absurd ordered
 
--- what holds of an item of a list
-pub all_there : {A : Type 0} (P : A → Type 0) (xs : List A) (x : A) → AllByRecursion P xs → Contains xs x → P x
-all_there P [] x all c = absurd (let l = c.1 in omega (arith, l))
-all_there P (y ∷ xs) x all (zero, l, e) = subst P e all.0
-all_there P (y ∷ xs) x all (suc k, l, e) = all_there P xs x all.1 (k, omega (arith, l), e)
-
 -- a child that is there is found, and all that are found have its place
 pub found_child : (c : ℕ) (places : ℕ → Frame) (bs : List Branch) (b : Branch) → AllByRecursion (λ x. places x.child ≡ x.frame) bs → Contains bs b → b.child ≡ c → place_in c bs ≡ Some (places c)
 found_child c places [] b all there is = absurd (let l = there.1 in omega (arith, l))
@@ -102,7 +97,7 @@ level_of level low (p ∷ pairs) b (suc k, l, e) = level_of level (p.separator +
 
 pub child_of : (t : Terms) (n : ℕ) (s : NodeData) (f : Frame) (pc c : ℕ) → IsLiveNode t n s f → 0 < s.level → HasChildFor s pc c → IsChildOf t n s pc c
 child_of t n s f pc c live above (b, (there, is, low, high)) =
-    let told = all_there (λ x. (x.child < t.nodes) × (x.child ≢ 0) × (live.places x.child ≡ x.frame)) (branches (s.level - 1) s) b live.children there in
+    let told = all_with (λ x. (x.child < t.nodes) × (x.child ≢ 0) × (live.places x.child ≡ x.frame)) (branches (s.level - 1) s) b live.children there in
     let frame : live.places c ≡ b.frame = ap live.places (sym is) ∙ told.2 in
     let level : b.frame.level ≡ s.level - 1 = level_of (s.level - 1) s.low (pairs_of s) b there in record {
       frame = b.frame;

@@ -1,14 +1,11 @@
 -- The root, from what the calls that take and read it ensure.
-use Rattle.std.proofs.Common.{◌≡◌, ℕ, ◌<◌, List, [], ◌∷◌, sym, refl, ap, ◌∙◌, subst, Option, Some, None, Bool, true, false, ◌++◌, ◌==◌, append-nil, if◌then◌else◌, IsTrue, IsSome, IsSomeAnd}
+use Rattle.std.proofs.Common.{◌≡◌, ℕ, ◌<◌, [], ◌∷◌, sym, refl, ap, ◌∙◌, subst, Some, false, ◌++◌, append-nil, IsTrue, IsSome, IsSomeAnd}
 use Rattle.tree_shape.specs.NodeData.{NodeData}
 use Rattle.word_rule.specs.CallerData.{CallerData}
 use Rattle.tree_shape.specs.declared.node.Frame.{Frame}
 use Rattle.word_rule.specs.declared.log.Holding.{Holding}
 use Rattle.word_rule.specs.NodeTells.{IsLiveNode, KnowsTree}
-use Rattle.word_rule.specs.Sights.{after_node_load, after_node_version, receipts_after_version, sight_of, try_receipts}
-use Rattle.reg_model.specs.declared.answer.Receipt.{Receipt}
-use Rattle.word_rule.specs.declared.log.Log.{Log}
-use Rattle.word_rule.specs.declared.log.NodeSight.{NodeSight}
+use Rattle.word_rule.specs.Sights.{after_node_load, after_node_version, receipts_after_version, sight_of}
 use Rattle.word_rule.specs.declared.log.Ask.TheVariants as ask
 use Rattle.word_rule.specs.Held.{held_of}
 use Rattle.word_rule.specs.Spelling.{spelled}
@@ -21,6 +18,7 @@ use Rattle.btree_change.specs.Paths.{HoldsNothing, IsSettledLock, StepsOnNodes}
 use Rattle.btree_change.specs.Stands.{HoldsRoot}
 use Rattle.word_rule.specs.Spelling.{SpellsNode}
 use Rattle.std.proofs.lemmas.Option.{same_Some}
+use Rattle.word_rule.proofs.NodeSights.{no_receipt}
 
 -- the root was locked and read, by one that held nothing
 pub at_the_root : (t : Terms) (shape : NodeData) (k k1 k2 k3 : CallerData) (found : ℕ) → 0 < t.nodes → k.log.terms ≡ t → HoldsNothing k.log.holdings → Locks (lock.Node 0) k k1 → KnowsTree k1.log.holdings → k2 ≡ record k1 { log = after_node_load 0 2 found k1.log } → SpellsHeld 0 shape k2.log → k3.log.holdings ≡ k2.log.holdings
@@ -63,16 +61,7 @@ pub steps_of_load : (n at found : ℕ) (k k' : CallerData) → k' ≡ record k {
 steps_of_load n at found k k' is =
     subst (StepsOnNodes k) (sym is) (record { table = refl; left = refl; terms = refl; role = refl; past = refl; budget = refl; receipts = refl; loader = refl; made = refl; lineage = refl; loads = (_ ∷ [], refl) })
 
--- a load of a version for which nothing is asked appends nothing
-nothing_asked : (v : Log) (found : ℕ) (o : Option NodeSight) → receipts_after_version v ask.Nothing found o ≡ []
-nothing_asked v found None = refl
-nothing_asked v found (Some s) = go (s.version == found)
-  where
-    go : (b : Bool) → ◌≡◌ {A = List Receipt} (if b then try_receipts v ask.Nothing s s.clock else []) []
-    go true = refl
-    go false = refl
-
 pub steps_of_version : (n found : ℕ) (k k' : CallerData) → k' ≡ record k { log = after_node_version ask.Nothing n found k.log } → StepsOnNodes k k'
 steps_of_version n found k k' is =
-    let own : k.log.receipts.own ++ receipts_after_version k.log ask.Nothing found (sight_of n k.log.sights.nodes) ≡ k.log.receipts.own = ap (λ rs. k.log.receipts.own ++ rs) (nothing_asked k.log found (sight_of n k.log.sights.nodes)) ∙ append-nil k.log.receipts.own in
+    let own : k.log.receipts.own ++ receipts_after_version k.log ask.Nothing found (sight_of n k.log.sights.nodes) ≡ k.log.receipts.own = ap (λ rs. k.log.receipts.own ++ rs) (no_receipt k.log found (sight_of n k.log.sights.nodes)) ∙ append-nil k.log.receipts.own in
     subst (StepsOnNodes k) (sym is) (record { table = refl; left = refl; terms = refl; role = refl; past = refl; budget = refl; receipts = (λ i. record k.log.receipts { own = own i }); loader = refl; made = refl; lineage = refl; loads = (_ ∷ [], refl) })

@@ -39,7 +39,7 @@ use Rattle.btree_change.specs.Stands.{AnswersBelow, AreLeftAs, GivesUpBelow, Has
 use Rattle.btree_change.proofs.Answering.{inner_above, leaf_room, unmoved}
 use Rattle.btree_change.proofs.Descending.{steps_of_read}
 use Rattle.btree_change.proofs.Going.{apart_left, far_left, way_lowered}
-use Rattle.btree_change.proofs.LockedSpines.{found_head, may_read_found, reads_spelled}
+use Rattle.btree_change.proofs.LockedSpines.{may_read_found, reads_spelled}
 use Rattle.btree_change.proofs.Outlining.{spells_held}
 use Rattle.btree_change.proofs.NextOverlaps.{both_free, both_leaves}
 use Rattle.btree_change.proofs.Refusing.{refused_full}
@@ -48,6 +48,7 @@ use Rattle.btree_change.proofs.Spending.{right_after, right_before, spends_after
 use Rattle.btree_change.proofs.Standing.{live_lock, may_go}
 use Rattle.btree_change.proofs.Stepping.{splits_on}
 use Rattle.btree_change.proofs.Storing.{found_at}
+use Rattle.btree_change.proofs.HeldLists.{found_head}
 
 -- No member overlaps in two leaves, and there was no room.
 module _ (t : Terms) (n : ℕ) (s : NodeData) (r : ℕ) (u : NodeData) (m : Member) (k : CallerData) (pair : HoldsLeafPair n s r u k.log.holdings) (live : (place : Frame) × IsLiveNode t r u place) (here : IsInFences m.span.first s) (high : m.span.last < u.high) (free : IsFree m.span (entries_of s)) (free_right : IsFree m.span (entries_of u)) (cause : HadNoRoom m.span.first (length k.log.receipts.own) k.log.trace.loads) where

@@ -21,11 +21,12 @@ use Rattle.word_rule.specs.NodeTells.{KnowsTree}
 use Rattle.word_rule.specs.Spelling.{SpellsNode}
 use Rattle.btree_change.specs.Spines.{AreApart, AreRewritten, HoldsNext, IsFreshLock, IsLeftToMove, IsRewrittenAs, IsRightToMove, IsSpine}
 use Rattle.btree_change.proofs.FenceSpines.{BeginsAt, ClimbsSpine, RightFrom, climb_spine, first_locks, first_nodes, last_locks, last_nodes, lefts_move, rights_begin, rights_move, spine_levels}
-use Rattle.btree_change.proofs.FreshSpines.{all_both, all_parts, found_in}
+use Rattle.btree_change.proofs.FreshSpines.{all_parts, found_in}
 use Rattle.btree_change.proofs.HeldTrees.{EndsAt, Forks, IsChild, OnTree, after_in, at_in, child, forks, on_tree}
 use Rattle.btree_change.proofs.NextLeaves.{higher_marked, in_middle}
 use Rattle.btree_change.proofs.HeldLists.{HeldOnce}
 use Rattle.btree_change.proofs.Settling.{FitsChange, IsHeldChange, SettlingLaws, lawful_release, left_out, marked_at, none_out, settled_after, settled_group, settled_still}
+use Rattle.word_rule.proofs.Each.{all_append, all_map}
 
 -- the laws of a moved fence
 abbrev pub MoveLaw : Type 0
@@ -38,10 +39,6 @@ KeptLaw = (f : Contents) (live : ℕ → Bool) (parent slot : ℕ) (p q : Pair) 
 pub all_zip : {A : Type 0} (P Q : A → Type 0) (xs : List A) → AllByRecursion P xs → AllByRecursion Q xs → AllByRecursion (λ x. P x × Q x) xs
 all_zip P Q [] p q = tt
 all_zip P Q (x ∷ xs) p q = ((p.0, q.0), all_zip P Q xs p.1 q.1)
-
-pub all_map : {A : Type 0} (P Q : A → Type 0) → ((x : A) → P x → Q x) → (xs : List A) → AllByRecursion P xs → AllByRecursion Q xs
-all_map P Q each [] all = tt
-all_map P Q each (x ∷ xs) all = (each x all.0, all_map P Q each xs all.1)
 
 apart_split : (xs ys : List Holding) → AreApart (xs ++ ys) → AllByRecursion (λ (y : Holding). AllByRecursion (λ (a : Holding). a.node ≢ y.node) xs) ys
 apart_split [] ys all = go ys
@@ -111,7 +108,7 @@ module _ (t : Terms) (x slot fence : ℕ) (holdings : Holdings) (next : HoldsNex
   held0 = next.held ∙ ap (λ hs. (next.right ∷ next.more) ++ hs) next.way.held
 
   pub on_all : AllByRecursion (OnTree f live) (rights ++ (lefts ++ top ∷ rest))
-  on_all = on_tree holdings tree (rights ++ (lefts ++ top ∷ rest)) held0 (all_both (λ (h : Holding). IsSome h.mark) rights (lefts ++ top ∷ rest) (all_map (IsFreshLock t) (λ (h : Holding). IsSome h.mark) (λ h z. z.live.marked) rights next.fresh) (next.way.here.marked, higher_marked t 0 (next.way.spine ++ top ∷ rest) next.way.above))
+  on_all = on_tree holdings tree (rights ++ (lefts ++ top ∷ rest)) held0 (all_append (λ (h : Holding). IsSome h.mark) rights (lefts ++ top ∷ rest) (all_map (IsFreshLock t) (λ (h : Holding). IsSome h.mark) (λ h z. z.live.marked) rights next.fresh) (next.way.here.marked, higher_marked t 0 (next.way.spine ++ top ∷ rest) next.way.above))
 
   pub on_rights : AllByRecursion (OnTree f live) rights
   on_rights = (all_parts (OnTree f live) rights (lefts ++ top ∷ rest) on_all).0
@@ -364,7 +361,7 @@ module _ (t : Terms) (x slot fence : ℕ) (holdings : Holdings) (next : HoldsNex
         let at : slice_get (pairs_of (f x)) slot ≡ Some p = ap (λ (s : NodeData). slice_get (pairs_of s) slot) top_content ∙ p_at in
         let one : record p { separator = fence } ≡ p = some_same (record p { separator = fence }) p (sym (separated fence slot (pairs_of (f x)) p at) ∙ (ap (λ ps. slice_get ps slot) same ∙ at)) in
         let sep = ap (λ (z : Pair). z.separator) one in let low = below_fence in omega (arith, sep, low))),
-    all_both (λ n. g n ≢ f n) left_nodes right_nodes
+    all_append (λ n. g n ≢ f n) left_nodes right_nodes
         (left_nodes_so (λ n. g n ≢ f n) (λ h is e. (let d : fence ≡ h.settled.high = ap (λ (s : NodeData). s.high) (sym is.now ∙ (e ∙ is.on.content)) in let l = is.ends_low in omega (arith, d, l))))
         (right_nodes_so (λ n. g n ≢ f n) (λ h is e. (let d : fence + 1 ≡ h.settled.low = ap (λ (s : NodeData). s.low) (sym is.now ∙ (e ∙ is.on.content)) in let l = is.begins in omega (arith, d, l)))),
   )
@@ -375,7 +372,7 @@ module _ (t : Terms) (x slot fence : ℕ) (holdings : Holdings) (next : HoldsNex
   lower : AllByRecursion (λ n. n ≢ x → (f n).level < (f x).level) group
   lower = (
     (λ far. absurd (far refl)),
-    all_both (λ n. n ≢ x → (f n).level < (f x).level) left_nodes right_nodes
+    all_append (λ n. n ≢ x → (f n).level < (f x).level) left_nodes right_nodes
         (left_nodes_so (λ n. n ≢ x → (f n).level < (f x).level) (λ h is _. (let a = ap (λ (s : NodeData). s.level) is.on.content in let b = ap (λ (s : NodeData). s.level) top_content in let l = is.lower in omega (arith, a, b, l))))
         (right_nodes_so (λ n. n ≢ x → (f n).level < (f x).level) (λ h is _. (let a = ap (λ (s : NodeData). s.level) is.on.content in let b = ap (λ (s : NodeData). s.level) top_content in let l = is.lower in omega (arith, a, b, l)))),
   )
@@ -398,9 +395,9 @@ module _ (t : Terms) (x slot fence : ℕ) (holdings : Holdings) (next : HoldsNex
 
     each : AllByRecursion (FitsChange f live group [] g) after.held
     each = subst (AllByRecursion (FitsChange f live group [] g)) (sym held)
-        (all_both (FitsChange f live group [] g) (rights' ++ []) (lefts' ++ top' ∷ rest)
-        (all_both (FitsChange f live group [] g) rights' [] (rewritten_all (begins_after fence) IsRight (FitsChange f live group [] g) (λ a b is w. fits (begins_after fence) a b is.on is.now w) rights rights' wrote_right are_right) tt)
-        (all_both (FitsChange f live group [] g) lefts' (top' ∷ rest) (rewritten_all (ends_at_fence fence) IsLeft (FitsChange f live group [] g) (λ a b is w. fits (ends_at_fence fence) a b is.on is.now w) lefts lefts' wrote_left are_left)
+        (all_append (FitsChange f live group [] g) (rights' ++ []) (lefts' ++ top' ∷ rest)
+        (all_append (FitsChange f live group [] g) rights' [] (rewritten_all (begins_after fence) IsRight (FitsChange f live group [] g) (λ a b is w. fits (begins_after fence) a b is.on is.now w) rights rights' wrote_right are_right) tt)
+        (all_append (FitsChange f live group [] g) lefts' (top' ∷ rest) (rewritten_all (ends_at_fence fence) IsLeft (FitsChange f live group [] g) (λ a b is w. fits (ends_at_fence fence) a b is.on is.now w) lefts lefts' wrote_left are_left)
         (fits (λ _. raised_top) top top' on_more.0 (ap g next.way.node ∙ g_top) wrote_top, all_map (λ (h : Holding). IsRest h × SpellsNode h.words h.settled) (FitsChange f live group [] g) fit_rest rest (all_zip IsRest (λ (h : Holding). SpellsNode h.words h.settled) rest are_rest kept))))
 
     -- each lock of these is held
@@ -421,7 +418,7 @@ module _ (t : Terms) (x slot fence : ℕ) (holdings : Holdings) (next : HoldsNex
     group_held : AllByRecursion (λ n. IsTrue (marked_in after.held n)) group
     group_held = (
       subst (λ m. IsTrue (marked_in after.held m)) next.way.node (marked_so (λ _. raised_top) top top' on_more.0 wrote_top (in_held top' (in_right (rights' ++ []) (lefts' ++ top' ∷ rest) top' (in_middle lefts' top' rest)))),
-      all_both (λ n. IsTrue (marked_in after.held n)) left_nodes right_nodes
+      all_append (λ n. IsTrue (marked_in after.held n)) left_nodes right_nodes
           (last_nodes f (λ n. IsTrue (marked_in after.held n)) (f p.child).level p.child lefts left_at (all_map (λ (a : Holding). (OnTree f live a → IsTrue (marked_in after.held a.node)) × OnTree f live a) (λ (a : Holding). (f a.node ≡ a.settled) × IsTrue (marked_in after.held a.node)) (λ a both. (both.1.content, both.0 both.1)) lefts (all_zip (λ (a : Holding). OnTree f live a → IsTrue (marked_in after.held a.node)) (OnTree f live) lefts marked_lefts on_lefts)))
           (first_nodes f (λ n. IsTrue (marked_in after.held n)) (f q.child).level q.child rights right_at (all_map (λ (a : Holding). (OnTree f live a → IsTrue (marked_in after.held a.node)) × OnTree f live a) (λ (a : Holding). (f a.node ≡ a.settled) × IsTrue (marked_in after.held a.node)) (λ a both. (both.1.content, both.0 both.1)) rights (all_zip (λ (a : Holding). OnTree f live a → IsTrue (marked_in after.held a.node)) (OnTree f live) rights marked_rights on_rights))),
     )
@@ -462,9 +459,9 @@ module _ (t : Terms) (x slot fence : ℕ) (holdings : Holdings) (next : HoldsNex
 
     pub settled_all : AllByRecursion (λ (h : Holding). SpellsNode (settled h).words (settled h).settled) after.held
     settled_all = subst (AllByRecursion Spelled) (sym held)
-        (all_both Spelled (rights' ++ []) (lefts' ++ top' ∷ rest)
-        (all_both Spelled rights' [] (rewritten_all (begins_after fence) IsRight Spelled (λ a b is w. spelled_so (begins_after fence) a b (right_in a is) w) rights rights' wrote_right are_right) tt)
-        (all_both Spelled lefts' (top' ∷ rest) (rewritten_all (ends_at_fence fence) IsLeft Spelled (λ a b is w. spelled_so (ends_at_fence fence) a b (left_in a is) w) lefts lefts' wrote_left are_left)
+        (all_append Spelled (rights' ++ []) (lefts' ++ top' ∷ rest)
+        (all_append Spelled rights' [] (rewritten_all (begins_after fence) IsRight Spelled (λ a b is w. spelled_so (begins_after fence) a b (right_in a is) w) rights rights' wrote_right are_right) tt)
+        (all_append Spelled lefts' (top' ∷ rest) (rewritten_all (ends_at_fence fence) IsLeft Spelled (λ a b is w. spelled_so (ends_at_fence fence) a b (left_in a is) w) lefts lefts' wrote_left are_left)
         (spelled_so (λ _. raised_top) top top' (subst (λ m. IsTrue (is_among group m)) (sym next.way.node) top_in) wrote_top, all_map (λ (h : Holding). IsRest h × SpellsNode h.words h.settled) Spelled (λ h both. subst (λ (z : Holding). SpellsNode z.words z.settled) (sym (settled_rest h both.0)) both.1) rest (all_zip IsRest (λ (h : Holding). SpellsNode h.words h.settled) rest are_rest kept))))
       where
         Spelled : Holding → Type 0

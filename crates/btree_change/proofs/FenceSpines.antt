@@ -17,8 +17,9 @@ use Rattle.word_rule.specs.declared.log.Terms.{Terms}
 use Rattle.word_rule.specs.NodeTells.{IsLiveNode}
 use Rattle.btree_change.specs.Paths.{AreHigher, IsLiveLock}
 use Rattle.btree_change.specs.Spines.{Climbs, IsAtSlot, IsFreshLock, IsLeftToMove, IsRightToMove, IsSpine, IsToMove}
-use Rattle.btree_change.proofs.FreshSpines.{all_both, all_parts}
+use Rattle.btree_change.proofs.FreshSpines.{all_parts}
 use Rattle.btree_change.proofs.HeldTrees.{EndsAt, OnTree, at_in, child, first_high, first_in, inner, last_in}
+use Rattle.word_rule.proofs.Each.{all_append}
 
 -- the left spine from X's slot down, out of the locks from the leaf up
 pub record ClimbsSpine (slot : ℕ) (top : Holding) (locks : List Holding) : Type 0 where
@@ -76,7 +77,7 @@ last_locks f (suc level) n locks (h, lower, (at, is, below)) all =
     let rest = last_locks f level (last_child 0 (pairs_of h.settled)) lower below parts.0 in
     let rest' = subst (λ (z : NodeData). AllByRecursion (λ (a : Holding). 0 < times a.node (last_spine f level (last_child 0 (pairs_of z)))) lower) same rest in
     subst (AllByRecursion (λ (a : Holding). 0 < times a.node (last_spine f (suc level) n))) (sym is)
-    (all_both (λ (a : Holding). 0 < times a.node (last_spine f (suc level) n)) lower (h ∷ [])
+    (all_append (λ (a : Holding). 0 < times a.node (last_spine f (suc level) n)) lower (h ∷ [])
     (later (λ (a : Holding). 0 < times a.node (last_spine f level (last_child 0 (pairs_of (f n))))) (λ (a : Holding). 0 < times a.node (last_spine f (suc level) n)) (λ a some. omega (arith, some)) lower rest')
     (subst (λ m. 0 < times m (last_spine f (suc level) n)) (sym at.0) (times_head n (last_spine f level (last_child 0 (pairs_of (f n))))), tt))
 
@@ -88,7 +89,7 @@ first_locks f (suc level) n locks (h, lower, (at, is, below)) all =
     let rest = first_locks f level (first_child 0 (pairs_of h.settled)) lower below parts.0 in
     let rest' = subst (λ (z : NodeData). AllByRecursion (λ (a : Holding). 0 < times a.node (first_spine f level (first_child 0 (pairs_of z)))) lower) same rest in
     subst (AllByRecursion (λ (a : Holding). 0 < times a.node (first_spine f (suc level) n))) (sym is)
-    (all_both (λ (a : Holding). 0 < times a.node (first_spine f (suc level) n)) lower (h ∷ [])
+    (all_append (λ (a : Holding). 0 < times a.node (first_spine f (suc level) n)) lower (h ∷ [])
     (later (λ (a : Holding). 0 < times a.node (first_spine f level (first_child 0 (pairs_of (f n))))) (λ (a : Holding). 0 < times a.node (first_spine f (suc level) n)) (λ a some. omega (arith, some)) lower rest')
     (subst (λ m. 0 < times m (first_spine f (suc level) n)) (sym at.0) (times_head n (first_spine f level (first_child 0 (pairs_of (f n))))), tt))
 
@@ -96,7 +97,7 @@ first_locks f (suc level) n locks (h, lower, (at, is, below)) all =
 pub spine_levels : (child : ℕ → List Pair → ℕ) (level n : ℕ) (locks : List Holding) → IsSpine child level n locks → AllByRecursion (λ (h : Holding). h.settled.level ≤ level) locks
 spine_levels child zero n locks (h, (at, is)) = subst (AllByRecursion (λ (a : Holding). a.settled.level ≤ zero)) (sym is) ((let e = at.1 in omega (arith, e)), tt)
 spine_levels child (suc level) n locks (h, lower, (at, is, below)) = subst (AllByRecursion (λ (a : Holding). a.settled.level ≤ suc level)) (sym is)
-    (all_both (λ (a : Holding). a.settled.level ≤ suc level) lower (h ∷ []) (later (λ (a : Holding). a.settled.level ≤ level) (λ (a : Holding). a.settled.level ≤ suc level) (λ a low. omega (arith, low)) lower (spine_levels child level (child 0 (pairs_of h.settled)) lower below))
+    (all_append (λ (a : Holding). a.settled.level ≤ suc level) lower (h ∷ []) (later (λ (a : Holding). a.settled.level ≤ level) (λ (a : Holding). a.settled.level ≤ suc level) (λ a low. omega (arith, low)) lower (spine_levels child level (child 0 (pairs_of h.settled)) lower below))
     ((let e = at.1 in omega (arith, e)), tt))
 
 -- separators above the first one
@@ -214,7 +215,7 @@ module _ (f : Contents) (live : ℕ → Bool) (lawful : IsLawfulTree f live) whe
       let first_above : fence < first_high (pairs_of h.settled) = (let a = rest.high in let c = fits.high in omega (arith, a, c)) in
       let low : (f (first_child 0 (pairs_of h.settled))).low ≡ (f n).low = fits.low ∙ ap (λ (s : NodeData). s.low) (sym same) in
       let high : fence < h.settled.high = (let i = inside.2 in omega (arith, first_above, i)) in record {
-        each = subst (AllByRecursion (BeginsAt (f n).low fence)) (sym is) (all_both (BeginsAt (f n).low fence) lower (h ∷ []) (subst (λ l. AllByRecursion (BeginsAt l fence) lower) low rest.each) (
+        each = subst (AllByRecursion (BeginsAt (f n).low fence)) (sym is) (all_append (BeginsAt (f n).low fence) lower (h ∷ []) (subst (λ l. AllByRecursion (BeginsAt l fence) lower) low rest.each) (
           record {
             low_is = ap (λ (s : NodeData). s.low) (sym same);
             high = high;

@@ -14,16 +14,13 @@ use Rattle.word_rule.specs.Spelling.{spelled}
 use Rattle.word_rule.specs.Steps.{after_node_release_same, head_without}
 use Rattle.node_store.specs.Holding.{ReadsHeld}
 use Rattle.btree_change.specs.Spines.{AreApart, HoldsFresh, IsFreshLock, IsLockAt, IsSpine}
-use Rattle.btree_change.proofs.LockedSpines.{found_head, may_read_found, reads_spelled, without_head}
+use Rattle.btree_change.proofs.LockedSpines.{may_read_found, reads_spelled, without_head}
+use Rattle.btree_change.proofs.HeldLists.{found_head}
 
 -- what holds of all of two lists
 pub all_parts : {A : Type 0} (P : A → Type 0) (xs ys : List A) → AllByRecursion P (xs ++ ys) → AllByRecursion P xs × AllByRecursion P ys
 all_parts P [] ys all = (tt, all)
 all_parts P (x ∷ xs) ys all = let rest = all_parts P xs ys all.1 in ((all.0, rest.0), rest.1)
-
-pub all_both : {A : Type 0} (P : A → Type 0) (xs ys : List A) → AllByRecursion P xs → AllByRecursion P ys → AllByRecursion P (xs ++ ys)
-all_both P [] ys a b = b
-all_both P (x ∷ xs) ys a b = (a.0, all_both P xs ys a.1 b)
 
 -- where each node is held once, no other lock is of a lock's node
 pub apart_mid : (xs : List Holding) (h : Holding) (ys : List Holding) → AreApart (xs ++ h ∷ ys) → AllByRecursion (λ (a : Holding). a.node ≢ h.node) xs × AllByRecursion (λ (a : Holding). a.node ≢ h.node) ys

@@ -25,7 +25,8 @@ use Rattle.btree_change.specs.Spines.{AreApart, Climbs}
 use Rattle.btree_change.specs.Stands.{AnswersBelow, AreLeftAs, GivesUpBelow, GoesBelow, HasCause, HasSplit, HasWayOn, HoldsPair, HoldsStep, IfNoneFree, LiesBeyond, IsLeftAs, LetsGo, MayGo, Reaches, SpendsSteps, StandsOnWay}
 use Rattle.btree_change.proofs.NoRoom.{cause_after, cause_below, cause_still, if_full}
 use Rattle.btree_change.proofs.Spending.{own_same, right_after, right_before, spends_after, spends_before, spends_same, steps_after}
-use Rattle.btree_change.proofs.Standing.{higher_spelled, may_go, way_kept}
+use Rattle.btree_change.proofs.Standing.{may_go, way_kept}
+use Rattle.btree_change.proofs.NextLeaves.{higher_spelled}
 
 -- the way on, after the child was locked
 pub way_lowered : (way : Room) (pc : ℕ) (s : NodeData) (k l : CallerData) → StepsOnNodes k l → KeepsLoads k l → HasWayOn way pc s k.log → HasWayOn way pc s l.log

@@ -1,5 +1,5 @@
 -- Lists of locks: what stands in them, which is the highest, and which is found by its node.
-use Rattle.std.proofs.Common.{◌≡◌, ◌≢◌, ℕ, ◌<◌, ◌≤◌, List, [], ◌∷◌, map, sym, refl, ap, ◌∙◌, subst, arith, Bool, true, false, ◌&&◌, ◌||◌, true≢false, Option, Some, None, IsSome, eq-eqb, ne_eqb, inl, inr, ◌⊎◌, nat_lt, if◌then◌else◌, cond}
+use Rattle.std.proofs.Common.{◌≡◌, ◌≢◌, ℕ, ◌<◌, ◌≤◌, List, [], ◌∷◌, map, sym, refl, ap, ◌∙◌, arith, Bool, true, false, ◌&&◌, ◌||◌, true≢false, Option, Some, None, IsSome, eq-eqb, ne_eqb, inl, inr, ◌⊎◌, nat_lt, if◌then◌else◌, cond, not}
 use Rattle.std.proofs.lemmas.Bool.{ltb-true, lt-ltb, le-ltb}
 use Rattle.std.specs.List.{AllByRecursion, filter}
 use native.Mathlib.Decide.{ℕ_discrete}
@@ -7,13 +7,22 @@ use Rattle.tree_shape.specs.Numbers.{is_among, times}
 use Rattle.tree_shape.proofs.Times.{In, all_at, all_from, times_in}
 use Rattle.word_rule.specs.declared.log.Holding.{Holding}
 use Rattle.word_rule.specs.Exchange.{highest, highest_of, node_of}
-use Rattle.word_rule.specs.Held.{held_of, is_marked, marked_in}
+use Rattle.word_rule.specs.Held.{held_of, is_marked, marked_in, without_lock}
 use Rattle.word_rule.proofs.Each.{held_is}
 
 -- each node is held once
 abbrev pub HeldOnce : List Holding → Type 0
 HeldOnce [] = Unit {0}
 HeldOnce (h ∷ held) = AllByRecursion (λ a. a.node ≢ h.node) held × HeldOnce held
+
+-- a lock at the head is the one that is found
+pub found_head : (n : ℕ) (h : Holding) (held : List Holding) → h.node ≡ n → held_of n (h ∷ held) ≡ Some h
+found_head n h held is = ap (λ b. cond b (Some h) (held_of n held)) (eq-eqb h.node n is)
+
+-- where no lock is of a node, that is let go of as it was
+pub without_far : (n : ℕ) (held : List Holding) → AllByRecursion (λ (h : Holding). h.node ≢ n) held → without_lock n held ≡ held
+without_far n [] all = refl
+without_far n (h ∷ held) all = ap (λ b. cond (not b) (h ∷ without_lock n held) (without_lock n held)) (ne_eqb h.node n all.0) ∙ ap (λ hs. h ∷ hs) (without_far n held all.1)
 
 -- a test that passes exactly where another does is the same
 pub same_test : (a b : Bool) → (a ≡ true → b ≡ true) → (b ≡ true → a ≡ true) → a ≡ b
@@ -44,24 +53,10 @@ in_filter test (x ∷ held) h there = go (test x) refl there (λ later. in_filte
     go true is (inr later) rest = let r = rest later in (inr r.0, r.1)
     go false is there rest = let r = rest there in (inr r.0, r.1)
 
-pub filtered : (test : Holding → Bool) (held : List Holding) (h : Holding) → In h held → test h ≡ true → In h (filter test held)
-filtered test [] h there passes = absurd there
-filtered test (x ∷ held) h (inl e) passes = subst (λ l. In h l) (sym (ap (λ b. cond b (x ∷ filter test held) (filter test held)) (ap test e ∙ passes))) (inl e)
-filtered test (x ∷ held) h (inr later) passes = go (test x) (filtered test held h later passes)
-  where
-    go : (b : Bool) → In h (filter test held) → In h (cond b (x ∷ filter test held) (filter test held))
-    go true rest = inr rest
-    go false rest = rest
-
 pub in_nodes : (held : List Holding) (n : ℕ) → In n (map node_of held) → (h : Holding) × (In h held × (h.node ≡ n))
 in_nodes [] n there = absurd there
 in_nodes (x ∷ held) n (inl e) = (x, (inl refl, e))
 in_nodes (x ∷ held) n (inr later) = let r = in_nodes held n later in (r.0, (inr r.1.0, r.1.1))
-
-pub nodes_in : (held : List Holding) (h : Holding) → In h held → In h.node (map node_of held)
-nodes_in [] h there = absurd there
-nodes_in (x ∷ held) h (inl e) = inl (ap node_of e)
-nodes_in (x ∷ held) h (inr later) = inr (nodes_in held h later)
 
 pub in_list : (xs : List ℕ) (n : ℕ) → is_among xs n ≡ true → In n xs
 in_list xs n e = times_in xs n (ltb-true 0 (times n xs) e)

@@ -1,9 +1,9 @@
 -- Held nodes on a removal's way, by their outlines: what their locks spell, and what loads of their
 -- words leave as it was.
-use Rattle.std.proofs.Common.{◌≡◌, ◌≢◌, ℕ, ◌<◌, ◌∷◌, sym, refl, ap, ◌∙◌, subst, arith, Bool, true, false, ◌==◌, Some, eq-eqb, ne_eqb, cond}
+use Rattle.std.proofs.Common.{◌≡◌, ◌≢◌, ℕ, ◌∷◌, sym, refl, ap, ◌∙◌, subst, arith, Bool, true, false, ◌==◌, Some, eq-eqb, ne_eqb, cond}
 use Rattle.tree_shape.specs.Decisions.{is_entries}
 use Rattle.tree_shape.specs.Lawful.{IsOrdered, IsOrderedAs}
-use Rattle.tree_shape.specs.NodeData.{NodeData, Body, Pairs, Entries, Link, IsInner}
+use Rattle.tree_shape.specs.NodeData.{NodeData, Body, Pairs, Entries, Link}
 use Rattle.word_rule.specs.CallerData.{CallerData}
 use Rattle.word_rule.specs.Held.{held_of}
 use Rattle.word_rule.specs.NodeTells.{KnowsTree}
@@ -19,23 +19,23 @@ use Rattle.btree_change.specs.Siblings.{HoldsChild, HoldsSiblings, HoldsUnder, M
 use Rattle.btree_change.specs.declared.sibling.Child.{Child}
 use Rattle.btree_change.specs.declared.sibling.Siblings.{Siblings}
 use Rattle.btree_change.specs.declared.descent.Held.{Held}
-use Rattle.btree_change.proofs.Descending.{is_inner}
 use Rattle.btree_change.proofs.Mended.{spends_none}
 use Rattle.btree_change.proofs.Outlining.{spell_one, spells_held, steps_of_loads}
-use Rattle.btree_change.proofs.Pairings.{both_high, both_low, both_more, family, first_found}
+use Rattle.btree_change.proofs.Pairings.{both_high, both_low, both_more, family}
 use Rattle.btree_change.proofs.Releases.{spends_then}
-use Rattle.btree_change.proofs.Takings.{placed_of}
+use Rattle.btree_change.proofs.Lowering.{settled_live}
+use Rattle.btree_change.proofs.HeldLists.{found_head}
 
 -- a node of the way
 pub way_spells : (t : Terms) (n : ℕ) (s : NodeData) (changed root_changed : Bool) (v : Log) → HoldsBesideRoot t n s changed root_changed v.holdings → SpellsHeld n s v
-way_spells t n s changed root_changed v path = spells_held n s path.lock v (ap (held_of n) path.held ∙ first_found n path.lock path.above path.here.node) path.here.spells
+way_spells t n s changed root_changed v path = spells_held n s path.lock v (ap (held_of n) path.held ∙ found_head n path.lock path.above path.here.node) path.here.spells
 
 -- the parent of a child
 pub parent_spells : (t : Terms) (child : Child) (pc : ℕ) (v : Log) → HoldsChild t child pc v.holdings → SpellsHeld child.above.at.node child.above.at.content v
 parent_spells t child pc v h =
     let n = child.above.at.node in
     spells_held n child.above.at.content h.upper v
-    (ap (held_of n) h.held ∙ (ap (λ b. cond b (Some h.lower) (held_of n (h.upper ∷ h.rest))) (ne_eqb h.lower.node n (λ e. h.no_parent (sym h.here.node ∙ e))) ∙ first_found n h.upper h.rest h.parent.node)) h.parent.spells
+    (ap (held_of n) h.held ∙ (ap (λ b. cond b (Some h.lower) (held_of n (h.upper ∷ h.rest))) (ne_eqb h.lower.node n (λ e. h.no_parent (sym h.here.node ∙ e))) ∙ found_head n h.upper h.rest h.parent.node)) h.parent.spells
 
 -- two neighbouring children, and their parent
 module _ (t : Terms) (x : Siblings) (k : CallerData) (hs : HoldsSiblings t x k.log.holdings) (tree : KnowsTree k.log.holdings) (v : Log) (same : v.holdings ≡ k.log.holdings) where
@@ -59,15 +59,12 @@ module _ (t : Terms) (x : Siblings) (k : CallerData) (hs : HoldsSiblings t x k.l
 
   pub upper_spells : SpellsHeld x.above.at.node x.above.at.content v
   upper_spells = spells_held n x.above.at.content hs.upper v
-      (held_now n ∙ (ap (held_of n) hs.held ∙ (both_more hs.left_first hs.low hs.high (hs.upper ∷ hs.rest) n (λ e. (family t x k hs tree).left.no_parent (sym hs.left.node ∙ e)) (λ e. (family t x k hs tree).no_parent (sym hs.right.node ∙ e)) ∙ first_found n hs.upper hs.rest hs.parent.node)))
+      (held_now n ∙ (ap (held_of n) hs.held ∙ (both_more hs.left_first hs.low hs.high (hs.upper ∷ hs.rest) n (λ e. (family t x k hs tree).left.no_parent (sym hs.left.node ∙ e)) (λ e. (family t x k hs tree).no_parent (sym hs.right.node ∙ e)) ∙ found_head n hs.upper hs.rest hs.parent.node)))
       hs.parent.spells
 
 -- what settled is a node of a tree
 pub ordered_of : (t : Terms) (n : ℕ) (s : NodeData) (changed : Bool) (h : Holding) → IsSettledLock t n s changed h → IsOrdered s
-ordered_of t n s changed h lock = (placed_of t n s changed h lock).1.1.ordered
-
-pub inner_of : (t : Terms) (n : ℕ) (s : NodeData) (changed : Bool) (h : Holding) → IsSettledLock t n s changed h → 0 < s.level → IsInner s
-inner_of t n s changed h lock above = (is_inner s (ordered_of t n s changed h lock) above).0
+ordered_of t n s changed h lock = (settled_live t n s changed h lock).1.1.ordered
 
 -- what its level says
 pub leaf_is : (s : NodeData) (b : Body) → IsOrderedAs s b → (s.level == 0) ≡ is_entries b
@@ -77,7 +74,7 @@ leaf_is s (Link next) o = absurd o
 
 -- a mended child is outlined
 pub mended_spells : (t : Terms) (x : Siblings) (node : ℕ) (s : NodeData) (k k3 : CallerData) → MendsSiblings t x (record { node = node; content = s; changed = true }) k k3 → SpellsHeld node s k3.log
-mended_spells t x node s k k3 m = let h = m.holds in spells_held node s h.lower k3.log (ap (held_of node) h.held ∙ first_found node h.lower (h.upper ∷ h.rest) h.here.node) h.here.spells
+mended_spells t x node s k k3 m = let h = m.holds in spells_held node s h.lower k3.log (ap (held_of node) h.held ∙ found_head node h.lower (h.upper ∷ h.rest) h.here.node) h.here.spells
 
 pub outlined_mends : (t : Terms) (x : Siblings) (node : ℕ) (s shape : NodeData) (k k3 k4 : CallerData) → MendsSiblings t x (record { node = node; content = s; changed = true }) k k3 → SpellsHeld node shape k3.log → OnlyLoads k3 k4 → k4.log.holdings ≡ k3.log.holdings → MendsSiblings t x (record { node = node; content = shape; changed = true }) k k4 × (shape ≡ s)
 outlined_mends t x node s shape k k3 k4 m spells loads same =

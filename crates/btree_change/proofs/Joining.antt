@@ -6,7 +6,7 @@ use Rattle.tree_shape.specs.Changes.{Fit, FitAs, at_slot, both, joined, pair, sw
 use Rattle.tree_shape.specs.Decisions.{is_entries}
 use Rattle.tree_shape.specs.Lawful.{IsFilledAs, IsLawfulTree, IsOrderedAs, fewest_pairs}
 use Rattle.tree_shape.specs.LocalChange.{IsChangeOf}
-use Rattle.tree_shape.specs.NodeData.{NodeData, Body, Pairs, Entries, Link, InOrder, frame_of, pairs_of}
+use Rattle.tree_shape.specs.NodeData.{NodeData, Body, Pairs, Entries, Link, frame_of, pairs_of}
 use Rattle.tree_shape.specs.Numbers.{is_among}
 use Rattle.tree_shape.specs.Steps.{IsJoin}
 use Rattle.tree_shape.specs.Trees.{Contents}
@@ -25,17 +25,18 @@ use Rattle.word_rule.specs.declared.log.Log.{Log}
 use Rattle.word_rule.specs.declared.log.Terms.{Terms}
 use Rattle.node_store.specs.Holding.{SpellsHeld, WritesHeld}
 use Rattle.node_store.specs.Writing.{kind_of_body}
-use Rattle.btree_change.specs.Paths.{IsSettledLock, StepsOnNodes}
+use Rattle.btree_change.specs.Paths.{StepsOnNodes}
 use Rattle.btree_change.specs.Removing.{IsSpare, IsSpareAs}
 use Rattle.btree_change.specs.Siblings.{HoldsGone, HoldsSiblings, both_of}
 use Rattle.btree_change.specs.declared.sibling.Siblings.{Siblings}
-use Rattle.btree_change.proofs.Descending.{in_order, steps_then}
+use Rattle.btree_change.proofs.Descending.{steps_then}
 use Rattle.btree_change.proofs.Descents.{steps_of_load}
 use Rattle.btree_change.proofs.Loading.{none_more}
-use Rattle.btree_change.proofs.Pairings.{AreThree, IsNow, at_slot_is, both_high, both_left, both_low, both_more, family, first_found, here, in_l, in_r, later, left_told, next_slot_is, not_in, parent_told, right_told, settles, three}
+use Rattle.btree_change.proofs.Pairings.{AreThree, IsNow, at_slot_is, both_high, both_left, both_low, both_more, family, here, in_l, in_r, later, left_told, next_slot_is, not_in, parent_told, right_told, settles, three}
 use Rattle.btree_change.proofs.Settling.{SettlingLaws, settled_gone, settled_group}
-use Rattle.btree_change.proofs.Takings.{placed_of}
 use Rattle.btree_change.proofs.Written.{IsWrittenAs, edit_high, spells_freed, write_low, write_upper}
+use Rattle.btree_change.proofs.Lowering.{settled_live}
+use Rattle.btree_change.proofs.HeldLists.{found_head}
 
 -- what is found in a list has a place there
 pub inside_of : (xs : List Pair) (i : ℕ) (p : Pair) → slice_get xs i ≡ Some p → i < length xs
@@ -73,9 +74,6 @@ spare_of (suc n) s spare = spare
 -- a node of a tree is no free one
 pub never_free : (t : Terms) (n : ℕ) (s : NodeData) (f : Frame) (next : ℕ) → IsLiveNode t n s f → s.body ≢ Link next
 never_free t n s f next live e = subst (IsOrderedAs s) e live.ordered
-
-pub in_order_of : (t : Terms) (n : ℕ) (s : NodeData) (changed : Bool) (h : Holding) → IsSettledLock t n s changed h → InOrder s
-in_order_of t n s changed h lock = let own = placed_of t n s changed h lock in in_order n s own.1.1.ordered own.1.1.filled
 
 pub wide_of : (t : Terms) (n : ℕ) (h : Holding) (v : Log) → held_of n v.holdings.held ≡ Some h → HolderTells n v → length h.words ≡ 35
 wide_of t n h v found tells = (subst (λ o. IfSome o (IsHeldNode v.terms)) found tells).wide
@@ -129,7 +127,7 @@ module _ (t : Terms) (x : Siblings) (k k1 : CallerData) (found : ℕ) (hs : Hold
     low_node = w1.node ∙ hs.left.node
 
     pub may_upper : MayStore x.above.at.node k2.log
-    may_upper = may_store n hs.upper k2.log (ap (held_of n) w1.held ∙ (both_more hs.left_first w1.lock hs.high (hs.upper ∷ hs.rest) n (λ e. apart.left_above (sym low_node ∙ e)) (λ e. apart.right_above (sym hs.right.node ∙ e)) ∙ first_found n hs.upper hs.rest hs.parent.node)) hs.parent.marked
+    may_upper = may_store n hs.upper k2.log (ap (held_of n) w1.held ∙ (both_more hs.left_first w1.lock hs.high (hs.upper ∷ hs.rest) n (λ e. apart.left_above (sym low_node ∙ e)) (λ e. apart.right_above (sym hs.right.node ∙ e)) ∙ found_head n hs.upper hs.rest hs.parent.node)) hs.parent.marked
 
     module _ (k3 : CallerData) (writes2 : WritesHeld x.above.at.node (record x.above.at.content { body = Pairs (at_slot swallow_next x.slot (pairs_of x.above.at.content)) }) k2 k3) (spells2 : SpellsHeld x.above.at.node (record x.above.at.content { body = Pairs (at_slot swallow_next x.slot (pairs_of x.above.at.content)) }) k3.log) where
       w2 : IsWrittenAs (record x.above.at.content { body = Pairs (at_slot swallow_next x.slot (pairs_of x.above.at.content)) }) hs.upper (λ z. both_of hs.left_first w1.lock hs.high (z ∷ hs.rest)) k2 k3
@@ -208,7 +206,7 @@ module _ (t : Terms) (x : Siblings) (k k1 : CallerData) (found : ℕ) (hs : Hold
 
           right_differs : g r ≢ f r
           right_differs e =
-              let own = placed_of t r x.right.content x.right.changed hs.high hs.right in
+              let own = settled_live t r x.right.content x.right.changed hs.high hs.right in
               never_free t r x.right.content own.0 0 own.1.1 (ap (λ (z : NodeData). z.body) (sym (right_told t x k hs tree).1 ∙ (sym e ∙ g_r)))
 
           abbrev freed : Holding
@@ -265,8 +263,8 @@ module _ (t : Terms) (x : Siblings) (k k1 : CallerData) (found : ℕ) (hs : Hold
           pub joined_so : HoldsGone t x k5.log.holdings
           joined_so =
               let fam = family t x k hs tree in
-              let own = placed_of t l x.left.content x.left.changed hs.low hs.left in
-              let other = placed_of t r x.right.content x.right.changed hs.high hs.right in record {
+              let own = settled_live t l x.left.content x.left.changed hs.low hs.left in
+              let other = settled_live t r x.right.content x.right.changed hs.high hs.right in record {
                 left_first = hs.left_first;
                 low = record w1.lock { settled = g l; mark = Some (frame_of (g l)) };
                 high = record freed { settled = g r; mark = None };

@@ -16,6 +16,7 @@ use Rattle.word_rule.specs.Spelling.{spelled, SpellsNode}
 use Rattle.word_rule.specs.Held.{held_of, settled_in, now_of, marked_in}
 use Rattle.word_rule.proofs.Exchanges.{spelled_decides}
 use Rattle.word_rule.specs.Exchange.{IsLawfulExchange, address_of, after_exchange, are_spelled, changed_of, exchange, exchanged_in, group_of, highest_of, is_changed, is_fresh, is_lawful, is_leaf_at, is_reached, node_of, out_after, reached_in, settle, settle_free, top_of}
+use Rattle.word_rule.proofs.Each.{all_map}
 
 -- The laws that it rests on.
 pub record LeafLaws : Type 0 where
@@ -57,10 +58,6 @@ all_nothing test P each (g ∷ rest) all = ap (λ b. cond b (g ∷ filter test r
 pub all_stay : (f : Holding → Holding) (P : Holding → Type 0) → ((g : Holding) → P g → f g ≡ g) → (rest : List Holding) → AllByRecursion P rest → map f rest ≡ rest
 all_stay f P each [] all = refl
 all_stay f P each (g ∷ rest) all = (λ i. each g all.0 i ∷ all_stay f P each rest all.1 i)
-
-pub every : (P Q : Holding → Type 0) → ((g : Holding) → P g → Q g) → (rest : List Holding) → AllByRecursion P rest → AllByRecursion Q rest
-every P Q each [] all = tt
-every P Q each (g ∷ rest) all = (each g all.0, every P Q each rest all.1)
 
 none_out : (test : ℕ → Bool) (P : Holding → Type 0) → ((g : Holding) → P g → test g.node ≡ false) → (rest : List Holding) → AllByRecursion P rest → filter test (map node_of rest) ≡ []
 none_out test P each [] all = refl
@@ -152,12 +149,12 @@ module _ (laws : LeafLaws) (v : Log) (head : Option ℕ) (u : Update) (h : Holdi
 
   exchanges : IsLawfulExchange w (Some u) h.node group
   exchanges = record {
-    spell = ((λ _. some_spelled (spelled h.words) now spells), every (StaysAs h.node) (λ a. IsTrue (group a.node || is_reached w h.node group a.node) → IsSome (spelled a.words)) (λ a s _. some_spelled (spelled a.words) a.settled s.spells) rest all);
+    spell = ((λ _. some_spelled (spelled h.words) now spells), all_map (StaysAs h.node) (λ a. IsTrue (group a.node || is_reached w h.node group a.node) → IsSome (spelled a.words)) (λ a s _. some_spelled (spelled a.words) a.settled s.spells) rest all);
     grouped = λ k e. ap (marked_in (h ∷ rest)) (in_group k e) ∙ marked_here;
-    covers = ((λ _ outside. absurd (true≢false (sym (alone_here h.node h.node refl) ∙ outside))), every (StaysAs h.node) (λ a. IsSome a.mark → group a.node ≡ false → SpellsNode a.words a.settled) (λ a s _ _. s.spells) rest all);
+    covers = ((λ _ outside. absurd (true≢false (sym (alone_here h.node h.node refl) ∙ outside))), all_map (StaysAs h.node) (λ a. IsSome a.mark → group a.node ≡ false → SpellsNode a.words a.settled) (λ a s _ _. s.spells) rest all);
     change = changes;
-    leaves = ((λ _ gone. absurd (true≢false (sym reached_here ∙ gone))), every (StaysAs h.node) (λ a. IsTrue (group a.node) → is_reached w h.node group a.node ≡ false → a.stored ≡ true) (λ a s inside _. absurd (s.far (in_group a.node inside))) rest all);
-    enters = ((λ new' _. absurd (true≢false (sym new' ∙ no_fresh h.node))), every (StaysAs h.node) (λ a. IsTrue (fresh a.node) → IsTrue (is_reached w h.node group a.node) → a.stored ≡ true) (λ a s new' _. absurd (true≢false (sym new' ∙ no_fresh a.node))) rest all);
+    leaves = ((λ _ gone. absurd (true≢false (sym reached_here ∙ gone))), all_map (StaysAs h.node) (λ a. IsTrue (group a.node) → is_reached w h.node group a.node ≡ false → a.stored ≡ true) (λ a s inside _. absurd (s.far (in_group a.node inside))) rest all);
+    enters = ((λ new' _. absurd (true≢false (sym new' ∙ no_fresh h.node))), all_map (StaysAs h.node) (λ a. IsTrue (fresh a.node) → IsTrue (is_reached w h.node group a.node) → a.stored ≡ true) (λ a s new' _. absurd (true≢false (sym new' ∙ no_fresh a.node))) rest all);
     room = subst (λ (xs : List ℕ). length xs ≤ 4) (sym nothing_out) (omega arith);
   }
 

@@ -27,10 +27,11 @@ use Rattle.btree_change.specs.Removing.{HoldsBesideRoot, IsBeside, IsSettledRoot
 use Rattle.btree_change.specs.Siblings.{HoldsChild, HoldsUnder}
 use Rattle.btree_change.specs.declared.descent.Held.{Held}
 use Rattle.btree_change.proofs.Mended.{without_high}
-use Rattle.btree_change.proofs.Pairings.{IsBesideLock, beside_each, each_more}
-use Rattle.btree_change.proofs.Descending.{all_there, found_child, steps_of_take, steps_then, weaken}
+use Rattle.btree_change.proofs.Pairings.{IsBesideLock, beside_each}
+use Rattle.btree_change.proofs.Descending.{found_child, steps_of_take, steps_then, weaken}
 use Rattle.btree_change.proofs.Outlining.{steps_of_loads}
-use Rattle.btree_change.proofs.Takings.{placed_of}
+use Rattle.word_rule.proofs.Each.{all_map, all_with}
+use Rattle.btree_change.proofs.Lowering.{settled_live}
 
 -- a pair of a node names a branch
 pub branch_at : (level low : ℕ) (pairs : List Pair) (slot : ℕ) (p : Pair) → slice_get pairs slot ≡ Some p → (b : Branch) × (Contains (branches_from level low pairs) b × (b.child ≡ p.child) × (b.frame.high ≡ p.separator) × (b.frame.level ≡ level))
@@ -66,13 +67,13 @@ pub record Names (t : Terms) (n : ℕ) (s : NodeData) (c : ℕ) (b : Branch) : T
 
 pub names : (t : Terms) (n : ℕ) (s : NodeData) (f : Frame) (c : ℕ) (b : Branch) → IsLiveNode t n s f → Contains (branches (s.level - 1) s) b → b.child ≡ c → Names t n s c b
 names t n s f c b live there is =
-    let told = all_there (λ x. (x.child < t.nodes) × (x.child ≢ 0) × (live.places x.child ≡ x.frame)) (branches (s.level - 1) s) b live.children there in
+    let told = all_with (λ x. (x.child < t.nodes) × (x.child ≢ 0) × (live.places x.child ≡ x.frame)) (branches (s.level - 1) s) b live.children there in
     let frame : live.places c ≡ b.frame = ap live.places (sym is) ∙ told.2 in record {
       placed = found_child c live.places (branches (s.level - 1) s) b (weaken t live.places (branches (s.level - 1) s) live.children) there is ∙ ap Some frame;
       within = subst (λ k. k < t.nodes) is told.0;
       no_root = λ e. told.1 (is ∙ e);
       no_parent = λ lower e. (let same : s.level ≡ b.frame.level = ap (λ (z : Frame). z.level) (sym live.own ∙ (ap live.places (sym e) ∙ frame)) in omega (arith, same, lower));
-      place = λ other at same. sym (all_there (λ x. (x.child < t.nodes) × (x.child ≢ 0) × (live.places x.child ≡ x.frame)) (branches (s.level - 1) s) other live.children at).2 ∙ (ap live.places same ∙ frame);
+      place = λ other at same. sym (all_with (λ x. (x.child < t.nodes) × (x.child ≢ 0) × (live.places x.child ≡ x.frame)) (branches (s.level - 1) s) other live.children at).2 ∙ (ap live.places same ∙ frame);
     }
 
 -- A node was locked, and its lock is marked with a place.
@@ -114,7 +115,7 @@ taken_at t c f before k k' terms held out some placed (more, marks, nodes, versi
 
 pub by_parent : (t : Terms) (n c : ℕ) (s : NodeData) (changed : Bool) (h : Holding) (b : Branch) → IsSettledLock t n s changed h → Names t n s c b → place_by c h.mark h ≡ Some b.frame
 by_parent t n c s changed h b lock named =
-    let own = placed_of t n s changed h lock in
+    let own = settled_live t n s changed h lock in
     rw own.1.0 (ap (λ (z : NodeData). place_in c (branches (z.level - 1) z)) lock.settled ∙ named.placed)
 
 -- what is outlined is what is held
@@ -152,7 +153,7 @@ none_named f live tree c q lives same = go (f c).body refl (tree.ordered c lives
 pub child_so : (t : Terms) (n : ℕ) (s : NodeData) (changed root_changed : Bool) (pc slot : ℕ) (p : Pair) (k k1 k2 : CallerData) (shape : NodeData) → k.log.terms ≡ t → HoldsBesideRoot t n s changed root_changed k.log.holdings → 0 < s.level → IsInFences pc s → slot ≡ slot_for pc (pairs_of s) → slice_get (pairs_of s) slot ≡ Some p → Locks (lock.Node p.child) k k1 → SpellsHeld p.child shape k1.log → k2.log.holdings ≡ k1.log.holdings
     → HoldsChild t (record { above = record { at = record { node = n; content = s; changed = changed }; root_changed = root_changed }; at = record { node = p.child; content = shape; changed = false }; slot = slot }) pc k2.log.holdings
 child_so t n s changed root_changed pc slot p k k1 k2 shape terms path above fences first at locks spells same =
-    let own = placed_of t n s changed path.lock path.here in
+    let own = settled_live t n s changed path.lock path.here in
     let holds = slot_holds (s.level - 1) s.low pc (pairs_of s) p fences.0 (ap (slice_get (pairs_of s)) (sym first) ∙ at) in
     let exact = branch_at (s.level - 1) s.low (pairs_of s) slot p at in
     let named = names t n s own.0 p.child holds.0 own.1.1 holds.1.0 holds.1.1 in
@@ -182,7 +183,7 @@ child_so t n s changed root_changed pc slot p k k1 k2 shape terms path above fen
 
 pub child_within : (t : Terms) (n : ℕ) (s : NodeData) (changed root_changed : Bool) (holdings : Holdings) (slot : ℕ) (p : Pair) → HoldsBesideRoot t n s changed root_changed holdings → slice_get (pairs_of s) slot ≡ Some p → p.child < t.nodes
 child_within t n s changed root_changed holdings slot p path at =
-    let own = placed_of t n s changed path.lock path.here in
+    let own = settled_live t n s changed path.lock path.here in
     let exact = branch_at (s.level - 1) s.low (pairs_of s) slot p at in
     (names t n s own.0 p.child exact.0 own.1.1 exact.1.0 exact.1.1).within
 
@@ -222,7 +223,7 @@ left_other t n changed root_changed at k k' some h l = record {
   within = h.within;
   lock = h.lower;
   above = h.rest;
-  held = l.held ∙ (ap (without_lock n) h.held ∙ without_high true h.lower h.upper h.rest n h.node (λ e. h.no_parent (sym h.here.node ∙ e)) (each_more (IsBesideLock n) (λ a. a.node ≢ n) (λ a b e. some (sym e ∙ b.node)) h.rest (beside_each n root_changed h.rest h.root)));
+  held = l.held ∙ (ap (without_lock n) h.held ∙ without_high true h.lower h.upper h.rest n h.node (λ e. h.no_parent (sym h.here.node ∙ e)) (all_map (IsBesideLock n) (λ a. a.node ≢ n) (λ a b e. some (sym e ∙ b.node)) h.rest (beside_each n root_changed h.rest h.root)));
   here = h.here;
   root = beside_move n at.node root_changed h.rest some h.no_root h.root;
   out = l.out ∙ h.out;

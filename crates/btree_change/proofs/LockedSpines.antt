@@ -21,10 +21,7 @@ use Rattle.node_store.specs.Locking.{Locks}
 use Rattle.node_store.specs.Sights.{after_words}
 use Rattle.btree_change.specs.Spines.{AreApart, IsFreshLock, IsSpine, LocksSpine, NamesChild}
 use Rattle.btree_change.proofs.HeldTrees.{OnTree, child, child_frame, first_high, first_in, on_tree, place_first, some_pairs}
-
--- a lock at the head is the one that is found
-pub found_head : (n : ℕ) (h : Holding) (held : List Holding) → h.node ≡ n → held_of n (h ∷ held) ≡ Some h
-found_head n h held is = ap (λ b. cond b (Some h) (held_of n held)) (eq-eqb h.node n is)
+use Rattle.btree_change.proofs.HeldLists.{found_head, without_far}
 
 -- what is read of a node that spells something
 pub reads_spelled : (n : ℕ) (s shape : NodeData) (h : Holding) (k k' : CallerData) → held_of n k.log.holdings.held ≡ Some h → SpellsNode h.words s → ReadsHeld n k k' shape → s ≡ shape
@@ -199,11 +196,6 @@ locks_leaf t n level shape before after c l content zero_level = record {
   same = l.same ∙ ap (λ hs. record before { held = hs }) (sym l.held);
   low = λ frame placed. ap (λ (s : NodeData). s.low) (sym content) ∙ (l.low_is ∙ ap (λ (z : Frame). z.low) (same_Some _ _ (sym c.placed ∙ placed)));
 }
-
--- a lock that no other is of the same node with is let go of
-pub without_far : (n : ℕ) (held : List Holding) → AllByRecursion (λ (h : Holding). h.node ≢ n) held → without_lock n held ≡ held
-without_far n [] all = refl
-without_far n (h ∷ held) all = ap (λ b. cond (not b) (h ∷ without_lock n held) (without_lock n held)) (ne_eqb h.node n all.0) ∙ ap (λ hs. h ∷ hs) (without_far n held all.1)
 
 pub without_head : (n : ℕ) (h : Holding) (held : List Holding) → h.node ≡ n → AllByRecursion (λ (a : Holding). a.node ≢ n) held → without_lock n (h ∷ held) ≡ held
 without_head n h held is far = ap (λ b. cond (not b) (h ∷ without_lock n held) (without_lock n held)) (eq-eqb h.node n is) ∙ without_far n held far

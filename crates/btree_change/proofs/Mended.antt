@@ -18,8 +18,10 @@ use Rattle.btree_change.specs.Paths.{StepsOnNodes}
 use Rattle.btree_change.specs.Removing.{IsBeside, Spends}
 use Rattle.btree_change.specs.Siblings.{ReturnsNode, HoldsGone, HoldsSiblings, HoldsUnder, IsGoneOrSettled, MendsSiblings, both_of}
 use Rattle.btree_change.specs.declared.sibling.Siblings.{Siblings}
-use Rattle.btree_change.proofs.Pairings.{IsBesideLock, beside_each, both_all, both_high, both_more, each_more, first_found, here}
+use Rattle.btree_change.proofs.Pairings.{IsBesideLock, beside_each, both_all, both_high, both_more, here}
 use Rattle.btree_change.proofs.Releases.{spends_then}
+use Rattle.word_rule.proofs.Each.{all_map}
+use Rattle.btree_change.proofs.HeldLists.{found_head}
 
 pub spends_none : (k k' : CallerData) → StepsOnNodes k k' → Spends 0 k k'
 spends_none k k' s = record {
@@ -52,13 +54,13 @@ without_low false low high more n is far rest = without_high true high low more 
 
 -- the root is held, as the node above or beside it
 pub root_there : (o : Bool) (low high upper : Holding) (rest : List Holding) (n : ℕ) (changed : Bool) → low.node ≢ 0 → high.node ≢ 0 → upper.node ≡ n → IsBeside n changed rest → IsSome (held_of 0 (both_of o low high (upper ∷ rest)))
-root_there o low high upper rest zero changed a b is root = subst IsSome (sym (both_more o low high (upper ∷ rest) 0 a b ∙ first_found 0 upper rest is)) refl
+root_there o low high upper rest zero changed a b is root = subst IsSome (sym (both_more o low high (upper ∷ rest) 0 a b ∙ found_head 0 upper rest is)) refl
 root_there o low high upper rest (suc n) changed a b is (root, (e, r)) =
     let far : (upper.node == 0) ≡ false = ne_eqb upper.node 0 (λ z. omega (arith, z, is)) in
-    subst IsSome (sym (both_more o low high (upper ∷ rest) 0 a b ∙ (ap (λ z. cond z (Some upper) (held_of 0 rest)) far ∙ (ap (held_of 0) e ∙ first_found 0 root [] r.node)))) refl
+    subst IsSome (sym (both_more o low high (upper ∷ rest) 0 a b ∙ (ap (λ z. cond z (Some upper) (held_of 0 rest)) far ∙ (ap (held_of 0) e ∙ found_head 0 root [] r.node)))) refl
 
 pub rest_far : (n m : ℕ) (changed : Bool) (rest : List Holding) → m ≢ 0 → IsBeside n changed rest → AllByRecursion (λ a. a.node ≢ m) rest
-rest_far n m changed rest some root = each_more (IsBesideLock n) (λ a. a.node ≢ m) (λ h b e. some (sym e ∙ b.node)) rest (beside_each n changed rest root)
+rest_far n m changed rest some root = all_map (IsBesideLock n) (λ a. a.node ≢ m) (λ h b e. some (sym e ∙ b.node)) rest (beside_each n changed rest root)
 
 -- A node was changed and settled, and so was the one above it.
 pub record AreSettled (n l : ℕ) (s : NodeData) (root_changed : Bool) (holdings : Holdings) : Type 0 where
@@ -108,7 +110,7 @@ under_so t n l s root_changed k k' found within no_root no_parent terms a tells 
     })
   where
     own : IsHeldNode k.log.terms a.lower
-    own = subst (λ o. IfSome o (IsHeldNode k.log.terms)) (ap (held_of l) a.held ∙ first_found l a.lower (a.upper ∷ a.rest) a.node) tells
+    own = subst (λ o. IfSome o (IsHeldNode k.log.terms)) (ap (held_of l) a.held ∙ found_head l a.lower (a.upper ∷ a.rest) a.node) tells
 
 pub loaded_none : (n at found : ℕ) (k k' : CallerData) → k' ≡ record k { log = after_node_load n at found k.log } → Spends 0 k k'
 loaded_none n at found k k' is = subst (Spends 0 k) (sym is) (record { table = refl; left = refl; terms = refl; role = refl; past = refl; receipts = refl; loader = refl; made = refl; lineage = refl; allowance = refl; credit = omega arith; loads = (_ ∷ [], refl) })
@@ -125,7 +127,7 @@ module _ (t : Terms) (x : Siblings) (k : CallerData) (gone : HoldsGone t x k.log
   gone_ready = subst (AllByRecursion (IsGoneOrSettled x.right.node)) (sym gone.held) (both_all (IsGoneOrSettled x.right.node) gone.left_first gone.low gone.high (gone.upper ∷ gone.rest)
       ((λ e. absurd (gone.different (sym gone.left ∙ e))), (λ _. gone.spells))
       ((λ _. gone.gone), (λ ne. absurd (ne gone.right)))
-      (((λ e. absurd (gone.no_parent.1 (sym (sym gone.parent ∙ e)))), (λ _. gone.parent_spells)), each_more (IsBesideLock x.above.at.node) (IsGoneOrSettled x.right.node) (λ h b. ((λ e. absurd (gone.no_root.1 (sym e ∙ b.node))), (λ _. b.spells))) gone.rest (beside_each x.above.at.node x.above.root_changed gone.rest gone.root)))
+      (((λ e. absurd (gone.no_parent.1 (sym (sym gone.parent ∙ e)))), (λ _. gone.parent_spells)), all_map (IsBesideLock x.above.at.node) (IsGoneOrSettled x.right.node) (λ h b. ((λ e. absurd (gone.no_root.1 (sym e ∙ b.node))), (λ _. b.spells))) gone.rest (beside_each x.above.at.node x.above.root_changed gone.rest gone.root)))
 
   pub gone_root : IsSome (held_of 0 k.log.holdings.held)
   gone_root = subst (λ hs. IsSome (held_of 0 hs)) (sym gone.held) (root_there gone.left_first gone.low gone.high gone.upper gone.rest x.above.at.node x.above.root_changed (λ e. gone.no_root.0 (sym gone.left ∙ e)) (λ e. gone.no_root.1 (sym gone.right ∙ e)) gone.parent gone.root)

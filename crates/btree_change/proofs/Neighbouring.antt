@@ -27,11 +27,11 @@ use Rattle.btree_change.specs.declared.sibling.Child.{Child}
 use Rattle.btree_change.specs.declared.sibling.Siblings.{Siblings}
 use Rattle.btree_change.specs.declared.descent.Held.{Held}
 use Rattle.btree_change.specs.declared.way.Way.{Way}
-use Rattle.btree_change.proofs.Descending.{all_there}
 use Rattle.btree_change.proofs.Joining.{inside_of}
 use Rattle.btree_change.proofs.Locked.{IsTakenAt, branch_at, by_parent, names, none_named, read_first, taken_at}
 use Rattle.btree_change.proofs.Mended.{rest_far, without_low}
-use Rattle.btree_change.proofs.Takings.{placed_of}
+use Rattle.word_rule.proofs.Each.{all_with}
+use Rattle.btree_change.proofs.Lowering.{settled_live}
 
 pub siblings_are : (x : Siblings) (above : Way) (left right : Held) (slot : ℕ) → x.above ≡ above → x.left ≡ left → x.right ≡ right → x.slot ≡ slot → record { above = above; left = left; right = right; slot = slot } ≡ x
 siblings_are x above left right slot a l r e = (λ i. record { above = sym a i; left = sym l i; right = sym r i; slot = sym e i })
@@ -52,7 +52,7 @@ child_left t child pc k k' h is = subst (λ (z : CallerData). HoldsLocks child.a
 -- how many pairs a parent has
 pub some_pairs : (t : Terms) (n : ℕ) (s : NodeData) (changed : Bool) (h : Holding) (slot : ℕ) (p : Pair) → IsSettledLock t n s changed h → slice_get (pairs_of s) slot ≡ Some p → (1 < length (pairs_of s)) × (length (pairs_of s) ≤ 15)
 some_pairs t n s changed h slot p lock at =
-    let own = placed_of t n s changed h lock in
+    let own = settled_live t n s changed h lock in
     let inside = inside_of (pairs_of s) slot p at in
     let filled = pairs_filled n s.body own.1.1.filled (omega (arith, inside)) in
     let two = fewest_pairs_some n in let few = filled.0 in let most = filled.1 in
@@ -64,7 +64,7 @@ beside_inside first slot beside count (inr (far, is)) inside = omega (arith, is,
 
 pub sibling_within : (t : Terms) (n : ℕ) (s : NodeData) (changed : Bool) (h : Holding) (slot : ℕ) (p : Pair) → IsSettledLock t n s changed h → slice_get (pairs_of s) slot ≡ Some p → p.child < t.nodes
 sibling_within t n s changed h slot p lock at =
-    let own = placed_of t n s changed h lock in
+    let own = settled_live t n s changed h lock in
     let exact = branch_at (s.level - 1) s.low (pairs_of s) slot p at in
     (names t n s own.0 p.child exact.0 own.1.1 exact.1.0 exact.1.1).within
 
@@ -99,7 +99,7 @@ module _ (t : Terms) (child : Child) (pc first beside : ℕ) (q : Pair) (k k1 k2
 
   -- the tree has the neighbour at this place
   fits : FitsParent tree.contents exact.0
-  fits = all_there (FitsParent tree.contents) (branches (child.above.at.content.level - 1) child.above.at.content) exact.0 (subst (λ (z : NodeData). AllByRecursion (FitsParent tree.contents) (branches (z.level - 1) z)) parent_told.1 (tree.lawful.tree.fitting n parent_told.0)) exact.1.0
+  fits = all_with (FitsParent tree.contents) (branches (child.above.at.content.level - 1) child.above.at.content) exact.0 (subst (λ (z : NodeData). AllByRecursion (FitsParent tree.contents) (branches (z.level - 1) z)) parent_told.1 (tree.lawful.tree.fitting n parent_told.0)) exact.1.0
 
   q_level : (tree.contents q.child).level ≡ exact.0.frame.level
   q_level = ap (λ m. (tree.contents m).level) (sym exact.1.1) ∙ fits.level
@@ -121,12 +121,12 @@ module _ (t : Terms) (child : Child) (pc first beside : ℕ) (q : Pair) (k k1 k2
 
     none_by_child : place_by q.child h.lower.mark h.lower ≡ None
     none_by_child =
-        let mine = placed_of t child.at.node child.at.content child.at.changed h.lower h.here in
+        let mine = settled_live t child.at.node child.at.content child.at.changed h.lower h.here in
         rw mine.1.0 (ap (λ (z : NodeData). place_in q.child (branches (z.level - 1) z)) (h.here.settled ∙ sym child_told.1) ∙ none_named tree.contents tree.live tree.lawful.tree child.at.node q.child child_told.0 level_same)
 
     taken : IsTakenAt t q.child exact.0.frame (h.lower ∷ h.upper ∷ h.rest) k2.log.holdings
     taken =
-        let mine = placed_of t n child.above.at.content child.above.at.changed h.upper h.parent in
+        let mine = settled_live t n child.above.at.content child.above.at.changed h.upper h.parent in
         let named = names t n child.above.at.content mine.0 q.child exact.0 mine.1.1 exact.1.0 exact.1.1 in
         taken_at t q.child exact.0.frame (h.lower ∷ h.upper ∷ h.rest) k1 k2 (ap (λ (z : CallerData). z.log.terms) loads ∙ terms) (ap (λ (z : CallerData). z.log.holdings.held) loads ∙ h.held) (ap (λ (z : CallerData). z.log.holdings.out) loads ∙ h.out) named.no_root
         (ap (λ o. first_mark o (place_by_held q.child (h.upper ∷ h.rest))) none_by_child ∙ ap (λ o. first_mark o (place_by_held q.child h.rest)) (by_parent t n q.child child.above.at.content child.above.at.changed h.upper exact.0 h.parent named)) locks

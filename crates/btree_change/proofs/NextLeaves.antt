@@ -21,7 +21,8 @@ use Rattle.btree_change.specs.Paths.{AreHigher, IsLiveLock}
 use Rattle.btree_change.specs.Spines.{AreApart, HoldsFresh, HoldsLeafPair, HoldsNext, HoldsWay, IsSpine, LocksSpine, NamesChild}
 use Rattle.btree_change.proofs.FreshSpines.{all_parts, found_in}
 use Rattle.btree_change.proofs.HeldTrees.{EndsAt, Forks, IsChild, OnTree, after_in, apart_with, child, child_frame, forks, on_tree, placed_in_tree}
-use Rattle.btree_change.proofs.LockedSpines.{found_head, may_read_found, reads_spelled}
+use Rattle.btree_change.proofs.LockedSpines.{may_read_found, reads_spelled}
+use Rattle.btree_change.proofs.HeldLists.{found_head}
 
 -- what is above X, and X
 pub higher_parts : (t : Terms) (level : ℕ) (spine : List Holding) (top : Holding) (rest : List Holding) → AreHigher t level (spine ++ top ∷ rest) → IsLiveLock t top × AreHigher t top.settled.level rest
@@ -31,6 +32,10 @@ higher_parts t level (h ∷ spine) top rest all = higher_parts t h.settled.level
 pub higher_marked : (t : Terms) (level : ℕ) (held : List Holding) → AreHigher t level held → AllByRecursion (λ (h : Holding). IsSome h.mark) held
 higher_marked t level [] all = tt
 higher_marked t level (h ∷ held) all = (all.0.marked, higher_marked t h.settled.level held all.2)
+
+pub higher_spelled : (t : Terms) (level : ℕ) (held : List Holding) → AreHigher t level held → AllByRecursion (λ (h : Holding). SpellsNode h.words h.settled) held
+higher_spelled t level [] all = tt
+higher_spelled t level (h ∷ held) all = (all.0.spells, higher_spelled t h.settled.level held all.2)
 
 pub in_middle : (xs : List Holding) (h : Holding) (ys : List Holding) → In h (xs ++ h ∷ ys)
 in_middle [] h ys = inl refl

@@ -26,13 +26,9 @@ use Rattle.word_rule.specs.declared.log.Terms.{Terms}
 use Rattle.btree_change.specs.Insertion.{RefusesMember}
 use Rattle.btree_change.specs.Spines.{HoldsLeafPair}
 use Rattle.btree_change.proofs.Descending.{in_order}
-use Rattle.btree_change.proofs.FreshSpines.{all_both}
 use Rattle.btree_change.proofs.Putting.{leaf_at_zero}
 use Rattle.btree_change.proofs.Refusing.{refused_overlap}
-
-all_so : {A : Type 0} (P Q : A → Type 0) → ((x : A) → P x → Q x) → (xs : List A) → AllByRecursion P xs → AllByRecursion Q xs
-all_so P Q each [] all = tt
-all_so P Q each (x ∷ xs) all = (each x all.0, all_so P Q each xs all.1)
+use Rattle.word_rule.proofs.Each.{all_append, all_map}
 
 -- an entry that doesn't overlap, and begins above the first address, begins above the last one
 begins_above : (e : Member) (first last : ℕ) → e.span.first ≤ e.span.last → first ≤ e.span.first → ¬ Overlaps e.span record { first = first; last = last } → last < e.span.first
@@ -84,7 +80,7 @@ module _ (t : Terms) (n : ℕ) (s : NodeData) (r : ℕ) (u : NodeData) (m : Memb
   -- none of either overlaps: what a Full wants
   pub both_free : IsFree m.span (entries_of s) → IsFree m.span (entries_of u) → IsFree m.span (entries_in_leaves (settled_in k.log.holdings.held) (n ∷ r ∷ []))
   both_free left right = subst (IsFree m.span) (sym both_entries)
-      (All-from_recursion (λ (x : Member). ¬ Overlaps x.span m.span) (entries_of s ++ entries_of u) (all_both (λ (x : Member). ¬ Overlaps x.span m.span) (entries_of s) (entries_of u)
+      (All-from_recursion (λ (x : Member). ¬ Overlaps x.span m.span) (entries_of s ++ entries_of u) (all_append (λ (x : Member). ¬ Overlaps x.span m.span) (entries_of s) (entries_of u)
       (recursion_from_All (λ (x : Member). ¬ Overlaps x.span m.span) (entries_of s) left) (recursion_from_All (λ (x : Member). ¬ Overlaps x.span m.span) (entries_of u) right)))
 
   above_all : (es : List Member) (low : ℕ) → m.span.first ≤ low → EntriesWithin low u.high es → AllByRecursion (λ (x : Member). ¬ Overlaps x.span m.span) es → AllByRecursion (λ (x : Member). m.span.last < x.span.first) es
@@ -125,8 +121,8 @@ module _ (t : Terms) (n : ℕ) (s : NodeData) (r : ℕ) (u : NodeData) (m : Memb
     lowest_both = record {
       listed = in_contains (entries_of s ++ entries_of u) other (in_right (entries_of s) (entries_of u) other there);
       overlaps = lowest.overlaps;
-      lowest = All-from_recursion P (entries_of s ++ entries_of u) (all_both P (entries_of s) (entries_of u)
-          (all_so (λ (x : Member). ¬ Overlaps x.span m.span) P (λ x never over. absurd (never over)) (entries_of s) (recursion_from_All (λ (x : Member). ¬ Overlaps x.span m.span) (entries_of s) free))
+      lowest = All-from_recursion P (entries_of s ++ entries_of u) (all_append P (entries_of s) (entries_of u)
+          (all_map (λ (x : Member). ¬ Overlaps x.span m.span) P (λ x never over. absurd (never over)) (entries_of s) (recursion_from_All (λ (x : Member). ¬ Overlaps x.span m.span) (entries_of s) free))
           (recursion_from_All P (entries_of u) lowest.lowest));
     }
       where

@@ -24,7 +24,7 @@ use Rattle.btree_change.specs.declared.descent.Held.{Held}
 use Rattle.btree_change.specs.Paths.{StepsOnNodes}
 use Rattle.btree_change.specs.Splits.{HasSpace}
 use Rattle.btree_change.specs.Stands.{StandsAt}
-use Rattle.btree_change.proofs.LockedSpines.{found_head}
+use Rattle.btree_change.proofs.HeldLists.{found_head}
 
 -- loads are steps on nodes
 pub steps_of_loads : (k k' : CallerData) → OnlyLoads k k' → StepsOnNodes k k'

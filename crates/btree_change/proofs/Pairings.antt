@@ -22,8 +22,9 @@ use Rattle.word_rule.specs.declared.log.Terms.{Terms}
 use Rattle.btree_change.specs.Removing.{IsBeside}
 use Rattle.btree_change.specs.Siblings.{HoldsSiblings, both_of}
 use Rattle.btree_change.specs.declared.sibling.Siblings.{Siblings}
-use Rattle.btree_change.proofs.HeldLists.{HeldOnce}
+use Rattle.btree_change.proofs.HeldLists.{HeldOnce, found_head}
 use Rattle.btree_change.proofs.Settling.{FitsChange, IsHeldChange, SettlingLaws, StaysSettled, left_out, settled_after, settled_group, stay_settled, stays_fit}
+use Rattle.word_rule.proofs.Each.{all_map}
 
 -- numbers of short lists
 pub here : (x : ℕ) (xs : List ℕ) → is_among (x ∷ xs) x ≡ true
@@ -64,9 +65,6 @@ pub both_more : (o : Bool) (low high : Holding) (more : List Holding) (n : ℕ) 
 both_more true low high more n a b = ap (λ z. cond z (Some low) (held_of n (high ∷ more))) (ne_eqb low.node n a) ∙ ap (λ z. cond z (Some high) (held_of n more)) (ne_eqb high.node n b)
 both_more false low high more n a b = ap (λ z. cond z (Some high) (held_of n (low ∷ more))) (ne_eqb high.node n b) ∙ ap (λ z. cond z (Some low) (held_of n more)) (ne_eqb low.node n a)
 
-pub first_found : (n : ℕ) (h : Holding) (more : List Holding) → h.node ≡ n → held_of n (h ∷ more) ≡ Some h
-first_found n h more is = ap (λ b. cond b (Some h) (held_of n more)) (eq-eqb h.node n is)
-
 -- the nodes of two locks that pass a test
 abbrev pub both_left : Bool → Bool → Bool → ℕ → ℕ → List ℕ
 both_left true a b l r = cond a (l ∷ cond b (r ∷ []) []) (cond b (r ∷ []) [])
@@ -103,10 +101,6 @@ beside_each (suc n) changed rest (root, (is, r)) = subst (AllByRecursion (IsBesi
 beside_once : (n : ℕ) (changed : Bool) (rest : List Holding) → IsBeside n changed rest → HeldOnce rest
 beside_once zero changed rest root = subst HeldOnce (sym root) tt
 beside_once (suc n) changed rest (root, (is, r)) = subst HeldOnce (sym is) (tt, tt)
-
-pub each_more : (P Q : Holding → Type 0) → ((h : Holding) → P h → Q h) → (rest : List Holding) → AllByRecursion P rest → AllByRecursion Q rest
-each_more P Q f [] all = tt
-each_more P Q f (h ∷ rest) all = (f h all.0, each_more P Q f rest all.1)
 
 each_two : (P Q R : Holding → Type 0) → ((h : Holding) → P h → Q h → R h) → (rest : List Holding) → AllByRecursion P rest → AllByRecursion Q rest → AllByRecursion R rest
 each_two P Q R f [] all also = tt
@@ -196,10 +190,10 @@ module _ (t : Terms) (x : Siblings) (k : CallerData) (hs : HoldsSiblings t x k.l
   beside = beside_each n x.above.root_changed hs.rest hs.root
 
   rest_far : (m : ℕ) → m ≢ 0 → AllByRecursion (λ a. a.node ≢ m) hs.rest
-  rest_far m some = each_more (IsBesideLock n) (λ a. a.node ≢ m) (λ h b e. some (sym e ∙ b.node)) hs.rest beside
+  rest_far m some = all_map (IsBesideLock n) (λ a. a.node ≢ m) (λ h b e. some (sym e ∙ b.node)) hs.rest beside
 
   rest_parent : AllByRecursion (λ a. a.node ≢ n) hs.rest
-  rest_parent = each_more (IsBesideLock n) (λ a. a.node ≢ n) (λ h b e. b.far (sym e ∙ b.node)) hs.rest beside
+  rest_parent = all_map (IsBesideLock n) (λ a. a.node ≢ n) (λ h b e. b.far (sym e ∙ b.node)) hs.rest beside
 
   pub three : AreThree l r n hs.rest
   three = record {
@@ -249,7 +243,7 @@ module _ (t : Terms) (x : Siblings) (k : CallerData) (hs : HoldsSiblings t x k.l
     found_high = ap (held_of r) held ∙ both_high hs.left_first low high (upper ∷ hs.rest) r high_node (λ e. family.different (sym low_node ∙ e))
 
     found_upper : held_of n v.holdings.held ≡ Some upper
-    found_upper = ap (held_of n) held ∙ (both_more hs.left_first low high (upper ∷ hs.rest) n (λ e. family.left.no_parent (sym low_node ∙ e)) (λ e. family.no_parent (sym high_node ∙ e)) ∙ first_found n upper hs.rest upper_node)
+    found_upper = ap (held_of n) held ∙ (both_more hs.left_first low high (upper ∷ hs.rest) n (λ e. family.left.no_parent (sym low_node ∙ e)) (λ e. family.no_parent (sym high_node ∙ e)) ∙ found_head n upper hs.rest upper_node)
 
     marks : (m : ℕ) (h' h : Holding) (s : NodeData) → held_of m v.holdings.held ≡ Some h' → IsNow h s h' → IsSome h.mark → IsTrue (marked_in v.holdings.held m)
     marks m h' h s found now marked = ap is_marked found ∙ (ap is_some now.mark ∙ marked)
@@ -265,7 +259,7 @@ module _ (t : Terms) (x : Siblings) (k : CallerData) (hs : HoldsSiblings t x k.l
 
     tail : filter test (upper.node ∷ map node_of hs.rest) ≡ []
     tail = ap (λ b. cond b (upper.node ∷ filter test (map node_of hs.rest)) (filter test (map node_of hs.rest))) (ap test upper_node ∙ (ap (λ b. is_among (n ∷ l ∷ r ∷ []) n && not b) on ∙ and_no (is_among (n ∷ l ∷ r ∷ []) n)))
-        ∙ none_left test hs.rest (each_more (StaysSettled tree.contents tree.live (n ∷ l ∷ r ∷ []) reached) (λ h. test h.node ≡ false) (λ h s. ap (λ b. b && not (is_among reached h.node)) s.outside) hs.rest stays)
+        ∙ none_left test hs.rest (all_map (StaysSettled tree.contents tree.live (n ∷ l ∷ r ∷ []) reached) (λ h. test h.node ≡ false) (λ h s. ap (λ b. b && not (is_among reached h.node)) s.outside) hs.rest stays)
 
     filtered : (o : Bool) → filter (λ m. is_among (n ∷ l ∷ r ∷ []) m && not (is_among reached m)) (map node_of (both_of o low high (upper ∷ hs.rest))) ≡ both_left o (not (is_among reached l)) (not (is_among reached r)) l r
     filtered true = two test low.node high.node (not (is_among reached l)) (not (is_among reached r)) l r low_node high_node low_test high_test (upper.node ∷ map node_of hs.rest) tail

@@ -25,8 +25,9 @@ use Rattle.btree_change.proofs.FreshSpines.{all_parts, apart_mid, leaf_of, top_o
 use Rattle.node_store.proofs.Settled.{ExchangeLaw}
 use Rattle.btree_change.proofs.LettingGo.{IsSettled, settles_nothing}
 use Rattle.btree_change.proofs.Loading.{keeps_none}
-use Rattle.btree_change.proofs.LockedSpines.{found_head, may_read_found, reads_spelled}
+use Rattle.btree_change.proofs.LockedSpines.{may_read_found, reads_spelled}
 use Rattle.btree_change.proofs.WrittenSpines.{in_mid}
+use Rattle.btree_change.proofs.HeldLists.{found_head}
 
 pub loads_of_release : (n : ℕ) (k k' : CallerData) → k' ≡ record k { log = after_node_release n k.log } → KeepsLoads k k'
 loads_of_release n k k' is = keeps_none k k' (ap (λ (z : CallerData). z.log.trace.loads) is ∙ go (is_lawful k.log None))

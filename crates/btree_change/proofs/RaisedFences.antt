@@ -30,7 +30,7 @@ use Rattle.btree_change.proofs.FenceSpines.{inner_kind}
 use Rattle.btree_change.proofs.FreshSpines.{apart_mid}
 use Rattle.btree_change.proofs.HeldTrees.{OnTree}
 use Rattle.btree_change.proofs.LeafCommits.{all_stay}
-use Rattle.btree_change.proofs.NextLeaves.{found_top, higher_parts, top_is}
+use Rattle.btree_change.proofs.NextLeaves.{found_top, higher_parts, higher_spelled, top_is}
 use Rattle.btree_change.proofs.Settling.{SettlingLaws}
 use Rattle.btree_change.proofs.Storing.{IsRewritten, rewritten_so}
 
@@ -124,10 +124,6 @@ map_parts s (x ∷ xs) ys = ap (λ zs. s x ∷ zs) (map_parts s xs ys)
 higher_all : (t : Terms) (least level : ℕ) (hs : List Holding) → least ≤ level → AreHigher t level hs → AllByRecursion (λ (h : Holding). least < h.settled.level) hs
 higher_all t least level [] low all = tt
 higher_all t least level (h ∷ hs) low all = ((let u = all.1 in omega (arith, u, low)), higher_all t least h.settled.level hs (let u = all.1 in omega (arith, u, low)) all.2)
-
-higher_spelled : (t : Terms) (level : ℕ) (hs : List Holding) → AreHigher t level hs → AllByRecursion (λ (h : Holding). SpellsNode h.words h.settled) hs
-higher_spelled t level [] all = tt
-higher_spelled t level (h ∷ hs) all = (all.0.spells, higher_spelled t h.settled.level hs all.2)
 
 raised_inner : (fence : ℕ) (body : Body) → is_entries body ≡ false → is_entries (ends_at_as fence body) ≡ false
 raised_inner fence (Pairs pairs) e = refl

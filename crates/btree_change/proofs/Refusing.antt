@@ -21,9 +21,9 @@ use Rattle.word_rule.specs.declared.log.Terms.{Terms}
 use Rattle.btree_change.specs.Insertion.{IsRightInsertion, RefusesMember, taken_by}
 use Rattle.btree_change.specs.Loads.{KeepsLoads}
 use Rattle.btree_change.specs.Stands.{StandsAt}
-use Rattle.btree_change.proofs.Descending.{all_there}
 use Rattle.btree_change.proofs.Lowering.{settled_live}
 use Rattle.btree_change.proofs.Putting.{leaf_at_zero}
+use Rattle.word_rule.proofs.Each.{all_with}
 
 -- a member of a list that ascends is in order
 ordered_there : (low high : ℕ) (xs : List Member) (x : Member) → EntriesWithin low high xs → Contains xs x → x.span.first ≤ x.span.last
@@ -77,7 +77,7 @@ module _ (t : Terms) (m : Member) (k k' : CallerData) (clock : ℕ) where
         tells.updates ∙ ap length (sym now),
         lowest,
         subst (λ p. (z : Member) → Contains (state_after (start t) p).registered z → IsMemberOf t z) (sym now)
-            (λ z. all_there (IsMemberOf t) (state_after (start t) past).registered z tells.entries) other lowest.listed,
+            (λ z. all_with (IsMemberOf t) (state_after (start t) past).registered z tells.entries) other lowest.listed,
       )
 
 module _ (t : Terms) (n : ℕ) (s : NodeData) (changed : Bool) (m other : Member) (k : CallerData) (path : StandsAt t (record { node = n; content = s; changed = changed }) k.log.holdings) (level : s.level ≡ 0) (here : IsInFences m.span.first s) (lowest : IsLowestOverlap m.span (entries_of s) other) where
@@ -91,7 +91,7 @@ module _ (t : Terms) (n : ℕ) (s : NodeData) (changed : Bool) (m other : Member
   within = (subst (IsOrderedAs s) (leaf_at_zero s (settled_live t n s changed path.lock path.here).1.1.ordered level) (settled_live t n s changed path.lock path.here).1.1.ordered).1
 
   ends : other.span.last ≤ s.high
-  ends = all_there (λ (x : Member). x.span.last ≤ s.high) (entries_of s) other within.1 lowest.listed
+  ends = all_with (λ (x : Member). x.span.last ≤ s.high) (entries_of s) other within.1 lowest.listed
 
   begins : other.span.first ≤ other.span.last
   begins = ordered_there s.low s.high (entries_of s) other within lowest.listed

@@ -1,5 +1,5 @@
 -- A held node that has settled is let go of, and all others that are held stay.
-use Rattle.std.proofs.Common.{◌≡◌, ◌≢◌, ℕ, zero, suc, ◌+◌, ◌≤◌, List, [], ◌∷◌, sym, refl, ap, ◌∙◌, subst, arith, Bool, false, not, ◌==◌, IsTrue, Some, None, IsSome, IsSomeAnd, eq-eqb, ne_eqb, cond}
+use Rattle.std.proofs.Common.{◌≡◌, ◌≢◌, ℕ, zero, suc, ◌+◌, ◌≤◌, List, [], ◌∷◌, sym, refl, ap, ◌∙◌, subst, arith, Bool, false, not, ◌==◌, IsTrue, None, IsSome, IsSomeAnd, eq-eqb, ne_eqb, cond}
 use Rattle.word_rule.specs.CallerData.{CallerData}
 use Rattle.word_rule.specs.Exchange.{Differs, is_lawful}
 use Rattle.word_rule.specs.Held.{held_of, without_lock}
@@ -13,6 +13,7 @@ use Rattle.btree_change.specs.Removing.{HaveSettled, HoldsLocks, IsBeside, LetsG
 use Rattle.node_store.proofs.Settled.{ExchangeLaw}
 use Rattle.btree_change.proofs.LettingGo.{settles_nothing}
 use Rattle.btree_change.proofs.Loading.{keeps_all, keeps_then, none_more}
+use Rattle.btree_change.proofs.HeldLists.{found_head}
 
 -- where all that is held has settled, each may be let go of
 pub settled_may : (n : ℕ) (v : Log) (stored : Bool) → HaveSettled v.holdings.held → IsSomeAnd (held_of n v.holdings.held) (λ h. h.stored ≡ stored) → MayRelease n v
@@ -43,9 +44,6 @@ pub locks_settled : (n : ℕ) (lock : Holding) (changed : Bool) (above held : Li
 locks_settled zero lock changed above held is spells root = subst HaveSettled (sym (is ∙ ap (λ hs. lock ∷ hs) root)) (spells, tt)
 locks_settled (suc n) lock changed above held is spells (root, (e, r)) = subst HaveSettled (sym (is ∙ ap (λ hs. lock ∷ hs) e)) (spells, (r.spells, tt))
 
-pub found_lock : (n : ℕ) (lock : Holding) (above : List Holding) → lock.node ≡ n → held_of n (lock ∷ above) ≡ Some lock
-found_lock n lock above is = ap (λ b. cond b (Some lock) (held_of n above)) (eq-eqb lock.node n is)
-
 pub without_first : (n : ℕ) (lock : Holding) (changed : Bool) (above : List Holding) → lock.node ≡ n → IsBeside n changed above → without_lock n (lock ∷ above) ≡ above
 without_first zero lock changed above is root = ap (λ hs. without_lock zero (lock ∷ hs)) root ∙ (ap (λ b. cond (not b) (lock ∷ []) []) (eq-eqb lock.node zero is) ∙ sym root)
 without_first (suc n) lock changed above is (root, (e, r)) =
@@ -73,7 +71,7 @@ spends_then a b c k l m sum p q = record {
 pub locks_held : (n : ℕ) (changed root_changed : Bool) (k : CallerData) → (h : HoldsLocks n changed root_changed k.log.holdings) → HaveSettled k.log.holdings.held × IsSomeAnd (held_of n k.log.holdings.held) (λ a. a.stored ≡ changed)
 locks_held n changed root_changed k h = (
   locks_settled n h.lock root_changed h.above k.log.holdings.held h.held h.spells h.root,
-  subst (λ o. IsSomeAnd o (λ (a : Holding). a.stored ≡ changed)) (sym (ap (held_of n) h.held ∙ found_lock n h.lock h.above h.node)) h.stored,
+  subst (λ o. IsSomeAnd o (λ (a : Holding). a.stored ≡ changed)) (sym (ap (held_of n) h.held ∙ found_head n h.lock h.above h.node)) h.stored,
 )
 
 -- what is left of the way is the root
@@ -83,7 +81,7 @@ left_beside n changed root_changed k k1 h l = (l.held ∙ (ap (without_lock n) h
 pub root_held : (n : ℕ) (root_changed : Bool) (above held : List Holding) → n ≢ 0 → held ≡ above → IsBeside n root_changed above → HaveSettled held × IsSomeAnd (held_of 0 held) (λ a. a.stored ≡ root_changed) × (without_lock 0 held ≡ [])
 root_held zero root_changed above held never is root = absurd (never refl)
 root_held (suc n) root_changed above held never is (root, (e, r)) = subst (λ hs. HaveSettled hs × IsSomeAnd (held_of 0 hs) (λ a. a.stored ≡ root_changed) × (without_lock 0 hs ≡ [])) (sym (is ∙ e))
-    ((r.spells, tt), subst (λ o. IsSomeAnd o (λ (a : Holding). a.stored ≡ root_changed)) (sym (found_lock 0 root [] r.node)) r.stored, ap (λ b. cond (not b) (root ∷ []) []) (eq-eqb root.node 0 r.node))
+    ((r.spells, tt), subst (λ o. IsSomeAnd o (λ (a : Holding). a.stored ≡ root_changed)) (sym (found_head 0 root [] r.node)) r.stored, ap (λ b. cond (not b) (root ∷ []) []) (eq-eqb root.node 0 r.node))
 
 pub none_beside : (n : ℕ) (root_changed : Bool) (above : List Holding) → n ≡ 0 → IsBeside n root_changed above → above ≡ []
 none_beside zero root_changed above e root = root

@@ -1,5 +1,5 @@
 -- The lowest node that is held is let go of, where all that is held has settled.
-use Rattle.std.proofs.Common.{◌≡◌, ◌≢◌, ℕ, List, [], ◌∷◌, drop, append-nil, sym, refl, ap, ◌∙◌, subst, arith, Bool, false, not, IsTrue, Some, None, IsSome, IsSomeAnd, ◌++◌, eq-eqb, ne_eqb, cond}
+use Rattle.std.proofs.Common.{◌≡◌, ◌≢◌, ℕ, [], ◌∷◌, drop, append-nil, sym, refl, ap, ◌∙◌, subst, arith, Bool, false, not, IsTrue, Some, None, IsSome, IsSomeAnd, ◌++◌, eq-eqb, cond}
 use Rattle.std.specs.List.{AllByRecursion}
 use Rattle.word_rule.specs.CallerData.{CallerData}
 use Rattle.word_rule.specs.Exchange.{Differs, is_lawful}
@@ -14,10 +14,7 @@ use Rattle.node_store.proofs.Settled.{ExchangeLaw}
 use Rattle.btree_change.proofs.LettingGo.{settles_nothing}
 use Rattle.btree_change.proofs.Loading.{none_more}
 use Rattle.btree_change.proofs.Settling.{found_first}
-
-pub far_stay : (n : ℕ) (held : List Holding) → AllByRecursion (λ (h : Holding). h.node ≢ n) held → without_lock n held ≡ held
-far_stay n [] all = refl
-far_stay n (h ∷ held) all = ap (λ b. cond (not b) (h ∷ without_lock n held) (without_lock n held)) (ne_eqb h.node n all.0) ∙ ap (λ hs. h ∷ hs) (far_stay n held all.1)
+use Rattle.btree_change.proofs.HeldLists.{without_far}
 
 module _ (n : ℕ) (changed : Bool) (k : CallerData) (may : MayGo n changed k.log.holdings) where
   pub found : held_of n k.log.holdings.held ≡ Some may.lock
@@ -26,7 +23,7 @@ module _ (n : ℕ) (changed : Bool) (k : CallerData) (may : MayGo n changed k.lo
   left_held : without_lock n k.log.holdings.held ≡ drop 1 k.log.holdings.held
   left_held =
       let far = subst (λ x. AllByRecursion (λ (h : Holding). h.node ≢ x) may.above) may.is_node may.apart.0 in
-      ap (without_lock n) may.held ∙ (ap (λ b. cond (not b) (may.lock ∷ without_lock n may.above) (without_lock n may.above)) (eq-eqb may.lock.node n may.is_node) ∙ (far_stay n may.above far ∙ ap (drop 1) (sym may.held)))
+      ap (without_lock n) may.held ∙ (ap (λ b. cond (not b) (may.lock ∷ without_lock n may.above) (without_lock n may.above)) (eq-eqb may.lock.node n may.is_node) ∙ (without_far n may.above far ∙ ap (drop 1) (sym may.held)))
 
   pub may_raise : MayRelease n k.log
   may_raise = subst (λ o. IsSomeAnd o (λ a. IsSome (spelled a.words) × (IsSome a.mark → Differs a → IsTrue (is_lawful k.log None)))) (sym found)

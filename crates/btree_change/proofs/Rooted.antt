@@ -14,7 +14,7 @@ use Rattle.btree_change.specs.Removing.{HoldsBesideRoot, IsBeside, IsSpare, IsSp
 use Rattle.btree_change.specs.Siblings.{HoldsSiblings, SameKind}
 use Rattle.btree_change.specs.declared.sibling.Siblings.{Siblings}
 use Rattle.btree_change.proofs.Neighbouring.{some_pairs}
-use Rattle.btree_change.proofs.Takings.{placed_of}
+use Rattle.btree_change.proofs.Lowering.{settled_live}
 
 pub root_beside : (t : Terms) (at : Held) (holdings : Holdings) → HoldsRoot t at holdings
     → HoldsBesideRoot t at.node at.content at.changed false holdings × (at.node ≡ 0) × (at.content.level ≤ 12) × ((pc : ℕ) → pc ≤ 18446744073709551615 → IsInFences pc at.content)
@@ -29,7 +29,7 @@ root_beside t at holdings r = (
     out = r.out;
   },
   r.root,
-  (placed_of t at.node at.content at.changed r.lock r.here).1.1.height r.root,
+  (settled_live t at.node at.content at.changed r.lock r.here).1.1.height r.root,
   λ pc most. (let l = r.low in omega (arith, l), let h = r.high in omega (arith, h, most)),
 )
 
@@ -45,8 +45,8 @@ same_kind s u (Link next) b os ou level = absurd os
 
 pub kinds_of : (t : Terms) (x : Siblings) (holdings : Holdings) → HoldsSiblings t x holdings → SameKind x.left.content.body x.right.content.body
 kinds_of t x holdings hs =
-    let own = placed_of t x.left.node x.left.content x.left.changed hs.low hs.left in
-    let other = placed_of t x.right.node x.right.content x.right.changed hs.high hs.right in
+    let own = settled_live t x.left.node x.left.content x.left.changed hs.low hs.left in
+    let other = settled_live t x.right.node x.right.content x.right.changed hs.high hs.right in
     same_kind x.left.content x.right.content x.left.content.body x.right.content.body own.1.1.ordered other.1.1.ordered hs.neighbours.level
 
 spare_pairs : (n : ℕ) (s : NodeData) → IsSpare n s → s.body ≡ Pairs (pairs_of s) → (n ≡ 0 → 2 < length (pairs_of s)) → fewest_pairs n < length (pairs_of s)
@@ -56,7 +56,7 @@ spare_pairs (suc n) s spare body more = let few = (fewest_below (suc n) (λ z. o
 -- where the root doesn't sink, the parent of two that are joined has a pair to spare
 pub joins_spare : (t : Terms) (x : Siblings) (holdings : Holdings) → HoldsSiblings t x holdings → IsSpare x.above.at.node x.above.at.content → (x.above.at.node ≡ 0 → length (pairs_of x.above.at.content) ≢ 2) → fewest_pairs x.above.at.node < length (pairs_of x.above.at.content)
 joins_spare t x holdings hs spare more =
-    let own = placed_of t x.above.at.node x.above.at.content x.above.at.changed hs.upper hs.parent in
+    let own = settled_live t x.above.at.node x.above.at.content x.above.at.changed hs.upper hs.parent in
     let two = (some_pairs t x.above.at.node x.above.at.content x.above.at.changed hs.upper x.slot (pair x.left.node x.left.content.high) hs.parent hs.at).0 in
     spare_pairs x.above.at.node x.above.at.content spare (filled_pairs x.above.at.node x.above.at.content own.1.1.filled (omega (arith, two))) (λ z. (let ne = more z in omega (arith, two, ne)))
 

@@ -23,8 +23,8 @@ use Rattle.word_rule.specs.Logs.{after_spending, after_write}
 use Rattle.word_rule.specs.Spelling.{spelled, SpellsNode}
 use Rattle.word_rule.specs.Steps.{MayRelease, after_node_release, after_node_release_same, head_without}
 use Rattle.word_rule.proofs.Each.{some_of}
-use Rattle.word_rule.proofs.Exchanges.{spelled_decides}
-use Rattle.btree_change.proofs.HeldLists.{HeldOnce, IsBelow, and_parts, filter_none, filter_same, filtered, found_is, highest_of_is, in_filter, in_list, in_nodes, marked_is, nodes_in, once_found, or_parts, same_test, tested}
+use Rattle.word_rule.proofs.Exchanges.{filtered, mapped, spelled_decides}
+use Rattle.btree_change.proofs.HeldLists.{HeldOnce, IsBelow, and_parts, filter_none, filter_same, found_is, highest_of_is, in_filter, in_list, in_nodes, marked_is, once_found, or_parts, same_test, tested}
 
 -- The laws that it rests on: `exchange_decided`, and `transfer` and `widen` of tree_shape.
 pub record SettlingLaws : Type 0 where
@@ -136,7 +136,7 @@ module _ (laws : SettlingLaws) (v : Log) (f : Contents) (live : ℕ → Bool) (t
           let a = of_group n e in
           let inside : is_among group a.0.node ≡ true = ap (is_among group) a.1.1.1.1 ∙ e in
           let b = filtered (is_changed None) held a.0 a.1.1.1.0 (group_changed a.0 a.1.1.1.0 a.1.1.0 inside) in
-          ap (is_among (group_of v None)) (sym a.1.1.1.1) ∙ among (map node_of changed) a.0.node (in_times (map node_of changed) a.0.node (nodes_in changed a.0 b))
+          ap (is_among (group_of v None)) (sym a.1.1.1.1) ∙ among (map node_of changed) a.0.node (in_times (map node_of changed) a.0.node (mapped changed a.0 b))
 
   below : (h : Holding) → In h held → is_changed None h ≡ true → IsBelow top (f top).level h
   below h there changed' =

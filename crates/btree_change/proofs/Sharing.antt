@@ -35,12 +35,13 @@ use Rattle.btree_change.proofs.Descents.{steps_of_load}
 use Rattle.btree_change.proofs.Joining.{may_store, spare_of}
 use Rattle.btree_change.proofs.Loading.{none_more}
 use Rattle.btree_change.proofs.Mended.{AreSettled, loaded_none, spends_none, under_so, without_high, without_low}
-use Rattle.btree_change.proofs.Pairings.{AreThree, IsNow, at_slot_is, both_high, both_left, both_low, both_more, family, first_found, held_change, in_l, in_n, in_r, left_told, next_slot_is, not_in, parent_told, right_told, settles, three}
+use Rattle.btree_change.proofs.Pairings.{AreThree, IsNow, at_slot_is, both_high, both_left, both_low, both_more, family, held_change, in_l, in_n, in_r, left_told, next_slot_is, not_in, parent_told, right_told, settles, three}
 use Rattle.btree_change.proofs.Releases.{spends_then}
 use Rattle.btree_change.proofs.Settling.{SettlingLaws, may_release, settled_group}
 use Rattle.btree_change.proofs.ShareEnds.{fence_moves, share_kinds, share_moves, share_sizes, share_spares}
-use Rattle.btree_change.proofs.Takings.{placed_of}
 use Rattle.btree_change.proofs.Written.{IsWrittenAs, write_high, write_low, write_upper}
+use Rattle.btree_change.proofs.Lowering.{settled_live}
+use Rattle.btree_change.proofs.HeldLists.{found_head}
 
 abbrev pub ShareLaw : Type 0
 ShareLaw = (f : Contents) (live : ℕ → Bool) (parent slot : ℕ) (p q : Pair) (g : Contents) → IsLawfulTree f live → IsShare f live parent slot p q g → IsChangeOf f live parent (parent ∷ p.child ∷ q.child ∷ []) [] g None (parent ∷ p.child ∷ q.child ∷ [])
@@ -106,7 +107,7 @@ module _ (t : Terms) (x : Siblings) (k k1 : CallerData) (found : ℕ) (hs : Hold
       table3 = w2.same.table ∙ (w1.same.table ∙ ap (λ (z : CallerData). z.table) loads)
 
       pub may_above : MayStore x.above.at.node k3.log
-      may_above = may_store n hs.upper k3.log (ap (held_of n) w2.held ∙ (both_more hs.left_first w1.lock w2.lock (hs.upper ∷ hs.rest) n (λ e. apart.left_above (sym low_node ∙ e)) (λ e. apart.right_above (sym high_node ∙ e)) ∙ first_found n hs.upper hs.rest hs.parent.node)) hs.parent.marked
+      may_above = may_store n hs.upper k3.log (ap (held_of n) w2.held ∙ (both_more hs.left_first w1.lock w2.lock (hs.upper ∷ hs.rest) n (λ e. apart.left_above (sym low_node ∙ e)) (λ e. apart.right_above (sym high_node ∙ e)) ∙ found_head n hs.upper hs.rest hs.parent.node)) hs.parent.marked
 
       module _ (k4 : CallerData) (writes3 : WritesHeld x.above.at.node (shares_for x).above k3 k4) (spells3 : SpellsHeld x.above.at.node (shares_for x).above k4.log)
           (laws : SettlingLaws) (law : ShareLaw) (small : IsTrue (is_small_body x.left.content.body || is_small_body x.right.content.body)) where
@@ -171,8 +172,8 @@ module _ (t : Terms) (x : Siblings) (k k1 : CallerData) (found : ℕ) (hs : Hold
         parent_differs : g n ≢ f n
         parent_differs e =
             let fam = family t x k hs tree in
-            let own = placed_of t l x.left.content x.left.changed hs.low hs.left in
-            let other = placed_of t r x.right.content x.right.changed hs.high hs.right in
+            let own = settled_live t l x.left.content x.left.changed hs.low hs.left in
+            let other = settled_live t r x.right.content x.right.changed hs.high hs.right in
             let before : pairs_of (f n) ≡ fam.front ++ pair x.left.node (shares_for x).left.high ∷ pair x.right.node x.right.content.high ∷ fam.back = ap pairs_of (sym e ∙ g_n) ∙ (ap (λ (z : NodeData). at_slot (separate_at (shares_for x).left.high) x.slot (pairs_of z)) (sym (parent_told t x k hs tree).1) ∙ fam.changed (separate_at (shares_for x).left.high)) in
             let tail = append_cancel_left fam.front _ _ (sym before ∙ fam.is) in
             let first : pair x.left.node (shares_for x).left.high ≡ pair x.left.node x.left.content.high = same_Some _ _ (ap (λ (ps : List Pair). slice_get ps 0) tail) in

@@ -14,8 +14,9 @@ use Rattle.btree_change.specs.Paths.{StepsOnNodes}
 use Rattle.btree_change.specs.Siblings.{ReturnsNode, HoldsSiblings, HoldsSunk, IsGoneOrSettled, SinksRoot, sunk_root}
 use Rattle.btree_change.specs.declared.sibling.Siblings.{Siblings}
 use Rattle.btree_change.proofs.Mended.{loaded_none, spends_none, without_low}
-use Rattle.btree_change.proofs.Pairings.{both_all, both_low, both_more, first_found}
+use Rattle.btree_change.proofs.Pairings.{both_all, both_low, both_more}
 use Rattle.btree_change.proofs.Releases.{spends_then}
+use Rattle.btree_change.proofs.HeldLists.{found_head}
 
 module _ (x : Siblings) (k : CallerData) (gone : HoldsSunk x k.log.holdings) where
   upper_far : (m : ℕ) → m ≢ 0 → gone.upper.node ≢ m
@@ -28,7 +29,7 @@ module _ (x : Siblings) (k : CallerData) (gone : HoldsSunk x k.log.holdings) whe
   left_held = subst IsSome (sym (ap (held_of x.left.node) gone.held ∙ both_low gone.left_first gone.low gone.high (gone.upper ∷ []) x.left.node gone.left high_far)) refl
 
   pub left_root : IsSome (held_of 0 k.log.holdings.held)
-  left_root = subst IsSome (sym (ap (held_of 0) gone.held ∙ (both_more gone.left_first gone.low gone.high (gone.upper ∷ []) 0 (λ e. gone.no_root.0 (sym gone.left ∙ e)) (λ e. gone.no_root.1 (sym gone.right ∙ e)) ∙ first_found 0 gone.upper [] gone.root))) refl
+  left_root = subst IsSome (sym (ap (held_of 0) gone.held ∙ (both_more gone.left_first gone.low gone.high (gone.upper ∷ []) 0 (λ e. gone.no_root.0 (sym gone.left ∙ e)) (λ e. gone.no_root.1 (sym gone.right ∙ e)) ∙ found_head 0 gone.upper [] gone.root))) refl
 
   pub left_ready : AllByRecursion (IsGoneOrSettled x.left.node) k.log.holdings.held
   left_ready = subst (AllByRecursion (IsGoneOrSettled x.left.node)) (sym gone.held) (both_all (IsGoneOrSettled x.left.node) gone.left_first gone.low gone.high (gone.upper ∷ [])
@@ -41,10 +42,10 @@ module _ (x : Siblings) (k : CallerData) (gone : HoldsSunk x k.log.holdings) whe
     held1 = back.held ∙ (ap (without_lock x.left.node) gone.held ∙ without_low gone.left_first gone.low gone.high (gone.upper ∷ []) x.left.node gone.left high_far (upper_far x.left.node gone.no_root.0, tt))
 
     pub right_root : IsSome (held_of 0 k1.log.holdings.held)
-    right_root = subst IsSome (sym (ap (held_of 0) held1 ∙ (ap (λ b. cond b (Some gone.high) (held_of 0 (gone.upper ∷ []))) (ne_eqb gone.high.node 0 (λ e. gone.no_root.1 (sym gone.right ∙ e))) ∙ first_found 0 gone.upper [] gone.root))) refl
+    right_root = subst IsSome (sym (ap (held_of 0) held1 ∙ (ap (λ b. cond b (Some gone.high) (held_of 0 (gone.upper ∷ []))) (ne_eqb gone.high.node 0 (λ e. gone.no_root.1 (sym gone.right ∙ e))) ∙ found_head 0 gone.upper [] gone.root))) refl
 
     pub right_held : IsSome (held_of x.right.node k1.log.holdings.held)
-    right_held = subst IsSome (sym (ap (held_of x.right.node) held1 ∙ first_found x.right.node gone.high (gone.upper ∷ []) gone.right)) refl
+    right_held = subst IsSome (sym (ap (held_of x.right.node) held1 ∙ found_head x.right.node gone.high (gone.upper ∷ []) gone.right)) refl
 
     pub right_ready : AllByRecursion (IsGoneOrSettled x.right.node) k1.log.holdings.held
     right_ready = subst (AllByRecursion (IsGoneOrSettled x.right.node)) (sym held1) (((λ _. gone.right_gone), (λ ne. absurd (ne gone.right))), (((λ e. absurd (upper_far x.right.node gone.no_root.1 e)), (λ _. gone.spells)), tt))
@@ -61,7 +62,7 @@ module _ (x : Siblings) (k : CallerData) (gone : HoldsSunk x k.log.holdings) whe
 
       pub sinks_so : (t : Terms) (k0 k3 : CallerData) (found : ℕ) (content : NodeData) → k0.log.terms ≡ t → HoldsSiblings t x k0.log.holdings → StepsOnNodes k0 k → HolderTells 0 k2.log → k3 ≡ record k2 { log = after_node_load 0 2 found k2.log } → content ≡ sunk_root x → SinksRoot t x (record { node = 0; content = content; changed = true }) k0 k3
       sinks_so t k0 k3 found content terms hs steps tells loads is =
-          let own : IsHeldNode k2.log.terms gone.upper = subst (λ o. IfSome o (IsHeldNode k2.log.terms)) (ap (held_of 0) held2 ∙ first_found 0 gone.upper [] gone.root) tells in
+          let own : IsHeldNode k2.log.terms gone.upper = subst (λ o. IfSome o (IsHeldNode k2.log.terms)) (ap (held_of 0) held2 ∙ found_head 0 gone.upper [] gone.root) tells in
           let terms2 : k2.log.terms ≡ t = again.spends.terms ∙ (back.spends.terms ∙ (steps.terms ∙ terms)) in
           let within = hs.left_within in
           let kept : k3.log.holdings ≡ k2.log.holdings = ap (λ (z : CallerData). z.log.holdings) loads in

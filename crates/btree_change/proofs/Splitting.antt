@@ -26,7 +26,7 @@ use Rattle.btree_change.specs.declared.split.FullChild.{FullChild}
 use Rattle.btree_change.specs.declared.split.Parts.{Parts}
 use Rattle.btree_change.specs.Paths.{StepsOnNodes}
 use Rattle.btree_change.specs.Splits.{HoldsFullChild, parts_for}
-use Rattle.btree_change.proofs.Descending.{all_there, level_of, steps_then}
+use Rattle.btree_change.proofs.Descending.{level_of, steps_then}
 use Rattle.btree_change.proofs.HeldParts.{AreFar, IsTold, higher_dead, higher_far, higher_once, higher_stay, is_first, is_none, is_second, is_third, lives_apart, place_of_lock}
 use Rattle.btree_change.proofs.HeldLists.{HeldOnce}
 use Rattle.btree_change.proofs.Settling.{FitsChange, IsHeldChange, StaysSettled, left_out, marked_at, none_out, stays_fit}
@@ -34,6 +34,7 @@ use Rattle.btree_change.proofs.Outlining.{spells_held}
 use Rattle.word_rule.specs.declared.log.Log.{Log}
 use Rattle.btree_change.proofs.SplitParts.{above_differs, are_halves, left_differs, never_free, slot_of}
 use Rattle.btree_change.proofs.Storing.{IsRewritten, found_at, rewritten_so}
+use Rattle.word_rule.proofs.Each.{all_with}
 
 -- the law of a split, as a change of the three nodes alone
 abbrev pub SplitLaw : Type 0
@@ -145,7 +146,7 @@ module _ (t : Terms) (full : FullChild) (pc : ℕ) (hs : Holdings) (h : HoldsFul
   b = h.leads.0
 
   fits : FitsParent tree.contents h.leads.0
-  fits = all_there (FitsParent tree.contents) (branches ((tree.contents full.parent.node).level - 1) (tree.contents full.parent.node)) h.leads.0 (tree.lawful.tree.fitting full.parent.node up_live)
+  fits = all_with (FitsParent tree.contents) (branches ((tree.contents full.parent.node).level - 1) (tree.contents full.parent.node)) h.leads.0 (tree.lawful.tree.fitting full.parent.node up_live)
       (subst (λ (z : NodeData). Contains (branches (z.level - 1) z) h.leads.0) (sym up_is) h.leads.1.0)
 
   child_is : tree.contents h.leads.0.child ≡ full.child.content

@@ -28,7 +28,7 @@ use Rattle.btree_change.specs.declared.stand.Room.TheVariants as room
 use Rattle.btree_change.specs.Paths.{AreHigher, IsLiveLock, IsSettledLock}
 use Rattle.btree_change.specs.Stands.{HasWayOn, HoldsPair, LiesBeyond, IsReach, MayGo, Reaches, StandsOnWay, StandsAt}
 use Rattle.btree_change.proofs.HeldTrees.{OnTree, apart_with, child, child_frame, inner, on_tree}
-use Rattle.btree_change.proofs.NextLeaves.{higher_marked}
+use Rattle.btree_change.proofs.NextLeaves.{higher_marked, higher_spelled}
 use Rattle.btree_change.proofs.NoRoom.{more_loads}
 use Rattle.btree_change.proofs.Outlining.{spells_held}
 use Rattle.btree_change.proofs.Storing.{found_at}
@@ -223,11 +223,6 @@ module _ (t : Terms) (pc last : ℕ) (parent below : Held) (above : List Holding
                   );
                 },
               )
-
--- a node at which an insertion stands may be let go of
-pub higher_spelled : (t : Terms) (level : ℕ) (held : List Holding) → AreHigher t level held → AllByRecursion (λ (h : Holding). SpellsNode h.words h.settled) held
-higher_spelled t level [] all = tt
-higher_spelled t level (h ∷ held) all = (all.0.spells, higher_spelled t h.settled.level held all.2)
 
 abbrev pub may_go : (t : Terms) (at : Held) (holdings : Holdings) → StandsAt t at holdings → MayGo at.node at.changed holdings
 may_go t at holdings s = record {

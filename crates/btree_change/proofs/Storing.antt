@@ -19,14 +19,12 @@ use Rattle.node_store.specs.Writing.{kind_of_body, place_in_turn, store_in_turn,
 use Rattle.btree_change.specs.Paths.{StepsOnNodes}
 use Rattle.btree_change.proofs.Descending.{steps_equal, steps_none, steps_of_words, steps_then}
 use Rattle.btree_change.proofs.Loading.{none_more}
+use Rattle.word_rule.proofs.Each.{all_append}
+use Rattle.node_store.proofs.Sighted.{holdings_same}
 
 -- what is stored is what is wanted there
 abbrev IsWanted : NodeData → Store → Type 0
 IsWanted s x = wanted_node_word s x.at ≡ Some x.value
-
-all_more : {A : Type 0} (P : A → Type 0) (xs ys : List A) → AllByRecursion P xs → AllByRecursion P ys → AllByRecursion P (xs ++ ys)
-all_more P [] ys h i = i
-all_more P (x ∷ xs) ys h i = (h.0, all_more P xs ys h.1 i)
 
 turn_wanted : (s : NodeData) (words : List ℕ) (turn : ℕ) → AllByRecursion (IsWanted s) (option_to_list (store_in_turn s words turn))
 turn_wanted s words turn = go (wanted_node_word s (place_in_turn turn)) refl
@@ -41,7 +39,7 @@ turn_wanted s words turn = go (wanted_node_word s (place_in_turn turn)) refl
 
 all_wanted : (s : NodeData) (words : List ℕ) (turns : ℕ) → AllByRecursion (IsWanted s) (stores_upto s words turns)
 all_wanted s words zero = tt
-all_wanted s words (suc turn) = all_more (IsWanted s) (stores_upto s words turn) (option_to_list (store_in_turn s words turn)) (all_wanted s words turn) (turn_wanted s words turn)
+all_wanted s words (suc turn) = all_append (IsWanted s) (stores_upto s words turn) (option_to_list (store_in_turn s words turn)) (all_wanted s words turn) (turn_wanted s words turn)
 
 -- a node that isn't to be free is freed by no store
 no_free : (s : NodeData) (x : Store) (n : ℕ) (v : Log) → kind_of_body s.body ≢ 2 → IsWanted s x → frees n x.at x.value v ≡ false
@@ -105,11 +103,6 @@ stored_keeps s n (x ∷ xs) h before above v kind wanted is none far held =
           (record { table = refl; left = refl; terms = refl; role = refl; past = refl; budget = refl; receipts = refl; loader = refl; made = refl; lineage = refl; loads = none_more v.trace.loads }) (rest.same k);
     })
 
-words_holdings : (n : ℕ) (words : List ℕ) (count : ℕ) (v : Log) → (after_words n words count v).holdings ≡ v.holdings
-unfolding after_words
-words_holdings n words zero v = refl
-words_holdings n words (suc count) v = words_holdings n words count v
-
 -- A held node was written, and isn't free: its lock, wherever it stands, spells it, and all else is
 -- as it was. A word was stored where it spelled something else before.
 pub record IsRewritten (s : NodeData) (h : Holding) (before above : List Holding) (k k' : CallerData) : Type 0 where
@@ -128,7 +121,7 @@ pub rewritten_so : (s : NodeData) (n : ℕ) (h : Holding) (before above : List H
 rewritten_so s n h before above k k' kind is none far held writes spells =
     let found : held_of n k.log.holdings.held ≡ Some h = ap (held_of n) held ∙ found_at n before h above is none in
     let equal = subst (λ o. IsSomeAnd o (λ (z : Holding). k' ≡ record k { log = after_node_stores n (stores s z.words) (after_words n z.words 35 k.log) })) found writes in
-    let loaded = words_holdings n h.words 35 k.log in
+    let loaded = holdings_same n h.words 35 k.log in
     let kept = stored_keeps s n (stores s h.words) h before above (after_words n h.words 35 k.log) kind (all_wanted s h.words 35) is none far (ap (λ hs. hs.held) loaded ∙ held) in
     let now : k'.log.holdings.held ≡ before ++ kept.lock ∷ above = ap (λ (z : CallerData). z.log.holdings.held) equal ∙ kept.held in
     let found' : held_of n k'.log.holdings.held ≡ Some kept.lock = ap (held_of n) now ∙ found_at n before kept.lock above (kept.node ∙ is) none in

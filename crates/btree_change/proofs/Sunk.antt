@@ -1,5 +1,5 @@
 -- The root takes the place of its only two children, which leave the tree.
-use Rattle.std.proofs.Common.{◌≡◌, ◌≢◌, ℕ, zero, suc, ◌+◌, ◌<◌, List, [], ◌∷◌, ◌++◌, length, sym, refl, ap, ◌∙◌, subst, arith, Bool, true, false, not, IsTrue, Some, None, eq-eqb, ne_eqb, if◌then◌else◌, cond}
+use Rattle.std.proofs.Common.{◌≡◌, ◌≢◌, ℕ, suc, ◌+◌, ◌<◌, List, [], ◌∷◌, ◌++◌, length, sym, refl, ap, ◌∙◌, subst, arith, Bool, true, false, not, IsTrue, Some, None, eq-eqb, ne_eqb, if◌then◌else◌, cond}
 use Rattle.tree_shape.specs.Changes.{Fit, FitAs, both, joined, pair}
 use Rattle.tree_shape.specs.Lawful.{IsLawfulTree}
 use Rattle.tree_shape.specs.LocalChange.{IsChangeOf}
@@ -28,11 +28,11 @@ use Rattle.btree_change.proofs.Descents.{steps_of_load}
 use Rattle.btree_change.proofs.Loading.{none_more}
 use Rattle.btree_change.proofs.Pairings.{AreThree, IsNow, both_high, both_left, both_low, family, here, in_l, in_r, later, left_told, not_in, parent_told, right_told, settles, three}
 use Rattle.btree_change.proofs.Settling.{SettlingLaws, settled_gone}
-use Rattle.btree_change.proofs.Takings.{placed_of}
 use Rattle.btree_change.proofs.Written.{IsWrittenAs, edit_high, edit_low, spells_freed, write_upper}
 use Rattle.btree_change.proofs.Joining.{may_store, never_free, wide_of}
 use Rattle.btree_change.proofs.Raised.{spells_raised}
-use Rattle.btree_change.specs.Removing.{IsBeside}
+use Rattle.btree_change.proofs.Lowering.{settled_live}
+use Rattle.btree_change.proofs.Releases.{none_beside}
 
 abbrev pub SinkLaw : Type 0
 SinkLaw = (f : Contents) (live : ℕ → Bool) (p q : Pair) (g : Contents) → IsLawfulTree f live → IsSink f live p q g → IsChangeOf f live 0 (0 ∷ p.child ∷ q.child ∷ []) [] g None (0 ∷ [])
@@ -45,10 +45,6 @@ fits_no_free (Entries left) (Pairs right) fit e = absurd fit
 fits_no_free (Entries left) (Entries right) fit e = omega (arith, e)
 fits_no_free (Entries left) (Link next) fit e = absurd fit
 fits_no_free (Link next) c fit e = absurd fit
-
-none_beside : (n : ℕ) (changed : Bool) (rest : List Holding) → n ≡ 0 → IsBeside n changed rest → rest ≡ []
-none_beside zero changed rest e root = root
-none_beside (suc n) changed rest e root = absurd (omega (arith, e))
 
 no_more : (front back : List Pair) (p q : Pair) (all : List Pair) → all ≡ front ++ p ∷ q ∷ back → length all ≡ length front + suc (suc (length back)) → length all ≡ 2 → all ≡ p ∷ q ∷ []
 no_more [] [] p q all is count two = is
@@ -175,14 +171,14 @@ module _ (t : Terms) (x : Siblings) (k k1 k2 : CallerData) (seen seen' : ℕ) (h
 
           left_differs : g l ≢ tree.contents l
           left_differs e =
-              let own = placed_of t l x.left.content x.left.changed hs.low hs.left in
+              let own = settled_live t l x.left.content x.left.changed hs.low hs.left in
               never_free t l x.left.content own.0 0 own.1.1 (ap (λ (z : NodeData). z.body) (sym (left_told t x k hs tree).1 ∙ (sym e ∙ g_l)))
 
           right_differs : g r ≢ tree.contents r
           right_differs e = let same : x.right.content.level + 1 ≡ x.right.content.level = ap (λ (z : NodeData). z.level) (sym g_r ∙ (e ∙ (right_told t x k hs tree).1)) in omega (arith, same)
 
           low_level : x.right.content.level + 1 < 4294967296
-          low_level = let own = placed_of t n x.above.at.content x.above.at.changed hs.upper hs.parent in let h = own.1.1.height root in let a = hs.level in let b = hs.neighbours.level in omega (arith, h, a, b)
+          low_level = let own = settled_live t n x.above.at.content x.above.at.changed hs.upper hs.parent in let h = own.1.1.height root in let a = hs.level in let b = hs.neighbours.level in omega (arith, h, a, b)
 
           now_low : IsNow hs.low (g l) (store_in 1 2 (store_in 6 0 hs.low))
           now_low = record { node = refl; mark = refl; settled = refl; spells = spells_freed hs.low.words x.left.content wide_low hs.left.spells ∙ ap Some (sym g_l); stored = refl }

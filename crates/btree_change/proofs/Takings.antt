@@ -1,6 +1,6 @@
 -- A member is taken out of a held leaf and committed.
-use Rattle.std.proofs.Common.{◌≡◌, ◌≢◌, ℕ, zero, suc, ◌+◌, ◌-◌, ◌<◌, List, [], ◌∷◌, ◌++◌, length, length-append, sym, refl, ap, ◌∙◌, subst, arith, Bool, true, not, IsTrue, Option, Some, None, IsSome, IsSomeAnd, is_some, eq-eqb, ne_eqb, le-leb, true≢false, IfSome, Contains, cond}
-use Rattle.std.proofs.lemmas.Option.{none-some, same_Some}
+use Rattle.std.proofs.Common.{◌≡◌, ◌≢◌, ℕ, zero, suc, ◌+◌, ◌-◌, ◌<◌, List, [], ◌∷◌, ◌++◌, length, length-append, sym, refl, ap, ◌∙◌, subst, arith, Bool, true, not, IsTrue, Some, None, IsSome, IsSomeAnd, is_some, eq-eqb, ne_eqb, le-leb, Contains, cond}
+use Rattle.std.proofs.lemmas.Option.{none-some}
 use Rattle.std.specs.List.{AllByRecursion}
 use mathlib.Core.List.{IsPrefix}
 use native.Mathlib.Decide.{ℕ_discrete}
@@ -22,41 +22,24 @@ use Rattle.word_rule.specs.Callers.{IsMemberOf, start}
 use Rattle.word_rule.specs.Commits.{AfterCommit, MayCommit}
 use Rattle.word_rule.specs.Exchange.{is_lawful, is_leaf_at, settle}
 use Rattle.word_rule.specs.Memory.{updated}
-use Rattle.tree_shape.specs.declared.node.Frame.{Frame}
-use Rattle.word_rule.specs.NodeTells.{IsLiveNode, KnowsTree}
+use Rattle.word_rule.specs.NodeTells.{KnowsTree}
 use Rattle.word_rule.specs.Steps.{after_update}
 use Rattle.word_rule.specs.declared.log.Budget.{Budget}
 use Rattle.word_rule.specs.declared.log.Holding.{Holding}
 use Rattle.word_rule.specs.declared.log.Log.{Log}
 use Rattle.word_rule.specs.declared.log.Receipts.{Receipts}
 use Rattle.word_rule.specs.declared.log.Terms.{Terms}
-use Rattle.btree_change.specs.Paths.{IsSettledLock, StepsOnNodes}
+use Rattle.btree_change.specs.Paths.{StepsOnNodes}
 use Rattle.btree_change.specs.Takings.{TakesMember}
 use Rattle.btree_change.specs.Removing.{HoldsBesideRoot, IsBeside, IsSpare, IsSpareAs}
 use Rattle.btree_change.proofs.LeafCommits.{LeafLaws, StaysAs, lawful_commit, settled_after}
-use Rattle.btree_change.proofs.Descending.{all_there}
 use Rattle.btree_change.proofs.Storing.{IsRewritten}
-
--- what is marked has its place
-pub placed_of : (t : Terms) (n : ℕ) (s : NodeData) (changed : Bool) (h : Holding) → IsSettledLock t n s changed h → (f : Frame) × ((h.mark ≡ Some f) × IsLiveNode t n s f)
-placed_of t n s changed h c = go h.mark refl c.marked c.live
-  where
-    go : (o : Option Frame) → h.mark ≡ o → IsSome o → IfSome o (IsLiveNode t n s) → (f : Frame) × ((h.mark ≡ Some f) × IsLiveNode t n s f)
-    go None e is live = absurd (true≢false (sym is))
-    go (Some f) e is live = (f, (e, live))
+use Rattle.word_rule.proofs.Each.{all_with}
+use Rattle.word_rule.proofs.Listings.{there_at}
 
 -- the law of a removal, as a change of the leaf alone
 abbrev pub TakeLaw : Type 0
 TakeLaw = (f : Contents) (live : ℕ → Bool) (leaf base : ℕ) (member : Member) (g : Contents) → IsLawfulTree f live → IsTake f live leaf base member g → fewest_entries leaf < length (entries_of (f leaf)) → IsChangeOf f live leaf (leaf ∷ []) [] g (Some (update.Deregister base)) (leaf ∷ [])
-
--- the member that begins at a base is listed, and begins there
-pub there_at : (base : ℕ) (es : List Member) (m : Member) → at_base base es ≡ Some m → Contains es m × (m.span.first ≡ base)
-there_at base [] m e = absurd (none-some m e)
-there_at base (x ∷ es) m e = go (ℕ_discrete x.span.first base) (λ f. there_at base es m f)
-  where
-    go : Dec (x.span.first ≡ base) → (at_base base es ≡ Some m → Contains es m × (m.span.first ≡ base)) → Contains (x ∷ es) m × (m.span.first ≡ base)
-    go (yes is) later = let same : x ≡ m = same_Some _ _ (rw (eq-eqb x.span.first base is) at e) in ((0, omega arith, same), subst (λ (z : Member). z.span.first ≡ base) same is)
-    go (no ne) later = let r = later (rw (ne_eqb x.span.first base ne) at e) in ((suc r.0.0, (let l = r.0.1 in omega (arith, l)), r.0.2), r.1)
 
 pub some_there : (base : ℕ) (es : List Member) (m : Member) → at_base base es ≡ Some m → 0 < length es
 some_there base [] m e = absurd (none-some m e)
@@ -179,7 +162,7 @@ module _ (law : TakeLaw) (laws : LeafLaws) (t : Terms) (n base : ℕ) (s : NodeD
         loader = ap (λ z. z.loader) log ∙ steps.loader;
         made = ap (λ z. z.made) log ∙ steps.made;
         lineage = ap (λ z. z.lineage) log ∙ steps.lineage;
-        right = (before, (subst (λ p. IsPrefix p before) steps.past tells.begins, past, counted, subst (λ z. at_base base (state_after (start z) before).registered ≡ Some m) (steps.terms ∙ terms) member, subst (λ z. IsMemberOf z m) (steps.terms ∙ terms) (all_there (IsMemberOf k2.log.terms) (state_after (start k2.log.terms) before).registered m tells.members (there_at base (state_after (start k2.log.terms) before).registered m member).0)));
+        right = (before, (subst (λ p. IsPrefix p before) steps.past tells.begins, past, counted, subst (λ z. at_base base (state_after (start z) before).registered ≡ Some m) (steps.terms ∙ terms) member, subst (λ z. IsMemberOf z m) (steps.terms ∙ terms) (all_with (IsMemberOf k2.log.terms) (state_after (start k2.log.terms) before).registered m tells.members (there_at base (state_after (start k2.log.terms) before).registered m member).0)));
         receipts = ap (λ z. z.receipts) log ∙ (answered ∙ ap (λ (rs : Receipts). record rs { own = rs.own ++ receipt.Deregister base (removed.Done number m) ∷ [] }) steps.receipts);
         budget = ap (λ z. z.budget) log ∙ ap (λ (b : Budget). record b { allowance = b.allowance - 1 }) steps.budget;
         holds = record {

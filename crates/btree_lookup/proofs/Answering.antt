@@ -11,7 +11,6 @@ use Rattle.reg_model.specs.Query.{member_at, query}
 use Rattle.reg_model.specs.Receipt.{member_of, stamp_of}
 use Rattle.reg_model.specs.declared.answer.Again.TheVariants.{Changed}
 use Rattle.reg_model.specs.declared.answer.Found.{Found}
-use Rattle.reg_model.specs.declared.answer.Found.TheVariants.{Hit, Miss}
 use Rattle.reg_model.specs.declared.answer.Half.TheVariants as half
 use Rattle.reg_model.specs.declared.answer.Receipt.{Receipt}
 use Rattle.reg_model.specs.declared.answer.Receipt.TheVariants.{Query}
@@ -38,8 +37,8 @@ use Rattle.btree_lookup.specs.Ways.{AreLed}
 use Rattle.btree_lookup.specs.declared.entry.Entry.{Entry}
 use Rattle.btree_lookup.specs.declared.visit.Visit.{Visit}
 use Rattle.btree_lookup.proofs.Loading.{come_in_order, last_loaded, led_more, more, still_led, version_led}
-use Rattle.btree_lookup.proofs.Sighting.{changed_sight}
 use Rattle.btree_lookup.proofs.Visiting.{agrees, still_found, told_again}
+use Rattle.word_rule.proofs.NodeSights.{found_is, sight_changed}
 
 -- what holds of all members holds of one that is found
 found_known : (P : Member → Type 0) (pc : ℕ) (members : List Member) (m : Member) → AllByRecursion P members → member_at pc members ≡ Some m → P m
@@ -49,10 +48,6 @@ found_known P pc (x ∷ members) m all e = go (contains x.span pc) e (found_know
     go : (b : Bool) → (if b then Some x else member_at pc members) ≡ Some m → (member_at pc members ≡ Some m → P m) → P m
     go true e' later = subst P (same_Some _ _ e') all.0
     go false e' later = later e'
-
-found_is : (found : Found) → found_at (member_of found) (stamp_of found) ≡ found
-found_is (Hit m stamp) = refl
-found_is (Miss stamp) = refl
 
 -- what a whole try leaves as it was
 pub writes_same : (t : Terms) (pc : ℕ) (k k' : CallerData) (result : _) → TriesTree t pc k k' result → k'.log.trace.writes ≡ k.log.trace.writes
@@ -107,7 +102,7 @@ module _ (t : Terms) (pc : ℕ) (k : CallerData) (visit : Visit) (bottom : visit
   leaf_sight = with_clock (lower clock) s.sight
 
   leaf_there : sight_of visit.node sights.nodes ≡ Some leaf_sight
-  leaf_there = changed_sight visit.node (with_clock (lower clock)) (λ _. refl) s.sights.nodes ∙ ap (option_map (with_clock (lower clock))) s.found
+  leaf_there = sight_changed visit.node (with_clock (lower clock)) (λ _. refl) s.sights.nodes ∙ ap (option_map (with_clock (lower clock))) s.found
 
   clock_led : AreLed pc [] (s.loaded ++ first ∷ [])
   clock_led = led_more pc [] s.loaded first s.led (inl refl)

@@ -1,6 +1,5 @@
 -- The step of a lookup from a node to its child, from what its loads of versions tell.
-use Rattle.std.proofs.Common.{◌≡◌, ◌≢◌, ℕ, ◌+◌, ◌%◌, ◌<◌, ◌==◌, Bool, true, false, cond, List, [], ◌∷◌, ◌++◌, length, length-append, map, option_map, Some, None, IfSome, refl, ap, sym, ◌∙◌, subst, arith, nat_eq, eq-eqb, ne_eqb, not, if◌then◌else◌}
-use Rattle.std.proofs.lemmas.Bool.{eqb-true}
+use Rattle.std.proofs.Common.{◌≡◌, ◌≢◌, ℕ, ◌+◌, ◌%◌, ◌<◌, ◌==◌, Bool, true, false, cond, List, [], ◌∷◌, ◌++◌, length, length-append, map, option_map, Some, None, IfSome, refl, ap, sym, ◌∙◌, subst, arith, eq-eqb, ne_eqb, if◌then◌else◌}
 use Rattle.std.proofs.lemmas.List.Elements.{Contains-append_left}
 use Rattle.reg_model.specs.declared.answer.Again.TheVariants.{Changed, Locked}
 use Rattle.word_rule.specs.declared.log.Ask.TheVariants as ask
@@ -20,17 +19,9 @@ use Rattle.btree_lookup.specs.Visits.{Sees, SeesChild, Way}
 use Rattle.btree_lookup.specs.Ways.{AreLed}
 use Rattle.btree_lookup.specs.declared.visit.Visit.{Visit}
 use Rattle.btree_lookup.proofs.Loading.{come_in_order, last_loaded, led_more, looked, sight_loaded, sights_then, still_led, version_led, version_loaded}
-use Rattle.btree_lookup.proofs.Sighting.{changed_sight, node_of_sight}
+use Rattle.btree_lookup.proofs.Sighting.{node_of_sight}
 use Rattle.btree_lookup.proofs.Visiting.{fails_so, none_held, still_found}
-
--- the sights of other nodes, where one was taken out
-without_other : (n m : ℕ) → m ≢ n → (sights : List NodeSight) → sight_of m (without_sight n sights) ≡ sight_of m sights
-without_other n m far [] = refl
-without_other n m far (s ∷ sights) = go (nat_eq s.node n) refl (without_other n m far sights)
-  where
-    go : (b : Bool) → nat_eq s.node n ≡ b → sight_of m (without_sight n sights) ≡ sight_of m sights → sight_of m (if not b then s ∷ without_sight n sights else without_sight n sights) ≡ cond (s.node == m) (Some s) (sight_of m sights)
-    go true e later = later ∙ sym (ap (λ b. cond b (Some s) (sight_of m sights)) (ne_eqb s.node m (λ same. far (sym same ∙ eqb-true s.node n e))))
-    go false e later = ap (cond (s.node == m) (Some s)) later
+use Rattle.word_rule.proofs.NodeSights.{sight_changed, without_other}
 
 mark_keeps : (parent s : NodeSight) → (mark_child parent s).node ≡ s.node
 mark_keeps parent s = go (s.node == parent.node)
@@ -118,7 +109,7 @@ module _ (t : Terms) (pc : ℕ) (k : CallerData) (visit : Visit) (child : ℕ) (
             ∙ ap (λ b. if b then map (mark_child s.sight) sights.nodes else (if found % 2 == 0 then (sight_begun visit.node found ∷ without_sight visit.node sights.nodes) else sights.nodes)) (eq-eqb s.sight.version found (s.same ∙ sym same))
 
         marked_there : sight_of child (sights_then visit.node found sights).nodes ≡ Some marked
-        marked_there = ap (sight_of child) then_nodes ∙ (changed_sight child (mark_child s.sight) (mark_keeps s.sight) sights.nodes ∙ (ap (option_map (mark_child s.sight)) child_there ∙ ap Some marks))
+        marked_there = ap (sight_of child) then_nodes ∙ (sight_changed child (mark_child s.sight) (mark_keeps s.sight) sights.nodes ∙ (ap (option_map (mark_child s.sight)) child_there ∙ ap Some marks))
 
         pub child_visited : (level : ℕ) → level + 1 ≡ visit.level → Way t pc k (record { node = child; version = version; level = level }) k3
         child_visited level one = record {

@@ -1,6 +1,6 @@
 -- The entries of the leaf that a lookup visits: what its loads say of them.
-use Rattle.std.proofs.Common.{◌≡◌, ℕ, zero, suc, ◌+◌, ◌*◌, ◌-◌, ◌^◌, ◌<◌, ◌≤◌, ◌==◌, ◌⊎◌, ◌&&◌, Bool, true, false, List, [], ◌∷◌, min, Option, Some, None, option_map, IfSome, inl, inr, refl, ap, sym, ◌∙◌, subst, arith, nat_le, if◌then◌else◌, lt_of_not-le, true≢false}
-use Rattle.std.proofs.lemmas.Bool.{and_parts, leb-true, le-leb, lt-leb, ltb-true}
+use Rattle.std.proofs.Common.{◌≡◌, ℕ, zero, suc, ◌+◌, ◌*◌, ◌-◌, ◌^◌, ◌<◌, ◌≤◌, ◌==◌, ◌⊎◌, ◌&&◌, Bool, true, false, List, ◌∷◌, min, Option, Some, None, option_map, IfSome, inl, inr, refl, ap, sym, ◌∙◌, subst, arith, nat_le, if◌then◌else◌, lt_of_not-le, true≢false}
+use Rattle.std.proofs.lemmas.Bool.{and_parts, leb-true, le-leb, ltb-true}
 use Rattle.std.proofs.lemmas.Option.{none-some, same_Some}
 use native.Mathlib.Decide.{ℕ_discrete, dec_le}
 use Rattle.reg_model.specs.SpanData.{contains}
@@ -21,8 +21,9 @@ use Rattle.word_rule.proofs.Spells.{reads}
 use Rattle.btree_lookup.specs.Visits.{Agrees, AreBegun, BeginLater, IsEntry, Sees, SeesBegun, SeesLater, Way, entry_member}
 use Rattle.btree_lookup.specs.declared.entry.Begun.{Begun}
 use Rattle.btree_lookup.specs.declared.visit.Visit.{Visit}
-use Rattle.btree_lookup.proofs.Pairs.{loaded_is}
 use Rattle.btree_lookup.proofs.Sighting.{at_most, one_more}
+use Rattle.word_rule.proofs.NodeVersions.{loaded_is}
+use Rattle.segment_array.proofs.Places.{none_above, unheld_below}
 
 -- words that spell a leaf have a count that may be, and entries from word 6 on
 abbrev IsLeafRead : Bool → Option (List Member) → Body → Type 0
@@ -56,23 +57,6 @@ entry_unrolled words at more es e = go (is_entry_at words at) refl (entries_at w
     go true t None is f = absurd (none-some es f)
     go true t (Some rest) is f = record { rest = rest; whole = sym (same_Some _ _ f); read = is; entry = t }
     go false t o is f = absurd (none-some es f)
-
--- one that begins above the address doesn't contain it, and nor do those after it
-above_out : (m : Member) (pc : ℕ) → pc < m.span.first → contains m.span pc ≡ false
-above_out m pc h = ap (λ b. b && nat_le pc m.span.last) (lt-leb m.span.first pc h)
-
-below_out : (m : Member) (pc : ℕ) → m.span.last < pc → contains m.span pc ≡ false
-below_out m pc h = go (nat_le m.span.first pc) (lt-leb pc m.span.last h)
-  where
-    go : (b : Bool) → nat_le pc m.span.last ≡ false → (b && nat_le pc m.span.last) ≡ false
-    go true e = e
-    go false e = refl
-
-none_above : (pc low : ℕ) (es : List Member) → AscendFrom low es → pc < low → member_at pc es ≡ None
-none_above pc low [] h l = refl
-none_above pc low (m ∷ es) h l =
-    let a = h.0 in let b = h.1 in
-    ap (λ c. if c then Some m else member_at pc es) (above_out m pc (omega (arith, a, l))) ∙ none_above pc (m.span.last + 1) es h.2 (omega (arith, a, b, l))
 
 module _ (words : List ℕ) (pc count begun : ℕ) where
   -- where no entry is left, or the next one begins above the address
@@ -112,7 +96,7 @@ module _ (words : List ℕ) (pc count begun : ℕ) where
       let second = subst (AscendFrom ((entry_at words (6 + 3 * i)).span.last + 1)) v.whole first.2 in
       let begins = below (i + 1) (omega arith) (omega (arith, e)) in
       let over = second.0 in
-      let out = below_out (entry_at words (6 + 3 * i)) pc (omega (arith, begins, over)) in
+      let out = unheld_below (entry_at words (6 + 3 * i)) pc (omega (arith, begins, over)) in
       let later = picked d (i + 1) (suc more) ((entry_at words (6 + 3 * i)).span.last + 1) u.rest (omega (arith, e)) (omega (arith, whole)) few rest_read first.2 below past in (
         ap (member_at pc) u.whole ∙ (ap (λ c. if c then Some (entry_at words (6 + 3 * i)) else member_at pc u.rest) out ∙ (later.0 ∙ ap (λ p. Picked (entry_at words (6 + 3 * p))) same)),
         ap (λ p. is_entry_at words (6 + 3 * p)) (sym same) ∙ later.1,
@@ -300,7 +284,7 @@ module _ (t : Terms) (pc : ℕ) (k : CallerData) (visit : Visit) where
         too_short short =
             let parts = entry_parts a.words place found.1 in
             let z = parts.0 in let b = last.0 in let y = size_is in let low = last.1 in
-            let out = below_out (entry_at a.words place) pc (omega (arith, z, b, y, low, short)) in
+            let out = unheld_below (entry_at a.words place) pc (omega (arith, z, b, y, low, short)) in
             (found.0 ∙ ap (λ c. if c then Some (entry_at a.words place) else None) out, leaf.level, leaf.inside)
 
         pub long_enough : (payload : ℕ) → loaded_word (8 + 3 * (begun.count - 1)) s.sight.words ≡ Some payload → pc - begun.base < size

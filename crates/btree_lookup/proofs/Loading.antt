@@ -1,19 +1,19 @@
 -- What each load makes of the log of a caller that only loads.
-use Rattle.std.proofs.Common.{◌≡◌, ℕ, zero, suc, ◌+◌, ◌*◌, Bool, true, false, List, [], ◌∷◌, ◌++◌, map, Option, Some, None, is_some, Contains, inl, inr, refl, ap, sym, ◌∙◌, subst, arith, append-nil, if◌then◌else◌, ◌==◌}
+use Rattle.std.proofs.Common.{◌≡◌, ℕ, zero, suc, ◌+◌, ◌*◌, List, [], ◌∷◌, ◌++◌, map, None, is_some, Contains, inl, inr, refl, ap, sym, ◌∙◌, subst, arith, append-nil, if◌then◌else◌}
 use Rattle.std.proofs.lemmas.List.{append_assoc, map-append}
 use Rattle.std.proofs.lemmas.List.Elements.{Contains-append_left, Contains-append_right}
 use Rattle.word_rule.specs.declared.log.Ask.TheVariants as ask
 use Rattle.word_rule.specs.declared.log.LoadedWord.{LoadedWord}
 use Rattle.word_rule.specs.declared.log.Log.{Log}
-use Rattle.word_rule.specs.declared.log.NodeSight.{NodeSight}
 use Rattle.word_rule.specs.declared.log.Sights.{Sights}
 use Rattle.word_rule.specs.CallerData.{CallerData}
 use Rattle.word_rule.specs.Held.{held_of}
 use Rattle.word_rule.specs.Logs.{load_of}
 use Rattle.word_rule.specs.Places.{node_place}
-use Rattle.word_rule.specs.Sights.{after_node_begin, after_node_load, after_node_version, receipts_after_version, sight_of, sights_after_begin, sights_after_version, try_receipts, with_word}
+use Rattle.word_rule.specs.Sights.{after_node_begin, after_node_load, after_node_version, sight_of, sights_after_begin, sights_after_version, with_word}
 use Rattle.btree_lookup.specs.Loads.{after_looks, load_events, loaded_at, loaded_of}
 use Rattle.btree_lookup.specs.Ways.{AreLed, ComeInOrder, IsLed, IsLedTo, IsNamed}
+use Rattle.word_rule.proofs.NodeSights.{no_receipt}
 
 abbrev pub looked : List LoadedWord → Sights → CallerData → CallerData
 looked loaded sights k = record k { log = after_looks loaded sights k.log }
@@ -37,15 +37,6 @@ word_loaded k loaded sights n at value free = λ i. record k {
   };
 }
 
--- a load that asks for nothing has no receipt
-pub no_receipts : (v : Log) (found : ℕ) (o : Option NodeSight) → receipts_after_version v ask.Nothing found o ≡ []
-no_receipts v found None = refl
-no_receipts v found (Some s) = go (s.version == found)
-  where
-    go : (b : Bool) → (if b then try_receipts v ask.Nothing s s.clock else []) ≡ []
-    go true = refl
-    go false = refl
-
 abbrev pub sights_then : ℕ → ℕ → Sights → Sights
 sights_then n found sights = record sights { nodes = sights_after_version n found (sight_of n sights.nodes) sights.nodes }
 
@@ -56,7 +47,7 @@ version_loaded k loaded sights n found = λ i. record k {
     trace = record k.log.trace { loads = more k.log loaded (node_place n) found i };
     sights = sights_then n found sights;
     receipts = record k.log.receipts {
-      own = (ap (λ rs. k.log.receipts.own ++ rs) (no_receipts (looked loaded sights k).log found (sight_of n sights.nodes)) ∙ append-nil k.log.receipts.own) i;
+      own = (ap (λ rs. k.log.receipts.own ++ rs) (no_receipt (looked loaded sights k).log found (sight_of n sights.nodes)) ∙ append-nil k.log.receipts.own) i;
     };
   };
 }

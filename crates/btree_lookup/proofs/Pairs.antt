@@ -1,7 +1,7 @@
 -- The pairs of the inner node that a lookup visits: what its loads say of them.
-use Rattle.std.proofs.Common.{◌≡◌, ◌≢◌, ℕ, zero, suc, ◌+◌, ◌*◌, ◌-◌, ◌<◌, ◌≤◌, ◌⊎◌, Bool, true, false, List, [], ◌∷◌, length, Option, Some, None, option_map, IfSome, Contains, inl, inr, refl, ap, sym, ◌∙◌, subst, arith, nat_lt, nat_eq, eq-eqb, if◌then◌else◌, lt-ltb, le-leb, ◌&&◌, true≢false}
+use Rattle.std.proofs.Common.{◌≡◌, ◌≢◌, ℕ, zero, suc, ◌+◌, ◌*◌, ◌-◌, ◌<◌, ◌≤◌, ◌⊎◌, Bool, true, false, List, [], ◌∷◌, length, Option, Some, None, option_map, IfSome, Contains, inl, inr, refl, ap, sym, ◌∙◌, subst, arith, nat_lt, eq-eqb, if◌then◌else◌, lt-ltb, le-leb, ◌&&◌, true≢false}
 use Rattle.std.specs.List.{AllByRecursion}
-use Rattle.std.proofs.lemmas.Bool.{eqb-true, ltb-true}
+use Rattle.std.proofs.lemmas.Bool.{ltb-true}
 use Rattle.std.proofs.lemmas.Option.{none-some, same_Some}
 use Rattle.std.proofs.lemmas.List.Elements.{Contains-append_left}
 use native.Mathlib.Decide.{ℕ_discrete}
@@ -15,24 +15,15 @@ use Rattle.word_rule.specs.declared.log.NodeSight.{NodeSight}
 use Rattle.word_rule.specs.declared.log.Terms.{Terms}
 use Rattle.word_rule.specs.CallerData.{CallerData}
 use Rattle.word_rule.specs.NodeTells.{IsLiveNode}
-use Rattle.word_rule.specs.Observations.{AreOfNode}
 use Rattle.word_rule.specs.Sights.{after_node_load, is_loaded_as, loaded_word, low_of, named_place, pairs_in_sight, place_between, place_of, place_under}
 use Rattle.word_rule.specs.Spelling.{is_short, node_word, pair_at, pairs_at}
-use Rattle.word_rule.proofs.Spells.{reads_pairs}
+use Rattle.word_rule.proofs.Spells.{pairs_length, reads_pairs}
 use Rattle.btree_lookup.specs.Loads.{loaded_of}
 use Rattle.btree_lookup.specs.Visits.{Agrees, Sees, SeesBelow, SeesChild, SeesNone, Way}
 use Rattle.btree_lookup.specs.declared.visit.Visit.{Visit}
 use Rattle.btree_lookup.proofs.Loading.{last_loaded}
 use Rattle.btree_lookup.proofs.Sighting.{at_most, one_more, word_here, word_other, node_of_sight}
-
--- of words that are a node's, one that was loaded is that of the node
-pub loaded_is : (words : List ℕ) (loaded : List LoadedWord) (at value : ℕ) → AreOfNode words loaded → loaded_word at loaded ≡ Some value → node_word words at ≡ value
-loaded_is words [] at value all is = absurd (none-some value is)
-loaded_is words (w ∷ loaded) at value all is = go (nat_eq w.at at) refl is (loaded_is words loaded at value all.1)
-  where
-    go : (b : Bool) → nat_eq w.at at ≡ b → (if b then Some w.value else loaded_word at loaded) ≡ Some value → (loaded_word at loaded ≡ Some value → node_word words at ≡ value) → node_word words at ≡ value
-    go true e is' later = ap (node_word words) (sym (eqb-true w.at at e)) ∙ (all.0 ∙ same_Some _ _ is')
-    go false e is' later = later is'
+use Rattle.word_rule.proofs.NodeVersions.{loaded_is}
 
 -- the first of some pairs, and the others
 pub unrolled : (words : List ℕ) (at more : ℕ) (ps : List Pair) → pairs_at words at (suc more) ≡ Some ps → (rest : List Pair) × ((ps ≡ pair_at words at ∷ rest) × (pairs_at words (at + 2) more ≡ Some rest))
@@ -66,12 +57,6 @@ inner_node t s shape a f placed above = go shape.body refl live.ordered live.fil
     go (Entries es) is ordered filled = absurd (let e = ordered.0 in let l = level in omega (arith, e, l))
     go (Link next) is ordered filled = absurd ordered
     go (Pairs ps) is ordered filled = record { live = live; pairs = ps; is = is; read = reads_pairs a.words shape ps a.spells is; cut = ordered.1; few = filled.1; level = level }
-
--- so many pairs
-pairs_count : (words : List ℕ) (at count : ℕ) (ps : List Pair) → pairs_at words at count ≡ Some ps → length ps ≡ count
-pairs_count words at zero ps e = ap length (sym (same_Some _ _ e))
-pairs_count words at (suc count) ps e =
-    let u = unrolled words at count ps e in ap length u.1.0 ∙ ap suc (pairs_count words (at + 2) count u.0 u.1.1)
 
 -- separators that reach the high fence aren't all below an address inside
 reached : (words : List ℕ) (pc i more low high : ℕ) (ps : List Pair) → pairs_at words (6 + 2 * i) more ≡ Some ps → Cut low high ps → ((j : ℕ) → j < i + more → node_word words (7 + 2 * j) < pc) → low ≤ pc → pc ≤ high → ⊥
@@ -302,7 +287,7 @@ module _ (t : Terms) (pc : ℕ) (k : CallerData) (visit : Visit) where
     never = λ shape a.
         let inner = inner_node t w.sees.sight shape a w.sees.place w.sees.placed (let l = w.sees.level in omega (arith, l, above)) in
         let number : node_word a.words 5 ≡ count = loaded_is a.words w.sees.sight.words 5 count a.loaded_so w.counted in
-        let all = pairs_count a.words 6 (node_word a.words 5) inner.pairs inner.read in
+        let all = pairs_length a.words 6 (node_word a.words 5) inner.pairs inner.read in
         let few = inner.few in omega (arith, all, few, number, many);
   }
 

@@ -13,15 +13,7 @@ use Rattle.btree_lookup.specs.Loads.{loaded_at, loaded_of}
 use Rattle.btree_lookup.specs.Visits.{Sees}
 use Rattle.btree_lookup.specs.declared.visit.Visit.{Visit}
 use Rattle.btree_lookup.proofs.Loading.{led_more, still_led, word_loaded}
-
--- the sight of a node, where each sight was changed and kept its node
-pub changed_sight : (n : ℕ) (f : NodeSight → NodeSight) → ((s : NodeSight) → (f s).node ≡ s.node) → (sights : List NodeSight) → sight_of n (map f sights) ≡ option_map f (sight_of n sights)
-changed_sight n f keeps [] = refl
-changed_sight n f keeps (s ∷ sights) = ap (λ m. cond (m == n) (Some (f s)) (sight_of n (map f sights))) (keeps s) ∙ go (nat_eq s.node n) (changed_sight n f keeps sights)
-  where
-    go : (b : Bool) → sight_of n (map f sights) ≡ option_map f (sight_of n sights) → cond b (Some (f s)) (sight_of n (map f sights)) ≡ option_map f (cond b (Some s) (sight_of n sights))
-    go true later = refl
-    go false later = later
+use Rattle.word_rule.proofs.NodeSights.{sight_changed, word_keeps}
 
 -- it is of this node
 pub node_of_sight : (n : ℕ) (sights : List NodeSight) (s : NodeSight) → sight_of n sights ≡ Some s → s.node ≡ n
@@ -31,13 +23,6 @@ node_of_sight n (x ∷ sights) s e = go (nat_eq x.node n) refl e (node_of_sight 
     go : (b : Bool) → nat_eq x.node n ≡ b → cond b (Some x) (sight_of n sights) ≡ Some s → (sight_of n sights ≡ Some s → s.node ≡ n) → s.node ≡ n
     go true is e later = ap (λ (z : NodeSight). z.node) (sym (same_Some _ _ e)) ∙ eqb-true x.node n is
     go false is e later = later e
-
-word_keeps : (n at value : ℕ) (s : NodeSight) → (with_word n at value s).node ≡ s.node
-word_keeps n at value s = go (s.node == n)
-  where
-    go : (b : Bool) → (if b then record s { words = record { at = at; value = value } ∷ s.words } else s).node ≡ s.node
-    go true = refl
-    go false = refl
 
 abbrev pub joined : ℕ → ℕ → NodeSight → NodeSight
 joined at value s = record s { words = record { at = at; value = value } ∷ s.words }
@@ -59,7 +44,7 @@ same_place at value s ne =
 -- the sight of the node after a word of it was loaded
 pub sight_joined : (n at value : ℕ) (sights : List NodeSight) (s : NodeSight) → sight_of n sights ≡ Some s → sight_of n (map (with_word n at value) sights) ≡ Some (joined at value s)
 sight_joined n at value sights s e =
-    changed_sight n (with_word n at value) (word_keeps n at value) sights ∙ (ap (option_map (with_word n at value)) e ∙ ap Some (joins n at value s (node_of_sight n sights s e)))
+    sight_changed n (with_word n at value) (word_keeps n at value) sights ∙ (ap (option_map (with_word n at value)) e ∙ ap Some (joins n at value s (node_of_sight n sights s e)))
 
 module _ (t : Terms) (pc : ℕ) (k : CallerData) (visit : Visit) where
   -- more may have been used

@@ -19,6 +19,7 @@ use Rattle.word_rule.specs.Steps.{HeadStored, IsFreeTo, MayGive, MayRelease, May
 use Rattle.node_store.specs.Free.{IsSettled, LeavesOthers, after_linking, after_setting, held_word, word_of_lock}
 use Rattle.node_store.proofs.HeldWrites.{and_false, held_changed, held_edited, plain_store}
 use Rattle.node_store.proofs.Settled.{ExchangeLaw, freed_settled, settles_free, without_settled}
+use Rattle.word_rule.proofs.KeptVersions.{none_left}
 
 -- A log has a node out that it holds, whose words are these, and holds the root.
 pub record HasOut (n : ℕ) (words : List ℕ) (hs : Holdings) : Type 0 where
@@ -173,15 +174,6 @@ spelled_free words head kind level link short =
     (λ i. if is_short (level i) then option_map (λ b. record { level = level i; low = node_word words 3; high = node_word words 4; body = b }) (body_of_kind words (kind i) (node_word words 5)) else None) in
     (record { level = 0; low = node_word words 3; high = node_word words 4; body = Link head }, (first ∙ ap (option_map (λ b. record { level = 0; low = node_word words 3; high = node_word words 4; body = b })) body, refl))
 
--- a node's lock, where it was let go
-without_gone : (n : ℕ) (held : List Holding) → held_of n (without_lock n held) ≡ None
-without_gone n [] = refl
-without_gone n (h ∷ held) = go (nat_eq h.node n) refl (without_gone n held)
-  where
-    go : (b : Bool) → nat_eq h.node n ≡ b → held_of n (without_lock n held) ≡ None → held_of n (if not b then h ∷ without_lock n held else without_lock n held) ≡ None
-    go true e later = later
-    go false e later = ap (λ b. cond b (Some h) (held_of n (without_lock n held))) e ∙ later
-
 without_far : (n m : ℕ) → m ≢ n → (held : List Holding) → held_of m (without_lock n held) ≡ held_of m held
 without_far n m far [] = refl
 without_far n m far (h ∷ held) = go (nat_eq h.node n) refl (without_far n m far held)
@@ -206,7 +198,7 @@ settled_held m v is = go (is_lawful v None)
     go false = still_held m _ (λ h. refl) v.holdings.held is
 
 pub gone_after : (n : ℕ) (v : Log) → held_of n (after_node_release n v).holdings.held ≡ None
-gone_after n v = without_gone n (settle None v).holdings.held
+gone_after n v = none_left n (settle None v).holdings.held
 
 pub head_after : (n head : ℕ) (v : Log) → n ≢ 0 → v.holdings.head ≡ Some head → (after_node_release n v).holdings.head ≡ Some head
 head_after n head v other is = ap (λ b. if b then None else (settle None v).holdings.head) (ne_eqb n 0 other) ∙ (settled_head v ∙ is)

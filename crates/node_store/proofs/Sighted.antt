@@ -1,5 +1,5 @@
 -- What a log keeps of the loads of a node, and what its version tells when it is found again.
-use Rattle.std.proofs.Common.{ne_eqb, ◌≢◌, ◌≡◌, ℕ, zero, suc, ◌+◌, ◌-◌, ◌<◌, ◌≤◌, ◌%◌, ◌==◌, Bool, true, false, cond, List, [], ◌∷◌, length, map, Option, Some, None, IfSome, IsSomeAnd, option_map, get_or, set, if◌then◌else◌, ⊎_elim, not, refl, ap, sym, ◌∙◌, subst, arith, is_some, nat_eq, eq-eqb, get_or-set_same, get_or-set_other}
+use Rattle.std.proofs.Common.{ne_eqb, ◌≢◌, ◌≡◌, ℕ, zero, suc, ◌+◌, ◌-◌, ◌<◌, ◌≤◌, ◌%◌, ◌==◌, Bool, true, false, cond, List, [], ◌∷◌, length, map, Option, Some, None, IfSome, IsSomeAnd, option_map, get_or, set, if◌then◌else◌, ⊎_elim, refl, ap, sym, ◌∙◌, subst, arith, is_some, nat_eq, eq-eqb, get_or-set_same, get_or-set_other}
 use Rattle.std.specs.List.{find}
 use Rattle.std.proofs.lemmas.Bool.{eqb-true, eqb-false}
 use Rattle.std.proofs.lemmas.List.{ext_get_or}
@@ -7,27 +7,18 @@ use Rattle.std.proofs.lemmas.Option.{none-some, cond_some}
 use Rattle.tree_shape.specs.NodeData.{NodeData}
 use Rattle.word_rule.specs.declared.log.Ask.TheVariants as ask
 use Rattle.word_rule.specs.declared.log.Holding.{Holding}
-use Rattle.word_rule.specs.declared.log.LoadedWord.{LoadedWord}
 use Rattle.word_rule.specs.declared.log.Log.{Log}
 use Rattle.word_rule.specs.declared.log.NodeSight.{NodeSight}
 use Rattle.word_rule.specs.Callers.{IsLockedAt}
 use Rattle.word_rule.specs.Held.{held_of}
 use Rattle.word_rule.specs.NodeTells.{IsOfNode, IsLiveNode, SightTells}
-use Rattle.word_rule.specs.Observations.{AreOfNode}
 use Rattle.word_rule.specs.Places.{CONTENT_WORDS}
 use Rattle.word_rule.specs.Sights.{after_node_load, after_node_version, loaded_word, mark_child, or_mark, place_of, place_under, sight_begun, sight_of, sights_after_version, with_word, without_sight}
 use Rattle.word_rule.specs.Spelling.{node_word, spelled, SpellsNode}
 use Rattle.node_store.specs.declared.sight.Sight.{Sight}
 use Rattle.node_store.specs.Sights.{AreLoaded, IsKept, IsLiveAs, after_words}
-
--- of words that are a node's, one that was loaded is that of the node
-loaded_is : (words : List ℕ) (loaded : List LoadedWord) (at value : ℕ) → AreOfNode words loaded → loaded_word at loaded ≡ Some value → node_word words at ≡ value
-loaded_is words [] at value stand is = absurd (none-some value is)
-loaded_is words (w ∷ loaded) at value stand is = go (nat_eq w.at at) refl is (λ e. loaded_is words loaded at value stand.1 e)
-  where
-    go : (b : Bool) → nat_eq w.at at ≡ b → (if b then Some w.value else loaded_word at loaded) ≡ Some value → (loaded_word at loaded ≡ Some value → node_word words at ≡ value) → node_word words at ≡ value
-    go true e is later = ap (node_word words) (sym (eqb-true w.at at e)) ∙ stand.0 ∙ (cond_some true w.value value is).1
-    go false e is later = later is
+use Rattle.word_rule.proofs.NodeVersions.{loaded_is}
+use Rattle.word_rule.proofs.NodeSights.{sight_changed, without_other, word_keeps}
 
 -- two lists of words that agree on each
 same_words : (words others : List ℕ) → length words ≡ CONTENT_WORDS → length others ≡ CONTENT_WORDS → ((at : ℕ) → 1 ≤ at → at ≤ CONTENT_WORDS → node_word words at ≡ node_word others at) → words ≡ others
@@ -83,23 +74,6 @@ word_more n words at found v inside =
     ∙ ap (after_node_load n (suc at) found) others
     ∙ ap (λ value. after_node_load n (suc at) value (after_words n (set words at found) at v)) (sym here)
     ∙ ap (λ k. after_words n (set words at found) k v) (sym next)
-
--- the sight of a node, where each sight was changed and kept its node
-sight_changed : (n : ℕ) (f : NodeSight → NodeSight) → ((s : NodeSight) → (f s).node ≡ s.node) → (sights : List NodeSight) → sight_of n (map f sights) ≡ option_map f (sight_of n sights)
-sight_changed n f keeps [] = refl
-sight_changed n f keeps (s ∷ sights) = ap (λ m. cond (m == n) (Some (f s)) (sight_of n (map f sights))) (keeps s) ∙ go (nat_eq s.node n) (sight_changed n f keeps sights)
-  where
-    go : (b : Bool) → sight_of n (map f sights) ≡ option_map f (sight_of n sights) → cond b (Some (f s)) (sight_of n (map f sights)) ≡ option_map f (cond b (Some s) (sight_of n sights))
-    go true later = refl
-    go false later = later
-
--- a word that joins the sight of its node
-word_keeps : (n at value : ℕ) (s : NodeSight) → (with_word n at value s).node ≡ s.node
-word_keeps n at value s = go (nat_eq s.node n)
-  where
-    go : (b : Bool) → (if b then record s { words = record { at = at; value = value } ∷ s.words } else s).node ≡ s.node
-    go true = refl
-    go false = refl
 
 mark_keeps : (parent s : NodeSight) → (mark_child parent s).node ≡ s.node
 mark_keeps parent s = go (nat_eq s.node parent.node)
@@ -213,16 +187,6 @@ mark_words parent s = go (nat_eq s.node parent.node)
     go : (b : Bool) → (if b then s else record s { mark = or_mark (place_under s.node parent (place_of parent)) s.mark }).words ≡ s.words
     go true = refl
     go false = refl
-
--- the sights of other nodes, where one was taken out
-without_other : (n m : ℕ) → m ≢ n → (sights : List NodeSight) → sight_of m (without_sight n sights) ≡ sight_of m sights
-without_other n m far [] = refl
-without_other n m far (s ∷ sights) = go (nat_eq s.node n) refl (without_other n m far sights)
-  where
-    go : (b : Bool) → nat_eq s.node n ≡ b → sight_of m (without_sight n sights) ≡ sight_of m sights → sight_of m (if not b then s ∷ without_sight n sights else without_sight n sights) ≡ cond (s.node == m) (Some s) (sight_of m sights)
-    go true e later =
-        later ∙ sym (ap (λ b. cond b (Some s) (sight_of m sights)) (ne_eqb s.node m (λ same. far (sym same ∙ eqb-true s.node n e))))
-    go false e later = ap (cond (s.node == m) (Some s)) later
 
 -- the version of another node was found
 others_looked : (n found : ℕ) (s : Sight) → s.node ≢ n → (o : Option NodeSight) (sights : List NodeSight) → KeptBy s (sight_of s.node sights) → KeptBy s (sight_of s.node (sights_after_version n found o sights))

@@ -1,7 +1,6 @@
 -- Loads, refused exchanges and marks one after another.
-use Rattle.std.proofs.Common.{◌≡◌, ℕ, ◌+◌, List, [], ◌∷◌, ◌++◌, Bool, true, false, Option, Some, None, Ok, Err, Result, IfOk, IfErr, ◌≢◌, ◌==◌, sym, refl, ap, subst, ◌∙◌, append-nil, append_assoc, add_assoc, add-zero, arith, if◌then◌else◌}
+use Rattle.std.proofs.Common.{◌≡◌, ℕ, ◌+◌, List, [], ◌∷◌, ◌++◌, Some, Ok, Err, Result, IfOk, IfErr, ◌≢◌, sym, refl, ap, subst, ◌∙◌, append-nil, append_assoc, add_assoc, add-zero, arith}
 use Rattle.std.specs.List.{AllByRecursion}
-use Rattle.reg_model.specs.declared.answer.Receipt.{Receipt}
 use Rattle.word_rule.specs.CallerData.{CallerData}
 use Rattle.word_rule.specs.Logs.{IsTaken, load_of, after_load, after_loader_lock, after_write}
 use Rattle.word_rule.specs.NodeTells.{IsTakenNode}
@@ -16,6 +15,7 @@ use Rattle.word_rule.specs.declared.log.LoaderHolding.{LoaderHolding}
 use Rattle.word_rule.specs.declared.log.Log.{Log}
 use Rattle.word_rule.specs.declared.log.NodeSight.{NodeSight}
 use Rattle.node_store.specs.Locking.{IsOfLock, SightsAfter, tried, sighted, Tries, Locks}
+use Rattle.word_rule.proofs.NodeSights.{no_receipt}
 
 all_append : (id : LockId) (xs ys : List LoadEvent) → AllByRecursion (IsOfLock id) xs → AllByRecursion (IsOfLock id) ys → AllByRecursion (IsOfLock id) (xs ++ ys)
 all_append id [] ys h i = i
@@ -49,15 +49,6 @@ tries_both id a b c p q =
 pub tries_load : (id : LockId) (a b c : CallerData) (found : ℕ) → Tries id a b → c ≡ record b { log = after_load (lock_place id) found b.log } → Tries id a c
 tries_load id a b c found p e = tries_both id a b c p
     (load_of b.log (lock_place id) found ∷ [], 0, b.log.sights.nodes, ((refl, tt), same_sights id b.log.sights.nodes, e ∙ (λ i. record b { log = counted (b.log.trace.loads ++ load_of b.log (lock_place id) found ∷ []) (sym (add-zero b.log.trace.writes) i) b.log.sights.nodes b.log })))
-
--- a load that asks for nothing gets no receipt
-no_receipt : (v : Log) (found : ℕ) (o : Option NodeSight) → receipts_after_version v ask.Nothing found o ≡ []
-no_receipt v found None = refl
-no_receipt v found (Some s) = go (s.version == found)
-  where
-    go : (b : Bool) → ◌≡◌ {A = List Receipt} (if b then [] else []) []
-    go true = refl
-    go false = refl
 
 -- the version was loaded
 pub tries_version : (id : LockId) (a b c : CallerData) (found : ℕ) → Tries id a b → c ≡ record b { log = after_version ask.Nothing id found b.log } → Tries id a c

@@ -26,6 +26,7 @@ use Rattle.word_rule.specs.declared.log.Sights.{Sights}
 use Rattle.word_rule.specs.declared.log.Terms.{Terms}
 use Rattle.array_publish.proofs.Lookups.{prefix_both}
 use Rattle.registry_core.specs.Queries.{IsStamped, Queries}
+use Rattle.word_rule.proofs.Each.{all_append, all_map}
 
 pub prefix_length : (a b : List Update) → IsPrefix a b → length a ≤ length b
 prefix_length a b p = let n = length-append a p.0 in let e = ap length p.1 in omega (arith, n, e)
@@ -69,19 +70,11 @@ all_within : (start : State) (past : List Update) (rs : List Receipt) → AllByR
 all_within start past [] h = tt
 all_within start past (r ∷ rs) h = ((h.0.always 0 0 0).within, all_within start past rs h.1)
 
-pub all_both : {X : Type 0} (P : X → Type 0) (xs ys : List X) → AllByRecursion P xs → AllByRecursion P ys → AllByRecursion P (xs ++ ys)
-all_both P [] ys h i = i
-all_both P (x ∷ xs) ys h i = (h.0, all_both P xs ys h.1 i)
-
-pub all_weaker : {X : Type 0} (P Q : X → Type 0) → ((x : X) → P x → Q x) → (xs : List X) → AllByRecursion P xs → AllByRecursion Q xs
-all_weaker P Q f [] h = tt
-all_weaker P Q f (x ∷ xs) h = (f x h.0, all_weaker P Q f xs h.1)
-
 stamped_before : (loads more : List LoadEvent) (rs : List Receipt) → AllByRecursion (IsStamped loads) rs → AllByRecursion (IsStamped (loads ++ more)) rs
-stamped_before loads more rs h = all_weaker (IsStamped loads) (IsStamped (loads ++ more)) (λ r s. (s.0, (Contains-append_left loads more s.0 s.1.0, s.1.1, s.1.2))) rs h
+stamped_before loads more rs h = all_map (IsStamped loads) (IsStamped (loads ++ more)) (λ r s. (s.0, (Contains-append_left loads more s.0 s.1.0, s.1.1, s.1.2))) rs h
 
 stamped_after : (loads more : List LoadEvent) (rs : List Receipt) → AllByRecursion (IsStamped more) rs → AllByRecursion (IsStamped (loads ++ more)) rs
-stamped_after loads more rs h = all_weaker (IsStamped more) (IsStamped (loads ++ more)) (λ r s. (s.0, (Contains-append_right loads more s.0 s.1.0, s.1.1, s.1.2))) rs h
+stamped_after loads more rs h = all_map (IsStamped more) (IsStamped (loads ++ more)) (λ r s. (s.0, (Contains-append_right loads more s.0 s.1.0, s.1.1, s.1.2))) rs h
 
 -- ---- one after another
 
@@ -89,7 +82,7 @@ stamped_after loads more rs h = all_weaker (IsStamped more) (IsStamped (loads ++
 module _ (stay : (start : State) (history more : List Update) (nodes callers later since : ℕ) (r : Receipt) → callers ≤ later → Holds start history nodes callers since r → Holds start (history ++ more) nodes later since r) where
   pub always_later : (start : State) (past past' : List Update) → IsPrefix past past' → (rs : List Receipt) → AllByRecursion (HoldsAlways start past) rs → AllByRecursion (HoldsAlways start past') rs
   always_later start past past' p rs h =
-      all_weaker (HoldsAlways start past) (HoldsAlways start past') (λ r a. record { always = λ nodes callers since. subst (λ z. Holds start z nodes callers since r) p.1 (stay start past p.0 nodes callers callers since r (omega arith) (a.always nodes callers since)) }) rs h
+      all_map (HoldsAlways start past) (HoldsAlways start past') (λ r a. record { always = λ nodes callers since. subst (λ z. Holds start z nodes callers since r) p.1 (stay start past p.0 nodes callers callers since r (omega arith) (a.always nodes callers since)) }) rs h
 
   pub queries_both : (t : Terms) (rs ss : List Receipt) (a b c : CallerData) → Queries t rs a b → Queries t ss b c → Queries t (rs ++ ss) a c
   queries_both t rs ss a b c p q =
@@ -100,8 +93,8 @@ module _ (stay : (start : State) (history more : List Update) (nodes callers lat
         loads = p.loads ++ q.loads;
         sights = q.sights;
         begins = prefix_both a.log.past p.past q.past p.begins begins;
-        hold = all_both (HoldsAlways (start t) q.past) rs ss (always_later (start t) p.past q.past begins rs p.hold) q.hold;
-        stamped = all_both (IsStamped (p.loads ++ q.loads)) rs ss (stamped_before p.loads q.loads rs p.stamped) (stamped_after p.loads q.loads ss q.stamped);
+        hold = all_append (HoldsAlways (start t) q.past) rs ss (always_later (start t) p.past q.past begins rs p.hold) q.hold;
+        stamped = all_append (IsStamped (p.loads ++ q.loads)) rs ss (stamped_before p.loads q.loads rs p.stamped) (stamped_after p.loads q.loads ss q.stamped);
         order = order_both (length a.log.past) (length p.past) rs ss (prefix_length a.log.past p.past p.begins) (all_within (start t) p.past rs p.hold) p.order (subst (λ z. AreInOrder (length z) ss) seen q.order);
         log = q.log ∙ (ap (λ (k : CallerData). record k { log = after_lookup q.loads q.past q.sights ss k.log }) p.log
             ∙ (λ i. record a { log = looked (append_assoc a.log.trace.loads p.loads q.loads i) q.past q.sights (append_assoc a.log.receipts.own rs ss i) a.log }));

@@ -17,7 +17,8 @@ use Rattle.registry_core.specs.Calls.{Answered, Receives, is_of_update}
 use Rattle.registry_core.specs.Queries.{Queries}
 use Rattle.registry_core.proofs.Counting.{count_both}
 use Rattle.array_publish.proofs.Lookups.{prefix_both}
-use Rattle.registry_core.proofs.Asking.{all_both, all_weaker, prefix_length}
+use Rattle.registry_core.proofs.Asking.{prefix_length}
+use Rattle.word_rule.proofs.Each.{all_append, all_map}
 
 -- receipts with these of one's own
 abbrev with_own : List Receipt → Receipts → Receipts
@@ -43,9 +44,9 @@ answered_both a b c front back p q = record {
   table = q.table ∙ p.table;
   terms = q.terms ∙ p.terms;
   begins = prefix_both a.log.past b.log.past c.log.past p.begins q.begins;
-  between = all_both (IsBetween (length a.log.past) (length c.log.past)) front back
-      (all_weaker (IsBetween (length a.log.past) (length b.log.past)) (IsBetween (length a.log.past) (length c.log.past)) (λ r h. (h.0, (let n = prefix_length b.log.past c.log.past q.begins in let w = h.1 in omega (arith, n, w)))) front p.between)
-      (all_weaker (IsBetween (length b.log.past) (length c.log.past)) (IsBetween (length a.log.past) (length c.log.past)) (λ r h. ((let n = prefix_length a.log.past b.log.past p.begins in let w = h.0 in omega (arith, n, w)), h.1)) back q.between);
+  between = all_append (IsBetween (length a.log.past) (length c.log.past)) front back
+      (all_map (IsBetween (length a.log.past) (length b.log.past)) (IsBetween (length a.log.past) (length c.log.past)) (λ r h. (h.0, (let n = prefix_length b.log.past c.log.past q.begins in let w = h.1 in omega (arith, n, w)))) front p.between)
+      (all_map (IsBetween (length b.log.past) (length c.log.past)) (IsBetween (length a.log.past) (length c.log.past)) (λ r h. ((let n = prefix_length a.log.past b.log.past p.begins in let w = h.0 in omega (arith, n, w)), h.1)) back q.between);
   left = let n = count_both is_of_update front back in let x = p.left in let y = q.left in omega (arith, n, x, y);
   own = q.own ∙ (ap (λ (r : Receipts). with_own (r.own ++ back) r) p.own ∙ (λ i. with_own (append_assoc a.log.receipts.own front back i) a.log.receipts));
   loader = q.loader ∙ p.loader;

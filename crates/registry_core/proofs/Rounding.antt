@@ -18,8 +18,8 @@ use Rattle.word_rule.specs.declared.log.Terms.{Terms}
 use Rattle.word_rule.proofs.Names.{count_cons, has_from_count, once_same, same_refl}
 use Rattle.registry_core.specs.Calls.{Answered}
 use Rattle.registry_core.specs.Rounds.{AreAnswered, IsAfterRound, IsBetweenRounds, IsSplitOff, IsWholeWhereAlone, after_joins, after_one_join, after_one_split, after_splits, all_split_off, one_split_off}
-use Rattle.registry_core.proofs.Asking.{all_both, all_weaker}
 use Rattle.registry_core.proofs.Counting.{count_both, whole_counted}
+use Rattle.word_rule.proofs.Each.{all_append, all_behind, all_map}
 
 -- ---- splitting off
 
@@ -112,7 +112,7 @@ new_may_join w gives k is =
     let P : CallerData → Type 0 = λ other. other.table ≡ w.table in
     let Q : CallerData → Type 0 = λ other. IsIdle other.log in
     let new = each_new k gives (all_split_off gives k) (all_new gives k) in
-    (All-from_recursion P (all_split_off gives k) (all_weaker (IsNew k) P (λ other n. n.1.table ∙ is) (all_split_off gives k) new), All-from_recursion Q (all_split_off gives k) (all_weaker (IsNew k) Q (λ other n. n.1.idle) (all_split_off gives k) new))
+    (All-from_recursion P (all_split_off gives k) (all_map (IsNew k) P (λ other n. n.1.table ∙ is) (all_split_off gives k) new), All-from_recursion Q (all_split_off gives k) (all_map (IsNew k) Q (λ other n. n.1.idle) (all_split_off gives k) new))
 
 -- ---- what callers whose calls were answered may do
 
@@ -137,7 +137,7 @@ may_all_join k gives lists after a =
     let P : CallerData → Type 0 = λ other. other.table ≡ k.table in
     let Q : CallerData → Type 0 = λ other. IsIdle other.log in
     let both = may_join k lists (all_split_off gives k) after (each_new k gives (all_split_off gives k) (all_new gives k)) a in
-    (All-from_recursion P after (all_weaker (λ other. P other × Q other) P (λ other h. h.0) after both), All-from_recursion Q after (all_weaker (λ other. P other × Q other) Q (λ other h. h.1) after both))
+    (All-from_recursion P after (all_map (λ other. P other × Q other) P (λ other h. h.0) after both), All-from_recursion Q after (all_map (λ other. P other × Q other) Q (λ other h. h.1) after both))
 
 -- ---- joining
 
@@ -213,16 +213,12 @@ lists_both : (xs ys : List (List Receipt)) → in_one_list (xs ++ ys) ≡ in_one
 lists_both [] ys = refl
 lists_both (rs ∷ xs) ys = ap (λ more. rs ++ more) (lists_both xs ys) ∙ sym (append_assoc rs (in_one_list xs) (in_one_list ys))
 
-part_of_all : {X : Type 0} (P : X → Type 0) (xs ys : List X) → AllByRecursion P (xs ++ ys) → AllByRecursion P ys
-part_of_all P [] ys h = h
-part_of_all P (x ∷ xs) ys h = part_of_all P xs ys h.1
-
 -- none is below what was seen before
 since_all : (k : CallerData) (lists : List (List Receipt)) (before after : List CallerData) → AllByRecursion (IsNew k) before → AreAnswered lists before after → AllByRecursion (λ r. length k.log.past ≤ moment r) (in_one_list lists)
 since_all k [] [] [] new a = tt
 since_all k (rs ∷ lists) (c ∷ before) (d ∷ after) new a =
-    all_both (λ r. length k.log.past ≤ moment r) rs (in_one_list lists)
-    (all_weaker (IsBetween (length c.log.past) (length d.log.past)) (λ r. length k.log.past ≤ moment r) (λ r h. subst (λ past. length past ≤ moment r) new.0.1.past h.0) rs a.0.between) (since_all k lists before after new.1 a.1)
+    all_append (λ r. length k.log.past ≤ moment r) rs (in_one_list lists)
+    (all_map (IsBetween (length c.log.past) (length d.log.past)) (λ r. length k.log.past ≤ moment r) (λ r h. subst (λ past. length past ≤ moment r) new.0.1.past h.0) rs a.0.between) (since_all k lists before after new.1 a.1)
 since_all k [] [] (d ∷ after) new a = absurd a
 since_all k [] (c ∷ before) after new a = absurd a
 since_all k (rs ∷ lists) [] after new a = absurd a
@@ -248,7 +244,7 @@ held_within start history nodes callers since (r ∷ rs) h = (h.0.within, held_w
 within_all : (t : Terms) (past : List Update) (callers : ℕ) (lists : List (List Receipt)) → AllByRecursion (IsRecord t past callers) lists → AllByRecursion (λ r. moment r ≤ length past) (in_one_list lists)
 within_all t past callers [] h = tt
 within_all t past callers (rs ∷ lists) h =
-    all_both (λ r. moment r ≤ length past) rs (in_one_list lists) (held_within _ past t.nodes callers 0 rs h.0.0) (within_all t past callers lists h.1)
+    all_append (λ r. moment r ≤ length past) rs (in_one_list lists) (held_within _ past t.nodes callers 0 rs h.0.0) (within_all t past callers lists h.1)
 
 between_all : (low high : ℕ) (rs : List Receipt) → AllByRecursion (λ r. low ≤ moment r) rs → AllByRecursion (λ r. moment r ≤ high) rs → AllByRecursion (IsBetween low high) rs
 between_all low high [] h i = tt
@@ -269,7 +265,7 @@ after_round k gives lists after b a whole =
     let own : n.log.receipts.own ≡ [] = g.own ∙ (ap (λ (r : Receipts). r.own) f.receipts ∙ b.own) in
     let full = whole alone in
     let hold : AllByRecursion (IsRecord k.log.terms n.log.past (n.log.made + 1)) lists =
-    part_of_all (IsRecord k.log.terms n.log.past (n.log.made + 1)) k.log.receipts.joined lists
+    all_behind (IsRecord k.log.terms n.log.past (n.log.made + 1)) k.log.receipts.joined lists
     (subst (λ (t : Terms). AllByRecursion (IsRecord t n.log.past (n.log.made + 1)) (k.log.receipts.joined ++ lists)) terms (subst (AllByRecursion (IsRecord n.log.terms n.log.past (n.log.made + 1))) joined full.receipts.joined)) in
     let fm = f.made in let gm = g.made in let sl = split_length gives k in let ll = lengths lists before after a in
     let counts : made_count (in_one_list n.log.receipts.joined) ≡ length n.log.past = ap (λ more. made_count (more ++ in_one_list n.log.receipts.joined)) (sym own) ∙ whole_counted n.log full in

@@ -15,7 +15,8 @@ use Rattle.event_script.specs.declared.script.Event.{Event}
 use Rattle.event_script.specs.Lawful.{IsLawfulJournal, AnswersEvent, IsUnfolded, thread_receipts, in_one, start_of, RoundsHold, AreInRounds}
 use Rattle.event_script.specs.declared.journal.Answer.{Answer}
 use Rattle.run_engine.specs.Played.{IsRightAnswer}
-use Rattle.run_engine.proofs.Lists.{AllByRecursion-append, AllZip-map, AllZip-weaker, AllZip-second}
+use Rattle.run_engine.proofs.Lists.{AllZip-map, AllZip-weaker, AllZip-second}
+use Rattle.word_rule.proofs.Each.{all_append}
 
 -- the receipts of a round, thread by thread
 abbrev of_round : List (List Receipt) → List Receipt
@@ -30,14 +31,14 @@ threads_at : (start : State) (history : List Update) (nodes callers : ℕ) (thre
 threads_at start history nodes callers [] holds = tt
 threads_at start history nodes callers (receipts ∷ threads) holds =
     let Record : List Receipt → Type 0 = λ receipts. AllHold start history nodes callers 0 receipts × AreInOrder 0 receipts in
-    AllByRecursion-append (IsAtNumber history) receipts (of_round threads)
+    all_append (IsAtNumber history) receipts (of_round threads)
     (record_at start history nodes callers 0 receipts (All-head Record receipts threads holds).0)
     (threads_at start history nodes callers threads (All-tail Record receipts threads holds))
 
 rounds_at : (start : State) (history : List Update) (nodes callers : ℕ) (rounds : List (List (List Receipt))) → RoundsHold start history nodes callers rounds → AllByRecursion (IsAtNumber history) (in_one rounds)
 rounds_at start history nodes callers [] holds = tt
 rounds_at start history nodes callers (round ∷ rounds) holds =
-    AllByRecursion-append (IsAtNumber history) (of_round round) (in_one rounds)
+    all_append (IsAtNumber history) (of_round round) (in_one rounds)
     (threads_at start history nodes (callers + length round) round holds.0)
     (rounds_at start history nodes (callers + length round) rounds holds.1)
 

@@ -1,6 +1,6 @@
 -- Lists beside lists.
 use Rattle.std.proofs.Common.{◌≡◌, ◌≤◌, ℕ, take, length-take, List, [], ◌∷◌, ◌++◌, length, map, refl, arith}
-use Rattle.std.specs.List.{All, AllZip, AllByRecursion}
+use Rattle.std.specs.List.{All, AllZip}
 use Rattle.std.proofs.lemmas.List.Elements.{All-cons, All-from_recursion}
 
 pub AllZip-more : {A B : Type 0} (R : A → B → Type 0) (xs : List A) (ys : List B) (a : A) (b : B) → AllZip R xs ys → R a b → AllZip R (xs ++ a ∷ []) (ys ++ b ∷ [])
@@ -20,10 +20,6 @@ AllZip-weaker P R weaker [] [] all = tt
 AllZip-weaker P R weaker (x ∷ xs) (y ∷ ys) all = (weaker x y all.0, AllZip-weaker P R weaker xs ys all.1)
 AllZip-weaker P R weaker [] (y ∷ ys) all = absurd all
 AllZip-weaker P R weaker (x ∷ xs) [] all = absurd all
-
-pub AllByRecursion-append : {A : Type 0} (P : A → Type 0) (xs ys : List A) → AllByRecursion P xs → AllByRecursion P ys → AllByRecursion P (xs ++ ys)
-AllByRecursion-append P [] ys front back = back
-AllByRecursion-append P (x ∷ xs) ys front back = (front.0, AllByRecursion-append P xs ys front.1 back)
 
 pub AllZip-length : {A B : Type 0} (R : A → B → Type 0) (xs : List A) (ys : List B) → AllZip R xs ys → length xs ≡ length ys
 AllZip-length R [] [] all = refl

@@ -1,10 +1,12 @@
 -- A member in its place among others, and others without it.
-use Rattle.std.proofs.Common.{◌≡◌, ℕ, zero, suc, ◌+◌, ◌-◌, ◌<◌, ◌≤◌, ◌⊎◌, ◌↔◌, inl, inr, ⊎_elim, List, [], ◌∷◌, ◌++◌, length, take, drop, get_or, Contains, sym, refl, ap, ◌∙◌, subst, arith, ◌==◌, not, true, false, true≢false, Bool, None, IfSome, IsSome, is_some, slice_get, eq-eqb, ne_eqb, if◌then◌else◌, lt_of_not-le, append_assoc}
+use Rattle.std.proofs.Common.{◌≡◌, ℕ, zero, suc, ◌+◌, ◌-◌, ◌<◌, ◌≤◌, ◌⊎◌, ◌↔◌, inl, inr, ⊎_elim, List, [], ◌∷◌, ◌++◌, length, take, drop, get_or, Contains, sym, refl, ap, ◌∙◌, subst, arith, ◌==◌, not, true, false, true≢false, Bool, None, IfSome, IsSome, is_some, slice_get, eq-eqb, ne_eqb, if◌then◌else◌, lt_of_not-le, append_assoc, Some, nat_le, ◌&&◌}
 use Rattle.std.proofs.lemmas.List.{take-append-drop, take_rest, length-drop}
 use Rattle.std.specs.List.{All}
 use Rattle.std.proofs.lemmas.List.Elements.{Contains-append_left, Contains-append_right, Contains-append_cases}
 use native.Mathlib.Decide.{ℕ_discrete}
-use Rattle.reg_model.specs.SpanData.{Overlaps}
+use Rattle.std.proofs.lemmas.Bool.{lt-leb}
+use Rattle.reg_model.specs.SpanData.{Overlaps, contains}
+use Rattle.reg_model.specs.Query.{member_at}
 use Rattle.reg_model.specs.State.{IsFree, at_base}
 use Rattle.reg_model.specs.History.{without}
 use Rattle.reg_model.specs.declared.span.Member.{Member}
@@ -59,7 +61,7 @@ last_of (y ∷ []) zero d e = refl
 last_of (y ∷ z ∷ ys) zero d e = absurd (omega (arith, e))
 last_of (y ∷ ys) (suc n) d e = ap (λ zs. y ∷ zs) (last_of ys n d (omega (arith, e)))
 
-dropped_at : (k n : ℕ) (xs : List Member) (d : Member) → get_or (drop k xs) n d ≡ get_or xs (k + n) d
+pub dropped_at : (k n : ℕ) (xs : List Member) (d : Member) → get_or (drop k xs) n d ≡ get_or xs (k + n) d
 dropped_at zero n xs d = let e : n ≡ zero + n = omega arith in ap (λ i. get_or xs i d) e
 dropped_at (suc k) n [] d = refl
 dropped_at (suc k) n (x ∷ xs) d = dropped_at k n xs d ∙ (let e : suc (k + n) ≡ suc k + n = omega arith in ap (λ i. get_or (x ∷ xs) i d) e)
@@ -78,9 +80,27 @@ front_ascends low (x ∷ xs) ys h = (h.0, h.1, front_ascends (x.span.last + 1) x
 
 -- ---- without a member
 
-lower : (low high : ℕ) (xs : List Member) → low ≤ high → AscendFrom high xs → AscendFrom low xs
-lower low high [] le h = tt
-lower low high (x ∷ xs) le h = let a = h.0 in (omega (arith, a, le), h.1, h.2)
+pub ascend_lower : (low high : ℕ) (xs : List Member) → low ≤ high → AscendFrom high xs → AscendFrom low xs
+ascend_lower low high [] le h = tt
+ascend_lower low high (x ∷ xs) le h = let a = h.0 in (omega (arith, a, le), h.1, h.2)
+
+-- a member doesn't contain an address above its last one, nor one below its first
+pub unheld_below : (m : Member) (pc : ℕ) → m.span.last < pc → contains m.span pc ≡ false
+unheld_below m pc h = go (nat_le m.span.first pc) (lt-leb pc m.span.last h)
+  where
+    go : (b : Bool) → nat_le pc m.span.last ≡ false → (b && nat_le pc m.span.last) ≡ false
+    go true e = e
+    go false e = refl
+
+pub unheld_above : (m : Member) (pc : ℕ) → pc < m.span.first → contains m.span pc ≡ false
+unheld_above m pc h = ap (λ b. b && nat_le pc m.span.last) (lt-leb m.span.first pc h)
+
+-- nor do members that begin above it
+pub none_above : (pc low : ℕ) (es : List Member) → AscendFrom low es → pc < low → member_at pc es ≡ None
+none_above pc low [] h l = refl
+none_above pc low (m ∷ es) h l =
+    let a = h.0 in let b = h.1 in
+    ap (λ c. if c then Some m else member_at pc es) (unheld_above m pc (omega (arith, a, l))) ∙ none_above pc (m.span.last + 1) es h.2 (omega (arith, a, b, l))
 
 -- members that begin above a base don't begin at it
 none_at : (base low : ℕ) (xs : List Member) → AscendFrom low xs → base < low → at_base base xs ≡ None
@@ -123,7 +143,7 @@ ascend_without base low [] ys h = h
 ascend_without base low (x ∷ xs) ys h = go (x.span.first == base) (ascend_without base (x.span.last + 1) xs ys h.2)
   where
     go : (b : Bool) → AscendFrom (x.span.last + 1) (without base xs ++ ys) → AscendFrom low ((if not b then (x ∷ without base xs) else without base xs) ++ ys)
-    go true rest = let a = h.0 in let b = h.1 in lower low (x.span.last + 1) (without base xs ++ ys) (omega (arith, a, b)) rest
+    go true rest = let a = h.0 in let b = h.1 in ascend_lower low (x.span.last + 1) (without base xs ++ ys) (omega (arith, a, b)) rest
     go false rest = (h.0, h.1, rest)
 
 -- the members before and behind the one that is taken

@@ -1,5 +1,5 @@
 -- What holds of each item of a list.
-use Rattle.std.proofs.Common.{◌≡◌, ℕ, List, [], ◌∷◌, ◌++◌, Option, Some, None, sym, subst, true≢false, eq-eqb, ne_eqb, IsSome, IsSomeAnd, refl}
+use Rattle.std.proofs.Common.{◌≡◌, ℕ, zero, suc, arith, Contains, List, [], ◌∷◌, ◌++◌, Option, Some, None, sym, subst, true≢false, eq-eqb, ne_eqb, IsSome, IsSomeAnd, refl}
 use Rattle.std.proofs.lemmas.Option.{none-some, same_Some}
 use Rattle.std.specs.List.{AllByRecursion}
 use native.Mathlib.Decide.{ℕ_discrete}
@@ -21,6 +21,15 @@ all_of P f (x ∷ xs) = (f x, all_of P f xs)
 pub all_append : {A : Type 0} (P : A → Type 0) (xs ys : List A) → AllByRecursion P xs → AllByRecursion P ys → AllByRecursion P (xs ++ ys)
 all_append P [] ys h i = i
 all_append P (x ∷ xs) ys h i = (h.0, all_append P xs ys h.1 i)
+
+pub all_behind : {A : Type 0} (P : A → Type 0) (xs ys : List A) → AllByRecursion P (xs ++ ys) → AllByRecursion P ys
+all_behind P [] ys h = h
+all_behind P (x ∷ xs) ys h = all_behind P xs ys h.1
+
+pub all_with : {A : Type 0} (P : A → Type 0) (xs : List A) (x : A) → AllByRecursion P xs → Contains xs x → P x
+all_with P [] x h (k, l, e) = absurd (omega (arith, l))
+all_with P (y ∷ xs) x h (zero, l, e) = subst P e h.0
+all_with P (y ∷ xs) x h (suc k, l, e) = all_with P xs x h.1 (k, omega (arith, l), e)
 
 -- a lock that is found by its node
 pub held_is : (P : Holding → Type 0) (n : ℕ) (held : List Holding) (h : Holding) → AllByRecursion P held → held_of n held ≡ Some h → P h × (h.node ≡ n)

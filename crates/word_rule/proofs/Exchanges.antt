@@ -55,7 +55,7 @@ not_from true e = absurd (cc (e))
 not_from false e = refl
 
 -- a held live node that isn't in the group spells its settled content
-filtered : (test : Holding → Bool) (held : List Holding) (h : Holding) → In h held → test h ≡ true → In h (filter test held)
+pub filtered : (test : Holding → Bool) (held : List Holding) (h : Holding) → In h held → test h ≡ true → In h (filter test held)
 filtered test [] h there passes = absurd there
 filtered test (x ∷ held) h there passes = elim there [
   | inl e ↦ subst (λ l. In h l) (sym (ap (λ v. cond v (x ∷ filter test held) (filter test held)) (ap test e ∙ passes))) (inl e)
@@ -65,7 +65,7 @@ filtered test (x ∷ held) h there passes = elim there [
   ]
 ]
 
-mapped : (held : List Holding) (h : Holding) → In h held → In h.node (map node_of held)
+pub mapped : (held : List Holding) (h : Holding) → In h held → In h.node (map node_of held)
 mapped [] h there = absurd there
 mapped (x ∷ held) h there = elim there [ inl e ↦ inl (ap node_of e) | inr later ↦ inr (mapped held h later) ]
 

@@ -7,7 +7,6 @@ use Rattle.reg_model.specs.SpanData.{Overlaps}
 use Rattle.reg_model.specs.State.{IsFree, IsLowestOverlap, at_base}
 use Rattle.reg_model.specs.declared.span.Member.{Member}
 use Rattle.reg_model.proofs.Members.{taken_from}
-use Rattle.segment_array.specs.Ascending.{AscendFrom}
 use Rattle.tree_shape.specs.NodeData.{NodeData, Body, Pairs, Entries, Link, IsInFences, entries_in, entries_of}
 use Rattle.tree_shape.specs.Trees.{Contents}
 use Rattle.tree_shape.specs.Lawful.{IsOrdered, IsOrderedAs}
@@ -15,6 +14,7 @@ use Rattle.word_rule.specs.declared.log.Holding.{Holding}
 use Rattle.word_rule.specs.declared.log.Log.{Log}
 use Rattle.word_rule.specs.Held.{marked_in, settled_in}
 use Rattle.word_rule.specs.TreeRefusals.{IsInOne, HoldsLeaves, HadNoRoom, ShowsFull, ShowsNone, ShowsOverlap, entries_in_leaves}
+use Rattle.word_rule.proofs.TreeRefusals.{ordered_in}
 
 -- an entry lies inside the fences of its leaf
 below_high : (high : ℕ) (xs : List Member) (m : Member) → AllByRecursion (λ x. x.span.last ≤ high) xs → Contains xs m → m.span.last ≤ high
@@ -22,16 +22,11 @@ below_high high [] m h (k, l, e) = absurd (omega (arith, l))
 below_high high (x ∷ xs) m h (zero, l, e) = subst (λ (z : Member). z.span.last ≤ high) e h.0
 below_high high (x ∷ xs) m h (suc k, l, e) = below_high high xs m h.1 (k, omega (arith, l), e)
 
-in_order : (low : ℕ) (xs : List Member) (m : Member) → AscendFrom low xs → Contains xs m → m.span.first ≤ m.span.last
-in_order low [] m h (k, l, e) = absurd (omega (arith, l))
-in_order low (x ∷ xs) m h (zero, l, e) = subst (λ (z : Member). z.span.first ≤ z.span.last) e h.1
-in_order low (x ∷ xs) m h (suc k, l, e) = in_order (x.span.last + 1) xs m h.2 (k, omega (arith, l), e)
-
 pub begins_below : (s : NodeData) (m : Member) → IsOrdered s → Contains (entries_of s) m → m.span.first ≤ s.high
 begins_below s m = go s.body
   where
     go : (b : Body) → IsOrderedAs s b → Contains (entries_in b) m → m.span.first ≤ s.high
-    go (Entries xs) h c = let a = in_order s.low xs m h.1.0 c in let b = below_high s.high xs m h.1.1 c in omega (arith, a, b)
+    go (Entries xs) h c = let a = ordered_in s.low xs m h.1.0 c in let b = below_high s.high xs m h.1.1 c in omega (arith, a, b)
     go (Pairs ps) h c = absurd (let l = c.1 in omega (arith, l))
     go (Link next) h c = absurd h
 

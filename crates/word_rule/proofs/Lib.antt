@@ -27,6 +27,7 @@ pub mod Publishing
 pub mod Alone
 pub mod Refusals
 pub mod Answering
+pub mod NodeSights
 pub mod NodeVersions
 pub mod Holders
 pub mod WordLoads

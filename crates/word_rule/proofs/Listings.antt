@@ -1,9 +1,11 @@
 -- Listings of copies, and what a history makes of the loaded members.
-use Rattle.std.proofs.Common.{◌≡◌, ◌≢◌, ℕ, zero, suc, ◌+◌, ◌<◌, ◌≤◌, List, [], ◌∷◌, ◌++◌, length, get_or, Contains, sym, refl, ap, ◌∙◌, subst, ⊎_elim, arith, append-nil, ◌==◌, not, Bool, true, false, true≢false, IsSome, Some, if◌then◌else◌}
+use Rattle.std.proofs.Common.{◌≡◌, ◌≢◌, ℕ, zero, suc, ◌+◌, ◌<◌, ◌≤◌, List, [], ◌∷◌, ◌++◌, length, get_or, Contains, sym, refl, ap, ◌∙◌, subst, ⊎_elim, arith, append-nil, ◌==◌, not, Bool, true, false, true≢false, IsSome, Some, if◌then◌else◌, eq-eqb, ne_eqb}
 use Rattle.std.specs.List.{AllByRecursion, All, filter, find}
 use Rattle.std.proofs.lemmas.List.Elements.{All-contains, Contains-get_or, Contains-push_cases}
+use Rattle.std.proofs.lemmas.Option.{none-some, same_Some}
+use native.Mathlib.Decide.{ℕ_discrete}
 use Rattle.reg_model.specs.SpanData.{IsSpan, Overlaps}
-use Rattle.reg_model.specs.State.{State, AreDisjoint, IsFree, IsLawful}
+use Rattle.reg_model.specs.State.{State, AreDisjoint, IsFree, IsLawful, at_base}
 use Rattle.reg_model.specs.History.{after, state_after, IsHistory}
 use Rattle.reg_model.specs.declared.span.Member.{Member}
 use Rattle.reg_model.specs.declared.answer.Update.{Update}
@@ -161,3 +163,12 @@ disjoint_fit (x ∷ xs) ys h spans all =
 -- what is free of all members of a list is free of any list of such members
 pub free_of : (m : Member) (xs ys : List Member) → ((x : Member) → Contains ys x → Contains xs x) → IsFree m.span xs → IsFree m.span ys
 free_of m xs ys all h k d l = All-contains (λ x. ¬ Overlaps x.span m.span) xs (get_or ys k d) h (all (get_or ys k d) (Contains-get_or ys k d l))
+
+-- the member that begins at a base is listed, and begins there
+pub there_at : (base : ℕ) (es : List Member) (m : Member) → at_base base es ≡ Some m → Contains es m × (m.span.first ≡ base)
+there_at base [] m e = absurd (none-some m e)
+there_at base (x ∷ es) m e = go (ℕ_discrete x.span.first base) (λ f. there_at base es m f)
+  where
+    go : Dec (x.span.first ≡ base) → (at_base base es ≡ Some m → Contains es m × (m.span.first ≡ base)) → Contains (x ∷ es) m × (m.span.first ≡ base)
+    go (yes is) later = let same : x ≡ m = same_Some _ _ (rw (eq-eqb x.span.first base is) at e) in ((0, omega arith, same), subst (λ (z : Member). z.span.first ≡ base) same is)
+    go (no ne) later = let r = later (rw (ne_eqb x.span.first base ne) at e) in ((suc r.0.0, (let l = r.0.1 in omega (arith, l)), r.0.2), r.1)

@@ -60,7 +60,7 @@ pub record ChildrenLaw : Type 0 where
   pub never_root : (f : Contents) (live : ℕ → Bool) (n : ℕ) → IsTree f live → IsTrue (live n) → AllByRecursion (λ b. b.child ≢ 0) (branches ((f n).level - 1) (f n))
 
 -- a loaded word is the node's
-loaded_is : (words : List ℕ) (loaded : List LoadedWord) (at x : ℕ) → AreOfNode words loaded → loaded_word at loaded ≡ Some x → node_word words at ≡ x
+pub loaded_is : (words : List ℕ) (loaded : List LoadedWord) (at x : ℕ) → AreOfNode words loaded → loaded_word at loaded ≡ Some x → node_word words at ≡ x
 loaded_is words [] at x all e = absurd (none-some x e)
 loaded_is words (w ∷ loaded) at x all e = go (ℕ_discrete w.at at) (loaded_is words loaded at x all.1)
   where

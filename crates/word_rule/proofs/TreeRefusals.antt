@@ -35,7 +35,7 @@ use Rattle.word_rule.specs.Nodes.{Shadow, IsPlaced, HoldsNode, NodesHold}
 use Rattle.word_rule.specs.Observations.{AreInside, HadMembers, IsFullCount, WasFull, last_moment}
 use Rattle.word_rule.specs.Steps.{IsRefusalOf}
 use Rattle.word_rule.specs.TreeRefusals.{IsInOne, HoldsLeaves, ShowsOverlap, ShowsNone, ShowsFull, HadNoRoom, entries_in_leaves}
-use Rattle.word_rule.proofs.Each.{all_map, held_is}
+use Rattle.word_rule.proofs.Each.{all_map, all_with, held_is}
 use Rattle.word_rule.proofs.Listings.{contains_find, find_contains}
 use Rattle.word_rule.proofs.Refusals.{HoldsNow, right_now}
 use Rattle.word_rule.proofs.Spells.{eqb_true}
@@ -110,7 +110,7 @@ module _ (f : Contents) (members : List Member) (leaves : List ℕ) (all : AllBy
           absurd (true≢false (sym (contains_find (λ (m : Member). m.span.first == base) (entries_in_leaves f leaves) d.0 entry d.1.1) ∙ none))
 
 -- there is one least
-one_lowest : (span : SpanData) (members : List Member) (a b : Member) → AreDisjoint members → IsLowestOverlap span members a → IsLowestOverlap span members b → a ≡ b
+pub one_lowest : (span : SpanData) (members : List Member) (a b : Member) → AreDisjoint members → IsLowestOverlap span members a → IsLowestOverlap span members b → a ≡ b
 one_lowest span members a b disjoint p q =
     let low = All-contains (λ z. Overlaps z.span span → a.span.first ≤ z.span.first) members b p.lowest q.listed q.overlaps in
     let high = All-contains (λ z. Overlaps z.span span → b.span.first ≤ z.span.first) members a q.lowest p.listed p.overlaps in
@@ -120,7 +120,7 @@ one_lowest span members a b disjoint p q =
     let in_b : IsTrue (contains b.span a.span.first) = contains_from b.span a.span.first high (omega (arith, low, three, four)) in
     same_Some a b (sym (member_at-contains members a a.span.first disjoint p.listed in_a) ∙ member_at-contains members b a.span.first disjoint q.listed in_b)
 
-not_free : (span : SpanData) (members : List Member) (a : Member) → IsLowestOverlap span members a → IsFree span members → ⊥
+pub not_free : (span : SpanData) (members : List Member) (a : Member) → IsLowestOverlap span members a → IsFree span members → ⊥
 not_free span members a p free = All-contains (λ z. ¬ Overlaps z.span span) members a free p.listed p.overlaps
 
 -- ---- what is so of what is held
@@ -161,11 +161,6 @@ module _ (t : Terms) (words : NodeWords) (views : List Log) (history : List Upda
 all_at : {A : Type 0} (P : A → Type 0) (before : List A) (x : A) (behind : List A) → AllByRecursion P (before ++ x ∷ behind) → P x
 all_at P [] x behind h = h.0
 all_at P (y ∷ before) x behind h = all_at P before x behind h.1
-
-all_with : {A : Type 0} (P : A → Type 0) (xs : List A) (x : A) → AllByRecursion P xs → Contains xs x → P x
-all_with P [] x h (k, l, e) = absurd (omega (arith, l))
-all_with P (y ∷ xs) x h (zero, l, e) = subst P e h.0
-all_with P (y ∷ xs) x h (suc k, l, e) = all_with P xs x h.1 (k, omega (arith, l), e)
 
 -- the count of a full node among the loads tells of ten members since the last receipt
 had_ten : (t : Terms) (history : List Update) (callers base : ℕ) (own : List Receipt) (loads : List LoadEvent) → AllByRecursion (WasFull t history callers own) loads → HadNoRoom base (length own) loads → HadMembers t history own 10

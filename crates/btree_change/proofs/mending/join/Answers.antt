@@ -6,11 +6,12 @@ use Rattle.btree_change.specs.Paths.{StepsOnNodes}
 use Rattle.btree_change.specs.Siblings.{HoldsSiblings}
 use Rattle.btree_change.proofs.Descending.{steps_then}
 use Rattle.btree_change.proofs.Descents.{steps_of_load}
-use Rattle.btree_change.proofs.HeldOutlines.{inner_of, left_spells, mended_spells, outlined_mends, right_spells, upper_spells}
+use Rattle.btree_change.proofs.HeldOutlines.{left_spells, mended_spells, outlined_mends, right_spells, upper_spells}
 use Rattle.btree_change.proofs.Outlining.{may_read}
 use Rattle.btree_change.proofs.Joining.{inside_of}
 use Rattle.btree_change.proofs.Mended.{gone_held, gone_out, gone_ready, gone_root, joins_so, surplus_kept}
 use Rattle.btree_change.proofs.mending.join.Goals as goal
+use Rattle.btree_change.proofs.Lowering.{settled_inner}
 
 pub content_of-left-requires-clause-spells : goal.content_of-left-requires-clause-spells
 content_of-left-requires-clause-spells g c = left_spells c.args.words.now.terms c.args.x.now c.args.me.now c.requires.held c.load_node.ensures.tree c.load_node.new.me.log (ap (λ (z : CallerData). z.log.holdings) c.load_node.ensures.log)
@@ -25,7 +26,7 @@ pub join_pair-both-requires : goal.join_pair-both-requires
 join_pair-both-requires g c = subst (λ (z : NodeData). Fit z c.content_of-right.result) (sym c.content_of-left.ensures.content) (subst (λ (z : NodeData). Fit c.args.x.now.left.content z) (sym c.content_of-right.ensures.content) c.requires.fit)
 
 pub drop_pair-above-requires-clause-inner : goal.drop_pair-above-requires-clause-inner
-drop_pair-above-requires-clause-inner g c = subst IsInner (sym c.content_of-parent.ensures.content) (inner_of c.args.words.now.terms c.args.x.now.above.at.node c.args.x.now.above.at.content c.args.x.now.above.at.changed c.requires.held.upper c.requires.held.parent (let level = c.requires.held.level in omega (arith, level)))
+drop_pair-above-requires-clause-inner g c = subst IsInner (sym c.content_of-parent.ensures.content) (settled_inner c.args.words.now.terms c.args.x.now.above.at.node c.args.x.now.above.at.content c.args.x.now.above.at.changed c.requires.held.upper c.requires.held.parent (let level = c.requires.held.level in omega (arith, level)))
 
 pub drop_pair-above-requires-clause-next : goal.drop_pair-above-requires-clause-next
 drop_pair-above-requires-clause-next g c = subst (λ (z : NodeData). c.args.x.now.slot + 1 < length (pairs_of z)) (sym c.content_of-parent.ensures.content) (inside_of (pairs_of c.args.x.now.above.at.content) (c.args.x.now.slot + 1) (pair c.args.x.now.right.node c.args.x.now.right.content.high) c.requires.held.next)

@@ -6,9 +6,10 @@ use Rattle.btree_change.specs.Paths.{StepsOnNodes}
 use Rattle.btree_change.specs.Shares.{shares_for}
 use Rattle.btree_change.proofs.Descending.{steps_then}
 use Rattle.btree_change.proofs.Descents.{steps_of_load}
-use Rattle.btree_change.proofs.HeldOutlines.{inner_of, left_spells, right_spells, upper_spells}
-use Rattle.btree_change.proofs.Joining.{in_order_of, inside_of}
+use Rattle.btree_change.proofs.HeldOutlines.{left_spells, right_spells, upper_spells}
+use Rattle.btree_change.proofs.Joining.{inside_of}
 use Rattle.btree_change.proofs.mending.shares_of.Goals as goal
+use Rattle.btree_change.proofs.Lowering.{settled_inner, settled_order}
 
 pub content_of-first-requires-clause-spells : goal.content_of-first-requires-clause-spells
 content_of-first-requires-clause-spells c = left_spells c.args.words.now.terms c.args.x.now c.args.me.now c.requires.held c.load_node.ensures.tree c.load_node.new.me.log (ap (λ (z : CallerData). z.log.holdings) c.load_node.ensures.log)
@@ -26,13 +27,13 @@ pub even_pair-left-requires-clause-overfill : goal.even_pair-left-requires-claus
 even_pair-left-requires-clause-overfill c = subst (λ (z : NodeData). Overfill z c.content_of-last.result) (sym c.content_of-first.ensures.content) (subst (λ (z : NodeData). Overfill c.args.x.now.left.content z) (sym c.content_of-last.ensures.content) c.requires.overfill)
 
 pub even_pair-left-requires-clause-left_ordered : goal.even_pair-left-requires-clause-left_ordered
-even_pair-left-requires-clause-left_ordered c = subst InOrder (sym c.content_of-first.ensures.content) (in_order_of c.args.words.now.terms c.args.x.now.left.node c.args.x.now.left.content c.args.x.now.left.changed c.requires.held.low c.requires.held.left)
+even_pair-left-requires-clause-left_ordered c = subst InOrder (sym c.content_of-first.ensures.content) (settled_order c.args.words.now.terms c.args.x.now.left.node c.args.x.now.left.content c.args.x.now.left.changed c.requires.held.low c.requires.held.left)
 
 pub even_pair-left-requires-clause-right_ordered : goal.even_pair-left-requires-clause-right_ordered
-even_pair-left-requires-clause-right_ordered c = subst InOrder (sym c.content_of-last.ensures.content) (in_order_of c.args.words.now.terms c.args.x.now.right.node c.args.x.now.right.content c.args.x.now.right.changed c.requires.held.high c.requires.held.right)
+even_pair-left-requires-clause-right_ordered c = subst InOrder (sym c.content_of-last.ensures.content) (settled_order c.args.words.now.terms c.args.x.now.right.node c.args.x.now.right.content c.args.x.now.right.changed c.requires.held.high c.requires.held.right)
 
 pub set_separator-above-requires-clause-inner : goal.set_separator-above-requires-clause-inner
-set_separator-above-requires-clause-inner c = subst IsInner (sym c.content_of-parent.ensures.content) (inner_of c.args.words.now.terms c.args.x.now.above.at.node c.args.x.now.above.at.content c.args.x.now.above.at.changed c.requires.held.upper c.requires.held.parent (let level = c.requires.held.level in omega (arith, level)))
+set_separator-above-requires-clause-inner c = subst IsInner (sym c.content_of-parent.ensures.content) (settled_inner c.args.words.now.terms c.args.x.now.above.at.node c.args.x.now.above.at.content c.args.x.now.above.at.changed c.requires.held.upper c.requires.held.parent (let level = c.requires.held.level in omega (arith, level)))
 
 pub set_separator-above-requires-clause-slot : goal.set_separator-above-requires-clause-slot
 set_separator-above-requires-clause-slot c = subst (λ (z : NodeData). c.args.x.now.slot < length (pairs_of z)) (sym c.content_of-parent.ensures.content) (inside_of (pairs_of c.args.x.now.above.at.content) c.args.x.now.slot (pair c.args.x.now.left.node c.args.x.now.left.content.high) c.requires.held.at)

@@ -4,18 +4,18 @@ use Rattle.btree_change.specs.Removing.{HoldsBesideRoot}
 use Rattle.btree_change.proofs.Descending.{steps_then}
 use Rattle.btree_change.proofs.HeldOutlines.{way_spells}
 use Rattle.btree_change.proofs.Outlining.{spells_later, steps_of_loads}
-use Rattle.btree_change.proofs.Joining.{in_order_of}
 use Rattle.btree_change.proofs.Loading.{found_between, found_busy}
 use Rattle.btree_change.proofs.Locked.{busy_kept, child_so, child_steps, child_within, may_read_taken}
 use Rattle.btree_change.proofs.Mended.{spends_none}
 use Rattle.btree_change.proofs.Releases.{more_spent, spends_then}
 use Rattle.btree_change.proofs.sibling.take_child.Goals as goal
+use Rattle.btree_change.proofs.Lowering.{settled_order}
 
 pub slot_of-slot-requires-clause-spells : goal.slot_of-slot-requires-clause-spells
 slot_of-slot-requires-clause-spells g c = way_spells c.args.words.now.terms c.args.above.at.node c.args.above.at.content c.args.above.at.changed c.args.above.root_changed c.args.me.now.log c.requires.path
 
 pub slot_of-slot-requires-clause-ordered : goal.slot_of-slot-requires-clause-ordered
-slot_of-slot-requires-clause-ordered g c = in_order_of c.args.words.now.terms c.args.above.at.node c.args.above.at.content c.args.above.at.changed c.requires.path.lock c.requires.path.here
+slot_of-slot-requires-clause-ordered g c = settled_order c.args.words.now.terms c.args.above.at.node c.args.above.at.content c.args.above.at.changed c.requires.path.lock c.requires.path.here
 
 pub pair_of-node-requires-clause-spells : goal.pair_of-node-requires-clause-spells
 pair_of-node-requires-clause-spells g c = spells_later c.args.above.at.node c.args.above.at.content c.args.me.now.log c.slot_of-slot.new.me.log c.slot_of-slot.ensures.holdings (way_spells c.args.words.now.terms c.args.above.at.node c.args.above.at.content c.args.above.at.changed c.args.above.root_changed c.args.me.now.log c.requires.path)

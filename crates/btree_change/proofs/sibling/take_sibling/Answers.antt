@@ -5,7 +5,7 @@ use Rattle.word_rule.specs.CallerData.{CallerData, surplus}
 use Rattle.btree_change.specs.Siblings.{HoldsChild}
 use Rattle.btree_change.proofs.Descending.{steps_then}
 use Rattle.btree_change.proofs.Descents.{steps_of_load}
-use Rattle.btree_change.proofs.HeldOutlines.{inner_of, parent_spells}
+use Rattle.btree_change.proofs.HeldOutlines.{parent_spells}
 use Rattle.btree_change.proofs.Outlining.{steps_of_loads}
 use Rattle.btree_change.proofs.Loading.{found_between, found_busy}
 use Rattle.btree_change.proofs.Locked.{busy_kept, child_steps, may_read_taken}
@@ -13,9 +13,10 @@ use Rattle.btree_change.proofs.Mended.{spends_none}
 use Rattle.btree_change.proofs.Neighbouring.{beside_inside, sibling_within, siblings_so, some_pairs}
 use Rattle.btree_change.proofs.Releases.{more_spent, spends_then}
 use Rattle.btree_change.proofs.sibling.take_sibling.Goals as goal
+use Rattle.btree_change.proofs.Lowering.{settled_inner}
 
 pub slot_of_two-first-requires-clause-inner : goal.slot_of_two-first-requires-clause-inner
-slot_of_two-first-requires-clause-inner g c = inner_of c.args.words.now.terms c.args.child.above.at.node c.args.child.above.at.content c.args.child.above.at.changed c.requires.held.upper c.requires.held.parent (let level = c.requires.held.level in omega (arith, level))
+slot_of_two-first-requires-clause-inner g c = settled_inner c.args.words.now.terms c.args.child.above.at.node c.args.child.above.at.content c.args.child.above.at.changed c.requires.held.upper c.requires.held.parent (let level = c.requires.held.level in omega (arith, level))
 
 pub slot_of_two-first-requires-clause-two : goal.slot_of_two-first-requires-clause-two
 slot_of_two-first-requires-clause-two g c = (some_pairs c.args.words.now.terms c.args.child.above.at.node c.args.child.above.at.content c.args.child.above.at.changed c.requires.held.upper c.args.child.slot (pair c.args.child.at.node c.args.child.at.content.high) c.requires.held.parent c.requires.held.at).0
@@ -27,7 +28,7 @@ pub pair_of-node-requires-clause-spells : goal.pair_of-node-requires-clause-spel
 pair_of-node-requires-clause-spells g c = parent_spells c.args.words.now.terms c.args.child c.args.pc c.args.me.now.log c.requires.held
 
 pub pair_of-node-requires-clause-inner : goal.pair_of-node-requires-clause-inner
-pair_of-node-requires-clause-inner g c = inner_of c.args.words.now.terms c.args.child.above.at.node c.args.child.above.at.content c.args.child.above.at.changed c.requires.held.upper c.requires.held.parent (let level = c.requires.held.level in omega (arith, level))
+pair_of-node-requires-clause-inner g c = settled_inner c.args.words.now.terms c.args.child.above.at.node c.args.child.above.at.content c.args.child.above.at.changed c.requires.held.upper c.requires.held.parent (let level = c.requires.held.level in omega (arith, level))
 
 pub pair_of-node-requires-clause-slot : goal.pair_of-node-requires-clause-slot
 pair_of-node-requires-clause-slot g c = beside_inside c.slot_of_two-first.result c.args.child.slot c.slot_beside-beside.result (length (pairs_of c.args.child.above.at.content)) c.slot_beside-beside.ensures c.slot_of_two-first.ensures.inside

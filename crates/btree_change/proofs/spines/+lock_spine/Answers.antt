@@ -14,10 +14,11 @@ use Rattle.btree_change.specs.Spines.{LocksSpine, NamesChild}
 use Rattle.btree_change.proofs.Descending.{steps_of_letting_go, steps_of_read, steps_of_take, steps_then}
 use Rattle.btree_change.proofs.Descents.{steps_of_load}
 use Rattle.btree_change.proofs.Loading.{found_between, keeps_none}
-use Rattle.btree_change.proofs.LockedSpines.{IsLocked, found_head, Relocked, locked_so, relocked, read_locked, names_first, locks_leaf, locks_more, let_go_again, clean_again}
+use Rattle.btree_change.proofs.LockedSpines.{IsLocked, Relocked, locked_so, relocked, read_locked, names_first, locks_leaf, locks_more, let_go_again, clean_again}
 use Rattle.word_rule.specs.Held.{held_of}
 use Rattle.btree_change.proofs.Outlining.{spells_same, steps_of_loads}
 use Rattle.btree_change.proofs.spines.+lock_spine.Goals as goal
+use Rattle.btree_change.proofs.HeldLists.{found_head}
 
 -- the node was locked, read, and a word of it loaded
 module _ (t : Terms) (n level found : ℕ) (shape : NodeData) (k k1 k2 k3 : CallerData) (terms : k.log.terms ≡ t) (names : NamesChild t n level k.log.holdings) (locks : Locks (lock.Node n) k k1) (reads : ReadsHeld n k1 k2 shape) (same : k2.log.holdings ≡ k1.log.holdings) (loads : k3 ≡ record k2 { log = after_node_load n 2 found k2.log }) where

@@ -9,9 +9,10 @@ use Rattle.btree_change.specs.Removing.{HoldsBesideRoot}
 use Rattle.btree_change.proofs.Descending.{steps_then}
 use Rattle.btree_change.proofs.Descents.{steps_of_load}
 use Rattle.btree_change.proofs.Putting.{leaf_at_zero}
-use Rattle.btree_change.proofs.Takings.{beside_far, may_take, placed_of, take_so}
+use Rattle.btree_change.proofs.Takings.{beside_far, may_take, take_so}
 use Rattle.btree_change.proofs.Storing.{rewritten_so}
 use Rattle.btree_change.proofs.taking.take_in_leaf.Goals as goal
+use Rattle.btree_change.proofs.Lowering.{settled_live}
 
 pub commit-number-requires-clause-due : goal.commit-number-requires-clause-due
 commit-number-requires-clause-due c =
@@ -21,7 +22,7 @@ commit-number-requires-clause-due c =
     let tree : KnowsTree k1.log.holdings = subst KnowsTree (sym (ap (λ (z : CallerData). z.log.holdings) c.load_node.ensures.log)) c.load_node.ensures.tree in
     let now : NodeData = record s { body = Entries (without base (entries_of s)) } in
     let left : c.take_entry-left.result.0 ≡ record s { body = Entries (without base (entries_of s)) } = c.take_entry-left.ensures.left ∙ ap (λ (z : NodeData). record z { body = Entries (without base (entries_of z)) }) c.requires.content in
-    let leaf : IsLeaf s = leaf_at_zero s (placed_of t n s b path.lock path.here).1.1.ordered c.requires.leaf in
+    let leaf : IsLeaf s = leaf_at_zero s (settled_live t n s b path.lock path.here).1.1.ordered c.requires.leaf in
     let written = rewritten_so now n path.lock [] path.above k1 k2 (λ e. omega (arith, e)) path.here.node tt (beside_far n rb path.above path.root) path.held (subst (λ z. WritesHeld n z k1 k2) left c.write_held.ensures.stores) (subst (λ z. SpellsHeld n z k2.log) left c.write_held.ensures.spells) in
     let steps = steps_then k k1 k2 (steps_of_load n 5 c.load_node.result k k1 c.load_node.ensures.log) written.same in
     let some : 0 < due k2 = subst (λ d. 0 < d) (sym (λ i. (steps.budget i).allowance - steps.left i)) c.requires.due in
@@ -35,7 +36,7 @@ commit-number-requires-clause-may c =
     let tree : KnowsTree k1.log.holdings = subst KnowsTree (sym (ap (λ (z : CallerData). z.log.holdings) c.load_node.ensures.log)) c.load_node.ensures.tree in
     let now : NodeData = record s { body = Entries (without base (entries_of s)) } in
     let left : c.take_entry-left.result.0 ≡ record s { body = Entries (without base (entries_of s)) } = c.take_entry-left.ensures.left ∙ ap (λ (z : NodeData). record z { body = Entries (without base (entries_of z)) }) c.requires.content in
-    let leaf : IsLeaf s = leaf_at_zero s (placed_of t n s b path.lock path.here).1.1.ordered c.requires.leaf in
+    let leaf : IsLeaf s = leaf_at_zero s (settled_live t n s b path.lock path.here).1.1.ordered c.requires.leaf in
     let written = rewritten_so now n path.lock [] path.above k1 k2 (λ e. omega (arith, e)) path.here.node tt (beside_far n rb path.above path.root) path.held (subst (λ z. WritesHeld n z k1 k2) left c.write_held.ensures.stores) (subst (λ z. SpellsHeld n z k2.log) left c.write_held.ensures.spells) in
     let steps = steps_then k k1 k2 (steps_of_load n 5 c.load_node.result k k1 c.load_node.ensures.log) written.same in
     let some : 0 < due k2 = subst (λ d. 0 < d) (sym (λ i. (steps.budget i).allowance - steps.left i)) c.requires.due in
@@ -49,7 +50,7 @@ returns c =
     let tree : KnowsTree k1.log.holdings = subst KnowsTree (sym (ap (λ (z : CallerData). z.log.holdings) c.load_node.ensures.log)) c.load_node.ensures.tree in
     let now : NodeData = record s { body = Entries (without base (entries_of s)) } in
     let left : c.take_entry-left.result.0 ≡ record s { body = Entries (without base (entries_of s)) } = c.take_entry-left.ensures.left ∙ ap (λ (z : NodeData). record z { body = Entries (without base (entries_of z)) }) c.requires.content in
-    let leaf : IsLeaf s = leaf_at_zero s (placed_of t n s b path.lock path.here).1.1.ordered c.requires.leaf in
+    let leaf : IsLeaf s = leaf_at_zero s (settled_live t n s b path.lock path.here).1.1.ordered c.requires.leaf in
     let written = rewritten_so now n path.lock [] path.above k1 k2 (λ e. omega (arith, e)) path.here.node tt (beside_far n rb path.above path.root) path.held (subst (λ z. WritesHeld n z k1 k2) left c.write_held.ensures.stores) (subst (λ z. SpellsHeld n z k2.log) left c.write_held.ensures.spells) in
     let steps = steps_then k k1 k2 (steps_of_load n 5 c.load_node.result k k1 c.load_node.ensures.log) written.same in
     let some : 0 < due k2 = subst (λ d. 0 < d) (sym (λ i. (steps.budget i).allowance - steps.left i)) c.requires.due in
