@@ -26,7 +26,7 @@ use Rattle.event_script.proofs.Sections.{section_bad}
 use Rattle.event_script.proofs.Passed.{Judged}
 use Rattle.event_script.proofs.Judged.{judged_line, judged_end}
 use Rattle.event_script.proofs.Sound.{section_from_or}
-use Rattle.event_script.proofs.LinesRead.{line_read, outcome_sound}
+use Rattle.event_script.proofs.LinesRead.{line_read, numbered_ok, outcome_sound}
 use Rattle.event_script.proofs.Complete.{whole, outcome_complete, one_script}
 
 -- ---- what a good line adds
@@ -111,13 +111,6 @@ bind_bad : (r : Result DraftData BadLine) (f : DraftData → Result DraftData Ba
 bind_bad (Ok known) f bad e = inr (known, refl, e)
 bind_bad (Err other) f bad e = inl (ap failed_with (bad_is other bad e))
 
-at_line_good : (number : ℕ) (given : Result DraftData Reason) (known : DraftData) → at_line number given ≡ Ok known → given ≡ Ok known
-at_line_good number (Ok found) known e = ap ok (same found known e)
-  where
-    same : (x y : DraftData) → at_line number (ok x) ≡ at_line number (ok y) → x ≡ y
-    same x y e = cc
-at_line_good number (Err why) known e = absurd cc
-
 here_bad : (known : DraftData) (number : ℕ) (line : List ℕ) (others : List (List ℕ)) (bad : BadLine) → bad.line ≡ number → HasLineHere known (text_before others line) → IsReason known (text_before others line) bad.reason → FoundBad known number (line ∷ others) bad
 here_bad known number line others bad is due reason = record { before = []; line = line; others = others; last = known; cut = refl; counted = (let same : bad.line ≡ number = is in omega arith); good = refl; due = due; is_bad = reason }
 
@@ -141,7 +134,7 @@ found_bad known number line (next ∷ others) bad e = elim (bind_bad (at_line nu
       let at = at_line_bad number (after_line known line) bad here in
       here_bad known number line (next ∷ others) bad at.1 (inr (inr refl)) (judged_as known (whole_line line) (after_line known line) (err bad.reason) at.0 (judged_line known line)))
   | inr later ↦ (
-      let good = good_line known later.0 line (at_line_good number (after_line known line) later.0 later.1) in
+      let good = good_line known later.0 line (numbered_ok number (after_line known line) later.0 later.1) in
       let found = found_bad later.0 (number + 1) next others bad later.2 in
       record {
         before = line ∷ found.before;

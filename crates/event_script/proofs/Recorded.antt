@@ -1,12 +1,12 @@
 -- Recorded memory, region by region.
-use Rattle.std.proofs.Common.{◌≡◌, ℕ, ◌+◌, ◌^◌, ◌<◌, ◌≤◌, true, false, true≢false, ◌&&◌, ltb, leb, List, [], ◌∷◌, ◌++◌, length, sym, ◌∙◌, ltb-true, leb-true, lt-ltb, le-leb, arith}
+use Rattle.std.proofs.Common.{◌≡◌, ℕ, ◌+◌, ◌^◌, ◌≤◌, true, false, true≢false, ◌&&◌, ltb, leb, List, [], ◌∷◌, ◌++◌, length, sym, ◌∙◌, ltb-true, leb-true, lt-ltb, le-leb, arith}
 use Rattle.std.proofs.lemmas.Bool.{and_parts, and_from}
 use Rattle.event_script.specs.ScriptData.{SnapshotData, recorded_bytes}
 use Rattle.frame_expr.specs.Regions.{RegionData, regions_end, Accepts}
 use Rattle.event_script.specs.declared.reader.statement.SnapshotFields.{SnapshotFields}
 use Rattle.event_script.specs.Reading.{accepts}
 use Rattle.event_script.specs.declared.reader.statement.Statement.TheVariants as statement
-use Rattle.std.proofs.Common.{◌≡◌, ℕ, ◌+◌, ◌^◌, ◌<◌, ◌≤◌, true, false, ◌&&◌, ltb, leb, List, [], ◌∷◌, ◌++◌, length, sym, ◌∙◌, ltb-true, leb-true, arith}
+use Rattle.std.proofs.Common.{◌≡◌, ℕ, ◌+◌, ◌^◌, ◌≤◌, true, false, ◌&&◌, ltb, leb, List, [], ◌∷◌, ◌++◌, length, sym, ◌∙◌, ltb-true, leb-true, arith}
 use Rattle.std.specs.List.{All}
 use Rattle.std.proofs.lemmas.Bool.{and_parts}
 use Rattle.std.proofs.lemmas.List.Elements.{All-push, All-from_recursion}
@@ -15,7 +15,7 @@ use Rattle.frame_expr.specs.Regions.{RegionData, end, regions_end, AreFrom, Acce
 use Rattle.event_script.specs.ScriptData.{SnapshotData, IsSnapshot, recorded_bytes}
 use Rattle.event_script.specs.Statements.{HasForm}
 use Rattle.event_script.specs.Reading.{accepts}
-use Rattle.std.proofs.Common.{◌≡◌, ℕ, ◌+◌, ◌^◌, ◌<◌, ◌≤◌, true, false, ◌&&◌, ltb, leb, List, [], ◌∷◌, ◌++◌, length, sym, ◌∙◌, lt-ltb, le-leb, arith}
+use Rattle.std.proofs.Common.{◌≡◌, ℕ, ◌+◌, ◌^◌, ◌≤◌, true, false, ◌&&◌, ltb, leb, List, [], ◌∷◌, ◌++◌, length, sym, ◌∙◌, lt-ltb, le-leb, arith}
 use Rattle.std.specs.List.{All}
 use Rattle.std.proofs.lemmas.Bool.{and_from}
 use Rattle.std.proofs.lemmas.List.Elements.{All-head, All-tail}
@@ -23,6 +23,7 @@ use Rattle.frame_expr.specs.Regions.{RegionData, end, AreFrom, Accepts}
 use Rattle.event_script.specs.ScriptData.{SnapshotData, IsSnapshot, recorded_bytes}
 use Rattle.event_script.specs.Statements.{HasForm}
 use Rattle.event_script.specs.Reading.{accepts}
+use Rattle.frame_expr.proofs.Ascending.{one_more}
 
 -- the test of a region
 pub accepted_true : (regions : List RegionData) (region : RegionData) → accepts regions region ≡ true → Accepts regions region.address region.bytes
@@ -40,18 +41,6 @@ pub accepted_false : (regions : List RegionData) (region : RegionData) → accep
 accepted_false regions region e are =
     true≢false (sym (accepted_is regions region are) ∙ e)
 
--- regions that ascend end above where they begin
-pub from_end : (low : ℕ) (r : RegionData) (rs : List RegionData) → AreFrom low (r ∷ rs) → low ≤ regions_end (r ∷ rs)
-from_end low r [] are = let above = are.0 in omega arith
-from_end low r (q ∷ rs) are = let above = are.0 in let rest = from_end (end r) q rs are.3 in omega arith
-
-pub from_push : (low : ℕ) (rs : List RegionData) (r : RegionData) → AreFrom low rs → low ≤ r.address → regions_end rs ≤ r.address → 0 < length r.bytes → end r < 2 ^ 64 → AreFrom low (rs ++ r ∷ [])
-from_push low [] r are above ends some top = (above, some, top, tt)
-from_push low (q ∷ []) r are above ends some top = (are.0, are.1, are.2, (ends, some, top, tt))
-from_push low (q ∷ p ∷ rs) r are above ends some top =
-    let rest = from_end (end q) p rs are.3 in
-    (are.0, are.1, are.2, from_push (end q) (p ∷ rs) r are.3 (omega arith) ends some top)
-
 pub recorded_push : (rs : List RegionData) (r : RegionData) → recorded_bytes (rs ++ r ∷ []) ≡ recorded_bytes rs + length r.bytes
 recorded_push [] r = omega arith
 recorded_push (q ∷ rs) r = let rest = recorded_push rs r in omega arith
@@ -62,7 +51,7 @@ pub snapshot_push : (snapshot : SnapshotData) (region : RegionData) → IsSnapsh
 snapshot_push snapshot region is form few accepted = record {
   count = is.count;
   columns = is.columns;
-  regions = from_push 0 snapshot.memory region is.regions (omega arith) accepted.2 accepted.0 accepted.1;
+  regions = one_more 0 snapshot.memory region is.regions (omega arith) accepted.2 accepted.0 accepted.1;
   bytes = All-push (λ region. IsBytes region.bytes) snapshot.memory region is.bytes form.1;
   size = (let sum = recorded_push snapshot.memory region in omega arith);
 }
