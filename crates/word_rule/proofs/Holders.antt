@@ -17,7 +17,6 @@ use Rattle.word_rule.proofs.Names.{once_small}
 use Rattle.word_rule.proofs.Facts.{part_of_total}
 use Rattle.word_rule.proofs.Each.{all_map}
 use Rattle.word_rule.proofs.Standing.{held_by}
-use Rattle.word_rule.proofs.Each.{all_map}
 use Rattle.word_rule.proofs.NodeLoads.{ltb_true}
 use Rattle.word_rule.proofs.HeadPlays.{RootLaw}
 use Rattle.word_rule.proofs.NodeVersions.{ChildrenLaw, is_live_node}
