@@ -13,6 +13,7 @@ pub mod LettingGo
 pub mod Refusing
 pub mod SplitParts
 pub mod HeldParts
+pub mod Halving
 pub mod Splitting
 pub mod SplitEnds
 pub mod Rooms

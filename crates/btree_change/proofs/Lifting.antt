@@ -18,52 +18,27 @@ use Rattle.word_rule.specs.declared.log.Terms.{Terms}
 use Rattle.word_rule.specs.Held.{held_of}
 use Rattle.word_rule.specs.Memory.{updated}
 use Rattle.word_rule.specs.NodeTells.{KnowsTree}
-use Rattle.word_rule.specs.Spelling.{SpellsNode}
 use Rattle.word_rule.specs.Steps.{MayStore}
 use Rattle.node_store.specs.Holding.{SpellsHeld, WritesHeld}
 use Rattle.node_store.specs.Writing.{kind_of_body}
 use Rattle.btree_change.specs.declared.lift.FullRoot.{FullRoot}
+use Rattle.btree_change.specs.declared.split.Parts.{Parts}
+use Rattle.btree_change.specs.Halves.{WritesRootParts}
 use Rattle.btree_change.specs.Paths.{StepsOnNodes}
 use Rattle.btree_change.specs.Splits.{HoldsFullRoot, root_parts_for}
 use Rattle.btree_change.proofs.Descending.{steps_then}
 use Rattle.btree_change.proofs.HeldParts.{AreFar, IsTold, is_first, is_second, is_third, lives_apart}
 use Rattle.btree_change.proofs.HeldLists.{HeldOnce}
 use Rattle.btree_change.proofs.Settling.{FitsChange, IsHeldChange, left_out, marked_at, none_out}
-use Rattle.btree_change.proofs.SplitParts.{are_halves, never_free}
+use Rattle.btree_change.proofs.SplitParts.{are_halves}
 use Rattle.btree_change.proofs.Outlining.{spells_held}
 use Rattle.word_rule.specs.declared.log.Log.{Log}
-use Rattle.btree_change.proofs.Splitting.{IsPartWritten, part_written}
+use Rattle.btree_change.proofs.Halving.{fits_new, fits_written, new_lock, written_lock}
 use Rattle.btree_change.proofs.Storing.{IsRewritten, found_at, rewritten_so}
 
 -- the law of a lifted root, as a change of the three nodes alone
 abbrev pub LiftLaw : Type 0
 LiftLaw = (f : Contents) (live : ℕ → Bool) (left right : ℕ) (g : Contents) → IsLawfulTree f live → IsRootSplit f live left right g → IsChangeOf f live 0 (0 ∷ []) (left ∷ right ∷ []) g None (0 ∷ left ∷ right ∷ [])
-
--- The three nodes are written, and are held so: what may settle.
-pub record IsLiftWritten (t : Terms) (full : FullRoot) (f : Contents) (live : ℕ → Bool) (g : Contents) (k k' : CallerData) : Type 0 where
-  pub right : Holding
-  pub left : Holding
-  pub upper : Holding
-  pub held : k'.log.holdings.held ≡ right ∷ left ∷ upper ∷ []
-  pub out : k'.log.holdings.out ≡ full.right ∷ full.left ∷ []
-  pub right_node : right.node ≡ full.right
-  pub right_mark : right.mark ≡ None
-  pub right_spells : SpellsNode right.words (root_parts_for full).right
-  pub right_stored : right.stored ≡ true
-  pub left_node : left.node ≡ full.left
-  pub left_mark : left.mark ≡ None
-  pub left_spells : SpellsNode left.words (root_parts_for full).left
-  pub left_stored : left.stored ≡ true
-  pub upper_node : upper.node ≡ full.root.node
-  pub upper_zero : upper.node ≡ 0
-  pub upper_spells : SpellsNode upper.words (root_parts_for full).above
-  pub upper_stored : upper.stored ≡ true
-  pub change : IsHeldChange (record { held = right ∷ left ∷ upper ∷ []; out = full.right ∷ full.left ∷ []; head = k'.log.holdings.head }) f live 0 (0 ∷ []) (full.left ∷ full.right ∷ []) g (0 ∷ full.left ∷ full.right ∷ [])
-  pub none : left_out (0 ∷ []) (0 ∷ full.left ∷ full.right ∷ []) (record { held = right ∷ left ∷ upper ∷ []; out = full.right ∷ full.left ∷ []; head = k'.log.holdings.head }) ≡ []
-  pub left_zero : full.left ≢ 0
-  pub right_zero : full.right ≢ 0
-  pub different : full.left ≢ full.right
-  pub same : StepsOnNodes k k'
 
 -- a lock of this node, of which another is none
 moved : (n m : ℕ) (a : Holding) → a.node ≡ m → m ≢ n → a.node ≢ n
@@ -77,7 +52,7 @@ one_of_two x y n is = go (times_in (x ∷ y ∷ []) n (ltb-true 0 (times n (x �
     go (inr (inl e)) = inr (sym e)
     go (inr (inr none)) = absurd none
 
-module _ (t : Terms) (full : FullRoot) (pc : ℕ) (hs : Holdings) (h : HoldsFullRoot t full pc hs) (tree : KnowsTree hs) where
+module _ (t : Terms) (full : FullRoot) (pc : ℕ) (k0 : CallerData) (h : HoldsFullRoot t full pc k0.log.holdings) (tree : KnowsTree k0.log.holdings) where
   told : AllByRecursion (IsTold tree.contents tree.live) (h.right ∷ h.left ∷ h.upper ∷ [])
   told = subst (AllByRecursion (IsTold tree.contents tree.live)) h.held tree.marked
 
@@ -110,14 +85,14 @@ module _ (t : Terms) (full : FullRoot) (pc : ℕ) (hs : Holdings) (h : HoldsFull
       go None e = e
       go (Some place) e = absurd (true≢false (sym (told.0 (ap is_some e)).0 ∙ (ap tree.live h.right_free.node ∙ right_dead)))
 
-  left_zero : full.left ≢ 0
+  pub left_zero : full.left ≢ 0
   left_zero e = lives_apart tree.live 0 full.left root_live left_dead (sym e)
 
-  right_zero : full.right ≢ 0
+  pub right_zero : full.right ≢ 0
   right_zero e = lives_apart tree.live 0 full.right root_live right_dead (sym e)
 
   -- the words of the root are its own
-  pub root_spelled : (v : Log) → v.holdings ≡ hs → SpellsHeld full.root.node full.root.content v
+  pub root_spelled : (v : Log) → v.holdings ≡ k0.log.holdings → SpellsHeld full.root.node full.root.content v
   root_spelled v same =
       let far : AreFar full.root.node (h.right ∷ h.left ∷ []) = ((λ e. right_zero (sym h.right_free.node ∙ (e ∙ h.is_root))), ((λ e. left_zero (sym h.left_free.node ∙ (e ∙ h.is_root))), tt)) in
       spells_held full.root.node full.root.content h.upper v (ap (λ (z : Holdings). held_of full.root.node z.held) same ∙ (ap (held_of full.root.node) h.held ∙ found_at full.root.node (h.right ∷ h.left ∷ []) h.upper [] h.root.node far)) h.root.spells
@@ -170,15 +145,16 @@ module _ (t : Terms) (full : FullRoot) (pc : ℕ) (hs : Holdings) (h : HoldsFull
   far_left' : AreFar full.left (h.upper ∷ [])
   far_left' = (moved full.left 0 h.upper upper_zero (λ e. left_zero (sym e)), tt)
 
-  pub may_first : (k : CallerData) → k.log.holdings ≡ hs → MayStore full.left k.log
+  pub may_first : (k : CallerData) → k.log.holdings ≡ k0.log.holdings → MayStore full.left k.log
   may_first k start = subst (λ o. IsSomeAnd o (λ (z : Holding). IsSome z.mark ⊎ IsTrue (is_among k.log.holdings.out full.left)))
       (sym (ap (λ (z : Holdings). held_of full.left z.held) start ∙ (ap (held_of full.left) h.held ∙ found_at full.left (h.right ∷ []) h.left (h.upper ∷ []) h.left_free.node far_left)))
       (inr (ap (λ (z : Holdings). is_among z.out full.left) start ∙ (ap (λ ns. is_among ns full.left) h.out ∙ is_second full.right full.left [])))
 
   -- The three nodes are written, the root last.
-  module _ (k k1 : CallerData) (start : k.log.holdings ≡ hs) (write1 : WritesHeld full.left (root_parts_for full).left k k1) (spell1 : SpellsHeld full.left (root_parts_for full).left k1.log) where
-    pub first : IsRewritten (root_parts_for full).left h.left (h.right ∷ []) (h.upper ∷ []) k k1
-    first = rewritten_so (root_parts_for full).left full.left h.left (h.right ∷ []) (h.upper ∷ []) k k1 left_kind h.left_free.node far_left far_left' (ap (λ (z : Holdings). z.held) start ∙ h.held) write1 spell1
+  module _ (parts : Parts) (are : parts ≡ root_parts_for full) (k k1 : CallerData) (start : k.log.holdings ≡ k0.log.holdings) (write1 : WritesHeld full.left parts.left k k1) (spell1 : SpellsHeld full.left parts.left k1.log) where
+    first : IsRewritten (root_parts_for full).left h.left (h.right ∷ []) (h.upper ∷ []) k k1
+    first = rewritten_so (root_parts_for full).left full.left h.left (h.right ∷ []) (h.upper ∷ []) k k1 left_kind h.left_free.node far_left far_left' (ap (λ (z : Holdings). z.held) start ∙ h.held)
+        (subst (λ (z : Parts). WritesHeld full.left z.left k k1) are write1) (subst (λ (z : Parts). SpellsHeld full.left z.left k1.log) are spell1)
 
     left_is : first.lock.node ≡ full.left
     left_is = first.node ∙ h.left_free.node
@@ -194,9 +170,13 @@ module _ (t : Terms) (full : FullRoot) (pc : ℕ) (hs : Holdings) (h : HoldsFull
         (sym (ap (held_of full.right) first.held ∙ found_at full.right [] h.right (first.lock ∷ h.upper ∷ []) h.right_free.node tt))
         (inr (ap (λ ns. is_among ns full.right) out1 ∙ is_first full.right (full.left ∷ [])))
 
-    module _ (k2 : CallerData) (write2 : WritesHeld full.right (root_parts_for full).right k1 k2) (spell2 : SpellsHeld full.right (root_parts_for full).right k2.log) where
-      pub second : IsRewritten (root_parts_for full).right h.right [] (first.lock ∷ h.upper ∷ []) k1 k2
-      second = rewritten_so (root_parts_for full).right full.right h.right [] (first.lock ∷ h.upper ∷ []) k1 k2 right_kind h.right_free.node tt far_right first.held write2 spell2
+    module _ (k2 : CallerData) (write2 : WritesHeld full.right parts.right k1 k2) (spell2 : SpellsHeld full.right parts.right k2.log) where
+      second : IsRewritten (root_parts_for full).right h.right [] (first.lock ∷ h.upper ∷ []) k1 k2
+      second = rewritten_so (root_parts_for full).right full.right h.right [] (first.lock ∷ h.upper ∷ []) k1 k2 right_kind h.right_free.node tt far_right first.held
+          (subst (λ (z : Parts). WritesHeld full.right z.right k1 k2) are write2) (subst (λ (z : Parts). SpellsHeld full.right z.right k2.log) are spell2)
+
+      pub table_then : k2.table ≡ k.table
+      table_then = second.same.table ∙ first.same.table
 
       right_is : second.lock.node ≡ full.right
       right_is = second.node ∙ h.right_free.node
@@ -208,105 +188,74 @@ module _ (t : Terms) (full : FullRoot) (pc : ℕ) (hs : Holdings) (h : HoldsFull
       may_third = subst (λ o. IsSomeAnd o (λ (z : Holding). IsSome z.mark ⊎ IsTrue (is_among k2.log.holdings.out full.root.node)))
           (sym (ap (held_of full.root.node) second.held ∙ found_at full.root.node (second.lock ∷ first.lock ∷ []) h.upper [] h.root.node far_root)) (inl h.root.marked)
 
-      module _ (k3 : CallerData) (write3 : WritesHeld full.root.node (root_parts_for full).above k2 k3) (spell3 : SpellsHeld full.root.node (root_parts_for full).above k3.log) where
-        pub third : IsRewritten (root_parts_for full).above h.upper (second.lock ∷ first.lock ∷ []) [] k2 k3
-        third = rewritten_so (root_parts_for full).above full.root.node h.upper (second.lock ∷ first.lock ∷ []) [] k2 k3 (λ e. omega (arith, e)) h.root.node far_root tt second.held write3 spell3
+      module _ (k3 : CallerData) (write3 : WritesHeld full.root.node parts.above k2 k3) (spell3 : SpellsHeld full.root.node parts.above k3.log) where
+        third : IsRewritten (root_parts_for full).above h.upper (second.lock ∷ first.lock ∷ []) [] k2 k3
+        third = rewritten_so (root_parts_for full).above full.root.node h.upper (second.lock ∷ first.lock ∷ []) [] k2 k3 (λ e. omega (arith, e)) h.root.node far_root tt second.held
+            (subst (λ (z : Parts). WritesHeld full.root.node z.above k2 k3) are write3) (subst (λ (z : Parts). SpellsHeld full.root.node z.above k3.log) are spell3)
 
-        left_written : IsPartWritten (root_parts_for full).left h.left first.lock
-        left_written = part_written (root_parts_for full).left h.left.settled h.left (h.right ∷ []) (h.upper ∷ []) k k1 h.left_free.spells (never_free (root_parts_for full).left h.left.settled h.left_free.next left_kind h.left_free.free) first
-
-        right_written : IsPartWritten (root_parts_for full).right h.right second.lock
-        right_written = part_written (root_parts_for full).right h.right.settled h.right [] (first.lock ∷ h.upper ∷ []) k1 k2 h.right_free.spells (never_free (root_parts_for full).right h.right.settled h.right_free.next right_kind h.right_free.free) second
-
-        root_written : IsPartWritten (root_parts_for full).above h.upper third.lock
-        root_written = part_written (root_parts_for full).above full.root.content h.upper (second.lock ∷ first.lock ∷ []) [] k2 k3 h.root.spells (λ e. above_new (sym e)) third
-
-        root_now : third.lock.node ≡ 0
-        root_now = third.node ∙ upper_zero
-
-        abbrev holding : Holdings
-        holding = record { held = second.lock ∷ first.lock ∷ third.lock ∷ []; out = full.right ∷ full.left ∷ []; head = k3.log.holdings.head }
-
-        left_fits : FitsChange tree.contents tree.live (0 ∷ []) (full.left ∷ full.right ∷ []) g first.lock
-        left_fits = record {
-          marked = λ m. absurd (true≢false (sym m ∙ ap is_some (left_written.mark ∙ left_unmarked)));
-          leaves = λ _. left_written.stored;
-          enters = λ _. (subst (SpellsNode first.lock.words) (sym (ap g left_is ∙ g_left)) left_written.spells, left_written.stored);
-        }
-
-        right_fits : FitsChange tree.contents tree.live (0 ∷ []) (full.left ∷ full.right ∷ []) g second.lock
-        right_fits = record {
-          marked = λ m. absurd (true≢false (sym m ∙ ap is_some (right_written.mark ∙ right_unmarked)));
-          leaves = λ _. right_written.stored;
-          enters = λ _. (subst (SpellsNode second.lock.words) (sym (ap g right_is ∙ g_right)) right_written.spells, right_written.stored);
-        }
-
-        root_fits : FitsChange tree.contents tree.live (0 ∷ []) (full.left ∷ full.right ∷ []) g third.lock
-        root_fits = let spells = subst (SpellsNode third.lock.words) (sym (ap g root_now ∙ g_root)) root_written.spells in record {
-          marked = λ _. (ap tree.live root_now ∙ root_live, ap tree.contents root_now ∙ (root_is ∙ sym (third.settled ∙ h.root.settled)), spells);
-          leaves = λ _. root_written.stored;
-          enters = λ _. (spells, root_written.stored);
-        }
-
-        root_far_right : third.lock.node ≢ full.right
-        root_far_right e = right_zero (sym e ∙ root_now)
-
-        root_far_left : third.lock.node ≢ full.left
-        root_far_left e = left_zero (sym e ∙ root_now)
-
-        once_each : HeldOnce (second.lock ∷ first.lock ∷ third.lock ∷ [])
-        once_each = (
-          subst (λ n. AreFar n (first.lock ∷ third.lock ∷ [])) (sym right_is) (moved full.right full.left first.lock left_is h.different, (root_far_right, tt)),
-          (subst (λ n. AreFar n (third.lock ∷ [])) (sym left_is) (root_far_left, tt), (tt, tt)),
-        )
-
-        nothing_out : left_out (0 ∷ []) (0 ∷ full.left ∷ full.right ∷ []) holding ≡ []
-        nothing_out = none_out (0 ∷ []) (0 ∷ full.left ∷ full.right ∷ []) holding (is_first 0 (full.left ∷ full.right ∷ []), tt) (is_third 0 full.left full.right [], (is_second 0 full.left (full.right ∷ []), tt))
-
-        dead_out : (n : ℕ) → (n ≡ full.right) ⊎ (n ≡ full.left) → tree.live n ≡ false
-        dead_out n (inl e) = ap tree.live e ∙ right_dead
-        dead_out n (inr e) = ap tree.live e ∙ left_dead
-
-        pub lift_written : LiftLaw → (k0 : CallerData) → StepsOnNodes k0 k → IsLiftWritten t full tree.contents tree.live g k0 k3
-        lift_written law k0 steps = record {
+        pub lift_written : StepsOnNodes k0 k → WritesRootParts full k0 k3
+        lift_written steps = record {
+          tree = tree;
           right = second.lock;
           left = first.lock;
           upper = third.lock;
           held = third.held;
           out = third.out ∙ (second.out ∙ out1);
-          right_node = right_is;
-          right_mark = right_written.mark ∙ right_unmarked;
-          right_spells = right_written.spells;
-          right_stored = right_written.stored;
-          left_node = left_is;
-          left_mark = left_written.mark ∙ left_unmarked;
-          left_spells = left_written.spells;
-          left_stored = left_written.stored;
-          upper_node = third.node ∙ h.root.node;
-          upper_zero = root_now;
-          upper_spells = root_written.spells;
-          upper_stored = root_written.stored;
-          change = record {
-            lawful = tree.lawful;
-            dead = λ n e. dead_out n (one_of_two full.right full.left n e);
-            change = law tree.contents tree.live full.left full.right g tree.lawful splits;
-            each = (right_fits, (left_fits, (root_fits, tt)));
-            once = once_each;
-            group_held = (
-              marked_at 0 third.lock (second.lock ∷ first.lock ∷ third.lock ∷ []) (found_at 0 (second.lock ∷ first.lock ∷ []) third.lock [] root_now (moved 0 full.right second.lock right_is right_zero, (moved 0 full.left first.lock left_is left_zero, tt))) (ap is_some third.mark ∙ h.root.marked),
-              tt,
-            );
-            fresh_held = (
-              (subst IsSome (sym (found_at full.left (second.lock ∷ []) first.lock (third.lock ∷ []) left_is (moved full.left full.right second.lock right_is (λ e. h.different (sym e)), tt))) refl, is_second full.right full.left []),
-              ((subst IsSome (sym (found_at full.right [] second.lock (first.lock ∷ third.lock ∷ []) right_is tt)) refl, is_first full.right (full.left ∷ [])), tt),
-            );
-            differ = ((λ e. above_new (sym g_root ∙ (e ∙ root_is))), tt);
-            lower = ((λ far. absurd (far refl)), tt);
-            room = subst (λ (xs : List ℕ). length xs ≤ 4) (sym nothing_out) (omega arith);
-          };
-          none = nothing_out;
-          left_zero = left_zero;
-          right_zero = right_zero;
-          different = h.different;
+          right_new = new_lock full.right (root_parts_for full).right h.right [] (first.lock ∷ h.upper ∷ []) k1 k2 h.right_free right_unmarked right_kind second;
+          left_new = new_lock full.left (root_parts_for full).left h.left (h.right ∷ []) (h.upper ∷ []) k k1 h.left_free left_unmarked left_kind first;
+          root_written = written_lock t full.root (root_parts_for full).above h.upper (second.lock ∷ first.lock ∷ []) [] k2 k3 h.root (λ e. above_new (sym e)) third;
           same = steps_then k0 k k3 steps (steps_then k k2 k3 (steps_then k k1 k2 first.same second.same) third.same);
         }
+
+  -- What was written changes the tree lawfully.
+  module _ (law : LiftLaw) (k' : CallerData) (w : WritesRootParts full k0 k') where
+    abbrev holding : Holdings
+    holding = record { held = w.right ∷ w.left ∷ w.upper ∷ []; out = full.right ∷ full.left ∷ []; head = k'.log.holdings.head }
+
+    pub root_now : w.upper.node ≡ 0
+    root_now = w.root_written.node ∙ h.is_root
+
+    root_far_right : w.upper.node ≢ full.right
+    root_far_right e = right_zero (sym e ∙ root_now)
+
+    root_far_left : w.upper.node ≢ full.left
+    root_far_left e = left_zero (sym e ∙ root_now)
+
+    each : AllByRecursion (FitsChange tree.contents tree.live (0 ∷ []) (full.left ∷ full.right ∷ []) g) (w.right ∷ w.left ∷ w.upper ∷ [])
+    each = (
+      fits_new tree.contents tree.live (0 ∷ []) (full.left ∷ full.right ∷ []) g full.right (root_parts_for full).right w.right w.right_new g_right,
+      (
+        fits_new tree.contents tree.live (0 ∷ []) (full.left ∷ full.right ∷ []) g full.left (root_parts_for full).left w.left w.left_new g_left,
+        (fits_written tree.contents tree.live (0 ∷ []) (full.left ∷ full.right ∷ []) g full.root (root_parts_for full).above w.upper w.root_written (ap tree.live h.is_root ∙ root_live) (ap tree.contents h.is_root ∙ root_is) (ap g h.is_root ∙ g_root), tt),
+      ),
+    )
+
+    once_each : HeldOnce (w.right ∷ w.left ∷ w.upper ∷ [])
+    once_each = (
+      subst (λ n. AreFar n (w.left ∷ w.upper ∷ [])) (sym w.right_new.node) (moved full.right full.left w.left w.left_new.node h.different, (root_far_right, tt)),
+      (subst (λ n. AreFar n (w.upper ∷ [])) (sym w.left_new.node) (root_far_left, tt), (tt, tt)),
+    )
+
+    pub nothing_out : left_out (0 ∷ []) (0 ∷ full.left ∷ full.right ∷ []) holding ≡ []
+    nothing_out = none_out (0 ∷ []) (0 ∷ full.left ∷ full.right ∷ []) holding (is_first 0 (full.left ∷ full.right ∷ []), tt) (is_third 0 full.left full.right [], (is_second 0 full.left (full.right ∷ []), tt))
+
+    dead_out : (n : ℕ) → (n ≡ full.right) ⊎ (n ≡ full.left) → tree.live n ≡ false
+    dead_out n (inl e) = ap tree.live e ∙ right_dead
+    dead_out n (inr e) = ap tree.live e ∙ left_dead
+
+    pub lift_change : IsHeldChange holding tree.contents tree.live 0 (0 ∷ []) (full.left ∷ full.right ∷ []) g (0 ∷ full.left ∷ full.right ∷ [])
+    lift_change = record {
+      lawful = tree.lawful;
+      dead = λ n e. dead_out n (one_of_two full.right full.left n e);
+      change = law tree.contents tree.live full.left full.right g tree.lawful splits;
+      each = each;
+      once = once_each;
+      group_held = (marked_at 0 w.upper (w.right ∷ w.left ∷ w.upper ∷ []) (found_at 0 (w.right ∷ w.left ∷ []) w.upper [] root_now (moved 0 full.right w.right w.right_new.node right_zero, (moved 0 full.left w.left w.left_new.node left_zero, tt))) w.root_written.marked, tt);
+      fresh_held = (
+        (subst IsSome (sym (found_at full.left (w.right ∷ []) w.left (w.upper ∷ []) w.left_new.node (moved full.left full.right w.right w.right_new.node (λ e. h.different (sym e)), tt))) refl, is_second full.right full.left []),
+        ((subst IsSome (sym (found_at full.right [] w.right (w.left ∷ w.upper ∷ []) w.right_new.node tt)) refl, is_first full.right (full.left ∷ [])), tt),
+      );
+      differ = ((λ e. above_new (sym g_root ∙ (e ∙ root_is))), tt);
+      lower = ((λ far. absurd (far refl)), tt);
+      room = subst (λ (xs : List ℕ). length xs ≤ 4) (sym nothing_out) (omega arith);
+    }

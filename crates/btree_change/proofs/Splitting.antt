@@ -1,5 +1,5 @@
 -- A full child is split under its parent: what is held before, and the change that is written.
-use Rattle.std.proofs.Common.{◌≡◌, ◌≢◌, ℕ, ◌-◌, ◌<◌, ◌≤◌, List, [], ◌∷◌, length, slice_get, sym, refl, ap, ◌∙◌, subst, arith, Bool, true, false, IsTrue, true≢false, Option, Some, None, IsSome, IsSomeAnd, is_some, inl, inr, ◌⊎◌, eq-eqb, ne_eqb, Contains}
+use Rattle.std.proofs.Common.{◌≡◌, ◌≢◌, ℕ, ◌-◌, ◌<◌, ◌≤◌, List, [], ◌∷◌, drop, length, slice_get, sym, refl, ap, ◌∙◌, subst, arith, Bool, true, false, IsTrue, true≢false, Option, Some, None, IsSome, IsSomeAnd, is_some, inl, inr, ◌⊎◌, eq-eqb, ne_eqb, Contains}
 use Rattle.std.specs.List.{AllByRecursion}
 use Rattle.tree_shape.specs.declared.node.Frame.{Frame}
 use Rattle.tree_shape.specs.declared.pair.Pair.{Pair}
@@ -18,21 +18,22 @@ use Rattle.word_rule.specs.declared.log.Terms.{Terms}
 use Rattle.word_rule.specs.Held.{held_of}
 use Rattle.word_rule.specs.Memory.{updated}
 use Rattle.word_rule.specs.NodeTells.{KnowsTree}
-use Rattle.word_rule.specs.Spelling.{SpellsNode}
 use Rattle.word_rule.specs.Steps.{MayStore}
 use Rattle.node_store.specs.Holding.{SpellsHeld, WritesHeld}
 use Rattle.node_store.specs.Writing.{kind_of_body}
 use Rattle.btree_change.specs.declared.split.FullChild.{FullChild}
 use Rattle.btree_change.specs.declared.split.Parts.{Parts}
+use Rattle.btree_change.specs.Halves.{WritesParts}
 use Rattle.btree_change.specs.Paths.{StepsOnNodes}
 use Rattle.btree_change.specs.Splits.{HoldsFullChild, parts_for}
 use Rattle.btree_change.proofs.Descending.{level_of, steps_then}
 use Rattle.btree_change.proofs.HeldParts.{AreFar, IsTold, higher_dead, higher_far, higher_once, higher_stay, is_first, is_none, is_second, is_third, lives_apart, place_of_lock}
+use Rattle.btree_change.proofs.Halving.{fits_new, fits_written, new_lock, written_lock}
 use Rattle.btree_change.proofs.HeldLists.{HeldOnce}
 use Rattle.btree_change.proofs.Settling.{FitsChange, IsHeldChange, StaysSettled, left_out, marked_at, none_out, stays_fit}
 use Rattle.btree_change.proofs.Outlining.{spells_held}
 use Rattle.word_rule.specs.declared.log.Log.{Log}
-use Rattle.btree_change.proofs.SplitParts.{above_differs, are_halves, left_differs, never_free, slot_of}
+use Rattle.btree_change.proofs.SplitParts.{above_differs, are_halves, left_differs, slot_of}
 use Rattle.btree_change.proofs.Storing.{IsRewritten, found_at, rewritten_so}
 use Rattle.word_rule.proofs.Each.{all_with}
 
@@ -40,49 +41,11 @@ use Rattle.word_rule.proofs.Each.{all_with}
 abbrev pub SplitLaw : Type 0
 SplitLaw = (f : Contents) (live : ℕ → Bool) (parent slot : ℕ) (p : Pair) (fresh : ℕ) (g : Contents) → IsLawfulTree f live → IsSplit f live parent slot p fresh g → IsChangeOf f live parent (parent ∷ p.child ∷ []) (fresh ∷ []) g None (parent ∷ p.child ∷ fresh ∷ [])
 
--- A held node was written, and a word of it was stored.
-pub record IsPartWritten (s : NodeData) (old now : Holding) : Type 0 where
-  pub node : now.node ≡ old.node
-  pub mark : now.mark ≡ old.mark
-  pub settled : now.settled ≡ old.settled
-  pub spells : SpellsNode now.words s
-  pub stored : now.stored ≡ true
-
-pub part_written : (s was : NodeData) (old : Holding) (before above : List Holding) (k k' : CallerData) → SpellsNode old.words was → was ≢ s → (w : IsRewritten s old before above k k') → IsPartWritten s old w.lock
-part_written s was old before above k k' spells differs w = record { node = w.node; mark = w.mark; settled = w.settled; spells = w.spells; stored = w.stored was spells differs }
-
--- The three nodes of a split are written, and are held so: what may settle.
-pub record IsSplitWritten (t : Terms) (full : FullChild) (pc : ℕ) (f : Contents) (live : ℕ → Bool) (g : Contents) (rest : List Holding) (k k' : CallerData) : Type 0 where
-  pub new : Holding
-  pub lower : Holding
-  pub upper : Holding
-  pub held : k'.log.holdings.held ≡ new ∷ lower ∷ upper ∷ rest
-  pub out : k'.log.holdings.out ≡ full.fresh ∷ []
-  pub new_node : new.node ≡ full.fresh
-  pub new_mark : new.mark ≡ None
-  pub new_spells : SpellsNode new.words (parts_for full pc).right
-  pub new_stored : new.stored ≡ true
-  pub lower_node : lower.node ≡ full.child.node
-  pub lower_spells : SpellsNode lower.words (parts_for full pc).left
-  pub lower_stored : lower.stored ≡ true
-  pub upper_node : upper.node ≡ full.parent.node
-  pub upper_spells : SpellsNode upper.words (parts_for full pc).above
-  pub upper_stored : upper.stored ≡ true
-  pub change : IsHeldChange (record { held = new ∷ lower ∷ upper ∷ rest; out = full.fresh ∷ []; head = k'.log.holdings.head }) f live full.parent.node (full.parent.node ∷ full.child.node ∷ []) (full.fresh ∷ []) g (full.parent.node ∷ full.child.node ∷ full.fresh ∷ [])
-  pub none : left_out (full.parent.node ∷ full.child.node ∷ []) (full.parent.node ∷ full.child.node ∷ full.fresh ∷ []) (record { held = new ∷ lower ∷ upper ∷ rest; out = full.fresh ∷ []; head = k'.log.holdings.head }) ≡ []
-  pub stays : AllByRecursion (StaysSettled f live (full.parent.node ∷ full.child.node ∷ []) (full.parent.node ∷ full.child.node ∷ full.fresh ∷ [])) rest
-  pub new_up : full.fresh ≢ full.parent.node
-  pub new_down : full.fresh ≢ full.child.node
-  pub down_up : full.child.node ≢ full.parent.node
-  pub rest_new : AreFar full.fresh rest
-  pub rest_down : AreFar full.child.node rest
-  pub same : StepsOnNodes k k'
-
 outside_of : (up down new : ℕ) (rest : List Holding) → AreFar up rest → AreFar down rest → AreFar new rest → AllByRecursion (λ (a : Holding). (is_among (up ∷ down ∷ []) a.node ≡ false) × (is_among (up ∷ down ∷ new ∷ []) a.node ≡ false)) rest
 outside_of up down new [] x y z = tt
 outside_of up down new (a ∷ rest) x y z = ((is_none a.node (up ∷ down ∷ []) (x.0, (y.0, tt)), is_none a.node (up ∷ down ∷ new ∷ []) (x.0, (y.0, (z.0, tt)))), outside_of up down new rest x.1 y.1 z.1)
 
-module _ (t : Terms) (full : FullChild) (pc : ℕ) (hs : Holdings) (h : HoldsFullChild t full pc hs) (tree : KnowsTree hs) where
+module _ (t : Terms) (full : FullChild) (pc : ℕ) (k0 : CallerData) (h : HoldsFullChild t full pc k0.log.holdings) (tree : KnowsTree k0.log.holdings) where
   abbrev f : Contents
   f = tree.contents
 
@@ -100,9 +63,6 @@ module _ (t : Terms) (full : FullChild) (pc : ℕ) (hs : Holdings) (h : HoldsFul
 
   abbrev c : NodeData
   c = full.child.content
-
-  abbrev parts : Parts
-  parts = parts_for full pc
 
   abbrev slot : ℕ
   slot = slot_for pc (pairs_of full.parent.content)
@@ -133,10 +93,10 @@ module _ (t : Terms) (full : FullChild) (pc : ℕ) (hs : Holdings) (h : HoldsFul
       go (Some place) e = absurd (true≢false (sym (told.0 (ap is_some e)).0 ∙ (ap tree.live h.free.node ∙ new_dead)))
 
   -- the three nodes are told apart, and from those above
-  new_up : full.fresh ≢ full.parent.node
+  pub new_up : full.fresh ≢ full.parent.node
   new_up e = lives_apart tree.live full.parent.node full.fresh up_live new_dead (sym e)
 
-  new_down : full.fresh ≢ full.child.node
+  pub new_down : full.fresh ≢ full.child.node
   new_down e = lives_apart tree.live full.child.node full.fresh down_live new_dead (sym e)
 
   ordered : IsOrderedAs full.parent.content (Pairs (pairs_of full.parent.content))
@@ -164,16 +124,16 @@ module _ (t : Terms) (full : FullChild) (pc : ℕ) (hs : Holdings) (h : HoldsFul
       let e : full.child.content.high ≡ h.leads.0.frame.high = ap (λ (z : NodeData). z.high) (sym child_is) ∙ fits.high in
       let l = h.leads.1.2 in let m = h.leads.1.3 in (omega (arith, a, l), omega (arith, e, m))
 
-  down_up : full.child.node ≢ full.parent.node
+  pub down_up : full.child.node ≢ full.parent.node
   down_up e = let same : full.child.content.level ≡ full.parent.content.level = ap (λ (z : NodeData). z.level) (sym down_is ∙ (ap tree.contents e ∙ up_is)) in let l = level in omega (arith, same, l)
 
-  rest_new : AreFar full.fresh h.rest
+  pub rest_new : AreFar full.fresh h.rest
   rest_new = higher_dead t tree.contents tree.live full.parent.content.level full.fresh h.rest h.higher told.1.1.1 new_dead
 
   rest_up : AreFar full.parent.node h.rest
   rest_up = let same : (tree.contents full.parent.node).level ≡ full.parent.content.level = ap (λ (z : NodeData). z.level) up_is in higher_far t tree.contents tree.live full.parent.content.level full.parent.node h.rest h.higher told.1.1.1 (omega (arith, same))
 
-  rest_down : AreFar full.child.node h.rest
+  pub rest_down : AreFar full.child.node h.rest
   rest_down =
       let same : (tree.contents full.child.node).level ≡ full.child.content.level = ap (λ (z : NodeData). z.level) down_is in let l = level in
       higher_far t tree.contents tree.live full.parent.content.level full.child.node h.rest h.higher told.1.1.1 (omega (arith, same, l))
@@ -186,12 +146,12 @@ module _ (t : Terms) (full : FullChild) (pc : ℕ) (hs : Holdings) (h : HoldsFul
   before_new = (moved full.fresh full.child.node h.lower h.child.node (λ e. new_down (sym e)), (moved full.fresh full.parent.node h.upper h.parent.node (λ e. new_up (sym e)), rest_new))
 
   -- the words of the child and of its parent are theirs
-  pub parent_spelled : (v : Log) → v.holdings ≡ hs → SpellsHeld full.parent.node full.parent.content v
+  pub parent_spelled : (v : Log) → v.holdings ≡ k0.log.holdings → SpellsHeld full.parent.node full.parent.content v
   parent_spelled v same =
       let far : AreFar full.parent.node (h.new ∷ h.lower ∷ []) = (moved full.parent.node full.fresh h.new h.free.node new_up, (moved full.parent.node full.child.node h.lower h.child.node down_up, tt)) in
       spells_held full.parent.node full.parent.content h.upper v (ap (λ (z : Holdings). held_of full.parent.node z.held) same ∙ (ap (held_of full.parent.node) h.held ∙ found_at full.parent.node (h.new ∷ h.lower ∷ []) h.upper h.rest h.parent.node far)) h.parent.spells
 
-  pub child_spelled : (v : Log) → v.holdings ≡ hs → SpellsHeld full.child.node full.child.content v
+  pub child_spelled : (v : Log) → v.holdings ≡ k0.log.holdings → SpellsHeld full.child.node full.child.content v
   child_spelled v same =
       let far : AreFar full.child.node (h.new ∷ []) = (moved full.child.node full.fresh h.new h.free.node new_down, tt) in
       spells_held full.child.node full.child.content h.lower v (ap (λ (z : Holdings). held_of full.child.node z.held) same ∙ (ap (held_of full.child.node) h.held ∙ found_at full.child.node (h.new ∷ []) h.lower (h.upper ∷ h.rest) h.child.node far)) h.child.spells
@@ -250,14 +210,19 @@ module _ (t : Terms) (full : FullChild) (pc : ℕ) (hs : Holdings) (h : HoldsFul
   above_new : (parts_for full pc).above ≢ full.parent.content
   above_new = above_differs full.parent.content (middle_fence full.child.content) full.fresh (slot_for pc (pairs_of full.parent.content)) found_child.0 found_child.1.0
 
-  pub may_first : (k : CallerData) → k.log.holdings ≡ hs → MayStore full.fresh k.log
+  pub may_first : (k : CallerData) → k.log.holdings ≡ k0.log.holdings → MayStore full.fresh k.log
   may_first k start = subst (λ o. IsSomeAnd o (λ (z : Holding). IsSome z.mark ⊎ IsTrue (is_among k.log.holdings.out full.fresh))) (sym (ap (λ (z : Holdings). held_of full.fresh z.held) start ∙ (ap (held_of full.fresh) h.held ∙ found_at full.fresh [] h.new (h.lower ∷ h.upper ∷ h.rest) h.free.node tt)))
       (inr (ap (λ (z : Holdings). is_among z.out full.fresh) start ∙ (ap (λ ns. is_among ns full.fresh) h.out ∙ is_first full.fresh [])))
 
+  -- those above the three
+  pub rest_is : drop 3 k0.log.holdings.held ≡ h.rest
+  rest_is = ap (drop 3) h.held
+
   -- The three nodes are written, the new one first and the child last.
-  module _ (k k1 : CallerData) (start : k.log.holdings ≡ hs) (write1 : WritesHeld full.fresh (parts_for full pc).right k k1) (spell1 : SpellsHeld full.fresh (parts_for full pc).right k1.log) where
-    pub first : IsRewritten (parts_for full pc).right h.new [] (h.lower ∷ h.upper ∷ h.rest) k k1
-    first = rewritten_so (parts_for full pc).right full.fresh h.new [] (h.lower ∷ h.upper ∷ h.rest) k k1 right_kind h.free.node tt before_new (ap (λ (z : Holdings). z.held) start ∙ h.held) write1 spell1
+  module _ (parts : Parts) (are : parts ≡ parts_for full pc) (k k1 : CallerData) (start : k.log.holdings ≡ k0.log.holdings) (write1 : WritesHeld full.fresh parts.right k k1) (spell1 : SpellsHeld full.fresh parts.right k1.log) where
+    first : IsRewritten (parts_for full pc).right h.new [] (h.lower ∷ h.upper ∷ h.rest) k k1
+    first = rewritten_so (parts_for full pc).right full.fresh h.new [] (h.lower ∷ h.upper ∷ h.rest) k k1 right_kind h.free.node tt before_new (ap (λ (z : Holdings). z.held) start ∙ h.held)
+        (subst (λ (z : Parts). WritesHeld full.fresh z.right k k1) are write1) (subst (λ (z : Parts). SpellsHeld full.fresh z.right k1.log) are spell1)
 
     new_is : first.lock.node ≡ full.fresh
     new_is = first.node ∙ h.free.node
@@ -269,9 +234,13 @@ module _ (t : Terms) (full : FullChild) (pc : ℕ) (hs : Holdings) (h : HoldsFul
     may_second = subst (λ o. IsSomeAnd o (λ (z : Holding). IsSome z.mark ⊎ IsTrue (is_among k1.log.holdings.out full.parent.node))) (sym (ap (held_of full.parent.node) first.held ∙ found_at full.parent.node (first.lock ∷ h.lower ∷ []) h.upper h.rest h.parent.node far_up))
         (inl h.parent.marked)
 
-    module _ (k2 : CallerData) (write2 : WritesHeld full.parent.node (parts_for full pc).above k1 k2) (spell2 : SpellsHeld full.parent.node (parts_for full pc).above k2.log) where
-      pub second : IsRewritten (parts_for full pc).above h.upper (first.lock ∷ h.lower ∷ []) h.rest k1 k2
-      second = rewritten_so (parts_for full pc).above full.parent.node h.upper (first.lock ∷ h.lower ∷ []) h.rest k1 k2 (λ e. omega (arith, e)) h.parent.node far_up rest_up first.held write2 spell2
+    module _ (k2 : CallerData) (write2 : WritesHeld full.parent.node parts.above k1 k2) (spell2 : SpellsHeld full.parent.node parts.above k2.log) where
+      second : IsRewritten (parts_for full pc).above h.upper (first.lock ∷ h.lower ∷ []) h.rest k1 k2
+      second = rewritten_so (parts_for full pc).above full.parent.node h.upper (first.lock ∷ h.lower ∷ []) h.rest k1 k2 (λ e. omega (arith, e)) h.parent.node far_up rest_up first.held
+          (subst (λ (z : Parts). WritesHeld full.parent.node z.above k1 k2) are write2) (subst (λ (z : Parts). SpellsHeld full.parent.node z.above k2.log) are spell2)
+
+      pub table_then : k2.table ≡ k.table
+      table_then = second.same.table ∙ first.same.table
 
       up_now : second.lock.node ≡ full.parent.node
       up_now = second.node ∙ h.parent.node
@@ -286,116 +255,84 @@ module _ (t : Terms) (full : FullChild) (pc : ℕ) (hs : Holdings) (h : HoldsFul
       may_third = subst (λ o. IsSomeAnd o (λ (z : Holding). IsSome z.mark ⊎ IsTrue (is_among k2.log.holdings.out full.child.node))) (sym (ap (held_of full.child.node) second.held ∙ found_at full.child.node (first.lock ∷ []) h.lower (second.lock ∷ h.rest) h.child.node far_down'))
           (inl h.child.marked)
 
-      module _ (k3 : CallerData) (write3 : WritesHeld full.child.node (parts_for full pc).left k2 k3) (spell3 : SpellsHeld full.child.node (parts_for full pc).left k3.log) where
-        pub third : IsRewritten (parts_for full pc).left h.lower (first.lock ∷ []) (second.lock ∷ h.rest) k2 k3
-        third = rewritten_so (parts_for full pc).left full.child.node h.lower (first.lock ∷ []) (second.lock ∷ h.rest) k2 k3 left_kind h.child.node far_down' far_down second.held write3 spell3
+      module _ (k3 : CallerData) (write3 : WritesHeld full.child.node parts.left k2 k3) (spell3 : SpellsHeld full.child.node parts.left k3.log) where
+        third : IsRewritten (parts_for full pc).left h.lower (first.lock ∷ []) (second.lock ∷ h.rest) k2 k3
+        third = rewritten_so (parts_for full pc).left full.child.node h.lower (first.lock ∷ []) (second.lock ∷ h.rest) k2 k3 left_kind h.child.node far_down' far_down second.held
+            (subst (λ (z : Parts). WritesHeld full.child.node z.left k2 k3) are write3) (subst (λ (z : Parts). SpellsHeld full.child.node z.left k3.log) are spell3)
 
-        pub new_written : IsPartWritten (parts_for full pc).right h.new first.lock
-        new_written = part_written (parts_for full pc).right h.new.settled h.new [] (h.lower ∷ h.upper ∷ h.rest) k k1 h.free.spells (never_free (parts_for full pc).right h.new.settled h.free.next right_kind h.free.free) first
-
-        pub up_written : IsPartWritten (parts_for full pc).above h.upper second.lock
-        up_written = part_written (parts_for full pc).above full.parent.content h.upper (first.lock ∷ h.lower ∷ []) h.rest k1 k2 h.parent.spells (λ e. above_new (sym e)) second
-
-        pub down_written : IsPartWritten (parts_for full pc).left h.lower third.lock
-        down_written = part_written (parts_for full pc).left full.child.content h.lower (first.lock ∷ []) (second.lock ∷ h.rest) k2 k3 h.child.spells (λ e. left_differs full.child.content h.is_full (sym e)) third
-
-        pub written_same : StepsOnNodes k k3
-        written_same = steps_then k k2 k3 (steps_then k k1 k2 first.same second.same) third.same
-
-        pub written_out : k3.log.holdings.out ≡ full.fresh ∷ []
-        written_out = third.out ∙ (second.out ∙ (first.out ∙ (ap (λ (z : Holdings). z.out) start ∙ h.out)))
-
-        down_now : third.lock.node ≡ full.child.node
-        down_now = third.node ∙ h.child.node
-
-        abbrev group : List ℕ
-        group = full.parent.node ∷ full.child.node ∷ []
-
-        abbrev reached : List ℕ
-        reached = full.parent.node ∷ full.child.node ∷ full.fresh ∷ []
-
-        abbrev holding : Holdings
-        holding = record { held = first.lock ∷ third.lock ∷ second.lock ∷ h.rest; out = full.fresh ∷ []; head = k3.log.holdings.head }
-
-        new_fits : FitsChange tree.contents tree.live group (full.fresh ∷ []) g first.lock
-        new_fits = record {
-          marked = λ m. absurd (true≢false (sym m ∙ ap is_some (new_written.mark ∙ unmarked)));
-          leaves = λ _. new_written.stored;
-          enters = λ _. (subst (SpellsNode first.lock.words) (sym (ap g new_is ∙ g_new)) new_written.spells, new_written.stored);
-        }
-
-        down_fits : FitsChange tree.contents tree.live group (full.fresh ∷ []) g third.lock
-        down_fits = let spells = subst (SpellsNode third.lock.words) (sym (ap g down_now ∙ g_down)) down_written.spells in record {
-          marked = λ _. (ap tree.live down_now ∙ down_live, ap tree.contents down_now ∙ (down_is ∙ sym (third.settled ∙ h.child.settled)), spells);
-          leaves = λ _. down_written.stored;
-          enters = λ _. (spells, down_written.stored);
-        }
-
-        up_fits : FitsChange tree.contents tree.live group (full.fresh ∷ []) g second.lock
-        up_fits = let spells = subst (SpellsNode second.lock.words) (sym (ap g up_now ∙ g_up)) up_written.spells in record {
-          marked = λ _. (ap tree.live up_now ∙ up_live, ap tree.contents up_now ∙ (up_is ∙ sym (second.settled ∙ h.parent.settled)), spells);
-          leaves = λ _. up_written.stored;
-          enters = λ _. (spells, up_written.stored);
-        }
-
-        stays : AllByRecursion (StaysSettled tree.contents tree.live group reached) h.rest
-        stays = higher_stay t tree.contents tree.live group reached full.parent.content.level h.rest h.higher told.1.1.1 (outside_of full.parent.node full.child.node full.fresh h.rest rest_up rest_down rest_new)
-
-        once_each : HeldOnce (first.lock ∷ third.lock ∷ second.lock ∷ h.rest)
-        once_each = (
-          subst (λ n. AreFar n (third.lock ∷ second.lock ∷ h.rest)) (sym new_is) (moved full.fresh full.child.node third.lock down_now (λ e. new_down (sym e)), (moved full.fresh full.parent.node second.lock up_now (λ e. new_up (sym e)), rest_new)),
-          (subst (λ n. AreFar n (second.lock ∷ h.rest)) (sym down_now) far_down, (subst (λ n. AreFar n h.rest) (sym up_now) rest_up, higher_once t tree.contents tree.live full.parent.content.level h.rest h.higher told.1.1.1)),
-        )
-
-        nothing_out : left_out group reached holding ≡ []
-        nothing_out = none_out group reached holding (is_first full.parent.node (full.child.node ∷ full.fresh ∷ []), (is_second full.parent.node full.child.node (full.fresh ∷ []), tt)) (is_third full.parent.node full.child.node full.fresh [], tt)
-
-        less : (tree.contents full.child.node).level < (tree.contents full.parent.node).level
-        less =
-            let a : (tree.contents full.child.node).level ≡ full.child.content.level = ap (λ (z : NodeData). z.level) down_is in
-            let e : (tree.contents full.parent.node).level ≡ full.parent.content.level = ap (λ (z : NodeData). z.level) up_is in
-            let l = level in omega (arith, a, e, l)
-
-        pub split_written : SplitLaw → (k0 : CallerData) → StepsOnNodes k0 k → IsSplitWritten t full pc tree.contents tree.live g h.rest k0 k3
-        split_written law k0 steps = record {
+        pub split_written : StepsOnNodes k0 k → WritesParts full pc k0 k3
+        split_written steps = record {
+          tree = tree;
           new = first.lock;
           lower = third.lock;
           upper = second.lock;
-          held = third.held;
-          out = written_out;
-          new_node = new_is;
-          new_mark = new_written.mark ∙ unmarked;
-          new_spells = new_written.spells;
-          new_stored = new_written.stored;
-          lower_node = down_now;
-          lower_spells = down_written.spells;
-          lower_stored = down_written.stored;
-          upper_node = up_now;
-          upper_spells = up_written.spells;
-          upper_stored = up_written.stored;
-          change = record {
-            lawful = tree.lawful;
-            dead = λ n e. ap tree.live (only full.fresh n e) ∙ new_dead;
-            change = change law;
-            each = (new_fits, (down_fits, (up_fits, stays_fit tree.contents tree.live full.parent.node group (full.fresh ∷ []) g reached (change law) h.rest stays)));
-            once = once_each;
-            group_held = (
-              marked_at full.parent.node second.lock (first.lock ∷ third.lock ∷ second.lock ∷ h.rest)
-                  (found_at full.parent.node (first.lock ∷ third.lock ∷ []) second.lock h.rest up_now (moved full.parent.node full.fresh first.lock new_is new_up, (moved full.parent.node full.child.node third.lock down_now down_up, tt)))
-                  (ap is_some second.mark ∙ h.parent.marked),
-              (marked_at full.child.node third.lock (first.lock ∷ third.lock ∷ second.lock ∷ h.rest) (found_at full.child.node (first.lock ∷ []) third.lock (second.lock ∷ h.rest) down_now far_down') (ap is_some third.mark ∙ h.child.marked), tt),
-            );
-            fresh_held = ((subst IsSome (sym (found_at full.fresh [] first.lock (third.lock ∷ second.lock ∷ h.rest) new_is tt)) refl, is_first full.fresh []), tt);
-            differ = ((λ e. above_new (sym g_up ∙ (e ∙ up_is))), ((λ e. left_differs full.child.content h.is_full (sym g_down ∙ (e ∙ down_is))), tt));
-            lower = ((λ far. absurd (far refl)), ((λ far. less), tt));
-            room = subst (λ (xs : List ℕ). length xs ≤ 4) (sym nothing_out) (omega arith);
-          };
-          none = nothing_out;
-          stays = stays;
-          new_up = new_up;
-          new_down = new_down;
-          down_up = down_up;
-          rest_new = rest_new;
-          rest_down = rest_down;
-          same = steps_then k0 k k3 steps written_same;
+          held = third.held ∙ ap (λ xs. first.lock ∷ third.lock ∷ second.lock ∷ xs) (sym rest_is);
+          out = third.out ∙ (second.out ∙ (first.out ∙ (ap (λ (z : Holdings). z.out) start ∙ h.out)));
+          right_new = new_lock full.fresh (parts_for full pc).right h.new [] (h.lower ∷ h.upper ∷ h.rest) k k1 h.free unmarked right_kind first;
+          child_written = written_lock t full.child (parts_for full pc).left h.lower (first.lock ∷ []) (second.lock ∷ h.rest) k2 k3 h.child (λ e. left_differs full.child.content h.is_full (sym e)) third;
+          parent_written = written_lock t full.parent (parts_for full pc).above h.upper (first.lock ∷ h.lower ∷ []) h.rest k1 k2 h.parent (λ e. above_new (sym e)) second;
+          same = steps_then k0 k k3 steps (steps_then k k2 k3 (steps_then k k1 k2 first.same second.same) third.same);
         }
+
+  -- What was written changes the tree lawfully.
+  module _ (law : SplitLaw) (k' : CallerData) (w : WritesParts full pc k0 k') where
+    abbrev group : List ℕ
+    group = full.parent.node ∷ full.child.node ∷ []
+
+    abbrev reached : List ℕ
+    reached = full.parent.node ∷ full.child.node ∷ full.fresh ∷ []
+
+    abbrev holding : Holdings
+    holding = record { held = w.new ∷ w.lower ∷ w.upper ∷ h.rest; out = full.fresh ∷ []; head = k'.log.holdings.head }
+
+    far_child : AreFar full.child.node (w.upper ∷ h.rest)
+    far_child = (moved full.child.node full.parent.node w.upper w.parent_written.node (λ e. down_up (sym e)), rest_down)
+
+    pub stays : AllByRecursion (StaysSettled tree.contents tree.live group reached) h.rest
+    stays = higher_stay t tree.contents tree.live group reached full.parent.content.level h.rest h.higher told.1.1.1 (outside_of full.parent.node full.child.node full.fresh h.rest rest_up rest_down rest_new)
+
+    each : AllByRecursion (FitsChange tree.contents tree.live group (full.fresh ∷ []) g) (w.new ∷ w.lower ∷ w.upper ∷ h.rest)
+    each = (
+      fits_new tree.contents tree.live group (full.fresh ∷ []) g full.fresh (parts_for full pc).right w.new w.right_new g_new,
+      (
+        fits_written tree.contents tree.live group (full.fresh ∷ []) g full.child (parts_for full pc).left w.lower w.child_written down_live down_is g_down,
+        (
+          fits_written tree.contents tree.live group (full.fresh ∷ []) g full.parent (parts_for full pc).above w.upper w.parent_written up_live up_is g_up,
+          stays_fit tree.contents tree.live full.parent.node group (full.fresh ∷ []) g reached (change law) h.rest stays,
+        ),
+      ),
+    )
+
+    once_each : HeldOnce (w.new ∷ w.lower ∷ w.upper ∷ h.rest)
+    once_each = (
+      subst (λ n. AreFar n (w.lower ∷ w.upper ∷ h.rest)) (sym w.right_new.node) (moved full.fresh full.child.node w.lower w.child_written.node (λ e. new_down (sym e)), (moved full.fresh full.parent.node w.upper w.parent_written.node (λ e. new_up (sym e)), rest_new)),
+      (subst (λ n. AreFar n (w.upper ∷ h.rest)) (sym w.child_written.node) far_child, (subst (λ n. AreFar n h.rest) (sym w.parent_written.node) rest_up, higher_once t tree.contents tree.live full.parent.content.level h.rest h.higher told.1.1.1)),
+    )
+
+    pub nothing_out : left_out group reached holding ≡ []
+    nothing_out = none_out group reached holding (is_first full.parent.node (full.child.node ∷ full.fresh ∷ []), (is_second full.parent.node full.child.node (full.fresh ∷ []), tt)) (is_third full.parent.node full.child.node full.fresh [], tt)
+
+    less : (tree.contents full.child.node).level < (tree.contents full.parent.node).level
+    less =
+        let a : (tree.contents full.child.node).level ≡ full.child.content.level = ap (λ (z : NodeData). z.level) down_is in
+        let e : (tree.contents full.parent.node).level ≡ full.parent.content.level = ap (λ (z : NodeData). z.level) up_is in
+        let l = level in omega (arith, a, e, l)
+
+    pub split_change : IsHeldChange holding tree.contents tree.live full.parent.node group (full.fresh ∷ []) g reached
+    split_change = record {
+      lawful = tree.lawful;
+      dead = λ n e. ap tree.live (only full.fresh n e) ∙ new_dead;
+      change = change law;
+      each = each;
+      once = once_each;
+      group_held = (
+        marked_at full.parent.node w.upper (w.new ∷ w.lower ∷ w.upper ∷ h.rest)
+            (found_at full.parent.node (w.new ∷ w.lower ∷ []) w.upper h.rest w.parent_written.node (moved full.parent.node full.fresh w.new w.right_new.node new_up, (moved full.parent.node full.child.node w.lower w.child_written.node down_up, tt)))
+            w.parent_written.marked,
+        (marked_at full.child.node w.lower (w.new ∷ w.lower ∷ w.upper ∷ h.rest) (found_at full.child.node (w.new ∷ []) w.lower (w.upper ∷ h.rest) w.child_written.node (moved full.child.node full.fresh w.new w.right_new.node new_down, tt)) w.child_written.marked, tt),
+      );
+      fresh_held = ((subst IsSome (sym (found_at full.fresh [] w.new (w.lower ∷ w.upper ∷ h.rest) w.right_new.node tt)) refl, is_first full.fresh []), tt);
+      differ = ((λ e. above_new (sym g_up ∙ (e ∙ up_is))), ((λ e. left_differs full.child.content h.is_full (sym g_down ∙ (e ∙ down_is))), tt));
+      lower = ((λ far. absurd (far refl)), ((λ far. less), tt));
+      room = subst (λ (xs : List ℕ). length xs ≤ 4) (sym nothing_out) (omega arith);
+    }

@@ -5,6 +5,7 @@ pub mod Insertion
 pub mod Removal
 pub mod Spines
 pub mod Splits
+pub mod Halves
 pub mod Stands
 pub mod Far
 pub mod Roots

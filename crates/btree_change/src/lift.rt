@@ -5,6 +5,7 @@ ghost use Rattle.tree_shape.specs.Steps.{IsFull};
 ghost use Rattle.tree_shape.specs.declared.limits.TheConstants.{HIGHEST_LEVEL};
 ghost use Rattle.word_rule.specs.CallerData.{surplus};
 ghost use Rattle.node_store.specs.Holding.{SpellsHeld};
+ghost use Rattle.btree_change.specs.Halves.{WritesRootParts};
 ghost use Rattle.btree_change.specs.Loads.{FoundNoRoom};
 ghost use Rattle.btree_change.specs.Paths.{StepsOnNodes};
 ghost use Rattle.btree_change.specs.Splits.{GivesBack, HoldsFullAlone, HoldsFullRoot};
@@ -51,6 +52,23 @@ fn root_parts(words: &Words, me: &mut Caller, full: &FullRoot) -> Parts
     Parts { left, right, above }
 }
 
+/// Writes the halves of the full root, and the root over them.
+fn write_root_parts(words: &Words, me: &mut Caller, full: &FullRoot, pc: u64) -> Parts
+    requires table { me.old.table ≡ words.now.table }
+    requires held { HoldsFullRoot words.now.terms full.now pc me.old.log.holdings }
+    ensures parts { result ≡ root_parts_for full.now }
+    ensures written { WritesRootParts full.now me.old me.new }
+{
+    let _ = pc;
+    // By this load it is known of which tree the root is.
+    words.load_node(me, full.root.node, LEVEL);
+    let parts = root_parts(words, me, full);
+    write_held(words, me, full.left, &parts.left);
+    write_held(words, me, full.right, &parts.right);
+    write_held(words, me, full.root.node, &parts.above);
+    parts
+}
+
 /// Lifts the full root by a level over its two halves, and lets go of the half that isn't on the
 /// way to an address: with it all three nodes settle. So a settled root never has one child.
 pub(crate) fn lift<L: Locking>(
@@ -70,12 +88,7 @@ pub(crate) fn lift<L: Locking>(
     laws::transfer();
     laws::widen();
     exchange_decided();
-    // By this load it is known of which tree the root is.
-    words.load_node(me, full.root.node, LEVEL);
-    let parts = root_parts(words, me, full);
-    write_held(words, me, full.left, &parts.left);
-    write_held(words, me, full.right, &parts.right);
-    write_held(words, me, full.root.node, &parts.above);
+    let parts = write_root_parts(words, me, full, pc);
     let ways = ways_of(full.left, full.right, &parts, pc);
     locking.let_go(words, me, LockId::Node { node: ways.other });
     settled_split(words, me, full.root.node, ways.way)

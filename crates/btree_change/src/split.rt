@@ -10,6 +10,7 @@ ghost use Rattle.word_rule.specs.Held.{held_of};
 ghost use Rattle.word_rule.specs.NodeTells.{HolderTells};
 ghost use Rattle.word_rule.specs.Spelling.{spelled};
 ghost use Rattle.node_store.specs.Holding.{SpellsHeld};
+ghost use Rattle.btree_change.specs.Halves.{WritesParts};
 ghost use Rattle.btree_change.specs.Paths.{StepsOnNodes};
 ghost use Rattle.btree_change.specs.Splits.{HoldsFull, HoldsFullChild, IsRoomFor, SplitsChild};
 ghost use Rattle.btree_change.specs.Splits.{other_in, parts_for, way_in};
@@ -85,6 +86,22 @@ fn parts_of(words: &Words, me: &mut Caller, full: &FullChild, pc: u64) -> Parts
     let slot = inner_slot(&parent, pc);
     let above = put_pair(&parent, slot, left.high, full.fresh);
     Parts { left, right, above }
+}
+
+/// Writes the halves of a full child, and its parent with a pair more.
+fn write_parts(words: &Words, me: &mut Caller, full: &FullChild, pc: u64) -> Parts
+    requires table { me.old.table ≡ words.now.table }
+    requires held { HoldsFullChild words.now.terms full.now pc me.old.log.holdings }
+    ensures parts { result ≡ parts_for full.now pc }
+    ensures written { WritesParts full.now pc me.old me.new }
+{
+    // By this load it is known of which tree the nodes are.
+    words.load_node(me, full.parent.node, LEVEL);
+    let parts = parts_of(words, me, full, pc);
+    write_held(words, me, full.fresh, &parts.right);
+    write_held(words, me, full.parent.node, &parts.above);
+    write_held(words, me, full.child.node, &parts.left);
+    parts
 }
 
 /// The node of a split to which an address leads, and the other one.
@@ -166,12 +183,7 @@ pub(crate) fn split_child<L: Locking>(
     laws::transfer();
     laws::widen();
     exchange_decided();
-    // By this load it is known of which tree the nodes are.
-    words.load_node(me, full.parent.node, LEVEL);
-    let parts = parts_of(words, me, full, pc);
-    write_held(words, me, full.fresh, &parts.right);
-    write_held(words, me, full.parent.node, &parts.above);
-    write_held(words, me, full.child.node, &parts.left);
+    let parts = write_parts(words, me, full, pc);
     let ways = ways_of(full.child.node, full.fresh, &parts, pc);
     locking.let_go(words, me, LockId::Node { node: ways.other });
     settled_split(words, me, full.parent.node, ways.way)

@@ -1,210 +1,34 @@
-use Rattle.std.proofs.Common.{◌≡◌, ◌-◌, ◌*◌, ◌<◌, IsSome, IsSomeAnd, sym, ap, ◌∙◌, subst, refl}
-use Rattle.word_rule.specs.CallerData.{CallerData}
-use Rattle.word_rule.specs.NodeTells.{HolderTells}
-use Rattle.word_rule.specs.Places.{CALL_CREDIT}
-use Rattle.word_rule.specs.Held.{held_of}
-use Rattle.word_rule.specs.Spelling.{spelled}
-use Rattle.word_rule.specs.Steps.{MayRelease, after_node_release}
-use Rattle.node_store.specs.Holding.{SpellsHeld, WritesHeld}
-use Rattle.btree_change.specs.declared.split.Parts.{Parts}
-use Rattle.btree_change.specs.Splits.{half_for, other_in, parts_for, way_in}
-use Rattle.btree_change.proofs.Descending.{in_order, steps_then}
-use Rattle.btree_change.proofs.Descents.{steps_of_load}
-use Rattle.btree_change.proofs.HeldParts.{place_of_lock}
 use Rattle.btree_change.proofs.Settling.{SettlingLaws}
-use Rattle.btree_change.proofs.SplitEnds.{ends, may_read_both, split_so}
-use Rattle.btree_change.proofs.Outlining.{may_read}
-use Rattle.btree_change.proofs.Splitting.{child_spelled, first, g, may_first, may_second, may_third, parent_spelled, second, split_written}
+use Rattle.btree_change.proofs.SplitEnds.{may_let_go, may_read_parent, may_read_way, split_so, way_within}
 use Rattle.btree_change.proofs.split.split_child.Goals as goal
-
-pub parts_of-parts-requires-clause-in_order : goal.parts_of-parts-requires-clause-in_order
-parts_of-parts-requires-clause-in_order _ c =
-    let parent = c.args.full.now.parent in
-    let own = place_of_lock c.args.words.now.terms parent.node parent.content parent.changed c.requires.held.upper c.requires.held.parent in
-    in_order parent.node parent.content own.1.ordered own.1.filled
-
-pub parts_of-parts-requires-clause-parent : goal.parts_of-parts-requires-clause-parent
-parts_of-parts-requires-clause-parent _ c =
-    parent_spelled c.args.words.now.terms c.args.full.now c.args.pc c.args.me.now.log.holdings c.requires.held c.load_node.ensures.tree c.load_node.new.me.log (ap (λ (z : CallerData). z.log.holdings) c.load_node.ensures.log)
-
-pub parts_of-parts-requires-clause-child : goal.parts_of-parts-requires-clause-child
-parts_of-parts-requires-clause-child _ c =
-    child_spelled c.args.words.now.terms c.args.full.now c.args.pc c.args.me.now.log.holdings c.requires.held c.load_node.ensures.tree c.load_node.new.me.log (ap (λ (z : CallerData). z.log.holdings) c.load_node.ensures.log)
-
-pub write_held-requires-clause-may : goal.write_held-requires-clause-may
-write_held-requires-clause-may _ c =
-    may_first c.args.words.now.terms c.args.full.now c.args.pc c.args.me.now.log.holdings c.requires.held c.load_node.ensures.tree c.parts_of-parts.new.me (c.parts_of-parts.ensures.holdings ∙ ap (λ (z : CallerData). z.log.holdings) c.load_node.ensures.log)
-
-pub write_held-requires-2-clause-may : goal.write_held-requires-2-clause-may
-write_held-requires-2-clause-may _ c =
-    let t = c.args.words.now.terms in let full = c.args.full.now in let pc = c.args.pc in let k = c.args.me.now in let hs = k.log.holdings in let h = c.requires.held in let tree = c.load_node.ensures.tree in
-    let k0 = c.parts_of-parts.new.me in let start = c.parts_of-parts.ensures.holdings ∙ ap (λ (z : CallerData). z.log.holdings) c.load_node.ensures.log in
-    let k1 = c.write_held.new.me in
-    let write1 = subst (λ (z : Parts). WritesHeld full.fresh z.right k0 k1) c.parts_of-parts.ensures.parts c.write_held.ensures.stores in let spell1 = subst (λ (z : Parts). SpellsHeld full.fresh z.right k1.log) c.parts_of-parts.ensures.parts c.write_held.ensures.spells in
-    may_second t full pc hs h tree k0 k1 start write1 spell1
-
-pub write_held-requires-3-clause-table : goal.write_held-requires-3-clause-table
-write_held-requires-3-clause-table _ c =
-    let t = c.args.words.now.terms in let full = c.args.full.now in let pc = c.args.pc in let k = c.args.me.now in let hs = k.log.holdings in let h = c.requires.held in let tree = c.load_node.ensures.tree in
-    let k0 = c.parts_of-parts.new.me in let start = c.parts_of-parts.ensures.holdings ∙ ap (λ (z : CallerData). z.log.holdings) c.load_node.ensures.log in
-    let k1 = c.write_held.new.me in
-    let write1 = subst (λ (z : Parts). WritesHeld full.fresh z.right k0 k1) c.parts_of-parts.ensures.parts c.write_held.ensures.stores in let spell1 = subst (λ (z : Parts). SpellsHeld full.fresh z.right k1.log) c.parts_of-parts.ensures.parts c.write_held.ensures.spells in
-    let k2 = c.write_held-2.new.me in
-    let write2 = subst (λ (z : Parts). WritesHeld full.parent.node z.above k1 k2) c.parts_of-parts.ensures.parts c.write_held-2.ensures.stores in let spell2 = subst (λ (z : Parts). SpellsHeld full.parent.node z.above k2.log) c.parts_of-parts.ensures.parts c.write_held-2.ensures.spells in
-    (second t full pc hs h tree k0 k1 start write1 spell1 k2 write2 spell2).same.table ∙ ((first t full pc hs h tree k0 k1 start write1 spell1).same.table ∙ (c.parts_of-parts.ensures.same.table ∙ (ap (λ (z : CallerData). z.table) c.load_node.ensures.log ∙ c.requires.table)))
-
-pub write_held-requires-3-clause-may : goal.write_held-requires-3-clause-may
-write_held-requires-3-clause-may _ c =
-    let t = c.args.words.now.terms in let full = c.args.full.now in let pc = c.args.pc in let k = c.args.me.now in let hs = k.log.holdings in let h = c.requires.held in let tree = c.load_node.ensures.tree in
-    let k0 = c.parts_of-parts.new.me in let start = c.parts_of-parts.ensures.holdings ∙ ap (λ (z : CallerData). z.log.holdings) c.load_node.ensures.log in
-    let k1 = c.write_held.new.me in
-    let write1 = subst (λ (z : Parts). WritesHeld full.fresh z.right k0 k1) c.parts_of-parts.ensures.parts c.write_held.ensures.stores in let spell1 = subst (λ (z : Parts). SpellsHeld full.fresh z.right k1.log) c.parts_of-parts.ensures.parts c.write_held.ensures.spells in
-    let k2 = c.write_held-2.new.me in
-    let write2 = subst (λ (z : Parts). WritesHeld full.parent.node z.above k1 k2) c.parts_of-parts.ensures.parts c.write_held-2.ensures.stores in let spell2 = subst (λ (z : Parts). SpellsHeld full.parent.node z.above k2.log) c.parts_of-parts.ensures.parts c.write_held-2.ensures.spells in
-    may_third t full pc hs h tree k0 k1 start write1 spell1 k2 write2 spell2
-
-pub let_go-requires-clause-table : goal.let_go-requires-clause-table
-let_go-requires-clause-table _ c =
-    let t = c.args.words.now.terms in let full = c.args.full.now in let pc = c.args.pc in let k = c.args.me.now in let hs = k.log.holdings in let h = c.requires.held in let tree = c.load_node.ensures.tree in
-    let k0 = c.parts_of-parts.new.me in let start = c.parts_of-parts.ensures.holdings ∙ ap (λ (z : CallerData). z.log.holdings) c.load_node.ensures.log in
-    let k1 = c.write_held.new.me in
-    let write1 = subst (λ (z : Parts). WritesHeld full.fresh z.right k0 k1) c.parts_of-parts.ensures.parts c.write_held.ensures.stores in let spell1 = subst (λ (z : Parts). SpellsHeld full.fresh z.right k1.log) c.parts_of-parts.ensures.parts c.write_held.ensures.spells in
-    let k2 = c.write_held-2.new.me in
-    let write2 = subst (λ (z : Parts). WritesHeld full.parent.node z.above k1 k2) c.parts_of-parts.ensures.parts c.write_held-2.ensures.stores in let spell2 = subst (λ (z : Parts). SpellsHeld full.parent.node z.above k2.log) c.parts_of-parts.ensures.parts c.write_held-2.ensures.spells in
-    let k3 = c.write_held-3.new.me in
-    let write3 = subst (λ (z : Parts). WritesHeld full.child.node z.left k2 k3) c.parts_of-parts.ensures.parts c.write_held-3.ensures.stores in let spell3 = subst (λ (z : Parts). SpellsHeld full.child.node z.left k3.log) c.parts_of-parts.ensures.parts c.write_held-3.ensures.spells in
-    let steps = steps_then k c.load_node.new.me k0 (steps_of_load full.parent.node 2 c.load_node.result k c.load_node.new.me c.load_node.ensures.log) c.parts_of-parts.ensures.same in
-    let laws : SettlingLaws = record { decided = c.exchange_decided.ensures; transfer = c.transfer.ensures.lawful; reached = c.transfer.ensures.reached; widen = c.widen.ensures.lawful; wider = c.widen.ensures.reached } in
-    let written = split_written t full pc hs h tree k0 k1 start write1 spell1 k2 write2 spell2 k3 write3 spell3 c.split.ensures.change k steps in
-    let now = g t full pc hs h tree in
-    written.same.table ∙ c.requires.table
 
 pub let_go-requires-clause-may : goal.let_go-requires-clause-may
 let_go-requires-clause-may _ c =
-    let t = c.args.words.now.terms in let full = c.args.full.now in let pc = c.args.pc in let k = c.args.me.now in let hs = k.log.holdings in let h = c.requires.held in let tree = c.load_node.ensures.tree in
-    let k0 = c.parts_of-parts.new.me in let start = c.parts_of-parts.ensures.holdings ∙ ap (λ (z : CallerData). z.log.holdings) c.load_node.ensures.log in
-    let k1 = c.write_held.new.me in
-    let write1 = subst (λ (z : Parts). WritesHeld full.fresh z.right k0 k1) c.parts_of-parts.ensures.parts c.write_held.ensures.stores in let spell1 = subst (λ (z : Parts). SpellsHeld full.fresh z.right k1.log) c.parts_of-parts.ensures.parts c.write_held.ensures.spells in
-    let k2 = c.write_held-2.new.me in
-    let write2 = subst (λ (z : Parts). WritesHeld full.parent.node z.above k1 k2) c.parts_of-parts.ensures.parts c.write_held-2.ensures.stores in let spell2 = subst (λ (z : Parts). SpellsHeld full.parent.node z.above k2.log) c.parts_of-parts.ensures.parts c.write_held-2.ensures.spells in
-    let k3 = c.write_held-3.new.me in
-    let write3 = subst (λ (z : Parts). WritesHeld full.child.node z.left k2 k3) c.parts_of-parts.ensures.parts c.write_held-3.ensures.stores in let spell3 = subst (λ (z : Parts). SpellsHeld full.child.node z.left k3.log) c.parts_of-parts.ensures.parts c.write_held-3.ensures.spells in
-    let steps = steps_then k c.load_node.new.me k0 (steps_of_load full.parent.node 2 c.load_node.result k c.load_node.new.me c.load_node.ensures.log) c.parts_of-parts.ensures.same in
     let laws : SettlingLaws = record { decided = c.exchange_decided.ensures; transfer = c.transfer.ensures.lawful; reached = c.transfer.ensures.reached; widen = c.widen.ensures.lawful; wider = c.widen.ensures.reached } in
-    let written = split_written t full pc hs h tree k0 k1 start write1 spell1 k2 write2 spell2 k3 write3 spell3 c.split.ensures.change k steps in
-    let now = g t full pc hs h tree in
-    subst (λ n. MayRelease n k3.log) (sym (c.ways_of-ways.ensures.other ∙ ap (other_in full.child.node full.fresh pc) c.parts_of-parts.ensures.parts)) (ends laws t full pc tree.contents tree.live now h.rest k k3 written h.child_within h.fresh_within).may
-
-pub let_go-requires-clause-surplus : goal.let_go-requires-clause-surplus
-let_go-requires-clause-surplus _ c =
-    let t = c.args.words.now.terms in let full = c.args.full.now in let pc = c.args.pc in let k = c.args.me.now in let hs = k.log.holdings in let h = c.requires.held in let tree = c.load_node.ensures.tree in
-    let k0 = c.parts_of-parts.new.me in let start = c.parts_of-parts.ensures.holdings ∙ ap (λ (z : CallerData). z.log.holdings) c.load_node.ensures.log in
-    let k1 = c.write_held.new.me in
-    let write1 = subst (λ (z : Parts). WritesHeld full.fresh z.right k0 k1) c.parts_of-parts.ensures.parts c.write_held.ensures.stores in let spell1 = subst (λ (z : Parts). SpellsHeld full.fresh z.right k1.log) c.parts_of-parts.ensures.parts c.write_held.ensures.spells in
-    let k2 = c.write_held-2.new.me in
-    let write2 = subst (λ (z : Parts). WritesHeld full.parent.node z.above k1 k2) c.parts_of-parts.ensures.parts c.write_held-2.ensures.stores in let spell2 = subst (λ (z : Parts). SpellsHeld full.parent.node z.above k2.log) c.parts_of-parts.ensures.parts c.write_held-2.ensures.spells in
-    let k3 = c.write_held-3.new.me in
-    let write3 = subst (λ (z : Parts). WritesHeld full.child.node z.left k2 k3) c.parts_of-parts.ensures.parts c.write_held-3.ensures.stores in let spell3 = subst (λ (z : Parts). SpellsHeld full.child.node z.left k3.log) c.parts_of-parts.ensures.parts c.write_held-3.ensures.spells in
-    let steps = steps_then k c.load_node.new.me k0 (steps_of_load full.parent.node 2 c.load_node.result k c.load_node.new.me c.load_node.ensures.log) c.parts_of-parts.ensures.same in
-    let laws : SettlingLaws = record { decided = c.exchange_decided.ensures; transfer = c.transfer.ensures.lawful; reached = c.transfer.ensures.reached; widen = c.widen.ensures.lawful; wider = c.widen.ensures.reached } in
-    let written = split_written t full pc hs h tree k0 k1 start write1 spell1 k2 write2 spell2 k3 write3 spell3 c.split.ensures.change k steps in
-    let now = g t full pc hs h tree in
-    subst (λ n. 0 < n) (sym (λ i. (written.same.budget i).credit - CALL_CREDIT * written.same.left i)) c.requires.surplus
-
-pub settled_split-requires-clause-table : goal.settled_split-requires-clause-table
-settled_split-requires-clause-table _ c =
-    let t = c.args.words.now.terms in let full = c.args.full.now in let pc = c.args.pc in let k = c.args.me.now in let hs = k.log.holdings in let h = c.requires.held in let tree = c.load_node.ensures.tree in
-    let k0 = c.parts_of-parts.new.me in let start = c.parts_of-parts.ensures.holdings ∙ ap (λ (z : CallerData). z.log.holdings) c.load_node.ensures.log in
-    let k1 = c.write_held.new.me in
-    let write1 = subst (λ (z : Parts). WritesHeld full.fresh z.right k0 k1) c.parts_of-parts.ensures.parts c.write_held.ensures.stores in let spell1 = subst (λ (z : Parts). SpellsHeld full.fresh z.right k1.log) c.parts_of-parts.ensures.parts c.write_held.ensures.spells in
-    let k2 = c.write_held-2.new.me in
-    let write2 = subst (λ (z : Parts). WritesHeld full.parent.node z.above k1 k2) c.parts_of-parts.ensures.parts c.write_held-2.ensures.stores in let spell2 = subst (λ (z : Parts). SpellsHeld full.parent.node z.above k2.log) c.parts_of-parts.ensures.parts c.write_held-2.ensures.spells in
-    let k3 = c.write_held-3.new.me in
-    let write3 = subst (λ (z : Parts). WritesHeld full.child.node z.left k2 k3) c.parts_of-parts.ensures.parts c.write_held-3.ensures.stores in let spell3 = subst (λ (z : Parts). SpellsHeld full.child.node z.left k3.log) c.parts_of-parts.ensures.parts c.write_held-3.ensures.spells in
-    let steps = steps_then k c.load_node.new.me k0 (steps_of_load full.parent.node 2 c.load_node.result k c.load_node.new.me c.load_node.ensures.log) c.parts_of-parts.ensures.same in
-    let laws : SettlingLaws = record { decided = c.exchange_decided.ensures; transfer = c.transfer.ensures.lawful; reached = c.transfer.ensures.reached; widen = c.widen.ensures.lawful; wider = c.widen.ensures.reached } in
-    let written = split_written t full pc hs h tree k0 k1 start write1 spell1 k2 write2 spell2 k3 write3 spell3 c.split.ensures.change k steps in
-    let now = g t full pc hs h tree in
-    ap (λ (z : CallerData). z.table) c.let_go.ensures ∙ (written.same.table ∙ c.requires.table)
-
-pub settled_split-requires-clause-above : goal.settled_split-requires-clause-above
-settled_split-requires-clause-above _ c = c.requires.held.parent_within
+    let done = c.write_parts-parts in let ways = c.ways_of-ways in
+    may_let_go laws c.split.ensures.change c.args.words.now.terms c.args.full.now c.args.pc c.args.me.now done.new.me c.requires.held done.ensures.written done.result done.ensures.parts ways.result ways.ensures.way ways.ensures.other
 
 pub settled_split-requires-clause-below : goal.settled_split-requires-clause-below
 settled_split-requires-clause-below _ c =
-    let t = c.args.words.now.terms in let full = c.args.full.now in let pc = c.args.pc in let k = c.args.me.now in let hs = k.log.holdings in let h = c.requires.held in let tree = c.load_node.ensures.tree in
-    let k0 = c.parts_of-parts.new.me in let start = c.parts_of-parts.ensures.holdings ∙ ap (λ (z : CallerData). z.log.holdings) c.load_node.ensures.log in
-    let k1 = c.write_held.new.me in
-    let write1 = subst (λ (z : Parts). WritesHeld full.fresh z.right k0 k1) c.parts_of-parts.ensures.parts c.write_held.ensures.stores in let spell1 = subst (λ (z : Parts). SpellsHeld full.fresh z.right k1.log) c.parts_of-parts.ensures.parts c.write_held.ensures.spells in
-    let k2 = c.write_held-2.new.me in
-    let write2 = subst (λ (z : Parts). WritesHeld full.parent.node z.above k1 k2) c.parts_of-parts.ensures.parts c.write_held-2.ensures.stores in let spell2 = subst (λ (z : Parts). SpellsHeld full.parent.node z.above k2.log) c.parts_of-parts.ensures.parts c.write_held-2.ensures.spells in
-    let k3 = c.write_held-3.new.me in
-    let write3 = subst (λ (z : Parts). WritesHeld full.child.node z.left k2 k3) c.parts_of-parts.ensures.parts c.write_held-3.ensures.stores in let spell3 = subst (λ (z : Parts). SpellsHeld full.child.node z.left k3.log) c.parts_of-parts.ensures.parts c.write_held-3.ensures.spells in
-    let steps = steps_then k c.load_node.new.me k0 (steps_of_load full.parent.node 2 c.load_node.result k c.load_node.new.me c.load_node.ensures.log) c.parts_of-parts.ensures.same in
     let laws : SettlingLaws = record { decided = c.exchange_decided.ensures; transfer = c.transfer.ensures.lawful; reached = c.transfer.ensures.reached; widen = c.widen.ensures.lawful; wider = c.widen.ensures.reached } in
-    let written = split_written t full pc hs h tree k0 k1 start write1 spell1 k2 write2 spell2 k3 write3 spell3 c.split.ensures.change k steps in
-    let now = g t full pc hs h tree in
-    let k5 = c.let_go.new.me in let ps = c.parts_of-parts.ensures.parts in let ways = c.ways_of-ways.ensures in
-    let is5 = subst (λ n. k5 ≡ record k3 { log = after_node_release n k3.log }) (ways.other ∙ ap (other_in full.child.node full.fresh pc) ps) c.let_go.ensures in
-    let way_is : c.ways_of-ways.result.way ≡ (half_for full.child.node full.fresh pc full.child.content).node = ways.way ∙ ap (λ (z : Parts). (way_in full.child.node full.fresh pc z).node) ps in
-    subst (λ n. n < t.nodes) (sym way_is) (ends laws t full pc tree.contents tree.live now h.rest k k3 written h.child_within h.fresh_within).within
+    let done = c.write_parts-parts in let ways = c.ways_of-ways in
+    way_within laws c.split.ensures.change c.args.words.now.terms c.args.full.now c.args.pc c.args.me.now done.new.me c.requires.held done.ensures.written done.result done.ensures.parts ways.result ways.ensures.way ways.ensures.other
 
 pub settled_split-requires-clause-held_above : goal.settled_split-requires-clause-held_above
 settled_split-requires-clause-held_above _ c =
-    let t = c.args.words.now.terms in let full = c.args.full.now in let pc = c.args.pc in let k = c.args.me.now in let hs = k.log.holdings in let h = c.requires.held in let tree = c.load_node.ensures.tree in
-    let k0 = c.parts_of-parts.new.me in let start = c.parts_of-parts.ensures.holdings ∙ ap (λ (z : CallerData). z.log.holdings) c.load_node.ensures.log in
-    let k1 = c.write_held.new.me in
-    let write1 = subst (λ (z : Parts). WritesHeld full.fresh z.right k0 k1) c.parts_of-parts.ensures.parts c.write_held.ensures.stores in let spell1 = subst (λ (z : Parts). SpellsHeld full.fresh z.right k1.log) c.parts_of-parts.ensures.parts c.write_held.ensures.spells in
-    let k2 = c.write_held-2.new.me in
-    let write2 = subst (λ (z : Parts). WritesHeld full.parent.node z.above k1 k2) c.parts_of-parts.ensures.parts c.write_held-2.ensures.stores in let spell2 = subst (λ (z : Parts). SpellsHeld full.parent.node z.above k2.log) c.parts_of-parts.ensures.parts c.write_held-2.ensures.spells in
-    let k3 = c.write_held-3.new.me in
-    let write3 = subst (λ (z : Parts). WritesHeld full.child.node z.left k2 k3) c.parts_of-parts.ensures.parts c.write_held-3.ensures.stores in let spell3 = subst (λ (z : Parts). SpellsHeld full.child.node z.left k3.log) c.parts_of-parts.ensures.parts c.write_held-3.ensures.spells in
-    let steps = steps_then k c.load_node.new.me k0 (steps_of_load full.parent.node 2 c.load_node.result k c.load_node.new.me c.load_node.ensures.log) c.parts_of-parts.ensures.same in
     let laws : SettlingLaws = record { decided = c.exchange_decided.ensures; transfer = c.transfer.ensures.lawful; reached = c.transfer.ensures.reached; widen = c.widen.ensures.lawful; wider = c.widen.ensures.reached } in
-    let written = split_written t full pc hs h tree k0 k1 start write1 spell1 k2 write2 spell2 k3 write3 spell3 c.split.ensures.change k steps in
-    let now = g t full pc hs h tree in
-    let k5 = c.let_go.new.me in let ps = c.parts_of-parts.ensures.parts in let ways = c.ways_of-ways.ensures in
-    let is5 = subst (λ n. k5 ≡ record k3 { log = after_node_release n k3.log }) (ways.other ∙ ap (other_in full.child.node full.fresh pc) ps) c.let_go.ensures in
-    let way_is : c.ways_of-ways.result.way ≡ (half_for full.child.node full.fresh pc full.child.content).node = ways.way ∙ ap (λ (z : Parts). (way_in full.child.node full.fresh pc z).node) ps in
-    may_read full.parent.node (parts_for full pc).above k5.log (may_read_both laws t full pc tree.contents tree.live now h.rest k k3 written h.child_within h.fresh_within k5 is5).1
+    let done = c.write_parts-parts in let ways = c.ways_of-ways in
+    may_read_parent laws c.split.ensures.change c.args.words.now.terms c.args.full.now c.args.pc c.args.me.now done.new.me c.requires.held done.ensures.written done.result done.ensures.parts ways.result ways.ensures.way ways.ensures.other c.let_go.new.me c.let_go.ensures
 
 pub settled_split-requires-clause-held_way : goal.settled_split-requires-clause-held_way
 settled_split-requires-clause-held_way _ c =
-    let t = c.args.words.now.terms in let full = c.args.full.now in let pc = c.args.pc in let k = c.args.me.now in let hs = k.log.holdings in let h = c.requires.held in let tree = c.load_node.ensures.tree in
-    let k0 = c.parts_of-parts.new.me in let start = c.parts_of-parts.ensures.holdings ∙ ap (λ (z : CallerData). z.log.holdings) c.load_node.ensures.log in
-    let k1 = c.write_held.new.me in
-    let write1 = subst (λ (z : Parts). WritesHeld full.fresh z.right k0 k1) c.parts_of-parts.ensures.parts c.write_held.ensures.stores in let spell1 = subst (λ (z : Parts). SpellsHeld full.fresh z.right k1.log) c.parts_of-parts.ensures.parts c.write_held.ensures.spells in
-    let k2 = c.write_held-2.new.me in
-    let write2 = subst (λ (z : Parts). WritesHeld full.parent.node z.above k1 k2) c.parts_of-parts.ensures.parts c.write_held-2.ensures.stores in let spell2 = subst (λ (z : Parts). SpellsHeld full.parent.node z.above k2.log) c.parts_of-parts.ensures.parts c.write_held-2.ensures.spells in
-    let k3 = c.write_held-3.new.me in
-    let write3 = subst (λ (z : Parts). WritesHeld full.child.node z.left k2 k3) c.parts_of-parts.ensures.parts c.write_held-3.ensures.stores in let spell3 = subst (λ (z : Parts). SpellsHeld full.child.node z.left k3.log) c.parts_of-parts.ensures.parts c.write_held-3.ensures.spells in
-    let steps = steps_then k c.load_node.new.me k0 (steps_of_load full.parent.node 2 c.load_node.result k c.load_node.new.me c.load_node.ensures.log) c.parts_of-parts.ensures.same in
     let laws : SettlingLaws = record { decided = c.exchange_decided.ensures; transfer = c.transfer.ensures.lawful; reached = c.transfer.ensures.reached; widen = c.widen.ensures.lawful; wider = c.widen.ensures.reached } in
-    let written = split_written t full pc hs h tree k0 k1 start write1 spell1 k2 write2 spell2 k3 write3 spell3 c.split.ensures.change k steps in
-    let now = g t full pc hs h tree in
-    let k5 = c.let_go.new.me in let ps = c.parts_of-parts.ensures.parts in let ways = c.ways_of-ways.ensures in
-    let is5 = subst (λ n. k5 ≡ record k3 { log = after_node_release n k3.log }) (ways.other ∙ ap (other_in full.child.node full.fresh pc) ps) c.let_go.ensures in
-    let way_is : c.ways_of-ways.result.way ≡ (half_for full.child.node full.fresh pc full.child.content).node = ways.way ∙ ap (λ (z : Parts). (way_in full.child.node full.fresh pc z).node) ps in
-    let way = half_for full.child.node full.fresh pc full.child.content in
-    subst (λ n. IsSomeAnd (held_of n k5.log.holdings.held) (λ x. IsSome (spelled x.words))) (sym way_is) (may_read way.node way.content k5.log (may_read_both laws t full pc tree.contents tree.live now h.rest k k3 written h.child_within h.fresh_within k5 is5).0)
+    let done = c.write_parts-parts in let ways = c.ways_of-ways in
+    may_read_way laws c.split.ensures.change c.args.words.now.terms c.args.full.now c.args.pc c.args.me.now done.new.me c.requires.held done.ensures.written done.result done.ensures.parts ways.result ways.ensures.way ways.ensures.other c.let_go.new.me c.let_go.ensures
 
 pub returns : goal.returns
 returns _ c =
-    let t = c.args.words.now.terms in let full = c.args.full.now in let pc = c.args.pc in let k = c.args.me.now in let hs = k.log.holdings in let h = c.requires.held in let tree = c.load_node.ensures.tree in
-    let k0 = c.parts_of-parts.new.me in let start = c.parts_of-parts.ensures.holdings ∙ ap (λ (z : CallerData). z.log.holdings) c.load_node.ensures.log in
-    let k1 = c.write_held.new.me in
-    let write1 = subst (λ (z : Parts). WritesHeld full.fresh z.right k0 k1) c.parts_of-parts.ensures.parts c.write_held.ensures.stores in let spell1 = subst (λ (z : Parts). SpellsHeld full.fresh z.right k1.log) c.parts_of-parts.ensures.parts c.write_held.ensures.spells in
-    let k2 = c.write_held-2.new.me in
-    let write2 = subst (λ (z : Parts). WritesHeld full.parent.node z.above k1 k2) c.parts_of-parts.ensures.parts c.write_held-2.ensures.stores in let spell2 = subst (λ (z : Parts). SpellsHeld full.parent.node z.above k2.log) c.parts_of-parts.ensures.parts c.write_held-2.ensures.spells in
-    let k3 = c.write_held-3.new.me in
-    let write3 = subst (λ (z : Parts). WritesHeld full.child.node z.left k2 k3) c.parts_of-parts.ensures.parts c.write_held-3.ensures.stores in let spell3 = subst (λ (z : Parts). SpellsHeld full.child.node z.left k3.log) c.parts_of-parts.ensures.parts c.write_held-3.ensures.spells in
-    let steps = steps_then k c.load_node.new.me k0 (steps_of_load full.parent.node 2 c.load_node.result k c.load_node.new.me c.load_node.ensures.log) c.parts_of-parts.ensures.same in
     let laws : SettlingLaws = record { decided = c.exchange_decided.ensures; transfer = c.transfer.ensures.lawful; reached = c.transfer.ensures.reached; widen = c.widen.ensures.lawful; wider = c.widen.ensures.reached } in
-    let written = split_written t full pc hs h tree k0 k1 start write1 spell1 k2 write2 spell2 k3 write3 spell3 c.split.ensures.change k steps in
-    let now = g t full pc hs h tree in
-    let k5 = c.let_go.new.me in let ps = c.parts_of-parts.ensures.parts in let ways = c.ways_of-ways.ensures in
-    let is5 = subst (λ n. k5 ≡ record k3 { log = after_node_release n k3.log }) (ways.other ∙ ap (other_in full.child.node full.fresh pc) ps) c.let_go.ensures in
-    let way_is : c.ways_of-ways.result.way ≡ (half_for full.child.node full.fresh pc full.child.content).node = ways.way ∙ ap (λ (z : Parts). (way_in full.child.node full.fresh pc z).node) ps in
-    let way = half_for full.child.node full.fresh pc full.child.content in let split = c.settled_split.result in let done = c.settled_split.ensures in
-    split_so laws t full pc tree.contents tree.live now h.rest k k3 written h.child_within h.fresh_within hs h tree refl refl c.requires.terms k5 c.settled_split.new.me split is5 done.parent (done.way.0 ∙ way_is, done.way.1) done.spells_parent
-    (subst (λ n. SpellsHeld n split.way.content k5.log) way_is done.spells_way) done.tells_parent (subst (λ n. HolderTells n k5.log) way_is done.tells_way) done.same done.holdings
+    let done = c.write_parts-parts in let ways = c.ways_of-ways in let last = c.settled_split in
+    split_so laws c.split.ensures.change c.args.words.now.terms c.args.full.now c.args.pc c.args.me.now done.new.me c.requires.held done.ensures.written done.result done.ensures.parts ways.result ways.ensures.way ways.ensures.other c.let_go.new.me c.let_go.ensures
+    c.requires.terms last.new.me last.result last.ensures.parent last.ensures.way last.ensures.spells_parent last.ensures.spells_way last.ensures.tells_parent last.ensures.tells_way last.ensures.same last.ensures.holdings
