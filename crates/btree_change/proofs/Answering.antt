@@ -21,7 +21,7 @@ use Rattle.btree_change.proofs.Putting.{leaf_at_zero}
 use Rattle.btree_change.specs.Stands.{AnswersBelow, AnswersHere, AreLeftAs, LetsGo, MayGo, StandsAt}
 use Rattle.btree_change.proofs.Descending.{is_inner}
 use Rattle.btree_change.proofs.Lowering.{settled_live}
-use Rattle.btree_change.proofs.Spending.{right_before, spends_before, surplus_after}
+use Rattle.btree_change.proofs.Spending.{refused_call, right_before, spends_before, surplus_after}
 use Rattle.btree_change.proofs.NextLeaves.{higher_spelled}
 
 -- what stands above a leaf is inner nodes
@@ -57,24 +57,13 @@ module _ (t : Terms) (m : Member) (at : Held) (k : CallerData) (stands : StandsA
   pub refused_here : (answer : Inserted) (k1 : CallerData) → RefusesMember t m answer k k1 → AnswersHere t m at.node (record { answer = answer; changed = at.changed }) k k1
   refused_here answer k1 r = record {
     right = r.right;
-    call = record {
-      table = r.table;
-      left = r.left;
-      terms = r.terms;
-      role = r.role;
-      loader = r.loader;
-      made = r.made;
-      lineage = r.lineage;
-      receipts = r.receipts;
-      allowance = let e = ap (λ (b : Budget). b.allowance) r.budget in let z = r.none_taken in omega (arith, e, z);
-      credit = let e = ap (λ (b : Budget). b.credit) r.budget in omega (arith, e);
-    };
+    call = refused_call (receipt.Register m answer) (taken_by answer) k k1 r.none_taken r.call;
     lock = stands.lock;
-    held = ap (λ (hs : Holdings). hs.held) r.holdings ∙ (stands.held ∙ ap (λ hs. stands.lock ∷ hs) (sym above_is));
+    held = ap (λ (hs : Holdings). hs.held) r.call.holdings ∙ (stands.held ∙ ap (λ hs. stands.lock ∷ hs) (sym above_is));
     node = stands.here.node;
     spells = subst (SpellsNode stands.lock.words) (sym stands.here.settled) stands.here.spells;
     stored = λ e. stands.here.stored ∙ e;
-    out = ap (λ (hs : Holdings). hs.out) r.holdings ∙ stands.out;
+    out = ap (λ (hs : Holdings). hs.out) r.call.holdings ∙ stands.out;
   }
 
   -- it was put there

@@ -44,7 +44,7 @@ use Rattle.btree_change.proofs.Outlining.{spells_held}
 use Rattle.btree_change.proofs.NextOverlaps.{both_free, both_leaves}
 use Rattle.btree_change.proofs.Refusing.{refused_full}
 use Rattle.btree_change.proofs.Settling.{found_first}
-use Rattle.btree_change.proofs.Spending.{right_after, right_before, spends_after, spends_before, spends_same, steps_after, surplus_after}
+use Rattle.btree_change.proofs.Spending.{refused_call, right_after, right_before, spends_after, spends_before, spends_same, steps_after, surplus_after}
 use Rattle.btree_change.proofs.Standing.{live_lock, may_go}
 use Rattle.btree_change.proofs.Stepping.{splits_on}
 use Rattle.btree_change.proofs.Storing.{found_at}
@@ -323,29 +323,15 @@ module _ (t : Terms) (m : Member) (n : Next) (k : CallerData) (at : IsAtNext t m
       let found = ap (held_of n.right.node) at.next.held ∙ found_head n.right.node at.next.right (at.next.more ++ at.next.base.held) at.node in
       spells_held n.right.node n.right.content at.next.right k.log found (subst (SpellsNode at.next.right.words) at.content at.next.fresh.0.live.spells)
 
-  refused_call : (answer : Inserted) (k1 : CallerData) → RefusesMember t m answer k k1 → SpendsCall (receipt.Register m answer ∷ []) (taken_by answer) 0 k k1
-  refused_call answer k1 r = record {
-    table = r.table;
-    left = r.left;
-    terms = r.terms;
-    role = r.role;
-    loader = r.loader;
-    made = r.made;
-    lineage = r.lineage;
-    receipts = r.receipts;
-    allowance = let e = ap (λ (b : Budget). b.allowance) r.budget in let z = r.none_taken in omega (arith, e, z);
-    credit = let e = ap (λ (b : Budget). b.credit) r.budget in omega (arith, e);
-  }
-
   pub refused_surplus : (answer : Inserted) (k1 : CallerData) → RefusesMember t m answer k k1 → 0 < surplus k → 0 < surplus k1
-  refused_surplus answer k1 r some = surplus_after (receipt.Register m answer ∷ []) (taken_by answer) 0 k k1 1 (refused_call answer k1 r) (omega (arith, some))
+  refused_surplus answer k1 r some = surplus_after (receipt.Register m answer ∷ []) (taken_by answer) 0 k k1 1 (refused_call (receipt.Register m answer) (taken_by answer) k k1 r.none_taken r.call) (omega (arith, some))
 
   pub refused_above : (answer : Inserted) (k1 k2 : CallerData) → RefusesMember t m answer k k1 → ((next : HoldsNext t n.far.beyond.node n.far.beyond.slot k1.log.holdings) → StandsAt t n.far.leaf next.base → LeavesFar next.base k1 k2) → AnswersAbove t m (record { answer = answer; moved = 0 }) (drop 1 at.next.base.held) 13 k k2
   refused_above answer k1 k2 r leaves =
-      let u = under k1 r.holdings in
+      let u = under k1 r.call.holdings in
       let gone = subst (λ b. LeavesFar b k1 k2) u.1.0 (leaves u.0 u.1.1) in record {
         right = right_before t m answer k k1 k2 gone.steps.past r.right;
-        call = spends_before 0 1 13 (receipt.Register m answer ∷ []) (taken_by answer) k k1 k2 (omega arith) (refused_call answer k1 r) gone.steps.call;
+        call = spends_before 0 1 13 (receipt.Register m answer ∷ []) (taken_by answer) k k1 k2 (omega arith) (refused_call (receipt.Register m answer) (taken_by answer) k k1 r.none_taken r.call) gone.steps.call;
         left = subst (AreLeftAs 0 (drop 1 at.next.base.held)) (sym gone.held) (subst (λ hs. AreLeftAs 0 hs hs) (sym (ap (drop 1) at.leaf.held)) (unmoved t 0 n.far.leaf.content.level at.leaf.above at.leaf.higher));
         out = gone.out;
       }

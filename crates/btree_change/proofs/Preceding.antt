@@ -56,18 +56,20 @@ above_after t m reply above most k k1 k2 steps a = record {
 
 pub refused_after : (t : Terms) (m : Member) (answer : Inserted) (k k1 k2 : CallerData) → k1.log.holdings ≡ k.log.holdings → StepsOnNodes k k1 → RefusesMember t m answer k1 k2 → RefusesMember t m answer k k2
 refused_after t m answer k k1 k2 same steps r = record {
-  table = r.table ∙ steps.table;
-  left = r.left ∙ steps.left;
-  terms = r.terms ∙ steps.terms;
-  role = r.role ∙ steps.role;
-  budget = r.budget ∙ steps.budget;
-  loader = r.loader ∙ steps.loader;
-  made = r.made ∙ steps.made;
-  lineage = r.lineage ∙ steps.lineage;
-  holdings = r.holdings ∙ same;
   right = right_after t m answer k k1 k2 steps.past r.right;
   none_taken = r.none_taken;
-  receipts = subst (λ (x : Receipts). k2.log.receipts ≡ record x { own = x.own ++ receipt.Register m answer ∷ [] }) steps.receipts r.receipts;
+  call = record {
+    table = r.call.table ∙ steps.table;
+    left = r.call.left ∙ steps.left;
+    terms = r.call.terms ∙ steps.terms;
+    role = r.call.role ∙ steps.role;
+    budget = r.call.budget ∙ steps.budget;
+    loader = r.call.loader ∙ steps.loader;
+    made = r.call.made ∙ steps.made;
+    lineage = r.call.lineage ∙ steps.lineage;
+    holdings = r.call.holdings ∙ same;
+    receipts = subst (λ (x : Receipts). k2.log.receipts ≡ record x { own = x.own ++ receipt.Register m answer ∷ [] }) steps.receipts r.call.receipts;
+  };
 }
 
 -- that there was no room stays so

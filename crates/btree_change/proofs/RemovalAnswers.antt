@@ -58,16 +58,16 @@ pub refusal_so : (t : Terms) (base : ℕ) (answer : Removed) (k k1 k2 k3 : Calle
 refusal_so t base answer k k1 k2 k3 down refuses up nothing = record {
   right = rightly_seen t base answer k1 k k2 k3 down.past (sym up.past) refuses.right;
   call = record {
-    table = up.table ∙ (refuses.table ∙ down.table);
-    left = up.left ∙ (refuses.left ∙ down.left);
-    terms = up.terms ∙ (refuses.terms ∙ down.terms);
-    role = up.role ∙ (refuses.role ∙ down.role);
-    loader = up.loader ∙ (refuses.loader ∙ down.loader);
-    made = up.made ∙ (refuses.made ∙ down.made);
-    lineage = up.lineage ∙ (refuses.lineage ∙ down.lineage);
-    receipts = up.receipts ∙ (refuses.receipts ∙ ap (λ (rs : Receipts). record rs { own = rs.own ++ receipt.Deregister base answer ∷ [] }) down.receipts);
-    allowance = (let a = up.allowance in let b = ap (λ z. z.allowance) refuses.budget in let c = down.allowance in let z = refuses.none_taken in omega (arith, a, b, c, z));
-    credit = (let a = up.credit in let b = ap (λ z. z.credit) refuses.budget in let c = down.credit in omega (arith, a, b, c));
+    table = up.table ∙ (refuses.call.table ∙ down.table);
+    left = up.left ∙ (refuses.call.left ∙ down.left);
+    terms = up.terms ∙ (refuses.call.terms ∙ down.terms);
+    role = up.role ∙ (refuses.call.role ∙ down.role);
+    loader = up.loader ∙ (refuses.call.loader ∙ down.loader);
+    made = up.made ∙ (refuses.call.made ∙ down.made);
+    lineage = up.lineage ∙ (refuses.call.lineage ∙ down.lineage);
+    receipts = up.receipts ∙ (refuses.call.receipts ∙ ap (λ (rs : Receipts). record rs { own = rs.own ++ receipt.Deregister base answer ∷ [] }) down.receipts);
+    allowance = (let a = up.allowance in let b = ap (λ z. z.allowance) refuses.call.budget in let c = down.allowance in let z = refuses.none_taken in omega (arith, a, b, c, z));
+    credit = (let a = up.credit in let b = ap (λ z. z.credit) refuses.call.budget in let c = down.credit in omega (arith, a, b, c));
     nothing = nothing;
   };
 }
@@ -97,7 +97,7 @@ read_spends k k1 k2 down steps = spends_then 26 0 26 k k1 k2 refl down (spends_n
 
 -- releases are left to let go of the way
 pub surplus_refused : (t : Terms) (base : ℕ) (answer : Removed) (k k1 k2 : CallerData) → Spends 26 k k1 → 64 ≤ surplus k → RefusesBase t base answer k1 k2 → 1 < surplus k2
-surplus_refused t base answer k k1 k2 down most refuses = let left = surplus_left 26 k k1 down most (omega arith) in let a = ap (λ z. z.credit) refuses.budget in let b : 64 * k2.left ≡ 64 * k1.left = ap (λ z. 64 * z) refuses.left in omega (arith, left, a, b)
+surplus_refused t base answer k k1 k2 down most refuses = let left = surplus_left 26 k k1 down most (omega arith) in let a = ap (λ z. z.credit) refuses.call.budget in let b : 64 * k2.left ≡ 64 * k1.left = ap (λ z. 64 * z) refuses.call.left in omega (arith, left, a, b)
 
 pub surplus_taken : (t : Terms) (base n number : ℕ) (root_changed : Bool) (m : Member) (k k1 k2 : CallerData) → Spends 26 k k1 → 64 ≤ surplus k → TakesMember t base n root_changed number m k1 k2 → 1 < surplus k2
 surplus_taken t base n number root_changed m k k1 k2 down most takes = let left = surplus_left 26 k k1 down most (omega arith) in let a = ap (λ z. z.credit) takes.budget in let b : 64 * k2.left ≡ 64 * k1.left = ap (λ z. 64 * z) takes.left in omega (arith, left, a, b)

@@ -1,5 +1,5 @@
 -- Parts of an update call, one after another: what they take of their caller.
-use Rattle.std.proofs.Common.{◌≡◌, ℕ, ◌+◌, ◌≤◌, ◌<◌, List, [], ◌++◌, length, append-nil, sym, ap, ◌∙◌, subst, arith}
+use Rattle.std.proofs.Common.{◌≡◌, ℕ, ◌+◌, ◌≤◌, ◌<◌, List, [], ◌∷◌, ◌++◌, length, append-nil, sym, ap, ◌∙◌, subst, arith}
 use mathlib.Core.List.{IsPrefix}
 use Rattle.reg_model.specs.declared.answer.Inserted.{Inserted}
 use Rattle.reg_model.specs.declared.answer.Inserted.TheVariants as inserted
@@ -14,6 +14,7 @@ use Rattle.word_rule.specs.declared.log.Terms.{Terms}
 use Rattle.btree_change.specs.Insertion.{IsRightInsertion}
 use Rattle.btree_change.specs.Paths.{StepsOnNodes}
 use Rattle.btree_change.specs.Stands.{SpendsCall, SpendsSteps}
+use Rattle.btree_change.specs.Updates.{RefusesUpdate}
 use Rattle.btree_change.proofs.Loading.{keeps_then}
 
 -- one part after another, of which the first answers nothing
@@ -47,6 +48,21 @@ spends_before a b c more taken k l m sum p q = record {
   receipts = q.receipts ∙ ((λ i. record l.log.receipts { own = append-nil l.log.receipts.own i }) ∙ p.receipts);
   allowance = q.allowance ∙ (let x = p.allowance in omega (arith, x));
   credit = let x = p.credit in let y = q.credit in omega (arith, x, y, sum);
+}
+
+-- an update was refused
+pub refused_call : (r : Receipt) (taken : ℕ) (k l : CallerData) → taken ≡ 0 → RefusesUpdate r k l → SpendsCall (r ∷ []) taken 0 k l
+refused_call r taken k l none p = record {
+  table = p.table;
+  left = p.left;
+  terms = p.terms;
+  role = p.role;
+  loader = p.loader;
+  made = p.made;
+  lineage = p.lineage;
+  receipts = p.receipts;
+  allowance = let e = ap (λ b. b.allowance) p.budget in omega (arith, e, none);
+  credit = let e = ap (λ b. b.credit) p.budget in omega (arith, e);
 }
 
 pub spends_same : (k l : CallerData) → StepsOnNodes k l → SpendsSteps 0 k l

@@ -22,7 +22,7 @@ use Rattle.word_rule.specs.Spelling.{SpellsNode}
 use Rattle.btree_change.specs.declared.descent.Held.{Held}
 use Rattle.btree_change.specs.Loads.{FoundNoRoom}
 use Rattle.btree_change.specs.Paths.{IsSettledLock}
-use Rattle.btree_change.specs.Updates.{AnswersUpdate}
+use Rattle.btree_change.specs.Updates.{AnswersUpdate, RefusesUpdate}
 
 -- the lock of an inner node that has settled
 pub record IsInnerLock (h : Holding) : Type 0 where
@@ -91,20 +91,9 @@ taken_by _ = 0
 -- A member was refused under the lock of a leaf.
 pub record RefusesMember (t : Terms) (m : Member) (answer : Inserted) (k k' : CallerData) : Type 0
   where
-    pub table : k'.table ≡ k.table
-    pub left : k'.left ≡ k.left
-    pub terms : k'.log.terms ≡ k.log.terms
-    pub role : k'.log.role ≡ k.log.role
-    pub budget : k'.log.budget ≡ k.log.budget
-    pub loader : k'.log.loader ≡ k.log.loader
-    pub made : k'.log.made ≡ k.log.made
-    pub lineage : k'.log.lineage ≡ k.log.lineage
-    pub holdings : k'.log.holdings ≡ k.log.holdings
     pub right : IsRightInsertion t m k k' answer
     pub none_taken : taken_by answer ≡ 0
-    pub receipts : k'.log.receipts ≡ record k.log.receipts {
-      own = k.log.receipts.own ++ receipt.Register m answer ∷ [];
-    }
+    pub call : RefusesUpdate (receipt.Register m answer) k k'
 
 -- An insertion that was begun was answered, as the state is after all that is seen then. Full has
 -- its cause among the loads of the call.

@@ -8,6 +8,7 @@ use Rattle.word_rule.specs.CallerData.{CallerData}
 use Rattle.word_rule.specs.declared.log.Terms.{Terms}
 use Rattle.btree_change.specs.Removal.{AnswersRightly, taken_by_removal}
 use Rattle.btree_change.specs.Removing.{HoldsLocks}
+use Rattle.btree_change.specs.Updates.{RefusesUpdate}
 
 -- A member was taken out of a held leaf and committed, with this number: it is the registered one
 -- that began at the base.
@@ -29,17 +30,6 @@ pub record TakesMember (t : Terms) (base : ℕ) (n : ℕ) (root_changed : Bool) 
 
 -- A removal was refused under the lock of a leaf.
 pub record RefusesBase (t : Terms) (base : ℕ) (answer : Removed) (k k' : CallerData) : Type 0 where
-  pub table : k'.table ≡ k.table
-  pub left : k'.left ≡ k.left
-  pub terms : k'.log.terms ≡ k.log.terms
-  pub role : k'.log.role ≡ k.log.role
-  pub budget : k'.log.budget ≡ k.log.budget
-  pub loader : k'.log.loader ≡ k.log.loader
-  pub made : k'.log.made ≡ k.log.made
-  pub lineage : k'.log.lineage ≡ k.log.lineage
-  pub holdings : k'.log.holdings ≡ k.log.holdings
   pub right : AnswersRightly t base k k' answer
   pub none_taken : taken_by_removal answer ≡ 0
-  pub receipts : k'.log.receipts ≡ record k.log.receipts {
-    own = k.log.receipts.own ++ receipt.Deregister base answer ∷ [];
-  }
+  pub call : RefusesUpdate (receipt.Deregister base answer) k k'

@@ -25,6 +25,22 @@ pub record AnswersUpdate (r : Receipt) (taken : ℕ) (k k' : CallerData) : Type 
   pub credit : k.log.budget.credit ≤ k'.log.budget.credit + CALL_CREDIT
   pub nothing : HoldsNothing k'.log.holdings
 
+-- An update was refused under the lock of a leaf, with this receipt. Nothing else of its caller
+-- changed but what it has seen and loaded.
+pub record RefusesUpdate (r : Receipt) (k k' : CallerData) : Type 0 where
+  pub table : k'.table ≡ k.table
+  pub left : k'.left ≡ k.left
+  pub terms : k'.log.terms ≡ k.log.terms
+  pub role : k'.log.role ≡ k.log.role
+  pub budget : k'.log.budget ≡ k.log.budget
+  pub loader : k'.log.loader ≡ k.log.loader
+  pub made : k'.log.made ≡ k.log.made
+  pub lineage : k'.log.lineage ≡ k.log.lineage
+  pub holdings : k'.log.holdings ≡ k.log.holdings
+  pub receipts : k'.log.receipts ≡ record k.log.receipts {
+    own = k.log.receipts.own ++ r ∷ [];
+  }
+
 -- This lock was found taken, and the update gave up: the call is still begun, and no receipt was
 -- taken. Nodes that were split or joined on the way stay so, which changes no entry.
 pub record GivesUp (id : LockId) (k k' : CallerData) : Type 0 where

@@ -8,7 +8,7 @@ use Rattle.btree_change.proofs.NoRoom.{cause_still, if_full}
 use Rattle.btree_change.proofs.beyond.at_next.Goals as goal
 
 pub let_go_far-requires-clause-next : goal.let_go_far-requires-clause-next
-let_go_far-requires-clause-next g c = still_next c.args.words.now.terms c.args.member.now c.args.next.now c.args.me.now c.requires.at c.refused_far.new.me c.in-Some.ensures.refused.holdings
+let_go_far-requires-clause-next g c = still_next c.args.words.now.terms c.args.member.now c.args.next.now c.args.me.now c.requires.at c.refused_far.new.me c.in-Some.ensures.refused.call.holdings
 
 pub refused_far-requires-clause-inside : goal.refused_far-requires-clause-inside
 refused_far-requires-clause-inside g c = next_within c.args.words.now.terms c.args.member.now c.args.next.now c.args.me.now c.requires.at
@@ -45,7 +45,7 @@ returns-in-None-clause-answer g c at =
 
 pub returns-in-Some-clause-full : goal.returns-in-Some-clause-full
 returns-in-Some-clause-full g c =
-    let under = still_next c.args.words.now.terms c.args.member.now c.args.next.now c.args.me.now c.requires.at c.refused_far.new.me c.in-Some.ensures.refused.holdings in
+    let under = still_next c.args.words.now.terms c.args.member.now c.args.next.now c.args.me.now c.requires.at c.refused_far.new.me c.in-Some.ensures.refused.call.holdings in
     if_full c.in-Some.answer (λ h. cause_still c.args.next.now.far.room c.args.member.now.span.first c.args.me.now c.refused_far.new.me c.let_go_far.new.me h (c.let_go_far.ensures under.0 under.1).steps.loads) c.in-Some.ensures.full
 
 pub returns-in-None-clause-full : goal.returns-in-None-clause-full
