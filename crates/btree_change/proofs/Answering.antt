@@ -108,7 +108,7 @@ module _ (t : Terms) (m : Member) (at : Held) (k : CallerData) (stands : StandsA
     pub here_answered : (k2 : CallerData) → LetsGo k1 k2 → AnswersBelow t m (record { answer = outcome.answer; moved = 0 }) 13 k k2
     here_answered k2 gone = record {
       right = right_before t m outcome.answer k k1 k2 gone.steps.past here.right;
-      call = spends_before 0 1 13 (receipt.Register m outcome.answer ∷ []) (taken_by outcome.answer) k k1 k2 (omega arith) here.call gone.steps.call;
+      call = spends_before 0 1 13 (receipt.Register m outcome.answer ∷ []) (taken_by outcome.answer) k k1 k2 (omega arith) here.call gone.steps;
       above = subst (λ hs. AreLeftAs 0 hs k2.log.holdings.held) (sym above_is) (subst (AreLeftAs 0 stands.above) (sym (gone.held ∙ (ap (drop 1) here.held ∙ above_is))) (unmoved t 0 at.content.level stands.above stands.higher));
       out = gone.out ∙ here.out;
     }

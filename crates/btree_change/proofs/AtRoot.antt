@@ -1,5 +1,5 @@
 -- An insertion at the root, and below a lifted one.
-use Rattle.std.proofs.Common.{◌≡◌, ℕ, ◌+◌, ◌<◌, ◌≤◌, ◌⊎◌, inl, inr, List, [], ◌∷◌, drop, append-nil, sym, refl, ap, ◌∙◌, subst, arith, true, true≢false, Some, None, is_some, Result, Ok, Err, IfOk, IfErr, eq-eqb, cond}
+use Rattle.std.proofs.Common.{◌≡◌, ℕ, ◌+◌, ◌<◌, ◌≤◌, ◌⊎◌, inl, inr, List, [], ◌∷◌, drop, sym, refl, ap, ◌∙◌, subst, arith, true, true≢false, Some, None, is_some, Result, Ok, Err, IfOk, IfErr, eq-eqb, cond}
 use Rattle.reg_model.specs.SpanData.{IsSpan}
 use Rattle.reg_model.specs.declared.answer.Inserted.{Inserted}
 use Rattle.reg_model.specs.declared.answer.Receipt.TheVariants as receipt
@@ -26,15 +26,15 @@ use Rattle.reg_model.specs.declared.answer.Inserted.TheVariants as inserted
 use Rattle.btree_change.specs.Insertion.{AnswersInsertion, IfFull, Inserts, call_begun, taken_by}
 use Rattle.btree_change.specs.Loads.{FoundNoRoom, FoundTaken}
 use Rattle.btree_change.specs.Paths.{AreHigher, HoldsNothing, StepsOnNodes}
+use Rattle.btree_change.specs.Releases.{Spends}
 use Rattle.btree_change.specs.Roots.{EndsInsertion, GivesUpWhole}
 use Rattle.btree_change.specs.Splits.{HoldsFullAlone, HoldsFullRoot, KeepsHeld, LiftsRoot, TakesTwo, with_release_less}
-use Rattle.btree_change.specs.Stands.{AnswersBelow, AreLeftAs, GivesUpBelow, HasWayOn, HoldsPair, HoldsRoot, LetsGo, MayGo, Reaches, SpendsSteps, StandsOnWay, StandsAt}
+use Rattle.btree_change.specs.Stands.{AnswersBelow, AreLeftAs, GivesUpBelow, HasWayOn, HoldsPair, HoldsRoot, LetsGo, MayGo, Reaches, StandsOnWay, StandsAt}
 use Rattle.btree_change.specs.Updates.{GivesUp}
-use Rattle.btree_change.proofs.Descending.{steps_none}
 use Rattle.btree_change.proofs.Loading.{found_after}
 use Rattle.btree_change.proofs.Lowering.{settled_live}
 use Rattle.btree_change.proofs.NoRoom.{if_full, no_room_after}
-use Rattle.btree_change.proofs.Spending.{right_after, right_before, spends_after, spends_before, spends_same, steps_after, surplus_after}
+use Rattle.btree_change.proofs.Spending.{answers_so, more_spent, right_after, right_before, spends_after, spends_all, spends_before, spends_one, spends_same, steps_after, surplus_after, surplus_steps}
 
 -- the root alone is where an insertion stands
 pub root_stands : (t : Terms) (root : Held) (holdings : Holdings) → HoldsRoot t root holdings → StandsAt t root holdings
@@ -93,24 +93,13 @@ none_left moved (b ∷ held) all = absurd all
 pub alone_ends : (t : Terms) (m : Member) (reply : Reply) (most : ℕ) (k k' : CallerData) → drop 1 k.log.holdings.held ≡ [] → most ≤ 37 → AnswersBelow t m reply most k k' → EndsInsertion t m reply.answer 37 k k'
 alone_ends t m reply most k k' alone few a = record {
   right = a.right;
-  call = record {
-    table = a.call.table;
-    left = a.call.left;
-    terms = a.call.terms;
-    role = a.call.role;
-    loader = a.call.loader;
-    made = a.call.made;
-    lineage = a.call.lineage;
-    receipts = a.call.receipts;
-    allowance = a.call.allowance;
-    credit = let c = a.call.credit in omega (arith, c, few);
-  };
+  call = spends_before most 0 37 (receipt.Register m reply.answer ∷ []) (taken_by reply.answer) k k' k' (omega (arith, few)) a.call (spends_all 0 k');
   nothing = (none_left reply.moved k'.log.holdings.held (subst (λ hs. AreLeftAs reply.moved hs k'.log.holdings.held) alone a.above), a.out);
 }
 
 pub alone_gives_up : (most : ℕ) (k k' : CallerData) → drop 1 k.log.holdings.held ≡ [] → most ≤ 37 → GivesUpBelow most k k' → GivesUpWhole 37 k k'
 alone_gives_up most k k' alone few g = record {
-  steps = steps_after most 0 37 k k' k' (omega (arith, few)) g.steps (spends_same k' k' (steps_none k'));
+  steps = more_spent most 37 k k' (omega (arith, few)) g.steps;
   nothing = (g.held ∙ alone, g.out);
 }
 
@@ -150,27 +139,12 @@ module _ (t : Terms) (m : Member) (full : FullRoot) (k : CallerData) (held : Hol
   pub lifted_level : split.way.content.level ≤ 12
   lifted_level = let a = lifts.lower_level in let l = ap (λ (h : Held). h.content.level) lifts.parent in let t' = held.height in omega (arith, a, l, t')
 
-  pub lifted_steps : SpendsSteps 1 k k1
-  lifted_steps = let s = lifts.same in record {
-    call = record {
-      table = s.table;
-      left = s.left;
-      terms = s.terms;
-      role = s.role;
-      loader = s.loader;
-      made = s.made;
-      lineage = s.lineage;
-      receipts = s.receipts ∙ (λ i. record k.log.receipts { own = sym (append-nil k.log.receipts.own) i });
-      allowance = ap (λ b. b.allowance) s.budget ∙ omega arith;
-      credit = let e = ap (λ b. b.credit) s.budget in omega (arith, e);
-    };
-    past = s.past;
-    loads = s.loads;
-  }
+  pub lifted_steps : Spends 1 k k1
+  lifted_steps = spends_one k k1 lifts.same
 
   -- the insertion stands below it
   module _ (k2 : CallerData) (same : StepsOnNodes k1 k2) (holdings : k2.log.holdings ≡ k1.log.holdings) where
-    pub lifted_two : SpendsSteps 1 k k2
+    pub lifted_two : Spends 1 k k2
     lifted_two = steps_after 1 0 1 k k1 k2 (omega arith) lifted_steps (spends_same k1 k2 same)
 
     above_is : drop 1 k2.log.holdings.held ≡ lifts.upper ∷ []
@@ -199,13 +173,13 @@ module _ (t : Terms) (m : Member) (full : FullRoot) (k : CallerData) (held : Hol
       lifted_may_go = record { lock = one_left.lock; above = []; held = one_left.is; is_node = one_left.node; stored = λ e. absurd (true≢false e); settled = (one_left.spells, tt); apart = (tt, tt) }
 
       pub lifted_surplus : 39 ≤ surplus k → 0 < surplus k3
-      lifted_surplus enough = surplus_after (receipt.Register m reply.answer ∷ []) (taken_by reply.answer) 38 k k3 1 (spends_after 1 most 38 (receipt.Register m reply.answer ∷ []) (taken_by reply.answer) k k2 k3 (omega (arith, few)) lifted_two.call a.call) (omega (arith, enough))
+      lifted_surplus enough = surplus_after (receipt.Register m reply.answer ∷ []) (taken_by reply.answer) 38 k k3 1 (spends_after 1 most 38 (receipt.Register m reply.answer ∷ []) (taken_by reply.answer) k k2 k3 (omega (arith, few)) lifted_two a.call) (omega (arith, enough))
 
       pub lifted_ends : (k4 : CallerData) → LetsGo k3 k4 → EndsInsertion t m reply.answer 39 k k4
       lifted_ends k4 goes = record {
         right = right_after t m reply.answer k k2 k4 lifted_two.past (right_before t m reply.answer k2 k3 k4 goes.steps.past a.right);
-        call = spends_after 1 38 39 (receipt.Register m reply.answer ∷ []) (taken_by reply.answer) k k2 k4 (omega arith) lifted_two.call
-            (spends_before most 1 38 (receipt.Register m reply.answer ∷ []) (taken_by reply.answer) k2 k3 k4 (omega (arith, few)) a.call goes.steps.call);
+        call = spends_after 1 38 39 (receipt.Register m reply.answer ∷ []) (taken_by reply.answer) k k2 k4 (omega arith) lifted_two
+            (spends_before most 1 38 (receipt.Register m reply.answer ∷ []) (taken_by reply.answer) k2 k3 k4 (omega (arith, few)) a.call goes.steps);
         nothing = (goes.held ∙ ap (drop 1) one_left.is, goes.out ∙ a.out);
       }
 
@@ -217,7 +191,7 @@ module _ (t : Terms) (m : Member) (full : FullRoot) (k : CallerData) (held : Hol
       gave_may_go = record { lock = lifts.upper; above = []; held = left_is; is_node = lifts.parent_held.node ∙ parent_node; stored = λ e. absurd (true≢false e); settled = (subst (SpellsNode lifts.upper.words) (sym lifts.parent_held.settled) lifts.parent_held.spells, tt); apart = (tt, tt) }
 
       pub gave_surplus : 39 ≤ surplus k → 0 < surplus k3
-      gave_surplus enough = surplus_after [] 0 38 k k3 1 (steps_after 1 most 38 k k2 k3 (omega (arith, few)) lifted_two g.steps).call (omega (arith, enough))
+      gave_surplus enough = surplus_steps 38 k k3 1 (steps_after 1 most 38 k k2 k3 (omega (arith, few)) lifted_two g.steps) (omega (arith, enough))
 
       pub lifted_gives_up : (k4 : CallerData) → LetsGo k3 k4 → GivesUpWhole 39 k k4
       lifted_gives_up k4 goes = record {
@@ -247,37 +221,22 @@ full_root t root m two k k1 terms h span full less takes = record {
 }
 
 -- what the search for nodes takes
-pub kept_steps : (k k1 : CallerData) → KeepsHeld k k1 → SpendsSteps 1 k k1
+pub kept_steps : (k k1 : CallerData) → KeepsHeld k k1 → Spends 1 k k1
 kept_steps k k1 kept = go kept.same
   where
-    go : StepsOnNodes k k1 ⊎ StepsOnNodes (with_release_less k) k1 → SpendsSteps 1 k k1
-    go (inl s) = steps_after 0 0 1 k k1 k1 (omega arith) (spends_same k k1 s) (spends_same k1 k1 (steps_none k1))
-    go (inr s) = record {
-      call = record {
-        table = s.table;
-        left = s.left;
-        terms = s.terms;
-        role = s.role;
-        loader = s.loader;
-        made = s.made;
-        lineage = s.lineage;
-        receipts = s.receipts ∙ (λ i. record k.log.receipts { own = sym (append-nil k.log.receipts.own) i });
-        allowance = ap (λ b. b.allowance) s.budget ∙ omega arith;
-        credit = let e = ap (λ b. b.credit) s.budget in omega (arith, e);
-      };
-      past = s.past;
-      loads = s.loads;
-    }
+    go : StepsOnNodes k k1 ⊎ StepsOnNodes (with_release_less k) k1 → Spends 1 k k1
+    go (inl s) = more_spent 0 1 k k1 (omega arith) (spends_same k k1 s)
+    go (inr s) = spends_one k k1 s
 
 -- one part after another, to the end
-pub ends_after : (t : Terms) (m : Member) (answer : Inserted) (a b c : ℕ) (k l n : CallerData) → a + b ≤ c → SpendsSteps a k l → EndsInsertion t m answer b l n → EndsInsertion t m answer c k n
+pub ends_after : (t : Terms) (m : Member) (answer : Inserted) (a b c : ℕ) (k l n : CallerData) → a + b ≤ c → Spends a k l → EndsInsertion t m answer b l n → EndsInsertion t m answer c k n
 ends_after t m answer a b c k l n sum s e = record {
   right = right_after t m answer k l n s.past e.right;
-  call = spends_after a b c (receipt.Register m answer ∷ []) (taken_by answer) k l n sum s.call e.call;
+  call = spends_after a b c (receipt.Register m answer ∷ []) (taken_by answer) k l n sum s e.call;
   nothing = e.nothing;
 }
 
-pub gives_up_after : (a b c : ℕ) (k l n : CallerData) → a + b ≤ c → SpendsSteps a k l → GivesUpWhole b l n → GivesUpWhole c k n
+pub gives_up_after : (a b c : ℕ) (k l n : CallerData) → a + b ≤ c → Spends a k l → GivesUpWhole b l n → GivesUpWhole c k n
 gives_up_after a b c k l n sum s g = record { steps = steps_after a b c k l n sum s g.steps; nothing = g.nothing }
 
 pub update_answered : (t : Terms) (m : Member) (answer : Inserted) (k l n : CallerData) → StepsOnNodes k l → EndsInsertion t m answer 64 l n → IfFull answer (FoundNoRoom m.span.first l n) → AnswersInsertion t m answer k n
@@ -285,35 +244,23 @@ update_answered t m answer k l n same e full =
     let all = ends_after t m answer 0 64 64 k l n (omega arith) (spends_same k l same) e in record {
       right = all.right;
       cause = if_full answer (no_room_after m.span.first k l n (ap (λ r. r.own) same.receipts) same.loads) full;
-      call = record {
-        table = all.call.table;
-        left = all.call.left;
-        terms = all.call.terms;
-        role = all.call.role;
-        loader = all.call.loader;
-        made = all.call.made;
-        lineage = all.call.lineage;
-        receipts = all.call.receipts;
-        allowance = all.call.allowance;
-        credit = all.call.credit;
-        nothing = all.nothing;
-      };
+      call = answers_so (receipt.Register m answer) (taken_by answer) 64 k n (omega arith) all.call all.nothing;
     }
 
 gives_so : (id : LockId) (most : ℕ) (k n : CallerData) → most ≤ 64 → FoundTaken id k n → GivesUpWhole most k n → GivesUp id k n
 gives_so id most k n few cause g = record {
   cause = cause;
-  table = g.steps.call.table;
-  left = g.steps.call.left;
-  terms = g.steps.call.terms;
-  role = g.steps.call.role;
+  table = g.steps.table;
+  left = g.steps.left;
+  terms = g.steps.terms;
+  role = g.steps.role;
   past = g.steps.past;
-  receipts = g.steps.call.receipts ∙ (λ i. record k.log.receipts { own = append-nil k.log.receipts.own i });
-  loader = g.steps.call.loader;
-  made = g.steps.call.made;
-  lineage = g.steps.call.lineage;
-  allowance = g.steps.call.allowance ∙ omega arith;
-  credit = let c = g.steps.call.credit in omega (arith, c, few);
+  receipts = g.steps.receipts;
+  loader = g.steps.loader;
+  made = g.steps.made;
+  lineage = g.steps.lineage;
+  allowance = g.steps.allowance;
+  credit = let c = g.steps.credit in omega (arith, c, few);
   nothing = g.nothing;
 }
 

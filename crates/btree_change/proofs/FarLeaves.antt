@@ -1,5 +1,5 @@
 -- An insertion whose span ends in the next leaf.
-use Rattle.std.proofs.Common.{◌≡◌, ◌≢◌, ℕ, ◌%◌, ◌<◌, ◌≤◌, List, [], ◌∷◌, ◌++◌, length, drop, append_assoc, append-nil, sym, refl, ap, ◌∙◌, subst, arith, Bool, true, false, true≢false, ◌||◌, nat_le, Some, IsSome, IsSomeAnd}
+use Rattle.std.proofs.Common.{◌≡◌, ◌≢◌, ℕ, ◌%◌, ◌<◌, ◌≤◌, List, [], ◌∷◌, ◌++◌, length, drop, append_assoc, sym, refl, ap, ◌∙◌, subst, arith, Bool, true, false, true≢false, ◌||◌, nat_le, Some, IsSome, IsSomeAnd}
 use Rattle.std.proofs.lemmas.Option.{same_Some}
 use Rattle.std.proofs.lemmas.Bool.{le-leb}
 use Rattle.std.specs.List.{AllByRecursion}
@@ -34,8 +34,9 @@ use Rattle.btree_change.specs.Far.{AnswersAbove, IsAtNext, IsReadyFar, LeavesFar
 use Rattle.btree_change.specs.Insertion.{HoldsLeaf, IsInnerLock, PutsMember, RefusesMember, taken_by}
 use Rattle.btree_change.specs.Paths.{AreHigher, IsSettledLock, StepsOnNodes}
 use Rattle.btree_change.specs.Loads.{KeepsLoads}
+use Rattle.btree_change.specs.Releases.{Spends}
 use Rattle.btree_change.specs.Spines.{AreApart, AreMovedLocks, HoldsLeafPair, HoldsNext, HoldsWay, MovesFence}
-use Rattle.btree_change.specs.Stands.{AnswersBelow, AreLeftAs, GivesUpBelow, HasWayOn, LiesBeyond, LetsGo, MayGo, SpendsCall, SpendsSteps, StandsAt}
+use Rattle.btree_change.specs.Stands.{AnswersBelow, AreLeftAs, GivesUpBelow, HasWayOn, LiesBeyond, LetsGo, MayGo, SpendsCall, StandsAt}
 use Rattle.btree_change.proofs.Answering.{inner_above, leaf_room, unmoved}
 use Rattle.btree_change.proofs.Descending.{steps_of_read}
 use Rattle.btree_change.proofs.Going.{apart_left, far_left, way_lowered}
@@ -44,7 +45,7 @@ use Rattle.btree_change.proofs.Outlining.{spells_held}
 use Rattle.btree_change.proofs.NextOverlaps.{both_free, both_leaves}
 use Rattle.btree_change.proofs.Refusing.{refused_full}
 use Rattle.btree_change.proofs.Settling.{found_first}
-use Rattle.btree_change.proofs.Spending.{refused_call, right_after, right_before, spends_after, spends_before, spends_same, steps_after, surplus_after}
+use Rattle.btree_change.proofs.Spending.{refused_call, right_after, right_before, spends_after, spends_before, spends_same, steps_after, surplus_after, surplus_steps}
 use Rattle.btree_change.proofs.Standing.{live_lock, may_go}
 use Rattle.btree_change.proofs.Stepping.{splits_on}
 use Rattle.btree_change.proofs.Storing.{found_at}
@@ -69,7 +70,7 @@ module _ (t : Terms) (leaf : Held) (base : Holdings) (stands : StandsAt t leaf b
   far_may_go = subst (MayGo leaf.node leaf.changed) (sym is) (may_go t leaf base stands)
 
   pub far_surplus : 0 < surplus k → 0 < surplus k1
-  far_surplus some = surplus_after [] 0 0 k k1 1 (spends_same k k1 same).call (omega (arith, some))
+  far_surplus some = surplus_steps 0 k k1 1 (spends_same k k1 same) (omega (arith, some))
 
   pub left_far : (k2 : CallerData) → LetsGo k1 k2 → LeavesFar base k k2
   left_far k2 goes = record {
@@ -226,32 +227,30 @@ module _ (t : Terms) (m : Member) (far : Far) (k : CallerData) (ready : IsReadyF
       pub shape_free : IsFree m.span (entries_of shape)
       shape_free = subst (IsFree m.span) (sym entries_are) ready.free
 
-      spent : SpendsSteps 12 k k2
+      spent : Spends 12 k k2
       spent = steps_after 12 0 12 k k1 k2 (omega arith) (record {
-        call = record {
-          table = moves.table;
-          left = moves.left;
-          terms = moves.terms;
-          role = moves.role;
-          loader = moves.loader;
-          made = moves.made;
-          lineage = moves.lineage;
-          receipts = moves.receipts ∙ (λ i. record k.log.receipts { own = sym (append-nil k.log.receipts.own) i });
-          allowance = moves.allowance ∙ omega arith;
-          credit = moves.credit;
-        };
+        table = moves.table;
+        left = moves.left;
+        terms = moves.terms;
+        role = moves.role;
         past = moves.past;
+        receipts = moves.receipts;
+        loader = moves.loader;
+        made = moves.made;
+        lineage = moves.lineage;
+        allowance = moves.allowance;
+        credit = moves.credit;
         loads = told;
       }) (spends_same k1 k2 (steps_of_read far.leaf.node k1 k2 shape reads))
 
       pub still_due : 0 < due k → 0 < due k2
-      still_due some = let a = spent.call.allowance in let l = spent.call.left in omega (arith, a, l, some)
+      still_due some = let a = spent.allowance in let l = spent.left in omega (arith, a, l, some)
 
       pub terms2 : k.log.terms ≡ t → k2.log.terms ≡ t
-      terms2 e = spent.call.terms ∙ e
+      terms2 e = spent.terms ∙ e
 
       pub table2 : k2.table ≡ k.table
-      table2 = spent.call.table
+      table2 = spent.table
 
       module _ (number : ℕ) (k3 : CallerData) (puts : PutsMember m far.leaf.node number k2 k3) where
         rest_is : drop 1 k2.log.holdings.held ≡ above1
@@ -290,14 +289,14 @@ module _ (t : Terms) (m : Member) (far : Far) (k : CallerData) (ready : IsReadyF
         }
 
         pub put_surplus : 13 ≤ surplus k → 0 < surplus k3
-        put_surplus enough = surplus_after (receipt.Register m (inserted.Done number) ∷ []) 1 12 k k3 1 (spends_after 12 0 12 (receipt.Register m (inserted.Done number) ∷ []) 1 k k2 k3 (omega arith) spent.call put_call) (omega (arith, enough))
+        put_surplus enough = surplus_after (receipt.Register m (inserted.Done number) ∷ []) 1 12 k k3 1 (spends_after 12 0 12 (receipt.Register m (inserted.Done number) ∷ []) 1 k k2 k3 (omega arith) spent put_call) (omega (arith, enough))
 
         pub put_answers : (k4 : CallerData) → LetsGo k3 k4 → AnswersAbove t m (record { answer = inserted.Done number; moved = far.beyond.level }) (drop 1 ready.next.base.held) 13 k k4
         put_answers k4 goes = record {
           right = right_after t m (inserted.Done number) k k2 k4 spent.past
               (right_before t m (inserted.Done number) k2 k3 k4 goes.steps.past (puts.before, (puts.begins, puts.past, puts.number_is)));
-          call = spends_after 12 1 13 (receipt.Register m (inserted.Done number) ∷ []) 1 k k2 k4 (omega arith) spent.call
-              (spends_before 0 1 1 (receipt.Register m (inserted.Done number) ∷ []) 1 k2 k3 k4 (omega arith) put_call goes.steps.call);
+          call = spends_after 12 1 13 (receipt.Register m (inserted.Done number) ∷ []) 1 k k2 k4 (omega arith) spent
+              (spends_before 0 1 1 (receipt.Register m (inserted.Done number) ∷ []) 1 k2 k3 k4 (omega arith) put_call goes.steps);
           left = subst (λ hs. AreLeftAs far.beyond.level hs k4.log.holdings.held) (sym (ap (drop 1) way.held))
               (subst (AreLeftAs far.beyond.level (way.spine ++ way.top ∷ way.rest)) (sym (goes.held ∙ (ap (drop 1) puts.held ∙ rest_is))) left_as);
           out = goes.out ∙ puts.out;
@@ -331,7 +330,7 @@ module _ (t : Terms) (m : Member) (n : Next) (k : CallerData) (at : IsAtNext t m
       let u = under k1 r.call.holdings in
       let gone = subst (λ b. LeavesFar b k1 k2) u.1.0 (leaves u.0 u.1.1) in record {
         right = right_before t m answer k k1 k2 gone.steps.past r.right;
-        call = spends_before 0 1 13 (receipt.Register m answer ∷ []) (taken_by answer) k k1 k2 (omega arith) (refused_call (receipt.Register m answer) (taken_by answer) k k1 r.none_taken r.call) gone.steps.call;
+        call = spends_before 0 1 13 (receipt.Register m answer ∷ []) (taken_by answer) k k1 k2 (omega arith) (refused_call (receipt.Register m answer) (taken_by answer) k k1 r.none_taken r.call) gone.steps;
         left = subst (AreLeftAs 0 (drop 1 at.next.base.held)) (sym gone.held) (subst (λ hs. AreLeftAs 0 hs hs) (sym (ap (drop 1) at.leaf.held)) (unmoved t 0 n.far.leaf.content.level at.leaf.above at.leaf.higher));
         out = gone.out;
       }
@@ -399,7 +398,7 @@ module _ (t : Terms) (m : Member) (far : Far) (k : CallerData) (stands : StandsF
     pub answers_far : (reply : Reply) (k2 : CallerData) → AnswersAbove t m reply (drop 1 next.base.held) 13 k1 k2 → AnswersBelow t m reply 13 k k2
     answers_far reply k2 a = record {
       right = right_after t m reply.answer k k1 k2 same.past a.right;
-      call = spends_after 0 13 13 (receipt.Register m reply.answer ∷ []) (taken_by reply.answer) k k1 k2 (omega arith) (spends_same k k1 same).call a.call;
+      call = spends_after 0 13 13 (receipt.Register m reply.answer ∷ []) (taken_by reply.answer) k k1 k2 (omega arith) (spends_same k k1 same) a.call;
       above = subst (λ (hs : Holdings). AreLeftAs reply.moved (drop 1 hs.held) k2.log.holdings.held) is a.left;
       out = a.out;
     }

@@ -15,7 +15,7 @@ use Rattle.word_rule.specs.declared.log.LoadEvent.{LoadEvent}
 use Rattle.word_rule.specs.declared.log.Log.{Log}
 use Rattle.node_store.specs.Free.{GivesFree, after_linking, after_setting, held_word}
 use Rattle.word_rule.proofs.Exchanges.{spelled_decides}
-use Rattle.btree_change.specs.Removing.{Spends}
+use Rattle.btree_change.specs.Releases.{Spends}
 use Rattle.btree_change.specs.Siblings.{ReturnsNode, IsGoneOrSettled}
 use Rattle.btree_change.proofs.LeafCommits.{all_nothing}
 use Rattle.node_store.proofs.Settled.{ExchangeLaw}

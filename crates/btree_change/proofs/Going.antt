@@ -21,8 +21,9 @@ use Rattle.btree_change.specs.declared.stand.Step.{Step}
 use Rattle.btree_change.specs.Insertion.{IfFull, taken_by}
 use Rattle.btree_change.specs.Paths.{StepsOnNodes}
 use Rattle.btree_change.specs.Loads.{KeepsLoads}
+use Rattle.btree_change.specs.Releases.{Spends}
 use Rattle.btree_change.specs.Spines.{AreApart, Climbs}
-use Rattle.btree_change.specs.Stands.{AnswersBelow, AreLeftAs, GivesUpBelow, GoesBelow, HasCause, HasSplit, HasWayOn, HoldsPair, HoldsStep, IfNoneFree, LiesBeyond, IsLeftAs, LetsGo, MayGo, Reaches, SpendsSteps, StandsOnWay}
+use Rattle.btree_change.specs.Stands.{AnswersBelow, AreLeftAs, GivesUpBelow, GoesBelow, HasCause, HasSplit, HasWayOn, HoldsPair, HoldsStep, IfNoneFree, LiesBeyond, IsLeftAs, LetsGo, MayGo, Reaches, StandsOnWay}
 use Rattle.btree_change.proofs.NoRoom.{cause_after, cause_below, cause_still, if_full}
 use Rattle.btree_change.proofs.Spending.{own_same, right_after, right_before, spends_after, spends_before, spends_same, steps_after}
 use Rattle.btree_change.proofs.Standing.{may_go, way_kept}
@@ -103,7 +104,7 @@ module _ (t : Terms) (m : Member) (stand : Stand) (k : CallerData) (stands : Sta
           (subst (λ n. AllByRecursion (λ (a : Holding). a.node ≢ n) (drop 1 k.log.holdings.held)) (stands.at.here.node ∙ sym pair.parent_is.node) all.0, all.1);
     }
 
-    pub split_gave_up : (k2 n : CallerData) → k2.log.holdings.held ≡ drop 1 k1.log.holdings.held → k2.log.holdings.out ≡ [] → SpendsSteps 1 k1 k2 → LetsGo k2 n → GivesUpBelow 2 k n
+    pub split_gave_up : (k2 n : CallerData) → k2.log.holdings.held ≡ drop 1 k1.log.holdings.held → k2.log.holdings.out ≡ [] → Spends 1 k1 k2 → LetsGo k2 n → GivesUpBelow 2 k n
     split_gave_up k2 n held out spent goes = record {
       steps = steps_after 1 1 2 k k2 n (omega arith) (steps_after 0 1 1 k k1 k2 (omega arith) (spends_same k k1 steps) spent) goes.steps;
       held = goes.held ∙ ap (drop 1) (split_busy k2 held);
@@ -141,7 +142,7 @@ module _ (t : Terms) (m : Member) (stand : Stand) (k : CallerData) (stands : Sta
     apart = may.apart;
   }
 
-  pub gave_up : (a : ℕ) (l n : CallerData) → a ≤ 1 → SpendsSteps a k l → drop 1 l.log.holdings.held ≡ drop 1 k.log.holdings.held → l.log.holdings.out ≡ [] → LetsGo l n → GivesUpBelow 2 k n
+  pub gave_up : (a : ℕ) (l n : CallerData) → a ≤ 1 → Spends a k l → drop 1 l.log.holdings.held ≡ drop 1 k.log.holdings.held → l.log.holdings.out ≡ [] → LetsGo l n → GivesUpBelow 2 k n
   gave_up a l n few spent held out goes = record {
     steps = steps_after a 1 2 k l n (omega (arith, few)) spent goes.steps;
     held = goes.held ∙ held;
@@ -206,8 +207,8 @@ module _ (t : Terms) (m : Member) (stand : Stand) (passage : Passage) (k k1 : Ca
     answered_so k3 gone most' sum = record {
       right = right_after t m reply.answer k k1 k3 goes.steps.past
           (right_before t m reply.answer k1 k2 k3 gone.steps.past answers.right);
-      call = spends_after 1 (most + 1) most' (receipt.Register m reply.answer ∷ []) (taken_by reply.answer) k k1 k3 (omega (arith, sum)) goes.steps.call
-          (spends_before most 1 (most + 1) (receipt.Register m reply.answer ∷ []) (taken_by reply.answer) k1 k2 k3 (omega arith) answers.call gone.steps.call);
+      call = spends_after 1 (most + 1) most' (receipt.Register m reply.answer ∷ []) (taken_by reply.answer) k k1 k3 (omega (arith, sum)) goes.steps
+          (spends_before most 1 (most + 1) (receipt.Register m reply.answer ∷ []) (taken_by reply.answer) k1 k2 k3 (omega arith) answers.call gone.steps);
       above = subst (AreLeftAs reply.moved (drop 1 k.log.holdings.held)) (sym (gone.held ∙ ap (drop 1) first.is)) first.others;
       out = gone.out ∙ answers.out;
     }

@@ -1,6 +1,6 @@
 -- Held nodes on a removal's way, by their outlines: what their locks spell, and what loads of their
 -- words leave as it was.
-use Rattle.std.proofs.Common.{◌≡◌, ◌≢◌, ℕ, ◌∷◌, sym, refl, ap, ◌∙◌, subst, arith, Bool, true, false, ◌==◌, Some, eq-eqb, ne_eqb, cond}
+use Rattle.std.proofs.Common.{◌≡◌, ◌≢◌, ℕ, ◌<◌, ◌∷◌, sym, ap, ◌∙◌, subst, arith, Bool, true, false, ◌==◌, Some, eq-eqb, ne_eqb, cond}
 use Rattle.tree_shape.specs.Decisions.{is_entries}
 use Rattle.tree_shape.specs.Lawful.{IsOrdered, IsOrderedAs}
 use Rattle.tree_shape.specs.NodeData.{NodeData, Body, Pairs, Entries, Link}
@@ -19,10 +19,10 @@ use Rattle.btree_change.specs.Siblings.{HoldsChild, HoldsSiblings, HoldsUnder, M
 use Rattle.btree_change.specs.declared.sibling.Child.{Child}
 use Rattle.btree_change.specs.declared.sibling.Siblings.{Siblings}
 use Rattle.btree_change.specs.declared.descent.Held.{Held}
-use Rattle.btree_change.proofs.Mended.{spends_none}
+use Rattle.btree_change.proofs.Descending.{is_inner}
 use Rattle.btree_change.proofs.Outlining.{spell_one, spells_held, steps_of_loads}
 use Rattle.btree_change.proofs.Pairings.{both_high, both_low, both_more, family}
-use Rattle.btree_change.proofs.Releases.{spends_then}
+use Rattle.btree_change.proofs.Spending.{spends_same, steps_after}
 use Rattle.btree_change.proofs.Lowering.{settled_live}
 use Rattle.btree_change.proofs.HeldLists.{found_head}
 
@@ -83,7 +83,7 @@ outlined_mends t x node s shape k k3 k4 m spells loads same =
         holds = subst (HoldsUnder t x.above.at.node true x.above.root_changed (record { node = node; content = s; changed = true })) (sym same) m.holds;
         level = m.level;
         spare = m.spare;
-        spends = spends_then 1 0 1 k k3 k4 refl m.spends (spends_none k3 k4 (steps_of_loads k3 k4 loads));
+        spends = steps_after 1 0 1 k k3 k4 (omega arith) m.spends (spends_same k3 k4 (steps_of_loads k3 k4 loads));
       }),
       is,
     )
@@ -99,7 +99,7 @@ outlined_sinks t x s shape k k3 k4 m spells loads same =
         node = m.node;
         holds = subst (HoldsBesideRoot t 0 s true false) (sym same) m.holds;
         level = m.level;
-        spends = spends_then 2 0 2 k k3 k4 refl m.spends (spends_none k3 k4 (steps_of_loads k3 k4 loads));
+        spends = steps_after 2 0 2 k k3 k4 (omega arith) m.spends (spends_same k3 k4 (steps_of_loads k3 k4 loads));
       }),
       is,
     )
@@ -110,5 +110,5 @@ mends_after t x way k k1 k2 steps m = record {
   holds = m.holds;
   level = m.level;
   spare = m.spare;
-  spends = spends_then 0 1 1 k k1 k2 refl (spends_none k k1 steps) m.spends;
+  spends = steps_after 0 1 1 k k1 k2 (omega arith) (spends_same k k1 steps) m.spends;
 }

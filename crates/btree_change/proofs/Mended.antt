@@ -15,29 +15,14 @@ use Rattle.word_rule.specs.declared.log.Holding.{Holding}
 use Rattle.word_rule.specs.declared.log.Holdings.{Holdings}
 use Rattle.word_rule.specs.declared.log.Terms.{Terms}
 use Rattle.btree_change.specs.Paths.{StepsOnNodes}
-use Rattle.btree_change.specs.Removing.{IsBeside, Spends}
+use Rattle.btree_change.specs.Releases.{Spends}
+use Rattle.btree_change.specs.Removing.{IsBeside}
 use Rattle.btree_change.specs.Siblings.{ReturnsNode, HoldsGone, HoldsSiblings, HoldsUnder, IsGoneOrSettled, MendsSiblings, both_of}
 use Rattle.btree_change.specs.declared.sibling.Siblings.{Siblings}
 use Rattle.btree_change.proofs.Pairings.{IsBesideLock, beside_each, both_all, both_high, both_more, here}
-use Rattle.btree_change.proofs.Releases.{spends_then}
+use Rattle.btree_change.proofs.Spending.{spends_same, steps_after}
 use Rattle.word_rule.proofs.Each.{all_map}
 use Rattle.btree_change.proofs.HeldLists.{found_head}
-
-pub spends_none : (k k' : CallerData) → StepsOnNodes k k' → Spends 0 k k'
-spends_none k k' s = record {
-  table = s.table;
-  left = s.left;
-  terms = s.terms;
-  role = s.role;
-  past = s.past;
-  receipts = s.receipts;
-  loader = s.loader;
-  made = s.made;
-  lineage = s.lineage;
-  allowance = ap (λ b. b.allowance) s.budget;
-  credit = (let e = ap (λ b. b.credit) s.budget in omega (arith, e));
-  loads = s.loads;
-}
 
 -- a lock that isn't there is no loss
 pub without_none : (n : ℕ) (more : List Holding) → AllByRecursion (λ a. a.node ≢ n) more → without_lock n more ≡ more
@@ -164,5 +149,5 @@ joins_so t x k k1 k2 k3 found way terms hs gone steps back tells loads is =
       holds = under_so t x.above.at.node x.left.node (joined x.left.content x.right.content) x.above.root_changed k2 k3 found hs.left_within gone.no_root.0 gone.no_parent.0 (back.spends.terms ∙ (steps.terms ∙ terms)) (settled_back t x k1 gone k2 back) tells loads;
       level = hs.level;
       spare = gone.spare;
-      spends = spends_then 1 0 1 k k2 k3 refl (spends_then 0 1 1 k k1 k2 refl (spends_none k k1 steps) back.spends) (loaded_none x.left.node 2 found k2 k3 loads);
+      spends = steps_after 1 0 1 k k2 k3 (omega arith) (steps_after 0 1 1 k k1 k2 (omega arith) (spends_same k k1 steps) back.spends) (loaded_none x.left.node 2 found k2 k3 loads);
     })

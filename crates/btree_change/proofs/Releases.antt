@@ -1,5 +1,5 @@
 -- A held node that has settled is let go of, and all others that are held stay.
-use Rattle.std.proofs.Common.{◌≡◌, ◌≢◌, ℕ, zero, suc, ◌+◌, ◌≤◌, List, [], ◌∷◌, sym, refl, ap, ◌∙◌, subst, arith, Bool, false, not, ◌==◌, IsTrue, None, IsSome, IsSomeAnd, eq-eqb, ne_eqb, cond}
+use Rattle.std.proofs.Common.{◌≡◌, ◌≢◌, ℕ, zero, suc, List, [], ◌∷◌, sym, refl, ap, ◌∙◌, subst, arith, Bool, false, not, ◌==◌, IsTrue, Some, None, IsSome, IsSomeAnd, eq-eqb, ne_eqb, cond}
 use Rattle.word_rule.specs.CallerData.{CallerData}
 use Rattle.word_rule.specs.Exchange.{Differs, is_lawful}
 use Rattle.word_rule.specs.Held.{held_of, without_lock}
@@ -9,10 +9,10 @@ use Rattle.word_rule.specs.Steps.{MayRelease, after_node_release, after_node_rel
 use Rattle.word_rule.specs.declared.log.Holding.{Holding}
 use Rattle.word_rule.specs.declared.log.Log.{Log}
 use Rattle.word_rule.proofs.Each.{held_is, some_with}
-use Rattle.btree_change.specs.Removing.{HaveSettled, HoldsLocks, IsBeside, LetsGoOf, Spends}
-use Rattle.node_store.proofs.Settled.{ExchangeLaw}
+use Rattle.btree_change.specs.Removing.{HaveSettled, HoldsLocks, IsBeside, LetsGoOf}
 use Rattle.btree_change.proofs.LettingGo.{settles_nothing}
-use Rattle.btree_change.proofs.Loading.{keeps_all, keeps_then, none_more}
+use Rattle.btree_change.proofs.Loading.{none_more}
+use Rattle.node_store.proofs.Settled.{ExchangeLaw}
 use Rattle.btree_change.proofs.HeldLists.{found_head}
 
 -- where all that is held has settled, each may be let go of
@@ -52,22 +52,6 @@ without_first (suc n) lock changed above is (root, (e, r)) =
     ∙ (ap (λ b. cond (not b) (lock ∷ without_lock (suc n) (root ∷ [])) (without_lock (suc n) (root ∷ []))) (eq-eqb lock.node (suc n) is)
     ∙ (ap (λ b. cond (not b) (root ∷ []) []) far ∙ sym e))
 
-pub spends_then : (a b c : ℕ) (k l m : CallerData) → a + b ≡ c → Spends a k l → Spends b l m → Spends c k m
-spends_then a b c k l m sum p q = record {
-  table = q.table ∙ p.table;
-  left = q.left ∙ p.left;
-  terms = q.terms ∙ p.terms;
-  role = q.role ∙ p.role;
-  past = q.past ∙ p.past;
-  receipts = q.receipts ∙ p.receipts;
-  loader = q.loader ∙ p.loader;
-  made = q.made ∙ p.made;
-  lineage = q.lineage ∙ p.lineage;
-  allowance = q.allowance ∙ p.allowance;
-  credit = let x = p.credit in let y = q.credit in omega (arith, x, y, sum);
-  loads = keeps_then k l m p.loads q.loads;
-}
-
 pub locks_held : (n : ℕ) (changed root_changed : Bool) (k : CallerData) → (h : HoldsLocks n changed root_changed k.log.holdings) → HaveSettled k.log.holdings.held × IsSomeAnd (held_of n k.log.holdings.held) (λ a. a.stored ≡ changed)
 locks_held n changed root_changed k h = (
   locks_settled n h.lock root_changed h.above k.log.holdings.held h.held h.spells h.root,
@@ -86,23 +70,3 @@ root_held (suc n) root_changed above held never is (root, (e, r)) = subst (λ hs
 pub none_beside : (n : ℕ) (root_changed : Bool) (above : List Holding) → n ≡ 0 → IsBeside n root_changed above → above ≡ []
 none_beside zero root_changed above e root = root
 none_beside (suc n) root_changed above e root = absurd (omega (arith, e))
-
--- nothing was spent
-pub spends_all : (n : ℕ) (k : CallerData) → Spends n k k
-spends_all n k = record { table = refl; left = refl; terms = refl; role = refl; past = refl; receipts = refl; loader = refl; made = refl; lineage = refl; allowance = refl; credit = omega arith; loads = keeps_all k }
-
-pub more_spent : (a b : ℕ) (k k' : CallerData) → a ≤ b → Spends a k k' → Spends b k k'
-more_spent a b k k' less s = record {
-  table = s.table;
-  left = s.left;
-  terms = s.terms;
-  role = s.role;
-  past = s.past;
-  receipts = s.receipts;
-  loader = s.loader;
-  made = s.made;
-  lineage = s.lineage;
-  allowance = s.allowance;
-  credit = (let c = s.credit in omega (arith, c, less));
-  loads = s.loads;
-}

@@ -1,5 +1,5 @@
 -- The lowest node that is held is let go of, where all that is held has settled.
-use Rattle.std.proofs.Common.{◌≡◌, ◌≢◌, ℕ, [], ◌∷◌, drop, append-nil, sym, refl, ap, ◌∙◌, subst, arith, Bool, false, not, IsTrue, Some, None, IsSome, IsSomeAnd, ◌++◌, eq-eqb, cond}
+use Rattle.std.proofs.Common.{◌≡◌, ◌≢◌, ℕ, List, [], ◌∷◌, drop, sym, refl, ap, ◌∙◌, subst, arith, Bool, false, not, IsTrue, Some, None, IsSome, IsSomeAnd, eq-eqb, ne_eqb, cond}
 use Rattle.std.specs.List.{AllByRecursion}
 use Rattle.word_rule.specs.CallerData.{CallerData}
 use Rattle.word_rule.specs.Exchange.{Differs, is_lawful}
@@ -37,29 +37,15 @@ module _ (n : ℕ) (changed : Bool) (k : CallerData) (may : MayGo n changed k.lo
       let all = subst (AllByRecursion (λ (h : Holding). SpellsNode h.words h.settled)) (sym may.held) may.settled in
       let equal : k' ≡ record k { log = record (after_node_release_same n k.log) { budget = after_spending k.log.budget } } = is ∙ ap (λ (z : Log). record k { log = record (after_node_release_same n z) { budget = after_spending z.budget } }) (settles_nothing law k.log all) in
       subst (LetsGo k) (sym equal) (record {
-        steps = record {
-          call = record { table = refl; left = refl; terms = refl; role = refl; loader = refl; made = refl; lineage = refl; receipts = own; allowance = omega arith; credit = omega arith };
-          past = refl;
-          loads = none_more k.log.trace.loads;
-        };
+        steps = record { table = refl; left = refl; terms = refl; role = refl; past = refl; receipts = refl; loader = refl; made = refl; lineage = refl; allowance = refl; credit = omega arith; loads = none_more k.log.trace.loads };
         held = left_held;
         out = refl;
       })
-    where
-      own : k.log.receipts ≡ record k.log.receipts { own = k.log.receipts.own ++ [] }
-      own = (λ i. record k.log.receipts { own = sym (append-nil k.log.receipts.own) i })
 
   pub kept : (k' : CallerData) → k' ≡ record k { log = after_node_release_same n k.log } → LetsGo k k'
   kept k' is =
       subst (LetsGo k) (sym is) (record {
-        steps = record {
-          call = record { table = refl; left = refl; terms = refl; role = refl; loader = refl; made = refl; lineage = refl; receipts = own; allowance = omega arith; credit = omega arith };
-          past = refl;
-          loads = none_more k.log.trace.loads;
-        };
+        steps = record { table = refl; left = refl; terms = refl; role = refl; past = refl; receipts = refl; loader = refl; made = refl; lineage = refl; allowance = refl; credit = omega arith; loads = none_more k.log.trace.loads };
         held = left_held;
         out = refl;
       })
-    where
-      own : k.log.receipts ≡ record k.log.receipts { own = k.log.receipts.own ++ [] }
-      own = (λ i. record k.log.receipts { own = sym (append-nil k.log.receipts.own) i })

@@ -1,9 +1,10 @@
 -- What a removal answers, from the steps of its way.
-use Rattle.std.proofs.Common.{◌≡◌, ℕ, zero, suc, ◌+◌, ◌*◌, ◌<◌, ◌≤◌, [], ◌∷◌, ◌++◌, length, sym, refl, ap, ◌∙◌, subst, arith, Bool, false, IsNone}
+use Rattle.std.proofs.Common.{◌≡◌, ℕ, zero, suc, ◌+◌, ◌*◌, ◌<◌, ◌≤◌, [], ◌∷◌, length, sym, ap, ◌∙◌, subst, arith, Bool, false, IsNone}
 use Rattle.std.proofs.lemmas.Bool.{ltb-false}
 use mathlib.Core.List.{IsPrefix}
 use Rattle.reg_model.specs.History.{state_after}
 use Rattle.reg_model.specs.State.{at_base}
+use Rattle.reg_model.specs.declared.answer.Receipt.{Receipt}
 use Rattle.reg_model.specs.declared.answer.Receipt.TheVariants as receipt
 use Rattle.reg_model.specs.declared.answer.Removed.{Removed}
 use Rattle.reg_model.specs.declared.answer.Removed.TheVariants as removed
@@ -12,20 +13,21 @@ use Rattle.tree_shape.specs.NodeData.{NodeData, Body, Pairs, Entries, Link, IsIn
 use Rattle.word_rule.specs.CallerData.{CallerData, surplus}
 use Rattle.word_rule.specs.Callers.{start}
 use Rattle.word_rule.specs.declared.log.Holdings.{Holdings}
-use Rattle.word_rule.specs.declared.log.Receipts.{Receipts}
 use Rattle.word_rule.specs.declared.log.Terms.{Terms}
 use Rattle.btree_change.specs.Paths.{HoldsNothing, StepsOnNodes}
-use Rattle.btree_change.specs.Removal.{AnswersRemoval, AnswersRightly}
-use Rattle.btree_change.specs.Removing.{HoldsBesideRoot, IsSpare, IsSpareAs, Spends}
+use Rattle.btree_change.specs.Releases.{Spends}
+use Rattle.btree_change.specs.Removal.{AnswersRemoval, AnswersRightly, taken_by_removal}
+use Rattle.btree_change.specs.Removing.{HoldsBesideRoot, IsSpare, IsSpareAs}
 use Rattle.btree_change.specs.Siblings.{HoldsChild, is_small_body}
+use Rattle.btree_change.specs.Stands.{SpendsCall}
 use Rattle.btree_change.specs.Takings.{RefusesBase, TakesMember}
+use Rattle.btree_change.specs.Updates.{AnswersUpdate}
 use Rattle.btree_change.specs.declared.sibling.Child.{Child}
 use Rattle.btree_change.specs.declared.descent.Held.{Held}
 use Rattle.btree_change.specs.declared.way.Way.{Way}
 use Rattle.btree_change.proofs.Joining.{spare_of}
-use Rattle.btree_change.proofs.Mended.{spends_none}
-use Rattle.btree_change.proofs.Releases.{spends_then}
 use Rattle.btree_change.proofs.Rooted.{surplus_left}
+use Rattle.btree_change.proofs.Spending.{answers_so, refused_call, spends_after, spends_before, spends_same, steps_after}
 
 not_small : (b : Body) → is_small_body b ≡ false → IsSpareAs b
 not_small (Pairs pairs) e = let l = ltb-false (length pairs) 7 e in omega (arith, l)
@@ -54,46 +56,39 @@ rightly_seen t base (removed.NotFound stamp) k l k' l' same same' (begins, count
 )
 rightly_seen t base removed.Spent k l k' l' same same' wrong = absurd wrong
 
+-- the call of a removal that was answered between its way down and the last of it that is let go of
+around : (r : Receipt) (taken : ℕ) (k k1 k2 k3 : CallerData) → Spends 26 k k1 → SpendsCall (r ∷ []) taken 0 k1 k2 → Spends 2 k2 k3 → HoldsNothing k3.log.holdings → AnswersUpdate r taken k k3
+around r taken k k1 k2 k3 down call up = answers_so r taken 28 k k3 (omega arith)
+    (spends_after 26 2 28 (r ∷ []) taken k k1 k3 (omega arith) down (spends_before 0 2 2 (r ∷ []) taken k1 k2 k3 (omega arith) call up))
+
 pub refusal_so : (t : Terms) (base : ℕ) (answer : Removed) (k k1 k2 k3 : CallerData) → Spends 26 k k1 → RefusesBase t base answer k1 k2 → Spends 2 k2 k3 → HoldsNothing k3.log.holdings → AnswersRemoval t base answer k k3
-refusal_so t base answer k k1 k2 k3 down refuses up nothing = record {
-  right = rightly_seen t base answer k1 k k2 k3 down.past (sym up.past) refuses.right;
-  call = record {
-    table = up.table ∙ (refuses.call.table ∙ down.table);
-    left = up.left ∙ (refuses.call.left ∙ down.left);
-    terms = up.terms ∙ (refuses.call.terms ∙ down.terms);
-    role = up.role ∙ (refuses.call.role ∙ down.role);
-    loader = up.loader ∙ (refuses.call.loader ∙ down.loader);
-    made = up.made ∙ (refuses.call.made ∙ down.made);
-    lineage = up.lineage ∙ (refuses.call.lineage ∙ down.lineage);
-    receipts = up.receipts ∙ (refuses.call.receipts ∙ ap (λ (rs : Receipts). record rs { own = rs.own ++ receipt.Deregister base answer ∷ [] }) down.receipts);
-    allowance = (let a = up.allowance in let b = ap (λ z. z.allowance) refuses.call.budget in let c = down.allowance in let z = refuses.none_taken in omega (arith, a, b, c, z));
-    credit = (let a = up.credit in let b = ap (λ z. z.credit) refuses.call.budget in let c = down.credit in omega (arith, a, b, c));
-    nothing = nothing;
-  };
-}
+refusal_so t base answer k k1 k2 k3 down refuses up nothing =
+    let r = receipt.Deregister base answer in let taken = taken_by_removal answer in record {
+      right = rightly_seen t base answer k1 k k2 k3 down.past (sym up.past) refuses.right;
+      call = around r taken k k1 k2 k3 down (refused_call r taken k1 k2 refuses.none_taken refuses.call) up nothing;
+    }
 
 -- the same of one that was done
 pub done_so : (t : Terms) (base n number : ℕ) (root_changed : Bool) (m : Member) (k k1 k2 k3 : CallerData) → Spends 26 k k1 → TakesMember t base n root_changed number m k1 k2 → Spends 2 k2 k3 → HoldsNothing k3.log.holdings → AnswersRemoval t base (removed.Done number m) k k3
 done_so t base n number root_changed m k k1 k2 k3 down takes up nothing = record {
   right = rightly_seen t base (removed.Done number m) k1 k k2 k3 down.past (sym up.past) takes.right;
-  call = record {
-    table = up.table ∙ (takes.table ∙ down.table);
-    left = up.left ∙ (takes.left ∙ down.left);
-    terms = up.terms ∙ (takes.terms ∙ down.terms);
-    role = up.role ∙ (takes.role ∙ down.role);
-    loader = up.loader ∙ (takes.loader ∙ down.loader);
-    made = up.made ∙ (takes.made ∙ down.made);
-    lineage = up.lineage ∙ (takes.lineage ∙ down.lineage);
-    receipts = up.receipts ∙ (takes.receipts ∙ ap (λ (rs : Receipts). record rs { own = rs.own ++ receipt.Deregister base (removed.Done number m) ∷ [] }) down.receipts);
-    allowance = (let a = up.allowance in let b = ap (λ z. z.allowance) takes.budget in let c = down.allowance in omega (arith, a, b, c));
-    credit = (let a = up.credit in let b = ap (λ z. z.credit) takes.budget in let c = down.credit in omega (arith, a, b, c));
-    nothing = nothing;
-  };
+  call = around (receipt.Deregister base (removed.Done number m)) 1 k k1 k2 k3 down (record {
+    table = takes.table;
+    left = takes.left;
+    terms = takes.terms;
+    role = takes.role;
+    loader = takes.loader;
+    made = takes.made;
+    lineage = takes.lineage;
+    receipts = takes.receipts;
+    allowance = ap (λ b. b.allowance) takes.budget;
+    credit = (let e = ap (λ b. b.credit) takes.budget in omega (arith, e));
+  }) up nothing;
 }
 
 -- the way down, and the leaf read
 pub read_spends : (k k1 k2 : CallerData) → Spends 26 k k1 → StepsOnNodes k1 k2 → Spends 26 k k2
-read_spends k k1 k2 down steps = spends_then 26 0 26 k k1 k2 refl down (spends_none k1 k2 steps)
+read_spends k k1 k2 down steps = steps_after 26 0 26 k k1 k2 (omega arith) down (spends_same k1 k2 steps)
 
 -- releases are left to let go of the way
 pub surplus_refused : (t : Terms) (base : ℕ) (answer : Removed) (k k1 k2 : CallerData) → Spends 26 k k1 → 64 ≤ surplus k → RefusesBase t base answer k1 k2 → 1 < surplus k2

@@ -10,9 +10,10 @@ use Rattle.word_rule.specs.declared.log.Holdings.{Holdings}
 use Rattle.word_rule.specs.declared.log.Terms.{Terms}
 use Rattle.btree_change.specs.Stands.{HoldsRoot}
 use Rattle.btree_change.specs.declared.descent.Held.{Held}
-use Rattle.btree_change.specs.Removing.{HoldsBesideRoot, IsBeside, IsSpare, IsSpareAs, Spends}
+use Rattle.btree_change.specs.Removing.{HoldsBesideRoot, IsBeside, IsSpare, IsSpareAs}
 use Rattle.btree_change.specs.Siblings.{HoldsSiblings, SameKind}
 use Rattle.btree_change.specs.declared.sibling.Siblings.{Siblings}
+use Rattle.btree_change.specs.Releases.{Spends}
 use Rattle.btree_change.proofs.Neighbouring.{some_pairs}
 use Rattle.btree_change.proofs.Lowering.{settled_live}
 

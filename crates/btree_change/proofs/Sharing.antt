@@ -25,7 +25,7 @@ use Rattle.word_rule.specs.declared.log.Log.{Log}
 use Rattle.word_rule.specs.declared.log.Terms.{Terms}
 use Rattle.node_store.specs.Holding.{SpellsHeld, WritesHeld}
 use Rattle.btree_change.specs.Paths.{StepsOnNodes}
-use Rattle.btree_change.specs.Removing.{Spends}
+use Rattle.btree_change.specs.Releases.{Spends}
 use Rattle.btree_change.specs.Shares.{IsChosen, shares_for}
 use Rattle.btree_change.specs.Siblings.{HoldsSiblings, IsInEither, MendsSiblings, both_of, is_small_body}
 use Rattle.btree_change.specs.declared.mending.Chosen.{Chosen}
@@ -34,14 +34,15 @@ use Rattle.btree_change.proofs.Descending.{steps_then}
 use Rattle.btree_change.proofs.Descents.{steps_of_load}
 use Rattle.btree_change.proofs.Joining.{may_store, spare_of}
 use Rattle.btree_change.proofs.Loading.{none_more}
-use Rattle.btree_change.proofs.Mended.{AreSettled, loaded_none, spends_none, under_so, without_high, without_low}
-use Rattle.btree_change.proofs.Pairings.{AreThree, IsNow, at_slot_is, both_high, both_left, both_low, both_more, family, held_change, in_l, in_n, in_r, left_told, next_slot_is, not_in, parent_told, right_told, settles, three}
-use Rattle.btree_change.proofs.Releases.{spends_then}
+use Rattle.btree_change.proofs.Mended.{AreSettled, loaded_none, under_so, without_high, without_low}
+use Rattle.btree_change.proofs.Pairings.{IsBesideLock, IsNow, AreThree, at_slot_is, beside, both_high, both_left, both_low, both_more, family, held_change, in_l, in_n, in_r, left_told, next_slot_is, not_in, parent_told, right_told, settles, three}
 use Rattle.btree_change.proofs.Settling.{SettlingLaws, may_release, settled_group}
 use Rattle.btree_change.proofs.ShareEnds.{fence_moves, share_kinds, share_moves, share_sizes, share_spares}
+use Rattle.btree_change.proofs.Spending.{spends_same, steps_after}
 use Rattle.btree_change.proofs.Written.{IsWrittenAs, write_high, write_low, write_upper}
 use Rattle.btree_change.proofs.Lowering.{settled_live}
 use Rattle.btree_change.proofs.HeldLists.{found_head}
+use Rattle.word_rule.proofs.Each.{all_map}
 
 abbrev pub ShareLaw : Type 0
 ShareLaw = (f : Contents) (live : ℕ → Bool) (parent slot : ℕ) (p q : Pair) (g : Contents) → IsLawfulTree f live → IsShare f live parent slot p q g → IsChangeOf f live parent (parent ∷ p.child ∷ q.child ∷ []) [] g None (parent ∷ p.child ∷ q.child ∷ [])
@@ -283,7 +284,7 @@ module _ (t : Terms) (x : Siblings) (k k1 : CallerData) (found : ℕ) (hs : Hold
             let lets' = subst (λ m. k5 ≡ record k4 { log = after_node_release m k4.log }) other lets in
             let tells' = subst (λ m. HolderTells m k5.log) node tells in
             let loads2 = subst (λ m. k6 ≡ record k5 { log = after_node_load m 2 seen k5.log }) node loads' in
-            let spends = spends_then 1 0 1 k k5 k6 refl (spends_then 0 1 1 k k4 k5 refl (spends_none k k4 steps4) (spent r k5 lets')) (loaded_none l 2 seen k5 k6 loads2) in (
+            let spends = steps_after 1 0 1 k k5 k6 (omega arith) (steps_after 0 1 1 k k4 k5 (omega arith) (spends_same k k4 steps4) (spent r k5 lets')) (loaded_none l 2 seen k5 k6 loads2) in (
               (shares_for x).left,
               (
                 subst (λ m. MendsSiblings t x (record { node = m; content = (shares_for x).left; changed = true }) k k6) (sym node) (record {
@@ -299,7 +300,7 @@ module _ (t : Terms) (x : Siblings) (k k1 : CallerData) (found : ℕ) (hs : Hold
             let lets' = subst (λ m. k5 ≡ record k4 { log = after_node_release m k4.log }) other lets in
             let tells' = subst (λ m. HolderTells m k5.log) node tells in
             let loads2 = subst (λ m. k6 ≡ record k5 { log = after_node_load m 2 seen k5.log }) node loads' in
-            let spends = spends_then 1 0 1 k k5 k6 refl (spends_then 0 1 1 k k4 k5 refl (spends_none k k4 steps4) (spent l k5 lets')) (loaded_none r 2 seen k5 k6 loads2) in (
+            let spends = steps_after 1 0 1 k k5 k6 (omega arith) (steps_after 0 1 1 k k4 k5 (omega arith) (spends_same k k4 steps4) (spent l k5 lets')) (loaded_none r 2 seen k5 k6 loads2) in (
               (shares_for x).right,
               (
                 subst (λ m. MendsSiblings t x (record { node = m; content = (shares_for x).right; changed = true }) k k6) (sym node) (record {

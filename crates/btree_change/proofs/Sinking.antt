@@ -13,9 +13,9 @@ use Rattle.word_rule.specs.declared.log.Terms.{Terms}
 use Rattle.btree_change.specs.Paths.{StepsOnNodes}
 use Rattle.btree_change.specs.Siblings.{ReturnsNode, HoldsSiblings, HoldsSunk, IsGoneOrSettled, SinksRoot, sunk_root}
 use Rattle.btree_change.specs.declared.sibling.Siblings.{Siblings}
-use Rattle.btree_change.proofs.Mended.{loaded_none, spends_none, without_low}
+use Rattle.btree_change.proofs.Mended.{loaded_none, without_low}
 use Rattle.btree_change.proofs.Pairings.{both_all, both_low, both_more}
-use Rattle.btree_change.proofs.Releases.{spends_then}
+use Rattle.btree_change.proofs.Spending.{spends_same, steps_after}
 use Rattle.btree_change.proofs.HeldLists.{found_head}
 
 module _ (x : Siblings) (k : CallerData) (gone : HoldsSunk x k.log.holdings) where
@@ -85,5 +85,5 @@ module _ (x : Siblings) (k : CallerData) (gone : HoldsSunk x k.log.holdings) whe
               out = ap (λ (z : Holdings). z.out) kept ∙ out2;
             };
             level = hs.level;
-            spends = spends_then 2 0 2 k0 k2 k3 refl (spends_then 1 1 2 k0 k1 k2 refl (spends_then 0 1 1 k0 k k1 refl (spends_none k0 k steps) back.spends) again.spends) (loaded_none 0 2 found k2 k3 loads);
+            spends = steps_after 2 0 2 k0 k2 k3 (omega arith) (steps_after 1 1 2 k0 k1 k2 (omega arith) (steps_after 0 1 1 k0 k k1 (omega arith) (spends_same k0 k steps) back.spends) again.spends) (loaded_none 0 2 found k2 k3 loads);
           })

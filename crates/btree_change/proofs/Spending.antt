@@ -1,5 +1,5 @@
 -- Parts of an update call, one after another: what they take of their caller.
-use Rattle.std.proofs.Common.{◌≡◌, ℕ, ◌+◌, ◌≤◌, ◌<◌, List, [], ◌∷◌, ◌++◌, length, append-nil, sym, ap, ◌∙◌, subst, arith}
+use Rattle.std.proofs.Common.{◌≡◌, ℕ, ◌+◌, ◌≤◌, ◌<◌, List, [], ◌∷◌, ◌++◌, length, sym, refl, ap, ◌∙◌, subst, arith}
 use mathlib.Core.List.{IsPrefix}
 use Rattle.reg_model.specs.declared.answer.Inserted.{Inserted}
 use Rattle.reg_model.specs.declared.answer.Inserted.TheVariants as inserted
@@ -12,13 +12,15 @@ use Rattle.word_rule.specs.Callers.{start}
 use Rattle.word_rule.specs.declared.log.Receipts.{Receipts}
 use Rattle.word_rule.specs.declared.log.Terms.{Terms}
 use Rattle.btree_change.specs.Insertion.{IsRightInsertion}
-use Rattle.btree_change.specs.Paths.{StepsOnNodes}
-use Rattle.btree_change.specs.Stands.{SpendsCall, SpendsSteps}
-use Rattle.btree_change.specs.Updates.{RefusesUpdate}
-use Rattle.btree_change.proofs.Loading.{keeps_then}
+use Rattle.btree_change.specs.Paths.{HoldsNothing, StepsOnNodes}
+use Rattle.btree_change.specs.Releases.{Spends}
+use Rattle.btree_change.specs.Splits.{with_release_less}
+use Rattle.btree_change.specs.Stands.{SpendsCall}
+use Rattle.btree_change.specs.Updates.{AnswersUpdate, RefusesUpdate}
+use Rattle.btree_change.proofs.Loading.{keeps_all, keeps_then}
 
 -- one part after another, of which the first answers nothing
-pub spends_after : (a b c : ℕ) (more : List Receipt) (taken : ℕ) (k l m : CallerData) → a + b ≤ c → SpendsCall [] 0 a k l → SpendsCall more taken b l m → SpendsCall more taken c k m
+pub spends_after : (a b c : ℕ) (more : List Receipt) (taken : ℕ) (k l m : CallerData) → a + b ≤ c → Spends a k l → SpendsCall more taken b l m → SpendsCall more taken c k m
 spends_after a b c more taken k l m sum p q = record {
   table = q.table ∙ p.table;
   left = q.left ∙ p.left;
@@ -27,16 +29,13 @@ spends_after a b c more taken k l m sum p q = record {
   loader = q.loader ∙ p.loader;
   made = q.made ∙ p.made;
   lineage = q.lineage ∙ p.lineage;
-  receipts = q.receipts ∙ (λ i. record (p.receipts i) { own = own_is i });
+  receipts = q.receipts ∙ ap (λ (r : Receipts). record r { own = r.own ++ more }) p.receipts;
   allowance = q.allowance ∙ (let x = p.allowance in omega (arith, x));
   credit = let x = p.credit in let y = q.credit in omega (arith, x, y, sum);
 }
-  where
-    own_is : l.log.receipts.own ++ more ≡ k.log.receipts.own ++ more
-    own_is = ap (λ (r : Receipts). r.own ++ more) p.receipts ∙ ap (λ xs. xs ++ more) (append-nil k.log.receipts.own)
 
 -- or the second
-pub spends_before : (a b c : ℕ) (more : List Receipt) (taken : ℕ) (k l m : CallerData) → a + b ≤ c → SpendsCall more taken a k l → SpendsCall [] 0 b l m → SpendsCall more taken c k m
+pub spends_before : (a b c : ℕ) (more : List Receipt) (taken : ℕ) (k l m : CallerData) → a + b ≤ c → SpendsCall more taken a k l → Spends b l m → SpendsCall more taken c k m
 spends_before a b c more taken k l m sum p q = record {
   table = q.table ∙ p.table;
   left = q.left ∙ p.left;
@@ -45,8 +44,8 @@ spends_before a b c more taken k l m sum p q = record {
   loader = q.loader ∙ p.loader;
   made = q.made ∙ p.made;
   lineage = q.lineage ∙ p.lineage;
-  receipts = q.receipts ∙ ((λ i. record l.log.receipts { own = append-nil l.log.receipts.own i }) ∙ p.receipts);
-  allowance = q.allowance ∙ (let x = p.allowance in omega (arith, x));
+  receipts = q.receipts ∙ p.receipts;
+  allowance = q.allowance ∙ p.allowance;
   credit = let x = p.credit in let y = q.credit in omega (arith, x, y, sum);
 }
 
@@ -65,44 +64,92 @@ refused_call r taken k l none p = record {
   credit = let e = ap (λ b. b.credit) p.budget in omega (arith, e);
 }
 
-pub spends_same : (k l : CallerData) → StepsOnNodes k l → SpendsSteps 0 k l
+-- an update that was refused, or answered between two parts, as a whole
+pub answers_so : (r : Receipt) (taken most : ℕ) (k l : CallerData) → most ≤ 64 → SpendsCall (r ∷ []) taken most k l → HoldsNothing l.log.holdings → AnswersUpdate r taken k l
+answers_so r taken most k l few p nothing = record {
+  table = p.table;
+  left = p.left;
+  terms = p.terms;
+  role = p.role;
+  loader = p.loader;
+  made = p.made;
+  lineage = p.lineage;
+  receipts = p.receipts;
+  allowance = p.allowance;
+  credit = let c = p.credit in omega (arith, c, few);
+  nothing = nothing;
+}
+
+-- nothing was let go of
+pub spends_same : (k l : CallerData) → StepsOnNodes k l → Spends 0 k l
 spends_same k l s = record {
-  call = record {
-    table = s.table;
-    left = s.left;
-    terms = s.terms;
-    role = s.role;
-    loader = s.loader;
-    made = s.made;
-    lineage = s.lineage;
-    receipts = s.receipts ∙ (λ i. record k.log.receipts { own = sym (append-nil k.log.receipts.own) i });
-    allowance = ap (λ b. b.allowance) s.budget ∙ omega arith;
-    credit = let e = ap (λ b. b.credit) s.budget in omega (arith, e);
-  };
+  table = s.table;
+  left = s.left;
+  terms = s.terms;
+  role = s.role;
   past = s.past;
+  receipts = s.receipts;
+  loader = s.loader;
+  made = s.made;
+  lineage = s.lineage;
+  allowance = ap (λ b. b.allowance) s.budget;
+  credit = (let e = ap (λ b. b.credit) s.budget in omega (arith, e));
   loads = s.loads;
 }
 
-pub steps_after : (a b c : ℕ) (k l m : CallerData) → a + b ≤ c → SpendsSteps a k l → SpendsSteps b l m → SpendsSteps c k m
+-- one node was
+pub spends_one : (k l : CallerData) → StepsOnNodes (with_release_less k) l → Spends 1 k l
+spends_one k l s = record {
+  table = s.table;
+  left = s.left;
+  terms = s.terms;
+  role = s.role;
+  past = s.past;
+  receipts = s.receipts;
+  loader = s.loader;
+  made = s.made;
+  lineage = s.lineage;
+  allowance = ap (λ b. b.allowance) s.budget;
+  credit = (let e = ap (λ b. b.credit) s.budget in omega (arith, e));
+  loads = s.loads;
+}
+
+pub steps_after : (a b c : ℕ) (k l m : CallerData) → a + b ≤ c → Spends a k l → Spends b l m → Spends c k m
 steps_after a b c k l m sum p q = record {
-  call = spends_after a b c [] 0 k l m sum p.call q.call;
+  table = q.table ∙ p.table;
+  left = q.left ∙ p.left;
+  terms = q.terms ∙ p.terms;
+  role = q.role ∙ p.role;
   past = q.past ∙ p.past;
+  receipts = q.receipts ∙ p.receipts;
+  loader = q.loader ∙ p.loader;
+  made = q.made ∙ p.made;
+  lineage = q.lineage ∙ p.lineage;
+  allowance = q.allowance ∙ p.allowance;
+  credit = (let x = p.credit in let y = q.credit in omega (arith, x, y, sum));
   loads = keeps_then k l m p.loads q.loads;
 }
 
-pub own_same : (a : ℕ) (k l : CallerData) → SpendsSteps a k l → l.log.receipts.own ≡ k.log.receipts.own
-own_same a k l s = ap (λ (r : Receipts). r.own) s.call.receipts ∙ append-nil k.log.receipts.own
+pub spends_all : (n : ℕ) (k : CallerData) → Spends n k k
+spends_all n k = record { table = refl; left = refl; terms = refl; role = refl; past = refl; receipts = refl; loader = refl; made = refl; lineage = refl; allowance = refl; credit = omega arith; loads = keeps_all k }
+
+pub more_spent : (a b : ℕ) (k l : CallerData) → a ≤ b → Spends a k l → Spends b k l
+more_spent a b k l less s = steps_after a 0 b k l l (omega (arith, less)) s (spends_all 0 l)
+
+pub own_same : (a : ℕ) (k l : CallerData) → Spends a k l → l.log.receipts.own ≡ k.log.receipts.own
+own_same a k l s = ap (λ (r : Receipts). r.own) s.receipts
 
 -- the releases that are left over
 pub surplus_after : (more : List Receipt) (taken most : ℕ) (k l : CallerData) (need : ℕ) → SpendsCall more taken most k l → most + need ≤ surplus k → need ≤ surplus l
 surplus_after more taken most k l need s enough =
     let e = s.left in let c = s.credit in omega (arith, e, c, enough)
 
-pub due_after : (a : ℕ) (k l : CallerData) → SpendsSteps a k l → 0 < due k → 0 < due l
-due_after a k l s some = let x = s.call.allowance in let y = s.call.left in omega (arith, x, y, some)
+pub due_after : (a : ℕ) (k l : CallerData) → Spends a k l → 0 < due k → 0 < due l
+due_after a k l s some = let x = s.allowance in let y = s.left in omega (arith, x, y, some)
 
-pub surplus_steps : (a : ℕ) (k l : CallerData) (need : ℕ) → SpendsSteps a k l → a + need ≤ surplus k → need ≤ surplus l
-surplus_steps a k l need s enough = surplus_after [] 0 a k l need s.call enough
+pub surplus_steps : (a : ℕ) (k l : CallerData) (need : ℕ) → Spends a k l → a + need ≤ surplus k → need ≤ surplus l
+surplus_steps a k l need s enough =
+    let e = s.left in let c = s.credit in omega (arith, e, c, enough)
 
 -- An answer is right also for one that took steps before, and after more steps.
 pub right_after : (t : Terms) (m : Member) (answer : Inserted) (k l n : CallerData) → l.log.past ≡ k.log.past → IsRightInsertion t m l n answer → IsRightInsertion t m k n answer

@@ -1,5 +1,5 @@
 -- A full child is split on the way down where a node is free; then the insertion goes on below.
-use Rattle.std.proofs.Common.{◌≡◌, ℕ, ◌<◌, List, [], ◌∷◌, length, drop, append-nil, sym, refl, ap, ◌∙◌, subst, arith, inl, Bool, true, false, ◌==◌, Some, IsSome, is_some, cond}
+use Rattle.std.proofs.Common.{◌≡◌, ℕ, ◌<◌, List, [], ◌∷◌, length, drop, sym, refl, ap, ◌∙◌, subst, arith, inl, Bool, true, false, ◌==◌, Some, IsSome, is_some, cond}
 use Rattle.tree_shape.specs.NodeData.{NodeData, Pairs, IsInFences, frame_of, pairs_of}
 use Rattle.tree_shape.specs.Lawful.{IsFilled, IsOrdered}
 use Rattle.tree_shape.specs.Steps.{IsFull}
@@ -16,18 +16,18 @@ use Rattle.btree_change.specs.declared.stand.Room.{Room}
 use Rattle.btree_change.specs.declared.stand.Room.TheVariants as room
 use Rattle.btree_change.specs.declared.stand.Step.{Step}
 use Rattle.btree_change.specs.Loads.{FoundNoRoom}
-use Rattle.btree_change.specs.Paths.{AreHigher, StepsOnNodes}
-use Rattle.btree_change.specs.Splits.{HasSpace, HoldsFull, HoldsFullChild, SplitsChild, StaysHeld, TakesRoom, with_release_less}
+use Rattle.btree_change.specs.Paths.{AreHigher}
+use Rattle.btree_change.specs.Releases.{Spends}
+use Rattle.btree_change.specs.Splits.{HasSpace, HoldsFull, HoldsFullChild, SplitsChild, StaysHeld, TakesRoom}
 use Rattle.word_rule.specs.NodeTells.{KnowsTree}
 use Rattle.word_rule.specs.Sights.{after_node_load}
-use Rattle.btree_change.specs.Stands.{HasSplit, HasWayOn, HoldsPair, LetsGo, MayGo, SpendsSteps}
+use Rattle.btree_change.specs.Stands.{HasSplit, HasWayOn, HoldsPair, LetsGo, MayGo}
 use Rattle.btree_change.proofs.Descending.{steps_then}
 use Rattle.btree_change.proofs.Descents.{steps_of_load}
-use Rattle.btree_change.proofs.Loading.{keeps_all}
 use Rattle.btree_change.proofs.NoRoom.{found_cause, no_room_now, same_cause}
 use Rattle.btree_change.proofs.Standing.{may_go, stands_below}
 use Rattle.btree_change.proofs.Lowering.{settled_inner, settled_live}
-use Rattle.btree_change.proofs.Spending.{spends_same, steps_after}
+use Rattle.btree_change.proofs.Spending.{more_spent, spends_all, spends_one, spends_same, steps_after}
 use Rattle.btree_change.proofs.Settling.{found_first}
 
 -- the child is found among what is held, and the root above it
@@ -86,11 +86,7 @@ module _ (t : Terms) (pc : ℕ) (step : Step) (above : List Holding) (k : Caller
     node = refl;
     frame = refl;
     less = less;
-    steps = record {
-      call = record { table = refl; left = refl; terms = refl; role = refl; loader = refl; made = refl; lineage = refl; receipts = (λ i. record k.log.receipts { own = sym (append-nil k.log.receipts.own) i }); allowance = omega arith; credit = omega arith };
-      past = refl;
-      loads = keeps_all k;
-    };
+    steps = spends_all 1 k;
   }
 
   pub pair_kept : (k1 : CallerData) → StaysHeld k k1 → HoldsPair t pc step.parent step.child above k1.log.holdings
@@ -116,7 +112,7 @@ module _ (t : Terms) (pc : ℕ) (step : Step) (above : List Holding) (k : Caller
       subst (λ (z : CallerData). MayGo step.child.node step.child.changed z.log.holdings) (sym is)
       (may_go t step.child k1.log.holdings (stands_below t pc 0 step.parent step.child above k1.log.holdings (pair_kept k1 stays) tree))
 
-  pub busy_gone : (k1 : CallerData) (found : ℕ) (k2 k3 : CallerData) → StaysHeld k k1 → k2 ≡ record k1 { log = after_node_load step.child.node 2 found k1.log } → LetsGo k2 k3 → (k3.log.holdings.held ≡ drop 1 k.log.holdings.held) × (k3.log.holdings.out ≡ []) × SpendsSteps 1 k k3
+  pub busy_gone : (k1 : CallerData) (found : ℕ) (k2 k3 : CallerData) → StaysHeld k k1 → k2 ≡ record k1 { log = after_node_load step.child.node 2 found k1.log } → LetsGo k2 k3 → (k3.log.holdings.held ≡ drop 1 k.log.holdings.held) × (k3.log.holdings.out ≡ []) × Spends 1 k k3
   busy_gone k1 found k2 k3 stays is goes = (
     goes.held ∙ ap (drop 1) (ap (λ (z : CallerData). z.log.holdings.held) is ∙ stays.held),
     goes.out ∙ (ap (λ (z : CallerData). z.log.holdings.out) is ∙ (stays.out ∙ pair.out)),
@@ -146,11 +142,7 @@ module _ (t : Terms) (pc : ℕ) (step : Step) (above : List Holding) (k : Caller
     node = refl;
     frame = refl;
     less = less;
-    steps = steps_after 0 1 1 k k1 k1 (omega arith) (spends_same k k1 stays.same) (record {
-      call = record { table = refl; left = refl; terms = refl; role = refl; loader = refl; made = refl; lineage = refl; receipts = (λ i. record k1.log.receipts { own = sym (append-nil k1.log.receipts.own) i }); allowance = omega arith; credit = omega arith };
-      past = refl;
-      loads = keeps_all k1;
-    });
+    steps = more_spent 0 1 k k1 (omega arith) (spends_same k k1 stays.same);
   }
 
   -- a node is out for the child's last half
@@ -177,24 +169,6 @@ module _ (t : Terms) (pc : ℕ) (step : Step) (above : List Holding) (k : Caller
         is_full = full;
       }
 
-  spent : (k1 k2 : CallerData) → StepsOnNodes (with_release_less k1) k2 → SpendsSteps 1 k1 k2
-  spent k1 k2 s = record {
-    call = record {
-      table = s.table;
-      left = s.left;
-      terms = s.terms;
-      role = s.role;
-      loader = s.loader;
-      made = s.made;
-      lineage = s.lineage;
-      receipts = s.receipts ∙ (λ i. record k1.log.receipts { own = sym (append-nil k1.log.receipts.own) i });
-      allowance = ap (λ b. b.allowance) s.budget ∙ omega arith;
-      credit = let e = ap (λ b. b.credit) s.budget in omega (arith, e);
-    };
-    past = s.past;
-    loads = s.loads;
-  }
-
   -- it was split
   pub was_split : (fresh : ℕ) (split : Split) (k1 k2 : CallerData) → above ≡ drop 2 k.log.holdings.held → TakesRoom fresh k k1 → (s : SplitsChild t (record { parent = step.parent; child = step.child; fresh = fresh }) pc split k1 k2) → HasSplit t pc step (record { parent = split.parent; child = split.way; room = room.Splitting }) k k2
   was_split fresh split k1 k2 is takes s =
@@ -220,7 +194,7 @@ module _ (t : Terms) (pc : ℕ) (step : Step) (above : List Holding) (k : Caller
         node = ap (λ (h : Held). h.node) s.parent;
         frame = ap (λ (h : Held). frame_of h.content) s.parent;
         less = s.lower_level;
-        steps = steps_after 0 1 1 k k1 k2 (omega arith) (spends_same k k1 takes.same) (spent k1 k2 s.same);
+        steps = steps_after 0 1 1 k k1 k2 (omega arith) (spends_same k k1 takes.same) (spends_one k1 k2 s.same);
       }
     where
       same_root : (a b : Holding) (held : List Holding) → a.node ≡ b.node → IsSome (held_of 0 (b ∷ held)) → IsSome (held_of 0 (a ∷ held))

@@ -18,10 +18,10 @@ use Rattle.btree_change.specs.declared.beyond.Next.{Next}
 use Rattle.btree_change.specs.declared.stand.Reply.{Reply}
 use Rattle.btree_change.specs.declared.stand.Room.TheVariants as room
 use Rattle.btree_change.specs.Insertion.{IsRightInsertion, taken_by}
+use Rattle.btree_change.specs.Releases.{Spends}
 use Rattle.btree_change.specs.Spines.{HoldsLeafPair, HoldsNext}
 use Rattle.btree_change.specs.Splits.{HasSpace}
-use Rattle.btree_change.specs.Stands.{AreLeftAs, LiesBeyond, SpendsCall, SpendsSteps, StandsOnWay}
-use Rattle.btree_change.specs.Stands.{StandsAt}
+use Rattle.btree_change.specs.Stands.{AreLeftAs, LiesBeyond, SpendsCall, StandsOnWay, StandsAt}
 
 -- It stands at the leaf, and the node above both leaves is known.
 abbrev pub StandsFar : Terms → Member → Far → Log → Type 0
@@ -61,7 +61,7 @@ pub record IsReadyFar (t : Terms) (m : Member) (far : Far) (v : Log) : Type 0 wh
 
 -- The next leaf was let go of, and the leaf, over which this was held.
 pub record LeavesFar (base : Holdings) (k k' : CallerData) : Type 0 where
-  pub steps : SpendsSteps 1 k k'
+  pub steps : Spends 1 k k'
   pub held : k'.log.holdings.held ≡ drop 1 base.held
   pub out : k'.log.holdings.out ≡ []
 

@@ -3,6 +3,7 @@ pub mod Paths
 pub mod Updates
 pub mod Insertion
 pub mod Removal
+pub mod Releases
 pub mod Spines
 pub mod Splits
 pub mod Halves

@@ -1,6 +1,6 @@
--- The way of a removal down the tree, by what its caller holds: one node, and the root where that
--- is another.
-use Rattle.std.specs.Prelude.{◌≡◌, ℕ, zero, suc, ◌+◌, ◌<◌, ◌≤◌, Bool, false, List, [], ◌∷◌, length}
+-- The way of a removal down the tree, by what its caller holds: one node, and the root where that is
+-- another.
+use Rattle.std.specs.Prelude.{◌≡◌, ℕ, zero, suc, ◌<◌, Bool, false, List, [], ◌∷◌, length}
 use Rattle.std.specs.Prelude.{IsSome}
 use Rattle.std.specs.List.{AllByRecursion}
 use Rattle.tree_shape.specs.Decisions.{is_entries}
@@ -12,8 +12,8 @@ use Rattle.word_rule.specs.Spelling.{SpellsNode}
 use Rattle.word_rule.specs.declared.log.Holding.{Holding}
 use Rattle.word_rule.specs.declared.log.Holdings.{Holdings}
 use Rattle.word_rule.specs.declared.log.Terms.{Terms}
-use Rattle.btree_change.specs.Loads.{KeepsLoads}
 use Rattle.btree_change.specs.Paths.{IsSettledLock}
+use Rattle.btree_change.specs.Releases.{Spends}
 
 -- the lock of the root, an inner node that has settled
 pub record IsSettledRoot (changed : Bool) (h : Holding) : Type 0 where
@@ -61,23 +61,6 @@ IsSpareAs (Link next) = Unit {0}
 abbrev pub IsSpare : ℕ → NodeData → Type 0
 IsSpare zero s = Unit {0}
 IsSpare (suc n) s = IsSpareAs s.body
-
--- What steps on nodes leave of their caller that lets go of at most so many nodes with the next
--- version: its calls, its receipts and its names are as they were, and what it had loaded stays
--- told.
-pub record Spends (releases : ℕ) (k k' : CallerData) : Type 0 where
-  pub table : k'.table ≡ k.table
-  pub left : k'.left ≡ k.left
-  pub terms : k'.log.terms ≡ k.log.terms
-  pub role : k'.log.role ≡ k.log.role
-  pub past : k'.log.past ≡ k.log.past
-  pub receipts : k'.log.receipts ≡ k.log.receipts
-  pub loader : k'.log.loader ≡ k.log.loader
-  pub made : k'.log.made ≡ k.log.made
-  pub lineage : k'.log.lineage ≡ k.log.lineage
-  pub allowance : k'.log.budget.allowance ≡ k.log.budget.allowance
-  pub credit : k.log.budget.credit ≤ k'.log.budget.credit + releases
-  pub loads : KeepsLoads k k'
 
 -- all that is held has settled as its words spell it
 abbrev pub HaveSettled : List Holding → Type 0

@@ -7,7 +7,8 @@ use Rattle.word_rule.specs.CallerData.{CallerData}
 use Rattle.word_rule.specs.declared.log.Terms.{Terms}
 use Rattle.btree_change.specs.Insertion.{IsRightInsertion, taken_by}
 use Rattle.btree_change.specs.Paths.{HoldsNothing}
-use Rattle.btree_change.specs.Stands.{SpendsCall, SpendsSteps}
+use Rattle.btree_change.specs.Releases.{Spends}
+use Rattle.btree_change.specs.Stands.{SpendsCall}
 
 -- It was answered, by at most so many releases, and nothing is held.
 pub record EndsInsertion (t : Terms) (m : Member) (answer : Inserted) (most : ℕ)
@@ -18,5 +19,5 @@ pub record EndsInsertion (t : Terms) (m : Member) (answer : Inserted) (most : �
 
 -- It gave up, and nothing is held.
 pub record GivesUpWhole (most : ℕ) (k k' : CallerData) : Type 0 where
-  pub steps : SpendsSteps most k k'
+  pub steps : Spends most k k'
   pub nothing : HoldsNothing k'.log.holdings

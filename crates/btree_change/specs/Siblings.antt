@@ -16,7 +16,8 @@ use Rattle.word_rule.specs.declared.log.Terms.{Terms}
 use Rattle.btree_change.specs.declared.sibling.Child.{Child}
 use Rattle.btree_change.specs.declared.sibling.Siblings.{Siblings}
 use Rattle.btree_change.specs.declared.descent.Held.{Held}
-use Rattle.btree_change.specs.Removing.{HoldsBesideRoot, IsBeside, IsSpare, Spends}
+use Rattle.btree_change.specs.Releases.{Spends}
+use Rattle.btree_change.specs.Removing.{HoldsBesideRoot, IsBeside, IsSpare}
 use Rattle.btree_change.specs.Splits.{IsHeldAs}
 
 -- A node is held under another, which has settled, and beside that the root; no node is out.

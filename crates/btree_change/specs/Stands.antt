@@ -28,6 +28,7 @@ use Rattle.btree_change.specs.declared.stand.Step.{Step}
 use Rattle.btree_change.specs.Insertion.{IsRightInsertion, taken_by}
 use Rattle.btree_change.specs.Loads.{FoundNoRoom, KeepsLoads}
 use Rattle.btree_change.specs.Paths.{AreHigher, HasChildFor}
+use Rattle.btree_change.specs.Releases.{Spends}
 use Rattle.btree_change.specs.Spines.{AreApart, Climbs}
 use Rattle.btree_change.specs.Splits.{HasSpace, IsHeldAs}
 
@@ -123,12 +124,6 @@ pub record SpendsCall (more : List Receipt) (taken most : ℕ) (k k' : CallerDat
   pub allowance : k'.log.budget.allowance ≡ k.log.budget.allowance - taken
   pub credit : k.log.budget.credit ≤ k'.log.budget.credit + most
 
--- a part of it that sees and answers nothing, and forgets nothing that was loaded
-pub record SpendsSteps (most : ℕ) (k k' : CallerData) : Type 0 where
-  pub call : SpendsCall [] 0 most k k'
-  pub past : k'.log.past ≡ k.log.past
-  pub loads : KeepsLoads k k'
-
 -- a held node that has settled, to be let go of as one that was changed or as one that wasn't
 pub record MayGo (node : ℕ) (changed : Bool) (holdings : Holdings) : Type 0 where
   pub lock : Holding
@@ -141,7 +136,7 @@ pub record MayGo (node : ℕ) (changed : Bool) (holdings : Holdings) : Type 0 wh
 
 -- It was let go of.
 pub record LetsGo (k k' : CallerData) : Type 0 where
-  pub steps : SpendsSteps 1 k k'
+  pub steps : Spends 1 k k'
   pub held : k'.log.holdings.held ≡ drop 1 k.log.holdings.held
   pub out : k'.log.holdings.out ≡ k.log.holdings.out
 
@@ -184,7 +179,7 @@ pub record AnswersBelow (t : Terms) (m : Member) (reply : Reply) (most : ℕ) (k
 
 -- A lock below was taken. The node at which the insertion stood was let go of.
 pub record GivesUpBelow (most : ℕ) (k k' : CallerData) : Type 0 where
-  pub steps : SpendsSteps most k k'
+  pub steps : Spends most k k'
   pub held : k'.log.holdings.held ≡ drop 1 k.log.holdings.held
   pub out : k'.log.holdings.out ≡ []
 
@@ -219,7 +214,7 @@ pub record HasSplit (t : Terms) (pc : ℕ) (step after : Step) (k k' : CallerDat
   pub node : after.parent.node ≡ step.parent.node
   pub frame : frame_of after.parent.content ≡ frame_of step.parent.content
   pub less : after.child.content.level < step.parent.content.level
-  pub steps : SpendsSteps 1 k k'
+  pub steps : Spends 1 k k'
 
 -- From where an insertion stood it went to the child for the address. That stands above it now, and
 -- it was changed where the child was split.
@@ -234,4 +229,4 @@ pub record GoesBelow (t : Terms) (m : Member) (stand : Stand) (passage : Passage
   pub level : upper.settled.level ≡ stand.at.content.level
   pub stored : upper.stored ≡ passage.changed
   pub less : passage.stand.at.content.level < stand.at.content.level
-  pub steps : SpendsSteps 1 k k'
+  pub steps : Spends 1 k k'

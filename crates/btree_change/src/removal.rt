@@ -10,8 +10,9 @@ ghost use Rattle.word_rule.specs.CallerData.{due, surplus};
 ghost use Rattle.word_rule.specs.Callers.{IsIdle};
 ghost use Rattle.word_rule.specs.Places.{CALL_CREDIT};
 ghost use Rattle.btree_change.specs.Paths.{HoldsNothing};
+ghost use Rattle.btree_change.specs.Releases.{Spends};
 ghost use Rattle.btree_change.specs.Removal.{AnswersRemoval, Removes, TriesRemoval};
-ghost use Rattle.btree_change.specs.Removing.{HoldsBesideRoot, IsSpare, Spends};
+ghost use Rattle.btree_change.specs.Removing.{HoldsBesideRoot, IsSpare};
 ghost use Rattle.btree_change.specs.Updates.{GivesUp};
 
 use crate::descent::at_root;

@@ -6,7 +6,8 @@ ghost use Rattle.tree_shape.specs.NodeData.{IsInFences, IsInner, pairs_of};
 ghost use Rattle.word_rule.specs.CallerData.{surplus};
 ghost use Rattle.btree_change.specs.Loads.{FoundTaken};
 ghost use Rattle.btree_change.specs.Paths.{HoldsNothing};
-ghost use Rattle.btree_change.specs.Removing.{HoldsBesideRoot, Spends};
+ghost use Rattle.btree_change.specs.Releases.{Spends};
+ghost use Rattle.btree_change.specs.Removing.{HoldsBesideRoot};
 ghost use Rattle.btree_change.specs.Siblings.{HoldsChild, HoldsSiblings, HoldsUnder, IsInEither};
 ghost use Rattle.btree_change.specs.Siblings.{is_small_body};
 

@@ -13,10 +13,11 @@ ghost use Rattle.node_store.specs.Holding.{SpellsHeld};
 ghost use Rattle.node_store.specs.Outlines.{OnlyLoads};
 ghost use Rattle.btree_change.specs.Paths.{StepsOnNodes};
 ghost use Rattle.btree_change.specs.Loads.{FoundTaken};
+ghost use Rattle.btree_change.specs.Releases.{Spends};
 ghost use Rattle.btree_change.specs.Splits.{HasSpace};
 ghost use Rattle.btree_change.specs.Stands.{GivesUpBelow, GoesBelow, HasSplit, HoldsPair};
 ghost use Rattle.btree_change.specs.Stands.{HasWayOn, HoldsStep, IsReach, Reaches};
-ghost use Rattle.btree_change.specs.Stands.{SpendsSteps, StandsOnWay, StandsAt};
+ghost use Rattle.btree_change.specs.Stands.{StandsOnWay, StandsAt};
 
 use crate::descent::{Held, child_for, let_go_of, take_node};
 use crate::split::{FullChild, room_for, split_child};
@@ -160,7 +161,7 @@ fn split_full<L: Locking>(
     ensures ok { IfOk result (λ after. HasSplit words.now.terms pc step after me.old me.new) }
     ensures busy { IfErr result (λ e. (me.new.log.holdings.held
         ≡ drop 1 me.old.log.holdings.held) × (me.new.log.holdings.out ≡ [])
-        × SpendsSteps 1 me.old me.new × (L.gives_up ≡ true)) }
+        × Spends 1 me.old me.new × (L.gives_up ≡ true)) }
     ensures cause { IfErr result (λ e. FoundTaken e.lock me.old me.new) }
 {
     if !is_full(&step.child) {
@@ -213,7 +214,7 @@ fn split_if_full<L: Locking>(
     ensures ok { IfOk result (λ after. HasSplit words.now.terms pc step after me.old me.new) }
     ensures busy { IfErr result (λ e. (me.new.log.holdings.held
         ≡ drop 1 me.old.log.holdings.held) × (me.new.log.holdings.out ≡ [])
-        × SpendsSteps 1 me.old me.new × (L.gives_up ≡ true)) }
+        × Spends 1 me.old me.new × (L.gives_up ≡ true)) }
     ensures cause { IfErr result (λ e. FoundTaken e.lock me.old me.new) }
 {
     match step.room {

@@ -4,7 +4,8 @@ ghost use Rattle.word_rule.specs.CallerData.{surplus};
 ghost use Rattle.word_rule.specs.Held.{held_of};
 ghost use Rattle.node_store.specs.Holding.{SpellsHeld};
 ghost use Rattle.btree_change.specs.Paths.{HoldsNothing, StepsOnNodes};
-ghost use Rattle.btree_change.specs.Removing.{HaveSettled, HoldsLocks, LetsGoOf, Spends};
+ghost use Rattle.btree_change.specs.Releases.{Spends};
+ghost use Rattle.btree_change.specs.Removing.{HaveSettled, HoldsLocks, LetsGoOf};
 
 use crate::descent::Held;
 use node_store::{Locking, read_held};

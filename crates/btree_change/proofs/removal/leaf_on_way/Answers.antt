@@ -1,7 +1,7 @@
 use Rattle.std.proofs.Common.{◌+◌, ◌-◌, arith}
 use Rattle.btree_change.proofs.Loading.{found_after}
 use Rattle.btree_change.proofs.RemovalAnswers.{root_spare}
-use Rattle.btree_change.proofs.Releases.{more_spent}
+use Rattle.btree_change.proofs.Spending.{more_spent}
 use Rattle.btree_change.proofs.removal.leaf_on_way.Goals as goal
 
 pub loop-me-init : goal.loop-me-init

@@ -1,6 +1,7 @@
 use Rattle.std.proofs.Common.{◌+◌, ◌-◌, ◌≤◌}
 use Rattle.tree_shape.specs.NodeData.{IsInFences}
-use Rattle.btree_change.specs.Removing.{HoldsBesideRoot, IsSpare, Spends}
+use Rattle.btree_change.specs.Releases.{Spends}
+use Rattle.btree_change.specs.Removing.{HoldsBesideRoot, IsSpare}
 use Rattle.btree_change.proofs.removal.leaf_on_way.Given as goal
 
 abbrev pub invariant-loop-me : goal.invariant-loop-me

@@ -1,5 +1,5 @@
 use Rattle.std.proofs.Common.{sym, subst}
-use Rattle.btree_change.specs.Removing.{Spends}
+use Rattle.btree_change.specs.Releases.{Spends}
 use Rattle.btree_change.proofs.RemovalAnswers.{done_so, read_spends, refusal_so, surplus_refused, surplus_taken}
 use Rattle.btree_change.proofs.removal.remove_by.Goals as goal
 

@@ -65,14 +65,14 @@ alone-requires-clause-table g c =
     let t = c.args.words.now.terms in let m = c.args.member.now in let k = c.args.me.now in
     let root = c.args.root in let h = c.requires.root in let k1 = c.room_for_root.new.me in
     let none = subst (λ o. IsRoomForRoot g.L.Locking.gives_up root c.first.result k k1 (Ok o)) c.in-Ok-None.field-0-is c.in-Ok-None.ensures in let spent = kept_steps k k1 none.0 in
-    spent.call.table ∙ c.requires.table
+    spent.table ∙ c.requires.table
 
 pub alone-requires-clause-terms : goal.alone-requires-clause-terms
 alone-requires-clause-terms g c =
     let t = c.args.words.now.terms in let m = c.args.member.now in let k = c.args.me.now in
     let root = c.args.root in let h = c.requires.root in let k1 = c.room_for_root.new.me in
     let none = subst (λ o. IsRoomForRoot g.L.Locking.gives_up root c.first.result k k1 (Ok o)) c.in-Ok-None.field-0-is c.in-Ok-None.ensures in let spent = kept_steps k k1 none.0 in
-    spent.call.terms ∙ c.requires.terms
+    spent.terms ∙ c.requires.terms
 
 pub alone-requires-clause-stands : goal.alone-requires-clause-stands
 alone-requires-clause-stands g c =
@@ -117,7 +117,7 @@ pub let_go_of-requires-clause-table : goal.let_go_of-requires-clause-table
 let_go_of-requires-clause-table g c =
     let t = c.args.words.now.terms in let m = c.args.member.now in let k = c.args.me.now in
     let root = c.args.root in let h = c.requires.root in let k1 = c.room_for_root.new.me in
-    (kept_steps k k1 c.in-Err.ensures.0).call.table ∙ c.requires.table
+    (kept_steps k k1 c.in-Err.ensures.0).table ∙ c.requires.table
 
 pub let_go_of-requires-clause-may : goal.let_go_of-requires-clause-may
 let_go_of-requires-clause-may g c =

@@ -1,8 +1,9 @@
 use Rattle.std.proofs.Common.{sym, subst}
 use Rattle.word_rule.specs.CallerData.{CallerData}
-use Rattle.btree_change.specs.Removing.{HoldsBesideRoot, Spends}
+use Rattle.btree_change.specs.Releases.{Spends}
+use Rattle.btree_change.specs.Removing.{HoldsBesideRoot}
 use Rattle.btree_change.proofs.Locked.{left_other, left_root}
-use Rattle.btree_change.proofs.Releases.{spends_all}
+use Rattle.btree_change.proofs.Spending.{spends_all}
 use Rattle.btree_change.proofs.sibling.leave.Goals as goal
 use Rattle.btree_change.proofs.sibling.leave.Goals.{then-above-eq0, else-above-eq0}
 

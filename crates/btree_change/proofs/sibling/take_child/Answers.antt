@@ -6,8 +6,7 @@ use Rattle.btree_change.proofs.HeldOutlines.{way_spells}
 use Rattle.btree_change.proofs.Outlining.{spells_later, steps_of_loads}
 use Rattle.btree_change.proofs.Loading.{found_between, found_busy}
 use Rattle.btree_change.proofs.Locked.{busy_kept, child_so, child_steps, child_within, may_read_taken}
-use Rattle.btree_change.proofs.Mended.{spends_none}
-use Rattle.btree_change.proofs.Releases.{more_spent, spends_then}
+use Rattle.btree_change.proofs.Spending.{more_spent, spends_same, steps_after}
 use Rattle.btree_change.proofs.sibling.take_child.Goals as goal
 use Rattle.btree_change.proofs.Lowering.{settled_order}
 
@@ -36,12 +35,12 @@ pub returns-clause-spends : goal.returns-clause-spends
 returns-clause-spends g c =
     let k = c.args.me.now in let k1 = c.slot_of-slot.new.me in let k2 = c.pair_of-node.new.me in let k4 = c.outline_of-content.new.me in
     let down = steps_then k k2 k4 (steps_then k k1 k2 (steps_of_loads k k1 c.slot_of-slot.ensures.loads) (steps_of_loads k1 k2 c.pair_of-node.ensures.loads)) (child_steps c.pair_of-node.result.child k2 c.take_node.new.me k4 c.in_default.ensures.ok c.outline_of-content.ensures.loads) in
-    more_spent 0 2 k k4 (omega arith) (spends_none k k4 down)
+    more_spent 0 2 k k4 (omega arith) (spends_same k k4 down)
 
 pub returns-clause-free : goal.returns-clause-free
 returns-clause-free g c =
     let k = c.args.me.now in let k1 = c.slot_of-slot.new.me in let k2 = c.pair_of-node.new.me in let k4 = c.outline_of-content.new.me in
-    spends_none k k4 (steps_then k k2 k4 (steps_then k k1 k2 (steps_of_loads k k1 c.slot_of-slot.ensures.loads) (steps_of_loads k1 k2 c.pair_of-node.ensures.loads)) (child_steps c.pair_of-node.result.child k2 c.take_node.new.me k4 c.in_default.ensures.ok c.outline_of-content.ensures.loads))
+    spends_same k k4 (steps_then k k2 k4 (steps_then k k1 k2 (steps_of_loads k k1 c.slot_of-slot.ensures.loads) (steps_of_loads k1 k2 c.pair_of-node.ensures.loads)) (child_steps c.pair_of-node.result.child k2 c.take_node.new.me k4 c.in_default.ensures.ok c.outline_of-content.ensures.loads))
 
 pub returns-in-Err-clause-cause : goal.returns-in-Err-clause-cause
 returns-in-Err-clause-cause g c =
@@ -53,7 +52,7 @@ pub returns-in-Err-clause-spends : goal.returns-in-Err-clause-spends
 returns-in-Err-clause-spends g c =
     let k = c.args.me.now in let k1 = c.slot_of-slot.new.me in let k2 = c.pair_of-node.new.me in let k3 = c.take_node.new.me in
     let before = steps_then k k2 k3 (steps_then k k1 k2 (steps_of_loads k k1 c.slot_of-slot.ensures.loads) (steps_of_loads k1 k2 c.pair_of-node.ensures.loads)) (busy_kept c.in-Err.busy.lock k2 k3 c.in-Err.ensures.busy.1).2 in
-    spends_then 0 2 2 k k3 c.let_go_of_way.new.me refl (spends_none k k3 before) c.let_go_of_way.ensures.spends
+    steps_after 0 2 2 k k3 c.let_go_of_way.new.me (omega arith) (spends_same k k3 before) c.let_go_of_way.ensures.spends
 
 pub take_node-requires-clause-inside : goal.take_node-requires-clause-inside
 take_node-requires-clause-inside g c = child_within c.args.words.now.terms c.args.above.at.node c.args.above.at.content c.args.above.at.changed c.args.above.root_changed c.args.me.now.log.holdings c.slot_of-slot.result c.pair_of-node.result c.requires.path c.pair_of-node.ensures.pair

@@ -1,4 +1,4 @@
-use Rattle.std.proofs.Common.{◌<◌, length, ◌∙◌, sym, ap, subst, refl, arith}
+use Rattle.std.proofs.Common.{◌<◌, length, ◌∙◌, sym, ap, subst, arith}
 use Rattle.tree_shape.specs.Changes.{pair}
 use Rattle.tree_shape.specs.NodeData.{pairs_of}
 use Rattle.word_rule.specs.CallerData.{CallerData, surplus}
@@ -9,9 +9,8 @@ use Rattle.btree_change.proofs.HeldOutlines.{parent_spells}
 use Rattle.btree_change.proofs.Outlining.{steps_of_loads}
 use Rattle.btree_change.proofs.Loading.{found_between, found_busy}
 use Rattle.btree_change.proofs.Locked.{busy_kept, child_steps, may_read_taken}
-use Rattle.btree_change.proofs.Mended.{spends_none}
 use Rattle.btree_change.proofs.Neighbouring.{beside_inside, sibling_within, siblings_so, some_pairs}
-use Rattle.btree_change.proofs.Releases.{more_spent, spends_then}
+use Rattle.btree_change.proofs.Spending.{more_spent, spends_same, steps_after}
 use Rattle.btree_change.proofs.sibling.take_sibling.Goals as goal
 use Rattle.btree_change.proofs.Lowering.{settled_inner}
 
@@ -51,12 +50,12 @@ returns-clause-ok g c =
 pub returns-clause-spends : goal.returns-clause-spends
 returns-clause-spends g c =
     let k = c.args.me.now in let k1 = c.pair_of-node.new.me in let k2 = c.load_node.new.me in let k3 = c.take_node.new.me in let k4 = c.outline_of-content.new.me in
-    more_spent 0 2 k k4 (omega arith) (spends_none k k4 (steps_then k k2 k4 (steps_then k k1 k2 (steps_of_loads k k1 c.pair_of-node.ensures.loads) (steps_of_load c.args.child.at.node 2 c.load_node.result k1 k2 c.load_node.ensures.log)) (child_steps c.pair_of-node.result.child k2 k3 k4 c.in_default.ensures.ok c.outline_of-content.ensures.loads)))
+    more_spent 0 2 k k4 (omega arith) (spends_same k k4 (steps_then k k2 k4 (steps_then k k1 k2 (steps_of_loads k k1 c.pair_of-node.ensures.loads) (steps_of_load c.args.child.at.node 2 c.load_node.result k1 k2 c.load_node.ensures.log)) (child_steps c.pair_of-node.result.child k2 k3 k4 c.in_default.ensures.ok c.outline_of-content.ensures.loads)))
 
 pub returns-clause-free : goal.returns-clause-free
 returns-clause-free g c =
     let k = c.args.me.now in let k1 = c.pair_of-node.new.me in let k2 = c.load_node.new.me in let k3 = c.take_node.new.me in let k4 = c.outline_of-content.new.me in
-    spends_none k k4 (steps_then k k2 k4 (steps_then k k1 k2 (steps_of_loads k k1 c.pair_of-node.ensures.loads) (steps_of_load c.args.child.at.node 2 c.load_node.result k1 k2 c.load_node.ensures.log)) (child_steps c.pair_of-node.result.child k2 k3 k4 c.in_default.ensures.ok c.outline_of-content.ensures.loads))
+    spends_same k k4 (steps_then k k2 k4 (steps_then k k1 k2 (steps_of_loads k k1 c.pair_of-node.ensures.loads) (steps_of_load c.args.child.at.node 2 c.load_node.result k1 k2 c.load_node.ensures.log)) (child_steps c.pair_of-node.result.child k2 k3 k4 c.in_default.ensures.ok c.outline_of-content.ensures.loads))
 
 pub returns-in-Err-clause-cause : goal.returns-in-Err-clause-cause
 returns-in-Err-clause-cause g c =
@@ -66,7 +65,7 @@ returns-in-Err-clause-cause g c =
 pub returns-in-Err-clause-spends : goal.returns-in-Err-clause-spends
 returns-in-Err-clause-spends g c =
     let k = c.args.me.now in let k1 = c.pair_of-node.new.me in let k2 = c.load_node.new.me in let k3 = c.take_node.new.me in
-    spends_then 0 2 2 k k3 c.let_go_of_child.new.me refl (spends_none k k3 (steps_then k k2 k3 (steps_then k k1 k2 (steps_of_loads k k1 c.pair_of-node.ensures.loads) (steps_of_load c.args.child.at.node 2 c.load_node.result k1 k2 c.load_node.ensures.log)) (busy_kept c.in-Err.busy.lock k2 k3 c.in-Err.ensures.busy.1).2)) c.let_go_of_child.ensures.spends
+    steps_after 0 2 2 k k3 c.let_go_of_child.new.me (omega arith) (spends_same k k3 (steps_then k k2 k3 (steps_then k k1 k2 (steps_of_loads k k1 c.pair_of-node.ensures.loads) (steps_of_load c.args.child.at.node 2 c.load_node.result k1 k2 c.load_node.ensures.log)) (busy_kept c.in-Err.busy.lock k2 k3 c.in-Err.ensures.busy.1).2)) c.let_go_of_child.ensures.spends
 
 pub take_node-requires-clause-inside : goal.take_node-requires-clause-inside
 take_node-requires-clause-inside g c = sibling_within c.args.words.now.terms c.args.child.above.at.node c.args.child.above.at.content c.args.child.above.at.changed c.requires.held.upper c.slot_beside-beside.result c.pair_of-node.result c.requires.held.parent c.pair_of-node.ensures.pair
