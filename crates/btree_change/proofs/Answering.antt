@@ -16,11 +16,13 @@ use Rattle.btree_change.specs.declared.descent.Held.{Held}
 use Rattle.btree_change.specs.declared.stand.Outcome.{Outcome}
 use Rattle.btree_change.specs.Insertion.{HoldsLeaf, IsInnerLock, PutsMember, RefusesMember, taken_by}
 use Rattle.btree_change.specs.Paths.{AreHigher}
+use Rattle.btree_change.specs.Releases.{LetsGo}
 use Rattle.btree_change.specs.Splits.{HasSpace}
 use Rattle.btree_change.proofs.Putting.{leaf_at_zero}
-use Rattle.btree_change.specs.Stands.{AnswersBelow, AnswersHere, AreLeftAs, LetsGo, MayGo, StandsAt}
+use Rattle.btree_change.specs.Stands.{AnswersBelow, AnswersHere, AreLeftAs, StandsAt}
 use Rattle.btree_change.proofs.Descending.{is_inner}
 use Rattle.btree_change.proofs.Lowering.{settled_live}
+use Rattle.btree_change.proofs.Releasing.{IsLowest, left_above}
 use Rattle.btree_change.proofs.Spending.{refused_call, right_before, spends_before, surplus_after}
 use Rattle.btree_change.proofs.NextLeaves.{higher_spelled}
 
@@ -91,8 +93,8 @@ module _ (t : Terms) (m : Member) (at : Held) (k : CallerData) (stands : StandsA
   }
 
   module _ (outcome : Outcome) (k1 : CallerData) (here : AnswersHere t m at.node outcome k k1) where
-    pub here_may_go : MayGo at.node outcome.changed k1.log.holdings
-    here_may_go = record {
+    pub here_lowest : IsLowest at.node outcome.changed k1.log.holdings
+    here_lowest = record {
       lock = here.lock;
       above = stands.above;
       held = here.held ∙ ap (λ hs. here.lock ∷ hs) above_is;
@@ -105,10 +107,10 @@ module _ (t : Terms) (m : Member) (at : Held) (k : CallerData) (stands : StandsA
     pub here_surplus : (need : ℕ) → need ≤ surplus k → need ≤ surplus k1
     here_surplus need enough = surplus_after (receipt.Register m outcome.answer ∷ []) (taken_by outcome.answer) 0 k k1 need here.call (omega (arith, enough))
 
-    pub here_answered : (k2 : CallerData) → LetsGo k1 k2 → AnswersBelow t m (record { answer = outcome.answer; moved = 0 }) 13 k k2
+    pub here_answered : (k2 : CallerData) → LetsGo at.node k1 k2 → AnswersBelow t m (record { answer = outcome.answer; moved = 0 }) 13 k k2
     here_answered k2 gone = record {
       right = right_before t m outcome.answer k k1 k2 gone.steps.past here.right;
       call = spends_before 0 1 13 (receipt.Register m outcome.answer ∷ []) (taken_by outcome.answer) k k1 k2 (omega arith) here.call gone.steps;
-      above = subst (λ hs. AreLeftAs 0 hs k2.log.holdings.held) (sym above_is) (subst (AreLeftAs 0 stands.above) (sym (gone.held ∙ (ap (drop 1) here.held ∙ above_is))) (unmoved t 0 at.content.level stands.above stands.higher));
+      above = subst (λ hs. AreLeftAs 0 hs k2.log.holdings.held) (sym above_is) (subst (AreLeftAs 0 stands.above) (sym (left_above at.node outcome.changed k1 k2 here_lowest gone ∙ (ap (drop 1) here.held ∙ above_is))) (unmoved t 0 at.content.level stands.above stands.higher));
       out = gone.out ∙ here.out;
     }

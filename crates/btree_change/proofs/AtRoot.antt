@@ -26,14 +26,15 @@ use Rattle.reg_model.specs.declared.answer.Inserted.TheVariants as inserted
 use Rattle.btree_change.specs.Insertion.{AnswersInsertion, IfFull, Inserts, call_begun, taken_by}
 use Rattle.btree_change.specs.Loads.{FoundNoRoom, FoundTaken}
 use Rattle.btree_change.specs.Paths.{AreHigher, HoldsNothing, StepsOnNodes}
-use Rattle.btree_change.specs.Releases.{Spends}
+use Rattle.btree_change.specs.Releases.{LetsGo, Spends}
 use Rattle.btree_change.specs.Roots.{EndsInsertion, GivesUpWhole}
 use Rattle.btree_change.specs.Splits.{HoldsFullAlone, HoldsFullRoot, KeepsHeld, LiftsRoot, TakesTwo, with_release_less}
-use Rattle.btree_change.specs.Stands.{AnswersBelow, AreLeftAs, GivesUpBelow, HasWayOn, HoldsPair, HoldsRoot, LetsGo, MayGo, Reaches, StandsOnWay, StandsAt}
+use Rattle.btree_change.specs.Stands.{AnswersBelow, AreLeftAs, GivesUpBelow, HasWayOn, HoldsPair, HoldsRoot, Reaches, StandsOnWay, StandsAt}
 use Rattle.btree_change.specs.Updates.{GivesUp}
 use Rattle.btree_change.proofs.Loading.{found_after}
 use Rattle.btree_change.proofs.Lowering.{settled_live}
 use Rattle.btree_change.proofs.NoRoom.{if_full, no_room_after}
+use Rattle.btree_change.proofs.Releasing.{IsLowest, left_above}
 use Rattle.btree_change.proofs.Spending.{answers_so, more_spent, right_after, right_before, spends_after, spends_all, spends_before, spends_one, spends_same, steps_after, surplus_after, surplus_steps}
 
 -- the root alone is where an insertion stands
@@ -169,34 +170,34 @@ module _ (t : Terms) (m : Member) (full : FullRoot) (k : CallerData) (held : Hol
             spells = all.0.spells;
           }
 
-      pub lifted_may_go : MayGo 0 true k3.log.holdings
-      lifted_may_go = record { lock = one_left.lock; above = []; held = one_left.is; is_node = one_left.node; stored = λ e. absurd (true≢false e); settled = (one_left.spells, tt); apart = (tt, tt) }
+      pub lifted_lowest : IsLowest 0 true k3.log.holdings
+      lifted_lowest = record { lock = one_left.lock; above = []; held = one_left.is; is_node = one_left.node; stored = λ e. absurd (true≢false e); settled = (one_left.spells, tt); apart = (tt, tt) }
 
       pub lifted_surplus : 39 ≤ surplus k → 0 < surplus k3
       lifted_surplus enough = surplus_after (receipt.Register m reply.answer ∷ []) (taken_by reply.answer) 38 k k3 1 (spends_after 1 most 38 (receipt.Register m reply.answer ∷ []) (taken_by reply.answer) k k2 k3 (omega (arith, few)) lifted_two a.call) (omega (arith, enough))
 
-      pub lifted_ends : (k4 : CallerData) → LetsGo k3 k4 → EndsInsertion t m reply.answer 39 k k4
+      pub lifted_ends : (k4 : CallerData) → LetsGo 0 k3 k4 → EndsInsertion t m reply.answer 39 k k4
       lifted_ends k4 goes = record {
         right = right_after t m reply.answer k k2 k4 lifted_two.past (right_before t m reply.answer k2 k3 k4 goes.steps.past a.right);
         call = spends_after 1 38 39 (receipt.Register m reply.answer ∷ []) (taken_by reply.answer) k k2 k4 (omega arith) lifted_two
             (spends_before most 1 38 (receipt.Register m reply.answer ∷ []) (taken_by reply.answer) k2 k3 k4 (omega (arith, few)) a.call goes.steps);
-        nothing = (goes.held ∙ ap (drop 1) one_left.is, goes.out ∙ a.out);
+        nothing = (left_above 0 true k3 k4 lifted_lowest goes ∙ ap (drop 1) one_left.is, goes.out ∙ a.out);
       }
 
     module _ (most : ℕ) (k3 : CallerData) (few : most ≤ 37) (g : GivesUpBelow most k2 k3) where
       left_is : k3.log.holdings.held ≡ lifts.upper ∷ []
       left_is = g.held ∙ above_is
 
-      pub gave_may_go : MayGo 0 true k3.log.holdings
-      gave_may_go = record { lock = lifts.upper; above = []; held = left_is; is_node = lifts.parent_held.node ∙ parent_node; stored = λ e. absurd (true≢false e); settled = (subst (SpellsNode lifts.upper.words) (sym lifts.parent_held.settled) lifts.parent_held.spells, tt); apart = (tt, tt) }
+      pub gave_lowest : IsLowest 0 true k3.log.holdings
+      gave_lowest = record { lock = lifts.upper; above = []; held = left_is; is_node = lifts.parent_held.node ∙ parent_node; stored = λ e. absurd (true≢false e); settled = (subst (SpellsNode lifts.upper.words) (sym lifts.parent_held.settled) lifts.parent_held.spells, tt); apart = (tt, tt) }
 
       pub gave_surplus : 39 ≤ surplus k → 0 < surplus k3
       gave_surplus enough = surplus_steps 38 k k3 1 (steps_after 1 most 38 k k2 k3 (omega (arith, few)) lifted_two g.steps) (omega (arith, enough))
 
-      pub lifted_gives_up : (k4 : CallerData) → LetsGo k3 k4 → GivesUpWhole 39 k k4
+      pub lifted_gives_up : (k4 : CallerData) → LetsGo 0 k3 k4 → GivesUpWhole 39 k k4
       lifted_gives_up k4 goes = record {
         steps = steps_after 1 38 39 k k2 k4 (omega arith) lifted_two (steps_after most 1 38 k2 k3 k4 (omega (arith, few)) g.steps goes.steps);
-        nothing = (goes.held ∙ ap (drop 1) left_is, goes.out ∙ g.out);
+        nothing = (left_above 0 true k3 k4 gave_lowest goes ∙ ap (drop 1) left_is, goes.out ∙ g.out);
       }
 
 -- two nodes were taken for the full root
@@ -270,10 +271,21 @@ update_given_up id k l n same cause g = gives_so id 64 k n (omega arith) (found_
 pub root_busy : (id : LockId) (k l : CallerData) → StepsOnNodes k l → FoundTaken id k l → HoldsNothing l.log.holdings → GivesUp id k l
 root_busy id k l same cause nothing = gives_so id 0 k l (omega arith) cause (record { steps = spends_same k l same; nothing = nothing })
 
-pub root_gone : (t : Terms) (root : Held) (k k1 k2 : CallerData) → HoldsRoot t root k.log.holdings → KeepsHeld k k1 → LetsGo k1 k2 → GivesUpWhole 64 k k2
+pub root_lowest : (t : Terms) (root : Held) (k k1 : CallerData) → HoldsRoot t root k.log.holdings → KeepsHeld k k1 → IsLowest root.node root.changed k1.log.holdings
+root_lowest t root k k1 h kept = record {
+  lock = h.lock;
+  above = [];
+  held = kept.held ∙ h.held;
+  is_node = h.here.node;
+  stored = λ e. h.here.stored ∙ e;
+  settled = (subst (SpellsNode h.lock.words) (sym h.here.settled) h.here.spells, tt);
+  apart = (tt, tt);
+}
+
+pub root_gone : (t : Terms) (root : Held) (k k1 k2 : CallerData) → HoldsRoot t root k.log.holdings → KeepsHeld k k1 → LetsGo root.node k1 k2 → GivesUpWhole 64 k k2
 root_gone t root k k1 k2 h kept goes = record {
   steps = steps_after 1 1 64 k k1 k2 (omega arith) (kept_steps k k1 kept) goes.steps;
-  nothing = (goes.held ∙ ap (drop 1) (kept.held ∙ h.held), goes.out ∙ (kept.out ∙ h.out));
+  nothing = (left_above root.node root.changed k1 k2 (root_lowest t root k k1 h kept) goes ∙ ap (drop 1) (kept.held ∙ h.held), goes.out ∙ (kept.out ∙ h.out));
 }
 
 pub if_ok : {A E : Type 0} (P Q : A → Type 0) (r : Result A E) → ((a : A) → P a → Q a) → IfOk r P → IfOk r Q

@@ -34,9 +34,9 @@ use Rattle.btree_change.specs.Far.{AnswersAbove, IsAtNext, IsReadyFar, LeavesFar
 use Rattle.btree_change.specs.Insertion.{HoldsLeaf, IsInnerLock, PutsMember, RefusesMember, taken_by}
 use Rattle.btree_change.specs.Paths.{AreHigher, IsSettledLock, StepsOnNodes}
 use Rattle.btree_change.specs.Loads.{KeepsLoads}
-use Rattle.btree_change.specs.Releases.{Spends}
+use Rattle.btree_change.specs.Releases.{LetsGo, Spends}
 use Rattle.btree_change.specs.Spines.{AreApart, AreMovedLocks, HoldsLeafPair, HoldsNext, HoldsWay, MovesFence}
-use Rattle.btree_change.specs.Stands.{AnswersBelow, AreLeftAs, GivesUpBelow, HasWayOn, LiesBeyond, LetsGo, MayGo, SpendsCall, StandsAt}
+use Rattle.btree_change.specs.Stands.{AnswersBelow, AreLeftAs, GivesUpBelow, HasWayOn, LiesBeyond, SpendsCall, StandsAt}
 use Rattle.btree_change.proofs.Answering.{inner_above, leaf_room, unmoved}
 use Rattle.btree_change.proofs.Descending.{steps_of_read}
 use Rattle.btree_change.proofs.Going.{apart_left, far_left, way_lowered}
@@ -44,9 +44,10 @@ use Rattle.btree_change.proofs.LockedSpines.{may_read_found, reads_spelled}
 use Rattle.btree_change.proofs.Outlining.{spells_held}
 use Rattle.btree_change.proofs.NextOverlaps.{both_free, both_leaves}
 use Rattle.btree_change.proofs.Refusing.{refused_full}
+use Rattle.btree_change.proofs.Releasing.{IsLowest, left_above}
 use Rattle.btree_change.proofs.Settling.{found_first}
 use Rattle.btree_change.proofs.Spending.{refused_call, right_after, right_before, spends_after, spends_before, spends_same, steps_after, surplus_after, surplus_steps}
-use Rattle.btree_change.proofs.Standing.{live_lock, may_go}
+use Rattle.btree_change.proofs.Standing.{live_lock, lowest_of}
 use Rattle.btree_change.proofs.Stepping.{splits_on}
 use Rattle.btree_change.proofs.Storing.{found_at}
 use Rattle.btree_change.proofs.HeldLists.{found_head}
@@ -66,16 +67,16 @@ module _ (t : Terms) (n : ℕ) (s : NodeData) (r : ℕ) (u : NodeData) (m : Memb
 
 -- The right spine was let go of, and then the leaf.
 module _ (t : Terms) (leaf : Held) (base : Holdings) (stands : StandsAt t leaf base) (k k1 : CallerData) (is : k1.log.holdings ≡ base) (same : StepsOnNodes k k1) (loads : KeepsLoads k k1) where
-  pub far_may_go : MayGo leaf.node leaf.changed k1.log.holdings
-  far_may_go = subst (MayGo leaf.node leaf.changed) (sym is) (may_go t leaf base stands)
+  pub far_lowest : IsLowest leaf.node leaf.changed k1.log.holdings
+  far_lowest = subst (IsLowest leaf.node leaf.changed) (sym is) (lowest_of t leaf base stands)
 
   pub far_surplus : 0 < surplus k → 0 < surplus k1
   far_surplus some = surplus_steps 0 k k1 1 (spends_same k k1 same) (omega (arith, some))
 
-  pub left_far : (k2 : CallerData) → LetsGo k1 k2 → LeavesFar base k k2
+  pub left_far : (k2 : CallerData) → LetsGo leaf.node k1 k2 → LeavesFar base k k2
   left_far k2 goes = record {
     steps = steps_after 0 1 1 k k1 k2 (omega arith) (spends_same k k1 same) goes.steps;
-    held = goes.held ∙ ap (λ (hs : Holdings). drop 1 hs.held) is;
+    held = left_above leaf.node leaf.changed k1 k2 far_lowest goes ∙ ap (λ (hs : Holdings). drop 1 hs.held) is;
     out = goes.out ∙ (ap (λ (hs : Holdings). hs.out) is ∙ stands.out);
   }
 
@@ -273,8 +274,8 @@ module _ (t : Terms) (m : Member) (far : Far) (k : CallerData) (ready : IsReadyF
         pub table3 : k3.table ≡ k.table
         table3 = puts.table ∙ table2
 
-        pub put_may_go : MayGo far.leaf.node true k3.log.holdings
-        put_may_go = record {
+        pub put_lowest : IsLowest far.leaf.node true k3.log.holdings
+        put_lowest = record {
           lock = puts.lock;
           above = above1;
           held = puts.held ∙ ap (λ hs. puts.lock ∷ hs) rest_is;
@@ -291,14 +292,14 @@ module _ (t : Terms) (m : Member) (far : Far) (k : CallerData) (ready : IsReadyF
         pub put_surplus : 13 ≤ surplus k → 0 < surplus k3
         put_surplus enough = surplus_after (receipt.Register m (inserted.Done number) ∷ []) 1 12 k k3 1 (spends_after 12 0 12 (receipt.Register m (inserted.Done number) ∷ []) 1 k k2 k3 (omega arith) spent put_call) (omega (arith, enough))
 
-        pub put_answers : (k4 : CallerData) → LetsGo k3 k4 → AnswersAbove t m (record { answer = inserted.Done number; moved = far.beyond.level }) (drop 1 ready.next.base.held) 13 k k4
+        pub put_answers : (k4 : CallerData) → LetsGo far.leaf.node k3 k4 → AnswersAbove t m (record { answer = inserted.Done number; moved = far.beyond.level }) (drop 1 ready.next.base.held) 13 k k4
         put_answers k4 goes = record {
           right = right_after t m (inserted.Done number) k k2 k4 spent.past
               (right_before t m (inserted.Done number) k2 k3 k4 goes.steps.past (puts.before, (puts.begins, puts.past, puts.number_is)));
           call = spends_after 12 1 13 (receipt.Register m (inserted.Done number) ∷ []) 1 k k2 k4 (omega arith) spent
               (spends_before 0 1 1 (receipt.Register m (inserted.Done number) ∷ []) 1 k2 k3 k4 (omega arith) put_call goes.steps);
           left = subst (λ hs. AreLeftAs far.beyond.level hs k4.log.holdings.held) (sym (ap (drop 1) way.held))
-              (subst (AreLeftAs far.beyond.level (way.spine ++ way.top ∷ way.rest)) (sym (goes.held ∙ (ap (drop 1) puts.held ∙ rest_is))) left_as);
+              (subst (AreLeftAs far.beyond.level (way.spine ++ way.top ∷ way.rest)) (sym (left_above far.leaf.node true k3 k4 put_lowest goes ∙ (ap (drop 1) puts.held ∙ rest_is))) left_as);
           out = goes.out ∙ puts.out;
         }
 
@@ -404,12 +405,12 @@ module _ (t : Terms) (m : Member) (far : Far) (k : CallerData) (stands : StandsF
     }
 
   -- or a lock was taken
-  pub busy_may_go : (k1 : CallerData) → k1.log.holdings ≡ k.log.holdings → MayGo far.leaf.node far.leaf.changed k1.log.holdings
-  busy_may_go k1 is = subst (MayGo far.leaf.node far.leaf.changed) (sym is) (may_go t far.leaf k.log.holdings stands.at)
+  pub busy_lowest : (k1 : CallerData) → k1.log.holdings ≡ k.log.holdings → IsLowest far.leaf.node far.leaf.changed k1.log.holdings
+  busy_lowest k1 is = subst (IsLowest far.leaf.node far.leaf.changed) (sym is) (lowest_of t far.leaf k.log.holdings stands.at)
 
-  pub busy_far : (k1 k2 : CallerData) → k1.log.holdings ≡ k.log.holdings → StepsOnNodes k k1 → LetsGo k1 k2 → GivesUpBelow 13 k k2
+  pub busy_far : (k1 k2 : CallerData) → k1.log.holdings ≡ k.log.holdings → StepsOnNodes k k1 → LetsGo far.leaf.node k1 k2 → GivesUpBelow 13 k k2
   busy_far k1 k2 is same goes = record {
     steps = steps_after 0 1 13 k k1 k2 (omega arith) (spends_same k k1 same) goes.steps;
-    held = goes.held ∙ ap (λ (hs : Holdings). drop 1 hs.held) is;
+    held = left_above far.leaf.node far.leaf.changed k1 k2 (busy_lowest k1 is) goes ∙ ap (λ (hs : Holdings). drop 1 hs.held) is;
     out = goes.out ∙ (ap (λ (hs : Holdings). hs.out) is ∙ stands.at.out);
   }

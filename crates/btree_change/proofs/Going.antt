@@ -21,12 +21,13 @@ use Rattle.btree_change.specs.declared.stand.Step.{Step}
 use Rattle.btree_change.specs.Insertion.{IfFull, taken_by}
 use Rattle.btree_change.specs.Paths.{StepsOnNodes}
 use Rattle.btree_change.specs.Loads.{KeepsLoads}
-use Rattle.btree_change.specs.Releases.{Spends}
+use Rattle.btree_change.specs.Releases.{LetsGo, Spends}
 use Rattle.btree_change.specs.Spines.{AreApart, Climbs}
-use Rattle.btree_change.specs.Stands.{AnswersBelow, AreLeftAs, GivesUpBelow, GoesBelow, HasCause, HasSplit, HasWayOn, HoldsPair, HoldsStep, IfNoneFree, LiesBeyond, IsLeftAs, LetsGo, MayGo, Reaches, StandsOnWay}
+use Rattle.btree_change.specs.Stands.{AnswersBelow, AreLeftAs, GivesUpBelow, GoesBelow, HasCause, HasSplit, HasWayOn, HoldsPair, HoldsStep, IfNoneFree, LiesBeyond, IsLeftAs, Reaches, StandsOnWay}
 use Rattle.btree_change.proofs.NoRoom.{cause_after, cause_below, cause_still, if_full}
+use Rattle.btree_change.proofs.Releasing.{IsLowest, left_above}
 use Rattle.btree_change.proofs.Spending.{own_same, right_after, right_before, spends_after, spends_before, spends_same, steps_after}
-use Rattle.btree_change.proofs.Standing.{may_go, way_kept}
+use Rattle.btree_change.proofs.Standing.{lowest_of, way_kept}
 use Rattle.btree_change.proofs.NextLeaves.{higher_spelled}
 
 -- the way on, after the child was locked
@@ -91,8 +92,8 @@ module _ (t : Terms) (m : Member) (stand : Stand) (k : CallerData) (stands : Sta
     split_busy : (k2 : CallerData) → k2.log.holdings.held ≡ drop 1 k1.log.holdings.held → k2.log.holdings.held ≡ pair.upper ∷ drop 1 k.log.holdings.held
     split_busy k2 held = held ∙ ap (drop 1) pair.held
 
-    pub split_may_go : (k2 : CallerData) → k2.log.holdings.held ≡ drop 1 k1.log.holdings.held → MayGo stand.at.node stand.at.changed k2.log.holdings
-    split_may_go k2 held = record {
+    pub split_lowest : (k2 : CallerData) → k2.log.holdings.held ≡ drop 1 k1.log.holdings.held → IsLowest stand.at.node stand.at.changed k2.log.holdings
+    split_lowest k2 held = record {
       lock = pair.upper;
       above = drop 1 k.log.holdings.held;
       held = split_busy k2 held;
@@ -104,10 +105,10 @@ module _ (t : Terms) (m : Member) (stand : Stand) (k : CallerData) (stands : Sta
           (subst (λ n. AllByRecursion (λ (a : Holding). a.node ≢ n) (drop 1 k.log.holdings.held)) (stands.at.here.node ∙ sym pair.parent_is.node) all.0, all.1);
     }
 
-    pub split_gave_up : (k2 n : CallerData) → k2.log.holdings.held ≡ drop 1 k1.log.holdings.held → k2.log.holdings.out ≡ [] → Spends 1 k1 k2 → LetsGo k2 n → GivesUpBelow 2 k n
+    pub split_gave_up : (k2 n : CallerData) → k2.log.holdings.held ≡ drop 1 k1.log.holdings.held → k2.log.holdings.out ≡ [] → Spends 1 k1 k2 → LetsGo stand.at.node k2 n → GivesUpBelow 2 k n
     split_gave_up k2 n held out spent goes = record {
       steps = steps_after 1 1 2 k k2 n (omega arith) (steps_after 0 1 1 k k1 k2 (omega arith) (spends_same k k1 steps) spent) goes.steps;
-      held = goes.held ∙ ap (drop 1) (split_busy k2 held);
+      held = left_above stand.at.node stand.at.changed k2 n (split_lowest k2 held) goes ∙ ap (drop 1) (split_busy k2 held);
       out = goes.out ∙ out;
     }
 
@@ -131,8 +132,8 @@ module _ (t : Terms) (m : Member) (stand : Stand) (k : CallerData) (stands : Sta
         lost room.NoneFree c = cause_after stand.room m.span.first k k1 k3 (ap (λ r. r.own) steps.receipts) steps.loads (cause_still stand.room m.span.first k1 k2 k3 c same.loads)
 
   -- a lock was taken, and the node at which it stood may go
-  pub stood_may_go : (l : CallerData) → l.log.holdings.held ≡ k.log.holdings.held → MayGo stand.at.node stand.at.changed l.log.holdings
-  stood_may_go l same = let may = may_go t stand.at k.log.holdings stands.at in record {
+  pub stood_lowest : (l : CallerData) → l.log.holdings.held ≡ k.log.holdings.held → IsLowest stand.at.node stand.at.changed l.log.holdings
+  stood_lowest l same = let may = lowest_of t stand.at k.log.holdings stands.at in record {
     lock = may.lock;
     above = may.above;
     held = same ∙ may.held;
@@ -142,10 +143,10 @@ module _ (t : Terms) (m : Member) (stand : Stand) (k : CallerData) (stands : Sta
     apart = may.apart;
   }
 
-  pub gave_up : (a : ℕ) (l n : CallerData) → a ≤ 1 → Spends a k l → drop 1 l.log.holdings.held ≡ drop 1 k.log.holdings.held → l.log.holdings.out ≡ [] → LetsGo l n → GivesUpBelow 2 k n
+  pub gave_up : (a : ℕ) (l n : CallerData) → a ≤ 1 → Spends a k l → l.log.holdings.held ≡ k.log.holdings.held → l.log.holdings.out ≡ [] → LetsGo stand.at.node l n → GivesUpBelow 2 k n
   gave_up a l n few spent held out goes = record {
     steps = steps_after a 1 2 k l n (omega (arith, few)) spent goes.steps;
-    held = goes.held ∙ held;
+    held = left_above stand.at.node stand.at.changed l n (stood_lowest l held) goes ∙ ap (drop 1) held;
     out = goes.out ∙ out;
   }
 
@@ -192,8 +193,8 @@ module _ (t : Terms) (m : Member) (stand : Stand) (passage : Passage) (k k1 : Ca
     abbrev first : LeftFirst reply.moved goes.upper (drop 1 k.log.holdings.held) k2.log.holdings.held
     first = left_first reply.moved goes.upper (drop 1 k.log.holdings.held) k2.log.holdings.held left
 
-    pub answered_may_go : MayGo stand.at.node (passage.changed || nat_le stand.at.content.level reply.moved) k2.log.holdings
-    answered_may_go = record {
+    pub answered_lowest : IsLowest stand.at.node (passage.changed || nat_le stand.at.content.level reply.moved) k2.log.holdings
+    answered_lowest = record {
       lock = first.lock;
       above = first.after;
       held = first.is;
@@ -203,18 +204,18 @@ module _ (t : Terms) (m : Member) (stand : Stand) (passage : Passage) (k k1 : Ca
       apart = apart_left reply.moved (goes.upper ∷ drop 1 k.log.holdings.held) (first.lock ∷ first.after) (first.left, first.others) (subst AreApart above_stand goes.stands.at.apart.1);
     }
 
-    pub answered_so : (k3 : CallerData) → LetsGo k2 k3 → (most' : ℕ) → most + 2 ≤ most' → AnswersBelow t m reply most' k k3
+    pub answered_so : (k3 : CallerData) → LetsGo stand.at.node k2 k3 → (most' : ℕ) → most + 2 ≤ most' → AnswersBelow t m reply most' k k3
     answered_so k3 gone most' sum = record {
       right = right_after t m reply.answer k k1 k3 goes.steps.past
           (right_before t m reply.answer k1 k2 k3 gone.steps.past answers.right);
       call = spends_after 1 (most + 1) most' (receipt.Register m reply.answer ∷ []) (taken_by reply.answer) k k1 k3 (omega (arith, sum)) goes.steps
           (spends_before most 1 (most + 1) (receipt.Register m reply.answer ∷ []) (taken_by reply.answer) k1 k2 k3 (omega arith) answers.call gone.steps);
-      above = subst (AreLeftAs reply.moved (drop 1 k.log.holdings.held)) (sym (gone.held ∙ ap (drop 1) first.is)) first.others;
+      above = subst (AreLeftAs reply.moved (drop 1 k.log.holdings.held)) (sym (left_above stand.at.node (passage.changed || nat_le stand.at.content.level reply.moved) k2 k3 answered_lowest gone ∙ ap (drop 1) first.is)) first.others;
       out = gone.out ∙ answers.out;
     }
 
     -- Full is said below, and its cause is there
-    pub full_below : (k3 : CallerData) → LetsGo k2 k3 → IfFull reply.answer (HasCause passage.stand.room m.span.first k1 k2) → IfFull reply.answer (HasCause stand.room m.span.first k k3)
+    pub full_below : (k3 : CallerData) → LetsGo stand.at.node k2 k3 → IfFull reply.answer (HasCause passage.stand.room m.span.first k1 k2) → IfFull reply.answer (HasCause stand.room m.span.first k k3)
     full_below k3 gone = if_full reply.answer (λ c. cause_below stand.room passage.stand.room m.span.first k k1 k3 (own_same 1 k k1 goes.steps) goes.steps.loads goes.cause (cause_still passage.stand.room m.span.first k1 k2 k3 c gone.steps.loads))
 
   -- given up below
@@ -222,8 +223,8 @@ module _ (t : Terms) (m : Member) (stand : Stand) (passage : Passage) (k k1 : Ca
     held_is : k2.log.holdings.held ≡ goes.stands.at.above
     held_is = gives.held ∙ ap (drop 1) goes.stands.at.held
 
-    pub given_may_go : MayGo stand.at.node passage.changed k2.log.holdings
-    given_may_go = let may = may_go t passage.stand.at k1.log.holdings goes.stands.at in record {
+    pub given_lowest : IsLowest stand.at.node passage.changed k2.log.holdings
+    given_lowest = let may = lowest_of t passage.stand.at k1.log.holdings goes.stands.at in record {
       lock = goes.upper;
       above = drop 1 k.log.holdings.held;
       held = held_is ∙ above_stand;
@@ -233,9 +234,9 @@ module _ (t : Terms) (m : Member) (stand : Stand) (passage : Passage) (k k1 : Ca
       apart = subst AreApart above_stand goes.stands.at.apart.1;
     }
 
-    pub given_so : (k3 : CallerData) → LetsGo k2 k3 → (most' : ℕ) → most + 2 ≤ most' → GivesUpBelow most' k k3
+    pub given_so : (k3 : CallerData) → LetsGo stand.at.node k2 k3 → (most' : ℕ) → most + 2 ≤ most' → GivesUpBelow most' k k3
     given_so k3 gone most' sum = record {
       steps = steps_after 1 (most + 1) most' k k1 k3 (omega (arith, sum)) goes.steps (steps_after most 1 (most + 1) k1 k2 k3 (omega arith) gives.steps gone.steps);
-      held = gone.held ∙ (ap (drop 1) (held_is ∙ above_stand));
+      held = left_above stand.at.node passage.changed k2 k3 given_lowest gone ∙ ap (drop 1) (held_is ∙ above_stand);
       out = gone.out ∙ gives.out;
     }

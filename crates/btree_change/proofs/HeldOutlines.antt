@@ -1,6 +1,6 @@
 -- Held nodes on a removal's way, by their outlines: what their locks spell, and what loads of their
 -- words leave as it was.
-use Rattle.std.proofs.Common.{◌≡◌, ◌≢◌, ℕ, ◌<◌, ◌∷◌, sym, ap, ◌∙◌, subst, arith, Bool, true, false, ◌==◌, Some, eq-eqb, ne_eqb, cond}
+use Rattle.std.proofs.Common.{◌≡◌, ◌≢◌, ℕ, ◌∷◌, sym, ap, ◌∙◌, subst, arith, Bool, true, false, ◌==◌, Some, eq-eqb, ne_eqb, cond}
 use Rattle.tree_shape.specs.Decisions.{is_entries}
 use Rattle.tree_shape.specs.Lawful.{IsOrdered, IsOrderedAs}
 use Rattle.tree_shape.specs.NodeData.{NodeData, Body, Pairs, Entries, Link}
@@ -19,7 +19,6 @@ use Rattle.btree_change.specs.Siblings.{HoldsChild, HoldsSiblings, HoldsUnder, M
 use Rattle.btree_change.specs.declared.sibling.Child.{Child}
 use Rattle.btree_change.specs.declared.sibling.Siblings.{Siblings}
 use Rattle.btree_change.specs.declared.descent.Held.{Held}
-use Rattle.btree_change.proofs.Descending.{is_inner}
 use Rattle.btree_change.proofs.Outlining.{spell_one, spells_held, steps_of_loads}
 use Rattle.btree_change.proofs.Pairings.{both_high, both_low, both_more, family}
 use Rattle.btree_change.proofs.Spending.{spends_same, steps_after}

@@ -23,15 +23,17 @@ use Rattle.node_store.specs.Holding.{SpellsHeld}
 use Rattle.node_store.specs.Locking.{IsBusy, Locks}
 use Rattle.node_store.specs.Outlines.{OnlyLoads}
 use Rattle.btree_change.specs.Paths.{IsSettledLock, StepsOnNodes}
-use Rattle.btree_change.specs.Removing.{HoldsBesideRoot, IsBeside, IsSettledRoot, LetsGoOf}
+use Rattle.btree_change.specs.Releases.{HaveSettled, LetsGo, MayGo}
+use Rattle.btree_change.specs.Removing.{HoldsBesideRoot, IsBeside, IsSettledRoot}
 use Rattle.btree_change.specs.Siblings.{HoldsChild, HoldsUnder}
 use Rattle.btree_change.specs.declared.descent.Held.{Held}
 use Rattle.btree_change.proofs.Mended.{without_high}
 use Rattle.btree_change.proofs.Pairings.{IsBesideLock, beside_each}
 use Rattle.btree_change.proofs.Descending.{found_child, steps_of_take, steps_then, weaken}
 use Rattle.btree_change.proofs.Outlining.{steps_of_loads}
-use Rattle.word_rule.proofs.Each.{all_map, all_with}
+use Rattle.btree_change.proofs.Storing.{found_at}
 use Rattle.btree_change.proofs.Lowering.{settled_live}
+use Rattle.word_rule.proofs.Each.{all_map, all_with}
 
 -- a pair of a node names a branch
 pub branch_at : (level low : ℕ) (pairs : List Pair) (slot : ℕ) (p : Pair) → slice_get pairs slot ≡ Some p → (b : Branch) × (Contains (branches_from level low pairs) b × (b.child ≡ p.child) × (b.frame.high ≡ p.separator) × (b.frame.level ≡ level))
@@ -218,7 +220,18 @@ left_root t n changed root_changed at holdings is h = record {
   out = h.out;
 }
 
-pub left_other : (t : Terms) (n : ℕ) (changed root_changed : Bool) (at : Held) (k k' : CallerData) → n ≢ 0 → HoldsUnder t n changed root_changed at k.log.holdings → LetsGoOf n k k' → HoldsBesideRoot t at.node at.content at.changed root_changed k'.log.holdings
+pub under_may : (t : Terms) (n : ℕ) (changed root_changed : Bool) (at : Held) (holdings : Holdings) → HoldsUnder t n changed root_changed at holdings → MayGo n changed holdings
+under_may t n changed root_changed at holdings h = record {
+  lock = h.upper;
+  found = ap (held_of n) h.held ∙ found_at n (h.lower ∷ []) h.upper h.rest h.node ((λ e. h.no_parent (sym h.here.node ∙ e)), tt);
+  stored = λ e. h.stored ∙ e;
+  settled = subst HaveSettled (sym h.held) (
+    subst (SpellsNode h.lower.words) (sym h.here.settled) h.here.spells,
+    (h.spells, all_map (IsBesideLock n) (λ a. SpellsNode a.words a.settled) (λ a b. b.spells) h.rest (beside_each n root_changed h.rest h.root)),
+  );
+}
+
+pub left_other : (t : Terms) (n : ℕ) (changed root_changed : Bool) (at : Held) (k k' : CallerData) → n ≢ 0 → HoldsUnder t n changed root_changed at k.log.holdings → LetsGo n k k' → HoldsBesideRoot t at.node at.content at.changed root_changed k'.log.holdings
 left_other t n changed root_changed at k k' some h l = record {
   within = h.within;
   lock = h.lower;

@@ -35,14 +35,13 @@ use Rattle.btree_change.proofs.Descents.{steps_of_load}
 use Rattle.btree_change.proofs.Joining.{may_store, spare_of}
 use Rattle.btree_change.proofs.Loading.{none_more}
 use Rattle.btree_change.proofs.Mended.{AreSettled, loaded_none, under_so, without_high, without_low}
-use Rattle.btree_change.proofs.Pairings.{IsBesideLock, IsNow, AreThree, at_slot_is, beside, both_high, both_left, both_low, both_more, family, held_change, in_l, in_n, in_r, left_told, next_slot_is, not_in, parent_told, right_told, settles, three}
+use Rattle.btree_change.proofs.Pairings.{IsNow, AreThree, at_slot_is, both_high, both_left, both_low, both_more, family, held_change, in_l, in_n, in_r, left_told, next_slot_is, not_in, parent_told, right_told, settles, three}
 use Rattle.btree_change.proofs.Settling.{SettlingLaws, may_release, settled_group}
 use Rattle.btree_change.proofs.ShareEnds.{fence_moves, share_kinds, share_moves, share_sizes, share_spares}
 use Rattle.btree_change.proofs.Spending.{spends_same, steps_after}
 use Rattle.btree_change.proofs.Written.{IsWrittenAs, write_high, write_low, write_upper}
 use Rattle.btree_change.proofs.Lowering.{settled_live}
 use Rattle.btree_change.proofs.HeldLists.{found_head}
-use Rattle.word_rule.proofs.Each.{all_map}
 
 abbrev pub ShareLaw : Type 0
 ShareLaw = (f : Contents) (live : ℕ → Bool) (parent slot : ℕ) (p q : Pair) (g : Contents) → IsLawfulTree f live → IsShare f live parent slot p q g → IsChangeOf f live parent (parent ∷ p.child ∷ q.child ∷ []) [] g None (parent ∷ p.child ∷ q.child ∷ [])

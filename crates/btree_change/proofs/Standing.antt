@@ -26,11 +26,12 @@ use Rattle.btree_change.specs.declared.stand.Beyond.{Beyond}
 use Rattle.btree_change.specs.declared.stand.Room.{Room}
 use Rattle.btree_change.specs.declared.stand.Room.TheVariants as room
 use Rattle.btree_change.specs.Paths.{AreHigher, IsLiveLock, IsSettledLock}
-use Rattle.btree_change.specs.Stands.{HasWayOn, HoldsPair, LiesBeyond, IsReach, MayGo, Reaches, StandsOnWay, StandsAt}
+use Rattle.btree_change.specs.Stands.{HasWayOn, HoldsPair, LiesBeyond, IsReach, Reaches, StandsOnWay, StandsAt}
 use Rattle.btree_change.proofs.HeldTrees.{OnTree, apart_with, child, child_frame, inner, on_tree}
 use Rattle.btree_change.proofs.NextLeaves.{higher_marked, higher_spelled}
 use Rattle.btree_change.proofs.NoRoom.{more_loads}
 use Rattle.btree_change.proofs.Outlining.{spells_held}
+use Rattle.btree_change.proofs.Releasing.{IsLowest}
 use Rattle.btree_change.proofs.Storing.{found_at}
 use Rattle.node_store.specs.Holding.{SpellsHeld}
 
@@ -224,8 +225,9 @@ module _ (t : Terms) (pc last : ℕ) (parent below : Held) (above : List Holding
                 },
               )
 
-abbrev pub may_go : (t : Terms) (at : Held) (holdings : Holdings) → StandsAt t at holdings → MayGo at.node at.changed holdings
-may_go t at holdings s = record {
+-- a node at which an insertion stands is the lowest that is held
+abbrev pub lowest_of : (t : Terms) (at : Held) (holdings : Holdings) → StandsAt t at holdings → IsLowest at.node at.changed holdings
+lowest_of t at holdings s = record {
   lock = s.lock;
   above = s.above;
   held = s.held;

@@ -17,16 +17,17 @@ use Rattle.btree_change.specs.declared.stand.Room.TheVariants as room
 use Rattle.btree_change.specs.declared.stand.Step.{Step}
 use Rattle.btree_change.specs.Loads.{FoundNoRoom}
 use Rattle.btree_change.specs.Paths.{AreHigher}
-use Rattle.btree_change.specs.Releases.{Spends}
+use Rattle.btree_change.specs.Releases.{LetsGo, Spends}
 use Rattle.btree_change.specs.Splits.{HasSpace, HoldsFull, HoldsFullChild, SplitsChild, StaysHeld, TakesRoom}
 use Rattle.word_rule.specs.NodeTells.{KnowsTree}
 use Rattle.word_rule.specs.Sights.{after_node_load}
-use Rattle.btree_change.specs.Stands.{HasSplit, HasWayOn, HoldsPair, LetsGo, MayGo}
+use Rattle.btree_change.specs.Stands.{HasSplit, HasWayOn, HoldsPair}
 use Rattle.btree_change.proofs.Descending.{steps_then}
 use Rattle.btree_change.proofs.Descents.{steps_of_load}
 use Rattle.btree_change.proofs.NoRoom.{found_cause, no_room_now, same_cause}
-use Rattle.btree_change.proofs.Standing.{may_go, stands_below}
+use Rattle.btree_change.proofs.Standing.{lowest_of, stands_below}
 use Rattle.btree_change.proofs.Lowering.{settled_inner, settled_live}
+use Rattle.btree_change.proofs.Releasing.{IsLowest, left_above}
 use Rattle.btree_change.proofs.Spending.{more_spent, spends_all, spends_one, spends_same, steps_after}
 use Rattle.btree_change.proofs.Settling.{found_first}
 
@@ -107,14 +108,14 @@ module _ (t : Terms) (pc : ℕ) (step : Step) (above : List Holding) (k : Caller
   }
 
   -- the first free node was found locked, and the child is let go of
-  pub busy_go : (k1 : CallerData) (found : ℕ) (k2 : CallerData) → StaysHeld k k1 → KnowsTree k1.log.holdings → k2 ≡ record k1 { log = after_node_load step.child.node 2 found k1.log } → MayGo step.child.node step.child.changed k2.log.holdings
-  busy_go k1 found k2 stays tree is =
-      subst (λ (z : CallerData). MayGo step.child.node step.child.changed z.log.holdings) (sym is)
-      (may_go t step.child k1.log.holdings (stands_below t pc 0 step.parent step.child above k1.log.holdings (pair_kept k1 stays) tree))
+  pub child_lowest : (k1 : CallerData) (found : ℕ) (k2 : CallerData) → StaysHeld k k1 → KnowsTree k1.log.holdings → k2 ≡ record k1 { log = after_node_load step.child.node 2 found k1.log } → IsLowest step.child.node step.child.changed k2.log.holdings
+  child_lowest k1 found k2 stays tree is =
+      subst (λ (z : CallerData). IsLowest step.child.node step.child.changed z.log.holdings) (sym is)
+      (lowest_of t step.child k1.log.holdings (stands_below t pc 0 step.parent step.child above k1.log.holdings (pair_kept k1 stays) tree))
 
-  pub busy_gone : (k1 : CallerData) (found : ℕ) (k2 k3 : CallerData) → StaysHeld k k1 → k2 ≡ record k1 { log = after_node_load step.child.node 2 found k1.log } → LetsGo k2 k3 → (k3.log.holdings.held ≡ drop 1 k.log.holdings.held) × (k3.log.holdings.out ≡ []) × Spends 1 k k3
-  busy_gone k1 found k2 k3 stays is goes = (
-    goes.held ∙ ap (drop 1) (ap (λ (z : CallerData). z.log.holdings.held) is ∙ stays.held),
+  pub busy_gone : (k1 : CallerData) (found : ℕ) (k2 k3 : CallerData) → StaysHeld k k1 → KnowsTree k1.log.holdings → k2 ≡ record k1 { log = after_node_load step.child.node 2 found k1.log } → LetsGo step.child.node k2 k3 → (k3.log.holdings.held ≡ drop 1 k.log.holdings.held) × (k3.log.holdings.out ≡ []) × Spends 1 k k3
+  busy_gone k1 found k2 k3 stays tree is goes = (
+    left_above step.child.node step.child.changed k2 k3 (child_lowest k1 found k2 stays tree is) goes ∙ ap (drop 1) (ap (λ (z : CallerData). z.log.holdings.held) is ∙ stays.held),
     goes.out ∙ (ap (λ (z : CallerData). z.log.holdings.out) is ∙ (stays.out ∙ pair.out)),
     steps_after 0 1 1 k k2 k3 (omega arith) (spends_same k k2 (steps_then k k1 k2 stays.same (steps_of_load step.child.node 2 found k1 k2 is))) goes.steps,
   )

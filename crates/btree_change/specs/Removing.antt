@@ -1,19 +1,15 @@
--- The way of a removal down the tree, by what its caller holds: one node, and the root where that is
--- another.
+-- The way of a removal down the tree, by what its caller holds: one node, and the root where that
+-- is another.
 use Rattle.std.specs.Prelude.{◌≡◌, ℕ, zero, suc, ◌<◌, Bool, false, List, [], ◌∷◌, length}
 use Rattle.std.specs.Prelude.{IsSome}
-use Rattle.std.specs.List.{AllByRecursion}
 use Rattle.tree_shape.specs.Decisions.{is_entries}
 use Rattle.tree_shape.specs.NodeData.{NodeData, Body, Pairs, Entries, Link}
 use Rattle.tree_shape.specs.declared.limits.TheConstants.{FEWEST_PAIRS, FEWEST_ENTRIES}
-use Rattle.word_rule.specs.CallerData.{CallerData}
-use Rattle.word_rule.specs.Held.{without_lock}
 use Rattle.word_rule.specs.Spelling.{SpellsNode}
 use Rattle.word_rule.specs.declared.log.Holding.{Holding}
 use Rattle.word_rule.specs.declared.log.Holdings.{Holdings}
 use Rattle.word_rule.specs.declared.log.Terms.{Terms}
 use Rattle.btree_change.specs.Paths.{IsSettledLock}
-use Rattle.btree_change.specs.Releases.{Spends}
 
 -- the lock of the root, an inner node that has settled
 pub record IsSettledRoot (changed : Bool) (h : Holding) : Type 0 where
@@ -61,13 +57,3 @@ IsSpareAs (Link next) = Unit {0}
 abbrev pub IsSpare : ℕ → NodeData → Type 0
 IsSpare zero s = Unit {0}
 IsSpare (suc n) s = IsSpareAs s.body
-
--- all that is held has settled as its words spell it
-abbrev pub HaveSettled : List Holding → Type 0
-HaveSettled held = AllByRecursion (λ h. SpellsNode h.words h.settled) held
-
--- A node was let go of, with the next version or with the same.
-pub record LetsGoOf (n : ℕ) (k k' : CallerData) : Type 0 where
-  pub spends : Spends 1 k k'
-  pub held : k'.log.holdings.held ≡ without_lock n k.log.holdings.held
-  pub out : k'.log.holdings.out ≡ k.log.holdings.out

@@ -1,8 +1,8 @@
 -- Where an insertion stands on its way down, and what each part of it makes of its caller.
-use Rattle.std.specs.Prelude.{◌≡◌, ℕ, ◌+◌, ◌-◌, ◌*◌, ◌^◌, ◌<◌, ◌≤◌, Bool, false, ◌||◌, List, []}
-use Rattle.std.specs.Prelude.{◌∷◌, ◌++◌, length, drop, nat_le, Option, Some, None, IsSome}
+use Rattle.std.specs.Prelude.{◌≡◌, ℕ, ◌+◌, ◌-◌, ◌*◌, ◌^◌, ◌<◌, ◌≤◌, false, ◌||◌, List, [], ◌∷◌}
+use Rattle.std.specs.Prelude.{◌++◌}
+use Rattle.std.specs.Prelude.{length, drop, nat_le, Option, Some, None, IsSome}
 use Rattle.std.specs.Prelude.{slice_get, ◌⊎◌}
-use Rattle.std.specs.List.{AllByRecursion}
 use Rattle.reg_model.specs.declared.answer.Receipt.{Receipt}
 use Rattle.reg_model.specs.declared.answer.Receipt.TheVariants as receipt
 use Rattle.reg_model.specs.declared.span.Member.{Member}
@@ -123,22 +123,6 @@ pub record SpendsCall (more : List Receipt) (taken most : ℕ) (k k' : CallerDat
   pub receipts : k'.log.receipts ≡ record k.log.receipts { own = k.log.receipts.own ++ more }
   pub allowance : k'.log.budget.allowance ≡ k.log.budget.allowance - taken
   pub credit : k.log.budget.credit ≤ k'.log.budget.credit + most
-
--- a held node that has settled, to be let go of as one that was changed or as one that wasn't
-pub record MayGo (node : ℕ) (changed : Bool) (holdings : Holdings) : Type 0 where
-  pub lock : Holding
-  pub above : List Holding
-  pub held : holdings.held ≡ lock ∷ above
-  pub is_node : lock.node ≡ node
-  pub stored : changed ≡ false → lock.stored ≡ false
-  pub settled : AllByRecursion (λ h. SpellsNode h.words h.settled) (lock ∷ above)
-  pub apart : AreApart (lock ∷ above)
-
--- It was let go of.
-pub record LetsGo (k k' : CallerData) : Type 0 where
-  pub steps : Spends 1 k k'
-  pub held : k'.log.holdings.held ≡ drop 1 k.log.holdings.held
-  pub out : k'.log.holdings.out ≡ k.log.holdings.out
 
 -- a lock above after the way below it: it has settled, and it was changed by the fence that was
 -- moved where its level is at most that of the node above both leaves

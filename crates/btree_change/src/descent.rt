@@ -8,7 +8,8 @@ ghost use Rattle.node_store.specs.Locking.{IsBusy, Locks};
 ghost use Rattle.node_store.specs.Outlines.{OnlyLoads};
 ghost use Rattle.btree_change.specs.Loads.{FoundTaken};
 ghost use Rattle.btree_change.specs.Paths.{HasChildFor, HoldsNothing, StepsOnNodes};
-ghost use Rattle.btree_change.specs.Stands.{HoldsRoot, LetsGo, MayGo};
+ghost use Rattle.btree_change.specs.Releases.{LetsGo, MayGo};
+ghost use Rattle.btree_change.specs.Stands.{HoldsRoot};
 
 use node_store::{Busy, Locking, Outline, outline_of, pair_of, slot_of};
 use word_rule::exchange::exchange_decided;
@@ -47,8 +48,7 @@ pub(crate) fn take_node<L: Locking>(
     }
 }
 
-/// Lets go of the lowest node that is held, with the next version where a word was stored under its
-/// lock.
+/// Lets go of a node that is held, with the next version where a word was stored under its lock.
 pub(crate) fn let_go_of<L: Locking>(
     locking: &L,
     words: &Words,
@@ -60,7 +60,7 @@ pub(crate) fn let_go_of<L: Locking>(
     requires inside { node < words.now.terms.nodes }
     requires may { MayGo node changed me.old.log.holdings }
     requires surplus { 0 < surplus me.old }
-    ensures { LetsGo me.old me.new }
+    ensures { LetsGo node me.old me.new }
 {
     exchange_decided();
     let lock = LockId::Node { node };

@@ -11,8 +11,8 @@ ghost use Rattle.btree_change.specs.Removing.{HoldsBesideRoot};
 ghost use Rattle.btree_change.specs.Siblings.{HoldsChild, HoldsSiblings, HoldsUnder, IsInEither};
 ghost use Rattle.btree_change.specs.Siblings.{is_small_body};
 
-use crate::descent::{Held, take_node};
-use crate::way::{Way, let_go_of, let_go_of_way};
+use crate::descent::{Held, let_go_of, take_node};
+use crate::way::{Way, let_go_of_way};
 use node_store::{Busy, Locking, Outline, outline_of, pair_of, slot_of};
 use word_rule::{Caller, LockId, Words};
 

@@ -1,47 +1,21 @@
 //! The way of a removal: one node is held, and the root where that is another.
-ghost use Rattle.std.specs.Prelude.{◌≡◌, ◌<◌, IsSomeAnd};
+ghost use Rattle.std.specs.Prelude.{◌≡◌, ◌<◌};
 ghost use Rattle.word_rule.specs.CallerData.{surplus};
-ghost use Rattle.word_rule.specs.Held.{held_of};
 ghost use Rattle.node_store.specs.Holding.{SpellsHeld};
 ghost use Rattle.btree_change.specs.Paths.{HoldsNothing, StepsOnNodes};
 ghost use Rattle.btree_change.specs.Releases.{Spends};
-ghost use Rattle.btree_change.specs.Removing.{HaveSettled, HoldsLocks, LetsGoOf};
+ghost use Rattle.btree_change.specs.Removing.{HoldsLocks};
 
-use crate::descent::Held;
+use crate::descent::{Held, let_go_of};
 use node_store::{Locking, read_held};
 use tree_shape::Node;
-use word_rule::exchange::exchange_decided;
-use word_rule::{Caller, LockId, Words};
+use word_rule::{Caller, Words};
 
 /// A node of the way down, and whether a word was stored under the root's lock beside it.
 #[derive(Drop)]
 pub(crate) struct Way {
     pub(crate) at: Held,
     pub(crate) root_changed: bool,
-}
-
-/// Lets go of a node, with the next version where a word was stored under its lock.
-pub(crate) fn let_go_of<L: Locking>(
-    locking: &L,
-    words: &Words,
-    me: &mut Caller,
-    node: u32,
-    changed: bool,
-)
-    requires table { me.old.table ≡ words.now.table }
-    requires inside { node < words.now.terms.nodes }
-    requires settled { HaveSettled me.old.log.holdings.held }
-    requires held { IsSomeAnd (held_of node me.old.log.holdings.held) (λ h. h.stored ≡ changed) }
-    requires surplus { 0 < surplus me.old }
-    ensures { LetsGoOf node me.old me.new }
-{
-    exchange_decided();
-    let lock = LockId::Node { node };
-    if changed {
-        locking.let_go(words, me, lock);
-    } else {
-        locking.let_go_same(words, me, lock);
-    }
 }
 
 /// Lets go of all that is held on the way: the node, and the root.

@@ -1,7 +1,8 @@
 use Rattle.std.proofs.Common.{ap}
-use Rattle.btree_change.proofs.FarLeaves.{answers_far, at_next_so, busy_far, busy_may_go, way_here}
+use Rattle.btree_change.proofs.FarLeaves.{answers_far, at_next_so, busy_far, busy_lowest, way_here}
 use Rattle.btree_change.proofs.Loading.{found_still}
 use Rattle.btree_change.proofs.NoRoom.{cause_after, if_full}
+use Rattle.btree_change.proofs.Releasing.{lowest_may}
 use Rattle.btree_change.proofs.beyond.beyond_leaf.Goals as goal
 
 pub next_leaf-requires-clause-way : goal.next_leaf-requires-clause-way
@@ -13,7 +14,7 @@ at_next-requires-clause-at g c =
     at_next_so c.args.words.now.terms c.args.member.now c.args.far c.args.me.now c.requires.stands c.requires.level c.in-Ok.right c.next_leaf.new.me n.0 n.1 n.2 n.3 l.0 l.1 c.in-Ok.ensures.same c.in-Ok.ensures.same.loads c.requires.free
 
 pub let_go_of-requires-clause-may : goal.let_go_of-requires-clause-may
-let_go_of-requires-clause-may g c = busy_may_go c.args.words.now.terms c.args.member.now c.args.far c.args.me.now c.requires.stands c.requires.level c.next_leaf.new.me c.in-Err.ensures.busy.0
+let_go_of-requires-clause-may g c = lowest_may _ _ _ (busy_lowest c.args.words.now.terms c.args.member.now c.args.far c.args.me.now c.requires.stands c.requires.level c.next_leaf.new.me c.in-Err.ensures.busy.0)
 
 pub returns-in-Ok-clause-answer : goal.returns-in-Ok-clause-answer
 returns-in-Ok-clause-answer g c =

@@ -1,7 +1,8 @@
 use Rattle.std.proofs.Common.{true, subst, sym, ◌∙◌, ◌<◌}
 use Rattle.tree_shape.specs.Steps.{LiesAbove}
 use Rattle.btree_change.specs.Spines.{MovesFence}
-use Rattle.btree_change.proofs.FarLeaves.{leaf_held, may_read_leaf, put_answers, put_may_go, put_surplus, shape_free, shape_high, shape_level, shape_low, shape_room, still_due, table2, table3, terms2, way_high}
+use Rattle.btree_change.proofs.FarLeaves.{leaf_held, may_read_leaf, put_answers, put_lowest, put_surplus, shape_free, shape_high, shape_level, shape_low, shape_room, still_due, table2, table3, terms2, way_high}
+use Rattle.btree_change.proofs.Releasing.{lowest_may}
 use Rattle.btree_change.proofs.beyond.put_far.Goals as goal
 
 pub raise_fence-requires-clause-next : goal.raise_fence-requires-clause-next
@@ -129,7 +130,7 @@ let_go_of-requires-clause-may g c =
     let moves = subst (λ l. MovesFence t l ready.next.way.lock ready.next.way.spine ready.next.way.top ready.next.way.rest k k1) e (c.raise_fence.ensures.moves ready.next high lies right_high) in
     let k2 = c.read_held-content.new.me in let shape = c.read_held-content.result in let reads = c.read_held-content.ensures.reads in let kept = c.read_held-content.ensures.holdings in
     let k3 = c.put_in_leaf-number.new.me in let number = c.put_in_leaf-number.result in let puts = c.put_in_leaf-number.ensures in
-    put_may_go t m far k ready k1 moves c.raise_fence.ensures.loads k2 shape reads kept number k3 puts
+    lowest_may _ _ _ (put_lowest t m far k ready k1 moves c.raise_fence.ensures.loads k2 shape reads kept number k3 puts)
 
 pub let_go_of-requires-clause-surplus : goal.let_go_of-requires-clause-surplus
 let_go_of-requires-clause-surplus g c =

@@ -1,7 +1,8 @@
 use Rattle.std.proofs.Common.{arith, subst}
 use Rattle.btree_change.specs.Stands.{Reaches, StandsOnWay}
-use Rattle.btree_change.proofs.Answering.{here_answered, here_may_go, here_surplus}
+use Rattle.btree_change.proofs.Answering.{here_answered, here_lowest, here_surplus}
 use Rattle.btree_change.proofs.NoRoom.{cause_still, if_full}
+use Rattle.btree_change.proofs.Releasing.{lowest_may}
 use Rattle.btree_change.proofs.insertion.in_free_leaf.Goals as goal
 
 pub beyond_leaf-requires-clause-stands : goal.beyond_leaf-requires-clause-stands
@@ -14,7 +15,7 @@ pub let_go_of-requires-clause-inside : goal.let_go_of-requires-clause-inside
 let_go_of-requires-clause-inside g c = c.requires.stands.at.within
 
 pub let_go_of-requires-clause-may : goal.let_go_of-requires-clause-may
-let_go_of-requires-clause-may g c = here_may_go c.args.words.now.terms c.args.member.now c.args.leaf.stand.at c.args.me.now c.requires.stands.at c.in_place-outcome.result c.in_place-outcome.new.me c.in_place-outcome.ensures.answer
+let_go_of-requires-clause-may g c = lowest_may _ _ _ (here_lowest c.args.words.now.terms c.args.member.now c.args.leaf.stand.at c.args.me.now c.requires.stands.at c.in_place-outcome.result c.in_place-outcome.new.me c.in_place-outcome.ensures.answer)
 
 pub let_go_of-requires-clause-surplus : goal.let_go_of-requires-clause-surplus
 let_go_of-requires-clause-surplus g c = let enough = c.requires.surplus in here_surplus c.args.words.now.terms c.args.member.now c.args.leaf.stand.at c.args.me.now c.requires.stands.at c.in_place-outcome.result c.in_place-outcome.new.me c.in_place-outcome.ensures.answer 1 (omega (arith, enough))

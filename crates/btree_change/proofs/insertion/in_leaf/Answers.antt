@@ -7,12 +7,13 @@ use Rattle.btree_change.specs.Stands.{AnswersBelow, GivesUpBelow, HasCause, Stan
 use Rattle.btree_change.proofs.AtRoot.{if_err, if_ok}
 use Rattle.btree_change.specs.Insertion.{IfFull}
 use Rattle.btree_change.specs.Loads.{FoundTaken}
-use Rattle.btree_change.proofs.Answering.{here_answered, here_may_go, here_surplus, refused_here}
+use Rattle.btree_change.proofs.Answering.{here_answered, here_lowest, here_surplus, refused_here}
 use Rattle.btree_change.proofs.Descending.{steps_of_read}
 use Rattle.btree_change.proofs.Loading.{found_after}
 use Rattle.btree_change.proofs.NoRoom.{cause_after, if_full}
 use Rattle.btree_change.proofs.Outlining.{may_read, spell_one, spells_read, stands_spelled}
 use Rattle.btree_change.proofs.Preceding.{answered_after, gave_up_after, stands_still}
+use Rattle.btree_change.proofs.Releasing.{lowest_may}
 use Rattle.btree_change.proofs.Spending.{due_after, spends_same, surplus_steps}
 use Rattle.btree_change.proofs.insertion.in_leaf.Goals as goal
 
@@ -52,7 +53,7 @@ let_go_of-requires-clause-may g c =
     let t = c.args.words.now.terms in let m = c.args.member.now in let stand = c.args.stand in let at = c.args.stand.at in let k = c.args.me.now in let k1 = c.read_held-content.new.me in let kept = c.read_held-content.ensures.holdings in
     let steps = steps_of_read at.node k k1 c.read_held-content.result c.read_held-content.ensures.reads in let s = stands_still t m stand k k1 kept steps c.requires.stands in
     let is : c.read_held-content.result ≡ at.content = spell_one at.node c.read_held-content.result at.content k.log (spells_read at.node k k1 c.read_held-content.result c.read_held-content.ensures.reads) (stands_spelled t at k.log c.requires.stands.at) in
-    here_may_go t m at k1 s.at (record { answer = c.in-Some.answer; changed = at.changed }) c.refused.new.me (refused_here t m at k1 s.at c.in-Some.answer c.refused.new.me c.in-Some.ensures.overlaps)
+    lowest_may _ _ _ (here_lowest t m at k1 s.at (record { answer = c.in-Some.answer; changed = at.changed }) c.refused.new.me (refused_here t m at k1 s.at c.in-Some.answer c.refused.new.me c.in-Some.ensures.overlaps))
 
 pub let_go_of-requires-clause-surplus : goal.let_go_of-requires-clause-surplus
 let_go_of-requires-clause-surplus g c =

@@ -6,11 +6,11 @@ use Rattle.btree_change.specs.Insertion.{IfFull}
 use Rattle.btree_change.specs.Loads.{FoundNoRoom, FoundTaken, KeepsLoads}
 use Rattle.btree_change.specs.Roots.{EndsInsertion, GivesUpWhole}
 use Rattle.btree_change.specs.Splits.{HoldsFullAlone, IsRoomForRoot}
-use Rattle.btree_change.proofs.AtRoot.{ends_after, full_alone, full_root, gives_up_after, if_err, if_ok, kept_steps, root_gone, root_kept, root_stand, root_stands}
+use Rattle.btree_change.proofs.AtRoot.{ends_after, full_alone, full_root, gives_up_after, if_err, if_ok, kept_steps, root_gone, root_kept, root_lowest, root_stand, root_stands}
 use Rattle.btree_change.proofs.Loading.{found_after, found_still}
 use Rattle.btree_change.proofs.NoRoom.{if_full, no_room_after, no_room_now, no_room_still}
+use Rattle.btree_change.proofs.Releasing.{lowest_may}
 use Rattle.btree_change.proofs.Spending.{due_after, own_same, spends_same, surplus_steps}
-use Rattle.btree_change.proofs.Standing.{may_go}
 use Rattle.btree_change.proofs.root.at_full_root.Goals as goal
 
 pub room_for_root-requires-clause-held : goal.room_for_root-requires-clause-held
@@ -123,7 +123,7 @@ pub let_go_of-requires-clause-may : goal.let_go_of-requires-clause-may
 let_go_of-requires-clause-may g c =
     let t = c.args.words.now.terms in let m = c.args.member.now in let k = c.args.me.now in
     let root = c.args.root in let h = c.requires.root in let k1 = c.room_for_root.new.me in
-    may_go t root k1.log.holdings (root_stands t root k1.log.holdings (root_kept t root k.log.holdings k1.log.holdings c.in-Err.ensures.0.held c.in-Err.ensures.0.out h))
+    lowest_may _ _ _ (root_lowest t root k k1 h c.in-Err.ensures.0)
 
 pub let_go_of-requires-clause-surplus : goal.let_go_of-requires-clause-surplus
 let_go_of-requires-clause-surplus g c =

@@ -2,9 +2,10 @@ use Rattle.std.proofs.Common.{arith, subst, sym, ◌<◌, ◌≤◌}
 use Rattle.btree_change.specs.declared.descent.Held.{Held}
 use Rattle.btree_change.specs.Splits.{HoldsFullRoot, LiftsRoot}
 use Rattle.btree_change.specs.Stands.{HasCause, releases_at}
-use Rattle.btree_change.proofs.AtRoot.{gave_may_go, gave_surplus, lifted_ends, lifted_gives_up, lifted_here, lifted_level, lifted_may_go, lifted_reach, lifted_surplus, lifted_two}
+use Rattle.btree_change.proofs.AtRoot.{gave_lowest, gave_surplus, lifted_ends, lifted_gives_up, lifted_here, lifted_level, lifted_lowest, lifted_reach, lifted_surplus, lifted_two}
 use Rattle.btree_change.proofs.Loading.{found_between}
 use Rattle.btree_change.proofs.NoRoom.{if_full, no_room_after, no_room_still}
+use Rattle.btree_change.proofs.Releasing.{lowest_may}
 use Rattle.btree_change.proofs.Spending.{due_after, own_same, surplus_steps}
 use Rattle.btree_change.proofs.root.lifted.Goals as goal
 
@@ -58,7 +59,7 @@ let_go_of-requires-clause-may g c =
     let full = c.args.full in let split = c.lift-split.result in let k1 = c.lift-split.new.me in let lifts = subst (λ p. LiftsRoot t full p split k k1) c.first.ensures.value c.lift-split.ensures in
     let k2 = c.stand_below-passage.new.me in let same = c.stand_below-passage.ensures.same in let kept = c.stand_below-passage.ensures.holdings in
     let level = c.stand_below-passage.result.stand.at.content.level in let l = subst (λ (h : Held). h.content.level ≤ 12) (sym c.stand_below-passage.ensures.at) (lifted_level t m full k c.requires.held c.requires.high c.requires.span split k1 lifts) in
-    lifted_may_go t m full k c.requires.held c.requires.high c.requires.span split k1 lifts k2 same kept c.in-Ok.reply (releases_at level) c.below.new.me (omega (arith, l)) c.in-Ok.ensures.answer
+    lowest_may _ _ _ (lifted_lowest t m full k c.requires.held c.requires.high c.requires.span split k1 lifts k2 same kept c.in-Ok.reply (releases_at level) c.below.new.me (omega (arith, l)) c.in-Ok.ensures.answer)
 
 pub let_go_of-requires-clause-surplus : goal.let_go_of-requires-clause-surplus
 let_go_of-requires-clause-surplus g c =
@@ -79,7 +80,7 @@ let_go_of-requires-in-Err-clause-may g c =
     let full = c.args.full in let split = c.lift-split.result in let k1 = c.lift-split.new.me in let lifts = subst (λ p. LiftsRoot t full p split k k1) c.first.ensures.value c.lift-split.ensures in
     let k2 = c.stand_below-passage.new.me in let same = c.stand_below-passage.ensures.same in let kept = c.stand_below-passage.ensures.holdings in
     let level = c.stand_below-passage.result.stand.at.content.level in let l = subst (λ (h : Held). h.content.level ≤ 12) (sym c.stand_below-passage.ensures.at) (lifted_level t m full k c.requires.held c.requires.high c.requires.span split k1 lifts) in
-    gave_may_go t m full k c.requires.held c.requires.high c.requires.span split k1 lifts k2 same kept (releases_at level) c.below.new.me (omega (arith, l)) c.in-Err.ensures.busy.0
+    lowest_may _ _ _ (gave_lowest t m full k c.requires.held c.requires.high c.requires.span split k1 lifts k2 same kept (releases_at level) c.below.new.me (omega (arith, l)) c.in-Err.ensures.busy.0)
 
 pub let_go_of-requires-in-Err-clause-surplus : goal.let_go_of-requires-in-Err-clause-surplus
 let_go_of-requires-in-Err-clause-surplus g c =
