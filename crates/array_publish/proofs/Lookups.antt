@@ -1,5 +1,5 @@
 -- A lookup of the loader's half, from its two loads of the clock and what was loaded between them.
-use Rattle.std.proofs.Common.{◌≡◌, ◌≢◌, ℕ, zero, suc, ◌+◌, ◌≤◌, ◌%◌, List, [], ◌∷◌, ◌++◌, length, take_all, Contains, ◌↔◌, sym, refl, ap, ◌∙◌, subst, arith, true, false, true≢false, Bool, nat_le, eq-eqb, ne_eqb, Option, Some, None, IfSome, IsSome, option_map, append-nil, append_assoc, Ok, Err, if◌then◌else◌}
+use Rattle.std.proofs.Common.{◌≡◌, ◌≢◌, ℕ, zero, suc, ◌+◌, ◌≤◌, ◌%◌, List, [], ◌∷◌, ◌++◌, length, take_all, Contains, ◌↔◌, sym, refl, ap, ◌∙◌, subst, arith, true, true≢false, Bool, nat_le, eq-eqb, ne_eqb, Option, Some, None, IfSome, IsSome, option_map, append-nil, append_assoc, Ok, Err, if◌then◌else◌}
 use Rattle.std.specs.List.{find}
 use Rattle.std.specs.Option.{option_or}
 use Rattle.std.proofs.lemmas.Bool.{leb-true, and_parts}
