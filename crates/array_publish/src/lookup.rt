@@ -9,12 +9,8 @@ ghost use Rattle.array_publish.specs.Lookup.{LooksUp};
 use crate::fixed;
 use crate::walk::{self, Listed};
 use reg_model::{Again, Found};
+use word_rule::places::{CLOCK, LOWER};
 use word_rule::{Ask, Caller, Words};
-
-/// The clock's word, and what its lower half counts up to.
-const CLOCK_WORD: u32 = 0;
-
-const LOWER: u64 = 1 << 32;
 
 /// The fixed member that contains the address, or else the one that a copy lists.
 fn object_at(words: &Words, me: &mut Caller, copy: u32, pc: u64) -> Option<Listed>
@@ -66,7 +62,7 @@ pub fn try_object(words: &Words, me: &mut Caller, pc: u64) -> Result<Found, Agai
     let second = words.load_clock(me, Ask::Loaded { pc });
     if second / LOWER != published {
         return Err(Again::Changed {
-            word: CLOCK_WORD,
+            word: CLOCK,
             first,
             second,
         });

@@ -13,10 +13,8 @@ ghost use Rattle.array_publish.specs.Update.{KnowsCopy, Works};
 use crate::walk::COUNT;
 use crate::writing::{ActiveCopy, Change, active_member, active_word, ending_below, write_copy};
 use reg_model::{Loading, Member, Removed, Span, Update};
+use word_rule::places::LOWER;
 use word_rule::{Ask, Caller, Words};
-
-/// What the lower half of the clock counts up to.
-const LOWER: u64 = 1 << 32;
 
 /// Which copy is active, and how many members it lists.
 fn active_copy(words: &Words, me: &mut Caller) -> ActiveCopy

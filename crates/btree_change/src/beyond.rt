@@ -25,10 +25,8 @@ use crate::leaf::put_in_leaf;
 use crate::stand::{Beyond, Reply, Room};
 use node_store::{Busy, Locking, read_held};
 use reg_model::{Inserted, Member, Update};
+use word_rule::places::LOWER;
 use word_rule::{Ask, Caller, Words};
-
-/// What the lower half of the clock counts up to.
-const LOWER: u64 = 1 << 32;
 
 /// A leaf beyond which a span ends, and the node above it and the next one.
 #[derive(Drop)]

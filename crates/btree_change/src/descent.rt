@@ -13,10 +13,8 @@ ghost use Rattle.btree_change.specs.Stands.{HoldsRoot};
 
 use node_store::{Busy, Locking, Outline, outline_of, pair_of, slot_of};
 use word_rule::exchange::exchange_decided;
+use word_rule::places::LEVEL;
 use word_rule::{Ask, Caller, LockId, Words};
-
-/// The word of a node that has its level.
-const LEVEL: u32 = 2;
 
 /// A node of the way down, held, in outline.
 #[derive(Drop)]

@@ -24,13 +24,8 @@ use node_store::{Busy, Locking, read_held, write_held};
 use reg_model::{Inserted, Member, Update};
 use tree_shape::{first_overlap, laws, set_separator};
 use word_rule::exchange::exchange_decided;
+use word_rule::places::{LEVEL, LOWER};
 use word_rule::{Ask, Caller, Words};
-
-/// What the lower half of the clock counts up to.
-const LOWER: u64 = 1 << 32;
-
-/// The word of a node that has its level.
-const LEVEL: u32 = 2;
 
 /// The node above both leaves, and its slot that leads to the left one.
 #[derive(Drop)]

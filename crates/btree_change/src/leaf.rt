@@ -14,13 +14,8 @@ use node_store::write_held;
 use reg_model::{Inserted, Member, Update};
 use tree_shape::{ENTRIES, Node, first_overlap, laws, put_entry};
 use word_rule::exchange::exchange_decided;
+use word_rule::places::{COUNT, LOWER};
 use word_rule::{Ask, Caller, Words};
-
-/// What the lower half of the clock counts up to.
-const LOWER: u64 = 1 << 32;
-
-/// The word of a node that has its count.
-const COUNT: u32 = 5;
 
 /// Writes a member into a leaf that is held and was read, in which it has room and overlaps
 /// nothing, and commits it: its number.

@@ -18,12 +18,8 @@ use node_store::{Busy, Locking, give_free, read_held, write_held};
 use tree_shape::limits::HIGHEST_LEVEL;
 use tree_shape::{laws, lift_root, put_pair};
 use word_rule::exchange::exchange_decided;
+use word_rule::places::{COUNT, LEVEL};
 use word_rule::{Caller, LockId, Words};
-
-/// The words of a node that have its level and its count.
-const LEVEL: u32 = 2;
-
-const COUNT: u32 = 5;
 
 /// The full root, held, and the two free nodes that are out for its halves.
 #[derive(Drop)]

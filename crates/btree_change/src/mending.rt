@@ -21,17 +21,8 @@ use crate::way::content_of;
 use node_store::{Locking, Outline, give_free, outline_of, write_held};
 use tree_shape::{Node, drop_pair, even_pair, join_pair, laws, set_separator, sink_root};
 use word_rule::exchange::exchange_decided;
+use word_rule::places::{FREE, KIND, LEVEL, LINK};
 use word_rule::{Caller, LockId, Words};
-
-/// The words of a node that has left the tree: its kind, its level, and what links it to the next.
-const KIND: u32 = 1;
-
-const LEVEL: u32 = 2;
-
-const LINK: u32 = 6;
-
-/// The kind of a free node.
-const FREE: u64 = 2;
 
 /// Gives back a node that is out, where all else that is held has settled.
 fn give_back<L: Locking>(locking: &L, words: &Words, me: &mut Caller, node: u32)

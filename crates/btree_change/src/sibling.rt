@@ -14,10 +14,8 @@ ghost use Rattle.btree_change.specs.Siblings.{is_small_body};
 use crate::descent::{Held, let_go_of, take_node};
 use crate::way::{Way, let_go_of_way};
 use node_store::{Busy, Locking, Outline, outline_of, pair_of, slot_of};
+use word_rule::places::LEVEL;
 use word_rule::{Caller, LockId, Words};
-
-/// The word of a node that has its level.
-const LEVEL: u32 = 2;
 
 /// Below so many entries, or so many pairs, a node can't lose one.
 const ENTRIES_TO_SPARE: u64 = 5;

@@ -12,10 +12,8 @@ use crate::descent::{Held, take_node};
 use node_store::{Busy, Locking, outline_of, read_held, write_held};
 use tree_shape::{Node, Pair, move_fence};
 use word_rule::exchange::exchange_decided;
+use word_rule::places::LEVEL;
 use word_rule::{Caller, LockId, Words};
-
-/// The word of a node that has its level.
-const LEVEL: u32 = 2;
 
 /// A node of the left spine and one of the right spine, of one level.
 #[derive(Clone, Copy)]

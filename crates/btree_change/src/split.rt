@@ -19,12 +19,8 @@ use crate::descent::Held;
 use node_store::{Busy, Locking, outline_of, read_held, take_free, write_held};
 use tree_shape::{Node, inner_slot, laws, put_pair, split_inner, split_leaf};
 use word_rule::exchange::exchange_decided;
+use word_rule::places::{COUNT, LEVEL};
 use word_rule::{Caller, LockId, Words};
-
-/// The words of a node that have its level and its count.
-const LEVEL: u32 = 2;
-
-const COUNT: u32 = 5;
 
 /// A full child that is held under its parent, and the free node that is out for its last half.
 #[derive(Drop)]

@@ -24,10 +24,8 @@ use crate::split::{FullChild, room_for, split_child};
 use node_store::{Busy, Locking, high_of, outline_of, slot_of};
 use reg_model::{Inserted, Member};
 use tree_shape::{ENTRIES, PAIRS};
+use word_rule::places::LEVEL;
 use word_rule::{Caller, Words};
-
-/// The word of a node that has its level.
-const LEVEL: u32 = 2;
 
 /// Whether full nodes are split on the way down, or none was free for that.
 #[derive(Clone, Copy, Debug, PartialEq, Eq)]

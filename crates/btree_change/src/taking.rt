@@ -11,13 +11,8 @@ use node_store::write_held;
 use reg_model::{Member, Removed, Update};
 use tree_shape::{Node, laws, take_entry};
 use word_rule::exchange::exchange_decided;
+use word_rule::places::{COUNT, LOWER};
 use word_rule::{Ask, Caller, Words};
-
-/// What the lower half of the clock counts up to.
-const LOWER: u64 = 1 << 32;
-
-/// The word of a node that has its count.
-const COUNT: u32 = 5;
 
 /// The entry of a leaf that begins at an address.
 fn entry_at(leaf: &Node, base: u64) -> Option<Member>

@@ -7,20 +7,18 @@ ghost use Rattle.word_rule.specs.CallerData.{CallerData};
 ghost use Rattle.btree_lookup.specs.Visits.{IsEntry, SeesBegun, SeesEntry, SeesLater, Way};
 ghost use Rattle.btree_lookup.specs.Visits.{entry_member};
 
-use crate::visit::{COUNT, Visit, where_holds};
+use crate::visit::{Visit, where_holds};
 use reg_model::{Member, Span};
 use tree_shape::ENTRIES;
+use word_rule::places::{COUNT, ENTRY_WORDS, FIRST};
 use word_rule::{Caller, Words};
 
-/// The words of a leaf: those of an entry are its base, its size and its payload, and the next
-/// entry stands three words on.
-const BASE: u32 = 6;
+/// The first entry's base, its size and its payload. The next entry stands three words on.
+const BASE: u32 = FIRST;
 
-const SIZE: u32 = 7;
+const SIZE: u32 = FIRST + 1;
 
-const PAYLOAD: u32 = 8;
-
-const ENTRY_WORDS: u32 = 3;
+const PAYLOAD: u32 = FIRST + 2;
 
 /// How many entries begin at or below an address, and where the last of them begins.
 #[derive(Clone, Copy)]

@@ -9,10 +9,8 @@ ghost use Rattle.btree_lookup.specs.Visits.{IsEntry, Way, entry_member};
 use crate::entry::{self, Entry};
 use crate::visit::{self, Visit};
 use reg_model::{Again, Found};
+use word_rule::places::LOWER;
 use word_rule::{Ask, Caller, LockId, Words};
-
-/// What the clock's lower half counts up to.
-const LOWER: u64 = 1 << 32;
 
 /// The answer at a stamp.
 fn answer(entry: Option<Entry>, stamp: u32) -> Found

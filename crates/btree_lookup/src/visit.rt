@@ -16,19 +16,13 @@ use reg_model::Again;
 use std::ops::Range;
 use tree_shape::PAIRS;
 use tree_shape::limits::HIGHEST_LEVEL;
+use word_rule::places::{COUNT, FIRST, LEVEL, PAIR_WORDS};
 use word_rule::{Ask, Caller, FIRST_NODE, LockId, NODE_WORDS, Words};
 
-/// The words of a node: its level and its count, and of an inner one the first child and the first
-/// separator. The next pair stands two words on.
-const LEVEL: u32 = 2;
+/// The first child of an inner node, and its first separator. The next pair stands two words on.
+const CHILD: u32 = FIRST;
 
-pub const COUNT: u32 = 5;
-
-const CHILD: u32 = 6;
-
-const SEPARATOR: u32 = 7;
-
-const PAIR_WORDS: u32 = 2;
+const SEPARATOR: u32 = FIRST + 1;
 
 /// How many separators are looked at before the others are loaded.
 const HALF: u32 = 8;

@@ -9,16 +9,9 @@ ghost use Rattle.node_store.specs.Free.{GivesFree, IsFreeTaken, IsSettled, Leave
 ghost use Rattle.node_store.specs.Free.{after_setting};
 
 use crate::locking::{Busy, Locking};
-use crate::reading::FREE;
 use word_rule::exchange::exchange_decided;
+use word_rule::places::{FREE, KIND, LEVEL, LINK};
 use word_rule::{Caller, LockId, Words};
-
-/// The words of a free node: its kind, its level, and what links it to the next.
-const KIND: u32 = 1;
-
-const LEVEL: u32 = 2;
-
-const LINK: u32 = 6;
 
 /// Takes the first node off the free list and gives it out locked, or None where there is none.
 /// It is Busy where another has that node locked.

@@ -12,36 +12,30 @@ ghost use Rattle.word_rule.specs.Spelling.{entries_at, is_entry_at, body_of_kind
 
 use reg_model::{Member, Span};
 use tree_shape::{Content, ENTRIES, Node, PAIRS, Pair};
+use word_rule::places::{self, FREE, INNER, LEAF};
 
 /// The words of a node after its version word.
 pub const CONTENT_WORDS: usize = 35;
 
-/// The words of a node, by their numbers.
-pub const KIND: usize = 1;
+/// The words of a node, by their numbers among those of an array.
+pub const KIND: usize = places::KIND as usize;
 
-pub const LEVEL: usize = 2;
+pub const LEVEL: usize = places::LEVEL as usize;
 
-pub const LOW: usize = 3;
+pub const LOW: usize = places::LOW as usize;
 
-pub const HIGH: usize = 4;
+pub const HIGH: usize = places::HIGH as usize;
 
-pub const COUNT: usize = 5;
+pub const COUNT: usize = places::COUNT as usize;
 
 /// Where the first pair, the first entry or the link stands.
-pub const FIRST: usize = 6;
+pub const FIRST: usize = places::FIRST as usize;
 
 /// The words of a pair: its child and its separator.
-pub const PAIR_WORDS: usize = 2;
+pub const PAIR_WORDS: usize = places::PAIR_WORDS as usize;
 
 /// The words of an entry: its base, its size and its payload.
-pub const ENTRY_WORDS: usize = 3;
-
-/// The kinds of nodes.
-pub const INNER: u64 = 0;
-
-pub const LEAF: u64 = 1;
-
-pub const FREE: u64 = 2;
+pub const ENTRY_WORDS: usize = places::ENTRY_WORDS as usize;
 
 // The word of a node with this number.
 pub(crate) fn word(words: &[u64; CONTENT_WORDS], at: usize) -> u64

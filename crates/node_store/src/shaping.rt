@@ -5,10 +5,11 @@ ghost use Rattle.word_rule.specs.Spelling.{node_word, pair_at, is_entry_at, entr
 ghost use Rattle.word_rule.specs.Spelling.{body_of_kind, spelled};
 
 use crate::reading::{
-    CONTENT_WORDS, COUNT, ENTRY_WORDS, FIRST, HIGH, INNER, KIND, LEAF, LEVEL, LOW, PAIR_WORDS, word,
+    CONTENT_WORDS, COUNT, ENTRY_WORDS, FIRST, HIGH, KIND, LEVEL, LOW, PAIR_WORDS, word,
 };
 use reg_model::{Member, Span};
 use tree_shape::{Content, ENTRIES, Node, PAIRS, Pair};
+use word_rule::places::{INNER, LEAF};
 
 // A word that is a number of 32 bits.
 fn short_word(words: &[u64; CONTENT_WORDS], at: usize) -> u32

@@ -12,10 +12,11 @@ ghost use Rattle.node_store.specs.Writing.{FitsWords, Write, place_in_turn, stor
 ghost use Rattle.word_rule.specs.Places.{CONTENT_WORDS};
 
 use crate::reading::{
-    CONTENT_WORDS, COUNT, ENTRY_WORDS, FIRST, FREE, HIGH, INNER, KIND, LEAF, LEVEL, LOW, PAIR_WORDS,
+    CONTENT_WORDS, COUNT, ENTRY_WORDS, FIRST, HIGH, KIND, LEVEL, LOW, PAIR_WORDS,
 };
 use reg_model::Member;
 use tree_shape::{Content, Node, Pair};
+use word_rule::places::{FREE, INNER, LEAF};
 
 /// The turns of a write: each word after the version has one.
 pub(crate) const TURNS: u32 = 35;

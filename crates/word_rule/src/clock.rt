@@ -10,6 +10,7 @@ ghost use Rattle.word_rule.specs.TreeRefusals.{AppendsRefusal};
 
 use crate::caller::Caller;
 use crate::log::{Ask, Log, Role};
+use crate::places::{CLOCK, LOWER};
 use crate::rule::{Asking, LoadsClock, LoadsCopy, Publishes, StoresCopy, Updating};
 use crate::words::Words;
 use atomic_table::Seat;
@@ -17,11 +18,8 @@ use reg_model::Update;
 use std::marker::Brand;
 use tree_shape::laws;
 
-/// Where the clock stands.
-pub(crate) const CLOCK_WORD: usize = 0;
-
-/// What its lower half counts up to.
-pub(crate) const LOWER: u64 = 1 << 32;
+/// The clock among the words.
+pub(crate) const CLOCK_WORD: usize = CLOCK as usize;
 
 impl Words {
     fn load_clock_for<A: Asking>(&self, seat: &mut Seat<(), Log>, ask: Ask) -> u64

@@ -4,8 +4,9 @@ ghost use Rattle.word_rule.specs.CallerData.{due};
 ghost use Rattle.word_rule.specs.Commits.{AfterCommit, MayCommit};
 
 use crate::caller::Caller;
-use crate::clock::{CLOCK_WORD, LOWER};
+use crate::clock::CLOCK_WORD;
 use crate::log::{Log, Role};
+use crate::places::LOWER;
 use crate::rule::{Commits, Updating};
 use crate::words::Words;
 use atomic_table::Seat;

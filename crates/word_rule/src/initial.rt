@@ -3,18 +3,9 @@ ghost use Rattle.std.specs.Prelude.{◌≡◌, ◌+◌, ◌*◌, ◌/◌, ◌<�
 ghost use Rattle.word_rule.specs.Places.{initial_node, initial_nodes};
 
 use crate::nodes::NODE_WORDS;
+use crate::places::{FREE, HIGH, KIND, LEAF, LINK};
 use reg_model::NoMemory;
 use std::alloc::Global;
-
-const KIND: usize = 1;
-
-const HIGH: usize = 4;
-
-const LINK: usize = 6;
-
-const LEAF: u64 = 1;
-
-const FREE: u64 = 2;
 
 /// Of the members of a copy, so many stand in one segment.
 const SEGMENT: u32 = 16;
@@ -30,9 +21,9 @@ fn initial_node(nodes: u32, n: u32) -> [u64; NODE_WORDS]
         n as u64 + 1
     };
     let mut words = [0; NODE_WORDS];
-    words[KIND] = kind;
-    words[HIGH] = u64::MAX;
-    words[LINK] = link;
+    words[KIND as usize] = kind;
+    words[HIGH as usize] = u64::MAX;
+    words[LINK as usize] = link;
     words
 }
 

@@ -32,6 +32,7 @@ mod lifecycle;
 mod lineage;
 mod log;
 mod nodes;
+pub mod places;
 mod rule;
 mod seats;
 #[cfg(test)]

@@ -10,6 +10,7 @@ ghost use Rattle.word_rule.specs.Callers.{IsAlone, IsWhole};
 use crate::caller::Caller;
 use crate::initial::initial_words;
 use crate::lineage::{Name, Names};
+use crate::places::LOWER;
 use crate::rule::Made;
 use crate::words::Words;
 use atomic_table::Table;
@@ -22,9 +23,6 @@ const ALLOWANCE: u32 = 1 << 26;
 
 /// The releases of its first caller beside those of its update calls.
 const SPARE: u64 = 1 << 60;
-
-/// What the lower half of the clock counts up to.
-const LOWER: u64 = 1 << 32;
 
 impl Words {
     /// The words of an empty registry, and its first caller, which has the whole allowance.

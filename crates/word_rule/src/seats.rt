@@ -7,6 +7,7 @@ ghost use Rattle.word_rule.specs.Logs.{after_join, after_learn};
 ghost use Rattle.word_rule.specs.Callers.{IsAlone, IsWhole};
 
 use crate::caller::{Caller, Note};
+use crate::clock::CLOCK_WORD;
 use crate::log::{Log, Role};
 use crate::rule::{Confirms, Giving, Joins, Learns, Notes, Splits};
 use crate::words::Words;
@@ -14,9 +15,6 @@ use atomic_table::Seat;
 use reg_model::NoMemory;
 use std::alloc::Global;
 use std::marker::Brand;
-
-// Where the clock stands.
-const CLOCK_WORD: usize = 0;
 
 impl Words {
     fn split_seat<G: Giving>(&self, seat: &mut Seat<(), Log>, left: u32, give: u32) -> Seat<(), Log>

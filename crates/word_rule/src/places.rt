@@ -1,0 +1,39 @@
+//! The words of a node by their numbers, the kinds of nodes, and the halves of the clock. Where
+//! each word of the table stands is stated in `specs/Places`, what a node's words spell in
+//! `specs/Spelling`.
+
+/// A node's words after its version: its kind, its level, its fences and its count.
+pub const KIND: u32 = 1;
+
+pub const LEVEL: u32 = 2;
+
+pub const LOW: u32 = 3;
+
+pub const HIGH: u32 = 4;
+
+pub const COUNT: u32 = 5;
+
+/// Where a node's first pair or entry stands, or what links a free one to the next.
+pub const FIRST: u32 = 6;
+
+pub const LINK: u32 = FIRST;
+
+/// The words of a pair: its child and its separator.
+pub const PAIR_WORDS: u32 = 2;
+
+/// The words of an entry: its base, its size and its payload.
+pub const ENTRY_WORDS: u32 = 3;
+
+/// The kinds of nodes.
+pub const INNER: u64 = 0;
+
+pub const LEAF: u64 = 1;
+
+pub const FREE: u64 = 2;
+
+/// Where the clock stands.
+pub const CLOCK: u32 = 0;
+
+/// What the lower half of the clock counts up to: accepted updates stand in it, publications of the
+/// loader in the upper half.
+pub const LOWER: u64 = 1 << 32;
