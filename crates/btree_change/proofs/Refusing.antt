@@ -1,4 +1,5 @@
--- A member is refused under the lock of a leaf that has the lowest one that overlaps it.
+-- What a refusal under the lock of a leaf leaves; and that of a member, by the lowest one that
+-- overlaps it, or for want of room.
 use Rattle.std.proofs.Common.{◌≡◌, ℕ, ◌≤◌, ◌%◌, max, List, [], ◌∷◌, length, sym, refl, ap, Bool, ◌∙◌, subst, arith, Some, inl, append-nil}
 use Rattle.std.specs.List.{AllByRecursion}
 use mathlib.Core.List.{IsPrefix}

@@ -1,4 +1,4 @@
--- A held node that has settled is let go of, and all others that are held stay.
+-- A removal's way is let go of, the node first and then the root: each may go, and what is left.
 use Rattle.std.proofs.Common.{◌≡◌, ◌≢◌, ℕ, zero, suc, List, [], ◌∷◌, sym, refl, ap, ◌∙◌, subst, arith, Bool, false, not, ◌==◌, eq-eqb, ne_eqb, cond}
 use Rattle.word_rule.specs.CallerData.{CallerData}
 use Rattle.word_rule.specs.Held.{held_of, without_lock}

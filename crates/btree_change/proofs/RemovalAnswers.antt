@@ -56,7 +56,7 @@ rightly_seen t base (removed.NotFound stamp) k l k' l' same same' (begins, count
 )
 rightly_seen t base removed.Spent k l k' l' same same' wrong = absurd wrong
 
--- the call of a removal that was answered between its way down and the last of it that is let go of
+-- a removal was answered between its way down and the last of it that is let go of
 around : (r : Receipt) (taken : ℕ) (k k1 k2 k3 : CallerData) → Spends 26 k k1 → SpendsCall (r ∷ []) taken 0 k1 k2 → Spends 2 k2 k3 → HoldsNothing k3.log.holdings → AnswersUpdate r taken k k3
 around r taken k k1 k2 k3 down call up = answers_so r taken 28 k k3 (omega arith)
     (spends_after 26 2 28 (r ∷ []) taken k k1 k3 (omega arith) down (spends_before 0 2 2 (r ∷ []) taken k1 k2 k3 (omega arith) call up))

@@ -64,7 +64,7 @@ refused_call r taken k l none p = record {
   credit = let e = ap (λ b. b.credit) p.budget in omega (arith, e);
 }
 
--- an update that was refused, or answered between two parts, as a whole
+-- an update was answered, and nothing is held any more
 pub answers_so : (r : Receipt) (taken most : ℕ) (k l : CallerData) → most ≤ 64 → SpendsCall (r ∷ []) taken most k l → HoldsNothing l.log.holdings → AnswersUpdate r taken k l
 answers_so r taken most k l few p nothing = record {
   table = p.table;

@@ -12,14 +12,13 @@ ghost use Rattle.node_store.specs.Locking.{Locks, Tries};
 
 use crossbeam_utils::Backoff;
 use std::sync::Wait;
+use word_rule::places::{LOCKED, SLEEPERS, VERSION};
 use word_rule::{Ask, Caller, LockId, Words};
 
-// The bits of a version word: locked, and with sleepers.
-const BITS: u64 = 4;
+// Of a version word, what is below its version: these bits.
+const BITS: u64 = VERSION;
 
-const LOCKED: u64 = 1;
-
-const LOCKED_WITH_SLEEPERS: u64 = 3;
+pub(crate) const LOCKED_WITH_SLEEPERS: u64 = LOCKED + SLEEPERS;
 
 // Sleeps while the word is the one seen, which is locked, and loads it again. Where it has changed,
 // that word.

@@ -2,10 +2,12 @@ ghost use Rattle.std.specs.Prelude.{◌≡◌, ◌≤◌, ◌<◌, None, IsSome}
 ghost use Rattle.word_rule.specs.CallerData.{surplus};
 ghost use Rattle.node_store.specs.Locking.{Turns};
 
+use crate::locks::LOCKED_WITH_SLEEPERS;
 use crate::{Locking, Once, Trying, Waiting, lock, unlock};
 use std::sync::Wait;
 use std::test::Fail;
 use std::thread::{self, Threads, join};
+use word_rule::places::LOCKED;
 use word_rule::{Ask, Caller, LockId, Words};
 
 const TURNS: u32 = 100;
@@ -73,10 +75,6 @@ const PAUSES: u32 = 20_000;
 
 // How often a sleep may end for no reason.
 const WAKES: u32 = 10;
-
-const LOCKED: u64 = 1;
-
-const LOCKED_WITH_SLEEPERS: u64 = 3;
 
 fn someone_sleeps(words: &Words, me: &mut Caller) -> bool
     requires { me.old.table ≡ words.now.table }

@@ -16,11 +16,12 @@ ghost use Rattle.word_rule.specs.VersionLocks.{NodeTaken};
 
 use crate::caller::Caller;
 use crate::log::{Ask, Log, Role};
+use crate::places::{LOCKED, VERSION};
 use crate::rule::{
     AtNode, BeginsSight, GrabsNode, LoadsNode, LoadsVersion, LocksNode, ReleasesNode,
     ReleasesSameNode, StoresNode,
 };
-use crate::words::{LOCKED, VERSION, Words};
+use crate::words::Words;
 use atomic_table::Seat;
 use std::marker::Brand;
 use tree_shape::laws;

@@ -1,6 +1,6 @@
-//! The words of a node by their numbers, the kinds of nodes, and the halves of the clock. Where
-//! each word of the table stands is stated in `specs/Places`, what a node's words spell in
-//! `specs/Spelling`.
+//! The words of a node by their numbers, the kinds of nodes, the halves of the clock, and the bits
+//! of a version lock. Where each word of the table stands is stated in `specs/Places`, and what a
+//! node's words spell in `specs/Spelling`.
 
 /// A node's words after its version: its kind, its level, its fences and its count.
 pub const KIND: u32 = 1;
@@ -37,3 +37,12 @@ pub const CLOCK: u32 = 0;
 /// What the lower half of the clock counts up to: accepted updates stand in it, publications of the
 /// loader in the upper half.
 pub const LOWER: u64 = 1 << 32;
+
+/// The bit of a version word that is set while it is locked, and that which is set while threads
+/// sleep on it.
+pub const LOCKED: u64 = 1;
+
+pub const SLEEPERS: u64 = 2;
+
+/// What a version rises by, each time that its lock is let go.
+pub const VERSION: u64 = 4;

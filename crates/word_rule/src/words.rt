@@ -14,6 +14,7 @@ ghost use Rattle.word_rule.specs.VersionLocks.{after_release_same, after_version
 use crate::caller::Caller;
 use crate::log::{Ask, LockId, Log};
 use crate::nodes::place_of;
+use crate::places::{LOCKED, SLEEPERS, VERSION};
 use crate::rule::{Grabs, Law, Locks, Looks, Made, Marks, Releases, ReleasesSame};
 use atomic_table::Table;
 use reg_model::Member;
@@ -21,15 +22,6 @@ use std::alloc::Global;
 use std::marker::Model;
 use std::snapshot::Snapshot;
 use std::sync::Wait;
-
-/// The bit of a version word that is set while it is locked, and that which is set while threads
-/// sleep on it.
-pub(crate) const LOCKED: u64 = 1;
-
-const SLEEPERS: u64 = 2;
-
-/// What a version rises by, each time that its lock is let go.
-pub(crate) const VERSION: u64 = 4;
 
 /// Where the loader's version lock stands.
 const LOADER_WORD: usize = 2;
