@@ -13,10 +13,6 @@
 mod calls;
 mod fixed;
 mod lookup;
-#[cfg(test)]
-mod side_by_side;
-#[cfg(test)]
-mod tests;
 mod update;
 mod walk;
 mod writing;

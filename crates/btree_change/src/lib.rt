@@ -22,8 +22,6 @@ mod spines;
 mod split;
 mod stand;
 mod taking;
-#[cfg(test)]
-mod tests;
 mod way;
 
 pub use insertion::{insert, insert_by, try_insert};

@@ -15,8 +15,6 @@
 
 mod entry;
 mod lookup;
-#[cfg(test)]
-mod tests;
 mod visit;
 
 pub use lookup::try_find;

@@ -5,6 +5,3 @@
 mod parts;
 
 pub use parts::Parts;
-
-#[cfg(test)]
-mod tests;

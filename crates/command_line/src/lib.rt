@@ -9,7 +9,5 @@
 mod count;
 mod grammar;
 mod taking;
-#[cfg(test)]
-mod tests;
 
 pub use taking::{Command, command_of};

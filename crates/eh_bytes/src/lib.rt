@@ -17,6 +17,3 @@ pub use encoding::{
     DW_EH_PE_udata8, DW_EH_PE_uleb128, application_of, is_pointer,
 };
 pub use fault::ByteFault;
-
-#[cfg(test)]
-mod tests;

@@ -18,6 +18,3 @@ pub use fault::HeaderFault;
 pub use header::Header;
 pub use laws::headers_have_one_answer;
 pub use search_table::SearchTable;
-
-#[cfg(test)]
-mod tests;

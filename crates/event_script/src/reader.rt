@@ -9,15 +9,11 @@ ghost use Rattle.event_script.specs.Fault.{Tells, IsOfScript, GivesDraft, Leaves
 
 mod draft;
 pub mod fault;
-#[cfg(test)]
-mod fault_tests;
 mod fields;
 mod kinds;
 mod numbers;
 mod snapshot_draft;
 mod statement;
-#[cfg(test)]
-mod tests;
 mod totals;
 
 use crate::reader::draft::Draft;

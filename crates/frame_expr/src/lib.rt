@@ -23,6 +23,3 @@ pub use fault::{ExprFault, NoBytes};
 pub use memory::{Memory, RegionFault};
 pub use operation::{Binary, Code, Comparison, Operand, Operation, Unary};
 pub use regs::Regs;
-
-#[cfg(test)]
-mod tests;

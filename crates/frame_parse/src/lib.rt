@@ -30,6 +30,3 @@ pub use program::Program;
 pub use program_state::{Remembered, State};
 pub use records::{Augmentation, CieRecord, Entry, Extent, FdeEntry};
 pub use section::{Section, one_answer, section_is_answered};
-
-#[cfg(test)]
-mod tests;

@@ -17,6 +17,3 @@ pub use placed_row::PlacedRow;
 pub use row::Row;
 pub use rule::{CfaRule, CfaRuleWith, PlacedCfaRule, PlacedRule, Rule, RuleWith};
 pub use walk::{initial_row, row_at};
-
-#[cfg(test)]
-mod tests;

@@ -9,25 +9,13 @@
 #![tactic(auto)]
 
 mod free;
-#[cfg(test)]
-mod free_tests;
 mod held;
 mod locking;
 mod locks;
 mod outline;
-#[cfg(test)]
-mod outline_tests;
 mod reading;
 mod shaping;
-#[cfg(test)]
-mod side_tests;
 mod sight;
-#[cfg(test)]
-mod tests;
-#[cfg(test)]
-mod whole_tests;
-#[cfg(test)]
-mod word_tests;
 mod writing;
 
 pub use free::{give_free, take_free};

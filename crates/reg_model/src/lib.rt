@@ -12,8 +12,6 @@ mod answer;
 pub mod laws;
 mod plain;
 mod span;
-#[cfg(test)]
-mod tests;
 
 pub use answer::{
     Again, Found, Half, Inserted, Loading, NoMemory, Place, Receipt, Removed, Update,

@@ -16,9 +16,5 @@ pub mod laws;
 mod lookup;
 mod registry;
 mod rounds;
-#[cfg(test)]
-mod tests;
-#[cfg(test)]
-mod tree_tests;
 
 pub use registry::Registry;

@@ -23,6 +23,3 @@ pub use fault::TableFault;
 pub use lent_row::LentRow;
 pub use source::SectionRows;
 pub use table::{FoundRow, RowTable};
-
-#[cfg(test)]
-mod tests;

@@ -17,8 +17,6 @@ mod scripts;
 mod setting;
 mod shared;
 mod status;
-#[cfg(test)]
-mod tests;
 mod threads;
 mod writing;
 

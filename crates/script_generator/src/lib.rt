@@ -13,8 +13,6 @@ mod generating;
 mod images;
 mod stacks;
 mod summing;
-#[cfg(test)]
-mod tests;
 
 pub use counting::summary;
 pub use generating::generate;

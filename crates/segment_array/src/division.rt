@@ -24,29 +24,3 @@ pub fn segments_for(count: u32) -> u32
 {
     count.div_ceil(LENGTH)
 }
-
-#[cfg(test)]
-mod tests {
-    use super::*;
-
-    #[test]
-    fn sixteen_members_fill_a_segment(rt: HostRuntime) {
-        assert_eq!(rt;
-            spot(16),
-            Spot {
-                segment: 1,
-                place: 0
-            }
-        );
-        assert_eq!(rt;
-            spot(15),
-            Spot {
-                segment: 0,
-                place: 15
-            }
-        );
-        assert_eq!(rt; segments_for(17), 2);
-        assert_eq!(rt; segments_for(16), 1);
-        assert_eq!(rt; segments_for(0), 0);
-    }
-}

@@ -11,8 +11,6 @@ mod division;
 mod edits;
 mod find;
 mod segment;
-#[cfg(test)]
-mod tests;
 
 pub use division::{segments_for, spot};
 pub use edits::{put_into, take_from};

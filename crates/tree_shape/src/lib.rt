@@ -18,8 +18,6 @@ mod node;
 mod pair;
 mod row;
 mod split;
-#[cfg(test)]
-mod tests;
 
 pub use edits::{drop_pair, put_entry, put_pair, set_separator, take_entry};
 pub use find::{first_overlap, inner_slot, leaf_slot};

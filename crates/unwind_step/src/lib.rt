@@ -23,6 +23,3 @@ pub use next::{FoundStep, Stepped, step, step_at};
 pub use plain::PlainFinder;
 pub use source::{FdeRow, RowSource};
 pub use unwind::trace;
-
-#[cfg(test)]
-mod tests;

@@ -35,8 +35,6 @@ mod nodes;
 pub mod places;
 mod rule;
 mod seats;
-#[cfg(test)]
-mod tests;
 mod words;
 
 pub use caller::{Caller, Note};

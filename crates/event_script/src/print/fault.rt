@@ -74,6 +74,3 @@ fn put_places(text: &mut String, name: &str, start: usize, at: usize) -> Result<
 {
     write!(text, "section {name} {start} {at}")
 }
-
-#[cfg(test)]
-mod tests;

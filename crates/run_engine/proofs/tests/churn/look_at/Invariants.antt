@@ -1,6 +1,0 @@
-use Rattle.std.proofs.Common.{◌≡◌}
-use Rattle.word_rule.specs.Callers.{IsIdle}
-use Rattle.run_engine.proofs.tests.churn.look_at.Given as goal
-
-abbrev pub invariant-loop-node : goal.invariant-loop-node
-invariant-loop-node l = record { table : l.me.table ≡ l.registry.table; idle : IsIdle l.me.log }
