@@ -5,12 +5,10 @@ use Rattle.std.specs.Prelude.{if◌then◌else◌}
 use Rattle.std.specs.Int.{w16, w32, w64, cast_unsigned}
 use Rattle.eh_bytes.specs.declared.fault.ByteFault.{ByteFault}
 use Rattle.eh_bytes.specs.declared.fault.ByteFault.TheVariants.{Encoding}
-use Rattle.eh_bytes.specs.declared.encoding.TheConstants.{DW_EH_PE_absptr, DW_EH_PE_uleb128}
-use Rattle.eh_bytes.specs.declared.encoding.TheConstants.{DW_EH_PE_udata2, DW_EH_PE_udata4}
-use Rattle.eh_bytes.specs.declared.encoding.TheConstants.{DW_EH_PE_udata8}
-use Rattle.eh_bytes.specs.declared.encoding.TheConstants.{DW_EH_PE_sleb128, DW_EH_PE_sdata2}
-use Rattle.eh_bytes.specs.declared.encoding.TheConstants.{DW_EH_PE_sdata4, DW_EH_PE_sdata8}
-use Rattle.eh_bytes.specs.declared.encoding.TheConstants.{DW_EH_PE_pcrel}
+use Rattle.eh_bytes.specs.PointerEncodings.{DW_EH_PE_absptr, DW_EH_PE_uleb128, DW_EH_PE_udata2}
+use Rattle.eh_bytes.specs.PointerEncodings.{DW_EH_PE_udata4, DW_EH_PE_udata8, DW_EH_PE_sleb128}
+use Rattle.eh_bytes.specs.PointerEncodings.{DW_EH_PE_sdata2, DW_EH_PE_sdata4, DW_EH_PE_sdata8}
+use Rattle.eh_bytes.specs.PointerEncodings.{DW_EH_PE_pcrel}
 use Rattle.eh_bytes.specs.Grammar.{Part, ◌>>=◌, give, here, when, check}
 use Rattle.eh_bytes.specs.Fields.{fixed, signed_fixed, uleb, sleb}
 
