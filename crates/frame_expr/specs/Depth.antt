@@ -44,9 +44,14 @@ leaves (Compare k) = 1
 abbrev pub depth_after : ℕ → Operation → ℕ
 depth_after d o = d - needs o + leaves o
 
--- an operation finds its entries on a stack of this depth, and 32 at most are there after it
+-- how many entries a stack has at most
+abbrev pub most_entries : ℕ
+most_entries = 32
+
+-- an operation finds its entries on a stack of this depth, and no more than may be are there after
+-- it
 abbrev pub fits : ℕ → Operation → Bool
-fits d o = nat_le (needs o) d && nat_le (depth_after d o) 32
+fits d o = nat_le (needs o) d && nat_le (depth_after d o) most_entries
 
 -- what an operation needs depends on its operand
 abbrev pub is_pick : Operation → Bool

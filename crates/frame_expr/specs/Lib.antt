@@ -1,4 +1,6 @@
 pub mod Regions
+pub mod Registers
+pub mod OperationEncodings
 pub mod Operations
 pub mod Depth
 pub mod Expressions

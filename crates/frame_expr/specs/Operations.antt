@@ -5,22 +5,18 @@ use Rattle.std.specs.Int.{w8, w16, w32, w64, cast_unsigned}
 use Rattle.eh_bytes.specs.declared.fault.ByteFault.{ByteFault}
 use Rattle.eh_bytes.specs.Grammar.{Part, ◌>>=◌, give}
 use Rattle.eh_bytes.specs.Fields.{fixed, signed_fixed, uleb, sleb}
-use Rattle.frame_expr.specs.declared.opcode.TheConstants.{DW_OP_addr, DW_OP_deref, DW_OP_const1u}
-use Rattle.frame_expr.specs.declared.opcode.TheConstants.{DW_OP_const1s, DW_OP_const2u}
-use Rattle.frame_expr.specs.declared.opcode.TheConstants.{DW_OP_const2s, DW_OP_const4u}
-use Rattle.frame_expr.specs.declared.opcode.TheConstants.{DW_OP_const4s, DW_OP_const8u}
-use Rattle.frame_expr.specs.declared.opcode.TheConstants.{DW_OP_const8s, DW_OP_constu, DW_OP_consts}
-use Rattle.frame_expr.specs.declared.opcode.TheConstants.{DW_OP_dup, DW_OP_drop, DW_OP_over}
-use Rattle.frame_expr.specs.declared.opcode.TheConstants.{DW_OP_pick, DW_OP_swap, DW_OP_rot}
-use Rattle.frame_expr.specs.declared.opcode.TheConstants.{DW_OP_abs, DW_OP_and, DW_OP_minus}
-use Rattle.frame_expr.specs.declared.opcode.TheConstants.{DW_OP_mul, DW_OP_neg}
-use Rattle.frame_expr.specs.declared.opcode.TheConstants.{DW_OP_not, DW_OP_or, DW_OP_plus}
-use Rattle.frame_expr.specs.declared.opcode.TheConstants.{DW_OP_plus_uconst, DW_OP_shl, DW_OP_shr}
-use Rattle.frame_expr.specs.declared.opcode.TheConstants.{DW_OP_shra, DW_OP_xor, DW_OP_bra}
-use Rattle.frame_expr.specs.declared.opcode.TheConstants.{DW_OP_eq, DW_OP_ge, DW_OP_gt, DW_OP_le}
-use Rattle.frame_expr.specs.declared.opcode.TheConstants.{DW_OP_lt, DW_OP_ne, DW_OP_lit0}
-use Rattle.frame_expr.specs.declared.opcode.TheConstants.{DW_OP_reg0, DW_OP_breg0, DW_OP_breg16}
-use Rattle.frame_expr.specs.declared.opcode.TheConstants.{DW_OP_nop}
+use Rattle.frame_expr.specs.OperationEncodings.{DW_OP_addr, DW_OP_deref, DW_OP_const1u}
+use Rattle.frame_expr.specs.OperationEncodings.{DW_OP_const1s, DW_OP_const2u, DW_OP_const2s}
+use Rattle.frame_expr.specs.OperationEncodings.{DW_OP_const4u, DW_OP_const4s, DW_OP_const8u}
+use Rattle.frame_expr.specs.OperationEncodings.{DW_OP_const8s, DW_OP_constu, DW_OP_consts}
+use Rattle.frame_expr.specs.OperationEncodings.{DW_OP_dup, DW_OP_drop, DW_OP_over, DW_OP_pick}
+use Rattle.frame_expr.specs.OperationEncodings.{DW_OP_swap, DW_OP_rot, DW_OP_abs, DW_OP_and}
+use Rattle.frame_expr.specs.OperationEncodings.{DW_OP_minus, DW_OP_mul, DW_OP_neg, DW_OP_not}
+use Rattle.frame_expr.specs.OperationEncodings.{DW_OP_or, DW_OP_plus, DW_OP_plus_uconst, DW_OP_shl}
+use Rattle.frame_expr.specs.OperationEncodings.{DW_OP_shr, DW_OP_shra, DW_OP_xor, DW_OP_bra}
+use Rattle.frame_expr.specs.OperationEncodings.{DW_OP_eq, DW_OP_ge, DW_OP_gt, DW_OP_le, DW_OP_lt}
+use Rattle.frame_expr.specs.OperationEncodings.{DW_OP_ne, DW_OP_lit0, DW_OP_reg0, DW_OP_breg0}
+use Rattle.frame_expr.specs.OperationEncodings.{DW_OP_breg16, DW_OP_nop}
 use Rattle.frame_expr.specs.declared.operation.Operand.{Operand}
 use Rattle.frame_expr.specs.declared.operation.Operand.TheVariants.{Absent, U8, U16, U32, U64, I8}
 use Rattle.frame_expr.specs.declared.operation.Operand.TheVariants.{I16, I32, I64, Uleb, Sleb}
