@@ -1,5 +1,5 @@
 -- The expressions of instructions stand where these say.
-use Rattle.std.proofs.Common.{◌≡◌, ℕ, ℤ, ◌+◌, ◌-◌, ◌%◌, List, [], ◌∷◌, ◌++◌, length, take, drop, Ok, Err, Bool, true, false, cond, nat_lt, refl, sym, ap, subst, ◌∙◌, append_assoc, length-append, arith, inl, inr}
+use Rattle.std.proofs.Common.{◌≡◌, ℕ, ℤ, ◌+◌, ◌-◌, ◌%◌, List, [], ◌∷◌, ◌++◌, length, take, drop, Ok, Err, Bool, true, false, cond, refl, sym, ap, subst, ◌∙◌, append_assoc, length-append, arith, inl, inr}
 use Rattle.std.specs.Prelude.{slice_range}
 use Rattle.std.proofs.lemmas.List.{take_at, drop_at, take_rest}
 use Rattle.eh_bytes.specs.CursorData.{CursorData}
@@ -25,7 +25,7 @@ use Rattle.frame_parse.specs.declared.program_state.State.{State}
 use Rattle.frame_parse.specs.declared.records.Extent.{Extent}
 use Rattle.frame_parse.specs.Fields.{field, pointer}
 use Rattle.std.specs.Int.{w64, cast_unsigned}
-use Rattle.frame_parse.specs.Programs.{other, factored, set, restore, cfa_column, second_column, expression_block, column_block, extended_operation, operation, instruction_of, step, text_in, IsExtent, HasPlacedSteps, HasPrograms, PlacedProgramData, context_of, initial_of, program_of, initial_state, first_state}
+use Rattle.frame_parse.specs.Programs.{is_above_columns, other, factored, set, restore, cfa_column, second_column, expression_block, column_block, extended_operation, operation, instruction_of, step, text_in, IsExtent, HasPlacedSteps, HasPrograms, PlacedProgramData, context_of, initial_of, program_of, initial_state, first_state}
 use Rattle.frame_parse.specs.declared.instructions.context.ProgramKind.TheVariants.{Initial, Own}
 use Rattle.frame_parse.specs.Sections.{FdeData}
 use Rattle.frame_parse.specs.Blocks.{counted, block_in, HasExpression, HasRuleExpression, HasItsExpression, HaveExpressions}
@@ -114,7 +114,7 @@ expression_block_keeps depth = record { keeps = λ bytes p text b a s. block_has
 
 -- where the column is one that is applied
 abbrev HasColumnBlock : ℕ → List ℕ → ℕ → Type 0
-HasColumnBlock r bytes e = nat_lt 16 r ≡ false → HasExpression 1 bytes e
+HasColumnBlock r bytes e = is_above_columns r ≡ false → HasExpression 1 bytes e
 
 column_block_keeps : (r : ℕ) → Keeps (HasColumnBlock r) (column_block r)
 column_block_keeps r = record {
@@ -136,15 +136,15 @@ set_by : (bytes : List ℕ) (r : ℕ) (rule : PlacedReadRule) (b : Bool) → (b 
 set_by bytes r rule true has = tt
 set_by bytes r rule false has = has refl
 
-set_has : (bytes : List ℕ) (r : ℕ) (rule : PlacedReadRule) → (nat_lt 16 r ≡ false → HasRuleExpression bytes rule) → HasOperationExpression bytes (other (set r rule))
-set_has bytes r rule has = set_by bytes r rule (nat_lt 16 r) has
+set_has : (bytes : List ℕ) (r : ℕ) (rule : PlacedReadRule) → (is_above_columns r ≡ false → HasRuleExpression bytes rule) → HasOperationExpression bytes (other (set r rule))
+set_has bytes r rule has = set_by bytes r rule (is_above_columns r) has
 
 restore_by : (bytes : List ℕ) (r : ℕ) (b : Bool) → HasItsExpression bytes (cond b Nop (Restore r))
 restore_by bytes r true = tt
 restore_by bytes r false = tt
 
 restore_has : (bytes : List ℕ) (r : ℕ) → HasOperationExpression bytes (other (restore r))
-restore_has bytes r = restore_by bytes r (nat_lt 16 r)
+restore_has bytes r = restore_by bytes r (is_above_columns r)
 
 abbrev Q : List ℕ → Operation → Type 0
 Q = HasOperationExpression

@@ -14,7 +14,7 @@ use Rattle.frame_parse.specs.declared.instructions.Operation.TheVariants as oper
 use Rattle.frame_parse.specs.declared.program_state.State.{State}
 use Rattle.frame_parse.specs.declared.instructions.context.ProgramKind.TheVariants.{Initial, Own}
 use Rattle.eh_bytes.specs.Grammar.{given, found}
-use Rattle.frame_parse.specs.Programs.{context_of, effect_of, effect, step, top, below_top, initial_state, first_state, HasPlacedSteps, IsExtent, HasPrograms}
+use Rattle.frame_parse.specs.Programs.{most_remembered, context_of, effect_of, effect, step, top, below_top, initial_state, first_state, HasPlacedSteps, IsExtent, HasPrograms}
 use Rattle.eh_bytes.specs.Steps.{AreSteps}
 use Rattle.frame_parse.specs.Sections.{AreRecords, fdes_of, IsSection, HasFdes, covers, first_cover}
 use Rattle.frame_parse.specs.Records.{cie, fde, cie_from, cie_after, content, record_at, whole_record}
@@ -36,7 +36,7 @@ given_at at l p s m (Set r rule) text a = (a.0, ap (moved l) a.1)
 given_at at l p s m (Restore r) text a = (a.0, ap (moved l) a.1)
 given_at at l p s m (Cfa r n) text a = (a.0, ap (moved l) a.1)
 given_at at l p s m (CfaExpression e) text a = (a.0, ap (moved l) a.1)
-given_at at l p s m Remember text a = given_lift (nat_lt (length s.remembered) 8) (record s { remembered = s.remembered ++ s.offset ∷ [] }) m (faults.Remember at) p text (moved l) a
+given_at at l p s m Remember text a = given_lift (nat_lt (length s.remembered) most_remembered) (record s { remembered = s.remembered ++ s.offset ∷ [] }) m (faults.Remember at) p text (moved l) a
 given_at at l p s m RestoreState text a = given_lift (nat_lt 0 (length s.remembered)) (record s { offset = top s.remembered; remembered = below_top s.remembered }) m (faults.Remember at) p text (moved l) a
 given_at at l p s m (CfaColumn r) text a = given_lift s.offset s m (faults.CfaRule at) p text (moved l) a
 given_at at l p s m (CfaOffset n) text a = given_lift s.offset s m (faults.CfaRule at) p text (moved l) a

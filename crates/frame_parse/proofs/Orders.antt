@@ -15,7 +15,7 @@ use Rattle.frame_parse.specs.declared.instructions.Operation.{Operation}
 use Rattle.frame_parse.specs.declared.instructions.Operation.TheVariants as operations
 use Rattle.frame_parse.specs.declared.program_state.State.{State}
 use Rattle.eh_bytes.specs.Grammar.{given}
-use Rattle.frame_parse.specs.Programs.{moves, effect_of, effect, step, instruction_of, top, below_top, PlacedProgramData, HasPlacedSteps}
+use Rattle.frame_parse.specs.Programs.{most_remembered, moves, effect_of, effect, step, instruction_of, top, below_top, PlacedProgramData, HasPlacedSteps}
 use Rattle.eh_bytes.specs.Steps.{AreSteps}
 use Rattle.frame_parse.specs.Order.{Moves, IsAscendingFrom, AreAt, MayStandAt, remembered_after, IsBalanced, AreOrdered}
 
@@ -52,7 +52,7 @@ changes_of at moving s m (CfaColumn r) p text a = same moving s m (CfaColumn r) 
 changes_of at moving s m (CfaOffset n) p text a = same moving s m (CfaOffset n) refl tt refl (chosen s.offset s m _ p text a).1
 changes_of at moving s m Remember p text a =
     let kept : State = record s { remembered = s.remembered ++ s.offset ∷ [] } in
-    let b = chosen (nat_lt (length s.remembered) 8) kept m _ p text a in
+    let b = chosen (nat_lt (length s.remembered) most_remembered) kept m _ p text a in
     let made : Changes moving s Remember kept = record { up = refl; still = λ _. refl; may = ltb-true _ _ b.0; depth = length-append s.remembered (s.offset ∷ []) } in
     subst (λ (k : State). Changes moving s Remember k) b.1 made
 changes_of at moving s m RestoreState p text a =

@@ -4,7 +4,8 @@ use Rattle.std.specs.Prelude.{◌||◌}
 use Rattle.frame_parse.specs.declared.fault.RecordFault.TheVariants as faults
 use Rattle.frame_parse.specs.declared.instructions.context.Context.{Context}
 use Rattle.frame_parse.specs.declared.program_state.State.{State}
-use Rattle.frame_parse.specs.Programs.{cfa_column, second_column, expression_fault, expression_block, skipped_block, column_block, extended_operation, operation, effect, step}
+use Rattle.frame_expr.specs.Registers.{column_count}
+use Rattle.frame_parse.specs.Programs.{is_above_columns, cfa_column, second_column, expression_fault, expression_block, skipped_block, column_block, extended_operation, operation, effect, step}
 use Rattle.eh_bytes.specs.Grammar.{give, lift}
 use Rattle.frame_expr.specs.Expressions.{expression}
 use Rattle.frame_expr.proofs.Parts.{expression_whole}
@@ -20,14 +21,14 @@ unfolding cfa_column
 cfa_column_exact =
     then_exact _ _ here_exact (λ at.
     then_exact _ _ (field_exact _ uleb_exact) (λ r.
-    then_exact _ _ (check_exact (nat_lt r 17) (faults.Column at r)) (λ _. give_exact r)))
+    then_exact _ _ (check_exact (nat_lt r column_count) (faults.Column at r)) (λ _. give_exact r)))
 
 second_column_exact : (first : ℕ) → IsExact (second_column first)
 unfolding second_column
 second_column_exact first =
     then_exact _ _ here_exact (λ at.
     then_exact _ _ (field_exact _ uleb_exact) (λ r.
-    then_exact _ _ (check_exact (nat_lt 16 first || nat_lt r 17) (faults.Column at r)) (λ _. give_exact r)))
+    then_exact _ _ (check_exact (is_above_columns first || nat_lt r column_count) (faults.Column at r)) (λ _. give_exact r)))
 
 expression_block_exact : (depth : ℕ) → IsExact (expression_block depth)
 unfolding expression_block
@@ -46,7 +47,7 @@ skipped_block_exact =
     then_exact _ _ (block_exact (faults.Short at) n (give (tt {0})) (give_exact (tt {0}))) (λ _. give_exact _))))
 
 column_block_exact : (r : ℕ) → IsExact (column_block r)
-column_block_exact r = when_exact (nat_lt 16 r) skipped_block (expression_block 1) skipped_block_exact (expression_block_exact 1)
+column_block_exact r = when_exact (is_above_columns r) skipped_block (expression_block 1) skipped_block_exact (expression_block_exact 1)
 
 extended_operation_exact : (c : Context) (at b : ℕ) → IsExact (extended_operation c at b)
 unfolding extended_operation

@@ -7,7 +7,9 @@ use Rattle.frame_parse.specs.declared.records.augmentation.Augmentation.{Augment
 use Rattle.frame_parse.specs.declared.records.CieRecord.{CieRecord}
 use Rattle.frame_parse.specs.Fields.{field_fault, field, is_negative, pointer, optional_pointer, is_code_encoding, is_data_encoding, encoding}
 use Rattle.frame_parse.specs.Records.{is_augmentation, plain, letter, letters, augmentation_data, version, augmentation, return_column, cie, range, lsda, fde}
-use Rattle.eh_bytes.specs.declared.encoding.TheConstants.{DW_EH_PE_omit}
+use Rattle.eh_bytes.specs.PointerEncodings.{DW_EH_PE_omit}
+use Rattle.frame_parse.specs.RecordNumbers.{cie_version_of_dwarf_2, cie_version_of_dwarf_3}
+use Rattle.frame_expr.specs.Registers.{return_address_column}
 use Rattle.eh_bytes.specs.declared.fault.ByteFault.{ByteFault}
 use Rattle.eh_bytes.specs.Grammar.{Part}
 use Rattle.eh_bytes.proofs.Exact.{IsExact, lift_exact, then_exact, give_exact, here_exact, when_exact, check_exact, block_exact}
@@ -60,7 +62,7 @@ unfolding version
 version_exact =
     then_exact _ _ here_exact (λ at.
     then_exact _ _ (field_exact _ (fixed_exact 1)) (λ v.
-    then_exact _ _ (check_exact (v == 1 || v == 3) (Version at v)) (λ _. give_exact v)))
+    then_exact _ _ (check_exact (v == cie_version_of_dwarf_2 || v == cie_version_of_dwarf_3) (Version at v)) (λ _. give_exact v)))
 
 augmentation_exact : IsExact augmentation
 unfolding augmentation
@@ -73,7 +75,7 @@ return_column_exact : (v : ℕ) → IsExact (return_column v)
 unfolding return_column
 return_column_exact v =
     then_exact _ _ here_exact (λ at.
-    then_exact _ _ (when_exact (v == 1) _ _ (field_exact _ (fixed_exact 1)) (field_exact _ uleb_exact)) (λ c. check_exact (c == 16) (Column at c)))
+    then_exact _ _ (when_exact (v == cie_version_of_dwarf_2) _ _ (field_exact _ (fixed_exact 1)) (field_exact _ uleb_exact)) (λ c. check_exact (c == return_address_column) (Column at c)))
 
 pub cie_exact : (section start end : ℕ) → IsExact (cie section start end)
 unfolding cie

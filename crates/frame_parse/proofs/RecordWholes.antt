@@ -5,6 +5,7 @@ use Rattle.frame_parse.specs.declared.fault.RecordFault.TheVariants.{Short, NoCi
 use Rattle.frame_parse.specs.declared.records.CieRecord.{CieRecord}
 use Rattle.frame_parse.specs.declared.instructions.context.ProgramKind.TheVariants.{Initial, Own}
 use Rattle.frame_parse.specs.Programs.{context_of, initial_state, first_state}
+use Rattle.frame_parse.specs.RecordNumbers.{extended_length}
 use Rattle.frame_parse.specs.Records.{fault_in, cie_after, content, record_length, record_at, whole_record}
 use Rattle.eh_bytes.proofs.Exact.{IsExact, lift_exact, then_exact, give_exact, here_exact, when_exact, found_exact}
 use Rattle.eh_bytes.proofs.Wholes.{IsWhole, then_whole, give_whole, when_whole, filled_exact}
@@ -28,7 +29,7 @@ content_whole section earlier start end =
 record_length_exact : (start : ℕ) → IsExact (record_length start)
 unfolding record_length
 record_length_exact start =
-    then_exact _ _ (lift_exact (λ f. Short start) _ (fixed_exact 4)) (λ n. when_exact (n == 4294967295) _ _ (lift_exact (λ f. Short start) _ (fixed_exact 8)) (give_exact n))
+    then_exact _ _ (lift_exact (λ f. Short start) _ (fixed_exact 4)) (λ n. when_exact (n == extended_length) _ _ (lift_exact (λ f. Short start) _ (fixed_exact 8)) (give_exact n))
 
 record_at_exact : (section : ℕ) (earlier : List CieRecord) (start : ℕ) → IsExact (record_at section earlier start)
 unfolding record_at

@@ -1,8 +1,8 @@
 -- The fields of records: numbers, texts and pointers, as DWARF 5 (section 7.6) and the LSB spell
 -- them.
-use Rattle.std.specs.Prelude.{ℕ, ◌+◌, ◌-◌, ◌%◌, ◌^◌, Bool, Option, Some, None, nat_lt, ◌==◌, ◌||◌}
-use Rattle.std.specs.Prelude.{◌&&◌, if◌then◌else◌}
-use Rattle.eh_bytes.specs.declared.encoding.TheConstants.{DW_EH_PE_indirect, DW_EH_PE_omit}
+use Rattle.std.specs.Prelude.{ℕ, ◌+◌, ◌%◌, ◌^◌, Bool, Option, Some, None, nat_lt, nat_le, ◌==◌}
+use Rattle.std.specs.Prelude.{◌||◌, ◌&&◌, if◌then◌else◌}
+use Rattle.eh_bytes.specs.PointerEncodings.{DW_EH_PE_sleb128, DW_EH_PE_indirect, DW_EH_PE_omit}
 use Rattle.eh_bytes.specs.declared.fault.ByteFault.{ByteFault}
 use Rattle.eh_bytes.specs.declared.fault.ByteFault.TheVariants as bytes
 use Rattle.eh_bytes.specs.Fields.{fixed}
@@ -21,9 +21,9 @@ field_fault (bytes.Encoding at byte) = Encoding at byte
 abbrev pub field : {A : Type 0} → Part ByteFault A → Part RecordFault A
 field g = lift field_fault g
 
--- the number of an encoding is negative: it has the sign of a signed format
+-- the number of an encoding is negative: it has the sign of a signed format, from sleb128 on
 abbrev pub is_negative : ℕ → ℕ → Bool
-is_negative e x = nat_lt 8 (e % 16) && nat_lt (2 ^ 63 - 1) x
+is_negative e x = nat_le DW_EH_PE_sleb128 (e % 16) && nat_le (2 ^ 63) x
 
 -- a pointer: the number, and the address of the field where the encoding says so
 unfoldable pub pointer : ℕ → ℕ → Part RecordFault ℕ

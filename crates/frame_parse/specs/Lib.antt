@@ -1,4 +1,6 @@
 pub mod Entries
+pub mod RecordNumbers
+pub mod InstructionEncodings
 pub mod Fields
 pub mod Records
 pub mod Sections

@@ -6,7 +6,7 @@ use Rattle.frame_parse.specs.declared.instructions.InstructionWith.TheVariants.{
 use Rattle.frame_parse.specs.declared.instructions.InstructionWith.TheVariants.{RestoreState}
 use Rattle.frame_parse.specs.declared.instructions.StepWith.{StepWith}
 use Rattle.frame_parse.specs.declared.instructions.context.ProgramKind.TheVariants.{Initial}
-use Rattle.frame_parse.specs.Programs.{PlacedProgramData}
+use Rattle.frame_parse.specs.Programs.{PlacedProgramData, most_remembered}
 
 -- an Advance may move the location up, every other instruction leaves it
 abbrev pub Moves : {A B : Type 0} → InstructionWith A B → ℕ → ℕ → Type 0
@@ -26,7 +26,7 @@ AreAt location (x ∷ xs) = (x.location ≡ location) × AreAt location xs
 
 -- how many states may be remembered where an instruction is met
 abbrev pub MayStandAt : {A B : Type 0} → ℕ → InstructionWith A B → Type 0
-MayStandAt depth Remember = depth < 8
+MayStandAt depth Remember = depth < most_remembered
 MayStandAt depth RestoreState = 0 < depth
 MayStandAt depth _ = Unit {0}
 
@@ -36,7 +36,7 @@ remembered_after depth Remember = depth + 1
 remembered_after depth RestoreState = depth - 1
 remembered_after depth _ = depth
 
--- from so many remembered states on, never more than eight are, and none is restored that wasn't
+-- from so many remembered states on, never more than may be are, and none is restored that wasn't
 -- remembered
 abbrev pub IsBalanced : {A B : Type 0} → ℕ → List (StepWith A B) → Type 0
 IsBalanced depth [] = Unit {0}

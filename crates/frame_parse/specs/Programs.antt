@@ -23,37 +23,25 @@ use Rattle.frame_parse.specs.declared.instructions.InstructionWith.TheVariants.{
 use Rattle.frame_parse.specs.declared.instructions.Operation.{Operation}
 use Rattle.frame_parse.specs.declared.instructions.Operation.TheVariants as operations
 use Rattle.frame_parse.specs.declared.program_state.State.{State}
-use Rattle.frame_parse.specs.declared.instructions.opcodes.TheConstants.{DW_CFA_advance_loc}
-use Rattle.frame_parse.specs.declared.instructions.opcodes.TheConstants.{DW_CFA_offset}
-use Rattle.frame_parse.specs.declared.instructions.opcodes.TheConstants.{DW_CFA_restore, DW_CFA_nop}
-use Rattle.frame_parse.specs.declared.instructions.opcodes.TheConstants.{DW_CFA_set_loc}
-use Rattle.frame_parse.specs.declared.instructions.opcodes.TheConstants.{DW_CFA_advance_loc1}
-use Rattle.frame_parse.specs.declared.instructions.opcodes.TheConstants.{DW_CFA_advance_loc2}
-use Rattle.frame_parse.specs.declared.instructions.opcodes.TheConstants.{DW_CFA_advance_loc4}
-use Rattle.frame_parse.specs.declared.instructions.opcodes.TheConstants.{DW_CFA_offset_extended}
-use Rattle.frame_parse.specs.declared.instructions.opcodes.TheConstants.{DW_CFA_restore_extended}
-use Rattle.frame_parse.specs.declared.instructions.opcodes.TheConstants.{DW_CFA_undefined}
-use Rattle.frame_parse.specs.declared.instructions.opcodes.TheConstants.{DW_CFA_same_value}
-use Rattle.frame_parse.specs.declared.instructions.opcodes.TheConstants.{DW_CFA_register}
-use Rattle.frame_parse.specs.declared.instructions.opcodes.TheConstants.{DW_CFA_remember_state}
-use Rattle.frame_parse.specs.declared.instructions.opcodes.TheConstants.{DW_CFA_restore_state}
-use Rattle.frame_parse.specs.declared.instructions.opcodes.TheConstants.{DW_CFA_def_cfa}
-use Rattle.frame_parse.specs.declared.instructions.opcodes.TheConstants.{DW_CFA_def_cfa_register}
-use Rattle.frame_parse.specs.declared.instructions.opcodes.TheConstants.{DW_CFA_def_cfa_offset}
-use Rattle.frame_parse.specs.declared.instructions.opcodes.TheConstants.{DW_CFA_def_cfa_expression}
-use Rattle.frame_parse.specs.declared.instructions.opcodes.TheConstants.{DW_CFA_expression}
-use Rattle.frame_parse.specs.declared.instructions.opcodes.TheConstants.{DW_CFA_offset_extended_sf}
-use Rattle.frame_parse.specs.declared.instructions.opcodes.TheConstants.{DW_CFA_def_cfa_sf}
-use Rattle.frame_parse.specs.declared.instructions.opcodes.TheConstants.{DW_CFA_def_cfa_offset_sf}
-use Rattle.frame_parse.specs.declared.instructions.opcodes.TheConstants.{DW_CFA_val_offset}
-use Rattle.frame_parse.specs.declared.instructions.opcodes.TheConstants.{DW_CFA_val_offset_sf}
-use Rattle.frame_parse.specs.declared.instructions.opcodes.TheConstants.{DW_CFA_val_expression}
-use Rattle.frame_parse.specs.declared.instructions.opcodes.TheConstants.{DW_CFA_GNU_args_size}
+use Rattle.frame_parse.specs.InstructionEncodings.{DW_CFA_advance_loc, DW_CFA_offset}
+use Rattle.frame_parse.specs.InstructionEncodings.{DW_CFA_restore, DW_CFA_nop, DW_CFA_set_loc}
+use Rattle.frame_parse.specs.InstructionEncodings.{DW_CFA_advance_loc1, DW_CFA_advance_loc2}
+use Rattle.frame_parse.specs.InstructionEncodings.{DW_CFA_advance_loc4, DW_CFA_offset_extended}
+use Rattle.frame_parse.specs.InstructionEncodings.{DW_CFA_restore_extended, DW_CFA_undefined}
+use Rattle.frame_parse.specs.InstructionEncodings.{DW_CFA_same_value, DW_CFA_register}
+use Rattle.frame_parse.specs.InstructionEncodings.{DW_CFA_remember_state, DW_CFA_restore_state}
+use Rattle.frame_parse.specs.InstructionEncodings.{DW_CFA_def_cfa, DW_CFA_def_cfa_register}
+use Rattle.frame_parse.specs.InstructionEncodings.{DW_CFA_def_cfa_offset, DW_CFA_def_cfa_expression}
+use Rattle.frame_parse.specs.InstructionEncodings.{DW_CFA_expression, DW_CFA_offset_extended_sf}
+use Rattle.frame_parse.specs.InstructionEncodings.{DW_CFA_def_cfa_sf, DW_CFA_def_cfa_offset_sf}
+use Rattle.frame_parse.specs.InstructionEncodings.{DW_CFA_val_offset, DW_CFA_val_offset_sf}
+use Rattle.frame_parse.specs.InstructionEncodings.{DW_CFA_val_expression, DW_CFA_GNU_args_size}
 use Rattle.eh_bytes.specs.Grammar.{Part, ◌>>=◌, give, here, refuse, when, check, given, lift}
 use Rattle.eh_bytes.specs.Grammar.{block, filled}
 use Rattle.frame_expr.specs.declared.fault.ExprFault.{ExprFault}
 use Rattle.frame_expr.specs.declared.fault.ExprFault.TheVariants as exprs
 use Rattle.frame_expr.specs.Expressions.{expression}
+use Rattle.frame_expr.specs.Registers.{column_count, return_address_column}
 use Rattle.frame_parse.specs.Fields.{field, pointer}
 use Rattle.eh_bytes.specs.Fields.{fixed, uleb, sleb}
 use Rattle.frame_parse.specs.Entries.{FdeRecord}
@@ -84,27 +72,31 @@ factored c n = (n * cast_unsigned w64 c.data_alignment) % 2 ^ 64
 abbrev pub other : PlacedInstruction → Operation
 other i = operations.Other i
 
--- rules for columns above 16 are read and not applied
+-- the return address has the last column
+abbrev pub is_above_columns : ℕ → Bool
+is_above_columns r = nat_lt return_address_column r
+
+-- rules for columns above the last are read and not applied
 abbrev pub set : ℕ → PlacedReadRule → PlacedInstruction
-set r rule = if nat_lt 16 r then Nop else Set r rule
+set r rule = if is_above_columns r then Nop else Set r rule
 
 abbrev pub restore : ℕ → PlacedInstruction
-restore r = if nat_lt 16 r then Nop else Restore r
+restore r = if is_above_columns r then Nop else Restore r
 
--- a column of the CFA is at most 16
+-- a column of the CFA is one of those that there are
 unfoldable pub cfa_column : Part RecordFault ℕ
 cfa_column = do
   at ← here
   r ← field uleb
-  _ ← check (nat_lt r 17) (faults.Column at r)
+  _ ← check (nat_lt r column_count) (faults.Column at r)
   give r
 
--- the second column of a register rule: where the first is at most 16, it is at most 16 too
+-- the second column of a register rule: where the first is one of those that there are, it is too
 unfoldable pub second_column : ℕ → Part RecordFault ℕ
 second_column first = do
   at ← here
   r ← field uleb
-  _ ← check (nat_lt 16 first || nat_lt r 17) (faults.Column at r)
+  _ ← check (is_above_columns first || nat_lt r column_count) (faults.Column at r)
   give r
 
 -- an expression's fault as the record's
@@ -133,9 +125,9 @@ skipped_block = do
   _ ← block (faults.Short at) n (give (tt {0}))
   give place
 
--- The expression of a column starts with the CFA. Those for columns above 16 aren't read.
+-- The expression of a column starts with the CFA. Those for columns above the last aren't read.
 abbrev pub column_block : ℕ → Part RecordFault ℕ
-column_block r = when (nat_lt 16 r) skipped_block (expression_block 1)
+column_block r = when (is_above_columns r) skipped_block (expression_block 1)
 
 -- the instructions whose byte is an extended opcode, which is below 64
 unfoldable pub extended_operation : Context → ℕ → ℕ → Part RecordFault Operation
@@ -201,10 +193,14 @@ below_top flags = take (length flags - 1) flags
 abbrev pub change_cfa : ℕ → State → Result State RecordFault
 change_cfa at s = if s.offset then Ok s else Err (faults.CfaRule at)
 
+-- how many states are remembered at most
+abbrev pub most_remembered : ℕ
+most_remembered = 8
+
 -- remembering and restoring states, and changing a part of the CFA rule
 abbrev pub effect_of : ℕ → State → PlacedInstruction → Result State RecordFault
 effect_of at s Remember =
-    if nat_lt (length s.remembered) 8
+    if nat_lt (length s.remembered) most_remembered
     then Ok (record s { remembered = s.remembered ++ s.offset ∷ [] }) else Err (faults.Remember at)
 effect_of at s RestoreState =
     if nat_lt 0 (length s.remembered)

@@ -2,7 +2,8 @@
 use Rattle.std.specs.Prelude.{ℕ, ◌+◌, ◌-◌, ◌^◌, List, [], ◌∷◌, Bool, true, false, Option, Some}
 use Rattle.std.specs.Prelude.{None, nat_lt, ◌==◌, ◌||◌, ◌&&◌, not, if◌then◌else◌}
 use Rattle.std.specs.List.{list_any}
-use Rattle.eh_bytes.specs.declared.encoding.TheConstants.{DW_EH_PE_absptr, DW_EH_PE_omit}
+use Rattle.eh_bytes.specs.PointerEncodings.{DW_EH_PE_absptr, DW_EH_PE_omit}
+use Rattle.frame_expr.specs.Registers.{return_address_column}
 use Rattle.frame_parse.specs.declared.fault.FrameFault.{FrameFault}
 use Rattle.frame_parse.specs.declared.fault.RecordFault.{RecordFault}
 use Rattle.frame_parse.specs.declared.fault.RecordFault.TheVariants.{Short, NoCie, Version, Column}
@@ -13,6 +14,9 @@ use Rattle.frame_parse.specs.declared.records.augmentation.Augmentation.{Augment
 use Rattle.frame_parse.specs.declared.records.CieRecord.{CieRecord}
 use Rattle.frame_parse.specs.declared.instructions.context.ProgramKind.TheVariants.{Initial, Own}
 use Rattle.frame_parse.specs.Entries.{FdeRecord, Record, Cie, Fde}
+use Rattle.frame_parse.specs.RecordNumbers.{extended_length, cie_id, cie_version_of_dwarf_2}
+use Rattle.frame_parse.specs.RecordNumbers.{cie_version_of_dwarf_3, data_letter, lsda_letter}
+use Rattle.frame_parse.specs.RecordNumbers.{personality_letter, code_letter, signal_letter}
 use Rattle.eh_bytes.specs.Grammar.{Part, ◌>>=◌, give, here, when, check, found, block, filled, lift}
 use Rattle.frame_parse.specs.Programs.{step, context_of, initial_state, first_state}
 use Rattle.eh_bytes.specs.Steps.{steps_from}
@@ -42,7 +46,8 @@ fault_in start (faults.CfaRule at) = frames.CfaRule start at
 
 -- each letter is L, P, R or S, and none comes twice
 abbrev pub is_letter : ℕ → Bool
-is_letter l = l == 76 || l == 80 || l == 82 || l == 83
+is_letter l =
+    l == lsda_letter || l == personality_letter || l == code_letter || l == signal_letter
 
 abbrev pub is_one_of : ℕ → List ℕ → Bool
 is_one_of l ls = list_any (λ k. l == k) ls
@@ -54,7 +59,7 @@ are_letters (l ∷ ls) = is_letter l && not (is_one_of l ls) && are_letters ls
 -- nothing, or z and letters
 abbrev pub is_augmentation : List ℕ → Bool
 is_augmentation [] = true
-is_augmentation (z ∷ ls) = z == 122 && are_letters ls
+is_augmentation (z ∷ ls) = z == data_letter && are_letters ls
 
 -- what holds where nothing is said
 abbrev pub plain : Augmentation
@@ -69,11 +74,11 @@ plain = record {
 -- addresses, S that the frame is a signal's
 unfoldable pub letter : ℕ → ℕ → Augmentation → Part RecordFault Augmentation
 letter section l a =
-    when (l == 76) (encoding is_data_encoding >>= λ e. give (record a { lsda = e }))
-    (when (l == 80) (encoding is_data_encoding >>=
+    when (l == lsda_letter) (encoding is_data_encoding >>= λ e. give (record a { lsda = e }))
+    (when (l == personality_letter) (encoding is_data_encoding >>=
     λ e. when (e == DW_EH_PE_omit) (give None) (optional_pointer section e) >>=
     λ q. give (record a { personality = q }))
-    (when (l == 82) (encoding is_code_encoding >>= λ e. give (record a { pointers = e }))
+    (when (l == code_letter) (encoding is_code_encoding >>= λ e. give (record a { pointers = e }))
     (give (record a { signal = true }))))
 
 unfoldable pub letters : ℕ → List ℕ → Augmentation → Part RecordFault Augmentation
@@ -98,7 +103,7 @@ unfoldable pub version : Part RecordFault ℕ
 version = do
   at ← here
   v ← field (fixed 1)
-  _ ← check (v == 1 || v == 3) (Version at v)
+  _ ← check (v == cie_version_of_dwarf_2 || v == cie_version_of_dwarf_3) (Version at v)
   give v
 
 unfoldable pub augmentation : Part RecordFault (List ℕ)
@@ -111,8 +116,8 @@ augmentation = do
 unfoldable pub return_column : ℕ → Part RecordFault (Unit {0})
 return_column v = do
   at ← here
-  c ← when (v == 1) (field (fixed 1)) (field uleb)
-  check (c == 16) (Column at c)
+  c ← when (v == cie_version_of_dwarf_2) (field (fixed 1)) (field uleb)
+  check (c == return_address_column) (Column at c)
 
 -- the fields of a CIE after its id; nothing is known of the CFA before its instructions
 unfoldable pub cie : ℕ → ℕ → ℕ → Part RecordFault CieRecord
@@ -181,13 +186,13 @@ fde section start end c = do
 
 -- ---- records
 
--- An id of 0 is a CIE's; any other is the distance back to an FDE's. What is left after the fields
--- are instructions: those of a CIE don't move, those of an FDE start at its first address.
+-- One id is a CIE's; any other is the distance back to an FDE's. What is left after the fields are
+-- instructions: those of a CIE don't move, those of an FDE start at its first address.
 unfoldable pub content : ℕ → List CieRecord → ℕ → ℕ → Part RecordFault Record
 content section earlier start end = do
   at ← here
   id ← field (fixed 4)
-  when (id == 0)
+  when (id == cie_id)
       (cie section start end >>=
       λ c. steps_from (step (context_of section c Initial)) initial_state >>=
       λ s. give (Cie (record c { offset = s.offset })))
@@ -195,12 +200,12 @@ content section earlier start end = do
       λ f. steps_from (step (context_of section c Own)) (first_state c f.first) >>=
       λ s. give (Fde f))
 
--- the length of a record: four bytes, or eight after 0xffffffff; where it isn't whole, the record
--- isn't
+-- the length of a record: four bytes, or eight after the extended mark; where it isn't whole, the
+-- record isn't
 unfoldable pub record_length : ℕ → Part RecordFault ℕ
 record_length start = do
   n ← lift (λ f. Short start) (fixed 4)
-  when (n == 4294967295) (lift (λ f. Short start) (fixed 8)) (give n)
+  when (n == extended_length) (lift (λ f. Short start) (fixed 8)) (give n)
 
 -- a record that begins at a place: its length, and that many bytes
 unfoldable pub record_at : ℕ → List CieRecord → ℕ → Part RecordFault Record

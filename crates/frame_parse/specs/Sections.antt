@@ -8,11 +8,12 @@ use Rattle.frame_parse.specs.declared.records.CieRecord.{CieRecord}
 use Rattle.frame_parse.specs.declared.records.Entry.{Entry}
 use Rattle.frame_parse.specs.declared.records.Entry.TheVariants as entries
 use Rattle.frame_parse.specs.Entries.{FdeRecord, Record, Cie, Fde}
+use Rattle.frame_parse.specs.RecordNumbers.{end_length}
 use Rattle.frame_parse.specs.Records.{whole_record}
 
--- a section ends where its bytes end, or at a length of 0
+-- a section ends where its bytes end, or at the length that ends it
 abbrev pub is_end : List ℕ → Bool
-is_end bytes = length bytes == 0 || (nat_le 4 (length bytes) && little_number 4 bytes == 0)
+is_end bytes = length bytes == 0 || (nat_le 4 (length bytes) && little_number 4 bytes == end_length)
 
 -- the CIEs up to and with a record
 abbrev pub with_record : List CieRecord → Record → List CieRecord

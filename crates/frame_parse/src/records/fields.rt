@@ -11,7 +11,8 @@ ghost use Rattle.eh_bytes.specs.Fields.{fixed, uleb, sleb, text};
 
 use crate::fault::RecordFault;
 use eh_bytes::{
-    ByteFault, Cursor, DW_EH_PE_indirect, DW_EH_PE_omit, DW_EH_PE_pcrel, application_of, is_pointer,
+    ByteFault, Cursor, DW_EH_PE_indirect, DW_EH_PE_omit, DW_EH_PE_pcrel, DW_EH_PE_sleb128,
+    application_of, is_pointer,
 };
 
 /// What a field gave, with its fault as the record's.
@@ -126,7 +127,7 @@ pub(crate) fn optional_pointer(
 pub(crate) fn is_negative(encoding: u8, number: u64) -> bool
     ensures { result ≡ is_negative encoding number }
 {
-    8 < encoding % 16 && (1 << 63) - 1 < number
+    DW_EH_PE_sleb128 <= encoding % 16 && 1 << 63 <= number
 }
 
 /// An encoding of addresses of code.
