@@ -1,5 +1,6 @@
 -- The row of an FDE at an address.
 use Rattle.std.specs.Prelude.{◌≡◌, ℕ, ◌<◌, List, [], slice_get, Some}
+use Rattle.frame_expr.specs.Registers.{column_count}
 use Rattle.frame_parse.specs.Instructions.{PlacedStep, StepData}
 use Rattle.frame_parse.specs.Sections.{FdeData}
 use Rattle.frame_rows.specs.declared.placed_row.PlacedRow.{PlacedRow}
@@ -15,7 +16,8 @@ pub record IsRowAt (f : FdeData) (pc : ℕ) (row : RowData) : Type 0 where
   pub cfa : (initial steps : List StepData) → HasInitial f initial → HasProgram f steps
       → row.cfa ≡ cfa_at initial steps pc
   pub columns : (initial steps : List StepData) → HasInitial f initial → HasProgram f steps
-      → (r : ℕ) → r < 17 → slice_get row.columns r ≡ Some (rule_at r initial steps pc)
+      → (r : ℕ) → r < column_count
+      → slice_get row.columns r ≡ Some (rule_at r initial steps pc)
 
 -- the row of all columns that the steps up to an address leave, after the initial ones
 abbrev pub placed_row_at : FdeData → List PlacedStep → List PlacedStep → ℕ → PlacedRow

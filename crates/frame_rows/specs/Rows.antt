@@ -2,6 +2,7 @@
 -- are told by their places.
 use Rattle.std.specs.Prelude.{◌≡◌, ℕ, List, [], ◌∷◌, replicate, slice_set, slice_index_or}
 use Rattle.std.specs.List.{fold}
+use Rattle.frame_expr.specs.Registers.{column_count}
 use Rattle.frame_parse.specs.Instructions.{PlacedInstruction, PlacedStep}
 use Rattle.frame_parse.specs.declared.instructions.InstructionWith.TheVariants.{Nop, Advance, Set}
 use Rattle.frame_parse.specs.declared.instructions.InstructionWith.TheVariants.{Restore, Remember}
@@ -19,7 +20,7 @@ use Rattle.frame_rows.specs.Columns.{rule_of, with_column, with_offset, instruct
 
 -- the row before any instruction
 abbrev pub unset : PlacedRow
-unset = record { cfa = cfas.Missing; columns = replicate 17 rules.Unset }
+unset = record { cfa = cfas.Missing; columns = replicate column_count rules.Unset }
 
 -- the row after an instruction that doesn't remember or restore a state
 abbrev pub applied : PlacedRow → PlacedRow → PlacedInstruction → PlacedRow
