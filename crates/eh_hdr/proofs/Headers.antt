@@ -13,12 +13,11 @@ use Rattle.frame_parse.specs.Entries.{FdeRecord}
 use Rattle.frame_parse.specs.Sections.{SectionData}
 use Rattle.eh_hdr.specs.declared.fault.HeaderFault.{HeaderFault}
 use Rattle.eh_hdr.specs.declared.fault.HeaderFault.TheVariants.{Short, Version, Encoding, Section, Count, Fde, NoMemory}
-use Rattle.eh_hdr.specs.declared.fields.TheConstants.{PCREL_SDATA4}
 use Rattle.eh_hdr.specs.declared.fields.TableKind.{TableKind}
 use Rattle.eh_hdr.specs.declared.fields.TableKind.TheVariants.{Sorted, Absent}
 use Rattle.eh_hdr.specs.declared.table.TableEntry.{TableEntry}
 use Rattle.eh_hdr.specs.Places.{named_fde, follows}
-use Rattle.eh_hdr.specs.Headers.{octet, cut_after, relative, header_version, kind_by_count, table_encoding, pointer_encoding, count_encoding, entry_encoding, section_pointer, table_entry, table_entries, entry_count, sorted_table, header_head, header, IsHeader, HasOneTable}
+use Rattle.eh_hdr.specs.Headers.{version_of_headers, section_pointer_encoding, octet, cut_after, relative, header_version, kind_by_count, table_encoding, pointer_encoding, count_encoding, entry_encoding, section_pointer, table_entry, table_entries, entry_count, sorted_table, header_head, header, IsHeader, HasOneTable}
 
 -- ---- fields
 
@@ -39,13 +38,13 @@ version_exact : IsExact header_version
 unfolding header_version
 version_exact =
     then_exact _ _ here_exact (λ at.
-    then_exact _ _ octet_exact (λ v. check_exact (v == 1) (Version at)))
+    then_exact _ _ octet_exact (λ v. check_exact (v == version_of_headers) (Version at)))
 
 pointer_encoding_exact : IsExact pointer_encoding
 unfolding pointer_encoding
 pointer_encoding_exact =
     then_exact _ _ here_exact (λ at.
-    then_exact _ _ octet_exact (λ e. check_exact (e == PCREL_SDATA4) (Encoding at)))
+    then_exact _ _ octet_exact (λ e. check_exact (e == section_pointer_encoding) (Encoding at)))
 
 count_encoding_exact : IsExact count_encoding
 unfolding count_encoding

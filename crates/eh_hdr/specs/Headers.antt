@@ -4,7 +4,8 @@
 use Rattle.std.specs.Prelude.{◌≡◌, ℕ, zero, suc, ◌+◌, ◌%◌, ◌^◌, ◌⊎◌, List, [], ◌∷◌, ◌++◌, length}
 use Rattle.std.specs.Prelude.{Option, Some, None, Result, Ok, Err, slice_get, ◌==◌, if◌then◌else◌}
 use Rattle.std.specs.Int.{w32, w64, cast_unsigned}
-use Rattle.eh_bytes.specs.declared.encoding.TheConstants.{DW_EH_PE_udata4, DW_EH_PE_omit}
+use Rattle.eh_bytes.specs.PointerEncodings.{DW_EH_PE_udata4, DW_EH_PE_sdata4, DW_EH_PE_pcrel}
+use Rattle.eh_bytes.specs.PointerEncodings.{DW_EH_PE_datarel, DW_EH_PE_omit}
 use Rattle.eh_bytes.specs.CursorData.{CursorData}
 use Rattle.eh_bytes.specs.Fields.{fixed, signed_fixed}
 use Rattle.eh_bytes.specs.Grammar.{Part, ◌>>=◌, give, here, check, found, given, lift}
@@ -13,7 +14,6 @@ use Rattle.frame_parse.specs.Sections.{SectionData}
 use Rattle.eh_hdr.specs.declared.fault.HeaderFault.{HeaderFault}
 use Rattle.eh_hdr.specs.declared.fault.HeaderFault.TheVariants.{Short, Version, Encoding, Section}
 use Rattle.eh_hdr.specs.declared.fault.HeaderFault.TheVariants.{Count, Fde, NoMemory}
-use Rattle.eh_hdr.specs.declared.fields.TheConstants.{PCREL_SDATA4, DATAREL_SDATA4}
 use Rattle.eh_hdr.specs.declared.fields.TableKind.{TableKind}
 use Rattle.eh_hdr.specs.declared.fields.TableKind.TheVariants.{Sorted, Absent}
 use Rattle.eh_hdr.specs.declared.table.TableEntry.{TableEntry}
@@ -39,13 +39,25 @@ relative base before = do
   x ← lift (λ f. cut_after before at) (signed_fixed w32)
   give ((cast_unsigned w64 x + base) % 2 ^ 64)
 
+-- the version of a header
+abbrev pub version_of_headers : ℕ
+version_of_headers = 1
+
 unfoldable pub header_version : Part HeaderFault (Unit {0})
 header_version = do
   at ← here
   v ← octet
-  check (v == 1) (Version at)
+  check (v == version_of_headers) (Version at)
 
 -- ---- encodings
+
+-- of the pointer to the section, whose own address is added
+abbrev pub section_pointer_encoding : ℕ
+section_pointer_encoding = DW_EH_PE_pcrel + DW_EH_PE_sdata4
+
+-- of the table's entries, to which the header's address is added
+abbrev pub sorted_table_encoding : ℕ
+sorted_table_encoding = DW_EH_PE_datarel + DW_EH_PE_sdata4
 
 -- the encoding of the count tells whether there is a table
 abbrev pub kind_by_count : ℕ → Option TableKind
@@ -54,14 +66,14 @@ kind_by_count e = if e == DW_EH_PE_udata4 then Some Sorted
 
 -- the encoding of the table that goes with it
 abbrev pub table_encoding : TableKind → ℕ
-table_encoding Sorted = DATAREL_SDATA4
+table_encoding Sorted = sorted_table_encoding
 table_encoding Absent = DW_EH_PE_omit
 
 unfoldable pub pointer_encoding : Part HeaderFault (Unit {0})
 pointer_encoding = do
   at ← here
   e ← octet
-  check (e == PCREL_SDATA4) (Encoding at)
+  check (e == section_pointer_encoding) (Encoding at)
 
 unfoldable pub count_encoding : Part HeaderFault TableKind
 count_encoding = do
