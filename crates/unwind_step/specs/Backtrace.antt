@@ -6,6 +6,7 @@ use Rattle.std.specs.Prelude.{slice_index}
 use Rattle.std.specs.List.{AllZip}
 use Rattle.frame_expr.specs.declared.regs.Regs.{Regs}
 use Rattle.frame_expr.specs.Regions.{RegionData}
+use Rattle.frame_expr.specs.Registers.{stack_pointer_column, return_address_column}
 use Rattle.frame_parse.specs.Sections.{SectionData, FdeData, first_cover}
 use Rattle.reg_model.specs.declared.answer.Place.{Place}
 use Rattle.reg_model.specs.declared.span.Member.{Member}
@@ -67,8 +68,8 @@ innermost regs = record { regs = regs; address = Instruction }
 
 -- a line shows a frame's address, its stack pointer, and where it was looked up
 pub record Shows (frame : Frame) (line : FrameLine) : Type 0 where
-  pub pc : line.pc ≡ slice_index frame.regs.columns 16
-  pub sp : line.sp ≡ slice_index frame.regs.columns 7
+  pub pc : line.pc ≡ slice_index frame.regs.columns return_address_column
+  pub sp : line.sp ≡ slice_index frame.regs.columns stack_pointer_column
   pub look : line.look ≡ lookup_address frame.address line.pc
 
 -- what comes of a frame by its FDE

@@ -4,6 +4,7 @@ use Rattle.std.specs.Prelude.{◌≡◌, ◌≢◌, ◌⊎◌, ℕ, ◌<◌, Lis
 use Rattle.std.specs.Prelude.{slice_index, slice_index_or}
 use Rattle.frame_expr.specs.declared.fault.NoBytes.{NoBytes}
 use Rattle.frame_expr.specs.Regions.{RegionData}
+use Rattle.frame_expr.specs.Registers.{column_count, return_address_column}
 use Rattle.frame_parse.specs.Instructions.{StepData}
 use Rattle.frame_parse.specs.Sections.{FdeData}
 use Rattle.frame_rows.specs.declared.rule.CfaRuleWith.TheVariants as cfas
@@ -18,11 +19,11 @@ use Rattle.unwind_step.specs.declared.next.Stepped.TheVariants as stepped
 abbrev pub rule_in : RowData → ℕ → RuleData
 rule_in row r = slice_index_or row.columns r rules.Unset
 
--- the row leads to a frame: it says where the CFA is, and where the return address, column 16
+-- the row leads to a frame: it says where the CFA is, and where the return address
 pub record Leads (row : RowData) : Type 0 where
   pub cfa : row.cfa ≢ cfas.Missing
-  pub defined : rule_in row 16 ≢ rules.Undefined
-  pub told : rule_in row 16 ≢ rules.Unset
+  pub defined : rule_in row return_address_column ≢ rules.Undefined
+  pub told : rule_in row return_address_column ≢ rules.Unset
 
 -- the columns below a number are restored by their rules
 abbrev pub AreRestored : ℕ → RowData → ℕ → List ℕ → List RegionData → List ℕ → Type 0
@@ -33,7 +34,7 @@ AreRestored count row cfa old memory new =
 pub record FailsFirst (row : RowData) (cfa : ℕ) (old : List ℕ)
     (memory : List RegionData) (fault : NoBytes) : Type 0 where
   pub r : ℕ
-  pub below : r < 17
+  pub below : r < column_count
   pub fails : IsRestored r (rule_in row r) cfa old memory (Err fault)
   pub new : List ℕ
   pub earlier : AreRestored r row cfa old memory new
@@ -44,8 +45,8 @@ pub record IsFrame (row : RowData) (old : List ℕ) (memory : List RegionData)
   pub leads : Leads row
   pub cfa : ℕ
   pub is_cfa : IsCfa row.cfa old memory (Ok cfa)
-  pub restored : AreRestored 17 row cfa old memory new
-  pub all : length new ≡ 17
+  pub restored : AreRestored column_count row cfa old memory new
+  pub all : length new ≡ column_count
 
 -- the frame before can't be had: the CFA, or the first column that fails, needs bytes that weren't
 -- recorded
@@ -56,13 +57,13 @@ pub record LacksBytes (row : RowData) (old : List ℕ) (memory : List RegionData
       ⊎ ((cfa : ℕ) × IsCfa row.cfa old memory (Ok cfa)
       × FailsFirst row cfa old memory fault)
 
--- What a row makes of the old registers. Of two causes the first counts: no rule for the CFA;
--- column 16 undefined, or without a rule; the CFA; the columns 0 to 16.
+-- What a row makes of the old registers. Of two causes the first counts: no rule for the CFA; the
+-- return address's column undefined, or without a rule; the CFA; the columns from 0 on.
 abbrev pub IsStep : RowData → List ℕ → List RegionData → Stepped → Type 0
 IsStep row old memory stepped.NoRow =
-    (row.cfa ≡ cfas.Missing) ⊎ (rule_in row 16 ≡ rules.Unset)
+    (row.cfa ≡ cfas.Missing) ⊎ (rule_in row return_address_column ≡ rules.Unset)
 IsStep row old memory stepped.Undefined =
-    (row.cfa ≢ cfas.Missing) × (rule_in row 16 ≡ rules.Undefined)
+    (row.cfa ≢ cfas.Missing) × (rule_in row return_address_column ≡ rules.Undefined)
 IsStep row old memory (stepped.Frame regs) = IsFrame row old memory regs.columns
 IsStep row old memory (stepped.NoBytes a) =
     LacksBytes row old memory (record { address = a })
@@ -75,7 +76,8 @@ pub record IsRow (f : FdeData) (pc : ℕ) (row : RowData) : Type 0 where
   pub has_initial : HasInitial f initial
   pub has_program : HasProgram f steps
   pub cfa : row.cfa ≡ cfa_at initial steps pc
-  pub columns : (r : ℕ) → r < 17 → slice_get row.columns r ≡ Some (rule_at r initial steps pc)
+  pub columns : (r : ℕ) → r < column_count
+      → slice_get row.columns r ≡ Some (rule_at r initial steps pc)
 
 -- what an FDE makes of the old registers, at the address that was looked up
 pub record IsNextFrame (f : FdeData) (look : ℕ) (old : List ℕ) (memory : List RegionData)

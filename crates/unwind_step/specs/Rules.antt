@@ -4,6 +4,7 @@ use Rattle.std.specs.Prelude.{◌≡◌, ℕ, ◌+◌, ◌%◌, ◌^◌, List, O
 use Rattle.std.specs.Prelude.{slice_index, ◌==◌, if◌then◌else◌}
 use Rattle.frame_expr.specs.declared.fault.NoBytes.{NoBytes}
 use Rattle.frame_expr.specs.Regions.{RegionData, word_at}
+use Rattle.frame_expr.specs.Registers.{stack_pointer_column}
 use Rattle.frame_expr.specs.Values.{IsValue}
 use Rattle.frame_rows.specs.declared.rule.CfaRuleWith.TheVariants as cfas
 use Rattle.frame_rows.specs.declared.rule.RuleWith.TheVariants as rules
@@ -37,11 +38,11 @@ pub record IsSavedThere (e : List ℕ) (cfa : ℕ) (old : List ℕ)
   pub is_number : number ≡ saved_by address memory
 
 -- The number that a column is restored to by its rule. Where no rule is set, it keeps its own; but
--- column 7, the stack pointer, becomes the CFA.
+-- that of the stack pointer becomes the CFA.
 abbrev pub IsRestored : ℕ → RuleData → ℕ → List ℕ → List RegionData → Result ℕ NoBytes
     → Type 0
 IsRestored r rules.Unset cfa old memory number =
-    number ≡ Ok (if r == 7 then cfa else slice_index old r)
+    number ≡ Ok (if r == stack_pointer_column then cfa else slice_index old r)
 IsRestored r rules.Undefined cfa old memory number = number ≡ Ok (slice_index old r)
 IsRestored r rules.Same cfa old memory number = number ≡ Ok (slice_index old r)
 IsRestored r (rules.Offset n) cfa old memory number =
