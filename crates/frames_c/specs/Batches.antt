@@ -1,6 +1,7 @@
 -- The rows of many addresses.
 use Rattle.std.specs.Prelude.{◌≡◌, ◌≢◌, ℕ, ◌<◌, List, length, Bool, true, false, Option, Some, None}
 use Rattle.std.specs.Prelude.{replicate, slice_index, slice_index_or}
+use Rattle.frame_expr.specs.Registers.{column_count}
 use Rattle.frame_parse.specs.Sections.{SectionData, FdeData}
 use Rattle.unwind_step.specs.Backtrace.{fde_in}
 use Rattle.frames_c.specs.declared.row.FramesRow.{FramesRow}
@@ -12,8 +13,8 @@ no_row = record {
   cfa = 3;
   cfa_column = 0;
   cfa_offset = 0;
-  rules = replicate 17 0;
-  numbers = replicate 17 0;
+  rules = replicate column_count 0;
+  numbers = replicate column_count 0;
 }
 
 -- the row of an address, where an FDE may cover it

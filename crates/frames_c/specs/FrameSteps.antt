@@ -1,6 +1,7 @@
 -- One frame from another, as C is told.
 use Rattle.std.specs.Prelude.{◌≡◌, ℕ, zero, suc, List, Bool, Option, Some, None, slice_index}
 use Rattle.frame_expr.specs.Regions.{RegionData}
+use Rattle.frame_expr.specs.Registers.{return_address_column}
 use Rattle.frame_parse.specs.Sections.{SectionData, FdeData}
 use Rattle.unwind_step.specs.Backtrace.{fde_in, lookup_address}
 use Rattle.unwind_step.specs.NextFrame.{IsNextFrame}
@@ -11,14 +12,16 @@ use Rattle.unwind_step.specs.declared.next.Stepped.TheVariants.{Frame, NoRow, Un
 use Rattle.frames_c.specs.Fdes.{flag}
 use Rattle.frames_c.specs.declared.step.FramesFrame.{FramesFrame}
 
--- whose address column 16 has
+-- whose address the return address's column has
 abbrev pub address_told : ℕ → AddressKind
 address_told zero = Return
 address_told (suc n) = Instruction
 
 -- where a frame is looked up
 abbrev pub frame_look : FramesFrame → ℕ
-frame_look frame = lookup_address (address_told frame.at_instruction) (slice_index frame.columns 16)
+frame_look frame =
+    lookup_address (address_told frame.at_instruction)
+    (slice_index frame.columns return_address_column)
 
 -- what came of it; 1 is for an address that no FDE covers
 abbrev pub outcome_told : Stepped → ℕ

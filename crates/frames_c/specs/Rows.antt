@@ -1,6 +1,7 @@
 -- Rows, as C is told: in numbers.
 use Rattle.std.specs.Prelude.{◌≡◌, ℕ, ◌<◌, List, Option, Some, None, Bool, true, false, slice_index}
 use Rattle.std.specs.Prelude.{slice_index_or}
+use Rattle.frame_expr.specs.Registers.{column_count}
 use Rattle.frame_parse.specs.Sections.{FdeData}
 use Rattle.frame_rows.specs.declared.placed_row.PlacedRow.{PlacedRow}
 use Rattle.frame_rows.specs.declared.rule.RuleWith.{RuleWith}
@@ -57,12 +58,12 @@ pub record AreToldRules (row : RowData) (count : ℕ) (kinds numbers : List ℕ)
   pub kind : (r : ℕ) → r < count → slice_index kinds r ≡ rule_kind (column_rule row r)
   pub number : (r : ℕ) → r < count → slice_index numbers r ≡ rule_number (column_rule row r)
 
--- a row with its seventeen columns
+-- a row with all its columns
 pub record IsToldRow (row : RowData) (told : FramesRow) : Type 0 where
   pub cfa : told.cfa ≡ cfa_rule_kind row.cfa
   pub column : told.cfa_column ≡ cfa_rule_column row.cfa
   pub offset : told.cfa_offset ≡ cfa_rule_offset row.cfa
-  pub columns : AreToldRules row 17 told.rules told.numbers
+  pub columns : AreToldRules row column_count told.rules told.numbers
 
 -- the same of a row that tells its expressions by their places, whatever bytes they stand in
 pub record IsToldPlaced (row : PlacedRow) (told : FramesRow) : Type 0 where
