@@ -1,0 +1,152 @@
+//! Sections, their FDEs and the instructions of these.
+
+use crate::rules::instruction;
+use crate::tables::Tables;
+use crate::words::{Refusal, Words};
+use frame_parse::{Fde, FrameFault, PlacedProgram, Program, Section};
+
+/// `section NAME ADDRESS BYTES`: whether it is accepted, and how many FDEs it has.
+pub fn section(tables: &mut Tables, words: &Words<'_>, text: &mut String) -> Result<(), Refusal> {
+    let (address, bytes) = (words.hexadecimal(2)?, words.bytes(3)?);
+    words.end(4)?;
+    match Section::read(tables.alloc, address, &bytes) {
+        Ok(section) => {
+            write!(text, "accepted, {} FDEs", section.count())?;
+            let name = String::from_str(tables.alloc, words.get(1))?;
+            tables.names.push(name)?;
+            tables.sections.push(section)?;
+        }
+        Err(FrameFault::NoMemory) => return Err(Refusal::NO_MEMORY),
+        Err(fault) => write!(text, "refused {fault:?}")?,
+    }
+    Ok(())
+}
+
+/// `fdes SECTION`: its address and its length, and of each FDE the place, the first address and the
+/// range.
+pub fn fdes(tables: &Tables, words: &Words<'_>, text: &mut String) -> Result<(), Refusal> {
+    let section = tables.section(words, 1)?;
+    words.end(2)?;
+    write!(
+        text,
+        "at {:x} {} bytes",
+        section.address(),
+        section.bytes().len()
+    )?;
+    for index in 0..section.count() {
+        let fde = section.fde(index);
+        let place = section.fde_place(index);
+        write!(text, ", {place} {:x} {:x}", fde.first(), fde.range())?;
+    }
+    Ok(())
+}
+
+/// The FDE of the address in the words `SECTION PC`.
+pub fn fde_of<'t>(tables: &'t Tables, words: &Words<'_>) -> Result<Option<Fde<'t>>, Refusal> {
+    let section = tables.section(words, 1)?;
+    let pc = words.hexadecimal(2)?;
+    words.end(3)?;
+    Ok(section.fde_at(pc))
+}
+
+/// Writes an address that may be none.
+fn address(name: &str, address: Option<u64>, text: &mut String) -> Result<(), Refusal> {
+    match address {
+        Some(address) => write!(text, " {name} {address:x}")?,
+        None => write!(text, " {name} none")?,
+    }
+    Ok(())
+}
+
+/// `fde SECTION PC`: the number of the FDE that covers the address, and its fields.
+pub fn fde(tables: &Tables, words: &Words<'_>, text: &mut String) -> Result<(), Refusal> {
+    let found = fde_of(tables, words)?;
+    let number = tables.section(words, 1)?.number_at(words.hexadecimal(2)?);
+    match (found, number) {
+        (Some(fde), Some(number)) => {
+            write!(text, "number {number} place {}", fde.place())?;
+            write!(text, " first {:x} range {:x}", fde.first(), fde.range())?;
+            text.push_str(if fde.signal() { " signal" } else { " call" })?;
+            address("lsda", fde.lsda(), text)?;
+            address("personality", fde.personality(), text)
+        }
+        (None, None) => Ok(text.push_str("none")?),
+        _ => Ok(text.push_str("two answers")?),
+    }
+}
+
+/// `initial SECTION PC`: the initial instructions for the FDE of an address.
+pub fn initial(tables: &Tables, words: &Words<'_>, text: &mut String) -> Result<(), Refusal> {
+    match fde_of(tables, words)? {
+        Some(fde) => steps(fde.initial(), fde.bytes().len(), text),
+        None => Ok(text.push_str("none")?),
+    }
+}
+
+/// `program SECTION PC`: the FDE's own.
+pub fn program(tables: &Tables, words: &Words<'_>, text: &mut String) -> Result<(), Refusal> {
+    match fde_of(tables, words)? {
+        Some(fde) => steps(fde.program(), fde.bytes().len(), text),
+        None => Ok(text.push_str("none")?),
+    }
+}
+
+/// `placed-initial SECTION PC`: with the places of expressions.
+pub fn placed_initial(
+    tables: &Tables,
+    words: &Words<'_>,
+    text: &mut String,
+) -> Result<(), Refusal> {
+    match fde_of(tables, words)? {
+        Some(fde) => placed_steps(fde.placed_initial(), fde.bytes().len(), text),
+        None => Ok(text.push_str("none")?),
+    }
+}
+
+/// `placed-program SECTION PC`
+pub fn placed_program(
+    tables: &Tables,
+    words: &Words<'_>,
+    text: &mut String,
+) -> Result<(), Refusal> {
+    match fde_of(tables, words)? {
+        Some(fde) => placed_steps(fde.placed_program(), fde.bytes().len(), text),
+        None => Ok(text.push_str("none")?),
+    }
+}
+
+/// Writes what stands between one step and the next, and a step's location.
+fn location(index: usize, location: u64, text: &mut String) -> Result<(), Refusal> {
+    if index > 0 {
+        text.push_str(", ")?;
+    }
+    write!(text, "{location:x}: ")?;
+    Ok(())
+}
+
+/// Writes the steps of a program, of which a byte begins one at most.
+fn steps(mut program: Program<'_>, most: usize, text: &mut String) -> Result<(), Refusal> {
+    for index in 0..most {
+        let Some(step) = program.next() else {
+            return Ok(());
+        };
+        location(index, step.location, text)?;
+        instruction(step.instruction, text)?;
+    }
+    Ok(())
+}
+
+fn placed_steps(
+    mut program: PlacedProgram<'_>,
+    most: usize,
+    text: &mut String,
+) -> Result<(), Refusal> {
+    for index in 0..most {
+        let Some(step) = program.next() else {
+            return Ok(());
+        };
+        location(index, step.location, text)?;
+        instruction(step.instruction, text)?;
+    }
+    Ok(())
+}
