@@ -19,6 +19,9 @@
  *     read, share, record, make a row table or free call them: none of these in a signal handler,
  *     or in the forked child of a process with threads. No other call takes memory, frees it, or
  *     waits.
+ *
+ * A stack can't be unwound through a call, since the library has no unwind tables: a profiler whose
+ * signal interrupts a call sees the stack end there.
  */
 #ifndef FRAMES_C_H
 #define FRAMES_C_H
