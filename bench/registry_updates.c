@@ -34,7 +34,7 @@ static registry_client put(registry_client me, uint32_t range) {
 int main(int count, char **words) {
   uint32_t ranges = count > 1 ? strtoul(words[1], NULL, 10) : 0;
   uint32_t updates = count > 2 ? strtoul(words[2], NULL, 10) : 0;
-  registry_limits limits = {NODES, 1, PAYLOADS};
+  registry_limits limits = {NODES, 1, PAYLOADS, 0};
   registry_member none = {0};
   registry_client me = {0};
   uint32_t *order = calloc(ranges, sizeof *order);

@@ -10,7 +10,7 @@ struct product_caller { registry_client held; };
 
 product_registry *product_registry_new(uint32_t nodes, uint32_t loads, uint32_t payloads,
                                        product_caller **first) {
-  registry_limits limits = {nodes, loads, payloads};
+  registry_limits limits = {nodes, loads, payloads, 0};
   registry_member none = {};
   registry_client client = {nullptr};
   if (registry_c_new(&limits, &none, 0, &client) != REGISTRY_NEW) return nullptr;
@@ -30,7 +30,7 @@ product_caller *product_caller_split(product_registry *, product_caller *me, uin
   return new product_caller{client};
 }
 void product_caller_join(product_registry *, product_caller *me, product_caller *other) {
-  if (!registry_c_join(me->held, other->held, &me->held, &other->held)) abort();
+  if (registry_c_join(me->held, other->held, &me->held, &other->held) != REGISTRY_JOINED) abort();
   delete other;
 }
 uint32_t product_caller_left(product_caller *me) { return registry_c_left(me->held, &me->held); }

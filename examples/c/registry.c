@@ -158,7 +158,8 @@ int main(int count, char **words) {
     answers += readers[i].count;
     again += readers[i].again;
     free(readers[i].answers);
-    if (!registry_c_join(client, readers[i].client, &client, &readers[i].client)) return 4;
+    registry_client *mine = &readers[i].client;
+    if (registry_c_join(client, *mine, &client, mine) != REGISTRY_JOINED) return 4;
   }
   free(changes);
   uint32_t seen;

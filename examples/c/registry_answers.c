@@ -1,5 +1,6 @@
 /* Each call of the registry once, with answers that were worked out by hand. Status 0: all are
  * so. */
+#include "heap_calls.h"
 #include "registry_c.h"
 #include <stdio.h>
 #include <string.h>
@@ -34,7 +35,7 @@ static bool is_place(registry_place place, uint32_t kind, uint32_t registered, u
          is_same(place.member, member);
 }
 
-static const registry_limits limits = {.nodes = 4, .loads = 1, .payloads = 3};
+static const registry_limits limits = {.nodes = 4, .loads = 1, .payloads = 3, .name = 1};
 static const registry_member fixed[2] = {{0x9000, 0x10, 2}, {0x9010, 0x20, 0}};
 
 static int refusals(void) {
@@ -140,8 +141,76 @@ static int splits(registry_client *client) {
   registry_c_deregister(other, 0x2010, &answer, &other);
   CHECK(is_answer(answer, REGISTRY_SPENT, 0, 0, no_member));
   CHECK(registry_c_seen(*client, client) == 24);
-  CHECK(registry_c_join(*client, other, client, &other));
+  CHECK(registry_c_join(*client, other, client, &other) == REGISTRY_JOINED);
   CHECK(registry_c_seen(*client, client) == 25 && registry_c_left(*client, client) == left - 1);
+  return 0;
+}
+
+/* A client of another registry isn't joined, and both are as they were. */
+static int other_registries(registry_client *client) {
+  registry_client other = {0};
+  registry_limits others = limits;
+  others.name = 2;
+  uint32_t left = registry_c_left(*client, client), seen = registry_c_seen(*client, client);
+  CHECK(registry_c_new(&others, fixed, 2, &other) == REGISTRY_NEW);
+  CHECK(registry_c_join(*client, other, client, &other) == REGISTRY_JOIN_OTHER_REGISTRY);
+  CHECK(registry_c_left(*client, client) == left && registry_c_seen(*client, client) == seen);
+  CHECK(registry_c_left(other, &other) == 67108864 && registry_c_close(other, &seen) && seen == 0);
+  return 0;
+}
+
+enum { NODES = 400, APART = 0x100, SIZE = 0x10 };
+
+/* What came of a registration of a range of its own for each place and part of a place. */
+static uint32_t put(registry_client *client, uint32_t place, uint32_t part) {
+  const registry_member code = {(uint64_t)APART * (place + 1) + SIZE * part, SIZE, 0};
+  registry_answer answer;
+  registry_c_register(*client, &code, &answer, client);
+  return answer.kind;
+}
+
+static bool take(registry_client *client, uint32_t place, uint32_t part) {
+  registry_answer answer;
+  uint64_t first = (uint64_t)APART * (place + 1) + SIZE * part;
+  registry_c_deregister(*client, first, &answer, client);
+  return answer.kind == REGISTRY_DONE;
+}
+
+/* Registers in ascending order until it is full, and says how many there are. A full leaf is cut
+ * into five and five, a full inner node into seven children and eight. Where none but the root has
+ * fewer, and the leaf that finds no room has ten, there are (30 * nodes + 15) / 7 ranges at least,
+ * and one of the nodes may be free, since the root's cut wants two. */
+static int ascending(registry_client *client, uint32_t *ranges) {
+  uint32_t kind = REGISTRY_DONE;
+  for (*ranges = 0; (kind = put(client, *ranges, 0)) == REGISTRY_DONE;) ++*ranges;
+  CHECK(kind == REGISTRY_FULL && 7 * *ranges >= 30 * (NODES - 1) + 15);
+  return 0;
+}
+
+/* Takes one of each five away, so that all leaves but the last have the fewest that they may, four,
+ * and fills one of them. With four in a leaf and six children, (10 * nodes + 12) / 3 at least. */
+static int thinned(registry_client *client, uint32_t *ranges) {
+  uint32_t last = *ranges, kind = REGISTRY_DONE, part = 1;
+  for (uint32_t place = 0; place + 10 < last; place += 5, --*ranges) CHECK(take(client, place, 0));
+  for (; (kind = put(client, 501, part)) == REGISTRY_DONE; part++) ++*ranges;
+  CHECK(kind == REGISTRY_FULL && 3 * *ranges >= 10 * NODES + 12 && 10 * *ranges < 36 * NODES);
+  while (--part > 0) CHECK(take(client, 501, part));
+  for (uint32_t place = 0; place < last; place++)
+    if (place + 10 >= last || place % 5) CHECK(take(client, place, 0));
+  return 0;
+}
+
+/* Three nodes for each ten ranges are enough, in whatever order these come. */
+static int node_counts(void) {
+  const registry_limits many = {.nodes = NODES, .loads = 1, .payloads = 1};
+  registry_client client = {0};
+  uint32_t ranges, seen;
+  CHECK(registry_c_new(&many, fixed, 0, &client) == REGISTRY_NEW);
+  if (ascending(&client, &ranges) || thinned(&client, &ranges)) return 1;
+  for (uint32_t i = 0; i < 10 * NODES / 3; i++)
+    CHECK(put(&client, i * 577 % (10 * NODES / 3), 0) == REGISTRY_DONE);
+  for (uint32_t i = 0; i < 10 * NODES / 3; i++) CHECK(take(&client, i, 0));
+  CHECK(registry_c_close(client, &seen));
   return 0;
 }
 
@@ -162,8 +231,10 @@ int main(void) {
   registry_client client = {0};
   if (refusals()) return 1;
   if (registry_c_new(&limits, fixed, 2, &client) != REGISTRY_NEW) return 1;
-  if (loads(&client) || registrations(&client) || places(&client)) return 1;
-  if (members(&client) || splits(&client) || closes(client)) return 1;
+  heap_count_from_here(0);
+  if (loads(&client) || registrations(&client) || places(&client) || members(&client)) return 1;
+  CHECK(heap_calls() == 0);
+  if (splits(&client) || other_registries(&client) || closes(client) || node_counts()) return 1;
   printf("all answers as worked out\n");
   return 0;
 }

@@ -89,7 +89,7 @@ int main(void) {
   setitimer(ITIMER_REAL, &never, NULL);
   uint32_t seen;
   if (child_status()) return 4;
-  if (!registry_c_join(client, in_handler, &client, &in_handler)) return 5;
+  if (registry_c_join(client, in_handler, &client, &in_handler) != REGISTRY_JOINED) return 5;
   if (!registry_c_close(client, &seen)) return 6;
   printf("%u updates, %d signals, %d not answered, %d wrong\n", seen, (int)signals,
          (int)not_answered, (int)wrong);

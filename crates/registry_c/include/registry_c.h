@@ -19,7 +19,7 @@
  *   - One call at a time is given a client. Each thread has one of its own (registry_c_split), and
  *     threads with a client each don't meet: no call waits. A client goes from one thread to
  *     another in order: by a lock, or by a thread's start or join.
- *   - Clients that are joined are of one registry.
+ *   - Clients that are joined are of one registry, or the names of their registries differ.
  *   - malloc, realloc and free are those of the program, and don't fail but by NULL. Only the calls
  *     that make, split, join and close call them.
  *
@@ -33,11 +33,27 @@
  * and ask again. After BUSY the update call stays begun: the next update, the same or another, goes
  * on with it and takes no further one.
  *
+ * Beside a busy writer. An update of the registered ranges holds one lock nearly from its first
+ * step to its last. Another one that comes to the lock meanwhile is BUSY, and a lookup of that half
+ * is AGAIN. Beside a client that updates without a pause that is so of most tries. Each comes back
+ * at once; nothing says how many there are in a row. An update of the loaded ranges makes others of
+ * that half BUSY while it runs, and a lookup of it AGAIN only where it was accepted between the
+ * lookup's first step and its last. To a client that is alone no lookup is AGAIN.
+ *
+ * What a client costs. Eight bytes for each node of the registry, 131 KB where there are 16384, and
+ * a few hundred more. Join one that isn't needed any more. One that is closed and not joined takes
+ * its update calls with it and leaves its name behind, a few words with the client that it was
+ * split off from; and no other client is alone from then on, however many are joined.
+ *
  * In a signal handler: registry_c_left, registry_c_seen, the lookups and the updates take no memory
  * and wait for nobody, each step is one atomic access of a word. Give the handler a client of its
  * own, which no call that it may interrupt was given. An update may then be BUSY for as long as the
  * handler runs, where the lock is that of the call interrupted; a lookup may be AGAIN so. That a
  * handler interrupts a call is beyond what is proved.
+ *
+ * A stack can't be unwound through a call, since the library has no unwind tables: a profiler whose
+ * signal interrupts a lookup sees the stack end there. Nothing is ever thrown through a call, as
+ * none calls back.
  *
  * In the forked child of a process with threads: the same calls, and no other. Where a thread was
  * within an update when the process was forked, its locks stay taken in the child: updates are BUSY
@@ -68,12 +84,16 @@ typedef struct {
   uint32_t payload;
 } registry_member;
 
-/* 4 to 16384 nodes: ranges that are registered take one for each five at worst, and a few more. 1
- * to 1024 loads: so many may be loaded at a time. Payloads are below `payloads`. */
+/* 4 to 16384 nodes. Three for each ten ranges that are registered at a time are enough, in whatever
+ * order they come and go, since a leaf has four of them at least, and an inner node six children,
+ * but for the root. In ascending order seven do for thirty. 1 to 1024 loads: so many may be loaded
+ * at a time. Payloads are below `payloads`. `name` is the program's own for this registry: clients
+ * of registries with other names aren't joined. */
 typedef struct {
   uint32_t nodes;
   uint32_t loads;
   uint32_t payloads;
+  uint64_t name;
 } registry_limits;
 
 enum registry_new {
@@ -99,10 +119,18 @@ enum registry_split {
 uint64_t registry_c_split(registry_client client, uint32_t give, registry_client *out,
                           registry_client *back);
 
-/* Joins `other` into a client: its update calls, and what it has seen. False: memory ran out, and
- * `other_back` has it again; or holds nothing, where it is lost. */
-bool registry_c_join(registry_client client, registry_client other, registry_client *back,
-                     registry_client *other_back);
+enum registry_join {
+  REGISTRY_JOINED = 0,             /* `other` is gone, and `other_back` isn't written           */
+  REGISTRY_JOIN_NO_MEMORY = 1,     /* memory ran out: `other_back` has it again, or isn't       */
+                                   /* written, where it is lost                                 */
+  REGISTRY_JOIN_OTHER_REGISTRY = 2 /* its registry has another name: nothing was done, and      */
+                                   /* `other_back` has it again                                 */
+};
+
+/* Joins `other` into a client: its update calls, and what it has seen. An `other_back` that is {0}
+ * and not the variable `other` itself shows whether one was lost. */
+uint64_t registry_c_join(registry_client client, registry_client other, registry_client *back,
+                         registry_client *other_back);
 
 /* Frees a client, and the registry with its last one. `seen` is how many updates it had seen. True:
  * every other client was joined into it, and then these are all that were ever accepted. */

@@ -24,6 +24,7 @@ module _ (r : RegistryMember) (c mid : ClientData) (k : CallerData) (may : MayAd
     may = b.may;
     stepped = subst (λ (z : CallerData). step z k) (ap (λ (z : ClientData). z.me) b.begun) s;
     words = ap (λ (z : ClientData). z.words) b.begun;
+    name = ap (λ (z : ClientData). z.name) b.begun;
     begun_now = refl;
   }
 

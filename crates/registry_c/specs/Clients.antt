@@ -1,4 +1,5 @@
--- A client: the words that it shares, its caller, and whether an update call is begun.
+-- A client: the words that it shares, its caller, whether an update call is begun, and the name of
+-- its registry.
 use Rattle.std.specs.Prelude.{◌≡◌, ℕ, ◌+◌, ◌≤◌, Bool, true, false, Option, Some, None}
 use Rattle.std.specs.Prelude.{Result, Ok, Err}
 use Rattle.word_rule.specs.CallerData.{CallerData, WordsData}
@@ -8,6 +9,7 @@ pub record ClientData : Type 0 where
   pub words : WordsData
   pub me : CallerData
   pub begun : Bool
+  pub name : ℕ
 
 -- one where a call is begun
 abbrev pub begun_count : Bool → ℕ

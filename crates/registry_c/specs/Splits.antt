@@ -1,15 +1,19 @@
 -- Clients that come and go.
-use Rattle.std.specs.Prelude.{◌≡◌, ◌<◌, ◌≤◌, ℕ, ◌⊎◌, ◌||◌, Bool, true, false, Option, Some, None}
+use Rattle.std.specs.Prelude.{◌≡◌, ◌≢◌, ◌<◌, ◌≤◌, ℕ, ◌⊎◌, ◌||◌, false, Option, Some, None}
 use Rattle.std.specs.Prelude.{Result, Ok, Err}
 use Rattle.registry_core.specs.Rounds.{IsWholeWhereAlone, after_one_join, after_one_split}
 use Rattle.registry_core.specs.Rounds.{one_split_off}
 use Rattle.registry_c.specs.Clients.{ClientData, opened}
+use Rattle.registry_c.specs.declared.splits.JoinAnswer.{JoinAnswer}
+use Rattle.registry_c.specs.declared.splits.JoinAnswer.TheVariants.{Joined, NoMemoryToJoin}
+use Rattle.registry_c.specs.declared.splits.JoinAnswer.TheVariants.{OtherRegistry}
 use Rattle.registry_c.specs.declared.splits.SplitFault.{SplitFault}
 use Rattle.registry_c.specs.declared.splits.SplitFault.TheVariants.{Few, NoMemory}
 
 -- the client that is split off with so many update calls, and what is left of the other one
 abbrev pub split_client : ℕ → ClientData → ClientData
-split_client give c = record { words = c.words; me = one_split_off give c.me; begun = false }
+split_client give c =
+    record { words = c.words; me = one_split_off give c.me; begun = false; name = c.name }
 
 abbrev pub client_kept : ℕ → ClientData → ClientData
 client_kept give c = record c { me = after_one_split give c.me }
@@ -33,10 +37,9 @@ abbrev pub TellsSplit : ℕ → ℕ → Option ClientData → ClientData → Cli
 TellsSplit give told held c c' = (result : Result ClientData SplitFault)
     × SplitsOff give c c' result × (told ≡ split_told result) × (held ≡ opened result)
 
--- both share the words of one registry
-abbrev pub ShareWords : Option ClientData → Option ClientData → Type 0
-ShareWords (Some c) (Some other) = other.words.table ≡ c.words.table
-ShareWords _ _ = ⊥
+-- Two whose registries have one name share the words of one registry.
+abbrev pub ShareByName : ClientData → ClientData → Type 0
+ShareByName other c = other.name ≡ c.name → other.words.table ≡ c.words.table
 
 -- A client was joined: its update calls, what it has seen, its receipts, and a call that is begun.
 -- Whoever is alone then has a whole log.
@@ -44,13 +47,24 @@ pub record JoinsClient (other c c' : ClientData) : Type 0 where
   pub words : c'.words ≡ c.words
   pub me : c'.me ≡ after_one_join other.me c.me
   pub begun : c'.begun ≡ (c.begun || other.begun)
+  pub name : c'.name ≡ c.name
   pub whole : IsWholeWhereAlone c'.me.log
 
 -- It was joined, and its handle leads to nothing; or memory ran out, and its handle leads to it, or
--- it is lost.
-abbrev pub Joins : Bool → Option ClientData → Option ClientData → Option ClientData
-    → Option ClientData → Type 0
-Joins true (Some c) (Some other) (Some c') None = JoinsClient other c c'
-Joins false (Some c) (Some other) (Some c') None = c' ≡ c
-Joins false (Some c) (Some other) (Some c') (Some other') = (c' ≡ c) × (other' ≡ other)
+-- it is lost; or its registry has another name, and its handle leads to it.
+abbrev pub Joins : ClientData → ClientData → ClientData → JoinAnswer → Option ClientData → Type 0
+Joins other c c' Joined None = (other.name ≡ c.name) × JoinsClient other c c'
+Joins other c c' NoMemoryToJoin None = (other.name ≡ c.name) × (c' ≡ c)
+Joins other c c' NoMemoryToJoin (Some back) = (other.name ≡ c.name) × (c' ≡ c) × (back ≡ other)
+Joins other c c' OtherRegistry (Some back) = (other.name ≢ c.name) × (c' ≡ c) × (back ≡ other)
 Joins _ _ _ _ _ = ⊥
+
+abbrev pub join_told : JoinAnswer → ℕ
+join_told Joined = 0
+join_told NoMemoryToJoin = 1
+join_told OtherRegistry = 2
+
+-- C is told what came of it.
+abbrev pub TellsJoin : ClientData → ℕ → Option ClientData → ClientData → ClientData → Type 0
+TellsJoin other told back c c' =
+    (answer : JoinAnswer) × Joins other c c' answer back × (told ≡ join_told answer)

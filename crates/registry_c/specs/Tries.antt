@@ -27,6 +27,7 @@ pub record TriesCall (step : CallerData → CallerData → Type 0) (begun : Bool
   pub may : MayTry c
   pub stepped : step (begun_caller c) c'.me
   pub words : c'.words ≡ c.words
+  pub name : c'.name ≡ c.name
   pub begun_now : c'.begun ≡ begun
 
 -- no call can be tried, and nothing was done

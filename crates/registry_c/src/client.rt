@@ -22,6 +22,8 @@ pub struct Client {
     pub(crate) begun: bool,
     /// Those that there are.
     pub(crate) payloads: u32,
+    /// The name of its registry.
+    pub(crate) name: u64,
 }
 
 impl Model for Client {
@@ -31,12 +33,18 @@ impl Model for Client {
 
     ghost Value = { ClientData };
 
-    ghost view = { λ c. record { words = arc_value c.registry; me = c.me; begun = c.begun } };
+    ghost view = { λ c. record {
+      words = arc_value c.registry;
+      me = c.me;
+      begun = c.begun;
+      name = c.name;
+    } };
 
     ghost invariant = { λ c. IsClient record {
       words = arc_value c.registry;
       me = c.me;
       begun = c.begun;
+      name = c.name;
     } × (c.payloads ≡ (arc_value c.registry).terms.payloads) };
 }
 
@@ -64,6 +72,7 @@ impl Client {
             me,
             begun: false,
             payloads: limits.payloads,
+            name: limits.name,
         };
         match Box::new(alloc, client) {
             Ok(client) => Ok(client),
@@ -91,6 +100,13 @@ impl Client {
         ensures { result ≡ length self.now.me.log.past }
     {
         self.me.seen()
+    }
+
+    /// Whether the registries of both have one name.
+    pub(crate) fn has_name_of(&self, other: &Client) -> bool
+        ensures { (result ≡ true) ↔ (other.now.name ≡ self.now.name) }
+    {
+        other.name == self.name
     }
 
     /// Whether every other client was joined into it.

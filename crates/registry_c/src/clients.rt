@@ -1,11 +1,11 @@
 //! Clients are made, split off, joined and closed; and what one has left and has seen.
 
-ghost use Rattle.std.specs.Prelude.{◌≡◌, ◌↔◌, IsSomeAnd, length, true};
+ghost use Rattle.std.specs.Prelude.{◌≡◌, ◌↔◌, IfSome, IsSomeAnd, length, true};
 ghost use Rattle.word_rule.specs.Callers.{IsAlone};
 ghost use Rattle.registry_core.specs.Rounds.{IsWholeWhereAlone};
 ghost use Rattle.registry_c.specs.Clients.{LeadsToClient, LeadsNowhere, Makes};
 ghost use Rattle.registry_c.specs.Limits.{TellsNew};
-ghost use Rattle.registry_c.specs.Splits.{Joins, ShareWords, TellsSplit};
+ghost use Rattle.registry_c.specs.Splits.{ShareByName, TellsJoin, TellsSplit};
 
 use crate::client::Client;
 use crate::handle::ClientHandle;
@@ -75,8 +75,35 @@ pub extern "C" fn registry_c_split(
     told
 }
 
-/// Joins another client of the same registry into one; false where memory runs out, and then
-/// `other_back` has it again, or nothing, where it is lost.
+/// Joins another client, where its registry has the same name, and writes the handle of one that
+/// comes back.
+fn join(
+    client: &mut Client,
+    alloc: Global,
+    other: Box<Client, Global>,
+    back: &mut ClientHandle,
+) -> u64
+    requires same { ShareByName other.value client.old }
+    requires back { LeadsNowhere back.old.held }
+    ensures { TellsJoin other.value result back.new.held client.old client.new }
+{
+    if !client.has_name_of(&other) {
+        *back = ClientHandle::of(other);
+        return 2;
+    }
+    match client.join(alloc, other) {
+        Ok(()) => 0,
+        Err(Some(other)) => {
+            *back = ClientHandle::of(other);
+            1
+        }
+        Err(None) => 1,
+    }
+}
+
+/// Joins another client of the same registry into one. What came of it: 0 that it was joined; 1
+/// that memory ran out, and then `other_back` has it again, or nothing, where it is lost; 2 that
+/// its registry has another name, and then `other_back` has it again.
 #[unsafe(no_mangle)]
 pub extern "C" fn registry_c_join(
     alloc: Global,
@@ -84,23 +111,20 @@ pub extern "C" fn registry_c_join(
     other: ClientHandle,
     back: &mut ClientHandle,
     other_back: &mut ClientHandle,
-) -> bool
-    requires same { ShareWords client.held other.held }
+) -> u64
+    requires client { LeadsToClient client.held }
+    requires other { LeadsToClient other.held }
+    requires same { IfSome client.held (λ c. IfSome other.held (λ o. ShareByName o c)) }
     requires back { LeadsNowhere back.old.held }
     requires other_back { LeadsNowhere other_back.old.held }
-    ensures { Joins result client.held other.held back.new.held other_back.new.held }
+    ensures { IsSomeAnd other.held
+        (λ o. Makes (TellsJoin o result other_back.new.held) client.held back.new.held) }
 {
     let mut open = client.open(alloc);
-    let joined = match open.join(alloc, other.open(alloc)) {
-        Ok(()) => true,
-        Err(Some(other)) => {
-            *other_back = ClientHandle::of(other);
-            false
-        }
-        Err(None) => false,
-    };
+    let other = other.open(alloc);
+    let told = join(&mut open, alloc, other, other_back);
     *back = ClientHandle::of(open);
-    joined
+    told
 }
 
 /// Frees a client, and the registry with its last one. Tells how many updates it had seen, and

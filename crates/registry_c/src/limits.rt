@@ -8,14 +8,15 @@ use crate::member::RegistryMember;
 use reg_model::Member;
 use std::alloc::Global;
 
-/// How many nodes its tree has, how many members may be loaded at a time, and how many payloads
-/// there are.
+/// How many nodes its tree has, how many members may be loaded at a time, how many payloads there
+/// are, and the program's own name for the registry.
 #[repr(C)]
 #[derive(Clone, Copy, Debug, PartialEq, Eq)]
 pub struct RegistryLimits {
     pub nodes: u32,
     pub loads: u32,
     pub payloads: u32,
+    pub name: u64,
 }
 
 /// Why a registry isn't made.

@@ -14,6 +14,14 @@ pub enum SplitFault {
     Few,
 }
 
+/// What came of a join.
+#[derive(Clone, Copy, Debug, PartialEq, Eq)]
+pub enum JoinAnswer {
+    Joined,
+    NoMemoryToJoin,
+    OtherRegistry,
+}
+
 impl Client {
     /// Splits off a client with so many of the update calls.
     pub(crate) fn split(
@@ -38,6 +46,7 @@ impl Client {
             me,
             begun: false,
             payloads: self.payloads,
+            name: self.name,
         };
         match Box::new(alloc, other) {
             Ok(other) => Ok(other),
@@ -62,6 +71,7 @@ impl Client {
             me,
             begun,
             payloads,
+            name,
         } = Box::into_inner(other);
         let Err(me) = self.registry.words().join(alloc, &mut self.me, me) else {
             self.begun = self.begun || begun;
@@ -72,6 +82,7 @@ impl Client {
             me,
             begun,
             payloads,
+            name,
         };
         Err(Box::new(alloc, other).ok())
     }
