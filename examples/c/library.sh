@@ -8,17 +8,26 @@ root=$(cd "$(dirname "$0")/../.." && pwd)
 kit=$(dirname "$(rt doc)")
 shift
 [ $# -gt 0 ] || set -- frames registry
-for part in "$@"; do
-  (cd "$root/crates/${part}_c" && rt lib > "$folder/library.log" 2>&1) || {
-    tail -20 "$folder/library.log" >&2
-    exit 1
+make_library() {
+  "$root/tools/static_library" "$1_c" "$folder/$1_c.a" > "$folder/$1_c.log" 2>&1 || {
+    tail -20 "$folder/$1_c.log" >&2
+    return 1
   }
-  rm -f "$folder/libfovradus_$part.a"
+  rm -f "$folder/libfovradus_$1.a"
   ar -M <<SCRIPT
-create $folder/libfovradus_$part.a
-addlib $root/crates/${part}_c/out/lib${part}_c.a
+create $folder/libfovradus_$1.a
+addlib $folder/$1_c.a
 addlib $kit/c/liblibc_c.a
 save
 end
 SCRIPT
+  rm "$folder/$1_c.a"
+}
+made=()
+for part in "$@"; do
+  make_library "$part" &
+  made+=($!)
 done
+status=0
+for one in "${made[@]}"; do wait "$one" || status=1; done
+exit $status
