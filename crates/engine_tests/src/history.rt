@@ -1,0 +1,97 @@
+//! The accepted updates of a journal, by their numbers.
+
+use event_script::{Answer, Journal, Script};
+use reg_model::{Inserted, Loading, Member, Removed, Update};
+use std::alloc::Global;
+use std::test::Fail;
+
+/// Goes on where something holds, and else says what was wrong.
+pub fn must(holds: bool, otherwise: &'static str) -> Result<(), Fail> {
+    if !holds {
+        Err(otherwise)?;
+    }
+    Ok(())
+}
+
+/// The member that is meant by the number of an image.
+pub fn member_of(script: &Script, image: u32) -> Option<Member> {
+    let span = *script.images.get(image as usize)?;
+    Some(Member {
+        span,
+        payload: image,
+    })
+}
+
+/// The update that an answer says was accepted, and its number.
+pub fn update_of(script: &Script, answer: &Answer) -> Option<(u32, Update)> {
+    match answer {
+        Answer::Register {
+            image,
+            answer: Inserted::Done { number },
+        } => {
+            let member = member_of(script, *image)?;
+            Some((*number, Update::Register { member }))
+        }
+        Answer::Deregister {
+            base,
+            answer: Removed::Done { number, .. },
+        } => Some((*number, Update::Deregister { base: *base })),
+        Answer::Load {
+            image,
+            answer: Loading::Done { number },
+        } => {
+            let member = member_of(script, *image)?;
+            Some((*number, Update::Load { member }))
+        }
+        Answer::Unload {
+            base,
+            answer: Removed::Done { number, .. },
+        } => Some((*number, Update::Unload { base: *base })),
+        _ => None,
+    }
+}
+
+/// The updates by their numbers, each of which stands once.
+pub fn history_of(alloc: Global, script: &Script, journal: &Journal) -> Result<Vec<Update>, Fail> {
+    let mut places = Vec::new(alloc);
+    for _ in 0..journal.updates {
+        places.push(None)?;
+    }
+    for round in &journal.rounds {
+        for thread in round {
+            for answer in thread {
+                if let Some((number, update)) = update_of(script, answer) {
+                    put_update(&mut places, number, update)?;
+                }
+            }
+        }
+    }
+    let mut history = Vec::new(alloc);
+    for place in places {
+        history.push(place.ok_or("a number that no update has")?)?;
+    }
+    Ok(history)
+}
+
+fn put_update(places: &mut [Option<Update>], number: u32, update: Update) -> Result<(), Fail> {
+    let index = number.checked_sub(1).ok_or("an update numbered 0")?;
+    let place = places
+        .get_mut(index as usize)
+        .ok_or("a number above the updates")?;
+    must(place.is_none(), "two updates of one number")?;
+    *place = Some(update);
+    Ok(())
+}
+
+/// How many updates a round accepted.
+pub fn updates_in(script: &Script, round: &[Vec<Answer>]) -> u32 {
+    let mut count = 0u32;
+    for thread in round {
+        for answer in thread {
+            if update_of(script, answer).is_some() {
+                count = count.saturating_add(1);
+            }
+        }
+    }
+    count
+}

@@ -1,0 +1,85 @@
+//! Lines of journals, refusals and summaries, as the worked cases have them.
+
+use event_script::{
+    Answer, EventNumber, Journal, Reason, print_answer, print_fault, print_journal, print_line,
+    print_updates,
+};
+use frame_parse::FrameFault;
+use reg_model::Inserted;
+use script_generator::{Summary, print_summary};
+use std::test::Fail;
+use unwind_step::{End, Trace};
+
+#[test]
+fn lines_of_refusals(rt: HostRuntime) -> Result<(), Fail> {
+    let alloc = rt.alloc();
+    let fault = FrameFault::Version {
+        start: 0,
+        at: 8,
+        byte: 4,
+    };
+    let text = print_fault(alloc, 4, Reason::Section { fault })?;
+    assert!(rt; text.as_slice() == b"script line 4: section version 0 8\n".as_slice());
+    Ok(())
+}
+
+#[test]
+fn lines_of_a_journal(rt: HostRuntime) -> Result<(), Fail> {
+    let alloc = rt.alloc();
+    let registered = Answer::Register {
+        image: 0,
+        answer: Inserted::Done { number: 1 },
+    };
+    let text = print_answer(alloc, 1, 1, 1, &registered)?;
+    assert!(rt; text.as_slice() == b"1.1.1 register 0 done 1\n".as_slice());
+    let trace = Trace {
+        frames: Vec::new(alloc),
+        end: End::NoBytes { address: 0x7000 },
+    };
+    let unwound = Answer::Unwind { snapshot: 0, trace };
+    let number = EventNumber {
+        round: 1,
+        thread: 1,
+        event: 2,
+    };
+    let text = print_line(alloc, number, &unwound, 1)?;
+    assert!(rt; text.as_slice() == b"1.1.2 end nobytes 7000\n".as_slice());
+    let text = print_updates(alloc, 1)?;
+    assert!(rt; text.as_slice() == b"updates 1\n".as_slice());
+    let journal = Journal {
+        rounds: vec![in alloc; vec![in alloc; vec![in alloc; registered, unwound]?]?]?,
+        updates: 1,
+    };
+    let text = print_journal(alloc, &journal)?;
+    assert!(rt; text.as_slice() == JOURNAL.as_bytes());
+    Ok(())
+}
+
+const JOURNAL: &str = "\
+1.1.1 register 0 done 1
+1.1.2 unwind 0
+1.1.2 end nobytes 7000
+updates 1
+";
+
+#[test]
+fn lines_of_a_summary(rt: HostRuntime) -> Result<(), Fail> {
+    let alloc = rt.alloc();
+    let summary = Summary {
+        threads: 4,
+        events: 24,
+        updates: 8,
+        hits: 4,
+        misses: 8,
+        frames: 12,
+    };
+    let mut text = Vec::new(alloc);
+    for line in &print_summary(alloc, &summary)? {
+        text.extend_from_slice(line)?;
+    }
+    assert!(rt; text.as_slice() == SUMMARY.as_bytes());
+    Ok(())
+}
+
+/// What `gen 1` writes: the case gen_one.
+const SUMMARY: &str = "threads 4\nevents 24\nupdates 8\nhits 4\nmisses 8\nframes 12\n";
