@@ -1,10 +1,10 @@
 -- What came of a header, as C is told.
-use Rattle.std.specs.Prelude.{◌≡◌, ◌⊎◌, ℕ, List, Option, Some}
+use Rattle.std.specs.Prelude.{◌≡◌, ◌⊎◌, ℕ, List, Option, Some, None}
 use Rattle.eh_hdr.specs.Headers.{IsHeader, IsRefusedHeader}
 use Rattle.eh_hdr.specs.declared.fault.HeaderFault.{HeaderFault}
 use Rattle.eh_hdr.specs.declared.fault.HeaderFault.TheVariants as faults
 use Rattle.eh_hdr.specs.declared.table.TableEntry.{TableEntry}
-use Rattle.frame_parse.specs.Sections.{SectionData}
+use Rattle.frames_c.specs.Held.{LoadedData}
 use Rattle.frames_c.specs.declared.header.FramesHeader.{FramesHeader}
 
 abbrev pub header_accepted : FramesHeader
@@ -22,14 +22,25 @@ header_refused (faults.Fde at) = record { accepted = 0; kind = 6; at = at }
 header_refused (faults.Order at) = record { accepted = 0; kind = 7; at = at }
 header_refused (faults.Overlap at) = record { accepted = 0; kind = 8; at = at }
 
--- the bytes begin with a header of this section, or this is their first refusal, or memory ran out
-abbrev pub IsHeaderTold : ℕ → SectionData → List ℕ → FramesHeader → Type 0
-IsHeaderTold address section bytes told =
-    ((t : Option (List TableEntry)) × IsHeader address section bytes t × (told ≡ header_accepted))
-    ⊎ ((f : HeaderFault) × ((f ≡ faults.NoMemory) ⊎ IsRefusedHeader address section bytes f)
-    × (told ≡ header_refused f))
+-- the bytes begin with a header of the section, whose table is kept beside it
+abbrev pub KeepsHeader : ℕ → LoadedData → List ℕ → Type 0
+KeepsHeader address loaded bytes =
+    (t : Option (List TableEntry)) × IsHeader address loaded.section bytes t
+    × (loaded.table ≡ Some t)
 
--- the same of the section to which a handle leads
-abbrev pub LeadsWithHeader : ℕ → List ℕ → Option SectionData → FramesHeader → Type 0
+-- this is their first refusal, or memory ran out, and no table is kept
+abbrev pub RefusesHeader : ℕ → LoadedData → List ℕ → HeaderFault → Type 0
+RefusesHeader address loaded bytes f =
+    ((f ≡ faults.NoMemory) ⊎ IsRefusedHeader address loaded.section bytes f)
+    × (loaded.table ≡ None)
+
+-- one or the other, and C is told which
+abbrev pub IsHeaderTold : ℕ → LoadedData → List ℕ → FramesHeader → Type 0
+IsHeaderTold address loaded bytes told =
+    (KeepsHeader address loaded bytes × (told ≡ header_accepted))
+    ⊎ ((f : HeaderFault) × RefusesHeader address loaded bytes f × (told ≡ header_refused f))
+
+-- the same of what a handle leads to
+abbrev pub LeadsWithHeader : ℕ → List ℕ → Option LoadedData → FramesHeader → Type 0
 LeadsWithHeader address bytes held told =
-    (section : SectionData) × (held ≡ Some section) × IsHeaderTold address section bytes told
+    (loaded : LoadedData) × (held ≡ Some loaded) × IsHeaderTold address loaded bytes told

@@ -1,6 +1,7 @@
 -- What reading leaves: a handle of the section, or why there is none.
-use Rattle.std.specs.Prelude.{◌≡◌, ℕ, ◌<◌, ◌^◌, List, length, Option, Some}
+use Rattle.std.specs.Prelude.{◌≡◌, ℕ, ◌<◌, ◌^◌, List, length, Option, Some, None}
 use Rattle.frame_parse.specs.Sections.{SectionData, HasFdes}
+use Rattle.frames_c.specs.Held.{LoadedData}
 
 -- the bytes at an address are this section, whose places are numbers of four bytes
 pub record IsLoaded (address : ℕ) (bytes : List ℕ) (section : SectionData) : Type 0 where
@@ -10,6 +11,10 @@ pub record IsLoaded (address : ℕ) (bytes : List ℕ) (section : SectionData) :
   pub short : length bytes < 2 ^ 32
 
 -- it leads to that section
-abbrev pub LeadsToLoaded : ℕ → List ℕ → Option SectionData → Type 0
+abbrev pub LeadsToLoaded : ℕ → List ℕ → Option LoadedData → Type 0
 LeadsToLoaded address bytes held =
-    (section : SectionData) × (held ≡ Some section) × IsLoaded address bytes section
+    (loaded : LoadedData) × (held ≡ Some loaded) × IsLoaded address bytes loaded.section
+
+-- no table of a header is kept beside it
+abbrev pub HasNoTable : Option LoadedData → Type 0
+HasNoTable held = (loaded : LoadedData) × (held ≡ Some loaded) × (loaded.table ≡ None)

@@ -1,6 +1,6 @@
 -- The FDEs of a section as a plain table, and what is found in one.
-use Rattle.std.specs.Prelude.{◌≡◌, ℕ, zero, suc, ◌+◌, ◌<◌, List, [], ◌∷◌, length, map, take, Bool}
-use Rattle.std.specs.Prelude.{true, false, Option, Some, nat_le, nat_lt, ◌&&◌}
+use Rattle.std.specs.Prelude.{◌≡◌, ℕ, zero, suc, ◌+◌, ◌<◌, ◌≤◌, List, [], ◌∷◌, length, map, take}
+use Rattle.std.specs.Prelude.{Bool, true, false, Option, Some, nat_le, nat_lt, ◌&&◌}
 use Rattle.std.specs.List.{Contains, find, filter}
 use Rattle.std.specs.List.Sorted.{IsPermutation, IsNonDecreasingBy}
 use Rattle.std.specs.Option.{option_map}
@@ -36,15 +36,17 @@ abbrev pub FindsAsSection : List FdeRecord → List FramesEntry → Type 0
 FindsAsSection fdes es =
     (pc : ℕ) → find (entry_has pc) es ≡ option_map entry_told (first_cover pc fdes)
 
--- what comes of a table: 0 it stands in the first entries, 1 there isn't room, 2 two ranges share
--- an address
+-- what comes of a table: 0 it stands in the first entries, 1 there is less room than FDEs, and then
+-- nothing is written, 2 two ranges share an address
 abbrev pub AnswersTable : List FdeRecord → List FramesEntry → ℕ → ℕ → List FramesEntry → Type 0
 AnswersTable fdes old zero count new =
-    IsTableOf fdes (take count new) × (entries_apart (take count new) ≡ true)
-    × FindsAsSection fdes (take count new)
-AnswersTable fdes old (suc zero) count new = (length old < length fdes) × (new ≡ old)
+    (length fdes ≤ length old) × IsTableOf fdes (take count new)
+    × (entries_apart (take count new) ≡ true) × FindsAsSection fdes (take count new)
+AnswersTable fdes old (suc zero) count new =
+    (length old < length fdes) × (count ≡ 0) × (new ≡ old)
 AnswersTable fdes old (suc (suc n)) count new =
-    (n ≡ 0) × IsTableOf fdes (take count new) × (entries_apart (take count new) ≡ false)
+    (n ≡ 0) × (length fdes ≤ length old) × IsTableOf fdes (take count new)
+    × (entries_apart (take count new) ≡ false)
 
 -- What a search among entries finds: one that has the address, and the only one where the entries
 -- are a table.

@@ -20,7 +20,7 @@ const NO_ROW: FramesRow = FramesRow {
 
 /// Writes the row of an address, or that no FDE covers it.
 fn write_row(section: &LoadedSection, pc: u64, out: &mut FramesRow)
-    ensures { IsBatchRow section.now pc out.new }
+    ensures { IsBatchRow section.now.section pc out.new }
 {
     if !row_in(section, pc, out) {
         *out = NO_ROW;
@@ -30,7 +30,7 @@ fn write_row(section: &LoadedSection, pc: u64, out: &mut FramesRow)
 /// Writes the row of each address in its place.
 fn write_rows(section: &LoadedSection, pcs: &[u64], rows: &mut [FramesRow])
     requires { length rows.old ≡ length pcs.now }
-    ensures rows { AreRowsBelow (length pcs.now) section.now pcs.now rows.new }
+    ensures rows { AreRowsBelow (length pcs.now) section.now.section pcs.now rows.new }
     ensures length { length rows.new ≡ length pcs.now }
 {
     for index in 0..pcs.len() {

@@ -53,9 +53,9 @@ fn flag(holds: bool) -> u8
 
 /// Writes the FDE of an address, where there is one.
 fn find(section: &LoadedSection, pc: u64, out: &mut FramesFde) -> bool
-    ensures found { result ≡ is_there (first_cover pc section.now.fdes) }
+    ensures found { result ≡ is_there (first_cover pc section.now.section.fdes) }
     ensures fde { out.new
-        ≡ unwrap_or (option_map fde_told (first_cover pc section.now.fdes)) out.old }
+        ≡ unwrap_or (option_map fde_told (first_cover pc section.now.section.fdes)) out.old }
 {
     match section.fde_at(pc) {
         None => false,

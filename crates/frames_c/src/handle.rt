@@ -4,8 +4,7 @@
 ghost use Rattle.std.specs.Prelude.{◌≡◌, Option, Some};
 ghost use Rattle.std.specs.Coded.{coded_option};
 ghost use Rattle.c_handle.specs.Handles.{handle_owns};
-ghost use Rattle.frame_parse.specs.Sections.{SectionData};
-ghost use Rattle.frames_c.specs.Held.{IsHeld};
+ghost use Rattle.frames_c.specs.Held.{LoadedData, IsHeld};
 ghost use Rattle.frames_c.specs.contracts.share.SectionShare.{the_row};
 
 use crate::share::SectionShare;
@@ -19,7 +18,7 @@ use std::marker::{Model, Send};
 #[derive(Drop)]
 pub struct SectionHandle {
     at: *mut u8,
-    pub ghost held: { Option SectionData } by { coded_option the_row.coded },
+    pub ghost held: { Option LoadedData } by { coded_option the_row.coded },
 }
 
 impl Model for SectionHandle {

@@ -68,37 +68,36 @@ fn read_table(
     }
 }
 
-/// A section with the table of its header, where the header is accepted. What came of that is told.
+/// A section with the table of its header, where the header is accepted, and what came of that.
 fn with_table(
     alloc: Global,
     section: Section,
     address: u64,
     bytes: &[u8],
-    told: &mut FramesHeader,
-) -> LoadedSection
+) -> (LoadedSection, FramesHeader)
     requires { length section.bytes < 2 ^ 32 }
-    ensures section { result ≡ section }
-    ensures told { IsHeaderTold address section bytes.now told.new }
+    ensures section { result.0.section ≡ section }
+    ensures told { IsHeaderTold address result.0 bytes.now result.1 }
 {
     match read_table(alloc, address, bytes, &section) {
         Ok(table) => {
-            *told = FramesHeader {
+            let told = FramesHeader {
                 accepted: 1,
                 kind: 0,
                 at: 0,
             };
-            LoadedSection::new(section, Some(table))
+            (LoadedSection::new(section, Some(table)), told)
         }
         Err(fault) => {
-            *told = FramesHeader::refused(fault);
-            LoadedSection::new(section, None)
+            let told = FramesHeader::refused(fault);
+            (LoadedSection::new(section, None), told)
         }
     }
 }
 
 /// Reads the section whose bytes stand at an address, and then the header at another, whose table
-/// serves the lookups. What came of the header is told where there is a section. Where the header
-/// is refused, the section's own order serves.
+/// is kept and serves the lookups. What came of the header is told where there is a section. Where
+/// the header is refused, the section's own order serves.
 #[unsafe(no_mangle)]
 pub extern "C" fn frames_c_read_with_header(
     alloc: Global,
@@ -114,7 +113,9 @@ pub extern "C" fn frames_c_read_with_header(
     ensures section { result ≡ true → LeadsToLoaded address bytes.now out.new.held }
     ensures header { result ≡ true
         → LeadsWithHeader header_address header.now out.new.held told.new }
+    ensures unrefused { result ≡ true → refusal.new ≡ refusal.old }
     ensures refusal { result ≡ false → IsToldRefusal address bytes.now refusal.new }
+    ensures untold { result ≡ false → told.new ≡ told.old }
     ensures nothing { result ≡ false → IsVacant out.new.held }
 {
     let section = match read_section(alloc, address, bytes) {
@@ -124,9 +125,10 @@ pub extern "C" fn frames_c_read_with_header(
             return false;
         }
     };
-    let loaded = with_table(alloc, section, header_address, header, told);
+    let (loaded, came) = with_table(alloc, section, header_address, header);
     match shared(alloc, loaded) {
         Ok(share) => {
+            *told = came;
             *out = SectionHandle::of(share);
             true
         }

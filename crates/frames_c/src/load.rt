@@ -1,10 +1,10 @@
 //! Sections are read, shared and freed.
 
-ghost use Rattle.std.specs.Prelude.{◌≡◌, true, false, length, IfOk, IfErr, IfSome};
+ghost use Rattle.std.specs.Prelude.{◌≡◌, true, false, length, None, IfOk, IfErr, IfSome};
 ghost use Rattle.frame_parse.specs.declared.fault.FrameFault.TheVariants.{NoMemory};
 ghost use Rattle.frames_c.specs.declared.refusal.LoadFault.TheVariants.{Frames};
 ghost use Rattle.frames_c.specs.Held.{IsHeld, IsVacant, held_section};
-ghost use Rattle.frames_c.specs.Loads.{IsLoaded, LeadsToLoaded};
+ghost use Rattle.frames_c.specs.Loads.{IsLoaded, LeadsToLoaded, HasNoTable};
 ghost use Rattle.frames_c.specs.Refusals.{IsLoadFault, IsToldRefusal};
 
 use crate::handle::SectionHandle;
@@ -46,7 +46,8 @@ pub(crate) fn shared(
 }
 
 fn load(alloc: Global, address: u64, bytes: &[u8]) -> Result<Box<SectionShare, Global>, LoadFault>
-    ensures loaded { IfOk result (λ share. IsLoaded address bytes.now share.value) }
+    ensures loaded { IfOk result (λ share. IsLoaded address bytes.now share.value.section) }
+    ensures table { IfOk result (λ share. share.value.table ≡ None) }
     ensures fault { IfErr result (IsLoadFault address bytes.now) }
 {
     let section = read_section(alloc, address, bytes)?;
@@ -64,6 +65,7 @@ pub extern "C" fn frames_c_read(
 ) -> bool
     requires out { IsVacant out.old.held }
     ensures section { result ≡ true → LeadsToLoaded address bytes.now out.new.held }
+    ensures table { result ≡ true → HasNoTable out.new.held }
     ensures unrefused { result ≡ true → refusal.new ≡ refusal.old }
     ensures refusal { result ≡ false → IsToldRefusal address bytes.now refusal.new }
     ensures nothing { result ≡ false → IsVacant out.new.held }

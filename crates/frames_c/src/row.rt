@@ -92,7 +92,7 @@ fn write_row(fde: &Fde<'_>, pc: u64, out: &mut FramesRow)
 
 /// Writes the row of an address, where an FDE covers it.
 pub(crate) fn row_in(section: &LoadedSection, pc: u64, out: &mut FramesRow) -> bool
-    ensures { AnswersRow (fde_in pc section.now) pc result out.old out.new }
+    ensures { AnswersRow (fde_in pc section.now.section) pc result out.old out.new }
 {
     match section.fde_at(pc) {
         None => false,

@@ -31,18 +31,18 @@ impl Model for RowsOfSection {
 
     ghost Value = { SectionData };
 
-    ghost view = { λ r. r.share };
+    ghost view = { λ r. r.share.section };
 
-    ghost invariant = { λ r. IsRowTableOf r.share r.table
+    ghost invariant = { λ r. IsRowTableOf r.share.section r.table
         × AllZip IsToldPlaced r.table.rows.distinct r.told.items };
 }
 
 impl RowsOfSection {
     /// Makes the table.
     pub(crate) fn of(alloc: Global, share: SectionShare) -> Result<RowsOfSection, TableFault>
-        ensures rows { IfOk result (λ rows. rows ≡ share) }
+        ensures rows { IfOk result (λ rows. rows ≡ share.section) }
         ensures refused { IfErr result (λ fault. (fault ≡ TableFault.NoMemory)
-            ⊎ HasTooManyRows share) }
+            ⊎ HasTooManyRows share.section) }
     {
         let table = RowTable::of(alloc, share.loaded().section())?;
         let told = told_rows(alloc, table.distinct())?;

@@ -22,11 +22,11 @@ pub struct LoadedSection {
 impl Model for LoadedSection {
     ghost use Rattle.std.specs.Prelude.{◌<◌, ◌^◌, length, IfSome};
     ghost use Rattle.eh_hdr.specs.Tables.{IsSortedTable};
-    ghost use Rattle.frame_parse.specs.Sections.{SectionData};
+    ghost use Rattle.frames_c.specs.Held.{LoadedData};
 
-    ghost Value = { SectionData };
+    ghost Value = { LoadedData };
 
-    ghost view = { λ l. l.section };
+    ghost view = { λ l. record { section = l.section; table = l.table } };
 
     ghost invariant = { λ l. (length l.section.bytes < 2 ^ 32)
         × IfSome l.table (IsSortedTable l.section.fdes) };
@@ -36,22 +36,22 @@ impl LoadedSection {
     pub(crate) fn new(section: Section, table: Option<SearchTable>) -> LoadedSection
         requires short { length section.bytes < 2 ^ 32 }
         requires table { IfSome table (IsSortedTable section.fdes) }
-        ensures { result ≡ section }
+        ensures { result ≡ record { section = section; table = table } }
     {
         LoadedSection { section, table }
     }
 
     pub(crate) fn section(&self) -> &Section
-        ensures { result.now ≡ self.now }
+        ensures { result.now ≡ self.now.section }
     {
         &self.section
     }
 
     /// The first FDE in order of bytes that covers an address, by the table where there is one.
     pub(crate) fn fde_at(&self, pc: u64) -> Option<Fde<'_>>
-        ensures entry { option_map (λ f. f.entry) result ≡ first_cover pc self.now.fdes }
+        ensures entry { option_map (λ f. f.entry) result ≡ first_cover pc self.now.section.fdes }
         ensures section { IfSome result
-            (λ f. (f.section ≡ self.now.address) × (f.bytes ≡ self.now.bytes)) }
+            (λ f. (f.section ≡ self.now.section.address) × (f.bytes ≡ self.now.section.bytes)) }
         ensures place { IfSome result (λ f. f.entry.start < 2 ^ 32) }
     {
         self.section.known();
@@ -70,9 +70,9 @@ pub struct SectionShare {
 
 impl Model for SectionShare {
     ghost use Rattle.std.specs.Arc.{arc_value};
-    ghost use Rattle.frame_parse.specs.Sections.{SectionData};
+    ghost use Rattle.frames_c.specs.Held.{LoadedData};
 
-    ghost Value = { SectionData };
+    ghost Value = { LoadedData };
 
     ghost view = { λ s. arc_value s.loaded };
 }

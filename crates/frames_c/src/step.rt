@@ -60,7 +60,7 @@ impl FramesFrame {
 
 /// Makes of a frame the one before it.
 fn step_in(section: &LoadedSection, memory: &Memory, frame: &mut FramesFrame) -> u64
-    ensures { AnswersStep section.now memory.now frame.old result frame.new }
+    ensures { AnswersStep section.now.section memory.now frame.old result frame.new }
 {
     let look = frame.look();
     match section.fde_at(look) {

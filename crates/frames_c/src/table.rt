@@ -84,7 +84,8 @@ fn order(entries: &mut [FramesEntry]) -> bool
 
 /// Makes the table of a section. What came of it, and of how many entries it is.
 fn table(section: &Section, entries: &mut [FramesEntry]) -> (u64, usize)
-    ensures { AnswersTable section.now.fdes entries.old result.0 result.1 entries.new }
+    ensures table { AnswersTable section.now.fdes entries.old result.0 result.1 entries.new }
+    ensures room { result.1 ≤ length entries.old }
 {
     if entries.len() < section.count() {
         return (1, 0);
@@ -113,6 +114,7 @@ pub extern "C" fn frames_c_table(
     ensures back { back.new.held ≡ section.held }
     ensures table { AnswersTable (held_section section.held).fdes entries.old result count.new
         entries.new }
+    ensures room { count.new ≤ length entries.old }
 {
     let share = section.open(alloc);
     let (made, entries_made) = table(share.loaded().section(), entries);
