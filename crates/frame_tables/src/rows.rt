@@ -6,7 +6,7 @@ ghost use Rattle.row_table.specs.Tables.{IsRowTableOf};
 use crate::rules::{cfa_rule, rule};
 use crate::sections::fde_of;
 use crate::tables::Tables;
-use crate::words::{Refusal, Words};
+use crate::words::{Refusal, Wanted, Words, refuse};
 use frame_parse::Section;
 use frame_rows::{PlacedRow, Row, Rule, RuleWith, initial_row, row_at};
 use row_table::{RowTable, TableFault};
@@ -65,13 +65,14 @@ pub fn applied(tables: &Tables, words: &Words<'_>, text: &mut String) -> Result<
     tell_placed_row(&row, text)
 }
 
-/// The table of a section.
+/// The table of the section that the word after the question names.
 pub fn table_of(alloc: Global, section: &Section) -> Result<RowTable, Refusal>
     ensures { IfOk result (IsRowTableOf section.now) }
 {
     match RowTable::of(alloc, section) {
         Ok(table) => Ok(table),
-        Err(TableFault::NoMemory | TableFault::TooManyRows) => Err(Refusal::NO_MEMORY),
+        Err(TableFault::TooManyRows) => Err(refuse(1, Wanted::FewerRows)),
+        Err(TableFault::NoMemory) => Err(Refusal::NO_MEMORY),
     }
 }
 

@@ -30,6 +30,8 @@ pub enum Wanted {
     Column,
     /// The name of an accepted section.
     Section,
+    /// The name of a section of which at most 65,536 rows differ.
+    FewerRows,
     /// The name of an accepted header.
     Header,
     /// An accepted section's name, a first address and a size, as `S1:1000:30`.
@@ -52,6 +54,7 @@ impl fmt::Display for Wanted {
             Wanted::Field => "a field",
             Wanted::Column => "a column and its number",
             Wanted::Section => "an accepted section",
+            Wanted::FewerRows => "a section with fewer rows",
             Wanted::Header => "an accepted header",
             Wanted::Image => "an image",
             Wanted::End => "the end of the line",
