@@ -14,9 +14,10 @@ use Rattle.frame_parse.specs.declared.instructions.Operation.TheVariants as oper
 use Rattle.frame_parse.specs.declared.program_state.State.{State}
 use Rattle.frame_parse.specs.declared.instructions.context.ProgramKind.TheVariants.{Initial, Own}
 use Rattle.eh_bytes.specs.Grammar.{given, found}
-use Rattle.frame_parse.specs.Programs.{most_remembered, context_of, effect_of, effect, step, top, below_top, initial_state, first_state, HasPlacedSteps, IsExtent, HasPrograms}
+use Rattle.frame_parse.specs.Programs.{most_remembered, context_of, effect_of, effect, step, top, below_top, initial_state, first_state, PlacedProgramData, HasPlacedSteps, initial_of, text_in, IsExtent, HasPrograms}
+use Rattle.frame_parse.specs.Steps.{left_of_initial, HaveOneCie, HaveOneProgram}
 use Rattle.eh_bytes.specs.Steps.{AreSteps}
-use Rattle.frame_parse.specs.Sections.{AreRecords, fdes_of, IsSection, HasFdes, covers, first_cover}
+use Rattle.frame_parse.specs.Sections.{FdeData, AreRecords, fdes_of, IsSection, HasFdes, covers, first_cover}
 use Rattle.frame_parse.specs.Records.{cie, fde, cie_from, cie_after, content, record_at, whole_record}
 
 -- ---- what a step doesn't look at
@@ -56,11 +57,22 @@ step_at section l p c s m front x a =
     (a.0, a.1, a.2, a.3, a.4, (b.0, b.1, b.2, b.3, b.4, (moved l d.0, d.1, d.2, d.3, effect_at section a.0 l _ c s d.0 b.0 d.1 d.4, (d.5.0, ap both d.5.1))))
 
 AreSteps_at : (section l : ℕ) (c : CieRecord) (p : ℕ) (s : State) (text : List ℕ) (steps : List PlacedStep) (t : State) → AreSteps (step (context_of section c Initial)) p s text steps t
-    → (others : List PlacedStep) × AreSteps (step (context_of section c Initial)) p (moved l s) text others (moved l t)
-AreSteps_at section l c p s text [] t a = ([], (a.0, ap (moved l) a.1))
+    → (others : List PlacedStep) × AreSteps (step (context_of section c Initial)) p (moved l s) text others (moved l t) × HaveOneProgram others steps
+AreSteps_at section l c p s text [] t a = ([], (a.0, ap (moved l) a.1), refl)
 AreSteps_at section l c p s text (x ∷ xs) t a =
     let later = AreSteps_at section l c (p + length a.1) a.0 a.2 xs t a.5 in
-    (record x { location = l } ∷ later.0, (moved l a.0, a.1, a.2, a.3, step_at section l p c s a.0 a.1 x a.4, later.1))
+    (record x { location = l } ∷ later.0, (moved l a.0, a.1, a.2, a.3, step_at section l p c s a.0 a.1 x a.4, later.1), ap (λ (k : List PlacedInstruction). x.instruction ∷ k) later.2)
+
+-- the initial instructions of two FDEs with one CIE
+pub initial_alike : (f g : FdeData) (steps : List PlacedStep) → HaveOneCie f g → HasPlacedSteps (left_of_initial f) steps → (others : List PlacedStep) × HasPlacedSteps (left_of_initial g) others × HaveOneProgram others steps
+unfolding HasPlacedSteps
+initial_alike f g steps one has =
+    let there = AreSteps_at f.section g.entry.first f.entry.cie f.entry.cie.initial.at (record initial_state { location = f.entry.first }) (text_in f.bytes f.entry.cie.initial) steps has.0 has.1 in
+    let program : ℕ → List ℕ → CieRecord → PlacedProgramData = λ section bytes c. initial_of section (record g.entry { cie = c }) (text_in bytes c.initial) in
+    let here : HasPlacedSteps (program f.section f.bytes f.entry.cie) there.0 = (moved g.entry.first has.0, there.1) in
+    let by_section = subst (λ (k : ℕ). HasPlacedSteps (program k f.bytes f.entry.cie) there.0) one.section here in
+    let by_bytes = subst (λ (k : List ℕ). HasPlacedSteps (program g.section k f.entry.cie) there.0) one.bytes by_section in
+    (there.0, subst (λ (k : CieRecord). HasPlacedSteps (program g.section g.bytes k) there.0) one.cie by_bytes, there.2)
 
 -- ---- where programs stand
 

@@ -9,5 +9,6 @@ pub mod Kept
 pub mod Orders
 pub mod Blocks
 pub mod Lookups
+pub mod Pieces
 pub mod LentSteps
 pub mod Places

@@ -1,5 +1,5 @@
 -- Ranges that are apart: at most one has an address. So the one that has it is the first FDE's that covers it.
-use Rattle.std.proofs.Common.{map, drop, Option, ◌≡◌, ℕ, zero, suc, ◌+◌, ◌-◌, ◌*◌, ◌<◌, ◌≤◌, Bool, cond, List, [], ◌∷◌, length, get_or, true, false, Some, None, nat_le, nat_lt, refl, sym, ap, subst, ◌∙◌, arith, inl, inr, leb-true, leb-false, ltb-true, le-ltb}
+use Rattle.std.proofs.Common.{map, Option, ◌≡◌, ℕ, zero, suc, ◌+◌, ◌-◌, ◌*◌, ◌<◌, ◌≤◌, Bool, cond, List, [], ◌∷◌, length, get_or, true, false, Some, None, nat_le, nat_lt, refl, sym, ap, subst, ◌∙◌, arith, inl, inr, leb-true, leb-false, ltb-true, le-ltb}
 use Rattle.std.proofs.lemmas.Bool.{and_parts, and_left, and_right, cases_lt, lt-leb}
 use Rattle.std.specs.List.{All, Contains, find}
 use Rattle.std.specs.Prelude.{slice_get, option_and_then, IfNone, IfSome}
@@ -241,12 +241,6 @@ one_covers pc fs rs r d h up here e =
     )
 
 -- ---- by their numbers
-
--- the FDE with an index is the first that covers the address from there on
-pub find-here : (pc : ℕ) (fs : List FdeEntry) (i : ℕ) (d : FdeEntry) → i < length fs → entry_covers pc (get_or fs i d) ≡ true → slice_get fs i ≡ find (entry_covers pc) (drop i fs)
-find-here pc [] i d lt e = absurd (omega arith)
-find-here pc (f ∷ fs) zero d lt e = rw e refl
-find-here pc (f ∷ fs) (suc i) d lt e = find-here pc fs i d (omega arith) e
 
 no_entry : FdeEntry
 no_entry = record { start = 0; cie = 0; first = 0; range = 0; lsda = None; program = record { at = 0; end = 0 } }

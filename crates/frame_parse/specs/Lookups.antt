@@ -1,12 +1,13 @@
--- The FDEs of a section in order of addresses, where no address is covered twice: then the first
--- FDE that covers an address is the only one, and is found by halving.
-use Rattle.std.specs.Prelude.{◌≡◌, ℕ, ◌+◌, ◌<◌, List, [], ◌∷◌, length, get_or, Bool, true, nat_le}
-use Rattle.std.specs.Prelude.{nat_lt, ◌&&◌, ⊤}
+-- How the first FDE that covers an address is found. Where no address is covered twice it is the
+-- only one, and the FDEs stand in order of addresses; else the addresses stand in pieces.
+use Rattle.std.specs.Prelude.{◌≡◌, ℕ, ◌+◌, ◌<◌, ◌≤◌, ◌^◌, List, [], ◌∷◌, length, get_or, Bool, true}
+use Rattle.std.specs.Prelude.{nat_le, nat_lt, ◌&&◌, Option, Some, None, if◌then◌else◌}
 use Rattle.std.specs.List.{All, Contains}
 use Rattle.frame_parse.specs.declared.records.FdeEntry.{FdeEntry}
 use Rattle.frame_parse.specs.declared.fde_lookup.CoveredRange.{CoveredRange}
 use Rattle.frame_parse.specs.declared.fde_lookup.Lookup.{Lookup}
-use Rattle.frame_parse.specs.declared.fde_lookup.Lookup.TheVariants.{Ordered, Walk}
+use Rattle.frame_parse.specs.declared.fde_lookup.Lookup.TheVariants.{Ordered, Pieces}
+use Rattle.frame_parse.specs.declared.cover_pieces.CoverPiece.{CoverPiece}
 
 -- the range of an FDE, with the FDE's number
 abbrev pub range_of : ℕ → FdeEntry → CoveredRange
@@ -37,8 +38,48 @@ holds pc r = nat_le r.first pc && nat_lt pc (r.first + r.range)
 abbrev pub entry_covers : ℕ → FdeEntry → Bool
 entry_covers pc f = nat_le f.first pc && nat_lt pc (f.first + f.range)
 
--- the way of finding finds among these FDEs
+-- ---- pieces, from the highest addresses down
+
+-- the number of the first of these FDEs that covers an address, where theirs begin at n
+abbrev pub cover_number : ℕ → ℕ → List FdeEntry → Option ℕ
+cover_number pc n [] = None
+cover_number pc n (f ∷ fs) = if entry_covers pc f then Some n else cover_number pc (n + 1) fs
+
+-- the number in the first piece that begins up to an address; below them all another
+abbrev pub piece_number : ℕ → List CoverPiece → Option ℕ → Option ℕ
+piece_number pc [] below = below
+piece_number pc (x ∷ xs) below = if nat_le x.first pc then x.fde else piece_number pc xs below
+
+-- the number of an earlier FDE, else that of a later one
+abbrev pub number_or : Option ℕ → Option ℕ → Option ℕ
+number_or (Some n) later = Some n
+number_or None later = later
+
+-- none of these pieces begins above an address
+abbrev pub IsUpTo : ℕ → List CoverPiece → Type 0
+IsUpTo address [] = Unit {0}
+IsUpTo address (x ∷ xs) = (x.first ≤ address) × IsUpTo address xs
+
+-- none begins above one before it
+abbrev pub Falls : List CoverPiece → Type 0
+Falls [] = Unit {0}
+Falls (x ∷ xs) = IsUpTo x.first xs × Falls xs
+
+-- these pieces tell of each address which of these FDEs covers it first
+pub record TellsCovers (n : ℕ) (fdes : List FdeEntry) (pieces : List CoverPiece) : Type 0 where
+  pub falls : Falls pieces
+  pub tells : (pc : ℕ) → pc < 2 ^ 64 → piece_number pc pieces None ≡ cover_number pc n fdes
+
+-- these pieces tell what earlier ones do, and else what later ones do
+pub record IsOverlay (earlier later pieces : List CoverPiece) : Type 0 where
+  pub falls : Falls pieces
+  pub tells : (pc : ℕ)
+      → piece_number pc pieces None
+      ≡ number_or (piece_number pc earlier None) (piece_number pc later None)
+
+-- ---- the way of finding finds among these FDEs
+
 abbrev pub Finds : List FdeEntry → Lookup → Type 0
 Finds fdes (Ordered ranges) =
     HasRanges fdes (length fdes) ranges.items × (are_apart ranges.items ≡ true)
-Finds fdes Walk = ⊤
+Finds fdes (Pieces pieces) = TellsCovers 0 fdes pieces.items

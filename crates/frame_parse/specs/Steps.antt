@@ -33,3 +33,14 @@ initial_in f = record { bytes = f.bytes; left = left_of_initial f }
 
 abbrev pub program_in : FdeData → ProgramData
 program_in f = record { bytes = f.bytes; left = left_of_program f }
+
+-- FDEs of one section with one CIE
+pub record HaveOneCie (f g : FdeData) : Type 0 where
+  pub section : f.section ≡ g.section
+  pub bytes : f.bytes ≡ g.bytes
+  pub cie : f.entry.cie ≡ g.entry.cie
+
+-- steps with the same instructions, wherever these hold
+abbrev pub HaveOneProgram : List PlacedStep → List PlacedStep → Type 0
+HaveOneProgram xs ys =
+    map (λ (x : PlacedStep). x.instruction) xs ≡ map (λ (x : PlacedStep). x.instruction) ys

@@ -82,6 +82,14 @@ impl<'a> Fde<'a> {
         self.entry.range
     }
 
+    /// Its CIE.
+    #[inline(always)]
+    pub fn cie(&self) -> &'a CieRecord
+        ensures { result.now ≡ self.now.entry.cie }
+    {
+        self.cie
+    }
+
     /// Whether the frame is one that a signal interrupted.
     pub fn signal(&self) -> bool
         ensures { result ≡ self.now.entry.cie.augmentation.signal }

@@ -1,15 +1,16 @@
 //! Which FDE covers an address. The FDEs of most sections share no address, so their ranges are put
 //! in order when the section is read, and then a lookup passes by most of those that are left at
-//! each step. Where two share one, the FDEs are gone through in order of bytes.
+//! each step. Where two share one, the addresses are put in order in pieces (`cover_pieces`).
 
 ghost use Rattle.std.specs.Prelude.{◌≡◌, ◌<◌, ◌^◌, length, map, true, false, nat_le, if◌then◌else◌};
 ghost use Rattle.std.specs.Prelude.{IfOk, IfNone, IfSome, Some, slice_get, option_and_then};
-ghost use Rattle.std.specs.List.{All, Contains, find};
+ghost use Rattle.std.specs.List.{All, Contains};
 ghost use Rattle.frame_parse.specs.Entries.{fde_among, with_cie, HasCie};
 ghost use Rattle.frame_parse.specs.Sections.{first_cover};
 ghost use Rattle.frame_parse.specs.declared.fde_lookup.CoveredRange.{CoveredRange};
-ghost use Rattle.frame_parse.specs.Lookups.{HasRanges, are_apart, holds, entry_covers};
+ghost use Rattle.frame_parse.specs.Lookups.{HasRanges, are_apart, holds, Finds};
 
+use crate::cover_pieces::{CoverPiece, piece_cover, pieces_of};
 use crate::records::{CieRecord, FdeEntry, cie_at};
 use std::alloc::{AllocError, Global};
 use std::marker::Model;
@@ -27,8 +28,8 @@ pub struct CoveredRange {
 pub enum Lookup {
     /// No two ranges share an address. They stand in order of addresses, without the empty ones.
     Ordered(Vec<CoveredRange>),
-    /// The FDEs are gone through.
-    Walk,
+    /// The addresses in pieces, from the highest down.
+    Pieces(Vec<CoverPiece>),
 }
 
 /// The FDEs of a section in order of bytes, their CIEs, and how an FDE is found.
@@ -62,13 +63,7 @@ impl FdeList {
         requires { All (HasCie (length cies.items)) fdes.items }
         ensures { IfOk result (λ list. list ≡ map (fde_among cies.items) fdes.items) }
     {
-        let mut ranges = ranges_of(alloc, &fdes)?;
-        ranges.sort_unstable_by_key(|range| range.first);
-        let lookup = if are_apart(&ranges) {
-            Lookup::Ordered(ranges)
-        } else {
-            Lookup::Walk
-        };
+        let lookup = lookup_of(alloc, &fdes)?;
         Ok(FdeList { cies, fdes, lookup })
     }
 
@@ -94,7 +89,7 @@ impl FdeList {
     {
         match &self.lookup {
             Lookup::Ordered(ranges) => ordered_cover(ranges, pc),
-            Lookup::Walk => first_cover(&self.fdes, pc),
+            Lookup::Pieces(pieces) => piece_cover(pieces, pc),
         }
     }
 }
@@ -128,6 +123,19 @@ fn ranges_of(alloc: Global, fdes: &[FdeEntry]) -> Result<Vec<CoveredRange>, Allo
         }
     }
     Ok(ranges)
+}
+
+/// How FDEs are found among these.
+fn lookup_of(alloc: Global, fdes: &[FdeEntry]) -> Result<Lookup, AllocError>
+    ensures { IfOk result (Finds fdes.now) }
+{
+    let mut ranges = ranges_of(alloc, fdes)?;
+    ranges.sort_unstable_by_key(|range| range.first);
+    if are_apart(&ranges) {
+        return Ok(Lookup::Ordered(ranges));
+    }
+    let pieces = pieces_of(alloc, fdes, 0)?;
+    Ok(Lookup::Pieces(pieces))
 }
 
 /// Whether each range ends before the next begins.
@@ -197,23 +205,4 @@ fn ordered_cover(ranges: &[CoveredRange], pc: u64) -> Option<usize>
     } else {
         None
     }
-}
-
-fn covers(fde: &FdeEntry, pc: u64) -> bool
-    ensures { result ≡ entry_covers pc fde.now }
-{
-    fde.first <= pc && pc - fde.first < fde.range
-}
-
-/// The number of the first FDE that covers an address.
-fn first_cover(fdes: &[FdeEntry], pc: u64) -> Option<usize>
-    ensures value { option_and_then (slice_get fdes.now) result ≡ find (entry_covers pc) fdes.now }
-    ensures within { IfSome result (λ i. i < length fdes.now) }
-{
-    for (index, fde) in fdes.iter().enumerate() {
-        if covers(fde, pc) {
-            return Some(index);
-        }
-    }
-    None
 }

@@ -7,6 +7,7 @@
 #![tactic(auto)]
 
 mod cie_lookup;
+mod cover_pieces;
 mod fault;
 mod fde;
 mod fde_lookup;
@@ -24,7 +25,7 @@ pub use instructions::{
     Context, Instruction, InstructionWith, Operation, PlacedInstruction, PlacedReadRule,
     PlacedStep, ProgramKind, ReadRule, ReadRuleWith, Step, StepWith, lent_expr,
 };
-pub use laws::steps_are_ordered;
+pub use laws::{initial_instructions_are_the_cies, steps_are_ordered};
 pub use placed_program::PlacedProgram;
 pub use program::Program;
 pub use program_state::{Remembered, State};
