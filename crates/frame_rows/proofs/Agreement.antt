@@ -122,7 +122,7 @@ cfa_fold base s (i ∷ is) = cfa_fold base (rows_step base s i) is ∙ ap (λ (c
 
 -- ---- both programs
 
-all_up_to : (location : ℕ) (steps : List PlacedStep) → AreAt location steps → up_to location steps ≡ steps
+pub all_up_to : (location : ℕ) (steps : List PlacedStep) → AreAt location steps → up_to location steps ≡ steps
 all_up_to location [] a = refl
 all_up_to location (x ∷ xs) a =
     let here : nat_le x.location location ≡ true = le-leb _ _ (omega (arith, a.0)) in

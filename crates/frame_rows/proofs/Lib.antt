@@ -5,3 +5,4 @@ pub mod Expressions
 pub mod Told
 pub mod LentRows
 pub mod PlacedRows
+pub mod InitialRows

@@ -78,3 +78,8 @@ HasPlacedInitial f steps = HasPlacedSteps (left_of_initial f) steps
 
 abbrev pub HasPlacedProgram : FdeData → List PlacedStep → Type 0
 HasPlacedProgram f steps = HasPlacedSteps (left_of_program f) steps
+
+-- a row is the one that the initial instructions of an FDE leave
+abbrev pub IsInitialRow : FdeData → PlacedRow → Type 0
+IsInitialRow f row = (initial : List PlacedStep) → HasPlacedInitial f initial
+    → row ≡ base_row f.entry.first initial

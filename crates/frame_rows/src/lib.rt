@@ -12,7 +12,7 @@ mod row;
 mod rule;
 mod walk;
 
-pub use laws::placed_rows_are_rows;
+pub use laws::{initial_rows_are_the_cies, placed_rows_are_rows};
 pub use placed_row::PlacedRow;
 pub use row::Row;
 pub use rule::{CfaRule, CfaRuleWith, PlacedCfaRule, PlacedRule, Rule, RuleWith};

@@ -5,7 +5,7 @@ ghost use Rattle.std.specs.Prelude.{false, true};
 ghost use Rattle.frame_parse.specs.Instructions.{PlacedStep, StepData};
 ghost use Rattle.frame_rows.specs.declared.placed_row.PlacedRow.{PlacedRow};
 ghost use Rattle.frame_rows.specs.Columns.{HasInitial, HasProgram, rule_at, cfa_at};
-ghost use Rattle.frame_rows.specs.Rows.{HasPlacedInitial, HasPlacedProgram};
+ghost use Rattle.frame_rows.specs.Rows.{HasPlacedInitial, HasPlacedProgram, IsInitialRow};
 ghost use Rattle.frame_rows.specs.Rows.{base_row, beside, rows_after, unset};
 ghost use Rattle.frame_rows.specs.RowAt.{IsPlacedRowAt};
 ghost use Rattle.frame_rows.specs.Walk.{GoesOn, Walks};
@@ -117,8 +117,7 @@ fn set_initial(fde: &Fde<'_>, row: &mut PlacedRow)
 /// The row that the initial instructions leave, which restores of a program give back.
 #[inline(never)]
 pub fn initial_row(fde: &Fde<'_>) -> PlacedRow
-    ensures { (initial : List PlacedStep) → HasPlacedInitial fde.now initial
-        → result ≡ base_row fde.now.entry.first initial }
+    ensures { IsInitialRow fde.now result }
 {
     let mut row = PlacedRow::unset();
     set_initial(fde, &mut row);
