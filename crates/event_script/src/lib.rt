@@ -15,6 +15,7 @@ mod reader;
 mod script;
 
 pub use journal::{Answer, Journal};
+pub use limits::MOST_LOADS;
 pub use print::fault::print_fault;
 pub use print::journal::{
     EventNumber, line_count, print_answer, print_journal, print_line, print_updates,

@@ -9,6 +9,9 @@ use Rattle.event_script.specs.ScriptData.{ScriptData, SnapshotData}
 use Rattle.event_script.specs.declared.script.Event.{Event}
 use Rattle.event_script.specs.declared.script.Event.TheVariants.{Register, Deregister, Load, Unload}
 use Rattle.event_script.specs.declared.script.Event.TheVariants.{Find, Unwind}
+use Rattle.event_script.specs.declared.limits.TheConstants.{MOST_LOADS}
+use Rattle.script_generator.specs.declared.generating.TheConstants.{NODES}
+use Rattle.script_generator.specs.declared.images.TheConstants.{MOST_COUNT, THREADS}
 use Rattle.script_generator.specs.declared.events.Phase.{Phase}
 use Rattle.script_generator.specs.declared.events.Phase.TheVariants.{Adding, FindingEnds}
 use Rattle.script_generator.specs.declared.events.Phase.TheVariants.{RemovingEven, FindingBases}
@@ -27,12 +30,12 @@ generated_span thread image = record {
   last = generated_base thread image + 47;
 }
 
--- the images of a thread by their numbers in it, and the four threads, from 0 upwards
+-- the images of a thread by their numbers in it, and the threads, from 0 upwards
 abbrev pub images_up : ℕ → List ℕ
 images_up count = range_with_len 0 count
 
 abbrev pub generator_threads : List ℕ
-generator_threads = range_with_len 0 4
+generator_threads = range_with_len 0 THREADS
 
 -- all images, those of each thread after those of the one before
 abbrev pub generated_images : List ℕ → List SpanData
@@ -103,8 +106,8 @@ generated_events count thread =
 -- ---- the script
 
 pub record IsGenerated (count : ℕ) (script : ScriptData) : Type 0 where
-  pub nodes : script.nodes ≡ 4096
-  pub loads : script.loads ≡ 1024
+  pub nodes : script.nodes ≡ NODES
+  pub loads : script.loads ≡ MOST_LOADS
   pub images : script.images ≡ generated_images (images_up count)
   pub sections : AreGeneratedSections script.images script.sections
   pub fixed : script.fixed ≡ []
@@ -113,7 +116,7 @@ pub record IsGenerated (count : ℕ) (script : ScriptData) : Type 0 where
 
 -- how many images a thread there may be
 abbrev pub IsImageCount : ℕ → Type 0
-IsImageCount count = (1 ≤ count) × (count ≤ 500)
+IsImageCount count = (1 ≤ count) × (count ≤ MOST_COUNT)
 
 -- below this no address of an image's section is past the last one
 abbrev pub IsLow : ℕ → Type 0

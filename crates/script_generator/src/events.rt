@@ -6,6 +6,7 @@ ghost use Rattle.std.specs.List.{flat_map};
 ghost use Rattle.script_generator.specs.Generator.{IsImageCount, images_up, image_order};
 ghost use Rattle.script_generator.specs.Generator.{phase_events, generated_events, adding};
 ghost use Rattle.script_generator.specs.Generator.{removing};
+ghost use Rattle.script_generator.specs.declared.images.TheConstants.{MOST_COUNT, THREADS};
 
 use crate::images::base_of;
 use event_script::{Event, Thread};
@@ -49,7 +50,7 @@ fn order_of(alloc: Global, thread: u32, count: u32) -> Result<Vec<u32>, NoMemory
 
 /// The events of a thread.
 pub fn thread_of(alloc: Global, thread: u32, count: u32) -> Result<Thread, NoMemory>
-    requires thread { thread < 4 }
+    requires thread { thread < THREADS }
     requires count { IsImageCount count }
     ensures { IfOk result (λ r. r ≡ generated_events count thread) }
 {
@@ -70,8 +71,9 @@ fn with_phase(
     thread: u32,
     order: &[u32],
 ) -> Result<Vec<Event>, NoMemory>
-    requires thread { thread < 4 }
-    requires images { (length order.now ≤ 500) × All (λ image. image < length order.now) order.now }
+    requires thread { thread < THREADS }
+    requires images { (length order.now ≤ MOST_COUNT)
+        × All (λ image. image < length order.now) order.now }
     ensures { IfOk result (λ r. r.items
         ≡ events.items ++ flat_map (phase_events (length order.now) thread phase) order.now) }
 {
@@ -90,8 +92,8 @@ fn with_image(
     count: u32,
     image: u32,
 ) -> Result<Vec<Event>, NoMemory>
-    requires thread { thread < 4 }
-    requires image { (count ≤ 500) × (image < count) }
+    requires thread { thread < THREADS }
+    requires image { (count ≤ MOST_COUNT) × (image < count) }
     ensures { IfOk result (λ r. r.items ≡ events.items ++ phase_events count thread phase image) }
 {
     let base = base_of(thread, image);
@@ -125,7 +127,7 @@ fn half_of(thread: u32) -> Half
 
 /// The event that adds an image of a thread.
 fn added(thread: u32, count: u32, image: u32) -> Event
-    requires { (thread < 4) × (count ≤ 500) × (image < count) }
+    requires { (thread < THREADS) × (count ≤ MOST_COUNT) × (image < count) }
     ensures { result ≡ adding count thread image }
 {
     let image = thread * count + image;
@@ -137,7 +139,7 @@ fn added(thread: u32, count: u32, image: u32) -> Event
 
 /// The event that removes it.
 fn removed(thread: u32, image: u32) -> Event
-    requires { (thread < 4) × (image < 500) }
+    requires { (thread < THREADS) × (image < MOST_COUNT) }
     ensures { result ≡ removing thread image }
 {
     let base = base_of(thread, image);

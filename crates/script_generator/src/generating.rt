@@ -7,15 +7,12 @@ ghost use Rattle.script_generator.specs.Generator.{generator_threads};
 use crate::events::{thread_of, upwards};
 use crate::images::{THREADS, images_of, sections_of};
 use crate::stacks::stacks_of;
-use event_script::{Round, Script};
+use event_script::{MOST_LOADS, Round, Script};
 use reg_model::NoMemory;
 use std::alloc::Global;
 
 /// The nodes of the tree of registered ranges.
 const NODES: u32 = 4096;
-
-/// The greatest number of loaded images.
-const LOADS: u32 = 1024;
 
 /// The script for so many images a thread, 1 to 500.
 pub fn generate(alloc: Global, count: u32) -> Result<Script, NoMemory>
@@ -30,7 +27,7 @@ pub fn generate(alloc: Global, count: u32) -> Result<Script, NoMemory>
     rounds.push(round_of(alloc, count)?)?;
     Ok(Script {
         nodes: NODES,
-        loads: LOADS,
+        loads: MOST_LOADS,
         images,
         sections,
         fixed: Vec::new(alloc),

@@ -5,6 +5,7 @@ ghost use Rattle.event_script.specs.ScriptData.{IsSectionOf};
 ghost use Rattle.script_generator.specs.SectionBytes.{generated_section_bytes};
 ghost use Rattle.script_generator.specs.Generator.{generated_base, generated_span};
 ghost use Rattle.script_generator.specs.Generator.{generated_images, AreGeneratedSections, IsLow};
+ghost use Rattle.script_generator.specs.declared.images.TheConstants.{MOST_COUNT, THREADS};
 
 use frame_parse::{FrameFault, Section, section_is_answered};
 use reg_model::{NoMemory, Span};
@@ -32,7 +33,7 @@ const SECTION: [u8; 84] = [
 
 /// The first address of an image. Each thread has addresses of its own.
 pub fn base_of(thread: u32, image: u32) -> u64
-    requires { (thread < 4) × (image < 500) }
+    requires { (thread < THREADS) × (image < MOST_COUNT) }
     ensures value { result ≡ generated_base thread image }
     ensures low { IsLow result }
 {
@@ -41,7 +42,7 @@ pub fn base_of(thread: u32, image: u32) -> u64
 
 /// The images of all threads, by their numbers.
 pub fn images_of(alloc: Global, order: &[u32]) -> Result<Vec<Span>, NoMemory>
-    requires { All (λ image. image < 500) order.now }
+    requires { All (λ image. image < MOST_COUNT) order.now }
     ensures { IfOk result (λ images. images.items ≡ generated_images order.now) }
 {
     let mut images = Vec::new(alloc);
@@ -53,8 +54,8 @@ pub fn images_of(alloc: Global, order: &[u32]) -> Result<Vec<Span>, NoMemory>
 
 /// With the images of a thread.
 fn with_images(images: Vec<Span>, thread: u32, order: &[u32]) -> Result<Vec<Span>, NoMemory>
-    requires thread { thread < 4 }
-    requires images { All (λ image. image < 500) order.now }
+    requires thread { thread < THREADS }
+    requires images { All (λ image. image < MOST_COUNT) order.now }
     ensures { IfOk result
         (λ r. r.items ≡ images.items ++ map (generated_span thread) order.now) }
 {
@@ -67,7 +68,7 @@ fn with_images(images: Vec<Span>, thread: u32, order: &[u32]) -> Result<Vec<Span
 
 /// The span of an image: 48 addresses.
 fn span_of(thread: u32, image: u32) -> Span
-    requires { (thread < 4) × (image < 500) }
+    requires { (thread < THREADS) × (image < MOST_COUNT) }
     ensures { result ≡ generated_span thread image }
 {
     match Span::new(base_of(thread, image), 48) {

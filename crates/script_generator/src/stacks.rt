@@ -2,6 +2,7 @@
 
 ghost use Rattle.std.specs.Prelude.{◌≡◌, ◌<◌, IfOk, map};
 ghost use Rattle.script_generator.specs.Generator.{generated_stack, generator_threads};
+ghost use Rattle.script_generator.specs.declared.images.TheConstants.{THREADS};
 
 use crate::images::{THREADS, base_of};
 use event_script::Snapshot;
@@ -23,7 +24,7 @@ pub fn stacks_of(alloc: Global) -> Result<Vec<Snapshot>, NoMemory>
 /// The stack of a thread, in the second function of its first image, which the first one called:
 /// columns 6, 7 and 16, and the return address that stands on the stack.
 fn stack_of(alloc: Global, thread: u32) -> Result<Snapshot, NoMemory>
-    requires { thread < 4 }
+    requires { thread < THREADS }
     ensures { IfOk result (λ stack. stack ≡ generated_stack thread) }
 {
     let base = base_of(thread, 0);

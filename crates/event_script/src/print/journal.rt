@@ -11,7 +11,6 @@ ghost use Rattle.event_script.specs.Text.{event_line};
 ghost use Rattle.event_script.specs.Text.{answer_text, numbered, thread_text, updates_text};
 ghost use Rattle.event_script.specs.Text.{journal_text};
 
-
 use crate::journal::{Answer, Journal};
 use reg_model::{Found, Inserted, Loading, Member, NoMemory, Place, Removed};
 use std::alloc::{AllocError, Global};
