@@ -1,6 +1,7 @@
 -- The words of the command line, and the commands that they are.
 use Rattle.std.specs.Prelude.{◌≡◌, ℕ, ◌≤◌, List, [], ◌∷◌, length, All, Option, Some, None, codes}
 use Rattle.std.specs.Str.Parse.{digits_value}
+use Rattle.command_line.specs.declared.count.TheConstants.{MOST_IMAGES}
 use Rattle.command_line.specs.declared.taking.Command.{Command}
 use Rattle.command_line.specs.declared.taking.Command.TheVariants.{Run, Generate}
 
@@ -13,7 +14,7 @@ pub record IsCount (word : List ℕ) (count : ℕ) : Type 0 where
   pub size : (1 ≤ length word) × (length word ≤ 3)
   pub digits : All IsDecimalDigit word
   pub number : digits_value 10 word ≡ count
-  pub range : (1 ≤ count) × (count ≤ 500)
+  pub range : (1 ≤ count) × (count ≤ MOST_IMAGES)
 
 -- the words, each as its bytes, are those of the command: `run`, or `gen` and such a number
 abbrev pub IsCommandLine : List (List ℕ) → Command → Type 0

@@ -5,6 +5,7 @@ use Rattle.std.specs.Str.{bytes_eq}
 use Rattle.clap.specs.Walk.{Rule, Row, Text, first_of}
 use Rattle.clap.specs.Simple.{App, new_app, new_rule, new_shape, with_rule, with_subcommand, on_top}
 use Rattle.clap.specs.declared.builder.value_parser.ValueParser.TheVariants as parsers
+use Rattle.command_line.specs.declared.count.TheConstants.{MOST_IMAGES}
 use Rattle.command_line.specs.declared.grammar.Asked.{Asked}
 use Rattle.command_line.specs.declared.grammar.Asked.TheVariants.{Run, Generate}
 
@@ -12,7 +13,7 @@ use Rattle.command_line.specs.declared.grammar.Asked.TheVariants.{Run, Generate}
 abbrev pub number_rule : Rule
 number_rule = record (new_rule (codes "N")) {
   required = true;
-  parser = Some (parsers.Unsigned 1 500);
+  parser = Some (parsers.Unsigned 1 MOST_IMAGES);
 }
 
 -- the program, without its own name among the words, and which one of these it asks for: `run`,

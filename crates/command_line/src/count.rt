@@ -3,6 +3,9 @@
 ghost use Rattle.std.specs.Prelude.{◌≡◌, ◌-◌, ℕ, MatchOption};
 ghost use Rattle.command_line.specs.CommandLine.{IsCount, IsDecimalDigit};
 
+/// The greatest number of images a thread.
+pub const MOST_IMAGES: u32 = 500;
+
 /// The number of one to three digits, where it is from 1 to 500.
 pub fn count_of(word: &[u8]) -> Option<u32>
     ensures { MatchOption result ((count : ℕ) → ¬ IsCount word.now count) (IsCount word.now) }
@@ -15,7 +18,7 @@ pub fn count_of(word: &[u8]) -> Option<u32>
         }
         _ => return None,
     };
-    if 1 <= number && number <= 500 {
+    if 1 <= number && number <= MOST_IMAGES {
         Some(number)
     } else {
         None

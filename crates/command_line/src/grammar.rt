@@ -6,6 +6,7 @@ ghost use Rattle.clap.specs.Simple.{app_of, subcommand_rows_of};
 ghost use Rattle.command_line.specs.CommandLine.{AreTaken};
 ghost use Rattle.command_line.specs.Grammar.{subcommands, words_of, words_read};
 
+use crate::count::MOST_IMAGES;
 use clap::builder::ValueParser;
 use clap::error::ErrorKind;
 use clap::{Arg, ArgMatches};
@@ -25,7 +26,7 @@ fn grammar<'a>(alloc: Global) -> Result<clap::Command<'a>, AllocError>
 {
     let number = Arg::new(alloc, "N")
         .required(true)
-        .value_parser(ValueParser::Unsigned(1, 500));
+        .value_parser(ValueParser::Unsigned(1, MOST_IMAGES as u64));
     let generate = clap::Command::new(alloc, "gen").arg(number)?;
     let run = clap::Command::new(alloc, "run");
     clap::Command::new(alloc, "unwind_main")

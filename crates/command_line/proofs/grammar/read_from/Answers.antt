@@ -1,4 +1,4 @@
-use Rattle.std.proofs.Common.{◌∙◌, ap, sym, codes, not, false, option_map}
+use Rattle.std.proofs.Common.{◌∙◌, ap, sym, codes, option_map}
 use Rattle.std.proofs.lemmas.Bool.{not-false}
 use Rattle.clap.specs.Matches.{found_of}
 use Rattle.clap.proofs.WalkLemmas.{first_value-rows}
