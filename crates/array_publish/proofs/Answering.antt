@@ -35,7 +35,7 @@ use Rattle.array_publish.specs.Holders.{member_in}
 use Rattle.array_publish.specs.Writing.{EndsBelow, IsWritten}
 use Rattle.array_publish.specs.declared.writing.Change.TheVariants.{Put}
 use Rattle.array_publish.proofs.Changed.{may_load}
-use Rattle.array_publish.proofs.Lookups.{prefix_both}
+use Rattle.word_rule.proofs.Joins.{prefix_both}
 use Rattle.array_publish.proofs.Overlaps.{ends_listed, free_split, listed_is}
 use Rattle.array_publish.proofs.Works.{Holds, spells_active}
 use Rattle.word_rule.proofs.Each.{all_with, some_of, some_with}

@@ -29,6 +29,7 @@ use Rattle.word_rule.specs.Copies.{AreOfCopy}
 use Rattle.word_rule.specs.Logs.{load_of}
 use Rattle.word_rule.specs.Places.{lower, upper}
 use Rattle.word_rule.specs.Sights.{after_clock, copies_after_clock, found_at}
+use Rattle.word_rule.proofs.Joins.{prefix_both}
 use Rattle.word_rule.proofs.Listings.{contains_find, state_fixed}
 use Rattle.word_rule.proofs.Memories.{by_same}
 use Rattle.word_rule.proofs.TreeRefusals.{found_there}
@@ -71,9 +72,6 @@ guarded : (first : ℕ) (o : Option CopySight) → (s : CopySight) × ((copies_a
 guarded first None = (record { guard = upper first; words = [] }, (refl, refl))
 guarded first (Some s) = by_same s.guard (upper first) (λ b. (z : CopySight) × (((if b then Some s else Some (record { guard = upper first; words = [] })) ≡ Some z) × (z.guard ≡ upper first)))
     (λ e. (s, (refl, e))) (λ _. (record { guard = upper first; words = [] }, (refl, refl)))
-
-pub prefix_both : (a b c : List Update) → IsPrefix a b → IsPrefix b c → IsPrefix a c
-prefix_both a b c p q = (p.0 ++ q.0, sym (append_assoc a p.0 q.0) ∙ (ap (λ z. z ++ q.0) p.1 ∙ q.1))
 
 module _ (t : Terms) (pc first second : ℕ) (k0 k1 k2 k3 : CallerData) (object : Option Listed)
     (one : AfterClock t ask.Nothing first k0.log k1.log) (rest1 : k1 ≡ record k0 { log = k1.log })

@@ -24,7 +24,7 @@ use Rattle.word_rule.specs.declared.log.LoadedWord.{LoadedWord}
 use Rattle.word_rule.specs.declared.log.Log.{Log}
 use Rattle.word_rule.specs.declared.log.Sights.{Sights}
 use Rattle.word_rule.specs.declared.log.Terms.{Terms}
-use Rattle.array_publish.proofs.Lookups.{prefix_both}
+use Rattle.word_rule.proofs.Joins.{prefix_both}
 use Rattle.registry_core.specs.Queries.{IsStamped, Queries}
 use Rattle.word_rule.proofs.Each.{all_append, all_map}
 

@@ -16,7 +16,7 @@ use Rattle.word_rule.specs.declared.log.Terms.{Terms}
 use Rattle.registry_core.specs.Calls.{Answered, Receives, is_of_update}
 use Rattle.registry_core.specs.Queries.{Queries}
 use Rattle.registry_core.proofs.Counting.{count_both}
-use Rattle.array_publish.proofs.Lookups.{prefix_both}
+use Rattle.word_rule.proofs.Joins.{prefix_both}
 use Rattle.registry_core.proofs.Asking.{prefix_length}
 use Rattle.word_rule.proofs.Each.{all_append, all_map}
 

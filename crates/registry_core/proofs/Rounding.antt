@@ -184,7 +184,7 @@ gathered k (rs ∷ lists) (c ∷ before) (d ∷ after) m new a missing begins =
     let n = new.0.1 in
     let lineage : d.log.lineage ≡ new_lineage (name_of c) = a.0.lineage ∙ n.lineage in
     let names : joined_names m.log.lineage d.log.lineage ≡ (map name_of before, m.log.lineage.unmatched) = ap (joined_names m.log.lineage) lineage ∙ joined_first m.log.lineage (name_of c) (map name_of before) missing in
-    let receipts : d.log.receipts ≡ record { own = rs; joined = [] } = a.0.own ∙ ap (λ (r : Receipts). record r { own = r.own ++ rs }) n.receipts in
+    let receipts : d.log.receipts ≡ record { own = rs; joined = []; heard = [] } = a.0.own ∙ ap (λ (r : Receipts). record r { own = r.own ++ rs }) n.receipts in
     let seen : IsPrefix k.log.past d.log.past = subst (λ z. IsPrefix z d.log.past) n.past a.0.begins in
     let r = gathered k lists before after (after_one_join d m) new.1 a.1 (ap (λ p. p.0) names) (longer_begins k.log.past m.log.past d.log.past begins seen) in
     let made = r.made in let none = a.0.made ∙ n.made in

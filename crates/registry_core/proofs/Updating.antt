@@ -17,7 +17,7 @@ use Rattle.btree_change.specs.Insertion.{Inserts, call_begun}
 use Rattle.btree_change.specs.Removal.{Removes}
 use Rattle.btree_change.specs.Updates.{AnswersUpdate}
 use Rattle.registry_core.specs.Calls.{Answered, is_of_update, receipts_of_deregister, receipts_of_register}
-use Rattle.array_publish.proofs.Lookups.{prefix_both}
+use Rattle.word_rule.proofs.Joins.{prefix_both}
 use Rattle.registry_core.proofs.Asking.{prefix_length}
 use Rattle.registry_core.proofs.Following.{answered_none}
 

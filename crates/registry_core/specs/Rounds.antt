@@ -63,7 +63,7 @@ pub record IsSplitOff (k : CallerData) (give : ℕ) (c : CallerData) : Type 0 wh
   pub left : c.left ≡ give
   pub terms : c.log.terms ≡ k.log.terms
   pub past : c.log.past ≡ k.log.past
-  pub receipts : c.log.receipts ≡ record { own = []; joined = [] }
+  pub receipts : c.log.receipts ≡ record { own = []; joined = []; heard = [] }
   pub idle : IsIdle c.log
   pub made : c.log.made ≡ 0
   pub lineage : c.log.lineage ≡ new_lineage c.log.lineage.name

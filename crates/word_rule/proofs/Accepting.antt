@@ -35,7 +35,7 @@ use Rattle.word_rule.proofs.Facts.{total_set, total_same, part_of_total, after_s
 use Rattle.word_rule.proofs.Each.{all_map, all_append, some_of}
 use Rattle.word_rule.proofs.CallersFrame.{lineages_over, busy}
 use Rattle.word_rule.proofs.Receiving.{all_hold_snoc, in_order_next, done_snoc, number_snoc}
-use Rattle.word_rule.proofs.Joins.{record_later, records_later}
+use Rattle.word_rule.proofs.Joins.{prefix_both, record_later, records_later}
 
 -- An update that fits, as the one after so many, has its receipt.
 pub record Accepts (u : Update) (s : State) (n : ℕ) (r : Receipt) : Type 0 where
@@ -139,6 +139,7 @@ module _ (t : Terms) (m : Memory) (views : List Log) (history : List Update) (c 
             in_order_next t v.past _ v.receipts.own answer u log.receipts.own.0 log.receipts.own.1 told.accepts (omega (arith, number, before)),
           );
           joined = records_later t v.past (history ++ u ∷ []) _ callers prefix v.receipts.joined log.receipts.joined;
+          heard = prefix_both v.receipts.heard v.past (history ++ u ∷ []) log.receipts.heard prefix;
         }
 
     made_same : total (λ z. z.made) (set views id w) ≡ total (λ z. z.made) views

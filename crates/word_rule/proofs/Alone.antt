@@ -55,7 +55,7 @@ module _ (t : Terms) (m : Memory) (views : List Log) (history : List Update) (r 
   spent_others = others_spent views (λ j u e. (r.each j u e).lineage) r.lineages id v at alone
 
   dones_all : (n : ℕ) → total (dones_in n) views ≡ dones_in n v
-  dones_all n = all_of_total (dones_in n) views id v at (λ j u far there. let s = r.lineages.spent j u there (spent_others j u far there) in (λ i. dones n record { own = s.0 i; joined = s.1 i }))
+  dones_all n = all_of_total (dones_in n) views id v at (λ j u far there. let s = r.lineages.spent j u there (spent_others j u far there) in (λ i. dones n record { own = s.0 i; joined = s.1 i; heard = u.receipts.heard }))
 
   made_all : total (λ u. u.made) views ≡ v.made
   made_all = all_of_total (λ u. u.made) views id v at (λ j u far there. (r.lineages.spent j u there (spent_others j u far there)).2)
@@ -94,7 +94,7 @@ settles_loads t slots id me s r deep at small =
       keeps,
       tt,
       rw (same_words, same_views) r,
-      (refl, (let a = part_of_total (λ u. u.budget.allowance) s.views id me.0 at in let o = r.memory.callers.room in omega (arith, a, o)), (let a = part_of_total (λ u. u.budget.credit) s.views id me.0 at in let o = r.memory.callers.counted in omega (arith, a, o)), λ stands alone. whole t (memory_of t s.words) s.views r.memory.history r.memory.callers id me.0 at alone stands),
+      (refl, (let a = part_of_total (λ u. u.budget.allowance) s.views id me.0 at in let o = r.memory.callers.room in omega (arith, a, o)), (let a = part_of_total (λ u. u.budget.credit) s.views id me.0 at in let o = r.memory.callers.counted in omega (arith, a, o)), λ stands alone. whole t (memory_of t s.words) s.views r.memory.history r.memory.callers id me.0 at alone stands, (r.memory.callers.each id me.0 at).receipts.heard),
     )
 
 first_word : (words : List ℕ) (n : ℕ) → get_elem? words 0 ≡ some n → get_or words 0 0 ≡ n

@@ -81,7 +81,7 @@ module _ (t : Terms) (words : List ℕ) (views : List Log) (r : TableInvariant t
       (let mine = subst (λ k. LogHolds t r.memory.history k v) (sym is_c) (r.memory.callers.each id v at) in record {
         terms = mine.terms;
         begins = mine.begins;
-        receipts = record { own = told_record t v.past v.past c v.receipts.own rs own_past told mine.receipts.own; joined = mine.receipts.joined };
+        receipts = record { own = told_record t v.past v.past c v.receipts.own rs own_past told mine.receipts.own; joined = mine.receipts.joined; heard = mine.receipts.heard };
         lineage = mine.lineage;
         idle = busy v w caller;
       })

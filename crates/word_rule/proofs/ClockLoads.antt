@@ -35,7 +35,7 @@ use Rattle.word_rule.specs.TableInvariant.{TableInvariant, IsStill}
 use Rattle.word_rule.specs.Clock.{IsSeen, ClockTells, MayAsk, AreAsked}
 use Rattle.word_rule.specs.TreeRefusals.{Appends, AppendsRefusal}
 use Rattle.reg_model.specs.declared.answer.Update.TheVariants as update
-use Rattle.reg_model.specs.Receipt.{IsRight}
+use Rattle.reg_model.specs.Receipt.{HadTenMembers, IsRight}
 use Rattle.word_rule.specs.Steps.{IsRefusalOf, MayRefuse, Refuses}
 use Rattle.word_rule.specs.declared.log.LoaderHolding.{LoaderHolding}
 use Rattle.word_rule.proofs.CopyStores.{loader_held}
@@ -50,7 +50,7 @@ use Rattle.word_rule.proofs.CallersFrame.{lineages_over, lock_stays, busy}
 use Rattle.word_rule.proofs.NodesFrame.{nodes_same}
 use Rattle.word_rule.proofs.Frames.{Sit, table_step, still_after_load}
 use Rattle.word_rule.proofs.Listings.{ascending_disjoint, contains_find, disjoint_fit, lists_same, loaded_members, loaded_spans, none_registered, registered_members, start_lawful, state_fixed}
-use Rattle.word_rule.proofs.Joins.{records_later}
+use Rattle.word_rule.proofs.Joins.{prefix_both, records_later}
 use Rattle.word_rule.proofs.Alone.{seen_all}
 
 -- a live leaf's entries are those of the tree inside its fences: a law of tree_shape
@@ -149,12 +149,16 @@ module _ (law : LeafLaw) (t : Terms) (slots id : ℕ) (me : Seated) (caller : me
       full = (r.memory.observations id me.0 at).full;
     }
 
-    appended : (x : Receipt) → IsRight (state_after (start me.0.terms) r.memory.history) x → (y : Receipt) → x ≡ y → Appends y me.0 (after_clock (get_or s.words 0 0) r.memory.history (x ∷ []) me.0)
-    appended x right y same = record { own = ap (λ z. me.0.receipts.own ++ z ∷ []) same; right = subst (IsRight (state_after (start me.0.terms) r.memory.history)) same right }
+    appended : (x : Receipt) → IsRight (state_after (start me.0.terms) r.memory.history) x → HoldsNow t r.memory.history (last_moment 0 me.0.receipts.own) x → (y : Receipt) → x ≡ y → Appends y me.0 (after_clock (get_or s.words 0 0) r.memory.history (x ∷ []) me.0)
+    appended x right now y same = record {
+      own = ap (λ z. me.0.receipts.own ++ z ∷ []) same;
+      right = subst (IsRight (state_after (start me.0.terms) r.memory.history)) same right;
+      filled = subst (HadTenMembers (start me.0.terms) r.memory.history (last_moment 0 me.0.receipts.own)) same (subst (λ k. HadTenMembers (start k) r.memory.history (last_moment 0 me.0.receipts.own) x) (sym terms) (now.holds 0).filled);
+    }
 
     pub asked : (b : Ask) → MayAsk t b me.0 → (rs : List Receipt) × (AreAsked b (get_or s.words 0 0) me.0.sights.copies (record me.0 { past = r.memory.history }) rs × (Told t r.memory.history me.0.receipts.own rs × AppendsRefusal b (get_or s.words 0 0) me.0 (after_clock (get_or s.words 0 0) r.memory.history rs me.0)))
     asked ask.Nothing q = ([], (refl, (inl refl, tt)))
-    asked (ask.Registered pc) q = (_, (refl, (inr (query_at t r.memory.history half.Registered pc (length r.memory.history), ((λ i. query_at (terms i) r.memory.history half.Registered pc (low i) ∷ []), query_answers t r.memory.history half.Registered pc _)), tt)))
+    asked (ask.Registered pc) q = ([], (refl, (inl refl, tt)))
     asked (ask.Loaded pc) q = (_, (refl, (walked pc me.0.sights.copies, tt)))
     asked (ask.Refused (update.Load n)) q = let x = refused (update.Load n) q in (x.0 ∷ [], ((x.0, (refl, x.1.0)), (inr (x.0, (refl, x.1.1)), tt)))
     asked (ask.Refused (update.Unload base)) q = let x = refused (update.Unload base) q in (x.0 ∷ [], ((x.0, (refl, x.1.0)), (inr (x.0, (refl, x.1.1)), tt)))
@@ -163,11 +167,11 @@ module _ (law : LeafLaw) (t : Terms) (slots id : ℕ) (me : Seated) (caller : me
           x.0 ∷ [],
           (
             (x.0, (refl, x.1.right)),
-            (inr (x.0, (refl, x.1.holds)), ((λ other h. appended x.0 x.1.right.3 _ (x.1.overlap other h)), (λ h. appended x.0 x.1.right.3 _ (x.1.full h)))),
+            (inr (x.0, (refl, x.1.holds)), ((λ other h. appended x.0 x.1.right.3 x.1.holds _ (x.1.overlap other h)), (λ h. appended x.0 x.1.right.3 x.1.holds _ (x.1.full h)))),
           ),
         )
     asked (ask.Refused (update.Deregister base)) q =
-        let x = deregister_refused t r.memory.history me.0 (lower (get_or s.words 0 0)) low terms leaves base q in (_, ((_, (refl, x.0)), (inr (_, (refl, x.1)), λ h. record { own = refl; right = x.0.3 })))
+        let x = deregister_refused t r.memory.history me.0 (lower (get_or s.words 0 0)) low terms leaves base q in (_, ((_, (refl, x.0)), (inr (_, (refl, x.1)), λ h. record { own = refl; right = x.0.3; filled = tt })))
 
     abbrev receipts : List Receipt
     receipts = (asked a may).0
@@ -186,7 +190,7 @@ module _ (law : LeafLaw) (t : Terms) (slots id : ℕ) (me : Seated) (caller : me
         (let mine = subst (λ k. LogHolds t r.memory.history k me.0) (sym is_c) log in record {
           terms = λ _. terms;
           begins = ([], append-nil r.memory.history);
-          receipts = record { own = told_record t me.0.past r.memory.history c me.0.receipts.own receipts log.begins told mine.receipts.own; joined = records_later t me.0.past r.memory.history c c mine.begins me.0.receipts.joined mine.receipts.joined };
+          receipts = record { own = told_record t me.0.past r.memory.history c me.0.receipts.own receipts log.begins told mine.receipts.own; joined = records_later t me.0.past r.memory.history c c mine.begins me.0.receipts.joined mine.receipts.joined; heard = prefix_both me.0.receipts.heard me.0.past r.memory.history mine.receipts.heard mine.begins };
           lineage = mine.lineage;
           idle = busy me.0 w caller;
         })

@@ -1,5 +1,5 @@
 -- Callers and notes that come and go keep the rule.
-use Rattle.std.proofs.Common.{◌≡◌, ◌≢◌, ℕ, ◌+◌, ◌*◌, ◌<◌, ◌≤◌, List, [], ◌∷◌, ◌++◌, length, length-append, set, sym, refl, ap, ◌∙◌, subst, ⊎_elim, arith, append-nil, lt_of_not-le, le_of_lt, Option, Some, None, false, true, true≢false, max, IfSome}
+use Rattle.std.proofs.Common.{◌≡◌, ◌≢◌, ℕ, ◌+◌, ◌*◌, ◌<◌, ◌≤◌, List, [], ◌∷◌, ◌++◌, length, length-append, set, sym, refl, ap, ◌∙◌, subst, ⊎_elim, arith, append-nil, append_assoc, nat_lt, if◌then◌else◌, lt_of_not-le, le_of_lt, Option, Some, None, false, true, true≢false, max, IfSome}
 use Rattle.std.specs.List.{AllByRecursion, count_by}
 use Rattle.std.proofs.lemmas.List.Sums.{sum_by-cons, sum_by-append}
 use Rattle.word_rule.specs.declared.log.Role.TheVariants as role
@@ -23,7 +23,7 @@ use Rattle.word_rule.specs.declared.log.Log.{Log}
 use Rattle.word_rule.specs.declared.log.Terms.{Terms}
 use Rattle.tree_shape.specs.Numbers.{once}
 use Rattle.word_rule.specs.Names.{name_count, is_same, child_name, after_fork, joined_lineage}
-use Rattle.word_rule.specs.Logs.{is_spent, weight, turns, child_log, after_split, split_off, after_note, note_of, after_join, after_learn, spent_log, longer, budget_given}
+use Rattle.word_rule.specs.Logs.{is_spent, weight, turns, child_log, after_split, split_off, after_note, note_of, after_join, after_learn, spent_log, longer, shorter, budget_given}
 use Rattle.word_rule.specs.Callers.{total, CallersHold, IsIdle, IsAlone, LogHolds, LineageHolds, LineagesHold, AtLoader, LoaderLock, IsRecord, ReceiptsHold, dones, dones_of_all, dones_in, start}
 use Rattle.reg_model.specs.Numbers.{has_number}
 use Rattle.word_rule.specs.CallerInvariant.{IsNote}
@@ -38,6 +38,10 @@ use Rattle.word_rule.proofs.Lineages.{snoc_parts, one_place, unused_childless, n
 use Rattle.word_rule.proofs.SeatNodes.{nodes_fork, nodes_join}
 use Rattle.word_rule.proofs.ObservationsFrame.{no_more, observations_over, observations_same}
 use Rattle.word_rule.proofs.Frames.{still_after_turn}
+
+-- a beginning of a beginning
+pub prefix_both : (xs ys zs : List Update) → IsPrefix xs ys → IsPrefix ys zs → IsPrefix xs zs
+prefix_both xs ys zs p q = (p.0 ++ q.0, sym (append_assoc xs p.0 q.0) ∙ (ap (λ k. k ++ q.0) p.1 ∙ q.1))
 
 -- receipts that hold go on to hold while the history grows and callers come
 pub holds_later : (t : Terms) (past more : List Update) (callers later since : ℕ) (rs : List Receipt) → AllHold (start t) past t.nodes callers since rs → AllHold (start t) (past ++ more) t.nodes later since rs
@@ -55,7 +59,11 @@ own_prefix : (past : List Update) → IsPrefix past past
 own_prefix past = ([], append-nil past)
 
 receipts_later : (t : Terms) (past past' : List Update) (callers later : ℕ) → IsPrefix past past' → (rs : Receipts) → ReceiptsHold t past callers rs → ReceiptsHold t past' later rs
-receipts_later t past past' callers later pre rs h = record { own = record_later t past past' callers later pre rs.own h.own; joined = records_later t past past' callers later pre rs.joined h.joined }
+receipts_later t past past' callers later pre rs h = record {
+  own = record_later t past past' callers later pre rs.own h.own;
+  joined = records_later t past past' callers later pre rs.joined h.joined;
+  heard = prefix_both rs.heard past past' h.heard pre;
+}
 
 -- more callers were made
 pub log_later : (t : Terms) (history : List Update) (callers later : ℕ) (v : Log) → LogHolds t history callers v → LogHolds t history later v
@@ -152,7 +160,7 @@ module _ (t : Terms) (m : Memory) (views : List Log) (history : List Update) (r 
           lineage = subst LineageHolds (sym forks.lineage) (fork_holds v.lineage own_name h.lineage);
           idle = idle;
         })) (λ j u _ e. log_later t history _ (total (λ y. y.made) both + 1) u (r.each j u e)))
-        (λ _. record { terms = λ _. (r.each id v at).terms stands; begins = (r.each id v at).begins; receipts = record { own = (tt, tt); joined = tt }; lineage = new_lineage_holds (child_name v.lineage); idle = λ _. record { held = refl; out = refl; loader = refl } });
+        (λ _. record { terms = λ _. (r.each id v at).terms stands; begins = (r.each id v at).begins; receipts = record { own = (tt, tt); joined = tt; heard = (v.past, refl) }; lineage = new_lineage_holds (child_name v.lineage); idle = λ _. record { held = refl; out = refl; loader = refl } });
     loader = loader_fork r.holder r.loader;
     at_loader = behind (λ j u. AtLoader m r.holder j u.loader) (set views id w) child
         (after_step (λ j u. AtLoader m r.holder j u.loader) views id w (subst (AtLoader m r.holder id) (sym forks.loader) (r.at_loader id v at)) (λ j u _ e. r.at_loader j u e)) (λ _. tt);
@@ -182,6 +190,17 @@ in_longer a b history p q = go (dec_le (length b) (length a))
     go (yes h) = rw (le-ltb (length a) (length b) h) (own_prefix a, begins_longer b a q.0 p.0 (q.1 ∙ sym p.1) h, p)
     go (no n) = rw (lt-ltb (length a) (length b) (lt_of_not-le n)) (begins_longer a b p.0 q.0 (p.1 ∙ sym q.1) (le_of_lt (lt_of_not-le n)), own_prefix b, q)
 
+-- the shorter one begins what both begin
+shorter_begins : (a b : List Update) → IsPrefix a (longer a b) → IsPrefix b (longer a b) → IsPrefix (shorter a b) (longer a b)
+shorter_begins a b p q = elim (nat_lt (length a) (length b)) as (λ c. IsPrefix (if c then a else b) (longer a b)) [ true ↦ p | false ↦ q ]
+
+-- where the shorter of two begins the longer, both do
+pub both_begin : (a b : List Update) → IsPrefix (shorter a b) (longer a b) → IsPrefix a (longer a b) × IsPrefix b (longer a b)
+both_begin a b = elim (nat_lt (length a) (length b)) as (λ c. IsPrefix (if c then a else b) (if c then b else a) → IsPrefix a (if c then b else a) × IsPrefix b (if c then b else a)) [
+  | true ↦ λ h. (h, own_prefix b)
+  | false ↦ λ h. (own_prefix a, h)
+]
+
 -- lists of receipts side by side
 records_append : (t : Terms) (past : List Update) (callers : ℕ) (xs ys : List (List Receipt)) → AllByRecursion (IsRecord t past callers) xs → AllByRecursion (IsRecord t past callers) ys → AllByRecursion (IsRecord t past callers) (xs ++ ys)
 records_append t past callers [] ys h i = i
@@ -197,6 +216,7 @@ pub record Gains (v u b : Log) (lists : List (List Receipt)) : Type 0 where
   pub past : b.past ≡ longer v.past u.past
   pub own : b.receipts.own ≡ v.receipts.own
   pub joined : b.receipts.joined ≡ v.receipts.joined ++ lists
+  pub heard : b.receipts.heard ≡ shorter v.past u.past
   pub loader : b.loader ≡ v.loader
   pub allowance : b.budget.allowance ≡ v.budget.allowance + u.budget.allowance
   pub credit : b.budget.credit ≡ v.budget.credit + u.budget.credit
@@ -273,9 +293,9 @@ module _ (t : Terms) (m : Memory) (views : List Log) (history : List Update) (r 
     updates = r.updates;
     published = r.published;
     room = (let s = sums_join (λ x. x.budget.allowance) (let a = gains.allowance in omega (arith, a)) in let o = r.room in omega (arith, s, o));
-    numbers = λ n. sums_join (dones_in n) (let e : dones_in n b ≡ dones n record { own = v.receipts.own; joined = v.receipts.joined ++ lists } = (λ i. dones n record { own = gains.own i; joined = gains.joined i }) in let a = dones_append n v.receipts.joined lists in let c = gains.counts n in omega (arith, e, a, c)) ∙ r.numbers n;
+    numbers = λ n. sums_join (dones_in n) (let e : dones_in n b ≡ dones n record { own = v.receipts.own; joined = v.receipts.joined ++ lists; heard = b.receipts.heard } = (λ i. dones n record { own = gains.own i; joined = gains.joined i; heard = b.receipts.heard }) in let a = dones_append n v.receipts.joined lists in let c = gains.counts n in omega (arith, e, a, c)) ∙ r.numbers n;
     each = everywhere (λ _ x. LogHolds t history count x)
-        (record { terms = λ s. absurd (true≢false s); begins = (history, refl); receipts = record { own = (tt, tt); joined = tt }; lineage = record { balanced = λ x. refl; given_by = λ x h. absurd (omega arith) }; idle = λ _. record { held = refl; out = refl; loader = refl } })
+        (record { terms = λ s. absurd (true≢false s); begins = (history, refl); receipts = record { own = (tt, tt); joined = tt; heard = ([], refl) }; lineage = record { balanced = λ x. refl; given_by = λ x h. absurd (omega arith) }; idle = λ _. record { held = refl; out = refl; loader = refl } })
         (let h = r.each id v at in let i = r.each other u was_there in record {
           terms = λ s. gains.terms ∙ h.terms stands;
           begins = subst (λ p. IsPrefix p history) (sym gains.past) lengthened.2;
@@ -284,6 +304,7 @@ module _ (t : Terms) (m : Memory) (views : List Log) (history : List Update) (r 
             joined = subst (AllByRecursion (IsRecord t (longer v.past u.past) count)) (sym gains.joined)
                 (records_append t (longer v.past u.past) count v.receipts.joined lists (records_later t v.past (longer v.past u.past) _ count lengthened.0 v.receipts.joined h.receipts.joined)
                 (gained (record_later t u.past (longer v.past u.past) _ count lengthened.1 u.receipts.own i.receipts.own, records_later t u.past (longer v.past u.past) _ count lengthened.1 u.receipts.joined i.receipts.joined)));
+            heard = subst (λ p. IsPrefix p (longer v.past u.past)) (sym gains.heard) (shorter_begins v.past u.past lengthened.0 lengthened.1);
           };
           lineage = subst LineageHolds (sym gains.lineage) (join_holds v.lineage u.lineage h.lineage i.lineage);
           idle = idle;
@@ -397,6 +418,7 @@ module _ (t : Terms) (id : ℕ) (v : Log) (caller : v.role ≡ role.Caller) wher
         past = refl;
         own = refl;
         joined = refl;
+        heard = refl;
         loader = refl;
         allowance = refl;
         credit = refl;
@@ -413,10 +435,11 @@ module _ (t : Terms) (id : ℕ) (v : Log) (caller : v.role ≡ role.Caller) wher
         past = refl;
         own = refl;
         joined = sym (append-nil v.receipts.joined);
+        heard = refl;
         loader = refl;
         allowance = (let a = note.allowance in omega (arith, a));
         credit = (let a = note.credit in omega (arith, a));
         made = (let a = note.made in omega (arith, a));
         lineage = refl;
-        counts = λ n. let e : dones_in n u ≡ 0 = (λ i. dones n record { own = note.own i; joined = note.joined i }) in sym e;
+        counts = λ n. let e : dones_in n u ≡ 0 = (λ i. dones n record { own = note.own i; joined = note.joined i; heard = u.receipts.heard }) in sym e;
       }) (record { holdings = refl; sights = refl; own = refl; loads = refl; turn = omega arith }) (λ c h. tt)

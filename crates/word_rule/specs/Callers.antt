@@ -85,11 +85,12 @@ abbrev pub IsRecord : Terms → List Update → ℕ → List Receipt → Type 0
 IsRecord t history callers receipts =
     AllHold (start t) history t.nodes callers 0 receipts × AreInOrder 0 receipts
 
--- each list of a log is such a record
+-- each list of a log is such a record, and the history begins with what was heard
 pub record ReceiptsHold (t : Terms) (history : List Update) (callers : ℕ)
     (r : Receipts) : Type 0 where
   pub own : IsRecord t history callers r.own
   pub joined : AllByRecursion (IsRecord t history callers) r.joined
+  pub heard : IsPrefix r.heard history
 
 -- Of any name, what was gathered and what was given stand against each other, but for what is
 -- unmatched and what is missing. Each name given is that of a child of one that was gathered.

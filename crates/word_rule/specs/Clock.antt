@@ -6,7 +6,6 @@ use mathlib.Core.List.{IsPrefix}
 use Rattle.reg_model.specs.State.{IsLawful, objects}
 use Rattle.reg_model.specs.History.{state_after}
 use Rattle.reg_model.specs.declared.span.Member.{Member}
-use Rattle.reg_model.specs.declared.answer.Half.TheVariants as half
 use Rattle.reg_model.specs.declared.answer.Receipt.{Receipt}
 use Rattle.reg_model.specs.declared.answer.Update.{Update}
 use Rattle.reg_model.specs.declared.answer.Update.TheVariants as update
@@ -18,7 +17,7 @@ use Rattle.word_rule.specs.declared.log.Terms.{Terms}
 use Rattle.word_rule.specs.Places.{lower, upper}
 use Rattle.word_rule.specs.Callers.{AreTerms, IsAlone, IsMemberOf, publications, start}
 use Rattle.word_rule.specs.Copies.{AreOfCopy, ListsAll}
-use Rattle.word_rule.specs.Sights.{after_clock, query_receipt, walk_receipts}
+use Rattle.word_rule.specs.Sights.{after_clock, walk_receipts}
 use Rattle.word_rule.specs.Steps.{IsRefusalOf, MayRefuse}
 use Rattle.word_rule.specs.TreeRefusals.{ShowsFull, ShowsNone, ShowsOverlap}
 
@@ -63,12 +62,11 @@ MayAsk t (ask.Refused u) v = IsSomeAnd v.loader (MayRefuse t u)
 MayAsk t _ v = Unit {0}
 
 -- The receipts that a load of the clock appends, by what it is asked, where `seen` has seen all of
--- the history: none; the registered half's answer; the loader's, where the upper half is still the
--- guard of this sight; or the refusal of the update.
+-- the history: the loader's half's answer, where the upper half is still the guard of this sight;
+-- or the refusal of the update; else none. The registered half's goes with the load of a version.
 abbrev pub AreAsked : Ask → ℕ → Option CopySight → Log → List Receipt → Type 0
 AreAsked ask.Nothing found sight seen receipts = receipts ≡ []
-AreAsked (ask.Registered pc) found sight seen receipts =
-    receipts ≡ query_receipt half.Registered seen pc (lower found) ∷ []
+AreAsked (ask.Registered pc) found sight seen receipts = receipts ≡ []
 AreAsked (ask.Loaded pc) found sight seen receipts =
     receipts ≡ walk_receipts seen found pc sight
 AreAsked (ask.Refused u) found sight seen receipts = (r : Receipt) × ((receipts ≡ r ∷ [])

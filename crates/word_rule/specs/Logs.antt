@@ -79,6 +79,10 @@ after_loader_release_same v = record (after_write v) { loader = None }
 abbrev pub longer : List Update → List Update → List Update
 longer a b = if nat_lt (length a) (length b) then b else a
 
+-- the shorter of them
+abbrev pub shorter : List Update → List Update → List Update
+shorter a b = if nat_lt (length a) (length b) then a else b
+
 -- a log that has seen so much and done nothing
 abbrev pub new_log : Terms → Role → List Update → Budget → Lineage → Log
 new_log terms role past budget lineage = record {
@@ -86,7 +90,7 @@ new_log terms role past budget lineage = record {
   role = role;
   past = past;
   budget = budget;
-  receipts = record { own = []; joined = [] };
+  receipts = record { own = []; joined = []; heard = [] };
   trace = record { loads = []; stores = []; writes = 0; meetings = 0 };
   holdings = record { held = []; out = []; head = None };
   loader = None;
@@ -160,6 +164,7 @@ note_of v = child_log role.Note record { allowance = 0; credit = 0 } v
 abbrev pub after_learn : Log → Log → Log
 after_learn v note = record v {
   past = longer v.past note.past;
+  receipts = record v.receipts { heard = shorter v.past note.past };
   trace = after_meeting v.trace;
   lineage = joined_lineage v.lineage note.lineage;
 }
@@ -173,6 +178,7 @@ after_join v other = record (after_learn v other) {
   };
   receipts = record v.receipts {
     joined = v.receipts.joined ++ other.receipts.own ∷ other.receipts.joined;
+    heard = shorter v.past other.past;
   };
   made = v.made + other.made;
 }

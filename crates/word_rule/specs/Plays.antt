@@ -1,5 +1,6 @@
 -- What each step tells its caller.
 use Rattle.std.specs.Prelude.{◌≡◌, ℕ, ◌%◌, ◌<◌, ◌^◌, ◌==◌, ◌≤◌, List, MatchBool, IfSome, false}
+use mathlib.Core.List.{IsPrefix}
 use Rattle.atomic_table.specs.Table.{Me, Step}
 use Rattle.reg_model.specs.declared.answer.Update.{Update}
 use Rattle.tree_shape.specs.NodeData.{NodeData}
@@ -66,11 +67,13 @@ abbrev pub releases_same : Stepped → Seated → ℕ → Seated → Type 0
 releases_same st me found me' = (me' ≡ (after_loader_release_same me.0, me.1)) × WasLocked me found
 
 -- What a caller into which another was joined is told by a load of the clock: how many calls and
--- releases are allowed, and, where it is alone, that its log has all that was ever done.
+-- releases are allowed; where it is alone, that its log has all that was ever done; and that what
+-- it has seen begins with what it heard.
 abbrev pub confirms : Stepped → Seated → ℕ → Seated → Type 0
 confirms st me found me' =
     (me' ≡ me) × (me.0.budget.allowance ≤ ALLOWANCE) × (me.0.budget.credit ≤ CREDIT)
     × (is_spent me.0.role ≡ false → IsAlone me.0.lineage → IsWhole me.0)
+    × IsPrefix me.0.receipts.heard me.0.past
 
 -- a word of a copy was loaded
 abbrev pub loads_copy : Stepped → Seated → ℕ → Seated → Type 0

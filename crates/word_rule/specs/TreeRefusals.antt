@@ -4,7 +4,7 @@ use Rattle.std.specs.Prelude.{◌≡◌, ℕ, ◌+◌, ◌≤◌, ◌⊎◌, fal
 use Rattle.std.specs.Prelude.{◌++◌, length, flat_map, max, Contains}
 use Rattle.std.specs.List.{AllByRecursion}
 use Rattle.reg_model.specs.History.{state_after}
-use Rattle.reg_model.specs.Receipt.{IsRight}
+use Rattle.reg_model.specs.Receipt.{HadTenMembers, IsRight}
 use Rattle.reg_model.specs.State.{IsFree, IsLowestOverlap, at_base}
 use Rattle.reg_model.specs.declared.span.Member.{Member}
 use Rattle.reg_model.specs.declared.answer.Inserted.TheVariants as inserted
@@ -25,7 +25,7 @@ use Rattle.word_rule.specs.Places.{HEAD, lower, node_place}
 use Rattle.word_rule.specs.Held.{marked_in, settled_in}
 use Rattle.word_rule.specs.Spelling.{SpellsNode}
 use Rattle.word_rule.specs.Callers.{start}
-use Rattle.word_rule.specs.Observations.{IsFullCount}
+use Rattle.word_rule.specs.Observations.{IsFullCount, last_moment}
 
 -- the address lies in the fences of one of the leaves
 abbrev pub IsInOne : Contents → List ℕ → ℕ → Type 0
@@ -100,10 +100,12 @@ pub record ShowsFull (m : Member) (v : Log) : Type 0 where
   pub free : IsFree m.span (entries_in_leaves (settled_in v.holdings.held) leaves)
   pub no_room : HadNoRoom m.span.first (length v.receipts.own) v.trace.loads
 
--- one receipt more, which is right in the state after all that is now seen
+-- One receipt more, which is right in the state after all that is now seen. Where it is a Full, ten
+-- members were registered at some moment since the receipt before it.
 pub record Appends (r : Receipt) (v w : Log) : Type 0 where
   pub own : w.receipts.own ≡ v.receipts.own ++ r ∷ []
   pub right : IsRight (state_after (start w.terms) w.past) r
+  pub filled : HadTenMembers (start w.terms) w.past (last_moment 0 v.receipts.own) r
 
 -- Which receipt a load of the clock appends that is asked for the refusal of an update of the tree:
 -- the one that the held leaves show, with the clock's number of updates as its stamp.

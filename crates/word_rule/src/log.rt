@@ -44,10 +44,12 @@ pub struct Budget {
 }
 
 /// The receipts of a caller, and of each caller that was joined into it, directly or through
-/// others.
+/// others; and what it heard of the history as it took in another.
 pub struct Receipts {
     pub own: LinkedList<Receipt>,
     pub joined: LinkedList<LinkedList<Receipt>>,
+    /// The shorter of what it had seen and what the one had that it took in last.
+    pub heard: LinkedList<Update>,
 }
 
 /// A node that the caller has locked.

@@ -1,6 +1,7 @@
 //! Callers and notes that come and go.
 ghost use Rattle.std.specs.Prelude.{◌≡◌, ◌+◌, ◌-◌, ◌*◌, ◌<◌, ◌≤◌, [], None};
 ghost use Rattle.std.specs.Prelude.{OnErr, IfOk, IfErr, OnOk, false};
+ghost use mathlib.Core.List.{IsPrefix};
 ghost use Rattle.word_rule.specs.Places.{ALLOWANCE, CALL_CREDIT, CREDIT};
 ghost use Rattle.word_rule.specs.Logs.{is_spent, after_split, split_off, after_note, note_of};
 ghost use Rattle.word_rule.specs.Logs.{after_join, after_learn};
@@ -91,6 +92,7 @@ impl Words {
         ensures credit { seat.old.me.0.budget.credit ≤ CREDIT }
         ensures whole { is_spent seat.old.me.0.role ≡ false → IsAlone seat.old.me.0.lineage
             → IsWhole seat.old.me.0 }
+        ensures heard { IsPrefix seat.old.me.0.receipts.heard seat.old.me.0.past }
     {
         self.table.shared.load::<Confirms>(seat, CLOCK_WORD);
     }
@@ -106,8 +108,8 @@ impl Words {
         self.confirm_seat(seat);
     }
 
-    /// Joins another caller into this one: its update calls, what it has seen, and its receipts. It
-    /// comes back where there is no memory.
+    /// Joins another caller into this one: its update calls, what it has seen, and its receipts.
+    /// What either had seen begins what is seen afterwards. It comes back where there is no memory.
     pub fn join(&self, alloc: Global, me: &mut Caller, other: Caller) -> Result<(), Caller>
         requires table { me.old.table ≡ self.now.table }
         requires other { other.table ≡ self.now.table }
@@ -120,6 +122,8 @@ impl Words {
               log = after_join me.old.log other.log;
             }) }
         ensures whole { OnOk result (IsAlone me.new.log.lineage → IsWhole me.new.log) }
+        ensures begins { OnOk result (IsPrefix me.old.log.past me.new.log.past
+            × IsPrefix other.log.past me.new.log.past) }
         ensures err { IfErr result (λ kept. (kept ≡ other) × (me.new ≡ me.old)) }
     {
         let _ = alloc;
@@ -149,12 +153,15 @@ impl Words {
         Ok(())
     }
 
-    /// Learns what the maker of a note had seen. The note comes back where there is no memory.
+    /// Learns what the maker of a note had seen, which begins what is seen afterwards, as does what
+    /// was seen before. The note comes back where there is no memory.
     pub fn learn(&self, alloc: Global, me: &mut Caller, note: Note) -> Result<(), Note>
         requires table { me.old.table ≡ self.now.table }
         requires note { note.table ≡ self.now.table }
         ensures ok { OnOk result (me.new
             ≡ record me.old { log = after_learn me.old.log note.log }) }
+        ensures begins { OnOk result (IsPrefix me.old.log.past me.new.log.past
+            × IsPrefix note.log.past me.new.log.past) }
         ensures err { IfErr result (λ kept. (kept ≡ note) × (me.new ≡ me.old)) }
     {
         let _ = alloc;
@@ -170,7 +177,9 @@ impl Words {
                 names,
             });
         }
-        self.table.shared.join_seat::<Learns>(&mut me.seat, seat);
+        let mine = &mut me.seat;
+        self.table.shared.join_seat::<Learns>(mine, seat);
+        self.confirm_seat(mine);
         me.seen = me.seen.max(noted);
         Ok(())
     }

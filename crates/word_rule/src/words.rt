@@ -254,19 +254,35 @@ impl Words {
         }
     }
 
+    // Parks on the word of this lock.
+    fn park_on<R: Wait>(&self, rt: &R, lock: LockId, word: usize, seen: u64)
+        requires lock { IsLock self.now.terms lock }
+        requires word { word ≡ lock_place lock }
+    {
+        let _ = lock;
+        self.table.shared.park(rt, word, (seen % (1 << 32)) as u32);
+    }
+
     /// Sleeps on a lock while its word is the one seen, or for no reason shorter. It tells nothing.
     pub fn sleep<R: Wait>(&self, rt: &R, lock: LockId, seen: u64)
         requires { IsLock self.now.terms lock }
     {
-        self.table
-            .shared
-            .park(rt, word_of(lock), (seen % (1 << 32)) as u32);
+        self.park_on(rt, lock, word_of(lock), seen);
+    }
+
+    // Wakes one that parks on the word of this lock.
+    fn wake_on(&self, lock: LockId, word: usize)
+        requires lock { IsLock self.now.terms lock }
+        requires word { word ≡ lock_place lock }
+    {
+        let _ = lock;
+        self.table.shared.wake_one(word);
     }
 
     /// Wakes one thread that sleeps on a lock, if there is one.
     pub fn wake(&self, lock: LockId)
         requires { IsLock self.now.terms lock }
     {
-        self.table.shared.wake_one(word_of(lock));
+        self.wake_on(lock, word_of(lock));
     }
 }
