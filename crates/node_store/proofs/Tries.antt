@@ -1,13 +1,12 @@
 -- Loads, refused exchanges and marks one after another.
-use Rattle.std.proofs.Common.{◌≡◌, ℕ, ◌+◌, List, [], ◌∷◌, ◌++◌, Some, Ok, Err, Result, IfOk, IfErr, ◌≢◌, sym, refl, ap, subst, ◌∙◌, append-nil, append_assoc, add_assoc, add-zero, arith}
+use Rattle.std.proofs.Common.{◌≡◌, ℕ, ◌+◌, List, [], ◌∷◌, ◌++◌, Some, Ok, Err, Result, IfOk, IfErr, ◌≢◌, sym, refl, ap, subst, ◌∙◌, append-nil, append_assoc, add_assoc, add-zero, arith, Bool, true, false, not, ◌==◌, ◌%◌, eq-eqb, if◌then◌else◌}
 use Rattle.std.specs.List.{AllByRecursion}
 use Rattle.word_rule.specs.CallerData.{CallerData}
 use Rattle.word_rule.specs.Logs.{IsTaken, load_of, after_load, after_loader_lock, after_write}
 use Rattle.word_rule.specs.NodeTells.{IsTakenNode}
-use Rattle.word_rule.specs.Sights.{sight_of, receipts_after_version, sights_after_version}
+use Rattle.word_rule.specs.Sights.{after_node_begin, sight_begun, sights_after_begin, without_sight}
 use Rattle.word_rule.specs.Steps.{after_node_lock}
-use Rattle.word_rule.specs.VersionLocks.{IsLockTaken, after_version, lock_place}
-use Rattle.word_rule.specs.declared.log.Ask.TheVariants as ask
+use Rattle.word_rule.specs.VersionLocks.{IsLockTaken, lock_place}
 use Rattle.word_rule.specs.declared.log.LoadEvent.{LoadEvent}
 use Rattle.word_rule.specs.declared.log.LockId.{LockId}
 use Rattle.word_rule.specs.declared.log.LockId.TheVariants as lock
@@ -15,7 +14,6 @@ use Rattle.word_rule.specs.declared.log.LoaderHolding.{LoaderHolding}
 use Rattle.word_rule.specs.declared.log.Log.{Log}
 use Rattle.word_rule.specs.declared.log.NodeSight.{NodeSight}
 use Rattle.node_store.specs.Locking.{IsOfLock, SightsAfter, tried, sighted, Tries, Locks}
-use Rattle.word_rule.proofs.NodeSights.{no_receipt}
 
 all_append : (id : LockId) (xs ys : List LoadEvent) → AllByRecursion (IsOfLock id) xs → AllByRecursion (IsOfLock id) ys → AllByRecursion (IsOfLock id) (xs ++ ys)
 all_append id [] ys h i = i
@@ -32,11 +30,11 @@ tried_by k more marks nodes = record k { log = sighted nodes (tried more marks k
 -- the sights of nodes as they were
 same_sights : (id : LockId) (nodes : List NodeSight) → SightsAfter id nodes nodes
 same_sights lock.Loader nodes = refl
-same_sights (lock.Node n) nodes = tt
+same_sights (lock.Node n) nodes = refl
 
 both_sights : (id : LockId) (a b c : List NodeSight) → SightsAfter id a b → SightsAfter id b c → SightsAfter id a c
 both_sights lock.Loader a b c p q = q ∙ p
-both_sights (lock.Node n) a b c p q = tt
+both_sights (lock.Node n) a b c p q = q ∙ p
 
 pub tries_none : (id : LockId) (k : CallerData) → Tries id k k
 tries_none id k = ([], 0, k.log.sights.nodes, (tt, same_sights id k.log.sights.nodes, (λ i. record k { log = counted (sym (append-nil k.log.trace.loads) i) (sym (add-zero k.log.trace.writes) i) k.log.sights.nodes k.log })))
@@ -50,16 +48,29 @@ pub tries_load : (id : LockId) (a b c : CallerData) (found : ℕ) → Tries id a
 tries_load id a b c found p e = tries_both id a b c p
     (load_of b.log (lock_place id) found ∷ [], 0, b.log.sights.nodes, ((refl, tt), same_sights id b.log.sights.nodes, e ∙ (λ i. record b { log = counted (b.log.trace.loads ++ load_of b.log (lock_place id) found ∷ []) (sym (add-zero b.log.trace.writes) i) b.log.sights.nodes b.log })))
 
--- the version was loaded
-pub tries_version : (id : LockId) (a b c : CallerData) (found : ℕ) → Tries id a b → c ≡ record b { log = after_version ask.Nothing id found b.log } → Tries id a c
-tries_version lock.Loader a b c found p e = tries_load lock.Loader a b c found p e
-tries_version (lock.Node n) a b c found p e =
-    let v : Log = b.log in
+without_twice : (n : ℕ) (sights : List NodeSight) → without_sight n (without_sight n sights) ≡ without_sight n sights
+without_twice n [] = refl
+without_twice n (s ∷ sights) = go (without_twice n sights) (not (s.node == n)) refl
+  where
+    go : without_sight n (without_sight n sights) ≡ without_sight n sights → (b : Bool) → not (s.node == n) ≡ b → without_sight n (if b then s ∷ without_sight n sights else without_sight n sights) ≡ (if b then s ∷ without_sight n sights else without_sight n sights)
+    go rest true e = rw e (ap (λ after. s ∷ after) rest)
+    go rest false e = rest
+
+-- a sight of a node that begins lets those of the others be
+others_stay : (n found : ℕ) (sights : List NodeSight) → without_sight n (sights_after_begin n found sights) ≡ without_sight n sights
+others_stay n found sights = go (found % 2 == 0)
+  where
+    go : (b : Bool) → without_sight n (if b then (sight_begun n found ∷ without_sight n sights) else sights) ≡ without_sight n sights
+    go true = rw (eq-eqb n n refl) (without_twice n sights)
+    go false = refl
+
+-- the version of a node was loaded
+pub tries_begin : (n : ℕ) (a b : CallerData) (found : ℕ) → b ≡ record a { log = after_node_begin n found a.log } → Tries (lock.Node n) a b
+tries_begin n a b found e =
+    let v : Log = a.log in
     let l : LoadEvent = load_of v (lock_place (lock.Node n)) found in
-    let nodes : List NodeSight = sights_after_version n found (sight_of n v.sights.nodes) v.sights.nodes in
-    let own : v.receipts.own ++ receipts_after_version v ask.Nothing found (sight_of n v.sights.nodes) ≡ v.receipts.own = ap (λ rs. v.receipts.own ++ rs) (no_receipt v found (sight_of n v.sights.nodes)) ∙ append-nil v.receipts.own in
-    tries_both (lock.Node n) a b c p
-    (l ∷ [], 0, nodes, ((refl, tt), tt, e ∙ (λ i. record b { log = record (counted (v.trace.loads ++ l ∷ []) (sym (add-zero v.trace.writes) i) nodes v) { receipts = record v.receipts { own = own i } } })))
+    let nodes : List NodeSight = sights_after_begin n found v.sights.nodes in
+    (l ∷ [], 0, nodes, ((refl, tt), others_stay n found v.sights.nodes, e ∙ (λ i. record a { log = counted (v.trace.loads ++ l ∷ []) (sym (add-zero v.trace.writes) i) nodes v })))
 
 pub tries_table : (id : LockId) (a b : CallerData) → Tries id a b → b.table ≡ a.table
 tries_table id a b p = ap (λ k. k.table) p.3.2
@@ -74,7 +85,7 @@ takes lock.Loader a b c version p taken =
 takes (lock.Node n) a b c version p taken =
     let step : CallerData → CallerData = λ k. record k { log = after_node_lock n version taken.0 taken.1 k.log } in
     let mine : IsTakenNode n (sighted p.2 (tried p.0 p.1 a.log)) taken.1 taken.0 = subst (λ (k : CallerData). IsTakenNode n k.log taken.1 taken.0) p.3.2 taken.2.0 in
-    (p.0, p.1, p.2, version, taken.0, taken.1, (p.3.0, record { within = mine.within; new = mine.new; wide = mine.wide; spells = mine.spells; live = mine.live; free = mine.free }, taken.2.1 ∙ ap step p.3.2))
+    (p.0, p.1, p.2, version, taken.0, taken.1, ((p.3.0, p.3.1), record { within = mine.within; new = mine.new; wide = mine.wide; spells = mine.spells; live = mine.live; free = mine.free }, taken.2.1 ∙ ap step p.3.2))
 
 pub takes_then : (id : LockId) (a b c : CallerData) → Locks id a b → Tries id b c → Locks id a c
 takes_then lock.Loader a b c p q =
@@ -87,7 +98,8 @@ takes_then (lock.Node n) a b c p q =
     let both : tried_by (record a { log = after_node_lock n p.3 p.4 p.5 (sighted p.2 (tried p.0 p.1 a.log)) }) q.0 q.1 q.2 ≡ record a { log = after_node_lock n p.3 p.4 p.5 (sighted q.2 (tried (p.0 ++ q.0) (p.1 + q.1) a.log)) } =
     (let w : a.log.trace.writes + p.1 + 1 + q.1 ≡ a.log.trace.writes + (p.1 + q.1) + 1 = omega arith in
     (λ i. record a { log = record (counted (append_assoc a.log.trace.loads p.0 q.0 i) (w i) q.2 a.log) { holdings = (after_node_lock n p.3 p.4 p.5 a.log).holdings } })) in
-    (p.0 ++ q.0, p.1 + q.1, q.2, p.3, p.4, p.5, (all_append (lock.Node n) p.0 q.0 p.6.0 q.3.0, p.6.1, q.3.2 ∙ (ap (λ k. tried_by k q.0 q.1 q.2) p.6.2 ∙ both)))
+    let others = both_sights (lock.Node n) a.log.sights.nodes p.2 q.2 p.6.0.1 (subst (λ (k : CallerData). SightsAfter (lock.Node n) k.log.sights.nodes q.2) p.6.2 q.3.1) in
+    (p.0 ++ q.0, p.1 + q.1, q.2, p.3, p.4, p.5, ((all_append (lock.Node n) p.0 q.0 p.6.0.0 q.3.0, others), p.6.1, q.3.2 ∙ (ap (λ k. tried_by k q.0 q.1 q.2) p.6.2 ∙ both)))
 
 tries_mark : (id : LockId) (a b : CallerData) → b ≡ record a { log = after_write a.log } → Tries id a b
 tries_mark id a b e = ([], 1, a.log.sights.nodes, (tt, same_sights id a.log.sights.nodes, e ∙ (λ i. record a { log = counted (sym (append-nil a.log.trace.loads) i) (a.log.trace.writes + 1) a.log.sights.nodes a.log })))

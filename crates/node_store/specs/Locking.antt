@@ -5,6 +5,7 @@ use Rattle.tree_shape.specs.NodeData.{NodeData}
 use Rattle.word_rule.specs.CallerData.{CallerData}
 use Rattle.word_rule.specs.Logs.{IsTaken, after_load, after_loader_lock}
 use Rattle.word_rule.specs.NodeTells.{IsTakenNode}
+use Rattle.word_rule.specs.Sights.{without_sight}
 use Rattle.word_rule.specs.Steps.{after_node_lock}
 use Rattle.word_rule.specs.VersionLocks.{lock_place}
 use Rattle.word_rule.specs.declared.log.LockId.{LockId}
@@ -28,10 +29,11 @@ tried more marks v = record v {
 abbrev pub sighted : List NodeSight → Log → Log
 sighted nodes v = record v { sights = record v.sights { nodes = nodes } }
 
--- what loads of a version leave of the sights of nodes: all, where it is the loader's
+-- What loads of a version leave of the sights of nodes: all, where it is the loader's; those of the
+-- other nodes, where it is a node's.
 abbrev pub SightsAfter : LockId → List NodeSight → List NodeSight → Type 0
 SightsAfter lock.Loader before after = after ≡ before
-SightsAfter (lock.Node n) before after = Unit {0}
+SightsAfter (lock.Node n) before after = without_sight n after ≡ without_sight n before
 
 -- Only a lock's version word was loaded and marked.
 abbrev pub Tries : LockId → CallerData → CallerData → Type 0
@@ -47,7 +49,8 @@ Locks lock.Loader k k' = (more : List LoadEvent) × (marks : ℕ) × (h : Loader
 Locks (lock.Node n) k k' =
     (more : List LoadEvent) × (marks : ℕ) × (nodes : List NodeSight) × (version : ℕ)
     × (settled : NodeData) × (words : List ℕ)
-    × (AllByRecursion (IsOfLock (lock.Node n)) more × IsTakenNode n k.log words settled
+    × ((AllByRecursion (IsOfLock (lock.Node n)) more
+    × SightsAfter (lock.Node n) k.log.sights.nodes nodes) × IsTakenNode n k.log words settled
     × (k' ≡ record k {
       log = after_node_lock n version settled words (sighted nodes (tried more marks k.log));
     }))

@@ -20,6 +20,18 @@ const BITS: u64 = VERSION;
 
 pub(crate) const LOCKED_WITH_SLEEPERS: u64 = LOCKED + SLEEPERS;
 
+// Loads the word of a lock. Of a node, a sight begins; what is known of the others stays.
+fn load_word(words: &Words, me: &mut Caller, lock: LockId) -> u64
+    requires table { me.old.table ≡ words.now.table }
+    requires lock { IsLock words.now.terms lock }
+    ensures { Tries lock me.old me.new }
+{
+    match lock {
+        LockId::Loader => words.load_version(me, lock, Ask::Nothing),
+        LockId::Node { node } => words.begin_sight(me, node),
+    }
+}
+
 // Sleeps while the word is the one seen, which is locked, and loads it again. Where it has changed,
 // that word.
 fn wait<R: Wait>(rt: &R, words: &Words, me: &mut Caller, lock: LockId, seen: u64) -> u64
@@ -34,7 +46,7 @@ fn wait<R: Wait>(rt: &R, words: &Words, me: &mut Caller, lock: LockId, seen: u64
         }
     }
     words.sleep(rt, lock, seen - seen % BITS + LOCKED_WITH_SLEEPERS);
-    words.load_version(me, lock, Ask::Nothing)
+    load_word(words, me, lock)
 }
 
 // Says that others may sleep on a lock that was taken, unless one of them said so since.
@@ -55,7 +67,7 @@ pub fn lock<R: Wait>(rt: &R, words: &Words, me: &mut Caller, lock: LockId)
 {
     let backoff = Backoff::new();
     let mut slept = false;
-    let mut seen = words.load_version(me, lock, Ask::Nothing);
+    let mut seen = load_word(words, me, lock);
     for _ in rt.forever() {
         if seen % 2 == 0 {
             match words.try_lock(me, lock, seen) {
@@ -72,7 +84,7 @@ pub fn lock<R: Wait>(rt: &R, words: &Words, me: &mut Caller, lock: LockId)
             slept = true;
         } else {
             backoff.snooze();
-            seen = words.load_version(me, lock, Ask::Nothing);
+            seen = load_word(words, me, lock);
         }
     }
     unreachable!()

@@ -1,7 +1,7 @@
 use Rattle.std.proofs.Common.{◌∙◌, sym, subst}
 use Rattle.word_rule.specs.CallerData.{CallerData}
 use Rattle.node_store.specs.Locking.{Locks, Tries}
-use Rattle.node_store.proofs.Tries.{tries_both, tries_none, tries_table, tries_version, takes, takes_then}
+use Rattle.node_store.proofs.Tries.{tries_both, tries_table, takes, takes_then}
 use Rattle.node_store.proofs.locks.lock.Goals as goal
 use Rattle.node_store.proofs.locks.lock.Goals.{then-slept, else-slept}
 
@@ -21,12 +21,12 @@ loop-preserved-then-is_completed g c = record {
 pub loop-init : goal.loop-init
 loop-init g c =
     let old : CallerData = c.args.me.now in
-    let tries : Tries c.args.lock old c.load_version-seen.new.me = tries_version c.args.lock old old c.load_version-seen.new.me c.load_version-seen.result (tries_none c.args.lock old) c.load_version-seen.ensures.log in
-    record { tries = tries; table = tries_table c.args.lock old c.load_version-seen.new.me tries ∙ c.requires.table }
+    let tries : Tries c.args.lock old c.load_word-seen.new.me = c.load_word-seen.ensures in
+    record { tries = tries; table = tries_table c.args.lock old c.load_word-seen.new.me tries ∙ c.requires.table }
 
 pub loop-preserved : goal.loop-preserved
 loop-preserved g c =
     let old : CallerData = c.args.me.now in
-    let again = c.load_version-seen-else-is_completed in
-    let tries : Tries c.args.lock old again.new.me = tries_version c.args.lock old c.loop.me again.new.me again.result c.loop.invariant.tries again.ensures.log in
+    let again = c.load_word-seen-else-is_completed in
+    let tries : Tries c.args.lock old again.new.me = tries_both c.args.lock old c.loop.me again.new.me c.loop.invariant.tries again.ensures in
     record { tries = tries; table = tries_table c.args.lock old again.new.me tries ∙ c.requires.table }

@@ -1,7 +1,7 @@
 use Rattle.std.proofs.Common.{sym, subst}
 use Rattle.word_rule.specs.CallerData.{CallerData}
 use Rattle.node_store.specs.Locking.{Tries}
-use Rattle.node_store.proofs.Tries.{tries_load, tries_marked, tries_none, tries_version}
+use Rattle.node_store.proofs.Tries.{tries_both, tries_load, tries_marked, tries_none}
 use Rattle.node_store.proofs.locks.wait.Goals as goal
 use Rattle.node_store.proofs.locks.wait.Goals.{then-seen-eq-LOCKED+in_default, else-seen-eq-LOCKED}
 
@@ -16,4 +16,4 @@ returns g c =
       | then-seen-eq-LOCKED+in_default w ↦ subst P (sym w.me-is) (tries_marked c.args.lock old w.mark_sleeping.new.me c.args.seen w.mark_sleeping.result w.mark_sleeping.ensures.ok w.mark_sleeping.ensures.err)
       | else-seen-eq-LOCKED w ↦ subst P (sym w.me-is) (tries_none c.args.lock old)
     ] in
-    tries_version c.args.lock old c.if-seen-eq-LOCKED.me c.load_version.new.me c.load_version.result marked c.load_version.ensures.log
+    tries_both c.args.lock old c.if-seen-eq-LOCKED.me c.load_word.new.me marked c.load_word.ensures
