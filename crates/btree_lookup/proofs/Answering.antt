@@ -1,5 +1,5 @@
 -- The end of a lookup at a leaf, from the load of the clock and of the leaf's version.
-use Rattle.std.proofs.Common.{◌≡◌, ◌≢◌, ℕ, ◌+◌, ◌≤◌, ◌==◌, ◌&&◌, Bool, true, false, List, [], ◌∷◌, ◌++◌, length, length-append, map, take_all, option_map, Option, Some, None, is_some, IfSome, Ok, inl, refl, ap, sym, ◌∙◌, subst, arith, append-nil, eq-eqb, ne_eqb, le-leb, if◌then◌else◌}
+use Rattle.std.proofs.Common.{◌≡◌, ◌≢◌, ℕ, ◌+◌, ◌≤◌, ◌==◌, ◌&&◌, ◌%◌, Contains, Bool, true, false, List, [], ◌∷◌, ◌++◌, length, length-append, map, take_all, option_map, Option, Some, None, is_some, IfSome, Ok, inl, refl, ap, sym, ◌∙◌, subst, arith, append-nil, eq-eqb, ne_eqb, le-leb, if◌then◌else◌}
 use Rattle.std.specs.List.{AllByRecursion}
 use Rattle.std.proofs.lemmas.List.{length-map}
 use Rattle.std.proofs.lemmas.Option.{none-some, same_Some}
@@ -28,14 +28,15 @@ use Rattle.word_rule.specs.Clock.{AfterClock, ClockTells}
 use Rattle.word_rule.specs.Logs.{load_of}
 use Rattle.word_rule.specs.NodeTells.{AloneTells, IsOfNode}
 use Rattle.word_rule.specs.Places.{CLOCK, lower, node_place}
-use Rattle.word_rule.specs.Sights.{after_clock, after_node_version, copies_after_clock, found_at, is_leaf_for, place_of, query_receipt, receipts_after_version, sight_of, sights_after_version, try_receipts, with_clock}
+use Rattle.word_rule.specs.Sights.{after_clock, after_node_version, copies_after_clock, found_at, is_leaf_for, mark_child, or_mark, place_of, place_under, query_receipt, receipts_after_version, sight_of, sight_begun, sights_after_version, try_receipts, with_clock, without_sight}
 use Rattle.word_rule.specs.VersionLocks.{VersionTells}
 use Rattle.btree_lookup.specs.Loads.{after_looks, after_try, load_events, loaded_at}
-use Rattle.btree_lookup.specs.Tries.{EndsAgain, TriesTree}
+use Rattle.btree_lookup.specs.Tries.{EndsAgain, EndsAtLeaf, TriesTree}
 use Rattle.btree_lookup.specs.Visits.{Agrees, IsEntry, Sees, SeesEntry, entry_member}
 use Rattle.btree_lookup.specs.Ways.{AreLed}
 use Rattle.btree_lookup.specs.declared.entry.Entry.{Entry}
 use Rattle.btree_lookup.specs.declared.visit.Visit.{Visit}
+use Rattle.btree_lookup.proofs.Descending.{mark_keeps}
 use Rattle.btree_lookup.proofs.Loading.{come_in_order, last_loaded, led_more, more, still_led, version_led}
 use Rattle.btree_lookup.proofs.Visiting.{agrees, still_found, told_again}
 use Rattle.word_rule.proofs.NodeSights.{found_is, sight_changed}
@@ -198,6 +199,29 @@ module _ (t : Terms) (pc : ℕ) (k : CallerData) (visit : Visit) (bottom : visit
       known None e = tt
       known (Some m) e = found_known (IsMemberOf t) pc (state_after (start t) past).registered m tells.entries e
 
+      -- the sight of the leaf is kept as it was
+      leaf_last : sight_of visit.node last_sights.nodes ≡ Some leaf_sight
+      leaf_last =
+          ap (λ o. sight_of visit.node (sights_after_version visit.node found o sights.nodes)) leaf_there
+          ∙ (ap (λ b. sight_of visit.node (if b then map (mark_child leaf_sight) sights.nodes else (if found % 2 == 0 then (sight_begun visit.node found ∷ without_sight visit.node sights.nodes) else sights.nodes))) (eq-eqb s.sight.version found (s.same ∙ sym same))
+          ∙ (sight_changed visit.node (mark_child leaf_sight) (mark_keeps leaf_sight) sights.nodes
+          ∙ (ap (option_map (mark_child leaf_sight)) leaf_there
+          ∙ ap (λ b. Some (if b then leaf_sight else record leaf_sight { mark = or_mark (place_under s.sight.node leaf_sight (place_of leaf_sight)) s.sight.mark })) (eq-eqb s.sight.node s.sight.node refl))))
+
+      ends_there : EndsAtLeaf pc (lower clock) loaded last_sights
+      ends_there = record {
+        leaf = visit.node;
+        sight = leaf_sight;
+        kept = leaf_last;
+        live = is_leaf;
+        clocked = refl;
+        before = s.loaded;
+        clock = clock;
+        begun = subst (λ v. Contains s.loaded (loaded_at (node_place visit.node) v)) (sym s.same) s.version;
+        stood = ap (λ v. (s.loaded ++ first ∷ []) ++ loaded_at (node_place visit.node) v ∷ []) (same ∙ sym s.same);
+        stamped = refl;
+      }
+
       -- the answer is that of the state at the stamp
       pub leaf_found : (found' : Found) → member_of found' ≡ option_map entry_member entry → stamp_of found' ≡ lower clock → TriesTree t pc k k3 (Ok found')
       leaf_found found' member stamp = record {
@@ -212,6 +236,7 @@ module _ (t : Terms) (pc : ℕ) (k : CallerData) (visit : Visit) (bottom : visit
           (clock, (Contains-append_left (s.loaded ++ first ∷ []) (second ∷ []) first (last_loaded s.loaded first), sym stamp)),
           ap (λ n. query half.Registered pc (state_at (start t) past n)) stamp ∙ (answer_then ∙ sym member),
           subst (λ o. IfSome o (IsMemberOf t)) (sym member) (known (option_map entry_member entry) now),
+          subst (λ n. EndsAtLeaf pc n loaded last_sights) (sym stamp) ends_there,
         );
         log = last_is ∙ ap (λ rs. record k { log = after_try loaded past last_sights rs k.log })
             (made ∙ ap (λ z. Query half.Registered pc z ∷ []) ((λ i. found_at ((answer_then ∙ sym member) i) (sym stamp i)) ∙ found_is found'));

@@ -23,7 +23,7 @@ use Rattle.btree_lookup.proofs.Sighting.{node_of_sight}
 use Rattle.btree_lookup.proofs.Visiting.{fails_so, none_held, still_found}
 use Rattle.word_rule.proofs.NodeSights.{sight_changed, without_other}
 
-mark_keeps : (parent s : NodeSight) → (mark_child parent s).node ≡ s.node
+pub mark_keeps : (parent s : NodeSight) → (mark_child parent s).node ≡ s.node
 mark_keeps parent s = go (s.node == parent.node)
   where
     go : (b : Bool) → (if b then s else record s { mark = or_mark (place_under s.node parent (place_of parent)) s.mark }).node ≡ s.node

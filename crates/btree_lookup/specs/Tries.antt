@@ -1,5 +1,6 @@
 -- What a try of the tree makes of its caller.
-use Rattle.std.specs.Prelude.{◌≡◌, ℕ, ◌≤◌, List, [], ◌∷◌, length, Contains, IfSome, Result, Ok, Err}
+use Rattle.std.specs.Prelude.{◌≡◌, ℕ, ◌≤◌, List, [], ◌∷◌, ◌++◌, length, Contains, IfSome, Result}
+use Rattle.std.specs.Prelude.{Ok, Err, Some, true}
 use mathlib.Core.List.{IsPrefix}
 use Rattle.reg_model.specs.History.{state_at}
 use Rattle.reg_model.specs.Query.{query}
@@ -11,11 +12,13 @@ use Rattle.reg_model.specs.declared.answer.Receipt.{Receipt}
 use Rattle.reg_model.specs.declared.answer.Receipt.TheVariants.{Query}
 use Rattle.reg_model.specs.declared.answer.Update.{Update}
 use Rattle.word_rule.specs.declared.log.LoadedWord.{LoadedWord}
+use Rattle.word_rule.specs.declared.log.NodeSight.{NodeSight}
 use Rattle.word_rule.specs.declared.log.Sights.{Sights}
 use Rattle.word_rule.specs.declared.log.Terms.{Terms}
 use Rattle.word_rule.specs.CallerData.{CallerData}
 use Rattle.word_rule.specs.Callers.{IsMemberOf, start}
-use Rattle.word_rule.specs.Places.{CLOCK, lower}
+use Rattle.word_rule.specs.Places.{CLOCK, lower, node_place}
+use Rattle.word_rule.specs.Sights.{is_leaf_for, place_of, sight_of}
 use Rattle.btree_lookup.specs.Loads.{after_try, loaded_at}
 use Rattle.btree_lookup.specs.Ways.{AreLed, IsCause}
 
@@ -24,15 +27,32 @@ abbrev pub IsClockOf : List LoadedWord → ℕ → Type 0
 IsClockOf loaded stamp =
     (clock : ℕ) × (Contains loaded (loaded_at CLOCK clock) × (lower clock ≡ stamp))
 
+-- The loads end at a live leaf whose fences hold the address: a version of it was found, later the
+-- clock of this stamp, and then the same version again. So its sight stood as the clock was loaded.
+pub record EndsAtLeaf (pc stamp : ℕ) (loaded : List LoadedWord) (sights : Sights) : Type 0 where
+  pub leaf : ℕ
+  pub sight : NodeSight
+  pub kept : sight_of leaf sights.nodes ≡ Some sight
+  pub live : is_leaf_for pc (place_of sight) ≡ true
+  pub clocked : sight.clock ≡ Some stamp
+  pub before : List LoadedWord
+  pub clock : ℕ
+  pub begun : Contains before (loaded_at (node_place leaf) sight.version)
+  pub stood : loaded
+      ≡ (before ++ loaded_at CLOCK clock ∷ []) ++ loaded_at (node_place leaf) sight.version ∷ []
+  pub stamped : lower clock ≡ stamp
+
 -- The answer of a try at the end of which this much is seen. Found: it is the registered half's at
 -- the stamp, which is that of a clock that was loaded, and the length of all that is seen; the
--- member may be made known. Again: these loads have the cause.
-abbrev pub IsTryAnswer : Terms → ℕ → List Update → List LoadedWord → Result Found Again → Type 0
-IsTryAnswer t pc past loaded (Ok found) =
+-- member may be made known; and a live leaf stood then. Again: these loads have the cause.
+abbrev pub IsTryAnswer : Terms → ℕ → List Update → List LoadedWord → Sights
+    → Result Found Again → Type 0
+IsTryAnswer t pc past loaded sights (Ok found) =
     (stamp_of found ≡ length past) × IsClockOf loaded (stamp_of found)
     × (query Registered pc (state_at (start t) past (stamp_of found)) ≡ member_of found)
     × IfSome (member_of found) (IsMemberOf t)
-IsTryAnswer t pc past loaded (Err again) = IsCause t loaded again
+    × EndsAtLeaf pc (stamp_of found) loaded sights
+IsTryAnswer t pc past loaded sights (Err again) = IsCause t loaded again
 
 -- the receipt of an answer, and none where there is none
 abbrev pub receipts_of_try : ℕ → Result Found Again → List Receipt
@@ -50,7 +70,7 @@ pub record TriesTree (t : Terms) (pc : ℕ) (k k' : CallerData)
   pub begins : IsPrefix k.log.past past
   pub led : AreLed pc [] loaded
   pub few : length loaded ≤ 245
-  pub answer : IsTryAnswer t pc past loaded result
+  pub answer : IsTryAnswer t pc past loaded sights result
   pub log : k' ≡ record k {
     log = after_try loaded past sights (receipts_of_try pc result) k.log;
   }
