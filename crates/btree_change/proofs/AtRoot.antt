@@ -178,7 +178,7 @@ module _ (t : Terms) (m : Member) (full : FullRoot) (k : CallerData) (held : Hol
 
       pub lifted_ends : (k4 : CallerData) → LetsGo 0 k3 k4 → EndsInsertion t m reply.answer 39 k k4
       lifted_ends k4 goes = record {
-        right = right_after t m reply.answer k k2 k4 lifted_two.past (right_before t m reply.answer k2 k3 k4 goes.steps.past a.right);
+        right = right_after t m reply.answer k k2 k4 lifted_two.past lifted_two.receipts (right_before t m reply.answer k2 k3 k4 goes.steps.past a.right);
         call = spends_after 1 38 39 (receipt.Register m reply.answer ∷ []) (taken_by reply.answer) k k2 k4 (omega arith) lifted_two
             (spends_before most 1 38 (receipt.Register m reply.answer ∷ []) (taken_by reply.answer) k2 k3 k4 (omega (arith, few)) a.call goes.steps);
         nothing = (left_above 0 true k3 k4 lifted_lowest goes ∙ ap (drop 1) one_left.is, goes.out ∙ a.out);
@@ -232,7 +232,7 @@ kept_steps k k1 kept = go kept.same
 -- one part after another, to the end
 pub ends_after : (t : Terms) (m : Member) (answer : Inserted) (a b c : ℕ) (k l n : CallerData) → a + b ≤ c → Spends a k l → EndsInsertion t m answer b l n → EndsInsertion t m answer c k n
 ends_after t m answer a b c k l n sum s e = record {
-  right = right_after t m answer k l n s.past e.right;
+  right = right_after t m answer k l n s.past s.receipts e.right;
   call = spends_after a b c (receipt.Register m answer ∷ []) (taken_by answer) k l n sum s e.call;
   nothing = e.nothing;
 }

@@ -294,7 +294,7 @@ module _ (t : Terms) (m : Member) (far : Far) (k : CallerData) (ready : IsReadyF
 
         pub put_answers : (k4 : CallerData) → LetsGo far.leaf.node k3 k4 → AnswersAbove t m (record { answer = inserted.Done number; moved = far.beyond.level }) (drop 1 ready.next.base.held) 13 k k4
         put_answers k4 goes = record {
-          right = right_after t m (inserted.Done number) k k2 k4 spent.past
+          right = right_after t m (inserted.Done number) k k2 k4 spent.past spent.receipts
               (right_before t m (inserted.Done number) k2 k3 k4 goes.steps.past (puts.before, (puts.begins, puts.past, puts.number_is)));
           call = spends_after 12 1 13 (receipt.Register m (inserted.Done number) ∷ []) 1 k k2 k4 (omega arith) spent
               (spends_before 0 1 1 (receipt.Register m (inserted.Done number) ∷ []) 1 k2 k3 k4 (omega arith) put_call goes.steps);
@@ -398,7 +398,7 @@ module _ (t : Terms) (m : Member) (far : Far) (k : CallerData) (stands : StandsF
 
     pub answers_far : (reply : Reply) (k2 : CallerData) → AnswersAbove t m reply (drop 1 next.base.held) 13 k1 k2 → AnswersBelow t m reply 13 k k2
     answers_far reply k2 a = record {
-      right = right_after t m reply.answer k k1 k2 same.past a.right;
+      right = right_after t m reply.answer k k1 k2 same.past same.receipts a.right;
       call = spends_after 0 13 13 (receipt.Register m reply.answer ∷ []) (taken_by reply.answer) k k1 k2 (omega arith) (spends_same k k1 same) a.call;
       above = subst (λ (hs : Holdings). AreLeftAs reply.moved (drop 1 hs.held) k2.log.holdings.held) is a.left;
       out = a.out;

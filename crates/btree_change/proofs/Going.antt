@@ -206,7 +206,7 @@ module _ (t : Terms) (m : Member) (stand : Stand) (passage : Passage) (k k1 : Ca
 
     pub answered_so : (k3 : CallerData) → LetsGo stand.at.node k2 k3 → (most' : ℕ) → most + 2 ≤ most' → AnswersBelow t m reply most' k k3
     answered_so k3 gone most' sum = record {
-      right = right_after t m reply.answer k k1 k3 goes.steps.past
+      right = right_after t m reply.answer k k1 k3 goes.steps.past goes.steps.receipts
           (right_before t m reply.answer k1 k2 k3 gone.steps.past answers.right);
       call = spends_after 1 (most + 1) most' (receipt.Register m reply.answer ∷ []) (taken_by reply.answer) k k1 k3 (omega (arith, sum)) goes.steps
           (spends_before most 1 (most + 1) (receipt.Register m reply.answer ∷ []) (taken_by reply.answer) k1 k2 k3 (omega arith) answers.call gone.steps);

@@ -33,7 +33,7 @@ stands_still t m stand k k1 same steps s =
 
 pub answered_after : (t : Terms) (m : Member) (reply : Reply) (most : ℕ) (k k1 k2 : CallerData) → k1.log.holdings ≡ k.log.holdings → StepsOnNodes k k1 → AnswersBelow t m reply most k1 k2 → AnswersBelow t m reply most k k2
 answered_after t m reply most k k1 k2 same steps a = record {
-  right = right_after t m reply.answer k k1 k2 steps.past a.right;
+  right = right_after t m reply.answer k k1 k2 steps.past steps.receipts a.right;
   call = spends_after 0 most most (receipt.Register m reply.answer ∷ []) (taken_by reply.answer) k k1 k2 (omega arith) (spends_same k k1 steps) a.call;
   above = subst (λ (hs : Holdings). AreLeftAs reply.moved (drop 1 hs.held) k2.log.holdings.held) same a.above;
   out = a.out;
@@ -48,7 +48,7 @@ gave_up_after most k k1 k2 same steps g = record {
 
 pub above_after : (t : Terms) (m : Member) (reply : Reply) (above : List Holding) (most : ℕ) (k k1 k2 : CallerData) → StepsOnNodes k k1 → AnswersAbove t m reply above most k1 k2 → AnswersAbove t m reply above most k k2
 above_after t m reply above most k k1 k2 steps a = record {
-  right = right_after t m reply.answer k k1 k2 steps.past a.right;
+  right = right_after t m reply.answer k k1 k2 steps.past steps.receipts a.right;
   call = spends_after 0 most most (receipt.Register m reply.answer ∷ []) (taken_by reply.answer) k k1 k2 (omega arith) (spends_same k k1 steps) a.call;
   left = a.left;
   out = a.out;
@@ -56,7 +56,7 @@ above_after t m reply above most k k1 k2 steps a = record {
 
 pub refused_after : (t : Terms) (m : Member) (answer : Inserted) (k k1 k2 : CallerData) → k1.log.holdings ≡ k.log.holdings → StepsOnNodes k k1 → RefusesMember t m answer k1 k2 → RefusesMember t m answer k k2
 refused_after t m answer k k1 k2 same steps r = record {
-  right = right_after t m answer k k1 k2 steps.past r.right;
+  right = right_after t m answer k k1 k2 steps.past steps.receipts r.right;
   none_taken = r.none_taken;
   call = record {
     table = r.call.table ∙ steps.table;

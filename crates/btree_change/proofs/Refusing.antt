@@ -5,7 +5,9 @@ use Rattle.std.specs.List.{AllByRecursion}
 use mathlib.Core.List.{IsPrefix}
 use Rattle.reg_model.specs.History.{state_after}
 use Rattle.reg_model.specs.State.{IsFree, IsLowestOverlap}
+use Rattle.reg_model.specs.Receipt.{HadTenMembers}
 use Rattle.reg_model.specs.declared.answer.Receipt.{Receipt}
+use Rattle.word_rule.specs.Observations.{last_moment}
 use Rattle.reg_model.specs.declared.answer.Receipt.TheVariants as receipt
 use Rattle.reg_model.specs.declared.answer.Inserted.TheVariants as inserted
 use Rattle.reg_model.specs.declared.answer.Update.{Update}
@@ -85,7 +87,7 @@ module _ (t : Terms) (m : Member) (k k' : CallerData) (clock : ℕ) where
   pub refused_full : AfterClock t (ask.Refused (update.Register m)) clock k.log k'.log → Appends (receipt.Register m (inserted.Full (clock % 4294967296))) k.log k'.log → k' ≡ record k { log = k'.log } → RefusesMember t m (inserted.Full (clock % 4294967296)) k k'
   refused_full after appended rest =
       let seen = seen_so t (update.Register m) clock k.log k'.log after in record {
-        right = (seen.0, seen.1, subst (λ z. IsFree m.span (state_after (start z) k'.log.past).registered) seen.2 appended.right);
+        right = (seen.0, seen.1, subst (λ z. IsFree m.span (state_after (start z) k'.log.past).registered) seen.2 appended.right, subst (λ z. HadTenMembers (start z) k'.log.past (last_moment 0 k.log.receipts.own) (receipt.Register m (inserted.Full (clock % 4294967296)))) seen.2 appended.filled);
         none_taken = refl;
         call = refuses_so t (update.Register m) (receipt.Register m (inserted.Full (clock % 4294967296))) clock k k' after appended rest;
       }

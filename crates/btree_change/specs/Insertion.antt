@@ -4,6 +4,7 @@ use Rattle.std.specs.Prelude.{length}
 use Rattle.std.specs.List.{AllByRecursion}
 use mathlib.Core.List.{IsPrefix}
 use Rattle.reg_model.specs.History.{state_after}
+use Rattle.reg_model.specs.Receipt.{HadTenMembers}
 use Rattle.reg_model.specs.State.{IsFree, IsLowestOverlap}
 use Rattle.reg_model.specs.declared.answer.Inserted.{Inserted}
 use Rattle.reg_model.specs.declared.answer.Inserted.TheVariants as inserted
@@ -14,6 +15,7 @@ use Rattle.reg_model.specs.declared.span.Member.{Member}
 use Rattle.tree_shape.specs.Decisions.{is_entries}
 use Rattle.word_rule.specs.CallerData.{CallerData, surplus}
 use Rattle.word_rule.specs.Callers.{IsMemberOf, start}
+use Rattle.word_rule.specs.Observations.{last_moment}
 use Rattle.word_rule.specs.Places.{CALL_CREDIT}
 use Rattle.word_rule.specs.declared.log.Holding.{Holding}
 use Rattle.word_rule.specs.declared.log.Holdings.{Holdings}
@@ -64,7 +66,8 @@ pub record PutsMember (m : Member) (n number : ℕ) (k k' : CallerData) : Type 0
   pub out : k'.log.holdings.out ≡ []
 
 -- The answer to an insertion is right, where `k` was its caller when the call was begun and k' is
--- it afterwards.
+-- it afterwards. Where it is Full, ten members were registered at some moment since the receipt
+-- before it.
 abbrev pub IsRightInsertion : Terms → Member → CallerData → CallerData → Inserted → Type 0
 IsRightInsertion t m k k' (inserted.Done number) = (before : List Update)
     × (IsPrefix k.log.past before × (k'.log.past ≡ before ++ update.Register m ∷ [])
@@ -76,6 +79,8 @@ IsRightInsertion t m k k' (inserted.Overlap other stamp) = IsPrefix k.log.past k
 IsRightInsertion t m k k' (inserted.Full stamp) = IsPrefix k.log.past k'.log.past
     × (stamp ≡ length k'.log.past)
     × IsFree m.span (state_after (start t) k'.log.past).registered
+    × HadTenMembers (start t) k'.log.past (last_moment 0 k.log.receipts.own)
+    (receipt.Register m (inserted.Full stamp))
 IsRightInsertion t m k k' inserted.Spent = ⊥
 
 -- what holds where the answer is Full

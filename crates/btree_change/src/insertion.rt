@@ -214,6 +214,7 @@ pub fn insert_by<L: Locking>(
     ensures answer { IfOk result (λ answer. AnswersInsertion words.now.terms member answer
         me.old me.new) }
     ensures busy { IfErr result (λ e. GivesUp e.lock me.old me.new × (L.gives_up ≡ true)) }
+    ensures terms { me.old.log.terms ≡ words.now.terms }
 {
     let _base = member.span.first();
     let root = at_root(locking, words, me)?;
@@ -232,6 +233,7 @@ pub fn try_insert(words: &Words, me: &mut Caller, member: Member) -> Result<Inse
         me.old me.new answer) }
     ensures busy { IfErr result (λ e. (CALL_CREDIT ≤ surplus me.old)
         × GivesUp e.lock me.old me.new) }
+    ensures terms { CALL_CREDIT ≤ surplus me.old → me.old.log.terms ≡ words.now.terms }
 {
     if !me.may_try() {
         return Ok(Inserted::Spent);
@@ -247,6 +249,7 @@ pub fn insert<R: Wait>(rt: &R, words: &Words, me: &mut Caller, member: Member) -
     requires payload { member.payload < words.now.terms.payloads }
     ensures answer { Inserts words.now.terms member me.old me.new result }
     ensures nothing { HoldsNothing me.new.log.holdings }
+    ensures terms { 0 < me.old.left → me.old.log.terms ≡ words.now.terms }
 {
     if !me.use_one() {
         return Inserted::Spent;

@@ -196,6 +196,7 @@ pub fn remove_by<L: Locking>(
     ensures answer { IfOk result (λ answer. AnswersRemoval words.now.terms base answer
         me.old me.new) }
     ensures busy { IfErr result (λ e. GivesUp e.lock me.old me.new × (L.gives_up ≡ true)) }
+    ensures terms { me.old.log.terms ≡ words.now.terms }
 {
     let mut way = leaf_on_way(locking, words, me, base)?;
     let leaf = content_of(words, me, &way.at);
@@ -220,6 +221,7 @@ pub fn try_remove(words: &Words, me: &mut Caller, base: u64) -> Result<Removed, 
         me.old me.new answer) }
     ensures busy { IfErr result (λ e. (CALL_CREDIT ≤ surplus me.old)
         × GivesUp e.lock me.old me.new) }
+    ensures terms { CALL_CREDIT ≤ surplus me.old → me.old.log.terms ≡ words.now.terms }
 {
     if !me.may_try() {
         return Ok(Removed::Spent);
@@ -234,6 +236,7 @@ pub fn remove<R: Wait>(rt: &R, words: &Words, me: &mut Caller, base: u64) -> Rem
     requires idle { IsIdle me.old.log }
     ensures answer { Removes words.now.terms base me.old me.new result }
     ensures nothing { HoldsNothing me.new.log.holdings }
+    ensures terms { 0 < me.old.left → me.old.log.terms ≡ words.now.terms }
 {
     if !me.use_one() {
         return Removed::Spent;

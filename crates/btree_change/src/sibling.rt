@@ -126,6 +126,7 @@ fn slot_of_two(parent: &Outline, slot: usize) -> usize
     requires two { 1 < length (pairs_of parent.now) }
     ensures inside { result + 1 < length (pairs_of parent.now) }
     ensures near { (result ≡ slot) ⊎ (result + 1 ≡ slot) }
+    ensures next { slot + 1 < length (pairs_of parent.now) → result ≡ slot }
 {
     let last = pair_count(parent) - 1;
     if (slot as u64) < last { slot } else { slot - 1 }
@@ -139,7 +140,8 @@ fn slot_beside(first: usize, slot: usize) -> usize
     if first == slot { first + 1 } else { first }
 }
 
-/// Locks and outlines a neighbour of a child: the next child of its parent, or the one before.
+/// Locks and outlines a neighbour of a child: the next child of its parent, where there is one,
+/// else the one before.
 pub(crate) fn take_sibling<L: Locking>(
     locking: &L,
     words: &Words,
@@ -154,6 +156,8 @@ pub(crate) fn take_sibling<L: Locking>(
     ensures ok { IfOk result (λ x. HoldsSiblings words.now.terms x me.new.log.holdings
         × IsInEither pc x × (x.above ≡ child.above)
         × ((x.left ≡ child.at) ⊎ (x.right ≡ child.at))) }
+    ensures next { IfOk result (λ x. child.slot + 1 < length (pairs_of child.above.at.content)
+        → x.left ≡ child.at) }
     ensures busy { IfErr result (λ e. HoldsNothing me.new.log.holdings × (L.gives_up ≡ true)) }
     ensures cause { IfErr result (λ e. FoundTaken e.lock me.old me.new) }
     ensures spends { Spends 2 me.old me.new }
