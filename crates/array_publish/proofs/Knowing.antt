@@ -18,7 +18,7 @@ use Rattle.word_rule.proofs.Each.{all_with, some_with}
 use Rattle.word_rule.proofs.Listings.{ascending_disjoint, disjoint_fit, state_fixed}
 use Rattle.array_publish.specs.Holders.{IsHolder, Spells, active_words, member_in, spare_words}
 use Rattle.array_publish.proofs.Overlaps.{listed_is}
-use Rattle.array_publish.specs.Update.{HoldsCopies, KnowsCopy}
+use Rattle.array_publish.specs.Update.{HoldsCopies, KnowsCopy, Works}
 use Rattle.array_publish.specs.declared.writing.ActiveCopy.{ActiveCopy}
 use Rattle.array_publish.proofs.Works.{Holds, holder_stays, spells_active}
 
@@ -74,6 +74,10 @@ module _ (w : WordsData) (k0 k1 k2 : CallerData) (found count : ℕ) (table : k0
     known = members_known;
     room = (let f = few in let e = is ∙ (ap (λ o. get_or (active_words o) 1 0) loader_is ∙ told.1.lists.count) in omega (arith, f, e));
   }
+
+-- one that knows the copy had the terms of the words before it worked
+pub terms_before : (w : WordsData) (a : ActiveCopy) (k k' : CallerData) → Works k k' → KnowsCopy w a k' → k.log.terms ≡ w.terms
+terms_before w a k k' works knows = sym (ap (λ (z : CallerData). z.log.terms) works.6.1) ∙ knows.holder.terms
 
 pub knows_stays : (w : WordsData) (a : ActiveCopy) (spare : List ℕ) (k k' : CallerData) → KnowsCopy w a k → Spells spare k k' → length spare ≡ copy_words w.terms → KnowsCopy w a k'
 knows_stays w a spare k k' h p wide = record {

@@ -60,6 +60,10 @@ whole_call right r false k1 k2 k3 k4 locked p gone =
       ),
     )
 
+-- its terms were those of the words before it took the lock
+pub terms_told : (t : Terms) (k1 k2 : CallerData) → Locks lock.Loader k1 k2 → k2.log.terms ≡ t → k1.log.terms ≡ t
+terms_told t k1 k2 locked told = sym (ap (λ (k : CallerData). k.log.terms) locked.3.2) ∙ told
+
 past_kept : (k1 k2 : CallerData) → Locks lock.Loader k1 k2 → k2.log.past ≡ k1.log.past
 past_kept k1 k2 locked = ap (λ (k : CallerData). k.log.past) locked.3.2
 

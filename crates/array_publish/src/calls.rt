@@ -80,6 +80,7 @@ pub fn load_by<L: Locking>(
     requires surplus { 0 < surplus me.old }
     requires payload { member.payload < words.now.terms.payloads }
     ensures answer { IfOk result (TellsLoad words.now.terms member me.old me.new) }
+    ensures terms { OnOk result (me.old.log.terms ≡ words.now.terms) }
     ensures busy { IfErr result (λ e. IsBusy e.lock me.old me.new × (L.gives_up ≡ true)) }
     ensures free { IsFreeAgain me.old me.new }
 {
@@ -97,6 +98,7 @@ pub fn load<R: Wait>(rt: &R, words: &Words, me: &mut Caller, member: Member) -> 
     requires free { me.old.log.loader ≡ None }
     requires payload { member.payload < words.now.terms.payloads }
     ensures answer { LoadsMember words.now.terms member me.old me.new result }
+    ensures terms { 0 < me.old.left → me.old.log.terms ≡ words.now.terms }
     ensures free { IsFreeAgain me.old me.new }
 {
     if !me.use_one() {
@@ -117,6 +119,7 @@ pub fn try_load(words: &Words, me: &mut Caller, member: Member) -> Result<Loadin
     requires surplus { 0 < surplus me.old }
     requires payload { member.payload < words.now.terms.payloads }
     ensures answer { IfOk result (TellsLoad words.now.terms member me.old me.new) }
+    ensures terms { OnOk result (me.old.log.terms ≡ words.now.terms) }
     ensures busy { IfErr result (λ e. IsBusy e.lock me.old me.new) }
     ensures free { IsFreeAgain me.old me.new }
 {
@@ -136,6 +139,7 @@ pub fn unload_by<L: Locking>(
     requires begun { 0 < due me.old }
     requires surplus { 0 < surplus me.old }
     ensures answer { IfOk result (TellsUnload words.now.terms base me.old me.new) }
+    ensures terms { OnOk result (me.old.log.terms ≡ words.now.terms) }
     ensures busy { IfErr result (λ e. IsBusy e.lock me.old me.new × (L.gives_up ≡ true)) }
     ensures free { IsFreeAgain me.old me.new }
 {
@@ -151,6 +155,7 @@ pub fn unload<R: Wait>(rt: &R, words: &Words, me: &mut Caller, base: u64) -> Rem
     requires table { me.old.table ≡ words.now.table }
     requires free { me.old.log.loader ≡ None }
     ensures answer { UnloadsMember words.now.terms base me.old me.new result }
+    ensures terms { 0 < me.old.left → me.old.log.terms ≡ words.now.terms }
     ensures free { IsFreeAgain me.old me.new }
 {
     if !me.use_one() {
@@ -170,6 +175,7 @@ pub fn try_unload(words: &Words, me: &mut Caller, base: u64) -> Result<Removed, 
     requires begun { 0 < due me.old }
     requires surplus { 0 < surplus me.old }
     ensures answer { IfOk result (TellsUnload words.now.terms base me.old me.new) }
+    ensures terms { OnOk result (me.old.log.terms ≡ words.now.terms) }
     ensures busy { IfErr result (λ e. IsBusy e.lock me.old me.new) }
     ensures free { IsFreeAgain me.old me.new }
 {

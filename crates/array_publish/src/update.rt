@@ -121,7 +121,8 @@ pub fn load_held(words: &Words, me: &mut Caller, member: &Member) -> Loading
     requires clean { IsClean me.old }
     requires due { 0 < due me.old }
     requires payload { member.now.payload < words.now.terms.payloads }
-    ensures { AnswersLoad words.now.terms member.now me.old me.new result }
+    ensures answer { AnswersLoad words.now.terms member.now me.old me.new result }
+    ensures terms { me.old.log.terms ≡ words.now.terms }
 {
     let active = active_copy(words, me);
     let place = ending_below(words, me, &active, member.span.first());
@@ -154,7 +155,8 @@ pub fn unload_held(words: &Words, me: &mut Caller, base: u64) -> Removed
     requires held { HoldsCopies me.old.log.terms me.old }
     requires clean { IsClean me.old }
     requires due { 0 < due me.old }
-    ensures { AnswersUnload words.now.terms base me.old me.new result }
+    ensures answer { AnswersUnload words.now.terms base me.old me.new result }
+    ensures terms { me.old.log.terms ≡ words.now.terms }
 {
     let active = active_copy(words, me);
     let place = ending_below(words, me, &active, base);

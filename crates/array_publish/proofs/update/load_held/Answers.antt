@@ -9,7 +9,7 @@ use Rattle.array_publish.specs.Holders.{active_words, member_in, spare_words}
 use Rattle.array_publish.specs.Writing.{EndsBelow}
 use Rattle.array_publish.specs.declared.writing.ActiveCopy.{ActiveCopy}
 use Rattle.array_publish.proofs.Answering.{may_refuse, overlap_so, full_so, published_so, may_publish, free_listed, works_then, is_held, holds_of, stays_clean}
-use Rattle.array_publish.proofs.Knowing.{counted_so, known_at, knows_stays}
+use Rattle.array_publish.proofs.Knowing.{counted_so, known_at, knows_stays, terms_before}
 use Rattle.array_publish.proofs.Works.{spare_wide, spells_active}
 use Rattle.array_publish.proofs.update.load_held.Goals as goal
 
@@ -18,8 +18,8 @@ lowest_overlap-requires-clause-knows c =
     let w : WordsData = c.args.words.now in let a : ActiveCopy = c.active_copy-active.result in let k1 : CallerData = c.active_copy-active.new.me in let one = c.active_copy-active.ensures.knows in
     knows_stays w a (spare_words k1.log.loader) k1 c.ending_below-place.new.me one c.ending_below-place.ensures.same (spare_wide w a.copy k1 one.holder)
 
-pub returns-in-Some : goal.returns-in-Some
-returns-in-Some c =
+pub returns-in-Some-clause-answer : goal.returns-in-Some-clause-answer
+returns-in-Some-clause-answer c =
     let w : WordsData = c.args.words.now in let a : ActiveCopy = c.active_copy-active.result in let k1 : CallerData = c.active_copy-active.new.me in let one = c.active_copy-active.ensures.knows in
     let k2 : CallerData = c.ending_below-place.new.me in let k3 : CallerData = c.lowest_overlap.new.me in
     let two = knows_stays w a (spare_words k1.log.loader) k1 k2 one c.ending_below-place.ensures.same (spare_wide w a.copy k1 one.holder) in
@@ -43,8 +43,8 @@ load_clock-clock-requires-then-active-loads-clause-ask c =
     let count = three.count in let full = c.if-active-loads.true in let loads = c.loads.ensures in
     may_refuse w a k3 (update.Load c.args.member.now) three (inr (All-append (λ x. ¬ Overlaps x.span c.args.member.now.span) w.terms.fixed xs none.0 free, omega (arith, count, full, loads)))
 
-pub returns-then-active-loads : goal.returns-then-active-loads
-returns-then-active-loads c =
+pub returns-then-active-loads-clause-answer : goal.returns-then-active-loads-clause-answer
+returns-then-active-loads-clause-answer c =
     let w : WordsData = c.args.words.now in let a : ActiveCopy = c.active_copy-active.result in let k1 : CallerData = c.active_copy-active.new.me in let one = c.active_copy-active.ensures.knows in
     let k2 : CallerData = c.ending_below-place.new.me in let k3 : CallerData = c.lowest_overlap.new.me in
     let two = knows_stays w a (spare_words k1.log.loader) k1 k2 one c.ending_below-place.ensures.same (spare_wide w a.copy k1 one.holder) in
@@ -84,8 +84,8 @@ publish-number-requires-clause-may c =
     let due_now = c.requires.due in let room = three.room in let loads = c.loads.ensures in let less = c.if-active-loads.false in
     may_publish w a k3 k4 c.ending_below-place.result c.args.member.now three c.write_copy.ensures.same (holds_of w.terms a.copy (spare_words k4.log.loader) k3 k4 three.holder.holds c.write_copy.ensures.same c.write_copy.ensures.wide) (omega (arith, allowance, due_now)) (c.first.ensures.span, c.requires.payload) (omega (arith, room, loads, less)) c.ending_below-place.ensures.inside below none.0 begin c.write_copy.ensures.written
 
-pub returns : goal.returns
-returns c =
+pub returns-clause-answer : goal.returns-clause-answer
+returns-clause-answer c =
     let w : WordsData = c.args.words.now in let a : ActiveCopy = c.active_copy-active.result in let k1 : CallerData = c.active_copy-active.new.me in let one = c.active_copy-active.ensures.knows in
     let k2 : CallerData = c.ending_below-place.new.me in let k3 : CallerData = c.lowest_overlap.new.me in let k4 : CallerData = c.write_copy.new.me in
     let two = knows_stays w a (spare_words k1.log.loader) k1 k2 one c.ending_below-place.ensures.same (spare_wide w a.copy k1 one.holder) in
@@ -93,3 +93,12 @@ returns c =
     let works = works_then (spare_words k4.log.loader) c.args.me.now k3 k4 (works_then (spare_words k2.log.loader) c.args.me.now k2 k3 (works_then (spare_words k1.log.loader) c.args.me.now k1 k2 c.active_copy-active.ensures.works c.ending_below-place.ensures.same) c.lowest_overlap.ensures.same) c.write_copy.ensures.same in
     let holds = holds_of w.terms a.copy (spare_words k4.log.loader) k3 k4 three.holder.holds c.write_copy.ensures.same c.write_copy.ensures.wide in
     published_so w.terms c.args.me.now k4 c.publish-number.new.me c.publish-number.ensures.log.0 c.publish-number.result c.args.member.now works (is_held w.terms a.copy k4.log.loader holds) c.publish-number.ensures.log.1 c.publish-number.ensures.rest c.publish-number.ensures.number
+
+pub returns-in-Some-clause-terms : goal.returns-in-Some-clause-terms
+returns-in-Some-clause-terms c = terms_before c.args.words.now c.active_copy-active.result c.args.me.now c.active_copy-active.new.me c.active_copy-active.ensures.works c.active_copy-active.ensures.knows
+
+pub returns-then-active-loads-clause-terms : goal.returns-then-active-loads-clause-terms
+returns-then-active-loads-clause-terms c = terms_before c.args.words.now c.active_copy-active.result c.args.me.now c.active_copy-active.new.me c.active_copy-active.ensures.works c.active_copy-active.ensures.knows
+
+pub returns-clause-terms : goal.returns-clause-terms
+returns-clause-terms c = terms_before c.args.words.now c.active_copy-active.result c.args.me.now c.active_copy-active.new.me c.active_copy-active.ensures.works c.active_copy-active.ensures.knows

@@ -9,7 +9,7 @@ use Rattle.array_publish.specs.Writing.{EndsBelow, EndsFrom}
 use Rattle.array_publish.specs.declared.writing.ActiveCopy.{ActiveCopy}
 use Rattle.array_publish.proofs.Answering.{may_refuse, not_found_so, unpublished_so, works_then, is_held, holds_of, stays_clean}
 use Rattle.array_publish.proofs.Bases.{holder_terms, may_publish, member_listed, none_listed}
-use Rattle.array_publish.proofs.Knowing.{known_at, knows_stays}
+use Rattle.array_publish.proofs.Knowing.{known_at, knows_stays, terms_before}
 use Rattle.array_publish.proofs.Works.{spare_wide, spells_active}
 use Rattle.array_publish.proofs.update.unload_held.Goals as goal
 
@@ -31,8 +31,8 @@ load_clock-clock-requires-clause-ask c =
     may_refuse w a k3 (update.Unload c.args.base) three
     (none_listed (active_words k2.log.loader) three.listing.members a.count c.ending_below-place.result c.args.base (member_in (active_words k2.log.loader) 0) (subst (λ ws. ListsMembers ws three.listing.members) active3 three.listing.lists) three.count c.ending_below-place.ensures.inside below above c.in_default.ensures.none)
 
-pub returns-in_default : goal.returns-in_default
-returns-in_default c =
+pub returns-in_default-clause-answer : goal.returns-in_default-clause-answer
+returns-in_default-clause-answer c =
     let w : WordsData = c.args.words.now in let a : ActiveCopy = c.active_copy-active.result in let k1 : CallerData = c.active_copy-active.new.me in let one = c.active_copy-active.ensures.knows in
     let k2 : CallerData = c.ending_below-place.new.me in let k3 : CallerData = c.beginning_at.new.me in
     let two = knows_stays w a (spare_words k1.log.loader) k1 k2 one c.ending_below-place.ensures.same (spare_wide w a.copy k1 one.holder) in
@@ -62,8 +62,8 @@ publish-number-requires-clause-may c =
     may_publish w a k3 k4 c.ending_below-place.result c.args.base three c.write_copy.ensures.same (holds_of w.terms a.copy (spare_words k4.log.loader) k3 k4 three.holder.holds c.write_copy.ensures.same c.write_copy.ensures.wide) (omega (arith, allowance, due_now)) found.0
     (ap (λ ws. (member_in ws c.ending_below-place.result).span.first) active3 ∙ (ap (λ (m : Member). m.span.first) (sym found.1) ∙ found.2)) c.write_copy.ensures.written
 
-pub returns : goal.returns
-returns c =
+pub returns-clause-answer : goal.returns-clause-answer
+returns-clause-answer c =
     let w : WordsData = c.args.words.now in let a : ActiveCopy = c.active_copy-active.result in let k1 : CallerData = c.active_copy-active.new.me in let one = c.active_copy-active.ensures.knows in
     let k2 : CallerData = c.ending_below-place.new.me in let k3 : CallerData = c.beginning_at.new.me in let k4 : CallerData = c.write_copy.new.me in
     let two = knows_stays w a (spare_words k1.log.loader) k1 k2 one c.ending_below-place.ensures.same (spare_wide w a.copy k1 one.holder) in
@@ -77,3 +77,9 @@ returns c =
     (holder_terms w a k3 k4 three c.write_copy.ensures.same) (subst (IsMemberOf w.terms) (sym (found.1 ∙ sym (ap (λ ws. member_in ws c.ending_below-place.result) active3))) (known_at w a k3 c.ending_below-place.result three found.0)) (subst (λ ws. ListsMembers ws three.listing.members) (sym active4) three.listing.lists)
     (member_listed w a k3 three c.ending_below-place.result c.in-Some.member found.0 (found.1 ∙ sym (ap (λ ws. member_in ws c.ending_below-place.result) active3))) found.2
     works (is_held w.terms a.copy k4.log.loader holds) c.publish-number.ensures.log.1 c.publish-number.ensures.rest c.publish-number.ensures.number
+
+pub returns-in_default-clause-terms : goal.returns-in_default-clause-terms
+returns-in_default-clause-terms c = terms_before c.args.words.now c.active_copy-active.result c.args.me.now c.active_copy-active.new.me c.active_copy-active.ensures.works c.active_copy-active.ensures.knows
+
+pub returns-clause-terms : goal.returns-clause-terms
+returns-clause-terms c = terms_before c.args.words.now c.active_copy-active.result c.args.me.now c.active_copy-active.new.me c.active_copy-active.ensures.works c.active_copy-active.ensures.knows
