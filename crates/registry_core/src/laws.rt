@@ -1,5 +1,5 @@
 //! Laws of calls and rounds. Each is the contract of a function that does nothing.
-ghost use Rattle.std.specs.Prelude.{◌≡◌, ℕ, ◌≤◌, List, [], ◌++◌, length, All};
+ghost use Rattle.std.specs.Prelude.{◌≡◌, ℕ, ◌≤◌, List, [], ◌++◌, length, All, Contains};
 ghost use Rattle.std.specs.List.{AllZip};
 ghost use mathlib.Core.List.{IsPrefix};
 ghost use Rattle.reg_model.specs.Chain.{Chain, made_count};
@@ -68,4 +68,13 @@ pub fn whole_logs_are_numbered()
         → AreNumbered (length v.past) (all_receipts v.receipts) }
     ensures count { (v : Log) → IsWhole v
         → made_count (all_receipts v.receipts) ≡ length v.past }
+{}
+
+/// Of two whole logs one has all receipts of the other: then what the other has seen begins what it
+/// has.
+pub fn whole_logs_are_comparable()
+    ensures { (v w : Log) → IsWhole v → IsWhole w
+        → ((r : Receipt) → Contains (all_receipts v.receipts) r
+        → Contains (all_receipts w.receipts) r)
+        → IsPrefix v.past w.past }
 {}

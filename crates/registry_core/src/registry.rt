@@ -1,6 +1,6 @@
 //! The registry, and its calls.
 ghost use Rattle.std.specs.Prelude.{◌≡◌, ◌<◌, ◌≤◌, ◌↔◌, [], length, None, IfOk, IfErr};
-ghost use Rattle.std.specs.Prelude.{IsOk, OnErr, true};
+ghost use Rattle.std.specs.Prelude.{IsOk, OnErr, OnOk, true};
 ghost use Rattle.std.specs.List.{AllByRecursion};
 ghost use Rattle.array_publish.specs.Lookup.{LooksUp};
 ghost use Rattle.array_publish.specs.Update.{IsFreeAgain, LoadsMember, UnloadsMember};
@@ -98,6 +98,7 @@ impl Registry {
         requires idle { IsIdle me.old.log }
         requires payload { member.payload < self.now.terms.payloads }
         ensures answer { Inserts self.now.terms member me.old me.new result }
+        ensures terms { 0 < me.old.left → me.old.log.terms ≡ self.now.terms }
         ensures answered { Answered (receipts_of_register member result) me.old me.new }
         ensures spent { (result ≡ inserted.Spent) ↔ (me.old.left ≡ 0) }
         ensures idle { IsIdle me.new.log }
@@ -111,6 +112,7 @@ impl Registry {
         requires table { me.old.table ≡ self.now.table }
         requires idle { IsIdle me.old.log }
         ensures answer { Removes self.now.terms base me.old me.new result }
+        ensures terms { 0 < me.old.left → me.old.log.terms ≡ self.now.terms }
         ensures answered { Answered (receipts_of_deregister base result) me.old me.new }
         ensures spent { (result ≡ removed.Spent) ↔ (me.old.left ≡ 0) }
         ensures idle { IsIdle me.new.log }
@@ -132,6 +134,7 @@ impl Registry {
         requires begun { 0 < due me.old }
         requires payload { member.payload < self.now.terms.payloads }
         ensures answer { IfOk result (TriesInsertion self.now.terms member me.old me.new) }
+        ensures terms { CALL_CREDIT ≤ surplus me.old → me.old.log.terms ≡ self.now.terms }
         ensures busy { IfErr result (λ e. (CALL_CREDIT ≤ surplus me.old)
             × GivesUp e.lock me.old me.new × (L.gives_up ≡ true)) }
         ensures table { me.new.table ≡ me.old.table }
@@ -151,6 +154,7 @@ impl Registry {
         requires begun { 0 < due me.old }
         requires payload { member.payload < self.now.terms.payloads }
         ensures answer { IfOk result (TriesInsertion self.now.terms member me.old me.new) }
+        ensures terms { CALL_CREDIT ≤ surplus me.old → me.old.log.terms ≡ self.now.terms }
         ensures busy { IfErr result
             (λ e. (CALL_CREDIT ≤ surplus me.old) × GivesUp e.lock me.old me.new) }
         ensures table { me.new.table ≡ me.old.table }
@@ -173,6 +177,7 @@ impl Registry {
         requires idle { IsIdle me.old.log }
         requires begun { 0 < due me.old }
         ensures answer { IfOk result (TriesRemoval self.now.terms base me.old me.new) }
+        ensures terms { CALL_CREDIT ≤ surplus me.old → me.old.log.terms ≡ self.now.terms }
         ensures busy { IfErr result (λ e. (CALL_CREDIT ≤ surplus me.old)
             × GivesUp e.lock me.old me.new × (L.gives_up ≡ true)) }
         ensures table { me.new.table ≡ me.old.table }
@@ -191,6 +196,7 @@ impl Registry {
         requires idle { IsIdle me.old.log }
         requires begun { 0 < due me.old }
         ensures answer { IfOk result (TriesRemoval self.now.terms base me.old me.new) }
+        ensures terms { CALL_CREDIT ≤ surplus me.old → me.old.log.terms ≡ self.now.terms }
         ensures busy { IfErr result
             (λ e. (CALL_CREDIT ≤ surplus me.old) × GivesUp e.lock me.old me.new) }
         ensures table { me.new.table ≡ me.old.table }
@@ -207,6 +213,7 @@ impl Registry {
         requires free { me.old.log.loader ≡ None }
         requires payload { member.payload < self.now.terms.payloads }
         ensures answer { LoadsMember self.now.terms member me.old me.new result }
+        ensures terms { 0 < me.old.left → me.old.log.terms ≡ self.now.terms }
         ensures answered { Answered (receipts_of_load member result) me.old me.new }
         ensures spent { (result ≡ loading.Spent) ↔ (me.old.left ≡ 0) }
     {
@@ -227,6 +234,8 @@ impl Registry {
         requires begun { 0 < due me.old }
         requires payload { member.payload < self.now.terms.payloads }
         ensures answer { IfOk result (TriesLoad self.now.terms member me.old me.new) }
+        ensures terms { OnOk result (CALL_CREDIT ≤ surplus me.old
+            → me.old.log.terms ≡ self.now.terms) }
         ensures busy { IfErr result (λ e. (CALL_CREDIT ≤ surplus me.old)
             × IsBusy e.lock me.old me.new × (L.gives_up ≡ true)) }
         ensures free { IsFreeAgain me.old me.new }
@@ -244,6 +253,7 @@ impl Registry {
         requires table { me.old.table ≡ self.now.table }
         requires free { me.old.log.loader ≡ None }
         ensures answer { UnloadsMember self.now.terms base me.old me.new result }
+        ensures terms { 0 < me.old.left → me.old.log.terms ≡ self.now.terms }
         ensures answered { Answered (receipts_of_unload base result) me.old me.new }
         ensures spent { (result ≡ removed.Spent) ↔ (me.old.left ≡ 0) }
     {
@@ -263,6 +273,8 @@ impl Registry {
         requires free { me.old.log.loader ≡ None }
         requires begun { 0 < due me.old }
         ensures answer { IfOk result (TriesUnload self.now.terms base me.old me.new) }
+        ensures terms { OnOk result (CALL_CREDIT ≤ surplus me.old
+            → me.old.log.terms ≡ self.now.terms) }
         ensures busy { IfErr result (λ e. (CALL_CREDIT ≤ surplus me.old)
             × IsBusy e.lock me.old me.new × (L.gives_up ≡ true)) }
         ensures free { IsFreeAgain me.old me.new }
@@ -278,6 +290,7 @@ impl Registry {
     pub fn try_registered(&self, me: &mut Caller, pc: u64) -> Result<Found, Again>
         requires table { me.old.table ≡ self.now.table }
         ensures tries { TriesTree self.now.terms pc me.old me.new result }
+        ensures terms { IsOk result → me.old.log.terms ≡ self.now.terms }
         ensures alone { IsAlone me.old.log.lineage → me.old.log.holdings.held ≡ [] → IsOk result }
     {
         try_find(&self.words, me, pc)
