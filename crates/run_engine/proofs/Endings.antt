@@ -6,7 +6,8 @@ use Rattle.event_script.specs.Refusal.{HasOneReading}
 use Rattle.command_line.specs.CommandLine.{IsCommandLine}
 use Rattle.command_line.specs.declared.taking.Command.TheVariants.{Run, Generate}
 use Rattle.run_engine.specs.Ports.{Rose, Gains}
-use Rattle.run_engine.specs.Outcome.{IsDue, Change, Ends, EndsGenerated, Concludes, limit}
+use Rattle.run_engine.specs.Outcome.{IsDue, Change, Ends, EndsGenerated, Concludes}
+use Rattle.run_engine.specs.declared.reading.TheConstants.{LIMIT}
 use Rattle.run_engine.specs.declared.status.Status.{Status}
 use Rattle.run_engine.specs.declared.status.Status.TheVariants.{Done, Usage, Script, ReadFault, WriteFault, NoMemory, TooLong}
 
@@ -30,7 +31,7 @@ pub ends_at : (words : List (List ℕ)) (input : Option (List ℕ)) (change : Ch
 ends_at words input change end status ends is = (let P : Status → Type 0 = Ends words input change in subst P is ends)
 
 -- A script that can be read and written is run: bytes that spell one have no first bad line.
-complete_with : ((bytes : List ℕ) → HasOneReading bytes) → (words : List (List ℕ)) (bytes : List ℕ) (change : Change) (end : Status) → Ends words (Some bytes) change end → IsCommandLine words Run → length bytes ≤ limit → (script : ScriptData) → IsScript bytes script → ¬ Rose change.reads change.reads_after → ¬ Rose change.writes change.writes_after → (end ≡ Done) ⊎ (end ≡ NoMemory)
+complete_with : ((bytes : List ℕ) → HasOneReading bytes) → (words : List (List ℕ)) (bytes : List ℕ) (change : Change) (end : Status) → Ends words (Some bytes) change end → IsCommandLine words Run → length bytes ≤ LIMIT → (script : ScriptData) → IsScript bytes script → ¬ Rose change.reads change.reads_after → ¬ Rose change.writes change.writes_after → (end ≡ Done) ⊎ (end ≡ NoMemory)
 complete_with one_answer words bytes change Done ends taken short script spelled reads writes = inl refl
 complete_with one_answer words bytes change NoMemory ends taken short script spelled reads writes = inr refl
 complete_with one_answer words bytes change Usage (text, due, gains) taken short script spelled reads writes = absurd (due.0 (Run, taken))
@@ -40,7 +41,7 @@ complete_with one_answer words bytes change Script (text, due, gains) taken shor
 complete_with one_answer words bytes change ReadFault ends taken short script spelled reads writes = absurd (reads ends.1)
 complete_with one_answer words bytes change WriteFault ends taken short script spelled reads writes = absurd (writes ends.0)
 
-pub ends_complete : ((bytes : List ℕ) → HasOneReading bytes) → (words : List (List ℕ)) (input : Option (List ℕ)) (change : Change) (end : Status) → Ends words input change end → IsCommandLine words Run → IfSome input (λ bytes. length bytes ≤ limit → (script : ScriptData) → IsScript bytes script → ¬ Rose change.reads change.reads_after → ¬ Rose change.writes change.writes_after → (end ≡ Done) ⊎ (end ≡ NoMemory))
+pub ends_complete : ((bytes : List ℕ) → HasOneReading bytes) → (words : List (List ℕ)) (input : Option (List ℕ)) (change : Change) (end : Status) → Ends words input change end → IsCommandLine words Run → IfSome input (λ bytes. length bytes ≤ LIMIT → (script : ScriptData) → IsScript bytes script → ¬ Rose change.reads change.reads_after → ¬ Rose change.writes change.writes_after → (end ≡ Done) ⊎ (end ≡ NoMemory))
 ends_complete one_answer words None change end ends taken = tt
 ends_complete one_answer words (Some bytes) change end ends taken = complete_with one_answer words bytes change end ends taken
 

@@ -14,6 +14,7 @@ use Rattle.command_line.specs.CommandLine.{IsCommandLine, AreTaken}
 use Rattle.command_line.specs.declared.taking.Command.{Command}
 use Rattle.command_line.specs.declared.taking.Command.TheVariants.{Run, Generate}
 use Rattle.run_engine.specs.Ports.{Rose, Gains, GainsPart}
+use Rattle.run_engine.specs.declared.reading.TheConstants.{LIMIT}
 use Rattle.run_engine.specs.declared.status.Status.{Status}
 use Rattle.run_engine.specs.declared.status.Status.TheVariants.{Done, Usage, Script, ReadFault}
 use Rattle.run_engine.specs.declared.status.Status.TheVariants.{WriteFault, NoMemory, TooLong}
@@ -24,16 +25,12 @@ usage_line = codes "usage: unwind_main run | unwind_main gen N\n"
 abbrev pub too_long_line : List ℕ
 too_long_line = codes "script too long\n"
 
--- the greatest length of a script, in bytes
-abbrev pub limit : ℕ
-limit = 8388608
-
 -- The text is that of a lawful journal of a script, the one that the source's bytes spell, where it
 -- tells them.
 pub record IsAnswer (input : Option (List ℕ)) (text : List ℕ) : Type 0 where
   pub script : ScriptData
   pub journal : JournalData
-  pub spelled : IfSome input (λ bytes. (length bytes ≤ limit) × IsScript bytes script)
+  pub spelled : IfSome input (λ bytes. (length bytes ≤ LIMIT) × IsScript bytes script)
   pub lawful : IsLawfulJournal script journal
   pub text_is : text ≡ journal_text journal
 
@@ -56,7 +53,7 @@ IsCommandText (Generate count) input text = IsGeneratedAnswer count text
 pub record IsRefusal (input : Option (List ℕ)) (text : List ℕ) : Type 0 where
   pub line : ℕ
   pub reason : Reason
-  pub first : IfSome input (λ bytes. (length bytes ≤ limit) × IsFirstBad bytes line reason)
+  pub first : IfSome input (λ bytes. (length bytes ≤ LIMIT) × IsFirstBad bytes line reason)
   pub text_is : text ≡ fault_text line reason
 
 -- What is due to be written with a status, from these words and the bytes of the source.
@@ -65,7 +62,7 @@ IsDue words input Done text =
     (command : Command) × IsCommandLine words command × IsCommandText command input text
 IsDue words input Usage text = (¬ AreTaken words) × (text ≡ usage_line)
 IsDue words input TooLong text =
-    IsCommandLine words Run × IfSome input (λ bytes. limit < length bytes)
+    IsCommandLine words Run × IfSome input (λ bytes. LIMIT < length bytes)
     × (text ≡ too_long_line)
 IsDue words input Script text = IsCommandLine words Run × IsRefusal input text
 IsDue words input _ text = ⊥

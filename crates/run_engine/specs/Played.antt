@@ -1,9 +1,11 @@
 -- What playing a script gives: few answers, each of which can be written.
-use Rattle.std.specs.Prelude.{◌≡◌, ℕ, ◌≤◌, List, length, All}
+use Rattle.std.specs.Prelude.{◌≡◌, ℕ, ◌*◌, ◌≤◌, List, length, All}
 use Rattle.std.specs.List.{sum_by}
 use Rattle.reg_model.specs.SpanData.{SpanData}
 use Rattle.frame_parse.specs.Sections.{SectionData}
 use Rattle.event_script.specs.ScriptData.{SnapshotData}
+use Rattle.event_script.specs.declared.limits.TheConstants.{MOST_EVENTS, MOST_IMAGES, MOST_ROUNDS}
+use Rattle.event_script.specs.declared.limits.TheConstants.{MOST_THREADS}
 use Rattle.event_script.specs.Lawful.{AnswersEvent, IsUnfolded}
 use Rattle.event_script.specs.Text.{IsPrintable}
 use Rattle.event_script.specs.declared.script.Event.{Event}
@@ -12,13 +14,13 @@ use Rattle.event_script.specs.declared.journal.Answer.{Answer}
 
 -- the answers of a thread, of a round's threads, and of all rounds
 abbrev pub IsPlayedThread : List Answer → Type 0
-IsPlayedThread answers = (length answers ≤ 4096) × All IsPrintable answers
+IsPlayedThread answers = (length answers ≤ MOST_EVENTS) × All IsPrintable answers
 
 abbrev pub IsPlayedRound : List (List Answer) → Type 0
-IsPlayedRound threads = (length threads ≤ 16) × All IsPlayedThread threads
+IsPlayedRound threads = (length threads ≤ MOST_THREADS) × All IsPlayedThread threads
 
 abbrev pub IsPlayed : List (List (List Answer)) → Type 0
-IsPlayed rounds = (length rounds ≤ 64) × All IsPlayedRound rounds
+IsPlayed rounds = (length rounds ≤ MOST_ROUNDS) × All IsPlayedRound rounds
 
 -- the answer is the event's, and a trace unfolds
 abbrev pub IsRightAnswer : List SectionData → List SnapshotData → Event → Answer → Type 0
@@ -27,7 +29,11 @@ IsRightAnswer sections snapshots event answer =
 
 -- few images, each with a section
 abbrev pub AreImages : List SpanData → List SectionData → Type 0
-AreImages images sections = (length images ≤ 4096) × (length sections ≡ length images)
+AreImages images sections = (length images ≤ MOST_IMAGES) × (length sections ≡ length images)
+
+-- how many updates the events of a round may ask for
+abbrev pub round_updates : ℕ
+round_updates = MOST_THREADS * MOST_EVENTS
 
 -- how many updates an event asks for, and the events of a thread
 abbrev pub updates_of : Event → ℕ

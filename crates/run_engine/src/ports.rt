@@ -53,13 +53,19 @@ pub trait Sink {
     /// How many writes have failed. It stands still at its last value, 2^64 - 1.
     ghost faults: { Self → ℕ };
 
+    /// It may be written to: it has neither failed nor wanted memory. One that may be asked again
+    /// after that has no need to say so.
+    ghost can_write: { Self → Type 0 } = { λ _. Unit {0} };
+
     /// Takes a front of the piece, and of a piece that is not empty at least one byte. An `Err`
     /// takes nothing.
     fn write(&mut self, piece: &[u8]) -> Result<usize, SinkFault>
+        requires { can_write self.old }
         ensures count { IfOk result (λ count. count ≤ length piece.now) }
         ensures some { IfOk result (λ count. 0 < length piece.now → 0 < count) }
         ensures bytes { IfOk result
             (λ count. Gains (written self.old) (written self.new) (take count piece.now)) }
+        ensures goes_on { OnOk result (can_write self.new) }
         ensures err { OnErr result (written self.new ≡ written self.old) }
 
         // The count of faults rises where a write fails, and only there.

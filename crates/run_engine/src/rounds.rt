@@ -4,9 +4,11 @@ ghost use Rattle.std.specs.Prelude.{◌≡◌, ◌+◌, ◌*◌, ◌≤◌, All,
 ghost use Rattle.std.specs.List.{AllZip};
 ghost use Rattle.event_script.specs.Lawful.{receipts_of};
 ghost use Rattle.event_script.specs.ScriptData.{IsRound};
+ghost use Rattle.event_script.specs.declared.limits.TheConstants.{MOST_EVENTS, MOST_ROUNDS};
+ghost use Rattle.event_script.specs.declared.limits.TheConstants.{MOST_THREADS};
 ghost use Rattle.registry_core.specs.Rounds.{IsAfterRound, IsBetweenRounds};
 ghost use Rattle.run_engine.specs.Played.{AreImages, IsPlayedThread, IsRightAnswer};
-ghost use Rattle.run_engine.specs.Played.{updates_in, updates_of};
+ghost use Rattle.run_engine.specs.Played.{round_updates, updates_in, updates_of};
 ghost use Rattle.run_engine.specs.Shared.{IsAfterRounds, IsReady};
 
 use crate::gate::Gate;
@@ -35,7 +37,7 @@ fn updates_of(event: &Event) -> u32
 
 /// How many updates the events of a thread ask for.
 fn updates_in(events: &[Event]) -> u32
-    requires { length events.now ≤ 4096 }
+    requires { length events.now ≤ MOST_EVENTS }
     ensures { result ≡ updates_in events.now }
 {
     let mut count = 0;
@@ -47,7 +49,7 @@ fn updates_in(events: &[Event]) -> u32
 
 /// How many update calls the caller of each thread needs.
 fn gives_of(alloc: Global, threads: &[Thread]) -> Result<Vec<u32>, NoMemory>
-    requires { All (λ events. length events ≤ 4096) threads.now }
+    requires { All (λ events. length events ≤ MOST_EVENTS) threads.now }
     ensures { IfOk result (λ gives. gives.items ≡ map updates_in threads.now) }
 {
     let mut gives = Vec::new(alloc);
@@ -82,7 +84,7 @@ fn play_round<R: Threads + Wait + Sync, G: Gate + Sync>(
     }) round.threads.now }
     requires ready { IsReady (length setting.images.now) registry.now me.old }
     requires between { IsBetweenRounds me.old }
-    requires left { 65536 ≤ me.old.left }
+    requires left { round_updates ≤ me.old.left }
     ensures answered { IfOk result (λ answers. AllZip
         (λ events thread. AllZip
         (IsRightAnswer setting.entry.sections.now setting.entry.snapshots.now) events thread.items)
@@ -91,9 +93,9 @@ fn play_round<R: Threads + Wait + Sync, G: Gate + Sync>(
         (map (λ thread. flat_map (receipts_of setting.entry.images.now) thread.items) answers.items)
         me.old me.new) }
     ensures played { IfOk result
-        (λ answers. (length answers.items ≤ 16)
+        (λ answers. (length answers.items ≤ MOST_THREADS)
         × All (λ thread. IsPlayedThread thread.items) answers.items) }
-    ensures left { IfOk result (λ _. me.old.left ≤ me.new.left + 65536) }
+    ensures left { IfOk result (λ _. me.old.left ≤ me.new.left + round_updates) }
 {
     // The laws that this rests on; they take no step.
     split_callers_are_new();
@@ -120,13 +122,13 @@ pub fn play_shared<R: Threads + Wait + Sync, G: Gate + Sync>(
     rounds: &[Round],
 ) -> Result<Vec<Vec<Vec<Answer>>>, NoMemory>
     requires images { AreImages setting.images.now setting.sections.now }
-    requires rounds { (length rounds.now ≤ 64) × All (IsRound (record {
+    requires rounds { (length rounds.now ≤ MOST_ROUNDS) × All (IsRound (record {
       images = length setting.images.now;
       snapshots = length setting.snapshots.now;
     })) rounds.now }
     requires ready { IsReady (length setting.images.now) registry.now me.old }
     requires between { IsBetweenRounds me.old }
-    requires left { 65536 * length rounds.now ≤ me.old.left }
+    requires left { round_updates * length rounds.now ≤ me.old.left }
     ensures answered { IfOk result (λ answers. AllZip
         (λ threads round. AllZip
         (λ events thread. AllZip
@@ -140,8 +142,8 @@ pub fn play_shared<R: Threads + Wait + Sync, G: Gate + Sync>(
         answers.items)
         me.old me.new) }
     ensures played { IfOk result
-        (λ answers. (length answers.items ≤ 64)
-        × All (λ round. (length round.items ≤ 16)
+        (λ answers. (length answers.items ≤ MOST_ROUNDS)
+        × All (λ round. (length round.items ≤ MOST_THREADS)
         × All (λ thread. IsPlayedThread thread.items) round.items) answers.items) }
 {
     // What held in earlier rounds goes on to hold; a law that takes no step.

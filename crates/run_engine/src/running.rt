@@ -9,7 +9,8 @@ ghost use Rattle.command_line.specs.CommandLine.{IsCommandLine};
 ghost use Rattle.script_generator.specs.Generator.{IsImageCount};
 ghost use Rattle.run_engine.specs.Ports.{Rose, HandsUpTo};
 ghost use Rattle.run_engine.specs.Outcome.{Writes, WritesPart, Ends, EndsGenerated};
-ghost use Rattle.run_engine.specs.Outcome.{Concludes, limit};
+ghost use Rattle.run_engine.specs.Outcome.{Concludes};
+ghost use Rattle.run_engine.specs.declared.reading.TheConstants.{LIMIT};
 
 use crate::gate::Gate;
 use crate::ports::{Sink, SinkFault, Source};
@@ -32,7 +33,7 @@ use std::thread::Threads;
 /// Each status but ReadFault has a text that is due with it: for Done the journal's or the
 /// summary's, else one line that says why. Where the text can't be written, the status is
 /// WriteFault. Memory may be wanted at any time. A source that failed, or said its end, is not
-/// asked again.
+/// asked again, nor is a sink that failed or wanted memory.
 pub fn run<R: Threads + Wait + Sync, S: Source, K: Sink, G: Gate + Sync>(
     rt: &R,
     alloc: Global,
@@ -41,7 +42,8 @@ pub fn run<R: Threads + Wait + Sync, S: Source, K: Sink, G: Gate + Sync>(
     sink: &mut K,
     gate: &G,
 ) -> Status
-    requires { S.can_read source.old }
+    requires source { S.can_read source.old }
+    requires sink { K.can_write sink.old }
 
     // The journal theorem: the text of one lawful journal of the script that was read, or its
     // summary where the script was generated, whatever the order in which its threads are answered.
@@ -62,7 +64,7 @@ pub fn run<R: Threads + Wait + Sync, S: Source, K: Sink, G: Gate + Sync>(
     // may have at the most.
     ensures unread { ¬ IsCommandLine (map string_bytes words.now) Command.Run
         → source.new ≡ source.old }
-    ensures taken { HandsUpTo (limit + 1) (S.remaining source.old) (S.remaining source.new) }
+    ensures taken { HandsUpTo (LIMIT + 1) (S.remaining source.old) (S.remaining source.new) }
 
     // Faults come exactly where a count rose in this call, and leave nothing, or a front of what
     // was due.
@@ -83,7 +85,7 @@ pub fn run<R: Threads + Wait + Sync, S: Source, K: Sink, G: Gate + Sync>(
     // written, unless memory is wanted.
     ensures complete { IsCommandLine (map string_bytes words.now) Command.Run
         → IfSome (S.remaining source.old)
-        (λ bytes. length bytes ≤ limit → (script : ScriptData) → IsScript bytes script
+        (λ bytes. length bytes ≤ LIMIT → (script : ScriptData) → IsScript bytes script
         → ¬ Rose (S.faults source.old) (S.faults source.new)
         → ¬ Rose (K.faults sink.old) (K.faults sink.new)
         → (result ≡ Status.Done) ⊎ (result ≡ Status.NoMemory)) }
@@ -107,10 +109,11 @@ fn end_of<R: Threads + Wait + Sync, S: Source, K: Sink, G: Gate + Sync>(
     sink: &mut K,
     gate: &G,
 ) -> Status
-    requires { S.can_read source.old }
+    requires source { S.can_read source.old }
+    requires sink { K.can_write sink.old }
     ensures unread { ¬ IsCommandLine (map string_bytes words.now) Command.Run
         → source.new ≡ source.old }
-    ensures taken { HandsUpTo (limit + 1) (S.remaining source.old) (S.remaining source.new) }
+    ensures taken { HandsUpTo (LIMIT + 1) (S.remaining source.old) (S.remaining source.new) }
     ensures reads { result ≢ Status.ReadFault → S.faults source.new ≡ S.faults source.old }
     ensures writes { result ≢ Status.WriteFault → K.faults sink.new ≡ K.faults sink.old }
     ensures ends { Ends (map string_bytes words.now) (S.remaining source.old)
@@ -143,8 +146,9 @@ fn run_source<R: Threads + Wait + Sync, S: Source, K: Sink, G: Gate + Sync>(
     sink: &mut K,
     gate: &G,
 ) -> Status
-    requires { S.can_read source.old }
-    ensures taken { HandsUpTo (limit + 1) (S.remaining source.old) (S.remaining source.new) }
+    requires source { S.can_read source.old }
+    requires sink { K.can_write sink.old }
+    ensures taken { HandsUpTo (LIMIT + 1) (S.remaining source.old) (S.remaining source.new) }
     ensures reads { result ≢ Status.ReadFault → S.faults source.new ≡ S.faults source.old }
     ensures writes { result ≢ Status.WriteFault → K.faults sink.new ≡ K.faults sink.old }
     ensures ends { (words : List (List ℕ)) → IsCommandLine words Command.Run
@@ -190,7 +194,8 @@ fn run_generated<R: Threads + Wait + Sync, K: Sink, G: Gate + Sync>(
     sink: &mut K,
     gate: &G,
 ) -> Status
-    requires { IsImageCount count }
+    requires count { IsImageCount count }
+    requires sink { K.can_write sink.old }
     ensures writes { result ≢ Status.WriteFault → K.faults sink.new ≡ K.faults sink.old }
     ensures ends { EndsGenerated count
         (record {
@@ -219,6 +224,7 @@ fn run_generated<R: Threads + Wait + Sync, K: Sink, G: Gate + Sync>(
 
 /// Writes the line that is due with a status.
 fn conclude<K: Sink>(sink: &mut K, line: &[u8], status: Status) -> Status
+    requires { K.can_write sink.old }
     ensures sound { result ≢ Status.WriteFault → K.faults sink.new ≡ K.faults sink.old }
     ensures concludes { Concludes line.now status
         (record {
@@ -239,6 +245,7 @@ fn conclude<K: Sink>(sink: &mut K, line: &[u8], status: Status) -> Status
 
 /// Writes the line that tells of a bad line of the script.
 fn refuse<K: Sink>(alloc: Global, sink: &mut K, line: u32, reason: Reason) -> Status
+    requires { K.can_write sink.old }
     ensures sound { result ≢ Status.WriteFault → K.faults sink.new ≡ K.faults sink.old }
     ensures concludes { Concludes (fault_text line reason) Status.Script
         (record {

@@ -2,6 +2,7 @@
 
 ghost use Rattle.std.specs.Prelude.{◌≡◌, ◌≢◌, ◌<◌, ◌≤◌, [], length, map, slice_index_or};
 ghost use Rattle.std.specs.Prelude.{All, OnOk, OnErr, Err};
+ghost use Rattle.event_script.specs.declared.limits.TheConstants.{MOST_ROUNDS, MOST_THREADS};
 ghost use Rattle.event_script.specs.Text.{IsPrintable, numbered, answer_text, thread_text};
 ghost use Rattle.event_script.specs.Text.{journal_text, answer_lines, event_line};
 ghost use Rattle.std.specs.List.{flat_map};
@@ -10,13 +11,15 @@ ghost use Rattle.run_engine.specs.Ports.{Rose, Gains, GainsPart};
 ghost use Rattle.run_engine.specs.Played.{IsPlayedThread, IsPlayed};
 
 use crate::ports::{Sink, SinkFault};
-use crate::threads::ThreadNumber;
 use event_script::{Answer, EventNumber, Journal, line_count, print_line, print_updates};
 use script_generator::{print_summary, summary};
 use std::alloc::Global;
 
-/// Writes a piece: what the sink leaves of it is offered again.
+/// Writes a piece: what the sink leaves of it is offered again. A sink that failed is not asked
+/// again.
 pub fn write_piece<K: Sink>(sink: &mut K, piece: &[u8]) -> Result<(), SinkFault>
+    requires { K.can_write sink.old }
+    ensures goes_on { OnOk result (K.can_write sink.new) }
     ensures ok { OnOk result (Gains (K.written sink.old) (K.written sink.new) piece.now) }
     ensures err { OnErr result (GainsPart (K.written sink.old) (K.written sink.new) piece.now) }
     ensures failed { result ≡ Err SinkFault.Failed → Rose (K.faults sink.old) (K.faults sink.new) }
@@ -42,6 +45,8 @@ fn write_line<K: Sink>(
 ) -> Result<(), SinkFault>
     requires printable { IsPrintable answer.now }
     requires line { line < length (answer_lines answer.now) }
+    requires sink { K.can_write sink.old }
+    ensures goes_on { OnOk result (K.can_write sink.new) }
     ensures ok { OnOk result
         (Gains (K.written sink.old) (K.written sink.new)
         (event_line number.round number.thread number.event
@@ -59,31 +64,27 @@ fn write_line<K: Sink>(
     }
 }
 
-/// Writes the lines of an event, which has this number in its thread, a piece for each.
+/// Writes the lines of an event, a piece for each.
 fn write_answer<K: Sink>(
     alloc: Global,
     sink: &mut K,
-    number: ThreadNumber,
-    event: u32,
+    number: EventNumber,
     answer: &Answer,
 ) -> Result<(), SinkFault>
-    requires { IsPrintable answer.now }
+    requires printable { IsPrintable answer.now }
+    requires sink { K.can_write sink.old }
+    ensures goes_on { OnOk result (K.can_write sink.new) }
     ensures ok { OnOk result
         (Gains (K.written sink.old) (K.written sink.new)
-        (answer_text number.round number.thread event answer.now)) }
+        (answer_text number.round number.thread number.event answer.now)) }
     ensures err { OnErr result
         (GainsPart (K.written sink.old) (K.written sink.new)
-        (answer_text number.round number.thread event answer.now)) }
+        (answer_text number.round number.thread number.event answer.now)) }
     ensures failed { result ≡ Err SinkFault.Failed → Rose (K.faults sink.old) (K.faults sink.new) }
     ensures sound { result ≢ Err SinkFault.Failed → K.faults sink.new ≡ K.faults sink.old }
 {
-    let place = EventNumber {
-        round: number.round as usize,
-        thread: number.thread as usize,
-        event: event as usize,
-    };
     for line in 0..line_count(answer) {
-        match write_line(alloc, sink, place, answer, line) {
+        match write_line(alloc, sink, number, answer, line) {
             Ok(()) => {}
             Err(fault) => return Err(fault),
         }
@@ -95,21 +96,29 @@ fn write_answer<K: Sink>(
 fn write_thread<K: Sink>(
     alloc: Global,
     sink: &mut K,
-    number: ThreadNumber,
+    round: usize,
+    thread: usize,
     answers: &[Answer],
 ) -> Result<(), SinkFault>
-    requires { IsPlayedThread answers.now }
+    requires played { IsPlayedThread answers.now }
+    requires sink { K.can_write sink.old }
+    ensures goes_on { OnOk result (K.can_write sink.new) }
     ensures ok { OnOk result
         (Gains (K.written sink.old) (K.written sink.new)
-        (thread_text number.round number.thread answers.now)) }
+        (thread_text round thread answers.now)) }
     ensures err { OnErr result
         (GainsPart (K.written sink.old) (K.written sink.new)
-        (thread_text number.round number.thread answers.now)) }
+        (thread_text round thread answers.now)) }
     ensures failed { result ≡ Err SinkFault.Failed → Rose (K.faults sink.old) (K.faults sink.new) }
     ensures sound { result ≢ Err SinkFault.Failed → K.faults sink.new ≡ K.faults sink.old }
 {
     for (index, answer) in answers.iter().enumerate() {
-        match write_answer(alloc, sink, number, index as u32 + 1, answer) {
+        let number = EventNumber {
+            round,
+            thread,
+            event: index + 1,
+        };
+        match write_answer(alloc, sink, number, answer) {
             Ok(()) => {}
             Err(fault) => return Err(fault),
         }
@@ -121,11 +130,13 @@ fn write_thread<K: Sink>(
 fn write_round<K: Sink>(
     alloc: Global,
     sink: &mut K,
-    round: u32,
+    round: usize,
     threads: &[Vec<Answer>],
 ) -> Result<(), SinkFault>
-    requires { (length threads.now ≤ 16)
+    requires played { (length threads.now ≤ MOST_THREADS)
         × All (λ answers. IsPlayedThread answers.items) threads.now }
+    requires sink { K.can_write sink.old }
+    ensures goes_on { OnOk result (K.can_write sink.new) }
     ensures ok { OnOk result
         (Gains (K.written sink.old) (K.written sink.new) (numbered
         (λ thread answers. thread_text round thread answers.items) 1 threads.now)) }
@@ -136,11 +147,7 @@ fn write_round<K: Sink>(
     ensures sound { result ≢ Err SinkFault.Failed → K.faults sink.new ≡ K.faults sink.old }
 {
     for (index, answers) in threads.iter().enumerate() {
-        let number = ThreadNumber {
-            round,
-            thread: index as u32 + 1,
-        };
-        match write_thread(alloc, sink, number, answers) {
+        match write_thread(alloc, sink, round, index + 1, answers) {
             Ok(()) => {}
             Err(fault) => return Err(fault),
         }
@@ -154,9 +161,11 @@ fn write_rounds<K: Sink>(
     sink: &mut K,
     rounds: &[Vec<Vec<Answer>>],
 ) -> Result<(), SinkFault>
-    requires { (length rounds.now ≤ 64)
-        × All (λ threads. (length threads.items ≤ 16)
+    requires played { (length rounds.now ≤ MOST_ROUNDS)
+        × All (λ threads. (length threads.items ≤ MOST_THREADS)
         × All (λ answers. IsPlayedThread answers.items) threads.items) rounds.now }
+    requires sink { K.can_write sink.old }
+    ensures goes_on { OnOk result (K.can_write sink.new) }
     ensures ok { OnOk result
         (Gains (K.written sink.old) (K.written sink.new) (numbered
         (λ round threads. numbered
@@ -171,7 +180,7 @@ fn write_rounds<K: Sink>(
     ensures sound { result ≢ Err SinkFault.Failed → K.faults sink.new ≡ K.faults sink.old }
 {
     for (index, threads) in rounds.iter().enumerate() {
-        match write_round(alloc, sink, index as u32 + 1, threads) {
+        match write_round(alloc, sink, index + 1, threads) {
             Ok(()) => {}
             Err(fault) => return Err(fault),
         }
@@ -185,7 +194,8 @@ pub fn write_journal<K: Sink>(
     sink: &mut K,
     journal: &Journal,
 ) -> Result<(), SinkFault>
-    requires { IsPlayed journal.now.rounds }
+    requires played { IsPlayed journal.now.rounds }
+    requires sink { K.can_write sink.old }
     ensures ok { OnOk result
         (Gains (K.written sink.old) (K.written sink.new) (journal_text journal.now)) }
     ensures err { OnErr result
@@ -210,7 +220,8 @@ pub fn write_summary<K: Sink>(
     sink: &mut K,
     journal: &Journal,
 ) -> Result<(), SinkFault>
-    requires { IsCountable journal.now.rounds }
+    requires countable { IsCountable journal.now.rounds }
+    requires sink { K.can_write sink.old }
     ensures ok { OnOk result
         (Gains (K.written sink.old) (K.written sink.new) (summary_text (summary_of journal.now))) }
     ensures err { OnErr result (GainsPart (K.written sink.old) (K.written sink.new)
@@ -226,6 +237,7 @@ pub fn write_summary<K: Sink>(
 
 /// Writes lines, a piece for each.
 fn write_lines<K: Sink>(sink: &mut K, lines: &[Vec<u8>]) -> Result<(), SinkFault>
+    requires { K.can_write sink.old }
     ensures ok { OnOk result (Gains (K.written sink.old) (K.written sink.new)
         (flat_map (λ line. line) (map (λ line. line.items) lines.now))) }
     ensures err { OnErr result (GainsPart (K.written sink.old) (K.written sink.new)

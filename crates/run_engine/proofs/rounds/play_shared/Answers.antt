@@ -3,6 +3,7 @@ use Rattle.std.specs.List.{All, AllZip}
 use Rattle.std.proofs.lemmas.List.{map-append, take_more}
 use Rattle.std.proofs.lemmas.List.Elements.{All-push, All-from_recursion}
 use Rattle.reg_model.specs.declared.answer.Receipt.{Receipt}
+use Rattle.event_script.specs.declared.limits.TheConstants.{MOST_THREADS}
 use Rattle.run_engine.specs.Played.{IsPlayedThread, IsRightAnswer}
 use Rattle.run_engine.specs.Shared.{IsAfterRounds}
 use Rattle.run_engine.proofs.Lists.{AllZip-more, AllZip-front}
@@ -34,7 +35,7 @@ loop-index-preserved g c =
     rw c.in_ok-push.ensures.items (record {
       answered = rw grown (AllZip-more (λ threads round. AllZip (λ events thread. AllZip (IsRightAnswer c.args.setting.sections.now c.args.setting.snapshots.now) events thread.items) threads round.items) passed answers item played before.answered (rw (← threads) c.in_ok-played.ensures.answered));
       after = subst P (sym (map-append _ answers (played ∷ []))) (rounds_more c.records_stay.ensures _ _ _ _ _ before.after c.in_ok-played.ensures.after);
-      played = All-push (λ round. (length round.items ≤ 16) × All (λ thread. IsPlayedThread thread.items) round.items) answers played before.played c.in_ok-played.ensures.played;
+      played = All-push (λ round. (length round.items ≤ MOST_THREADS) × All (λ thread. IsPlayedThread thread.items) round.items) answers played before.played c.in_ok-played.ensures.played;
       ready = after_ready _ _ _ _ _ c.in_ok-played.ensures.after before.ready;
       left = (let left = before.left in let more = c.in_ok-played.ensures.left in omega arith);
     })

@@ -3,8 +3,8 @@ use Rattle.script_generator.specs.Summaries.{summary_of, summary_text}
 use Rattle.run_engine.proofs.Countable.{countable}
 use Rattle.run_engine.proofs.running.run_generated.Goals as goal
 
-pub write_summary-requires : goal.write_summary-requires
-write_summary-requires g c =
+pub write_summary-requires-clause-countable : goal.write_summary-requires-clause-countable
+write_summary-requires-clause-countable g c =
     countable c.in-Ok.script.sections c.in-Ok.script.snapshots c.in-Ok-play_script.journal.rounds c.in-Ok-play_script.ensures.played c.in-Ok-play_script.ensures.lawful.unfolded
 
 pub returns-in-Err-Failed-clause-ends : goal.returns-in-Err-Failed-clause-ends

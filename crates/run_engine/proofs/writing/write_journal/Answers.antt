@@ -6,9 +6,9 @@ use Rattle.run_engine.proofs.Played.{played_is}
 use Rattle.run_engine.proofs.Pieces.{Gains-more, GainsPart-more, GainsPart-wider, GainsPart-all}
 use Rattle.run_engine.proofs.writing.write_journal.Goals as goal
 
-pub write_rounds-requires : goal.write_rounds-requires
-write_rounds-requires g c =
-    rw c.deref.ensures.value (played_is (λ answers. answers.items) (λ threads. threads.items) c.journal.inside.rounds.items (rw (← c.journal.view_is) at c.requires))
+pub write_rounds-requires-clause-played : goal.write_rounds-requires-clause-played
+write_rounds-requires-clause-played g c =
+    rw c.deref.ensures.value (played_is (λ answers. answers.items) (λ threads. threads.items) c.journal.inside.rounds.items (rw (← c.journal.view_is) at c.requires.played))
 
 pub returns-in-Err-clause-err : goal.returns-in-Err-clause-err
 returns-in-Err-clause-err g c =

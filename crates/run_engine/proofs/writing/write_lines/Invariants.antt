@@ -7,5 +7,6 @@ use Rattle.run_engine.proofs.writing.write_lines.Given as goal
 abbrev pub invariant-loop-line : goal.invariant-loop-line
 invariant-loop-line g l = record {
   gained : Gains (g.K.Sink.written l.fn.sink) (g.K.Sink.written l.sink) (flat_map (λ line. line) (take l.line-index (map (λ line. line.items) l.lines)));
+  writable : g.K.Sink.can_write l.sink;
   sound : g.K.Sink.faults l.sink ≡ g.K.Sink.faults l.fn.sink;
 }

@@ -16,6 +16,7 @@ loop-at-preserved g c =
     record {
       within = omega arith;
       gained = rw (take-add at c.in-Ok.count piece) (Gains-more (g.K.Sink.written c.args.sink.now) (g.K.Sink.written c.loop-at.sink) (g.K.Sink.written c.write.new.self) (take at piece) (take c.in-Ok.count (drop at piece)) before.gained taken);
+      writable = c.in-Ok.ensures.goes_on;
       sound = c.in-Ok.ensures.sound (λ is. cc) ∙ before.sound;
     }
 

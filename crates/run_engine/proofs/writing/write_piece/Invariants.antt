@@ -7,6 +7,7 @@ abbrev pub invariant-loop-at : goal.invariant-loop-at
 invariant-loop-at g l = record {
   within : l.at ≤ length l.piece;
   gained : Gains (g.K.Sink.written l.fn.sink) (g.K.Sink.written l.sink) (take l.at l.piece);
+  writable : g.K.Sink.can_write l.sink;
   sound : g.K.Sink.faults l.sink ≡ g.K.Sink.faults l.fn.sink;
 }
 

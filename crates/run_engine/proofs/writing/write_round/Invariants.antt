@@ -7,5 +7,6 @@ use Rattle.run_engine.proofs.writing.write_round.Given as goal
 abbrev pub invariant-loop-index : goal.invariant-loop-index
 invariant-loop-index g l = record {
   gained : Gains (g.K.Sink.written l.fn.sink) (g.K.Sink.written l.sink) (numbered (λ thread answers. thread_text l.round thread answers.items) 1 (take l.index l.threads));
+  writable : g.K.Sink.can_write l.sink;
   sound : g.K.Sink.faults l.sink ≡ g.K.Sink.faults l.fn.sink;
 }

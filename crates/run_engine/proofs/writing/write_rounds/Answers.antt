@@ -7,6 +7,7 @@ pub loop-index-preserved : goal.loop-index-preserved
 loop-index-preserved g c =
     record {
       gained = gains_more (λ round threads. numbered (λ thread answers. thread_text round thread answers.items) 1 threads.items) c.args.rounds.now c.loop-index.index c.index-rounds-index.result c.loop-index-test.true c.index-rounds-index.is _ _ _ c.loop-index.invariant.gained (rw c.deref.ensures.value at c.in-Ok.ensures.ok);
+      writable = c.in-Ok.ensures.goes_on;
       sound = c.in-Ok.ensures.sound (λ is. cc) ∙ c.loop-index.invariant.sound;
     }
 

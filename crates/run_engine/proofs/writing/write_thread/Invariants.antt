@@ -6,6 +6,7 @@ use Rattle.run_engine.proofs.writing.write_thread.Given as goal
 -- the answers so far were written
 abbrev pub invariant-loop-index : goal.invariant-loop-index
 invariant-loop-index g l = record {
-  gained : Gains (g.K.Sink.written l.fn.sink) (g.K.Sink.written l.sink) (thread_text l.number.round l.number.thread (take l.index l.answers));
+  gained : Gains (g.K.Sink.written l.fn.sink) (g.K.Sink.written l.sink) (thread_text l.round l.thread (take l.index l.answers));
+  writable : g.K.Sink.can_write l.sink;
   sound : g.K.Sink.faults l.sink ≡ g.K.Sink.faults l.fn.sink;
 }
