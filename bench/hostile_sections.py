@@ -1,4 +1,4 @@
-"""Sections that cost the most: each at most 65,536 bytes, at address 0x2000."""
+"""Sections that cost the most, at address 0x2000: each at most 65,536 bytes, or as many as its name says."""
 import struct, sys, os
 out = sys.argv[1]
 def record(body):
@@ -12,8 +12,8 @@ def fde(at, place_of_cie, first, size, program):
 def short_fde(at, place_of_cie, first, size, program=b''):
     # ULEB addresses, a byte each
     return record(struct.pack('<I', at + 4 - place_of_cie) + bytes([first, size]) + program)
-def write(name, data):
-    assert len(data) <= 65536, (name, len(data))
+def write(name, data, most=65536):
+    assert len(data) <= most, (name, len(data))
     with open(os.path.join(out, name), 'wb') as f:
         f.write(data)
 BASE = b'\x0c\x07\x08\x90\x01'          # def_cfa 7 8, offset 16 1
@@ -95,3 +95,33 @@ write('advances1', pair(BASE, b'\x02\x01' * 32700))
 write('def_cfas', pair(BASE, b'\x0c\x07\x08' * 21800))
 write('registers', pair(BASE, b'\x09\x06\x03' * 21800))
 write('restores_extended', pair(BASE, b'\x06\x06' * 32700))
+# 9: a long CIE and as many short FDEs: a row table needs the row that the CIE leaves for each
+def long_cie(most):
+    body = cie(BASE + bytes(most // 2), b'zR', b'\x01\x01')
+    parts, size, i = [body], len(body), 0
+    while True:
+        r = record(struct.pack('<I', size + 4) + uleb(16 * i) + uleb(16) + b'\x00')
+        if size + len(r) > most:
+            return b''.join(parts)
+        parts.append(r)
+        size += len(r)
+        i += 1
+write('long_cie', long_cie(65532))
+write('long_cie_1M', long_cie(1 << 20), 1 << 20)
+# 10: FDEs that share addresses, 16 MB of them
+def short_fdes(most, pairs):
+    parts, size, i = [c], len(c), 0
+    while True:
+        f, s = pairs(i)
+        r = record(struct.pack('<I', size + 4) + uleb(f) + uleb(s) + b'\x00')
+        if size + len(r) > most:
+            return b''.join(parts)
+        parts.append(r)
+        size += len(r)
+        i += 1
+M16 = 16 << 20
+write('one_address_16M', short_fdes(M16, lambda i: (16, 16)), M16)
+write('one_pair_16M', short_fdes(M16, lambda i: (16 * max(i, 1), 16)), M16)
+write('nested_16M', short_fdes(M16, lambda i: (i, 1 << 40)), M16)
+write('nested_back_16M', short_fdes(M16, lambda i: ((1 << 22) - i, 2 * i + 1)), M16)
+write('apart_16M', short_fdes(M16, lambda i: (16 * i, 16)), M16)
