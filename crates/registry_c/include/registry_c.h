@@ -192,8 +192,8 @@ enum registry_answer_kind {
   REGISTRY_OVERLAP = 1,   /* at the stamp `member` is the lowest one that overlaps           */
   REGISTRY_ABSENT = 2,    /* at the stamp no range of this half begins at the address        */
   REGISTRY_FULL = 3,      /* at the stamp nothing overlaps, and there is no room             */
-  REGISTRY_SPENT = 4,     /* no update call is left; or too often one that was begun was     */
-                          /* BUSY                                                            */
+  REGISTRY_SPENT = 4,     /* no update call is left, and none is begun, or one that was too  */
+                          /* often BUSY                                                      */
   REGISTRY_BUSY = 5,      /* a lock was found taken, and nothing was changed                 */
   REGISTRY_NO_MEMBER = 6  /* no addresses, or not below 2^64 - 1, or no such payload         */
 };

@@ -1,20 +1,24 @@
 -- Update calls of a client that are tried until they are answered.
-use Rattle.std.specs.Prelude.{◌≡◌, ◌-◌, ◌<◌, ◌≤◌, Bool, true, MatchBool}
+use Rattle.std.specs.Prelude.{◌≡◌, ◌-◌, ◌<◌, ◌≤◌, ◌&&◌, Bool, true, false, MatchBool, nat_le}
 use Rattle.std.specs.Prelude.{if◌then◌else◌}
 use Rattle.word_rule.specs.CallerData.{CallerData, surplus}
 use Rattle.word_rule.specs.Places.{CALL_CREDIT}
 use Rattle.registry_c.specs.Clients.{ClientData}
 
--- a call is begun, and the releases that it may make are to spare; or none is begun, and one is
--- left
+-- whether a call is begun, and the releases that it may make are to spare
+abbrev pub is_provided : ClientData → Bool
+is_provided c = c.begun && nat_le CALL_CREDIT (surplus c.me)
+
+-- such a call is begun, or one is left, which has releases of its own
 abbrev pub MayTry : ClientData → Type 0
-MayTry c = MatchBool c.begun (CALL_CREDIT ≤ surplus c.me) (0 < c.me.left)
+MayTry c = MatchBool (is_provided c) (Unit {0}) (0 < c.me.left)
 
--- the caller once a call is begun
+-- The caller once such a call is begun. Where one was begun that has used up its releases, the one
+-- that is begun takes its place.
 abbrev pub begun_caller : ClientData → CallerData
-begun_caller c = if c.begun then c.me else record c.me { left = c.me.left - 1 }
+begun_caller c = if is_provided c then c.me else record c.me { left = c.me.left - 1 }
 
--- A call was begun, unless one was, and may be tried.
+-- A call was begun, unless one was that may be tried, and may be tried.
 pub record Begins (c c' : ClientData) : Type 0 where
   pub may : MayTry c
   pub spare : CALL_CREDIT ≤ surplus c'.me
@@ -30,6 +34,6 @@ pub record TriesCall (step : CallerData → CallerData → Type 0) (begun : Bool
   pub name : c'.name ≡ c.name
   pub begun_now : c'.begun ≡ begun
 
--- no call can be tried, and nothing was done
+-- No call is left, and none that may be tried is begun; nothing was done.
 abbrev pub IsSpent : ClientData → ClientData → Type 0
-IsSpent c c' = (¬ MayTry c) × (c' ≡ c)
+IsSpent c c' = (c.me.left ≡ 0) × (is_provided c ≡ false) × (c' ≡ c)

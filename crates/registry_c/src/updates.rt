@@ -1,12 +1,13 @@
 //! Tries of updates. Each takes locks by one step or not at all, and wakes nobody.
 //!
-//! A call that was busy is still begun, and whatever update is tried next goes on with it.
+//! A call that was busy is still begun, and whatever update is tried next goes on with it. Where it
+//! has used up its releases, one that is left takes its place.
 
-ghost use Rattle.std.specs.Prelude.{MatchBool};
+ghost use Rattle.std.specs.Prelude.{◌≡◌, MatchBool};
 ghost use Rattle.registry_c.specs.Clients.{LeadsToClient, LeadsNowhere, Makes};
 ghost use Rattle.registry_c.specs.Answers.{TellsAttempt, insertion_told, loading_told};
 ghost use Rattle.registry_c.specs.Answers.{removal_told};
-ghost use Rattle.registry_c.specs.Tries.{Begins, IsSpent};
+ghost use Rattle.registry_c.specs.Tries.{Begins, IsSpent, is_provided};
 ghost use Rattle.registry_c.specs.Updates.{Deregisters, Loads, Registers, Unloads};
 
 use crate::attempt::{Attempt, RegistryAnswer};
@@ -18,15 +19,26 @@ use reg_model::{Inserted, Loading, Removed};
 use std::alloc::Global;
 
 impl Client {
-    /// Begins an update call, unless one is begun; and says whether it may be tried.
+    /// Whether a call is begun, and the releases that it may make are to spare.
+    fn is_provided(&self) -> bool
+        ensures { result ≡ is_provided self.now }
+    {
+        self.begun && self.me.may_try()
+    }
+
+    /// Begins an update call, unless one is begun that has its releases; and says whether it may be
+    /// tried.
     fn begin(&mut self) -> bool
         ensures { MatchBool result (Begins self.old self.new) (IsSpent self.old self.new) }
     {
-        if self.begun {
-            return self.me.may_try();
+        if self.is_provided() {
+            return true;
         }
-        self.begun = self.me.use_one();
-        self.begun
+        if !self.me.use_one() {
+            return false;
+        }
+        self.begun = true;
+        true
     }
 
     /// Tries to register a member.
