@@ -1,5 +1,5 @@
 -- Two whole logs, of which one has all receipts of the other.
-use Rattle.std.proofs.Common.{◌≡◌, ℕ, zero, suc, ◌+◌, ◌-◌, ◌<◌, List, [], ◌∷◌, ◌++◌, length, Contains, sym, refl, ap, ◌∙◌, arith, Bool, true, false, ◌&&◌, ◌==◌, is_some, Option, Some, None, IfSome, max, eqb-true, count_by, if◌then◌else◌}
+use Rattle.std.proofs.Common.{◌≡◌, ℕ, suc, ◌+◌, ◌-◌, ◌<◌, List, [], ◌∷◌, length, Contains, sym, refl, ap, ◌∙◌, arith, Bool, true, false, ◌&&◌, ◌==◌, is_some, Option, Some, None, IfSome, max, eqb-true, count_by, if◌then◌else◌}
 use Rattle.std.proofs.lemmas.Bool.{le-leb}
 use Rattle.std.proofs.lemmas.List.Sums.{sum_by-cons}
 use Rattle.std.proofs.lemmas.Option.{none-some, same_Some}

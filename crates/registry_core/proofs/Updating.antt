@@ -1,5 +1,5 @@
 -- Updates of the tree, by their receipts alone.
-use Rattle.std.proofs.Common.{◌≡◌, ℕ, ◌+◌, ◌<◌, ◌↔◌, List, [], ◌∷◌, ◌++◌, length, sym, refl, subst, ◌∙◌, arith, true}
+use Rattle.std.proofs.Common.{◌≡◌, ℕ, ◌<◌, ◌↔◌, List, [], ◌∷◌, ◌++◌, length, sym, refl, subst, ◌∙◌, arith, true}
 use mathlib.Core.List.{IsPrefix}
 use Rattle.reg_model.specs.Receipt.{moment}
 use Rattle.reg_model.specs.declared.answer.Inserted.{Inserted}
