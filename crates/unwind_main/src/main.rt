@@ -26,7 +26,7 @@ fn main(rt: HostRuntime) -> ExitCode {
         // Words that are not text are no words that are taken.
         Err(_) => {}
     }
-    let mut source = StandardInput::new(rt.reader());
+    let mut source = StandardInput::new(&rt, rt.reader());
     let mut sink = StandardOutput::new(&rt);
     let status = run(&rt, rt.alloc(), &words, &mut source, &mut sink, &NoGate);
     ExitCode::from(status.code())
