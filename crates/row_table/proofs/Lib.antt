@@ -5,3 +5,4 @@ pub mod Growth
 pub mod Lookups
 pub mod Numbers
 pub mod StepsSince
+pub mod Initials

@@ -12,7 +12,7 @@ use Rattle.frame_rows.specs.declared.placed_row.PlacedRow.{PlacedRow}
 use Rattle.frame_rows.proofs.Onward.{Gives, none_up_to}
 use Rattle.frame_rows.specs.Columns.{instructions, up_to}
 use Rattle.frame_rows.specs.RowAt.{IsPlacedRowAt}
-use Rattle.frame_rows.specs.Rows.{Rows, HasPlacedInitial, HasPlacedProgram, applied, base_row, beside, rows_step, rows_after}
+use Rattle.frame_rows.specs.Rows.{Rows, IsInitialRow, HasPlacedProgram, applied, beside, rows_step, rows_after}
 
 -- of these steps some are done, up to a location: at p more of them are left, and from there on the
 -- rows are those that the row here leads to
@@ -26,10 +26,6 @@ pub record IsOn (base : PlacedRow) (p : PlacedProgramData) (location : ℕ) (row
 -- so of the steps of an FDE's own instructions
 abbrev pub GoesOn : FdeData → PlacedRow → PlacedProgramData → ℕ → PlacedRow → List PlacedRow → Type 0
 GoesOn f base p location row kept = (steps : List PlacedStep) → HasPlacedProgram f steps → IsOn base p location row kept steps
-
--- the row that the initial instructions leave
-abbrev pub IsBase : FdeData → PlacedRow → Type 0
-IsBase f base = (initial : List PlacedStep) → HasPlacedInitial f initial → base ≡ base_row f.entry.first initial
 
 -- what holds along the steps of every program
 abbrev pub Law : Type 0
@@ -146,14 +142,14 @@ has_one base p q l row kept x steps o gives is = stands base p q l row kept x st
 abbrev NoneLeft : PlacedProgramData → ℕ → ℕ → Type 0
 NoneLeft p l pc = (steps : List PlacedStep) → HasPlacedSteps p steps → IsAscendingFrom l steps → up_to pc steps ≡ []
 
-row_here : (f : FdeData) (base : PlacedRow) (p : PlacedProgramData) (l : ℕ) (row : PlacedRow) (kept : List PlacedRow) (pc : ℕ) → GoesOn f base p l row kept → IsBase f base → l ≤ pc → NoneLeft p l pc → IsPlacedRowAt f pc row
+row_here : (f : FdeData) (base : PlacedRow) (p : PlacedProgramData) (l : ℕ) (row : PlacedRow) (kept : List PlacedRow) (pc : ℕ) → GoesOn f base p l row kept → IsInitialRow f base → l ≤ pc → NoneLeft p l pc → IsPlacedRowAt f pc row
 row_here f base p l row kept pc on is le none = λ initial steps has_initial has.
     let o = on steps has in
     sym (ap (λ (s : Rows). s.row) (o.same pc le) ∙ ap (λ (k : List PlacedStep). (fold (rows_step base) (beside row kept) (instructions k)).row) (none o.more o.has o.ascending))
     ∙ ap (λ (k : PlacedRow). (rows_after k pc (beside k []) steps).row) (is initial has_initial)
 
 -- it holds up to where the next step moves the location, and after the last step from there on
-pub row_up_to : (f : FdeData) (base : PlacedRow) (p q : PlacedProgramData) (l : ℕ) (row : PlacedRow) (kept : List PlacedRow) (x : PlacedStep) (pc : ℕ) → GoesOn f base p l row kept → IsBase f base → Gives p x q → l ≤ pc → pc < x.location → IsPlacedRowAt f pc row
+pub row_up_to : (f : FdeData) (base : PlacedRow) (p q : PlacedProgramData) (l : ℕ) (row : PlacedRow) (kept : List PlacedRow) (x : PlacedStep) (pc : ℕ) → GoesOn f base p l row kept → IsInitialRow f base → Gives p x q → l ≤ pc → pc < x.location → IsPlacedRowAt f pc row
 row_up_to f base p q l row kept x pc on is gives le lt = row_here f base p l row kept pc on is le (λ steps has a.
     let n = gives steps has in
     let ascending : IsAscendingFrom l (x ∷ n.0) = subst (λ (k : List PlacedStep). IsAscendingFrom l k) n.1 a in
@@ -161,6 +157,6 @@ row_up_to f base p q l row kept x pc on is gives le lt = row_here f base p l row
     let none : up_to pc n.0 ≡ [] = none_up_to pc x.location n.0 lt ascending.1 in
     ap (up_to pc) n.1 ∙ rw above none)
 
-pub row_to_the_end : (f : FdeData) (base : PlacedRow) (p : PlacedProgramData) (l : ℕ) (row : PlacedRow) (kept : List PlacedRow) (pc : ℕ) → GoesOn f base p l row kept → IsBase f base → ((steps : List PlacedStep) → HasPlacedSteps p steps → steps ≡ []) → l ≤ pc
+pub row_to_the_end : (f : FdeData) (base : PlacedRow) (p : PlacedProgramData) (l : ℕ) (row : PlacedRow) (kept : List PlacedRow) (pc : ℕ) → GoesOn f base p l row kept → IsInitialRow f base → ((steps : List PlacedStep) → HasPlacedSteps p steps → steps ≡ []) → l ≤ pc
     → IsPlacedRowAt f pc row
 row_to_the_end f base p l row kept pc on is end le = row_here f base p l row kept pc on is le (λ steps has a. ap (up_to pc) (end steps has))

@@ -1,3 +1,4 @@
 pub mod Tables
 pub mod Numbering
 pub mod Transitions
+pub mod Initials

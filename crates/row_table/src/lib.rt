@@ -5,6 +5,7 @@
 //! row by halves among the FDE's own. What a table has is stated in `specs/Tables`.
 #![tactic(auto)]
 
+mod cie_rows;
 mod distinct_rows;
 mod fault;
 mod kept_rows;

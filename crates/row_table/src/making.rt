@@ -1,6 +1,7 @@
 //! Rows in the order in which the instructions of FDEs leave them.
 
 ghost use Rattle.std.specs.Prelude.{◌≡◌, ◌⊎◌, [], IfOk, IfErr, IfSome, length};
+ghost use Rattle.frame_rows.specs.Rows.{IsInitialRow};
 ghost use Rattle.row_table.specs.Tables.{IsPushed, IsOneTooMany, IsAdded, HasRowsTooMany};
 ghost use Rattle.row_table.specs.Transitions.{IsNumberOf, IsSince};
 
@@ -9,7 +10,7 @@ use crate::kept_rows::KeptRows;
 use crate::numbered_rows::NumberedRows;
 use crate::since::Since;
 use frame_parse::{Fde, PlacedInstruction, steps_are_ordered};
-use frame_rows::{PlacedRow, initial_row};
+use frame_rows::PlacedRow;
 use std::alloc::{AllocError, Global};
 use std::marker::Model;
 
@@ -71,17 +72,23 @@ impl Rows {
     }
 
     /// Adds the rows of an FDE: each begins where the location moves, and the last one holds from
-    /// there on. `kept` is room for those that it remembers.
-    pub(crate) fn add(&mut self, fde: &Fde<'_>, kept: &mut KeptRows) -> Result<(), TableFault>
-        requires { length self.old.numbers ≡ length self.old.starts }
+    /// there on. `base` is the row that its initial instructions leave, `kept` is room for those
+    /// that it remembers.
+    pub(crate) fn add(
+        &mut self,
+        fde: &Fde<'_>,
+        base: &PlacedRow,
+        kept: &mut KeptRows,
+    ) -> Result<(), TableFault>
+        requires even { length self.old.numbers ≡ length self.old.starts }
+        requires base { IsInitialRow fde.now base.now }
         ensures added { IfOk result (λ _. IsAdded self.old fde.now self.new) }
         ensures refused { IfErr result (λ fault. (fault ≡ TableFault.NoMemory)
             ⊎ HasRowsTooMany self.old.distinct fde.now) }
     {
         steps_are_ordered();
         kept.clear();
-        let base = initial_row(fde);
-        let mut row = base;
+        let mut row = *base;
         let mut since: Option<Since> = None;
         let mut location = fde.first();
         let mut program = fde.placed_program();
@@ -100,7 +107,7 @@ impl Rows {
                     since = None;
                 }
                 instruction => {
-                    row.apply(&base, instruction);
+                    row.apply(base, instruction);
                     Since::take(&mut since, instruction);
                 }
             }

@@ -6,6 +6,7 @@ ghost use Rattle.unwind_step.specs.Sources.{IsFound};
 ghost use Rattle.row_table.specs.Tables.{IsRowTableOf, HasTooManyRows};
 ghost use Rattle.row_table.specs.Tables.{HasRowsFrom, HasNumber, IsNumberAt};
 
+use crate::cie_rows::CieRows;
 use crate::fault::TableFault;
 use crate::kept_rows::KeptRows;
 use crate::lent_row::LentRow;
@@ -55,12 +56,15 @@ impl RowTable {
         ensures refused { IfErr result (λ fault. (fault ≡ TableFault.NoMemory)
             ⊎ HasTooManyRows section.now) }
     {
+        let mut initials = CieRows::new(alloc);
         let mut kept = KeptRows::new();
         let mut rows = Rows::new(alloc)?;
         let mut begins = Vec::with_capacity(alloc, section.count())?;
         begins.push(0)?;
         for index in 0..section.count() {
-            rows.add(&section.fde(index), &mut kept)?;
+            let fde = section.fde(index);
+            let number = initials.number_of(&fde)?;
+            rows.add(&fde, initials.row(number), &mut kept)?;
             begins.push(rows.len())?;
         }
         let Rows {

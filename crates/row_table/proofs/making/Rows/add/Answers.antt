@@ -13,12 +13,12 @@ use Rattle.row_table.proofs.making.Rows.add.Goals as goal
 pub loop-step-init : goal.loop-step-init
 loop-step-init c =
     let f = c.args.fde.now in
-    let base = c.initial_row-base.result in
+    let base = c.args.base.now in
     let program = c.placed_program-program.result in
     let first = c.first-location.result in record {
       on = subst (λ (k : List PlacedRow). GoesOn f base program first base k) (sym c.clear.ensures) (on_at_first f base program first c.steps_are_ordered.ensures.placed c.placed_program-program.ensures.program c.first-location.ensures);
-      base = c.initial_row-base.ensures;
-      spans = no_spans f c.args.self.now first c.requires c.first-location.ensures;
+      base = c.requires.base;
+      spans = no_spans f c.args.self.now first c.requires.even c.first-location.ensures;
       since = tt;
     }
 
@@ -26,7 +26,7 @@ pub loop-step-preserved-then-step-location : goal.loop-step-preserved-then-step-
 loop-step-preserved-then-step-location c =
     let was = c.loop-step in
     let f = c.args.fde.now in
-    let base = c.initial_row-base.result in
+    let base = c.args.base.now in
     let gives = c.in-Some.ensures.steps in record {
       on = moved_on f base was.program c.next.new.self was.location was.row was.kept c.in-Some.step was.invariant.on gives c.in-Advance.is c.if-step-location.true;
       base = was.invariant.base;
@@ -39,7 +39,7 @@ loop-step-preserved-then-step-location c =
 pub loop-step-preserved-else-step-location : goal.loop-step-preserved-else-step-location
 loop-step-preserved-else-step-location c =
     let was = c.loop-step in record {
-      on = stayed_on c.args.fde.now c.initial_row-base.result was.program c.next.new.self was.location was.row was.kept c.in-Some.step was.invariant.on c.in-Some.ensures.steps c.in-Advance.is c.if-step-location.false;
+      on = stayed_on c.args.fde.now c.args.base.now was.program c.next.new.self was.location was.row was.kept c.in-Some.step was.invariant.on c.in-Some.ensures.steps c.in-Advance.is c.if-step-location.false;
       base = was.invariant.base;
       spans = was.invariant.spans;
       since = was.invariant.since;
@@ -50,13 +50,13 @@ keep-requires c =
     let was = c.loop-step in
     let known = c.placed_program-program.ensures.known in
     let has = subst (λ (p : PlacedProgramData). HasPlacedSteps p known.0) c.placed_program-program.ensures.program known.1 in
-    has_room c.initial_row-base.result was.program c.next.new.self was.location was.row was.kept c.in-Some.step known.0 (was.invariant.on known.0 has) c.in-Some.ensures.steps c.in-Remember.is
+    has_room c.args.base.now was.program c.next.new.self was.location was.row was.kept c.in-Some.step known.0 (was.invariant.on known.0 has) c.in-Some.ensures.steps c.in-Remember.is
 
 pub loop-step-preserved-in-Remember : goal.loop-step-preserved-in-Remember
 loop-step-preserved-in-Remember c =
     let was = c.loop-step in
     let f = c.args.fde.now in
-    let base = c.initial_row-base.result in
+    let base = c.args.base.now in
     let on = remembered_on f base was.program c.next.new.self was.location was.row was.kept c.in-Some.step was.invariant.on c.in-Some.ensures.steps c.in-Remember.is in record {
       on = subst (λ (k : List PlacedRow). GoesOn f base c.next.new.self was.location was.row k) (sym c.keep.ensures) on;
       base = was.invariant.base;
@@ -69,12 +69,12 @@ take_back-row-requires c =
     let was = c.loop-step in
     let known = c.placed_program-program.ensures.known in
     let has = subst (λ (p : PlacedProgramData). HasPlacedSteps p known.0) c.placed_program-program.ensures.program known.1 in
-    has_one c.initial_row-base.result was.program c.next.new.self was.location was.row was.kept c.in-Some.step known.0 (was.invariant.on known.0 has) c.in-Some.ensures.steps c.in-RestoreState.is
+    has_one c.args.base.now was.program c.next.new.self was.location was.row was.kept c.in-Some.step known.0 (was.invariant.on known.0 has) c.in-Some.ensures.steps c.in-RestoreState.is
 
 pub loop-step-preserved-in-RestoreState : goal.loop-step-preserved-in-RestoreState
 loop-step-preserved-in-RestoreState c =
     let was = c.loop-step in record {
-      on = restored_on c.args.fde.now c.initial_row-base.result was.program c.next.new.self was.location was.row c.take_back-row.result was.kept c.take_back-row.new.self c.in-Some.step was.invariant.on c.in-Some.ensures.steps c.in-RestoreState.is c.take_back-row.ensures;
+      on = restored_on c.args.fde.now c.args.base.now was.program c.next.new.self was.location was.row c.take_back-row.result was.kept c.take_back-row.new.self c.in-Some.step was.invariant.on c.in-Some.ensures.steps c.in-RestoreState.is c.take_back-row.ensures;
       base = was.invariant.base;
       spans = was.invariant.spans;
       since = tt;
@@ -84,7 +84,7 @@ pub loop-step-preserved : goal.loop-step-preserved
 loop-step-preserved c =
     let was = c.loop-step in
     let f = c.args.fde.now in
-    let base = c.initial_row-base.result in
+    let base = c.args.base.now in
     let not = c.in_default-instruction in
     let on = plain_on f base was.program c.next.new.self was.location was.row was.kept c.in-Some.step was.invariant.on c.in-Some.ensures.steps not.not-Advance not.not-Remember not.not-RestoreState in
     let then = c.take.ensures was.self.distinct base was.row was.invariant.since in
@@ -100,13 +100,13 @@ returns-clause-added c =
     let was = c.loop-step in
     let f = c.args.fde.now in
     last_one f c.args.self.now was.self c.push-2.new.self was.location was.row was.invariant.spans c.in_ok-push.ensures.pushed
-    (λ pc le. row_to_the_end f c.initial_row-base.result was.program was.location was.row was.kept pc was.invariant.on was.invariant.base c.in_default.ensures.steps le)
+    (λ pc le. row_to_the_end f c.args.base.now was.program was.location was.row was.kept pc was.invariant.on was.invariant.base c.in_default.ensures.steps le)
 
 pub returns-in_err-number-in-Advance-clause-refused : goal.returns-in_err-number-in-Advance-clause-refused
 returns-in_err-number-in-Advance-clause-refused c =
     let was = c.loop-step in
     let f = c.args.fde.now in
-    let has : HasRow f was.row = (was.location, row_up_to f c.initial_row-base.result was.program c.next.new.self was.location was.row was.kept c.in-Some.step was.location was.invariant.on was.invariant.base c.in-Some.ensures.steps (omega arith) c.if-step-location.true) in
+    let has : HasRow f was.row = (was.location, row_up_to f c.args.base.now was.program c.next.new.self was.location was.row was.kept c.in-Some.step was.location was.invariant.on was.invariant.base c.in-Some.ensures.steps (omega arith) c.if-step-location.true) in
     let p = err_from_is_err_and c.from_residual.result c.from_residual.ensures.1 in
     rw (p.1, p.2) (refused_push f c.args.self.now was.self was.location was.row c.in_err-number-in-Advance.field-0.0 was.invariant.spans has c.in_err-number-in-Advance.ensures.refused)
 
@@ -114,7 +114,7 @@ pub returns-in_err-push-clause-refused : goal.returns-in_err-push-clause-refused
 returns-in_err-push-clause-refused c =
     let was = c.loop-step in
     let f = c.args.fde.now in
-    let has : HasRow f was.row = (was.location, row_to_the_end f c.initial_row-base.result was.program was.location was.row was.kept was.location was.invariant.on was.invariant.base c.in_default.ensures.steps (omega arith)) in
+    let has : HasRow f was.row = (was.location, row_to_the_end f c.args.base.now was.program was.location was.row was.kept was.location was.invariant.on was.invariant.base c.in_default.ensures.steps (omega arith)) in
     let p = err_from_is_err_and c.from_residual-in_err-push.result c.from_residual-in_err-push.ensures.1 in
     rw (p.1, p.2) (refused_push f c.args.self.now was.self was.location was.row c.in_err-push.field-0.0 was.invariant.spans has c.in_err-push.ensures.refused)
 
