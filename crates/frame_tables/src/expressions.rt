@@ -77,14 +77,7 @@ pub fn word(tables: &Tables, words: &Words<'_>, text: &mut String) -> Result<(),
 /// `value START BYTES`: of an expression that starts with a number on its stack, or with none for
 /// a dash.
 pub fn value(tables: &Tables, words: &Words<'_>, text: &mut String) -> Result<(), Refusal> {
-    let bytes = words.bytes(2)?;
-    words.end(3)?;
-    let found = if words.get(1) == "-" {
-        value_of_cfa(tables, &bytes)
-    } else {
-        value_from(tables, &bytes, words.hexadecimal(1)?)
-    };
-    match found {
+    match value_of(tables, words)? {
         Ok(Ok(number)) => write!(text, "{number:x}")?,
         Ok(Err(NoBytes { address })) => write!(text, "no bytes at {address:x}")?,
         Err(fault) => write!(text, "refused {fault:?}")?,
@@ -92,16 +85,26 @@ pub fn value(tables: &Tables, words: &Words<'_>, text: &mut String) -> Result<()
     Ok(())
 }
 
-fn value_of_cfa(tables: &Tables, bytes: &[u8]) -> Result<Result<u64, NoBytes>, ExprFault> {
+/// A value, or the address at which nothing is recorded.
+type Value = Result<u64, NoBytes>;
+
+/// The value that the words ask for, or why their bytes are no expression.
+fn value_of(tables: &Tables, words: &Words<'_>) -> Result<Result<Value, ExprFault>, Refusal> {
+    words.end(3)?;
+    let bytes = words.bytes(2)?;
+    if words.get(1) == "-" {
+        Ok(value_of_cfa(tables, &bytes))
+    } else {
+        Ok(value_from(tables, &bytes, words.hexadecimal(1)?))
+    }
+}
+
+fn value_of_cfa(tables: &Tables, bytes: &[u8]) -> Result<Value, ExprFault> {
     let expr = CfaExpr::read(bytes)?;
     Ok(frame_expr::value(&expr, &tables.regs, &tables.memory, None))
 }
 
-fn value_from(
-    tables: &Tables,
-    bytes: &[u8],
-    start: u64,
-) -> Result<Result<u64, NoBytes>, ExprFault> {
+fn value_from(tables: &Tables, bytes: &[u8], start: u64) -> Result<Value, ExprFault> {
     let expr = ColumnExpr::read(bytes)?;
     Ok(frame_expr::value(&expr, &tables.regs, &tables.memory, Some(start)))
 }

@@ -2,6 +2,7 @@
 
 ghost use Rattle.std.specs.Prelude.{◌≡◌, IfOk};
 
+use crate::sections::address;
 use crate::tables::{KeptHeader, Tables};
 use crate::words::{Refusal, Wanted, Words, refuse};
 use eh_hdr::{Header, HeaderFault};
@@ -9,28 +10,47 @@ use frame_parse::{Fde, Section};
 
 /// `header NAME SECTION ADDRESS BYTES`: whether it is accepted, and how many entries it has.
 pub fn header(tables: &mut Tables, words: &Words<'_>, text: &mut String) -> Result<(), Refusal> {
-    let number = tables
-        .number_of(words.get(2))
-        .ok_or(refuse(2, Wanted::Section))?;
-    let (address, bytes) = (words.hexadecimal(3)?, words.bytes(4)?);
-    words.end(5)?;
-    let section = tables.section(words, 2)?;
-    match Header::read(tables.alloc, address, &bytes, section) {
-        Ok(header) => write!(text, "accepted, {} entries", header.count())?,
-        Err(HeaderFault::NoMemory) => return Err(Refusal::NO_MEMORY),
+    let kept = to_keep(tables, words)?;
+    match count_of(tables, &kept, tables.section(words, 2)?) {
+        Ok(count) => {
+            tables.headers.push(kept)?;
+            write!(text, "accepted, {count} entries")?;
+            Ok(())
+        }
         Err(fault) => {
-            write!(text, "refused {fault:?}")?;
-            return Ok(());
+            drop(kept);
+            refused(fault, text)
         }
     }
+}
+
+/// The header that the words tell.
+fn to_keep(tables: &Tables, words: &Words<'_>) -> Result<KeptHeader, Refusal> {
+    let section = tables
+        .number_of(words.get(2))
+        .ok_or(refuse(2, Wanted::Section))?;
+    let address = words.hexadecimal(3)?;
+    words.end(5)?;
+    let bytes = words.bytes(4)?;
     let name = String::from_str(tables.alloc, words.get(1))?;
-    tables.headers.push(KeptHeader {
+    Ok(KeptHeader {
         name,
-        section: number,
+        section,
         address,
         bytes,
-    })?;
-    Ok(())
+    })
+}
+
+/// How many entries a header has.
+fn count_of(tables: &Tables, kept: &KeptHeader, section: &Section) -> Result<usize, HeaderFault> {
+    Ok(Header::read(tables.alloc, kept.address, &kept.bytes, section)?.count())
+}
+
+fn refused(fault: HeaderFault, text: &mut String) -> Result<(), Refusal> {
+    match fault {
+        HeaderFault::NoMemory => Err(Refusal::NO_MEMORY),
+        fault => Ok(write!(text, "refused {fault:?}")?),
+    }
 }
 
 /// The last header with the name in the first word after the question, and its section.
@@ -69,12 +89,11 @@ pub fn entries(tables: &Tables, words: &Words<'_>, text: &mut String) -> Result<
     Ok(())
 }
 
-fn first_of(found: Option<Fde<'_>>, text: &mut String) -> Result<(), Refusal> {
+fn first_of(found: Option<Fde<'_>>) -> Option<u64> {
     match found {
-        Some(fde) => write!(text, "{:x}", fde.first())?,
-        None => text.push_str("none")?,
+        Some(fde) => Some(fde.first()),
+        None => None,
     }
-    Ok(())
 }
 
 /// `find HEADER PC`: the entry, the first address of the FDE that the header finds, and that of the
@@ -83,11 +102,13 @@ pub fn find(tables: &Tables, words: &Words<'_>, text: &mut String) -> Result<(),
     let (header, section) = header_of(tables, words)?;
     let pc = words.hexadecimal(2)?;
     words.end(3)?;
-    match header.entry_at(pc) {
-        Some(index) => write!(text, "entry {index} fde ")?,
-        None => text.push_str("entry none fde ")?,
+    let entry = header.entry_at(pc);
+    let by_header = first_of(header.fde_at(pc));
+    let by_table = first_of(header.into_table().fde_at(section, pc));
+    match entry {
+        Some(index) => write!(text, "entry {index}")?,
+        None => text.push_str("entry none")?,
     }
-    first_of(header.fde_at(pc), text)?;
-    text.push_str(" by table ")?;
-    first_of(header.into_table().fde_at(section, pc), text)
+    address("fde", by_header, text)?;
+    address("by table", by_table, text)
 }

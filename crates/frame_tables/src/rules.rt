@@ -25,6 +25,12 @@ impl<const DEPTH: u32> Tells for Expr<'_, DEPTH> {
     }
 }
 
+impl<E: Tells> Tells for &E {
+    fn tell(&self, text: &mut String) -> Result<(), Refusal> {
+        (**self).tell(text)
+    }
+}
+
 /// An offset modulo 2^64, with its sign.
 fn offset(by: u64, text: &mut String) -> Result<(), Refusal> {
     let by = by.cast_signed();
@@ -79,20 +85,20 @@ pub fn rule<E: Tells>(rule: &RuleWith<E>, text: &mut String) -> Result<(), Refus
 }
 
 /// The rule that an instruction sets.
-fn rule_of<E>(read: ReadRuleWith<E>) -> RuleWith<E> {
+fn rule_of<E>(read: &ReadRuleWith<E>) -> RuleWith<&E> {
     match read {
         ReadRuleWith::Undefined => RuleWith::Undefined,
         ReadRuleWith::Same => RuleWith::Same,
-        ReadRuleWith::Offset { by } => RuleWith::Offset { by },
-        ReadRuleWith::ValOffset { by } => RuleWith::ValOffset { by },
-        ReadRuleWith::Register { column } => RuleWith::Register { column },
+        ReadRuleWith::Offset { by } => RuleWith::Offset { by: *by },
+        ReadRuleWith::ValOffset { by } => RuleWith::ValOffset { by: *by },
+        ReadRuleWith::Register { column } => RuleWith::Register { column: *column },
         ReadRuleWith::Expression { expr } => RuleWith::Expression { expr },
         ReadRuleWith::ValExpression { expr } => RuleWith::ValExpression { expr },
     }
 }
 
-pub fn instruction<C: Tells + Drop, E: Tells + Drop>(
-    instruction: InstructionWith<C, E>,
+pub fn instruction<C: Tells, E: Tells>(
+    instruction: &InstructionWith<C, E>,
     text: &mut String,
 ) -> Result<(), Refusal> {
     match instruction {
@@ -106,12 +112,13 @@ pub fn instruction<C: Tells + Drop, E: Tells + Drop>(
         InstructionWith::Remember => text.push_str("remember")?,
         InstructionWith::RestoreState => text.push_str("restore state")?,
         InstructionWith::Cfa { column, by } => {
-            cfa_rule(&CfaRuleWith::<E>::Offset { column, by }, text)?;
+            write!(text, "cfa {column}")?;
+            offset(*by, text)?;
         }
         InstructionWith::CfaColumn { column } => write!(text, "cfa column {column}")?,
         InstructionWith::CfaOffset { by } => {
             text.push_str("cfa offset ")?;
-            offset(by, text)?;
+            offset(*by, text)?;
         }
         InstructionWith::CfaExpression { expr } => {
             text.push_str("cfa ")?;

@@ -7,19 +7,27 @@ use frame_parse::{Fde, FrameFault, PlacedProgram, Program, Section};
 
 /// `section NAME ADDRESS BYTES`: whether it is accepted, and how many FDEs it has.
 pub fn section(tables: &mut Tables, words: &Words<'_>, text: &mut String) -> Result<(), Refusal> {
-    let (address, bytes) = (words.hexadecimal(2)?, words.bytes(3)?);
-    words.end(4)?;
-    match Section::read(tables.alloc, address, &bytes) {
+    match read(tables, words)? {
         Ok(section) => {
-            write!(text, "accepted, {} FDEs", section.count())?;
-            let name = String::from_str(tables.alloc, words.get(1))?;
-            tables.names.push(name)?;
+            let count = section.count();
+            tables
+                .names
+                .push(String::from_str(tables.alloc, words.get(1))?)?;
             tables.sections.push(section)?;
+            write!(text, "accepted, {count} FDEs")?;
+            Ok(())
         }
-        Err(FrameFault::NoMemory) => return Err(Refusal::NO_MEMORY),
-        Err(fault) => write!(text, "refused {fault:?}")?,
+        Err(FrameFault::NoMemory) => Err(Refusal::NO_MEMORY),
+        Err(fault) => Ok(write!(text, "refused {fault:?}")?),
     }
-    Ok(())
+}
+
+/// The section that the words tell, or its refusal.
+fn read(tables: &Tables, words: &Words<'_>) -> Result<Result<Section, FrameFault>, Refusal> {
+    let address = words.hexadecimal(2)?;
+    words.end(4)?;
+    let bytes = words.bytes(3)?;
+    Ok(Section::read(tables.alloc, address, &bytes))
 }
 
 /// `fdes SECTION`: its address and its length, and of each FDE the place, the first address and the
@@ -50,7 +58,7 @@ pub fn fde_of<'t>(tables: &'t Tables, words: &Words<'_>) -> Result<Option<Fde<'t
 }
 
 /// Writes an address that may be none.
-fn address(name: &str, address: Option<u64>, text: &mut String) -> Result<(), Refusal> {
+pub fn address(name: &str, address: Option<u64>, text: &mut String) -> Result<(), Refusal> {
     match address {
         Some(address) => write!(text, " {name} {address:x}")?,
         None => write!(text, " {name} none")?,
@@ -131,7 +139,7 @@ fn steps(mut program: Program<'_>, most: usize, text: &mut String) -> Result<(),
             return Ok(());
         };
         location(index, step.location, text)?;
-        instruction(step.instruction, text)?;
+        instruction(&step.instruction, text)?;
     }
     Ok(())
 }
@@ -146,7 +154,7 @@ fn placed_steps(
             return Ok(());
         };
         location(index, step.location, text)?;
-        instruction(step.instruction, text)?;
+        instruction(&step.instruction, text)?;
     }
     Ok(())
 }
