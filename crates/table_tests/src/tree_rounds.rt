@@ -1,0 +1,303 @@
+//! Registered ranges, looked up while others come: the cases of the tree, and four threads.
+ghost use Rattle.std.specs.Prelude.{◌≡◌, ◌<◌, ◌≤◌, IfSome};
+ghost use Rattle.word_rule.specs.Callers.{IsIdle};
+
+use reg_model::{Found, Inserted, Member, Span};
+use registry_core::Registry;
+use std::alloc::Global;
+use std::sync::Wait;
+use std::test::Fail;
+use std::thread::{Threads, join};
+use word_rule::Caller;
+
+// The range with a number: sixteen addresses from a base of its own on.
+fn range(number: u32) -> Option<Member>
+    ensures { IfSome result (λ m. m.payload ≡ number) }
+{
+    let span = Span::new(0x1000 + 0x100 * number as u64, 0x10)?;
+    Some(Member {
+        span,
+        payload: number,
+    })
+}
+
+// Whether the ranges with numbers below this one are registered in order, each with its number.
+fn register_all<R: Wait>(rt: &R, registry: &Registry, me: &mut Caller, count: u32) -> bool
+    requires table { me.old.table ≡ registry.now.table }
+    requires idle { IsIdle me.old.log }
+    requires payloads { count ≤ registry.now.terms.payloads }
+    ensures table { me.new.table ≡ me.old.table }
+    ensures idle { IsIdle me.new.log }
+{
+    for number in 0..count {
+        let Some(member) = range(number) else {
+            return false;
+        };
+        let done = Inserted::Done { number: number + 1 };
+        if registry.register(rt, me, member) != done {
+            return false;
+        }
+    }
+    true
+}
+
+// The payload and the stamp of what a try finds.
+fn tried(registry: &Registry, me: &mut Caller, pc: u64) -> Option<(Option<u32>, u32)>
+    requires table { me.old.table ≡ registry.now.table }
+    requires idle { IsIdle me.old.log }
+    ensures table { me.new.table ≡ me.old.table }
+    ensures idle { IsIdle me.new.log }
+{
+    match registry.try_registered(me, pc) {
+        Ok(Found::Hit { member, stamp }) => Some((Some(member.payload), stamp)),
+        Ok(Found::Miss { stamp }) => Some((None, stamp)),
+        Err(_) => None,
+    }
+}
+
+#[test]
+fn eleven_ranges(rt: HostRuntime) -> Result<(), Fail> {
+    let alloc = rt.alloc();
+    let (registry, mut me) = Registry::new(alloc, 4, 1, 11, Vec::new(alloc))?;
+    assert!(rt; register_all(&rt, &registry, &mut me, 11));
+    assert!(rt; tried(&registry, &mut me, 0x1a08) == Some((Some(10), 11)));
+    assert!(rt; tried(&registry, &mut me, 0x1408) == Some((Some(4), 11)));
+    assert!(rt; tried(&registry, &mut me, 0x1450) == Some((None, 11)));
+    Ok(())
+}
+
+#[test]
+fn four_nodes_are_full_at_twenty(rt: HostRuntime) -> Result<(), Fail> {
+    let alloc = rt.alloc();
+    let (registry, mut me) = Registry::new(alloc, 4, 1, 21, Vec::new(alloc))?;
+    assert!(rt; register_all(&rt, &registry, &mut me, 20));
+    let (Some(next), Some(last), Some(same)) = (range(20), range(19), range(19)) else {
+        panic!(rt; "spans")
+    };
+    let full = Inserted::Full { stamp: 20 };
+    assert!(rt; registry.register(&rt, &mut me, next) == full);
+    let overlap = Inserted::Overlap {
+        member: last,
+        stamp: 20,
+    };
+    assert!(rt; registry.register(&rt, &mut me, same) == overlap);
+    assert!(rt; tried(&registry, &mut me, 0x2308) == Some((Some(19), 20)));
+    Ok(())
+}
+
+// How many ranges each of four threads registers, and all of them.
+const EACH: u32 = 2_500;
+
+const ALL: u32 = 10_000;
+
+#[derive(Clone, Copy)]
+enum Event {
+    Registered { range: u32, answer: Inserted },
+    Looked { range: u32, found: Found },
+}
+
+// Registers a range, and looks at the base of another.
+fn one_turn<R: Wait>(
+    rt: &R,
+    registry: &Registry,
+    me: &mut Caller,
+    numbers: (u32, u32),
+) -> Option<(Event, Event)>
+    requires table { me.old.table ≡ registry.now.table }
+    requires idle { IsIdle me.old.log }
+    requires small { numbers.0 < ALL }
+    requires payloads { ALL ≤ registry.now.terms.payloads }
+    ensures table { me.new.table ≡ me.old.table }
+    ensures idle { IsIdle me.new.log }
+{
+    let (own, other) = numbers;
+    let answer = registry.register(rt, me, range(own)?);
+    let registered = Event::Registered { range: own, answer };
+    let pc = range(other)?.span.first();
+    let place = registry.find(rt, me, pc);
+    let looked = Event::Looked {
+        range: other,
+        found: place.registered,
+    };
+    Some((registered, looked))
+}
+
+// The part of one thread: every fourth range, in an order that is scattered. What it was told.
+fn take_part<R: Wait>(
+    rt: &R,
+    alloc: Global,
+    registry: &Registry,
+    caller: Caller,
+    part: u32,
+) -> Option<Vec<Event>>
+    requires table { caller.table ≡ registry.now.table }
+    requires idle { IsIdle caller.log }
+    requires part { part < 4 }
+    requires payloads { ALL ≤ registry.now.terms.payloads }
+{
+    let mut me = caller;
+    let mut events = Vec::new(alloc);
+    for turn in 0..EACH {
+        let own = part + 4 * (turn * 7_919 % EACH);
+        let other = turn * 3_343 % ALL;
+        let (registered, looked) = one_turn(rt, registry, &mut me, (own, other))?;
+        if events.push(registered).is_err() || events.push(looked).is_err() {
+            return None;
+        }
+    }
+    Some(events)
+}
+
+// Two threads take part side by side.
+fn two_take_part<R: Threads + Wait + Sync>(
+    rt: &R,
+    alloc: Global,
+    registry: &Registry,
+    callers: (Caller, Caller),
+    part: u32,
+) -> (Option<Vec<Event>>, Option<Vec<Event>>)
+    requires tables { (callers.0.table ≡ registry.now.table)
+        × (callers.1.table ≡ registry.now.table) }
+    requires idle { IsIdle callers.0.log × IsIdle callers.1.log }
+    requires part { part < 3 }
+    requires payloads { ALL ≤ registry.now.terms.payloads }
+{
+    let (a, b) = callers;
+    join(
+        rt,
+        || -> Option<Vec<Event>>
+            requires { (a.table ≡ registry.now.table) × IsIdle a.log × (part < 3)
+                × (ALL ≤ registry.now.terms.payloads) }
+        { take_part(rt, alloc, registry, a, part) },
+        || -> Option<Vec<Event>>
+            requires { (b.table ≡ registry.now.table) × IsIdle b.log × (part < 3)
+                × (ALL ≤ registry.now.terms.payloads) }
+        { take_part(rt, alloc, registry, b, part + 1) },
+    )
+}
+
+// Four do.
+fn four_take_part<R: Threads + Wait + Sync>(
+    rt: &R,
+    alloc: Global,
+    registry: &Registry,
+    low: (Caller, Caller),
+    high: (Caller, Caller),
+) -> (
+    (Option<Vec<Event>>, Option<Vec<Event>>),
+    (Option<Vec<Event>>, Option<Vec<Event>>),
+)
+    requires low_tables { (low.0.table ≡ registry.now.table) × (low.1.table ≡ registry.now.table) }
+    requires high_tables { (high.0.table ≡ registry.now.table)
+        × (high.1.table ≡ registry.now.table) }
+    requires low_idle { IsIdle low.0.log × IsIdle low.1.log }
+    requires high_idle { IsIdle high.0.log × IsIdle high.1.log }
+    requires payloads { ALL ≤ registry.now.terms.payloads }
+{
+    join(
+        rt,
+        || -> (Option<Vec<Event>>, Option<Vec<Event>>)
+            requires { (low.0.table ≡ registry.now.table) × (low.1.table ≡ registry.now.table)
+                × IsIdle low.0.log × IsIdle low.1.log × (ALL ≤ registry.now.terms.payloads) }
+        { two_take_part(rt, alloc, registry, low, 0) },
+        || -> (Option<Vec<Event>>, Option<Vec<Event>>)
+            requires { (high.0.table ≡ registry.now.table) × (high.1.table ≡ registry.now.table)
+                × IsIdle high.0.log × IsIdle high.1.log × (ALL ≤ registry.now.terms.payloads) }
+        { two_take_part(rt, alloc, registry, high, 2) },
+    )
+}
+
+// The number of each range, where an event says it, once each.
+fn numbers_of(alloc: Global, parts: &[Vec<Event>]) -> Result<Option<Vec<u32>>, Fail> {
+    let mut numbers = Vec::new(alloc);
+    let mut taken = Vec::new(alloc);
+    for _ in 0..ALL {
+        numbers.push(0u32)?;
+        taken.push(false)?;
+    }
+    for part in parts {
+        for event in part {
+            let Event::Registered { range, answer } = event else {
+                continue;
+            };
+            let Inserted::Done { number } = answer else {
+                return Ok(None);
+            };
+            let Some(place) = numbers.get_mut(*range as usize) else {
+                return Ok(None);
+            };
+            *place = *number;
+            match taken.get_mut((*number as usize).saturating_sub(1)) {
+                Some(free) if !*free => *free = true,
+                _ => return Ok(None),
+            }
+        }
+    }
+    Ok(if taken.iter().all(|one| *one) {
+        Some(numbers)
+    } else {
+        None
+    })
+}
+
+// Whether the range was found exactly where its number isn't above the stamp, and stamps and
+// numbers never fall.
+fn are_right(numbers: &[u32], events: &[Event]) -> bool {
+    let mut since = 0;
+    for event in events {
+        let now = match event {
+            Event::Registered { answer, .. } => match answer {
+                Inserted::Done { number } if *number > since => *number,
+                _ => return false,
+            },
+            Event::Looked {
+                range: number,
+                found,
+            } => {
+                let Some(at) = numbers.get(*number as usize) else {
+                    return false;
+                };
+                match found {
+                    Found::Hit { member, stamp } => {
+                        if Some(*member) != range(*number) || at > stamp {
+                            return false;
+                        }
+                        *stamp
+                    }
+                    Found::Miss { stamp } => {
+                        if at <= stamp {
+                            return false;
+                        }
+                        *stamp
+                    }
+                }
+            }
+        };
+        if now < since {
+            return false;
+        }
+        since = now;
+    }
+    true
+}
+
+#[test]
+fn four_threads_register_ten_thousand_ranges(rt: HostRuntime) -> Result<(), Fail> {
+    let alloc = rt.alloc();
+    let (registry, mut a) = Registry::new(alloc, 4_096, 1, ALL, Vec::new(alloc))?;
+    let b = registry.words().split(alloc, &mut a, EACH)?;
+    let c = registry.words().split(alloc, &mut a, EACH)?;
+    let d = registry.words().split(alloc, &mut a, EACH)?;
+    let (low, high) = four_take_part(&rt, alloc, &registry, (a, b), (c, d));
+    let (Some(one), Some(two), Some(three), Some(four)) = (low.0, low.1, high.0, high.1) else {
+        panic!(rt; "no memory")
+    };
+    let parts = vec![in alloc; one, two, three, four]?;
+    let Some(numbers) = numbers_of(alloc, &parts)? else {
+        panic!(rt; "a number that is missing, or stands twice")
+    };
+    for part in &parts {
+        assert!(rt; are_right(&numbers, part));
+    }
+    Ok(())
+}
