@@ -1,5 +1,5 @@
 #!/usr/bin/env python3
-"""Compares what was recorded, what was printed and what gdb said of one stack.
+"""Compares what was recorded, what was printed and what gdb said of stopped stacks.
 
     check.py journal NAME.script                      prints the journal by unwind.py
     check.py frames NAME.script NAME.out NAME.frames  compares a journal with it and with gdb
@@ -15,6 +15,7 @@ from unwind import journal
 
 EVENT = r"\d+\.\d+\.\d+"
 PLACES = r"frame (\d+) pc ([0-9a-f]+) sp ([0-9a-f]+)"
+UNWIND = re.compile(rf"{EVENT} unwind (\d+)")
 FRAME = re.compile(rf"{EVENT} {PLACES} look ([0-9a-f]+) (.*)")
 FIND = re.compile(rf"{EVENT} find ([0-9a-f]+) (.*)")
 END = re.compile(rf"{EVENT} end (.*)")
@@ -31,6 +32,30 @@ def matches(pattern, text):
     """The groups of each line of a text that is wholly of this form, in order."""
     found = (pattern.fullmatch(line) for line in text.split("\n"))
     return [match.groups() for match in found if match]
+
+
+def printed_stacks(text):
+    """The frames that a journal prints of each snapshot, in the order of snapshots."""
+    stacks = {}
+    for line in text.split("\n"):
+        start, frame = UNWIND.fullmatch(line), FRAME.fullmatch(line)
+        if start:
+            frames = stacks.setdefault(int(start[1]), [])
+        elif frame:
+            frames.append(frame.groups())
+    return [frames for _, frames in sorted(stacks.items())]
+
+
+def recorded_stacks(text):
+    """gdb's frames of each stack, which an `end` line ends."""
+    stacks = [[]]
+    for line in text.split("\n"):
+        frame = RECORDED.fullmatch(line)
+        if frame:
+            stacks[-1].append(frame.groups())
+        elif line.startswith("end "):
+            stacks.append([])
+    return stacks[:-1]
 
 
 def first_difference(wanted, given):
@@ -71,14 +96,19 @@ def finds_differ(printed, finds):
 def compare(script_path, journal_path, frames_path):
     """Compares three files and prints what differs and how both stacks end; the status."""
     text, gdbs = text_of(journal_path), text_of(frames_path)
-    printed, recorded = matches(FRAME, text), matches(RECORDED, gdbs)
+    stacks, recorded = printed_stacks(text), recorded_stacks(gdbs)
+    printed = [frame for stack in stacks for frame in stack]
     faults = [first_difference(journal(read_script(text_of(script_path))), text)]
-    faults += differences(printed, recorded)
+    if len(stacks) != len(recorded):
+        faults.append(f"{len(stacks)} backtraces, gdb: {len(recorded)}")
+    for mine, gdbs_own in zip(stacks, recorded):
+        faults += differences(mine, gdbs_own)
     faults += finds_differ(printed, matches(FIND, text))
     faults = [fault for fault in faults if fault]
     for fault in faults:
         print(fault)
-    print(f"{len(printed)} frames, {len(recorded)} by gdb, {len(faults)} differences")
+    count = sum(len(stack) for stack in recorded)
+    print(f"{len(printed)} frames, {count} by gdb, {len(faults)} differences")
     print("the journal ends:", *[end for (end,) in matches(END, text)])
     print("gdb ends:", *[line[4:] for line in gdbs.split("\n") if line.startswith("end ")])
     return 1 if faults or not printed else 0

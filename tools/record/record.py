@@ -1,8 +1,10 @@
-"""Writes a stopped stack as a script: a gdb script, for gdb 13 and its own Python.
+"""Writes stopped stacks as a script: a gdb script, for gdb 13 and its own Python.
 
     gdb -batch -p PID -x tools/record/record.py -ex 'stack-script NAME.script'
+    gdb -batch -p PID -x tools/record/record.py -ex 'stack-script NAME.script all'
 
-Also writes NAME.frames, the frames as gdb unwinds them. README.md says what is in both.
+The selected thread's stack, or those of all threads. Also writes NAME.frames, the frames as gdb
+unwinds them. README.md says what is in both.
 """
 
 import os
@@ -18,6 +20,7 @@ from cursor import WORD, Refusal
 from eh_frame import SECTION_BYTES, read_section
 from elf import Mapping, NotFound, Space, objects_of, section_of
 from expressions import NoBytes
+from generated import Damaged, code_of, entries_of
 from script import SCRIPT_BYTES, script_lines
 from stack import SAVED_BYTES, stack_ranges
 from unwind import FRAMES, Frame, backtrace
@@ -25,6 +28,7 @@ from unwind import FRAMES, Frame, backtrace
 REGISTERS = ["rax", "rdx", "rcx", "rbx", "rsi", "rdi", "rbp", "rsp", "r8", "r9", "r10", "r11",
              "r12", "r13", "r14", "r15", "rip"]
 LOADS = 1024
+UNWOUND = 256
 KINDS = {gdb.NORMAL_FRAME: "normal", gdb.SIGTRAMP_FRAME: "signal", gdb.ARCH_FRAME: "normal"}
 
 
@@ -120,6 +124,30 @@ def read_objects():
     return pairs[:LOADS]
 
 
+def read_generated():
+    """Pairs of generated code that gdb was told of and its Section; says what is left out."""
+    try:
+        descriptor = int(gdb.parse_and_eval("(long) &__jit_debug_descriptor")) % WORD
+        images = entries_of(memory, descriptor)
+    except gdb.error:
+        return []
+    except Damaged as fault:
+        say(f"left out: generated code: {fault}")
+        return []
+    pairs = []
+    for image, count in images:
+        try:
+            found = code_of(memory, image, count)
+            data = memory(found.section, found.section_bytes)
+            say(f"read: {found.path}: {found.section_bytes} bytes of .eh_frame")
+            pairs.append((found, read_section(found.section, data or b"")))
+        except Damaged as fault:
+            say(f"left out: [generated at {image:x}]: {fault}")
+        except Refusal as refusal:
+            say(f"left out: [generated at {image:x}]: its .eh_frame is refused: {refusal}")
+    return pairs
+
+
 def image_of(found, section, looks):
     """(base, size, address, bytes) of an object's image; a long section is cut to the `looks`."""
     data = section.data
@@ -180,47 +208,73 @@ def write_lines(path, lines):
     return len(text)
 
 
-def write_frames(path, gdbs, names, reason):
-    """Writes NAME.frames."""
-    pairs = list(zip(gdbs, names))[:FRAMES]
-    lines = [f"frame {number} pc {frame.pc:x} sp {frame.sp:x} {frame.kind} {name}"
-             for number, (frame, name) in enumerate(pairs)]
-    write_lines(path, lines + [f"end {reason}"])
+class Stack:
+    """The selected thread's stack: its columns, gdb's frames, and what a script needs of it."""
+
+    def __init__(self, pairs):
+        self.columns = [register(gdb.newest_frame(), name) for name in REGISTERS]
+        self.gdbs, self.names, self.reason = frames_of_gdb()
+
+        def section_at(address):
+            """The Section of the code that contains the address, or None."""
+            return next((section for found, section in pairs if found.contains(address)), None)
+
+        ours, end = backtrace(self.columns, word, section_at, FRAMES + 1)
+        frames = longer(self.gdbs, ours, end)
+        self.looks = [frame.look for frame in frames[:FRAMES]]
+        self.memory = recorded_memory(frames[:FRAMES], frames[:FRAMES + 1][-1].sp)
+
+    def frame_lines(self):
+        """gdb's frames, as they stand in NAME.frames."""
+        pairs = list(zip(self.gdbs, self.names))[:FRAMES]
+        lines = [f"frame {number} pc {frame.pc:x} sp {frame.sp:x} {frame.kind} {name}"
+                 for number, (frame, name) in enumerate(pairs)]
+        return lines + [f"end {self.reason}"]
 
 
-def write_script(path):
-    """Writes the script and the frames of the selected thread."""
-    pairs = read_objects()
-    columns = [register(gdb.newest_frame(), name) for name in REGISTERS]
+def stacks_of_all(pairs):
+    """The Stacks of all threads, by gdb's numbers; the selected one stays selected."""
+    selected = gdb.selected_thread()
+    threads = sorted(gdb.selected_inferior().threads(), key=lambda thread: thread.num)
+    for thread in threads[UNWOUND:]:
+        say(f"left out: thread {thread.num}: there are {UNWOUND} before it")
+    stacks = []
+    for thread in threads[:UNWOUND]:
+        thread.switch()
+        stacks.append(Stack(pairs))
+    selected.switch()
+    return stacks
 
-    def section_at(address):
-        """The Section of the object that contains the address, or None."""
-        return next((section for found, section in pairs if found.contains(address)), None)
 
-    gdbs, names, reason = frames_of_gdb()
-    ours, end = backtrace(columns, word, section_at, FRAMES + 1)
-    frames = longer(gdbs, ours, end)
-    looks = [frame.look for frame in frames[:FRAMES]]
-    stack = recorded_memory(frames[:FRAMES], frames[:FRAMES + 1][-1].sp)
-    lines = script_lines(images_of(pairs, looks), columns, stack, looks)
+def write_script(path, every_thread):
+    """Writes the script and the frames of the selected thread, or of all."""
+    pairs, generated = read_objects(), read_generated()
+    known = generated + pairs
+    stacks = stacks_of_all(known) if every_thread else [Stack(known)]
+    looks = [look for stack in stacks for look in stack.looks]
+    lines = script_lines(images_of(pairs, looks), images_of(generated, looks),
+                         [(stack.columns, stack.memory, stack.looks) for stack in stacks])
     if write_lines(path, lines) > SCRIPT_BYTES:
         say(f"a script above {SCRIPT_BYTES} bytes isn't run")
-    write_frames(os.path.splitext(path)[0] + ".frames", gdbs, names, reason)
+    write_lines(os.path.splitext(path)[0] + ".frames",
+                [line for stack in stacks for line in stack.frame_lines()])
 
 
 class StackScript(gdb.Command):
-    """stack-script NAME.script: write the selected thread's stack as a script, and NAME.frames."""
+    """stack-script NAME.script [all]: write the selected thread's stack, or those of all threads.
+
+    NAME.script is the script, and NAME.frames has gdb's frames."""
 
     def __init__(self):
         super().__init__("stack-script", gdb.COMMAND_STACK, gdb.COMPLETE_FILENAME)
 
     def invoke(self, argument, from_tty):
-        """Does the command; `argument` is the path."""
+        """Does the command; `argument` is the path, and which threads."""
         del from_tty
-        paths = gdb.string_to_argv(argument)
-        if len(paths) != 1:
-            raise gdb.GdbError("stack-script NAME.script")
-        write_script(paths[0])
+        words = gdb.string_to_argv(argument)
+        if not words or words[1:] not in ([], ["all"]):
+            raise gdb.GdbError("stack-script NAME.script [all]")
+        write_script(words[0], every_thread=len(words) == 2)
 
 
 StackScript()

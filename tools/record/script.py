@@ -13,6 +13,8 @@ COLUMNS = 17
 IMAGES = 4096
 MEMORY_BYTES = 65536
 SCRIPT_BYTES = 8388608
+THREADS = 16
+SMALLEST_TREE = 16
 
 
 class BadLine(Exception):
@@ -173,12 +175,34 @@ def snapshot_lines(number, columns, memory):
     return [f"snapshot {number} {numbers}"] + regions
 
 
-def script_lines(images, columns, memory, looks):
-    """The lines of a script: each image loaded, one snapshot unwound, a `find` for each look."""
-    lines = ["frames 1", "nodes 16", f"loads {max(1, len(images))}"]
+def events_of(number, looks):
+    """The events of a recorded stack: its backtrace, and a `find` for each address looked up."""
+    return [f"unwind {number}"] + [f"find {look:x}" for look in looks]
+
+
+def round_lines(threads):
+    """The lines of a round of threads, each a list of events."""
+    return ["round"] + [line for events in threads for line in ["thread"] + events]
+
+
+def script_lines(loaded, generated, stacks):
+    """The lines of a script. Images of objects are loaded, those of generated code registered.
+
+    A stack is its columns, its memory and the addresses looked up. One alone is unwound by the
+    thread that loads; several by threads of a round of their own, which runs side by side.
+    """
+    images = loaded + generated
+    nodes = max(SMALLEST_TREE, len(generated))
+    lines = ["frames 1", f"nodes {nodes}", f"loads {max(1, len(loaded))}"]
     lines += [image_line(number, *image) for number, image in enumerate(images)]
-    lines += snapshot_lines(0, columns, memory)
-    lines += ["round", "thread"]
-    lines += [f"load {number}" for number in range(len(images))]
-    lines += ["unwind 0"] + [f"find {look:x}" for look in looks]
+    for number, (columns, memory, _) in enumerate(stacks):
+        lines += snapshot_lines(number, columns, memory)
+    start = [f"load {number}" for number in range(len(loaded))]
+    start += [f"register {number}" for number in range(len(loaded), len(images))]
+    events = [events_of(number, looks) for number, (_, _, looks) in enumerate(stacks)]
+    if len(stacks) == 1:
+        lines += round_lines([start + events[0]])
+    else:
+        dealt = [sum(events[number::THREADS], []) for number in range(min(THREADS, len(events)))]
+        lines += round_lines([start]) + round_lines(dealt)
     return lines + ["end"]
