@@ -5,13 +5,13 @@ ghost use Rattle.word_rule.specs.Callers.{IsAlone};
 ghost use Rattle.registry_core.specs.Rounds.{IsWholeWhereAlone};
 ghost use Rattle.registry_c.specs.Clients.{LeadsToClient, LeadsNowhere, Makes};
 ghost use Rattle.registry_c.specs.Limits.{TellsNew};
-ghost use Rattle.registry_c.specs.Splits.{ShareByName, TellsJoin, TellsSplit};
+ghost use Rattle.registry_c.specs.Splits.{Joins, ShareByName, TellsJoin, TellsSplit};
 
 use crate::client::Client;
 use crate::handle::ClientHandle;
 use crate::limits::{LimitFault, RegistryLimits};
 use crate::member::RegistryMember;
-use crate::splits::SplitFault;
+use crate::splits::{JoinAnswer, SplitFault};
 use std::alloc::Global;
 
 /// Makes a registry, with members that are there for good, and its first client. What came of it: 0
@@ -82,22 +82,22 @@ fn join(
     alloc: Global,
     other: Box<Client, Global>,
     back: &mut ClientHandle,
-) -> u64
+) -> JoinAnswer
     requires same { ShareByName other.value client.old }
     requires back { LeadsNowhere back.old.held }
-    ensures { TellsJoin other.value result back.new.held client.old client.new }
+    ensures { Joins other.value client.old client.new result back.new.held }
 {
     if !client.has_name_of(&other) {
         *back = ClientHandle::of(other);
-        return 2;
+        return JoinAnswer::OtherRegistry;
     }
     match client.join(alloc, other) {
-        Ok(()) => 0,
+        Ok(()) => JoinAnswer::Joined,
         Err(Some(other)) => {
             *back = ClientHandle::of(other);
-            1
+            JoinAnswer::NoMemoryToJoin
         }
-        Err(None) => 1,
+        Err(None) => JoinAnswer::NoMemoryToJoin,
     }
 }
 
@@ -122,9 +122,9 @@ pub extern "C" fn registry_c_join(
 {
     let mut open = client.open(alloc);
     let other = other.open(alloc);
-    let told = join(&mut open, alloc, other, other_back);
+    let answer = join(&mut open, alloc, other, other_back);
     *back = ClientHandle::of(open);
-    told
+    answer.told()
 }
 
 /// Frees a client, and the registry with its last one. Tells how many updates it had seen, and

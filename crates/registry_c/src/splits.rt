@@ -1,7 +1,7 @@
 //! Clients are split off and joined.
 
 ghost use Rattle.std.specs.Prelude.{◌≡◌, MatchResult, IfErr, IfSome, OnErr, OnOk, Ok, Err};
-ghost use Rattle.registry_c.specs.Splits.{JoinsClient, SplitsOff};
+ghost use Rattle.registry_c.specs.Splits.{JoinsClient, SplitsOff, join_told};
 
 use crate::client::Client;
 use std::alloc::Global;
@@ -20,6 +20,19 @@ pub enum JoinAnswer {
     Joined,
     NoMemoryToJoin,
     OtherRegistry,
+}
+
+impl JoinAnswer {
+    /// As C is told it.
+    pub(crate) fn told(self) -> u64
+        ensures { result ≡ join_told self }
+    {
+        match self {
+            JoinAnswer::Joined => 0,
+            JoinAnswer::NoMemoryToJoin => 1,
+            JoinAnswer::OtherRegistry => 2,
+        }
+    }
 }
 
 impl Client {
