@@ -1,7 +1,5 @@
 //! The words of a line, and why one can't be read.
 
-ghost use Rattle.std.specs.Prelude.{◌≡◌};
-
 use std::alloc::{AllocError, AllocFailed, Global};
 use std::fmt;
 
