@@ -7,6 +7,8 @@
 #![tactic(auto)]
 
 #[cfg(test)]
+mod byte_by_byte;
+#[cfg(test)]
 mod churn;
 #[cfg(test)]
 mod failing_devices;

@@ -9,41 +9,63 @@ use crate::ports::{Failed, Sink, SinkFault, Source};
 use std::alloc::Global;
 use std::marker::Model;
 
-/// Bytes in memory, of which some reads fail.
+/// Bytes in memory, of which a read hands out so many at most, and some reads fail.
 #[derive(Drop)]
 pub struct MemorySource {
     bytes: Vec<u8>,
     at: usize,
+    most: usize,
     fails: Vec<u32>,
     calls: u64,
     faults: u64,
 }
 
 impl Model for MemorySource {
-    ghost use Rattle.std.specs.Prelude.{◌≤◌, drop, vec_len};
+    ghost use Rattle.std.specs.Prelude.{◌<◌, ◌≤◌, drop, vec_len};
     ghost use Rattle.run_engine.specs.Devices.{MemorySourceData};
 
     ghost Value = { MemorySourceData };
 
     ghost view = { λ s. record {
       rest = drop s.at s.bytes.items;
+      most = s.most;
       fails = s.fails.items;
       calls = s.calls;
       faults = s.faults;
     } };
 
-    ghost invariant = { λ s. s.at ≤ vec_len s.bytes };
+    ghost invariant = { λ s. (s.at ≤ vec_len s.bytes) × (0 < s.most) };
 }
 
 impl MemorySource {
     /// These bytes, of which the reads with these numbers fail, counted from 1. It takes no memory.
     pub fn new(bytes: Vec<u8>, fails: Vec<u32>) -> Self
-        ensures { result
-            ≡ record { rest = bytes.items; fails = fails.items; calls = 0; faults = 0 } }
+        ensures { result ≡ record {
+            rest = bytes.items;
+            most = 2 ^ 64 - 1;
+            fails = fails.items;
+            calls = 0;
+            faults = 0;
+        } }
+    {
+        MemorySource::in_pieces(bytes, fails, usize::MAX)
+    }
+
+    /// The same, and a read hands out so many bytes at most.
+    pub fn in_pieces(bytes: Vec<u8>, fails: Vec<u32>, most: usize) -> Self
+        requires { 0 < most }
+        ensures { result ≡ record {
+            rest = bytes.items;
+            most = most;
+            fails = fails.items;
+            calls = 0;
+            faults = 0;
+        } }
     {
         MemorySource {
             bytes,
             at: 0,
+            most,
             fails,
             calls: 0,
             faults: 0,
@@ -68,22 +90,23 @@ impl Source for MemorySource {
         ensures counted { self.old.faults ≤ self.new.faults }
 
         // The reads are counted, and those fail whose number is listed. Any other hands out all
-        // that fits.
+        // that fits, and no more than may be.
         ensures call { self.new.calls ≡ min (self.old.calls + 1) (2 ^ 64 - 1) }
         ensures fails { IsErr result ↔ Contains self.old.fails self.new.calls }
         ensures all { IfOk result
-            (λ count. count ≡ min (length self.old.rest) (length buffer.old)) }
+            (λ count. count ≡ min self.old.most (min (length self.old.rest) (length buffer.old))) }
         ensures kept { OnErr result (self.new.rest ≡ self.old.rest) }
         ensures fault { OnErr result (self.new.faults ≡ min (self.old.faults + 1) (2 ^ 64 - 1)) }
         ensures sound { IfOk result (λ _. self.new.faults ≡ self.old.faults) }
         ensures listed { self.new.fails ≡ self.old.fails }
+        ensures most { self.new.most ≡ self.old.most }
     {
         self.calls = self.calls.saturating_add(1);
         if is_listed(&self.fails, self.calls) {
             self.faults = self.faults.saturating_add(1);
             return Err(Failed);
         }
-        let count = copy_front(&self.bytes, self.at, buffer);
+        let count = copy_front(&self.bytes, self.at, buffer, self.most);
         self.at += count;
         Ok(count)
     }
@@ -96,13 +119,14 @@ fn is_listed(fails: &[u32], call: u64) -> bool
     fails.iter().any(|number| u64::from(*number) == call)
 }
 
-/// Copies what fits of the bytes from a place on to the front of the buffer, and says how many.
-fn copy_front(bytes: &[u8], at: usize, buffer: &mut [u8]) -> usize
+/// Copies what fits of the bytes from a place on to the front of the buffer, so many at most, and
+/// says how many.
+fn copy_front(bytes: &[u8], at: usize, buffer: &mut [u8], most: usize) -> usize
     requires { at ≤ length bytes.now }
-    ensures count { result ≡ min (length bytes.now - at) (length buffer.old) }
+    ensures count { result ≡ min most (min (length bytes.now - at) (length buffer.old)) }
     ensures copied { take result buffer.new ≡ take result (drop at bytes.now) }
 {
-    let count = (bytes.len() - at).min(buffer.len());
+    let count = most.min((bytes.len() - at).min(buffer.len()));
     buffer[..count].copy_from_slice(&bytes[at..at + count]);
     count
 }
@@ -149,41 +173,67 @@ impl Source for SureSource {
         ensures never { IsOk result }
         ensures all { IfOk result (λ count. count ≡ min (length self.old) (length buffer.old)) }
     {
-        let count = copy_front(&self.bytes, self.at, buffer);
+        let count = copy_front(&self.bytes, self.at, buffer, usize::MAX);
         self.at += count;
         Ok(count)
     }
 }
 
-/// A list of bytes, of which some writes fail.
+/// A list of bytes, to which a write adds so many at most, and of which some writes fail.
 #[derive(Drop)]
 pub struct MemorySink {
     bytes: Vec<u8>,
+    most: usize,
     fails: Vec<u32>,
     calls: u64,
     faults: u64,
 }
 
 impl Model for MemorySink {
+    ghost use Rattle.std.specs.Prelude.{◌<◌};
     ghost use Rattle.run_engine.specs.Devices.{MemorySinkData};
 
     ghost Value = { MemorySinkData };
 
     ghost view = { λ s. record {
       bytes = s.bytes.items;
+      most = s.most;
       fails = s.fails.items;
       calls = s.calls;
       faults = s.faults;
     } };
+
+    ghost invariant = { λ s. 0 < s.most };
 }
 
 impl MemorySink {
     /// Nothing yet; the writes with these numbers will fail, counted from 1. It takes no memory.
     pub fn new(alloc: Global, fails: Vec<u32>) -> Self
-        ensures { result ≡ record { bytes = []; fails = fails.items; calls = 0; faults = 0 } }
+        ensures { result ≡ record {
+            bytes = [];
+            most = 2 ^ 64 - 1;
+            fails = fails.items;
+            calls = 0;
+            faults = 0;
+        } }
+    {
+        MemorySink::in_pieces(alloc, fails, usize::MAX)
+    }
+
+    /// The same, and a write takes so many bytes at most.
+    pub fn in_pieces(alloc: Global, fails: Vec<u32>, most: usize) -> Self
+        requires { 0 < most }
+        ensures { result ≡ record {
+            bytes = [];
+            most = most;
+            fails = fails.items;
+            calls = 0;
+            faults = 0;
+        } }
     {
         MemorySink {
             bytes: Vec::new(alloc),
+            most,
             fails,
             calls: 0,
             faults: 0,
@@ -213,22 +263,24 @@ impl Sink for MemorySink {
         ensures counted { self.old.faults ≤ self.new.faults }
 
         // The writes are counted, and those fail whose number is listed. Any other takes the whole
-        // piece, unless memory is wanted.
+        // piece, or as much of it as may be, unless memory is wanted.
         ensures call { self.new.calls ≡ min (self.old.calls + 1) (2 ^ 64 - 1) }
         ensures fails { (result ≡ Err SinkFault.Failed) ↔ Contains self.old.fails self.new.calls }
-        ensures all { IfOk result (λ count. count ≡ length piece.now) }
+        ensures all { IfOk result (λ count. count ≡ min self.old.most (length piece.now)) }
         ensures fault { result ≡ Err SinkFault.Failed
             → self.new.faults ≡ min (self.old.faults + 1) (2 ^ 64 - 1) }
         ensures sound { result ≢ Err SinkFault.Failed → self.new.faults ≡ self.old.faults }
         ensures listed { self.new.fails ≡ self.old.fails }
+        ensures most { self.new.most ≡ self.old.most }
     {
         self.calls = self.calls.saturating_add(1);
         if is_listed(&self.fails, self.calls) {
             self.faults = self.faults.saturating_add(1);
             return Err(SinkFault::Failed);
         }
-        match self.bytes.extend_from_slice(piece) {
-            Ok(()) => Ok(piece.len()),
+        let count = self.most.min(piece.len());
+        match self.bytes.extend_from_slice(&piece[..count]) {
+            Ok(()) => Ok(count),
             Err(_) => Err(SinkFault::NoMemory),
         }
     }
