@@ -1,7 +1,8 @@
 -- Regions that ascend: their ends, and where a word can stand.
 use Rattle.std.proofs.Common.{◌≡◌, ℕ, ◌-◌, ◌^◌, ◌<◌, ◌≤◌, List, [], ◌∷◌, ◌++◌, length, Bool, true, false, Option, Some, None, slice_get, get_or, cond, refl, sym, ap, subst, ◌∙◌, arith}
+use Rattle.std.specs.Option.{option_map}
 use native.Mathlib.Numerals.{unary_clauses}
-use Rattle.frame_expr.specs.Regions.{RegionData, end, regions_end, AreFrom, holds_word, word_in, word_at}
+use Rattle.frame_expr.specs.Regions.{RegionData, end, regions_end, AreFrom, holds_bytes, region_at}
 
 pub last_end : (rs : List RegionData) (x : RegionData) → slice_get rs (length rs - 1) ≡ Some x → regions_end rs ≡ end x
 last_end [] x e = grind (arith, e)
@@ -39,69 +40,90 @@ low_first : (low : ℕ) (xs : List RegionData) (y : RegionData) (ys : List Regio
 low_first low [] y ys all = all.0
 low_first low (x ∷ xs) y ys all = let more = low_first (end x) xs y ys all.3 in omega (arith, all.0, more)
 
--- ---- words
+-- ---- the region that holds so many bytes
 
-no_hold_above : (a : ℕ) (r : RegionData) → a < r.address → holds_word a r ≡ false
-no_hold_above a r lt = grind (arith, lt)
+no_hold_above : (n a : ℕ) (r : RegionData) → a < r.address → holds_bytes n a r ≡ false
+no_hold_above n a r lt = grind (arith, lt)
 
-no_hold_below : (a : ℕ) (r : RegionData) → end r ≤ a → holds_word a r ≡ false
-no_hold_below a r le = grind (arith, le)
+no_hold_below : (n a : ℕ) (r : RegionData) → 0 < n → end r ≤ a → holds_bytes n a r ≡ false
+no_hold_below n a r some le = grind (arith, some, le)
 
-unheld : (a : ℕ) (r : RegionData) (rs : List RegionData) → holds_word a r ≡ false → word_at a (r ∷ rs) ≡ word_at a rs
-unfolding word_at
-unheld a r rs out = rw out refl
+unheld : (n a : ℕ) (r : RegionData) (rs : List RegionData) → holds_bytes n a r ≡ false → region_at n a (r ∷ rs) ≡ region_at n a rs
+unfolding region_at
+unheld n a r rs out = rw out refl
 
-same_if : (b : Bool) (x y z : Option ℕ) → y ≡ z → cond b x y ≡ cond b x z
+same_if : (b : Bool) (x y z : Option RegionData) → y ≡ z → cond b x y ≡ cond b x z
 same_if true x y z e = refl
 same_if false x y z e = e
 
-nothing_above : (a low : ℕ) (rs : List RegionData) → AreFrom low rs → a < low → word_at a rs ≡ None
-unfolding word_at
-nothing_above a low [] all lt = refl
-nothing_above a low (r ∷ rs) all lt =
-    unheld a r rs (no_hold_above a r (omega (arith, all.0, lt))) ∙ nothing_above a (end r) rs all.3 (omega (arith, all.0, lt))
+nothing_above : (n a low : ℕ) (rs : List RegionData) → AreFrom low rs → a < low → region_at n a rs ≡ None
+unfolding region_at
+nothing_above n a low [] all lt = refl
+nothing_above n a low (r ∷ rs) all lt =
+    unheld n a r rs (no_hold_above n a r (omega (arith, all.0, lt))) ∙ nothing_above n a (end r) rs all.3 (omega (arith, all.0, lt))
 
-pub word_in_back : (a low : ℕ) (xs : List RegionData) (y : RegionData) (ys : List RegionData) → AreFrom low (xs ++ y ∷ ys) → y.address ≤ a
-    → word_at a (xs ++ y ∷ ys) ≡ word_at a (y ∷ ys)
-word_in_back a low [] y ys all le = refl
-word_in_back a low (x ∷ xs) y ys all le =
+in_back : (n a low : ℕ) (xs : List RegionData) (y : RegionData) (ys : List RegionData) → 0 < n → AreFrom low (xs ++ y ∷ ys) → y.address ≤ a
+    → region_at n a (xs ++ y ∷ ys) ≡ region_at n a (y ∷ ys)
+in_back n a low [] y ys some all le = refl
+in_back n a low (x ∷ xs) y ys some all le =
     let high = low_first (end x) xs y ys all.3 in
-    unheld a x (xs ++ y ∷ ys) (no_hold_below a x (omega (arith, high, le))) ∙ word_in_back a (end x) xs y ys all.3 le
+    unheld n a x (xs ++ y ∷ ys) (no_hold_below n a x some (omega (arith, high, le))) ∙ in_back n a (end x) xs y ys some all.3 le
 
-pub word_in_front : (a low : ℕ) (xs : List RegionData) (y : RegionData) (ys : List RegionData) → AreFrom low (xs ++ y ∷ ys) → a < y.address
-    → word_at a (xs ++ y ∷ ys) ≡ word_at a xs
-unfolding word_at
-word_in_front a low [] y ys all lt =
-    unheld a y ys (no_hold_above a y lt) ∙ nothing_above a (end y) ys all.3 (omega (arith, lt))
-word_in_front a low (x ∷ xs) y ys all lt =
-    same_if (holds_word a x) (Some (word_in a x)) (word_at a (xs ++ y ∷ ys)) (word_at a xs) (word_in_front a (end x) xs y ys all.3 lt)
+in_front : (n a low : ℕ) (xs : List RegionData) (y : RegionData) (ys : List RegionData) → AreFrom low (xs ++ y ∷ ys) → a < y.address
+    → region_at n a (xs ++ y ∷ ys) ≡ region_at n a xs
+unfolding region_at
+in_front n a low [] y ys all lt =
+    unheld n a y ys (no_hold_above n a y lt) ∙ nothing_above n a (end y) ys all.3 (omega (arith, lt))
+in_front n a low (x ∷ xs) y ys all lt =
+    same_if (holds_bytes n a x) (Some x) (region_at n a (xs ++ y ∷ ys)) (region_at n a xs) (in_front n a (end x) xs y ys all.3 lt)
 
 -- ---- halves
 
+-- of any number of bytes, the region that holds them among all stands among those that are left
+abbrev pub AreAlikeAt : ℕ → List RegionData → List RegionData → Type 0
+AreAlikeAt a xs ys = (n : ℕ) → 0 < n → region_at n a xs ≡ region_at n a ys
+
 pub in_upper_half : (a low : ℕ) (left front back : List RegionData) (y : RegionData) → left ≡ front ++ back → 0 < length back → y ≡ get_or back 0 y → AreFrom low left → y.address ≤ a
-    → (high : ℕ) × AreFrom high back × (word_at a back ≡ word_at a left)
+    → (high : ℕ) × AreFrom high back × AreAlikeAt a back left
 in_upper_half a low left front [] y parts some is all le = absurd (omega (arith, some))
 in_upper_half a low left front (z ∷ zs) y parts some is all le =
     let here : AreFrom low (front ++ z ∷ zs) = subst (λ (rs : List RegionData). AreFrom low rs) parts all in
     let there = back_ascends low front (z ∷ zs) here in
     let above : z.address ≤ a = subst (λ (r : RegionData). r.address ≤ a) is le in
-    (there.0, there.1, sym (ap (word_at a) parts ∙ word_in_back a low front z zs here above))
+    (there.0, there.1, λ n many. sym (ap (region_at n a) parts ∙ in_back n a low front z zs many here above))
 
 pub in_lower_half : (a low : ℕ) (left front back : List RegionData) (y : RegionData) → left ≡ front ++ back → 0 < length back → y ≡ get_or back 0 y → AreFrom low left → a < y.address
-    → (high : ℕ) × AreFrom high front × (word_at a front ≡ word_at a left)
+    → (high : ℕ) × AreFrom high front × AreAlikeAt a front left
 in_lower_half a low left front [] y parts some is all lt = absurd (omega (arith, some))
 in_lower_half a low left front (z ∷ zs) y parts some is all lt =
     let here : AreFrom low (front ++ z ∷ zs) = subst (λ (rs : List RegionData). AreFrom low rs) parts all in
     let below : a < z.address = subst (λ (r : RegionData). a < r.address) is lt in
-    (low, front_ascends low front (z ∷ zs) here, sym (ap (word_at a) parts ∙ word_in_front a low front z zs here below))
+    (low, front_ascends low front (z ∷ zs) here, λ n many. sym (ap (region_at n a) parts ∙ in_front n a low front z zs here below))
 
-pub in_none : (a : ℕ) (left : List RegionData) → length left < 1 → None ≡ word_at a left
-unfolding word_at
-in_none a [] lt = refl
-in_none a (y ∷ ys) lt = absurd (omega (arith, lt))
+pub in_none : (n a : ℕ) (left : List RegionData) → length left < 1 → region_at n a left ≡ None
+unfolding region_at
+in_none n a [] lt = refl
+in_none n a (y ∷ ys) lt = absurd (omega (arith, lt))
 
-pub in_the_one : (a : ℕ) (left : List RegionData) (y : RegionData) → length left ≤ 1 → 1 ≤ length left → y ≡ get_or left 0 y → cond (holds_word a y) (Some (word_in a y)) None ≡ word_at a left
-unfolding word_at
-in_the_one a [] y le some is = absurd (omega (arith, some))
-in_the_one a (z ∷ []) y le some is = ap (λ (r : RegionData). cond (holds_word a r) (Some (word_in a r)) None) is
-in_the_one a (z ∷ w ∷ zs) y le some is = absurd (omega (arith, le))
+pub in_the_one : (n a : ℕ) (left : List RegionData) (y : RegionData) → length left ≤ 1 → 1 ≤ length left → y ≡ get_or left 0 y → region_at n a left ≡ cond (holds_bytes n a y) (Some y) None
+unfolding region_at
+in_the_one n a [] y le some is = absurd (omega (arith, some))
+in_the_one n a (z ∷ []) y le some is = ap (λ (r : RegionData). cond (holds_bytes n a r) (Some r) None) (sym is)
+in_the_one n a (z ∷ w ∷ zs) y le some is = absurd (omega (arith, le))
+
+pub first_fits : (low : ℕ) (left : List RegionData) (y : RegionData) → AreFrom low left → 1 ≤ length left → y ≡ get_or left 0 y → end y < 2 ^ 64
+first_fits low [] y all some is = absurd (omega (arith, some))
+first_fits low (z ∷ zs) y all some is = subst (λ (r : RegionData). end r < 2 ^ 64) (sym is) all.2
+
+-- ---- what stands in the region
+
+pub in_no_region : {X : Type 0} (f : RegionData → X) (n a : ℕ) (rs : List RegionData) → region_at n a rs ≡ None → None ≡ option_map f (region_at n a rs)
+in_no_region f n a rs e = rw e refl
+
+in_held : {X : Type 0} (f : RegionData → X) (b : Bool) (r : RegionData) → cond b (Some (f r)) None ≡ option_map f (cond b (Some r) None)
+in_held f true r = refl
+in_held f false r = refl
+
+pub in_the_region : {X : Type 0} (f : RegionData → X) (n a : ℕ) (rs : List RegionData) (r : RegionData) → region_at n a rs ≡ cond (holds_bytes n a r) (Some r) None
+    → cond (holds_bytes n a r) (Some (f r)) None ≡ option_map f (region_at n a rs)
+in_the_region f n a rs r e = in_held f (holds_bytes n a r) r ∙ ap (option_map f) (sym e)

@@ -1,6 +1,8 @@
 -- Recorded memory: regions, each an address and the bytes from there on, and the numbers in them.
 use Rattle.std.specs.Prelude.{◌≡◌, ℕ, ◌+◌, ◌-◌, ◌^◌, ◌<◌, ◌≤◌, List, [], ◌∷◌, length, drop, Bool}
-use Rattle.std.specs.Prelude.{Option, Some, None, nat_le, ◌&&◌, if◌then◌else◌}
+use Rattle.std.specs.Prelude.{Option, nat_le, ◌&&◌}
+use Rattle.std.specs.List.{find}
+use Rattle.std.specs.Option.{option_map}
 use Rattle.byteorder.specs.Endian.{little_number}
 use Rattle.frame_expr.specs.declared.memory.RegionFault.{RegionFault}
 use Rattle.frame_expr.specs.declared.memory.RegionFault.TheVariants.{Empty, End, Order, NoMemory}
@@ -29,18 +31,25 @@ AreFrom low (r ∷ rs) =
 abbrev pub AreRegions : List RegionData → Type 0
 AreRegions rs = AreFrom 0 rs
 
--- the region holds all eight bytes at the address
-abbrev pub holds_word : ℕ → RegionData → Bool
-holds_word a r = nat_le r.address a && nat_le (a + 8) (end r)
+-- the region holds all of the next n bytes from the address on
+abbrev pub holds_bytes : ℕ → ℕ → RegionData → Bool
+holds_bytes n a r = nat_le r.address a && nat_le (a + n) (end r)
 
--- the eight bytes at the address, the lowest first
-abbrev pub word_in : ℕ → RegionData → ℕ
-word_in a r = little_number 8 (drop (a - r.address) r.bytes)
+-- the region that does, or nothing where none does
+unfoldable pub region_at : ℕ → ℕ → List RegionData → Option RegionData
+region_at n a rs = find (holds_bytes n a) rs
 
--- the same in the region that holds all eight, or nothing where none does
+-- a region's bytes from the address on
+abbrev pub tail_in : ℕ → RegionData → List ℕ
+tail_in a r = drop (a - r.address) r.bytes
+
+-- the eight bytes at the address, the lowest first, in the region that holds all eight
 unfoldable pub word_at : ℕ → List RegionData → Option ℕ
-word_at a [] = None
-word_at a (r ∷ rs) = if holds_word a r then Some (word_in a r) else word_at a rs
+word_at a rs = option_map (λ r. little_number 8 (tail_in a r)) (region_at 8 a rs)
+
+-- the bytes from the address to the end of the region that holds it
+unfoldable pub tail_at : ℕ → List RegionData → Option (List ℕ)
+tail_at a rs = option_map (tail_in a) (region_at 1 a rs)
 
 -- the region can be recorded above the others
 abbrev pub Accepts : List RegionData → ℕ → List ℕ → Type 0

@@ -1,9 +1,13 @@
 //! Recorded memory: a list of regions, of which each is an address and the bytes from there on.
 
-ghost use Rattle.std.specs.Prelude.{◌≡◌, ◌<◌, ◌+◌, ◌^◌, None, if◌then◌else◌, IfErr, length};
-ghost use Rattle.std.specs.Prelude.{◌++◌, ◌∷◌, [], slice_get, Some, OnOk, OnErr};
+ghost use Rattle.std.specs.Prelude.{◌≡◌, ◌<◌, ◌+◌, ◌^◌, None, IfErr, length};
+ghost use Rattle.std.specs.Prelude.{◌++◌, ◌∷◌, [], slice_get, Some, IfSome, OnOk, OnErr};
 ghost use Rattle.std.specs.Option.{option_map};
-ghost use Rattle.frame_expr.specs.Regions.{RegionData, end, holds_word, word_in, word_at};
+ghost use Rattle.std.specs.Prelude.{ℕ, if◌then◌else◌};
+ghost use Rattle.std.specs.Option.{option_and_then};
+ghost use Rattle.byteorder.specs.Endian.{little_number};
+ghost use Rattle.frame_expr.specs.Regions.{RegionData, end, holds_bytes, region_at, word_at};
+ghost use Rattle.frame_expr.specs.Regions.{tail_in, tail_at};
 ghost use Rattle.frame_expr.specs.Regions.{regions_end, Accepts, IsRefusedRegion, AreRegions};
 
 use byteorder::{ByteOrder, LittleEndian};
@@ -70,8 +74,8 @@ impl Region {
     /// The eight bytes at an address as a number, where it holds all eight.
     fn word(&self, address: u64) -> Option<u64>
         requires { end self.now < 2 ^ 64 }
-        ensures { result
-            ≡ (if holds_word address self.now then Some (word_in address self.now) else None) }
+        ensures { result ≡ (if holds_bytes 8 address self.now
+            then Some (little_number 8 (tail_in address self.now)) else None) }
     {
         if address < self.address || self.bytes.len() < 8 {
             return None;
@@ -81,6 +85,22 @@ impl Region {
             return None;
         }
         Some(LittleEndian::read_u64(&self.bytes[place as usize..]))
+    }
+
+    /// Its bytes from an address on, where it holds the address.
+    fn tail(&self, address: u64) -> Option<&[u8]>
+        requires { end self.now < 2 ^ 64 }
+        ensures { option_map (λ bytes. bytes.now) result ≡ (if holds_bytes 1 address self.now
+            then Some (tail_in address self.now) else None) }
+    {
+        if address < self.address {
+            return None;
+        }
+        let place = address - self.address;
+        if place >= self.bytes.len() as u64 {
+            return None;
+        }
+        Some(&self.bytes[place as usize..])
     }
 }
 
@@ -172,6 +192,14 @@ impl Memory {
     {
         word_among(&self.regions, address)
     }
+
+    /// The bytes from an address to the end of the region that holds it. `None` exactly where none
+    /// does.
+    pub fn tail(&self, address: u64) -> Option<&[u8]>
+        ensures { option_map (λ bytes. bytes.now) result ≡ tail_at address self.now }
+    {
+        tail_among(&self.regions, address)
+    }
 }
 
 /// The first address after the last region, or 0.
@@ -185,11 +213,13 @@ fn regions_end(regions: &[Region]) -> u64
     }
 }
 
-/// The word at an address. The regions ascend, so half of those that are left are passed by at a
-/// time.
-fn word_among(regions: &[Region], address: u64) -> Option<u64>
+/// The region that holds an address, where one does; else it may be another, or none. The regions
+/// ascend, so half of those that are left are passed by at a time.
+fn last_from(regions: &[Region], address: u64) -> Option<&Region>
     requires { AreRegions regions.now }
-    ensures { result ≡ word_at address regions.now }
+    ensures held { (n : ℕ) → 0 < n → region_at n address regions.now ≡ option_and_then
+        (λ r. if holds_bytes n address r.now then Some r.now else None) result }
+    ensures fits { IfSome result (λ r. end r.now < 2 ^ 64) }
 {
     let mut left = regions;
     while left.len() > 1 {
@@ -198,7 +228,27 @@ fn word_among(regions: &[Region], address: u64) -> Option<u64>
         left = if first.address <= address { high } else { low };
     }
     match left {
-        [region, ..] => region.word(address),
+        [region, ..] => Some(region),
         [] => None,
+    }
+}
+
+fn word_among(regions: &[Region], address: u64) -> Option<u64>
+    requires { AreRegions regions.now }
+    ensures { result ≡ word_at address regions.now }
+{
+    match last_from(regions, address) {
+        None => None,
+        Some(region) => region.word(address),
+    }
+}
+
+fn tail_among(regions: &[Region], address: u64) -> Option<&[u8]>
+    requires { AreRegions regions.now }
+    ensures { option_map (λ bytes. bytes.now) result ≡ tail_at address regions.now }
+{
+    match last_from(regions, address) {
+        None => None,
+        Some(region) => region.tail(address),
     }
 }

@@ -1,34 +1,13 @@
-use Rattle.std.proofs.Common.{◌≡◌, ◌<◌, ◌≤◌, ◌++◌, length, sym, ap, ◌∙◌, arith}
-use Rattle.std.proofs.lemmas.List.{take-append-drop}
-use Rattle.frame_expr.specs.Regions.{RegionData}
-use Rattle.frame_expr.proofs.Ascending.{in_upper_half, in_lower_half, in_none, in_the_one}
+use Rattle.std.proofs.Common.{◌∙◌, arith}
+use Rattle.byteorder.specs.Endian.{little_number}
+use Rattle.frame_expr.specs.Regions.{tail_in, word_at}
+use Rattle.frame_expr.proofs.Ascending.{in_no_region, in_the_region}
 use Rattle.frame_expr.proofs.memory.word_among.Goals as goal
 
-pub loop-left-preserved-then-first-address : goal.loop-left-preserved-then-first-address
-loop-left-preserved-then-first-address c =
-    let left = c.loop-left.left.now in
-    let front = c.split_at.result.0.now in
-    let back = c.split_at.result.1.now in
-    let parts : left ≡ front ++ back = rw (c.split_at.ensures.front, c.split_at.ensures.back) (sym (take-append-drop _ left)) in
-    let some : 0 < length back = omega (arith, c.split_at.ensures.back_len, c.loop-left-test.true) in
-    let le : c.index-high-0.result.address ≤ c.args.address = omega (arith, c.if-first-address.true, ap (λ (r : RegionData). r.address) c.first.view_is) in
-    let high = in_upper_half c.args.address c.loop-left.invariant.0 left front back c.index-high-0.result parts some c.index-high-0.is c.loop-left.invariant.1 le in
-    (high.0, high.1, high.2 ∙ c.loop-left.invariant.2)
+pub returns-in-None : goal.returns-in-None
+unfolding word_at
+returns-in-None c = in_no_region (λ r. little_number 8 (tail_in c.args.address r)) 8 c.args.address c.args.regions.now (c.in-None.ensures.held 8 (omega arith))
 
-pub loop-left-preserved : goal.loop-left-preserved
-loop-left-preserved c =
-    let left = c.loop-left.left.now in
-    let front = c.split_at.result.0.now in
-    let back = c.split_at.result.1.now in
-    let parts : left ≡ front ++ back = rw (c.split_at.ensures.front, c.split_at.ensures.back) (sym (take-append-drop _ left)) in
-    let some : 0 < length back = omega (arith, c.split_at.ensures.back_len, c.loop-left-test.true) in
-    let lt : c.args.address < c.index-high-0.result.address = omega (arith, c.if-first-address.false, ap (λ (r : RegionData). r.address) c.first.view_is) in
-    let low = in_lower_half c.args.address c.loop-left.invariant.0 left front back c.index-high-0.result parts some c.index-high-0.is c.loop-left.invariant.1 lt in
-    (low.0, low.1, low.2 ∙ c.loop-left.invariant.2)
-
-pub returns-in-empty : goal.returns-in-empty
-returns-in-empty c = in_none c.args.address c.loop-left.left.now c.in-empty.len_below ∙ c.loop-left.invariant.2
-
-pub returns-in-len1-up : goal.returns-in-len1-up
-returns-in-len1-up c =
-    c.word.ensures ∙ in_the_one c.args.address c.loop-left.left.now c.region-item.result c.loop-left-test.false c.in-len1-up.len_at_least c.region-item.is ∙ c.loop-left.invariant.2
+pub returns-in-Some : goal.returns-in-Some
+unfolding word_at
+returns-in-Some c = c.word.ensures ∙ in_the_region (λ r. little_number 8 (tail_in c.args.address r)) 8 c.args.address c.args.regions.now c.in-Some.region.now (c.in-Some.ensures.held 8 (omega arith))
