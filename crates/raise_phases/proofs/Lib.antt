@@ -1,0 +1,4 @@
+pub mod Fields
+pub mod Sites
+pub mod Tables
+pub mod Chains
