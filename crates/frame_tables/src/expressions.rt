@@ -74,6 +74,16 @@ pub fn word(tables: &Tables, words: &Words<'_>, text: &mut String) -> Result<(),
     Ok(())
 }
 
+/// `tail ADDRESS`: the bytes from there to the end of the region.
+pub fn tail(tables: &Tables, words: &Words<'_>, text: &mut String) -> Result<(), Refusal> {
+    let address = words.hexadecimal(1)?;
+    words.end(2)?;
+    match tables.memory.tail(address) {
+        Some(bytes) => hex_told(bytes, text),
+        None => Ok(text.push_str("none")?),
+    }
+}
+
 /// `value START BYTES`: of an expression that starts with a number on its stack, or with none for
 /// a dash.
 pub fn value(tables: &Tables, words: &Words<'_>, text: &mut String) -> Result<(), Refusal> {

@@ -5,6 +5,7 @@
 #![tactic(auto)]
 
 mod bytes;
+mod call_sites;
 mod expressions;
 mod headers;
 mod rows;

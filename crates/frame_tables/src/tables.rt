@@ -1,7 +1,7 @@
 //! What the lines so far made known, and who answers which question.
 
 use crate::words::{Refusal, Wanted, Words, refuse};
-use crate::{bytes, expressions, headers, rows, sections, steps};
+use crate::{bytes, call_sites, expressions, headers, rows, sections, steps};
 use frame_expr::{Memory, Regs};
 use frame_parse::Section;
 use std::alloc::Global;
@@ -83,6 +83,7 @@ impl Tables {
         match words.get(0) {
             "regions" => expressions::regions(self, words, text),
             "word" => expressions::word(self, words, text),
+            "tail" => expressions::tail(self, words, text),
             "value" => expressions::value(self, words, text),
             "fdes" => sections::fdes(self, words, text),
             "fde" => sections::fde(self, words, text),
@@ -97,6 +98,7 @@ impl Tables {
             "alike" => rows::alike(self, words, text),
             "entries" => headers::entries(self, words, text),
             "find" => headers::find(self, words, text),
+            "verdict" => call_sites::verdict(words, text),
             "step" => steps::step(self, words, text),
             "step-of-fde" => steps::step_of_fde(self, words, text),
             "step-by-table" => steps::step_by_table(self, words, text),

@@ -32,6 +32,8 @@ pub enum Wanted {
     FewerRows,
     /// The name of an accepted header.
     Header,
+    /// An address not before that in the second word.
+    Later,
     /// An accepted section's name, a first address and a size, as `S1:1000:30`.
     Image,
     End,
@@ -54,6 +56,7 @@ impl fmt::Display for Wanted {
             Wanted::Section => "an accepted section",
             Wanted::FewerRows => "a section with fewer rows",
             Wanted::Header => "an accepted header",
+            Wanted::Later => "an address from the first one on",
             Wanted::Image => "an image",
             Wanted::End => "the end of the line",
         };
