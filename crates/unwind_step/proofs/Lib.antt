@@ -1,7 +1,9 @@
-pub mod Climbing
 pub mod Columns
+pub mod FoundFdes
 pub mod Hits
+pub mod LastItems
 pub mod OneOutcome
 pub mod OneStep
 pub mod Payloads
 pub mod PlainQueries
+pub mod Walking

@@ -109,17 +109,22 @@ IsEnd sections memory count frame line (NoBytes a) =
 IsEnd sections memory count frame line Long =
     (count ≡ 256) × ((caller : Frame) × IsCallingFrame sections memory frame line caller)
 
--- A trace unfolds where there are frames, as many as lines: the first one has the recorded
--- registers; each line shows its frame; each further frame is the caller of the one before it; and
--- the trace ends for the reason that the last frame has.
+-- There are frames, as many as lines: the first one has the recorded registers; each line shows its
+-- frame; and each further frame is the caller of the one before it.
+pub record AreFrames (sections : List SectionData) (memory : List RegionData) (regs : Regs)
+    (frames : List Frame) (lines : List FrameLine) : Type 0 where
+  pub first : slice_get frames 0 ≡ Some (innermost regs)
+  pub shown : AllZip Shows frames lines
+  pub callers : (i : ℕ) (frame caller : Frame) (line : FrameLine) → slice_get frames i ≡ Some frame
+      → slice_get frames (i + 1) ≡ Some caller → slice_get lines i ≡ Some line
+      → IsCallingFrame sections memory frame line caller
+
+-- A trace unfolds where there are frames for its lines, and it ends for the reason that the last
+-- frame has.
 pub record Unfolds (sections : List SectionData) (memory : List RegionData) (regs : Regs)
     (trace : TraceData) : Type 0 where
   pub frames : List Frame
-  pub first : slice_get frames 0 ≡ Some (innermost regs)
-  pub shown : AllZip Shows frames trace.frames
-  pub callers : (i : ℕ) (frame caller : Frame) (line : FrameLine) → slice_get frames i ≡ Some frame
-      → slice_get frames (i + 1) ≡ Some caller → slice_get trace.frames i ≡ Some line
-      → IsCallingFrame sections memory frame line caller
+  pub are_frames : AreFrames sections memory regs frames trace.frames
   pub ends : (i : ℕ) (frame : Frame) (line : FrameLine) → i + 1 ≡ length trace.frames
       → slice_get frames i ≡ Some frame → slice_get trace.frames i ≡ Some line
       → IsEnd sections memory (length trace.frames) frame line trace.end

@@ -3,3 +3,4 @@ pub mod NextFrame
 pub mod Backtrace
 pub mod Finders
 pub mod Sources
+pub mod Walks
