@@ -1,3 +1,4 @@
 pub mod CallSites
 pub mod Actions
 pub mod Verdicts
+pub mod Raising
