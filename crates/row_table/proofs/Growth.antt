@@ -89,7 +89,7 @@ one_more_fde s n begins more old new f has added is are =
           ];
     }
 
-abbrev rows_of : List ℕ → List ℕ → List PlacedRow → RowsData
+abbrev pub rows_of : List ℕ → List ℕ → List PlacedRow → RowsData
 rows_of starts numbers distinct = record { starts = starts; numbers = numbers; distinct = distinct }
 
 pub all_fdes : (s : SectionData) (n : ℕ) (begins starts numbers : List ℕ) (kept distinct : List PlacedRow) (r : RowsData) → HasRowsOf s n (record { begins = begins; rows = r }) → n ≡ length s.fdes

@@ -4,5 +4,5 @@ pub mod Spans
 pub mod Growth
 pub mod Lookups
 pub mod Numbers
-pub mod StepsSince
+pub mod CourseLaws
 pub mod Initials

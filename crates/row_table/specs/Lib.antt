@@ -1,4 +1,6 @@
 pub mod Tables
 pub mod Numbering
 pub mod Transitions
+pub mod Courses
+pub mod Making
 pub mod Initials

@@ -6,16 +6,17 @@
 #![tactic(auto)]
 
 mod cie_rows;
+mod course;
 mod distinct_rows;
 mod fault;
-mod kept_rows;
+mod instructions;
+mod kept_states;
 mod lent_row;
 mod making;
-mod numbered_rows;
 mod same;
 mod search;
-mod since;
 mod source;
+mod states;
 mod table;
 mod transitions;
 mod words;

@@ -8,7 +8,6 @@ ghost use Rattle.row_table.specs.Tables.{HasRowsFrom, HasNumber, IsNumberAt};
 
 use crate::cie_rows::CieRows;
 use crate::fault::TableFault;
-use crate::kept_rows::KeptRows;
 use crate::lent_row::LentRow;
 use crate::making::Rows;
 use crate::search::last_start;
@@ -57,26 +56,25 @@ impl RowTable {
             ⊎ HasTooManyRows section.now) }
     {
         let mut initials = CieRows::new(alloc);
-        let mut kept = KeptRows::new();
         let mut rows = Rows::new(alloc)?;
         let mut begins = Vec::with_capacity(alloc, section.count())?;
         begins.push(0)?;
         for index in 0..section.count() {
             let fde = section.fde(index);
             let number = initials.number_of(&fde)?;
-            rows.add(&fde, initials.row(number), &mut kept)?;
+            rows.add(&fde, initials.row(number))?;
             begins.push(rows.len())?;
         }
         let Rows {
             starts,
             numbers,
-            distinct,
+            course,
         } = rows;
         Ok(RowTable {
             begins,
             starts,
             numbers,
-            distinct: distinct.into_rows(),
+            distinct: course.into_rows(),
         })
     }
 

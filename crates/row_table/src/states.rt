@@ -1,0 +1,92 @@
+//! States: rows that instructions have left, also between two advances.
+
+ghost use Rattle.std.specs.Prelude.{◌≡◌, ◌<◌, [], IfOk, IfSome, length, get_or, false};
+ghost use Rattle.frame_rows.specs.Rows.{unset};
+ghost use Rattle.row_table.specs.Transitions.{IsNumberOf, IsLonger};
+
+use crate::same::{PLACES, are_equal, place_of};
+use frame_rows::PlacedRow;
+use std::alloc::{AllocError, Global};
+use std::marker::Model;
+
+/// At most 65,536 states by their numbers. Two of them may have the same row: a state is found only
+/// where it is the one that came last at its place, so that none is ever looked for.
+#[derive(Drop)]
+pub(crate) struct States {
+    rows: Vec<PlacedRow>,
+    /// A number for each of the places that `place_of` tells, which need not be the row's.
+    recent: Vec<u16>,
+}
+
+impl Model for States {
+    ghost use Rattle.std.specs.Prelude.{List};
+    ghost use Rattle.frame_rows.specs.declared.placed_row.PlacedRow.{PlacedRow};
+
+    ghost Value = { List PlacedRow };
+
+    ghost view = { λ s. s.rows.items };
+}
+
+impl States {
+    pub(crate) fn new(alloc: Global) -> Result<States, AllocError>
+        ensures { IfOk result (λ s. s ≡ []) }
+    {
+        Ok(States {
+            rows: Vec::new(alloc),
+            recent: vec![in alloc; 0u16; PLACES]?,
+        })
+    }
+
+    /// Whether there is no number left.
+    pub(crate) fn is_full(&self) -> bool
+        ensures { result ≡ false → length self.now < 65536 }
+    {
+        self.rows.len() > u16::MAX as usize
+    }
+
+    /// The row of a state.
+    pub(crate) fn row(&self, number: u16) -> &PlacedRow
+        requires { number < length self.now }
+        ensures { result.now ≡ get_or self.now number unset }
+    {
+        &self.rows[number as usize]
+    }
+
+    /// The state that has a row, where it came last at its place.
+    fn recent(&self, place: usize, row: &PlacedRow) -> Option<u16>
+        ensures { IfSome result (λ number. IsNumberOf self.now number row.now) }
+    {
+        let number = *self.recent.get(place)?;
+        let index = number as usize;
+        if index < self.rows.len() && are_equal(&self.rows[index], row) {
+            Some(number)
+        } else {
+            None
+        }
+    }
+
+    /// A state that has a row: a new one where none came last at its place.
+    pub(crate) fn number_of(&mut self, row: &PlacedRow) -> Result<u16, AllocError>
+        requires { length self.old < 65536 }
+        ensures number { IfOk result (λ number. IsNumberOf self.new number row.now) }
+        ensures longer { IsLonger self.old self.new }
+    {
+        let place = place_of(row);
+        if let Some(number) = self.recent(place, row) {
+            return Ok(number);
+        }
+        let number = self.rows.len();
+        self.rows.push(*row)?;
+        if place < self.recent.len() {
+            self.recent[place] = number as u16;
+        }
+        Ok(number as u16)
+    }
+
+    /// Lets go of all states, and begins anew with those of some rows.
+    pub(crate) fn restart(&mut self, rows: Vec<PlacedRow>)
+        ensures { self.new ≡ rows.items }
+    {
+        self.rows = rows;
+    }
+}
