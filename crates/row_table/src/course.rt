@@ -12,6 +12,7 @@ use crate::distinct_rows::DistinctRows;
 use crate::fault::TableFault;
 use crate::instructions::is_nop;
 use crate::kept_states::KeptStates;
+use crate::same::are_equal;
 use crate::states::States;
 use crate::transitions::{Transition, Transitions};
 use frame_parse::PlacedInstruction;
@@ -158,6 +159,11 @@ impl Course {
         ensures distinct { self.new.distinct ≡ self.old.distinct }
     {
         self.kept.clear();
+        // Most FDEs have the initial row of the one before.
+        if are_equal(self.states.row(self.base), base) {
+            self.here = self.base;
+            return Ok(());
+        }
         self.make_room()?;
         let state = self.states.number_of(base)?;
         self.base = state;

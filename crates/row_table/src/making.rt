@@ -22,13 +22,14 @@ pub(crate) struct Rows {
 }
 
 impl Rows {
-    pub(crate) fn new(alloc: Global) -> Result<Rows, AllocError>
+    /// None yet, with room for so many.
+    pub(crate) fn with_room(alloc: Global, room: usize) -> Result<Rows, AllocError>
         ensures { IfOk result (λ r. rows_in r
             ≡ record { starts = []; numbers = []; distinct = [] }) }
     {
         Ok(Rows {
-            starts: Vec::new(alloc),
-            numbers: Vec::new(alloc),
+            starts: Vec::with_capacity(alloc, room)?,
+            numbers: Vec::with_capacity(alloc, room)?,
             course: Course::new(alloc)?,
         })
     }

@@ -9,6 +9,10 @@ use frame_rows::PlacedRow;
 use std::alloc::{AllocError, Global};
 use std::marker::Model;
 
+/// So many have room from the start, 130,240 bytes of it: most sections have no more, and rows that
+/// a growing vector leaves behind cost more than those that are never filled.
+const FIRST_STATES: usize = 440;
+
 /// At most 65,536 states by their numbers. Two of them may have the same row: a state is found only
 /// where it is the one that came last at its place, so that none is ever looked for.
 #[derive(Drop)]
@@ -32,7 +36,7 @@ impl States {
         ensures { IfOk result (λ s. s ≡ []) }
     {
         Ok(States {
-            rows: Vec::new(alloc),
+            rows: Vec::with_capacity(alloc, FIRST_STATES)?,
             recent: vec![in alloc; 0u16; PLACES]?,
         })
     }

@@ -16,6 +16,9 @@ use frame_rows::{PlacedRow, placed_rows_are_rows};
 use std::alloc::Global;
 use std::marker::Model;
 
+/// Of so many bytes of a section there is a row, by an estimate that most sections stay below.
+const BYTES_OF_A_ROW: usize = 5;
+
 /// The FDE of an address, and its row there.
 #[derive(Drop)]
 pub struct FoundRow<'t> {
@@ -56,7 +59,7 @@ impl RowTable {
             ⊎ HasTooManyRows section.now) }
     {
         let mut initials = CieRows::new(alloc);
-        let mut rows = Rows::new(alloc)?;
+        let mut rows = Rows::with_room(alloc, section.bytes().len() / BYTES_OF_A_ROW)?;
         let mut begins = Vec::with_capacity(alloc, section.count())?;
         begins.push(0)?;
         for index in 0..section.count() {
