@@ -13,7 +13,11 @@ use std::marker::Model;
 /// a growing vector leaves behind cost more than those that are never filled.
 const FIRST_STATES: usize = 440;
 
-/// At most 65,536 states by their numbers. Two of them may have the same row: a state is found only
+/// So many states are kept at most, as many as there are places for what comes of them. Rows that
+/// come to more than that are rare, and each is 296 bytes of memory that was never touched before.
+const MOST_STATES: usize = 8192;
+
+/// At most 8,192 states by their numbers. Two of them may have the same row: a state is found only
 /// where it is the one that came last at its place, so that none is ever looked for.
 #[derive(Drop)]
 pub(crate) struct States {
@@ -41,11 +45,11 @@ impl States {
         })
     }
 
-    /// Whether there is no number left.
+    /// Whether there are as many as are kept.
     pub(crate) fn is_full(&self) -> bool
         ensures { result ≡ false → length self.now < 65536 }
     {
-        self.rows.len() > u16::MAX as usize
+        self.rows.len() >= MOST_STATES
     }
 
     /// The row of a state.
