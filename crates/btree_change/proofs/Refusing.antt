@@ -87,7 +87,7 @@ module _ (t : Terms) (m : Member) (k k' : CallerData) (clock : ℕ) where
   pub refused_full : AfterClock t (ask.Refused (update.Register m)) clock k.log k'.log → Appends (receipt.Register m (inserted.Full (clock % 4294967296))) k.log k'.log → k' ≡ record k { log = k'.log } → RefusesMember t m (inserted.Full (clock % 4294967296)) k k'
   refused_full after appended rest =
       let seen = seen_so t (update.Register m) clock k.log k'.log after in record {
-        right = (seen.0, seen.1, subst (λ z. IsFree m.span (state_after (start z) k'.log.past).registered) seen.2 appended.right, subst (λ z. HadTenMembers (start z) k'.log.past (last_moment 0 k.log.receipts.own) (receipt.Register m (inserted.Full (clock % 4294967296)))) seen.2 appended.filled);
+        right = (seen.0, seen.1, subst (λ z. IsFree m.span (state_after (start z) k'.log.past).registered) seen.2 appended.right, subst (λ z. HadTenMembers (start z) k'.log.past (last_moment k.log.receipts.since k.log.receipts.own) (receipt.Register m (inserted.Full (clock % 4294967296)))) seen.2 appended.filled);
         none_taken = refl;
         call = refuses_so t (update.Register m) (receipt.Register m (inserted.Full (clock % 4294967296))) clock k k' after appended rest;
       }

@@ -158,11 +158,11 @@ surplus_steps a k l need s enough =
 pub right_after : (t : Terms) (m : Member) (answer : Inserted) (k l n : CallerData) → l.log.past ≡ k.log.past → l.log.receipts ≡ k.log.receipts → IsRightInsertion t m l n answer → IsRightInsertion t m k n answer
 right_after t m (inserted.Done number) k l n past receipts (before, (begins, is, number_is)) = (before, (subst (λ p. IsPrefix p before) past begins, is, number_is))
 right_after t m (inserted.Overlap other stamp) k l n past receipts r = (subst (λ p. IsPrefix p n.log.past) past r.0, r.1, r.2, r.3)
-right_after t m (inserted.Full stamp) k l n past receipts r = (subst (λ p. IsPrefix p n.log.past) past r.0, r.1, r.2, subst (λ (x : Receipts). HadTenMembers (start t) n.log.past (last_moment 0 x.own) (receipt.Register m (inserted.Full stamp))) receipts r.3)
+right_after t m (inserted.Full stamp) k l n past receipts r = (subst (λ p. IsPrefix p n.log.past) past r.0, r.1, r.2, subst (λ (x : Receipts). HadTenMembers (start t) n.log.past (last_moment x.since x.own) (receipt.Register m (inserted.Full stamp))) receipts r.3)
 right_after t m inserted.Spent k l n past receipts r = absurd r
 
 pub right_before : (t : Terms) (m : Member) (answer : Inserted) (k l n : CallerData) → n.log.past ≡ l.log.past → IsRightInsertion t m k l answer → IsRightInsertion t m k n answer
 right_before t m (inserted.Done number) k l n past r = (r.0, (r.1.0, past ∙ r.1.1, r.1.2 ∙ ap length (sym past)))
 right_before t m (inserted.Overlap other stamp) k l n past r = (subst (IsPrefix k.log.past) (sym past) r.0, r.1 ∙ ap length (sym past), subst (λ p. IsLowestOverlap m.span (state_after (start t) p).registered other) (sym past) r.2, r.3)
-right_before t m (inserted.Full stamp) k l n past r = (subst (IsPrefix k.log.past) (sym past) r.0, r.1 ∙ ap length (sym past), subst (λ p. IsFree m.span (state_after (start t) p).registered) (sym past) r.2, subst (λ p. HadTenMembers (start t) p (last_moment 0 k.log.receipts.own) (receipt.Register m (inserted.Full stamp))) (sym past) r.3)
+right_before t m (inserted.Full stamp) k l n past r = (subst (IsPrefix k.log.past) (sym past) r.0, r.1 ∙ ap length (sym past), subst (λ p. IsFree m.span (state_after (start t) p).registered) (sym past) r.2, subst (λ p. HadTenMembers (start t) p (last_moment k.log.receipts.since k.log.receipts.own) (receipt.Register m (inserted.Full stamp))) (sym past) r.3)
 right_before t m inserted.Spent k l n past r = absurd r

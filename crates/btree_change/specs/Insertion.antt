@@ -67,7 +67,7 @@ pub record PutsMember (m : Member) (n number : ℕ) (k k' : CallerData) : Type 0
 
 -- The answer to an insertion is right, where `k` was its caller when the call was begun and k' is
 -- it afterwards. Where it is Full, ten members were registered at some moment since the receipt
--- before it.
+-- before it, and since the caller was split off.
 abbrev pub IsRightInsertion : Terms → Member → CallerData → CallerData → Inserted → Type 0
 IsRightInsertion t m k k' (inserted.Done number) = (before : List Update)
     × (IsPrefix k.log.past before × (k'.log.past ≡ before ++ update.Register m ∷ [])
@@ -79,7 +79,7 @@ IsRightInsertion t m k k' (inserted.Overlap other stamp) = IsPrefix k.log.past k
 IsRightInsertion t m k k' (inserted.Full stamp) = IsPrefix k.log.past k'.log.past
     × (stamp ≡ length k'.log.past)
     × IsFree m.span (state_after (start t) k'.log.past).registered
-    × HadTenMembers (start t) k'.log.past (last_moment 0 k.log.receipts.own)
+    × HadTenMembers (start t) k'.log.past (last_moment k.log.receipts.since k.log.receipts.own)
     (receipt.Register m (inserted.Full stamp))
 IsRightInsertion t m k k' inserted.Spent = ⊥
 

@@ -61,22 +61,28 @@ thread_receipts images journal =
 abbrev pub in_one : List (List (List Receipt)) → List Receipt
 in_one rounds = flat_map (λ round. flat_map (λ receipts. receipts) round) rounds
 
--- Each receipt holds, and stamps and numbers rise along each thread. A round's callers are the
--- first one, and one for each thread so far.
-abbrev pub RoundsHold : State → List Update → ℕ → ℕ → List (List (List Receipt)) → Type 0
-RoundsHold start history nodes callers [] = Unit {0}
-RoundsHold start history nodes callers (round ∷ rounds) =
-    All (λ receipts. AllHold start history nodes (callers + length round) 0 receipts
-    × AreInOrder 0 receipts) round
-    × RoundsHold start history nodes (callers + length round) rounds
+-- how many updates were made when a round ended before which so many were
+abbrev pub done_after : ℕ → List (List Receipt) → ℕ
+done_after done round =
+    done + count_by (λ r. is_some (accepted r)) (flat_map (λ receipts. receipts) round)
+
+-- Each receipt holds, and stamps and numbers rise along each thread. The list of a round's thread
+-- begins with the number of updates that were done in the rounds before, so a Full looks back no
+-- further than that. A round's callers are the first one, and one for each thread so far.
+abbrev pub RoundsHold : State → List Update → ℕ → ℕ → ℕ → List (List (List Receipt)) → Type 0
+RoundsHold start history nodes callers done [] = Unit {0}
+RoundsHold start history nodes callers done (round ∷ rounds) =
+    All (λ receipts. AllHold start history nodes (callers + length round) done receipts
+    × AreInOrder done receipts) round
+    × RoundsHold start history nodes (callers + length round) (done_after done round) rounds
 
 -- each stamp and number is between the updates of the rounds before, and those with this round's
 abbrev pub AreInRounds : ℕ → List (List (List Receipt)) → Type 0
 AreInRounds done [] = Unit {0}
 AreInRounds done (round ∷ rounds) =
-    let receipts = flat_map (λ receipts. receipts) round in
-    let later = done + count_by (λ r. is_some (accepted r)) receipts in
-    All (λ r. (done ≤ moment r) × (moment r ≤ later)) receipts × AreInRounds later rounds
+    All (λ r. (done ≤ moment r) × (moment r ≤ done_after done round))
+    (flat_map (λ receipts. receipts) round)
+    × AreInRounds (done_after done round) rounds
 
 -- the members that the loader has for good
 abbrev pub fixed_members : ScriptData → List Member
@@ -100,7 +106,7 @@ pub record IsLawfulJournal (script : ScriptData) (journal : JournalData) : Type 
   pub history : IsHistory (start_of script)
       (history_of (in_one (thread_receipts script.images journal)) journal.updates)
   pub receipts : RoundsHold (start_of script)
-      (history_of (in_one (thread_receipts script.images journal)) journal.updates) script.nodes 1
+      (history_of (in_one (thread_receipts script.images journal)) journal.updates) script.nodes 1 0
       (thread_receipts script.images journal)
   pub rounds : AreInRounds 0 (thread_receipts script.images journal)
   pub unfolded : All (All (All (IsUnfolded script.sections script.snapshots))) journal.rounds

@@ -1,5 +1,5 @@
 -- Two whole logs, of which one has all receipts of the other.
-use Rattle.std.proofs.Common.{◌≡◌, ℕ, suc, ◌+◌, ◌-◌, ◌<◌, List, [], ◌∷◌, length, Contains, sym, refl, ap, ◌∙◌, arith, Bool, true, false, ◌&&◌, ◌==◌, is_some, Option, Some, None, IfSome, max, eqb-true, count_by, if◌then◌else◌}
+use Rattle.std.proofs.Common.{◌≡◌, ℕ, suc, ◌+◌, ◌-◌, ◌<◌, List, [], ◌∷◌, length, map, Contains, sym, refl, ap, ◌∙◌, arith, Bool, true, false, ◌&&◌, ◌==◌, is_some, Option, Some, None, IfSome, max, eqb-true, count_by, if◌then◌else◌}
 use Rattle.std.proofs.lemmas.Bool.{le-leb}
 use Rattle.std.proofs.lemmas.List.Sums.{sum_by-cons}
 use Rattle.std.proofs.lemmas.Option.{none-some, same_Some}
@@ -11,9 +11,10 @@ use Rattle.reg_model.specs.declared.answer.Receipt.{Receipt}
 use Rattle.reg_model.specs.declared.answer.Update.{Update}
 use Rattle.word_rule.specs.Callers.{IsRecord, IsWhole, start}
 use Rattle.word_rule.specs.declared.log.Log.{Log}
+use Rattle.word_rule.specs.declared.log.ReceiptList.{ReceiptList}
 use Rattle.word_rule.specs.declared.log.Terms.{Terms}
 use Rattle.word_rule.proofs.Each.{all_append, all_with}
-use Rattle.registry_core.specs.Rounds.{all_receipts}
+use Rattle.registry_core.specs.Rounds.{all_receipts, joined_lists}
 use Rattle.registry_core.proofs.Counting.{whole_numbered}
 
 -- each receipt that holds stands at its number
@@ -21,12 +22,12 @@ at_numbers : (t : Terms) (past : List Update) (callers since : ℕ) (rs : List R
 at_numbers t past callers since [] h = tt
 at_numbers t past callers since (r ∷ rs) h = (h.0.numbered, at_numbers t past callers (max since (moment r)) rs h.1)
 
-at_all : (t : Terms) (past : List Update) (callers : ℕ) (lists : List (List Receipt)) → AllByRecursion (IsRecord t past callers) lists → AllByRecursion (IsAtNumber past) (flat_map (λ receipts. receipts) lists)
+at_all : (t : Terms) (past : List Update) (callers : ℕ) (lists : List ReceiptList) → AllByRecursion (IsRecord t past callers) lists → AllByRecursion (IsAtNumber past) (flat_map (λ receipts. receipts) (map (λ receipts. receipts.list) lists))
 at_all t past callers [] h = tt
-at_all t past callers (rs ∷ lists) h = all_append (IsAtNumber past) rs (flat_map (λ receipts. receipts) lists) (at_numbers t past callers 0 rs h.0.0) (at_all t past callers lists h.1)
+at_all t past callers (rs ∷ lists) h = all_append (IsAtNumber past) rs.list (flat_map (λ receipts. receipts) (map (λ receipts. receipts.list) lists)) (at_numbers t past callers rs.since rs.list h.0.0) (at_all t past callers lists h.1)
 
 whole_at : (v : Log) → IsWhole v → AllByRecursion (IsAtNumber v.past) (all_receipts v.receipts)
-whole_at v w = all_append (IsAtNumber v.past) v.receipts.own (flat_map (λ receipts. receipts) v.receipts.joined) (at_numbers v.terms v.past (v.made + 1) 0 v.receipts.own w.receipts.own.0) (at_all v.terms v.past (v.made + 1) v.receipts.joined w.receipts.joined)
+whole_at v w = all_append (IsAtNumber v.past) v.receipts.own (flat_map (λ receipts. receipts) (joined_lists v.receipts)) (at_numbers v.terms v.past (v.made + 1) v.receipts.since v.receipts.own w.receipts.own.0) (at_all v.terms v.past (v.made + 1) v.receipts.joined w.receipts.joined)
 
 abbrev once : Bool → ℕ
 once b = if b then 1 else 0

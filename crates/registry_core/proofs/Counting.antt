@@ -1,5 +1,5 @@
 -- How many updates were accepted, by their numbers.
-use Rattle.std.proofs.Common.{◌≡◌, ℕ, zero, suc, ◌+◌, ◌<◌, ◌≤◌, List, [], ◌∷◌, ◌++◌, length, sym, refl, ap, ◌∙◌, arith, Bool, ◌&&◌, ◌==◌, is_some, Option, Some, None, eq-eqb, ne_eqb, add-zero, if◌then◌else◌}
+use Rattle.std.proofs.Common.{◌≡◌, ℕ, zero, suc, ◌+◌, ◌<◌, ◌≤◌, List, [], ◌∷◌, ◌++◌, length, map, sym, refl, ap, ◌∙◌, arith, Bool, ◌&&◌, ◌==◌, is_some, Option, Some, None, eq-eqb, ne_eqb, add-zero, if◌then◌else◌}
 use Rattle.std.proofs.lemmas.Bool.{le-leb, lt-leb}
 use native.Mathlib.Decide.{ℕ_discrete}
 use Rattle.std.specs.List.{AllByRecursion, flat_map, count_by}
@@ -11,8 +11,9 @@ use Rattle.reg_model.specs.declared.answer.Receipt.{Receipt}
 use Rattle.reg_model.specs.declared.answer.Update.{Update}
 use Rattle.word_rule.specs.Callers.{IsWhole, dones, dones_of_all, number_of}
 use Rattle.word_rule.specs.declared.log.Log.{Log}
+use Rattle.word_rule.specs.declared.log.ReceiptList.{ReceiptList}
 use Rattle.word_rule.specs.declared.log.Receipts.{Receipts}
-use Rattle.registry_core.specs.Rounds.{all_receipts}
+use Rattle.registry_core.specs.Rounds.{all_receipts, joined_lists}
 
 abbrev once : Bool → ℕ
 once b = if b then 1 else 0
@@ -25,14 +26,14 @@ count_first : (p : Receipt → Bool) (x : Receipt) (xs : List Receipt) → count
 count_first p x xs = sum_by-cons (λ r. once (p r)) x xs
 
 -- the numbers in lists are those in all of them together
-in_all : (n : ℕ) (lists : List (List Receipt)) → count_by (has_number n) (flat_map (λ receipts. receipts) lists) ≡ dones_of_all n lists
+in_all : (n : ℕ) (lists : List ReceiptList) → count_by (has_number n) (flat_map (λ receipts. receipts) (map (λ receipts. receipts.list) lists)) ≡ dones_of_all n lists
 in_all n [] = refl
 in_all n (rs ∷ lists) =
-    count_both (has_number n) rs (flat_map (λ receipts. receipts) lists)
-    ∙ (ap (λ k. count_by (has_number n) rs + k) (in_all n lists) ∙ sym (sum_by-cons (λ receipts. count_by (has_number n) receipts) rs lists))
+    count_both (has_number n) rs.list (flat_map (λ receipts. receipts) (map (λ receipts. receipts.list) lists))
+    ∙ (ap (λ k. count_by (has_number n) rs.list + k) (in_all n lists) ∙ sym (sum_by-cons (λ (receipts : ReceiptList). count_by (has_number n) receipts.list) rs lists))
 
 in_log : (n : ℕ) (r : Receipts) → count_by (has_number n) (all_receipts r) ≡ dones n r
-in_log n r = count_both (has_number n) r.own (flat_map (λ receipts. receipts) r.joined) ∙ ap (λ k. count_by (has_number n) r.own + k) (in_all n r.joined)
+in_log n r = count_both (has_number n) r.own (flat_map (λ receipts. receipts) (joined_lists r)) ∙ ap (λ k. count_by (has_number n) r.own + k) (in_all n r.joined)
 
 pub whole_numbered : (v : Log) → IsWhole v → AreNumbered (length v.past) (all_receipts v.receipts)
 whole_numbered v w n = in_log n v.receipts ∙ w.numbers n

@@ -11,6 +11,7 @@ use Rattle.reg_model.specs.declared.answer.Receipt.TheVariants.{Query}
 use Rattle.reg_model.specs.declared.answer.Update.{Update}
 use Rattle.word_rule.specs.CallerData.{CallerData}
 use Rattle.word_rule.specs.Callers.{IsRecord, start}
+use Rattle.word_rule.specs.declared.log.ReceiptList.{ReceiptList}
 use Rattle.word_rule.specs.declared.log.Receipts.{Receipts}
 use Rattle.word_rule.specs.declared.log.Terms.{Terms}
 use Rattle.registry_core.specs.Calls.{Answered, Receives, is_of_update}
@@ -86,5 +87,5 @@ module _ (stay : (start : State) (history more : List Update) (nodes callers lat
   all_stay s history more nodes callers later since [] l h = tt
   all_stay s history more nodes callers later since (r ∷ rs) l h = (stay s history more nodes callers later since r l h.0, all_stay s history more nodes callers later (max since (moment r)) rs l h.1)
 
-  pub record_stays : (t : Terms) (past later : List Update) (callers more : ℕ) (rs : List Receipt) → IsPrefix past later → callers ≤ more → IsRecord t past callers rs → IsRecord t later more rs
-  record_stays t past later callers more rs p l h = (subst (λ z. AllHold (start t) z t.nodes more 0 rs) p.1 (all_stay (start t) past p.0 t.nodes callers more 0 rs l h.0), h.1)
+  pub record_stays : (t : Terms) (past later : List Update) (callers more : ℕ) (rs : ReceiptList) → IsPrefix past later → callers ≤ more → IsRecord t past callers rs → IsRecord t later more rs
+  record_stays t past later callers more rs p l h = (subst (λ z. AllHold (start t) z t.nodes more rs.since rs.list) p.1 (all_stay (start t) past p.0 t.nodes callers more rs.since rs.list l h.0), h.1)

@@ -10,14 +10,15 @@ use Rattle.reg_model.specs.declared.answer.Receipt.{Receipt}
 use Rattle.reg_model.specs.declared.answer.Update.{Update}
 use Rattle.word_rule.specs.CallerData.{CallerData, WordsData}
 use Rattle.word_rule.specs.Callers.{IsAlone, IsIdle, IsRecord}
-use Rattle.word_rule.specs.Logs.{longer}
+use Rattle.word_rule.specs.Logs.{longer, own_list}
 use Rattle.word_rule.specs.Names.{child_name, has_name, joined_names, new_lineage, without_name}
 use Rattle.word_rule.specs.declared.log.Lineage.{Lineage}
+use Rattle.word_rule.specs.declared.log.ReceiptList.{ReceiptList}
 use Rattle.word_rule.specs.declared.log.Receipts.{Receipts}
 use Rattle.word_rule.specs.declared.log.Terms.{Terms}
 use Rattle.word_rule.proofs.Names.{count_cons, has_from_count, once_same, same_refl}
 use Rattle.registry_core.specs.Calls.{Answered}
-use Rattle.registry_core.specs.Rounds.{AreAnswered, IsAfterRound, IsBetweenRounds, IsSplitOff, IsWholeWhereAlone, after_joins, after_one_join, after_one_split, after_splits, all_split_off, one_split_off}
+use Rattle.registry_core.specs.Rounds.{AreAnswered, IsAfterRound, IsBetweenRounds, IsSplitOff, IsWholeWhereAlone, after_joins, after_one_join, after_one_split, after_splits, all_split_off, joined_lists, lists_since, one_split_off}
 use Rattle.registry_core.proofs.Counting.{count_both, whole_counted}
 use Rattle.word_rule.proofs.Each.{all_append, all_behind, all_map}
 
@@ -162,7 +163,7 @@ record Gathered (past : List Update) (m n : CallerData) (lists : List (List Rece
   terms : n.log.terms ≡ m.log.terms
   begins : IsPrefix past n.log.past
   own : n.log.receipts.own ≡ m.log.receipts.own
-  joined : n.log.receipts.joined ≡ m.log.receipts.joined ++ lists
+  joined : n.log.receipts.joined ≡ m.log.receipts.joined ++ lists_since (length past) lists
   idle : IsIdle m.log → IsIdle n.log
   made : n.log.made ≡ m.log.made
   unmatched : n.log.lineage.unmatched ≡ m.log.lineage.unmatched
@@ -184,7 +185,7 @@ gathered k (rs ∷ lists) (c ∷ before) (d ∷ after) m new a missing begins =
     let n = new.0.1 in
     let lineage : d.log.lineage ≡ new_lineage (name_of c) = a.0.lineage ∙ n.lineage in
     let names : joined_names m.log.lineage d.log.lineage ≡ (map name_of before, m.log.lineage.unmatched) = ap (joined_names m.log.lineage) lineage ∙ joined_first m.log.lineage (name_of c) (map name_of before) missing in
-    let receipts : d.log.receipts ≡ record { own = rs; joined = []; heard = [] } = a.0.own ∙ ap (λ (r : Receipts). record r { own = r.own ++ rs }) n.receipts in
+    let receipts : d.log.receipts ≡ record { since = length k.log.past; own = rs; joined = []; heard = [] } = a.0.own ∙ ap (λ (r : Receipts). record r { own = r.own ++ rs }) n.receipts in
     let seen : IsPrefix k.log.past d.log.past = subst (λ z. IsPrefix z d.log.past) n.past a.0.begins in
     let r = gathered k lists before after (after_one_join d m) new.1 a.1 (ap (λ p. p.0) names) (longer_begins k.log.past m.log.past d.log.past begins seen) in
     let made = r.made in let none = a.0.made ∙ n.made in
@@ -193,7 +194,7 @@ gathered k (rs ∷ lists) (c ∷ before) (d ∷ after) m new a missing begins =
       terms = r.terms;
       begins = r.begins;
       own = r.own;
-      joined = r.joined ∙ (ap (λ (z : Receipts). (m.log.receipts.joined ++ z.own ∷ z.joined) ++ lists) receipts ∙ append_assoc m.log.receipts.joined (rs ∷ []) lists);
+      joined = r.joined ∙ (ap (λ (z : Receipts). (m.log.receipts.joined ++ own_list z ∷ z.joined) ++ lists_since (length k.log.past) lists) receipts ∙ append_assoc m.log.receipts.joined (lists_since (length k.log.past) (rs ∷ [])) (lists_since (length k.log.past) lists));
       idle = λ i. r.idle (record { held = i.held; out = i.out; loader = i.loader });
       made = omega (arith, made, none);
       unmatched = r.unmatched ∙ ap (λ p. p.1) names;
@@ -212,6 +213,12 @@ in_one_list lists = flat_map (λ receipts. receipts) lists
 lists_both : (xs ys : List (List Receipt)) → in_one_list (xs ++ ys) ≡ in_one_list xs ++ in_one_list ys
 lists_both [] ys = refl
 lists_both (rs ∷ xs) ys = ap (λ more. rs ++ more) (lists_both xs ys) ∙ sym (append_assoc rs (in_one_list xs) (in_one_list ys))
+
+-- lists that were joined, and some more
+pub both_lists : (xs : List ReceiptList) (since : ℕ) (lists : List (List Receipt)) → map (λ (c : ReceiptList). c.list) (xs ++ lists_since since lists) ≡ map (λ (c : ReceiptList). c.list) xs ++ lists
+both_lists [] since [] = refl
+both_lists [] since (rs ∷ lists) = ap (λ more. rs ∷ more) (both_lists [] since lists)
+both_lists (x ∷ xs) since lists = ap (λ more. x.list ∷ more) (both_lists xs since lists)
 
 -- none is below what was seen before
 since_all : (k : CallerData) (lists : List (List Receipt)) (before after : List CallerData) → AllByRecursion (IsNew k) before → AreAnswered lists before after → AllByRecursion (λ r. length k.log.past ≤ moment r) (in_one_list lists)
@@ -241,10 +248,10 @@ held_within : (start : State) (history : List Update) (nodes callers since : ℕ
 held_within start history nodes callers since [] h = tt
 held_within start history nodes callers since (r ∷ rs) h = (h.0.within, held_within start history nodes callers (max since (moment r)) rs h.1)
 
-within_all : (t : Terms) (past : List Update) (callers : ℕ) (lists : List (List Receipt)) → AllByRecursion (IsRecord t past callers) lists → AllByRecursion (λ r. moment r ≤ length past) (in_one_list lists)
-within_all t past callers [] h = tt
-within_all t past callers (rs ∷ lists) h =
-    all_append (λ r. moment r ≤ length past) rs (in_one_list lists) (held_within _ past t.nodes callers 0 rs h.0.0) (within_all t past callers lists h.1)
+within_all : (t : Terms) (past : List Update) (callers since : ℕ) (lists : List (List Receipt)) → AllByRecursion (IsRecord t past callers) (lists_since since lists) → AllByRecursion (λ r. moment r ≤ length past) (in_one_list lists)
+within_all t past callers since [] h = tt
+within_all t past callers since (rs ∷ lists) h =
+    all_append (λ r. moment r ≤ length past) rs (in_one_list lists) (held_within _ past t.nodes callers since rs h.0.0) (within_all t past callers since lists h.1)
 
 between_all : (low high : ℕ) (rs : List Receipt) → AllByRecursion (λ r. low ≤ moment r) rs → AllByRecursion (λ r. moment r ≤ high) rs → AllByRecursion (IsBetween low high) rs
 between_all low high [] h i = tt
@@ -261,17 +268,19 @@ after_round k gives lists after b a whole =
     let g = gathered k lists before after m new a (f.missing ∙ ap (λ missing. missing ++ map name_of before) b.alone.all) (subst (IsPrefix k.log.past) (sym f.past) ([], append-nil k.log.past)) in
     let alone : IsAlone n.log.lineage = record { first = rw (g.unmatched ∙ f.unmatched) b.alone.first; all = g.missing } in
     let terms : n.log.terms ≡ k.log.terms = g.terms ∙ f.terms in
-    let joined : n.log.receipts.joined ≡ k.log.receipts.joined ++ lists = g.joined ∙ ap (λ (r : Receipts). r.joined ++ lists) f.receipts in
+    let listed : List ReceiptList = lists_since (length k.log.past) lists in
+    let joined : n.log.receipts.joined ≡ k.log.receipts.joined ++ listed = g.joined ∙ ap (λ (r : Receipts). r.joined ++ listed) f.receipts in
     let own : n.log.receipts.own ≡ [] = g.own ∙ (ap (λ (r : Receipts). r.own) f.receipts ∙ b.own) in
     let full = whole alone in
-    let hold : AllByRecursion (IsRecord k.log.terms n.log.past (n.log.made + 1)) lists =
-    all_behind (IsRecord k.log.terms n.log.past (n.log.made + 1)) k.log.receipts.joined lists
-    (subst (λ (t : Terms). AllByRecursion (IsRecord t n.log.past (n.log.made + 1)) (k.log.receipts.joined ++ lists)) terms (subst (AllByRecursion (IsRecord n.log.terms n.log.past (n.log.made + 1))) joined full.receipts.joined)) in
+    let hold : AllByRecursion (IsRecord k.log.terms n.log.past (n.log.made + 1)) listed =
+    all_behind (IsRecord k.log.terms n.log.past (n.log.made + 1)) k.log.receipts.joined listed
+    (subst (λ (t : Terms). AllByRecursion (IsRecord t n.log.past (n.log.made + 1)) (k.log.receipts.joined ++ listed)) terms (subst (AllByRecursion (IsRecord n.log.terms n.log.past (n.log.made + 1))) joined full.receipts.joined)) in
     let fm = f.made in let gm = g.made in let sl = split_length gives k in let ll = lengths lists before after a in
-    let counts : made_count (in_one_list n.log.receipts.joined) ≡ length n.log.past = ap (λ more. made_count (more ++ in_one_list n.log.receipts.joined)) (sym own) ∙ whole_counted n.log full in
-    let counted : made_count (in_one_list k.log.receipts.joined) ≡ length k.log.past = ap (λ more. made_count (more ++ in_one_list k.log.receipts.joined)) (sym b.own) ∙ whole_counted k.log b.whole in
-    let parts : made_count (in_one_list n.log.receipts.joined) ≡ made_count (in_one_list k.log.receipts.joined) + made_count (in_one_list lists) =
-    ap (λ all. made_count (in_one_list all)) joined ∙ (ap made_count (lists_both k.log.receipts.joined lists) ∙ count_both (λ r. is_some (accepted r)) (in_one_list k.log.receipts.joined) (in_one_list lists)) in
+    let before_lists = joined_lists k.log.receipts in
+    let counts : made_count (in_one_list (joined_lists n.log.receipts)) ≡ length n.log.past = ap (λ more. made_count (more ++ in_one_list (joined_lists n.log.receipts))) (sym own) ∙ whole_counted n.log full in
+    let counted : made_count (in_one_list before_lists) ≡ length k.log.past = ap (λ more. made_count (more ++ in_one_list before_lists)) (sym b.own) ∙ whole_counted k.log b.whole in
+    let parts : made_count (in_one_list (joined_lists n.log.receipts)) ≡ made_count (in_one_list before_lists) + made_count (in_one_list lists) =
+    ap (λ all. made_count (in_one_list all)) (ap (map (λ (c : ReceiptList). c.list)) joined ∙ both_lists k.log.receipts.joined (length k.log.past) lists) ∙ (ap made_count (lists_both before_lists lists) ∙ count_both (λ r. is_some (accepted r)) (in_one_list before_lists) (in_one_list lists)) in
     record {
       table = g.table ∙ f.table;
       terms = terms;
@@ -280,6 +289,6 @@ after_round k gives lists after b a whole =
       joined = joined;
       made = omega (arith, fm, gm, sl, ll);
       hold = hold;
-      bounds = between_all (length k.log.past) (length n.log.past) (in_one_list lists) (since_all k lists before after new a) (within_all k.log.terms n.log.past (n.log.made + 1) lists hold);
+      bounds = between_all (length k.log.past) (length n.log.past) (in_one_list lists) (since_all k lists before after new a) (within_all k.log.terms n.log.past (n.log.made + 1) (length k.log.past) lists hold);
       count = omega (arith, counts, counted, parts);
     }

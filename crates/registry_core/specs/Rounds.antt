@@ -1,5 +1,5 @@
 -- Rounds: a caller splits off one for each thread, and joins them in order.
-use Rattle.std.specs.Prelude.{◌≡◌, ℕ, ◌+◌, ◌-◌, List, [], ◌∷◌, ◌++◌, length}
+use Rattle.std.specs.Prelude.{◌≡◌, ℕ, ◌+◌, ◌-◌, List, [], ◌∷◌, ◌++◌, length, map}
 use Rattle.std.specs.List.{flat_map, AllByRecursion}
 use mathlib.Core.List.{IsPrefix}
 use Rattle.reg_model.specs.Chain.{IsBetween, made_count}
@@ -9,6 +9,7 @@ use Rattle.word_rule.specs.Callers.{IsAlone, IsIdle, IsRecord, IsWhole}
 use Rattle.word_rule.specs.Logs.{after_join, after_split, split_off}
 use Rattle.word_rule.specs.Names.{new_lineage}
 use Rattle.word_rule.specs.declared.log.Log.{Log}
+use Rattle.word_rule.specs.declared.log.ReceiptList.{ReceiptList}
 use Rattle.word_rule.specs.declared.log.Receipts.{Receipts}
 use Rattle.registry_core.specs.Calls.{Answered}
 
@@ -45,9 +46,17 @@ after_joins (other ∷ others) k = after_joins others (after_one_join other k)
 abbrev pub IsWholeWhereAlone : Log → Type 0
 IsWholeWhereAlone v = IsAlone v.lineage → IsWhole v
 
+-- the receipts of each caller that was joined into a log
+abbrev pub joined_lists : Receipts → List (List Receipt)
+joined_lists r = map (λ receipts. receipts.list) r.joined
+
 -- all receipts of a log: its own, and those of each caller that was joined into it
 abbrev pub all_receipts : Receipts → List Receipt
-all_receipts r = r.own ++ flat_map (λ receipts. receipts) r.joined
+all_receipts r = r.own ++ flat_map (λ receipts. receipts) (joined_lists r)
+
+-- the receipts of callers that had seen so many updates when they were split off
+abbrev pub lists_since : ℕ → List (List Receipt) → List ReceiptList
+lists_since since lists = map (λ receipts. record { since = since; list = receipts }) lists
 
 -- A caller between two rounds: it is alone, did nothing itself, holds nothing, and has a whole log.
 pub record IsBetweenRounds (k : CallerData) : Type 0 where
@@ -63,7 +72,8 @@ pub record IsSplitOff (k : CallerData) (give : ℕ) (c : CallerData) : Type 0 wh
   pub left : c.left ≡ give
   pub terms : c.log.terms ≡ k.log.terms
   pub past : c.log.past ≡ k.log.past
-  pub receipts : c.log.receipts ≡ record { own = []; joined = []; heard = [] }
+  pub receipts : c.log.receipts
+      ≡ record { since = length k.log.past; own = []; joined = []; heard = [] }
   pub idle : IsIdle c.log
   pub made : c.log.made ≡ 0
   pub lineage : c.log.lineage ≡ new_lineage c.log.lineage.name
@@ -76,17 +86,19 @@ AreAnswered (receipts ∷ lists) (k ∷ before) (k' ∷ after) =
 AreAnswered _ _ _ = ⊥
 
 -- What a round makes of a caller that stood between two: the receipts of the threads, in order,
--- come after those of earlier rounds. They hold in the history that is seen now, and their stamps
--- and numbers are from the updates before the round to those after it, of which they accepted as
--- many as there are more.
+-- come after those of earlier rounds. They hold in the history that is seen now, and look back no
+-- further than the updates before the round. Their stamps and numbers are from those updates to the
+-- ones after the round, of which they accepted as many as there are more.
 pub record IsAfterRound (lists : List (List Receipt)) (k k' : CallerData) : Type 0 where
   pub table : k'.table ≡ k.table
   pub terms : k'.log.terms ≡ k.log.terms
   pub between : IsBetweenRounds k'
   pub begins : IsPrefix k.log.past k'.log.past
-  pub joined : k'.log.receipts.joined ≡ k.log.receipts.joined ++ lists
+  pub joined : k'.log.receipts.joined
+      ≡ k.log.receipts.joined ++ lists_since (length k.log.past) lists
   pub made : k'.log.made ≡ k.log.made + length lists
-  pub hold : AllByRecursion (IsRecord k.log.terms k'.log.past (k'.log.made + 1)) lists
+  pub hold : AllByRecursion (IsRecord k.log.terms k'.log.past (k'.log.made + 1))
+      (lists_since (length k.log.past) lists)
   pub bounds : AllByRecursion (IsBetween (length k.log.past) (length k'.log.past))
       (flat_map (λ receipts. receipts) lists)
   pub count : length k'.log.past

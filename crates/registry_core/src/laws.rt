@@ -9,6 +9,7 @@ ghost use Rattle.reg_model.specs.declared.answer.Update.{Update};
 ghost use Rattle.word_rule.specs.CallerData.{CallerData};
 ghost use Rattle.word_rule.specs.Callers.{IsIdle, IsRecord, IsWhole};
 ghost use Rattle.word_rule.specs.declared.log.Log.{Log};
+ghost use Rattle.word_rule.specs.declared.log.ReceiptList.{ReceiptList};
 ghost use Rattle.word_rule.specs.declared.log.Terms.{Terms};
 ghost use Rattle.registry_core.specs.Calls.{Answered, Receives};
 ghost use Rattle.registry_core.specs.Rounds.{AreAnswered, IsAfterRound, IsBetweenRounds};
@@ -54,7 +55,7 @@ pub fn rounds_follow()
 
 /// What holds in a history goes on to hold while it grows and callers come.
 pub fn records_stay()
-    ensures { (t : Terms) (past later : List Update) (callers more : ℕ) (receipts : List Receipt)
+    ensures { (t : Terms) (past later : List Update) (callers more : ℕ) (receipts : ReceiptList)
         → IsPrefix past later → callers ≤ more → IsRecord t past callers receipts
         → IsRecord t later more receipts }
 {

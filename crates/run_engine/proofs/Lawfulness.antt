@@ -12,7 +12,7 @@ use Rattle.event_script.specs.ScriptData.{ScriptData, SnapshotData}
 use Rattle.event_script.specs.JournalData.{JournalData}
 use Rattle.frame_parse.specs.Sections.{SectionData}
 use Rattle.event_script.specs.declared.script.Event.{Event}
-use Rattle.event_script.specs.Lawful.{IsLawfulJournal, AnswersEvent, IsUnfolded, thread_receipts, in_one, start_of, RoundsHold, AreInRounds}
+use Rattle.event_script.specs.Lawful.{IsLawfulJournal, AnswersEvent, IsUnfolded, thread_receipts, in_one, start_of, RoundsHold, AreInRounds, done_after}
 use Rattle.event_script.specs.declared.journal.Answer.{Answer}
 use Rattle.run_engine.specs.Played.{IsRightAnswer}
 use Rattle.run_engine.proofs.Lists.{AllZip-map, AllZip-weaker, AllZip-second}
@@ -27,29 +27,29 @@ record_at : (start : State) (history : List Update) (nodes callers since : ℕ) 
 record_at start history nodes callers since [] holds = tt
 record_at start history nodes callers since (r ∷ receipts) holds = (holds.0.numbered, record_at start history nodes callers (max since (moment r)) receipts holds.1)
 
-threads_at : (start : State) (history : List Update) (nodes callers : ℕ) (threads : List (List Receipt)) → All (λ receipts. AllHold start history nodes callers 0 receipts × AreInOrder 0 receipts) threads → AllByRecursion (IsAtNumber history) (of_round threads)
-threads_at start history nodes callers [] holds = tt
-threads_at start history nodes callers (receipts ∷ threads) holds =
-    let Record : List Receipt → Type 0 = λ receipts. AllHold start history nodes callers 0 receipts × AreInOrder 0 receipts in
+threads_at : (start : State) (history : List Update) (nodes callers since : ℕ) (threads : List (List Receipt)) → All (λ receipts. AllHold start history nodes callers since receipts × AreInOrder since receipts) threads → AllByRecursion (IsAtNumber history) (of_round threads)
+threads_at start history nodes callers since [] holds = tt
+threads_at start history nodes callers since (receipts ∷ threads) holds =
+    let Record : List Receipt → Type 0 = λ receipts. AllHold start history nodes callers since receipts × AreInOrder since receipts in
     all_append (IsAtNumber history) receipts (of_round threads)
-    (record_at start history nodes callers 0 receipts (All-head Record receipts threads holds).0)
-    (threads_at start history nodes callers threads (All-tail Record receipts threads holds))
+    (record_at start history nodes callers since receipts (All-head Record receipts threads holds).0)
+    (threads_at start history nodes callers since threads (All-tail Record receipts threads holds))
 
-rounds_at : (start : State) (history : List Update) (nodes callers : ℕ) (rounds : List (List (List Receipt))) → RoundsHold start history nodes callers rounds → AllByRecursion (IsAtNumber history) (in_one rounds)
-rounds_at start history nodes callers [] holds = tt
-rounds_at start history nodes callers (round ∷ rounds) holds =
+rounds_at : (start : State) (history : List Update) (nodes callers done : ℕ) (rounds : List (List (List Receipt))) → RoundsHold start history nodes callers done rounds → AllByRecursion (IsAtNumber history) (in_one rounds)
+rounds_at start history nodes callers done [] holds = tt
+rounds_at start history nodes callers done (round ∷ rounds) holds =
     all_append (IsAtNumber history) (of_round round) (in_one rounds)
-    (threads_at start history nodes (callers + length round) round holds.0)
-    (rounds_at start history nodes (callers + length round) rounds holds.1)
+    (threads_at start history nodes (callers + length round) done round holds.0)
+    (rounds_at start history nodes (callers + length round) (done_after done round) rounds holds.1)
 
 -- Where every event is answered, there is one history with each number on one receipt, each thread's record holds in it, and
 -- the rounds keep their bounds, the journal is lawful. Nothing is asked of the order in which the calls were made.
-pub records_lawful : ((history : List Update) (receipts : List Receipt) → AllByRecursion (IsAtNumber history) receipts → AreNumbered (length history) receipts → history_of receipts (length history) ≡ history) → (script : ScriptData) (journal : JournalData) (history : List Update) → AllZip (AllZip (AllZip AnswersEvent)) script.rounds journal.rounds → length history ≡ journal.updates → IsHistory (start_of script) history → AreNumbered journal.updates (in_one (thread_receipts script.images journal)) → RoundsHold (start_of script) history script.nodes 1 (thread_receipts script.images journal) → AreInRounds 0 (thread_receipts script.images journal) → All (All (All (IsUnfolded script.sections script.snapshots))) journal.rounds → IsLawfulJournal script journal
+pub records_lawful : ((history : List Update) (receipts : List Receipt) → AllByRecursion (IsAtNumber history) receipts → AreNumbered (length history) receipts → history_of receipts (length history) ≡ history) → (script : ScriptData) (journal : JournalData) (history : List Update) → AllZip (AllZip (AllZip AnswersEvent)) script.rounds journal.rounds → length history ≡ journal.updates → IsHistory (start_of script) history → AreNumbered journal.updates (in_one (thread_receipts script.images journal)) → RoundsHold (start_of script) history script.nodes 1 0 (thread_receipts script.images journal) → AreInRounds 0 (thread_receipts script.images journal) → All (All (All (IsUnfolded script.sections script.snapshots))) journal.rounds → IsLawfulJournal script journal
 records_lawful tell script journal history answered count is numbered holds rounds unfolded =
     let receipts = in_one (thread_receipts script.images journal) in
     let P : ℕ → Type 0 = λ n. AreNumbered n receipts in
     let told : history_of receipts journal.updates ≡ history =
-    ap (history_of receipts) (sym count) ∙ tell history receipts (rounds_at (start_of script) history script.nodes 1 (thread_receipts script.images journal) holds) (subst P (sym count) numbered) in
+    ap (history_of receipts) (sym count) ∙ tell history receipts (rounds_at (start_of script) history script.nodes 1 0 (thread_receipts script.images journal) holds) (subst P (sym count) numbered) in
     record {
       answered = answered;
       numbered = numbered;

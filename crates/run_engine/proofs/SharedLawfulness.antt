@@ -12,7 +12,7 @@ use Rattle.word_rule.specs.Callers.{IsWhole, start}
 use Rattle.word_rule.specs.Logs.{first_log}
 use Rattle.word_rule.specs.declared.log.Log.{Log}
 use Rattle.word_rule.specs.declared.log.Terms.{Terms}
-use Rattle.registry_core.specs.Rounds.{all_receipts}
+use Rattle.registry_core.specs.Rounds.{all_receipts, joined_lists}
 use Rattle.event_script.specs.ScriptData.{ScriptData}
 use Rattle.event_script.specs.JournalData.{JournalData}
 use Rattle.event_script.specs.Lawful.{IsLawfulJournal, in_one, receipts_of, thread_receipts}
@@ -52,7 +52,7 @@ module _ (tell : (history : List Update) (receipts : List Receipt) → AllByRecu
       let Q : List Receipt → Type 0 = λ receipts. AreNumbered (length k.log.past) receipts in
       let N : ℕ → Type 0 = λ n. AreNumbered n (in_one lists) in
       let all : all_receipts k.log.receipts ≡ in_one lists =
-      ap (λ own. own ++ flat_map (λ (receipts : List Receipt). receipts) k.log.receipts.joined) after.between.own
+      ap (λ own. own ++ flat_map (λ (receipts : List Receipt). receipts) (joined_lists k.log.receipts)) after.between.own
       ∙ (ap (λ joined. flat_map (λ (receipts : List Receipt). receipts) joined) after.joined ∙ in_one_flat lists) in
       records_lawful tell script journal k.log.past
       (events_answered script.sections script.snapshots script.rounds journal.rounds answered)
@@ -75,7 +75,7 @@ module _ (tell : (history : List Update) (receipts : List Receipt) → AllByRecu
       count
 
 -- all receipts that were joined are the journal's
-pub receipts_joined : {T U : Type 0} (images : List SpanData) (answers_of : T → List Answer) (threads_of : U → List T) (rounds : List U) (updates : ℕ) (k k' : CallerData) → k.log.receipts.joined ≡ [] → IsAfterRounds (map (λ round. map (λ thread. flat_map (receipts_of images) (answers_of thread)) (threads_of round)) rounds) k k' → k'.log.receipts.joined ≡ flat_map (λ round. round) (thread_receipts images (record { rounds = map (λ round. map answers_of (threads_of round)) rounds; updates = updates }))
+pub receipts_joined : {T U : Type 0} (images : List SpanData) (answers_of : T → List Answer) (threads_of : U → List T) (rounds : List U) (updates : ℕ) (k k' : CallerData) → joined_lists k.log.receipts ≡ [] → IsAfterRounds (map (λ round. map (λ thread. flat_map (receipts_of images) (answers_of thread)) (threads_of round)) rounds) k k' → joined_lists k'.log.receipts ≡ flat_map (λ round. round) (thread_receipts images (record { rounds = map (λ round. map answers_of (threads_of round)) rounds; updates = updates }))
 receipts_joined {T} {U} images answers_of threads_of rounds updates k k' none after =
     let lists : List (List (List Receipt)) = map (λ round. map (λ thread. flat_map (receipts_of images) (answers_of thread)) (threads_of round)) rounds in
     after.joined

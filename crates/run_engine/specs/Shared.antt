@@ -8,7 +8,7 @@ use Rattle.reg_model.specs.declared.answer.Place.{Place}
 use Rattle.reg_model.specs.declared.answer.Receipt.{Receipt}
 use Rattle.registry_core.specs.Calls.{Receives}
 use Rattle.registry_core.specs.Queries.{Queries}
-use Rattle.registry_core.specs.Rounds.{IsBetweenRounds}
+use Rattle.registry_core.specs.Rounds.{IsBetweenRounds, joined_lists}
 use Rattle.word_rule.specs.CallerData.{CallerData, WordsData}
 use Rattle.word_rule.specs.Callers.{IsIdle, start}
 use Rattle.word_rule.specs.declared.log.Terms.{Terms}
@@ -60,15 +60,16 @@ AreManned bound registry threads callers =
 
 -- What rounds make of a caller that stood between two: the receipts of their threads come after
 -- those that were joined before, in order of round and thread. They hold in the history that is
--- seen now, and each round keeps its bounds.
+-- seen now, those of a round since the updates before it, and each round keeps its bounds.
 pub record IsAfterRounds (rounds : List (List (List Receipt))) (k k' : CallerData) : Type 0 where
   pub table : k'.table ≡ k.table
   pub terms : k'.log.terms ≡ k.log.terms
   pub between : IsBetweenRounds k'
-  pub joined : k'.log.receipts.joined
-      ≡ k.log.receipts.joined ++ flat_map (λ round. round) rounds
+  pub joined : joined_lists k'.log.receipts
+      ≡ joined_lists k.log.receipts ++ flat_map (λ round. round) rounds
   pub made : k'.log.made ≡ k.log.made + length (flat_map (λ round. round) rounds)
-  pub hold : RoundsHold (start k.log.terms) k'.log.past k.log.terms.nodes (k.log.made + 1) rounds
+  pub hold : RoundsHold (start k.log.terms) k'.log.past k.log.terms.nodes (k.log.made + 1)
+      (length k.log.past) rounds
   pub bounds : AreInRounds (length k.log.past) rounds
   pub count : length k'.log.past ≡ length k.log.past + made_count (in_one rounds)
 

@@ -2,7 +2,7 @@
 
 ghost use Rattle.std.specs.Prelude.{◌≡◌, IfOk, OnOk, flat_map};
 ghost use Rattle.event_script.specs.Lawful.{IsLawfulJournal, thread_receipts};
-ghost use Rattle.registry_core.specs.Rounds.{IsBetweenRounds};
+ghost use Rattle.registry_core.specs.Rounds.{IsBetweenRounds, joined_lists};
 ghost use Rattle.run_engine.specs.Played.{IsPlayed};
 ghost use Rattle.run_engine.specs.Shared.{script_terms};
 ghost use Rattle.word_rule.specs.Logs.{first_log};
@@ -42,7 +42,7 @@ pub fn run_script<R: Threads + Wait + Sync, G: Gate + Sync>(
     ensures lawful { IfOk result (λ journal. IsLawfulJournal script.now journal) }
     ensures played { IfOk result (λ journal. IsPlayed journal.rounds) }
     ensures between { OnOk result (IsBetweenRounds me.new) }
-    ensures receipts { IfOk result (λ journal. me.new.log.receipts.joined
+    ensures receipts { IfOk result (λ journal. joined_lists me.new.log.receipts
         ≡ flat_map (λ round. round) (thread_receipts script.now.images journal)) }
 {
     // The laws that this rests on; they take no step.

@@ -25,7 +25,7 @@ use Rattle.word_rule.specs.declared.log.LoaderHolding.{LoaderHolding}
 use Rattle.word_rule.specs.declared.log.Log.{Log}
 use Rattle.word_rule.specs.Places.{lower, upper}
 use Rattle.word_rule.specs.Memory.{Memory}
-use Rattle.word_rule.specs.Logs.{is_spent, weight, turns}
+use Rattle.word_rule.specs.Logs.{is_spent, weight, turns, own_list}
 use Rattle.word_rule.specs.Steps.{IsDone, after_update}
 use Rattle.word_rule.specs.Callers.{total, CallersHold, LogHolds, ReceiptsHold, AtLoader, LoaderLock, IsOfTerms, dones_in, number_of, publications, start}
 use Rattle.word_rule.specs.Nodes.{Shadow}
@@ -91,8 +91,8 @@ observations_received t m history callers shadow v w more some_more own sights l
     let len : length w.receipts.own ≡ length v.receipts.own + length more = ap length own ∙ length-append v.receipts.own more in record {
       sights = subst (λ k. AllByRecursion (SightHolds t m.nodes history shadow) k.nodes) (sym sights) r.sights;
       copies = subst (λ k. IfSome k.copies (CopySightHolds t m.clock m.copies)) (sym sights) r.copies;
-      full = subst (AllByRecursion (WasFull t history callers w.receipts.own)) (sym loads)
-          (all_map (λ l. (l.turns ≤ turns v.trace) × (l.receipts ≤ length v.receipts.own)) (WasFull t history callers w.receipts.own)
+      full = subst (AllByRecursion (WasFull t history callers (own_list w.receipts))) (sym loads)
+          (all_map (λ l. (l.turns ≤ turns v.trace) × (l.receipts ≤ length v.receipts.own)) (WasFull t history callers (own_list w.receipts))
           (λ l e. record { count = λ same. absurd (let a = e.1 in omega (arith, a, same, len, some_more)); head = λ same _ _ _. absurd (let a = e.1 in omega (arith, a, same, len, some_more)) }) v.trace.loads r.earlier);
       earlier = subst (AllByRecursion (λ l. (l.turns ≤ turns w.trace) × (l.receipts ≤ length w.receipts.own))) (sym loads)
           (all_map (λ l. (l.turns ≤ turns v.trace) × (l.receipts ≤ length v.receipts.own)) (λ l. (l.turns ≤ turns w.trace) × (l.receipts ≤ length w.receipts.own)) (λ l e. let a = e.0 in let b = e.1 in (omega (arith, a, turn), omega (arith, b, len))) v.trace.loads r.earlier);
@@ -132,11 +132,12 @@ module _ (t : Terms) (m : Memory) (views : List Log) (history : List Update) (c 
     receipts : (callers : ℕ) → ReceiptsHold t (history ++ u ∷ []) callers w.receipts
     receipts callers =
         let log = c.each id v at in
-        let own = record_later t v.past (history ++ u ∷ []) _ callers prefix v.receipts.own log.receipts.own in
-        let number = told.number in let before = seen in record {
+        let own = record_later t v.past (history ++ u ∷ []) _ callers prefix (own_list v.receipts) log.receipts.own in
+        let number = told.number in let before = seen in let low = log.receipts.since in record {
+          since = (let l = len in omega (arith, low, before, l));
           own = (
-            all_hold_snoc t (history ++ u ∷ []) callers 0 v.receipts.own answer own.0 (holds_answer callers (last_moment 0 v.receipts.own)),
-            in_order_next t v.past _ v.receipts.own answer u log.receipts.own.0 log.receipts.own.1 told.accepts (omega (arith, number, before)),
+            all_hold_snoc t (history ++ u ∷ []) callers v.receipts.since v.receipts.own answer own.0 (holds_answer callers (last_moment v.receipts.since v.receipts.own)),
+            in_order_next t v.past _ v.receipts.since v.receipts.own answer u low log.receipts.own.0 log.receipts.own.1 told.accepts (omega (arith, number, before)),
           );
           joined = records_later t v.past (history ++ u ∷ []) _ callers prefix v.receipts.joined log.receipts.joined;
           heard = prefix_both v.receipts.heard v.past (history ++ u ∷ []) log.receipts.heard prefix;

@@ -14,6 +14,7 @@ use Rattle.reg_model.specs.Receipt.{moment, accepted, AllHold}
 use Rattle.reg_model.specs.Numbers.{has_number}
 use Rattle.reg_model.specs.declared.answer.Update.{Update}
 use Rattle.reg_model.specs.declared.answer.Receipt.{Receipt}
+use Rattle.word_rule.specs.declared.log.ReceiptList.{ReceiptList}
 use Rattle.word_rule.specs.declared.log.Log.{Log}
 use Rattle.word_rule.specs.declared.log.Terms.{Terms}
 use Rattle.tree_shape.specs.Numbers.{once}
@@ -37,10 +38,10 @@ dones_within t past callers since n (x ∷ rs) above h =
     done_other None m n ne = refl
     done_other (Some u) m n ne = rw (ne_eqb m n ne) refl
 
-dones_all_within : (t : Terms) (past : List Update) (callers n : ℕ) (lists : List (List Receipt)) → length past < n → AllByRecursion (IsRecord t past callers) lists → dones_of_all n lists ≡ 0
+dones_all_within : (t : Terms) (past : List Update) (callers n : ℕ) (lists : List ReceiptList) → length past < n → AllByRecursion (IsRecord t past callers) lists → dones_of_all n lists ≡ 0
 dones_all_within t past callers n [] above h = refl
 dones_all_within t past callers n (rs ∷ lists) above h =
-    let c = sum_by-cons (λ receipts. count_by (has_number n) receipts) rs lists in let a = dones_within t past callers 0 n rs above h.0.0 in let b = dones_all_within t past callers n lists above h.1 in omega (arith, c, a, b)
+    let c = sum_by-cons (λ (receipts : ReceiptList). count_by (has_number n) receipts.list) rs lists in let a = dones_within t past callers rs.since n rs.list above h.0.0 in let b = dones_all_within t past callers n lists above h.1 in omega (arith, c, a, b)
 
 -- a history begins with a history
 history_front : (s : State) (front rest : List Update) → IsHistory s (front ++ rest) → IsHistory s front
@@ -55,7 +56,7 @@ module _ (t : Terms) (m : Memory) (views : List Log) (history : List Update) (r 
   spent_others = others_spent views (λ j u e. (r.each j u e).lineage) r.lineages id v at alone
 
   dones_all : (n : ℕ) → total (dones_in n) views ≡ dones_in n v
-  dones_all n = all_of_total (dones_in n) views id v at (λ j u far there. let s = r.lineages.spent j u there (spent_others j u far there) in (λ i. dones n record { own = s.0 i; joined = s.1 i; heard = u.receipts.heard }))
+  dones_all n = all_of_total (dones_in n) views id v at (λ j u far there. let s = r.lineages.spent j u there (spent_others j u far there) in (λ i. dones n record { since = u.receipts.since; own = s.0 i; joined = s.1 i; heard = u.receipts.heard }))
 
   made_all : total (λ u. u.made) views ≡ v.made
   made_all = all_of_total (λ u. u.made) views id v at (λ j u far there. (r.lineages.spent j u there (spent_others j u far there)).2)
@@ -75,7 +76,7 @@ module _ (t : Terms) (m : Memory) (views : List Log) (history : List Update) (r 
       go (no h) =
           let above : length v.past < length history = lt_of_not-le h in
           let n : ℕ = length history in
-          let a = dones_within t v.past (v.made + 1) 0 n v.receipts.own above own_log.receipts.own.0 in
+          let a = dones_within t v.past (v.made + 1) v.receipts.since n v.receipts.own above own_log.receipts.own.0 in
           let b = dones_all_within t v.past (v.made + 1) n v.receipts.joined above own_log.receipts.joined in
           let c = dones_all n in let d = r.numbers n in let e = last_number n (omega (arith, above)) in absurd (omega (arith, a, b, c, d, e))
 

@@ -10,12 +10,13 @@ use Rattle.reg_model.specs.Numbers.{has_number}
 use Rattle.reg_model.specs.declared.answer.Update.{Update}
 use Rattle.reg_model.specs.declared.answer.Receipt.{Receipt}
 use Rattle.tree_shape.specs.Numbers.{once}
+use Rattle.word_rule.specs.declared.log.ReceiptList.{ReceiptList}
 use Rattle.word_rule.specs.declared.log.Role.TheVariants as role
 use Rattle.word_rule.specs.declared.log.LoadEvent.{LoadEvent}
 use Rattle.word_rule.specs.declared.log.Terms.{Terms}
 use Rattle.word_rule.specs.declared.log.Log.{Log}
 use Rattle.word_rule.specs.Memory.{Memory, memory_of}
-use Rattle.word_rule.specs.Logs.{is_spent, weight, turns}
+use Rattle.word_rule.specs.Logs.{is_spent, weight, turns, own_list}
 use Rattle.word_rule.specs.Sights.{with_receipts}
 use Rattle.word_rule.specs.Callers.{total, CallersHold, LogHolds, IsRecord, AtLoader, LoaderLock, dones_in}
 use Rattle.word_rule.specs.Observations.{WasFull, ObservationsHold, last_moment}
@@ -29,38 +30,38 @@ use Rattle.word_rule.proofs.Frames.{table_step}
 use Rattle.word_rule.proofs.Joins.{record_later}
 
 -- what is asked is answered by one such receipt, which comes after a log's own, or by none
-abbrev pub Told : Terms → List Update → List Receipt → List Receipt → Type 0
-Told t history own rs = (rs ≡ []) ⊎ ((r : Receipt) × ((rs ≡ r ∷ []) × HoldsNow t history (last_moment 0 own) r))
+abbrev pub Told : Terms → List Update → ReceiptList → List Receipt → Type 0
+Told t history own rs = (rs ≡ []) ⊎ ((r : Receipt) × ((rs ≡ r ∷ []) × HoldsNow t history (last_moment own.since own.list) r))
 
 -- they go on a record
-pub told_record : (t : Terms) (past history : List Update) (callers : ℕ) (own rs : List Receipt) → IsPrefix past history → Told t history own rs → IsRecord t past callers own → IsRecord t history callers (own ++ rs)
-told_record t past history callers own rs longer told h = ⊎_elim
-    (λ (none_more : rs ≡ []). subst (IsRecord t history callers) (sym (ap (λ xs. own ++ xs) none_more ∙ append-nil own)) (record_later t past history callers callers longer own h))
-    (λ (one : (x : Receipt) × ((rs ≡ x ∷ []) × HoldsNow t history (last_moment 0 own) x)). subst (λ xs. IsRecord t history callers (own ++ xs)) (sym one.1.0) (answer_record t past history callers own one.0 one.1.1 longer h))
+pub told_record : (t : Terms) (past history : List Update) (callers : ℕ) (own : ReceiptList) (rs : List Receipt) → IsPrefix past history → own.since ≤ length history → Told t history own rs → IsRecord t past callers own → IsRecord t history callers (record own { list = own.list ++ rs })
+told_record t past history callers own rs longer since told h = ⊎_elim
+    (λ (none_more : rs ≡ []). subst (λ xs. IsRecord t history callers (record own { list = xs })) (sym (ap (λ xs. own.list ++ xs) none_more ∙ append-nil own.list)) (record_later t past history callers callers longer own h))
+    (λ (one : (x : Receipt) × ((rs ≡ x ∷ []) × HoldsNow t history (last_moment own.since own.list) x)). subst (λ xs. IsRecord t history callers (record own { list = own.list ++ xs })) (sym one.1.0) (answer_record t past history callers own one.0 one.1.1 longer since h))
     told
 
 -- no number is among them
-pub told_numbers : (t : Terms) (history : List Update) (own rs : List Receipt) (n : ℕ) → Told t history own rs → count_by (has_number n) (own ++ rs) ≡ count_by (has_number n) own
+pub told_numbers : (t : Terms) (history : List Update) (own : ReceiptList) (rs : List Receipt) (n : ℕ) → Told t history own rs → count_by (has_number n) (own.list ++ rs) ≡ count_by (has_number n) own.list
 told_numbers t history own rs n told = ⊎_elim
-    (λ (none_more : rs ≡ []). ap (count_by (has_number n)) (ap (λ xs. own ++ xs) none_more ∙ append-nil own))
-    (λ (one : (x : Receipt) × ((rs ≡ x ∷ []) × HoldsNow t history (last_moment 0 own) x)).
+    (λ (none_more : rs ≡ []). ap (count_by (has_number n)) (ap (λ xs. own.list ++ xs) none_more ∙ append-nil own.list))
+    (λ (one : (x : Receipt) × ((rs ≡ x ∷ []) × HoldsNow t history (last_moment own.since own.list) x)).
     let none : has_number n one.0 ≡ false = ap (λ u. is_some u && (moment one.0 == n)) one.1.1.accepts in
-    ap (λ xs. count_by (has_number n) (own ++ xs)) one.1.0 ∙ (sum_by_push (λ x. once (has_number n x)) own one.0 ∙ (let z : once (has_number n one.0) ≡ 0 = ap once none in omega (arith, z))))
+    ap (λ xs. count_by (has_number n) (own.list ++ xs)) one.1.0 ∙ (sum_by_push (λ x. once (has_number n x)) own.list one.0 ∙ (let z : once (has_number n one.0) ≡ 0 = ap once none in omega (arith, z))))
     told
 
 -- they end what a load told of fullness
-ended : (t : Terms) (history : List Update) (callers : ℕ) (own rs : List Receipt) (l : LoadEvent) → l.receipts ≤ length own → WasFull t history callers own l → WasFull t history callers (own ++ rs) l
-ended t history callers own [] l few h = subst (λ k. WasFull t history callers k l) (sym (append-nil own)) h
-ended t history callers own (x ∷ rs) l few h = let len : length (own ++ x ∷ rs) ≡ length own + length (x ∷ rs) = length-append own (x ∷ rs) in
+ended : (t : Terms) (history : List Update) (callers : ℕ) (own : ReceiptList) (rs : List Receipt) (l : LoadEvent) → l.receipts ≤ length own.list → WasFull t history callers own l → WasFull t history callers (record own { list = own.list ++ rs }) l
+ended t history callers own [] l few h = subst (λ k. WasFull t history callers (record own { list = k }) l) (sym (append-nil own.list)) h
+ended t history callers own (x ∷ rs) l few h = let len : length (own.list ++ x ∷ rs) ≡ length own.list + length (x ∷ rs) = length-append own.list (x ∷ rs) in
     record { count = λ same. absurd (omega (arith, same, len, few)); head = λ same _ _ _. absurd (omega (arith, same, len, few)) }
 
-pub all_ended : (t : Terms) (history : List Update) (callers most : ℕ) (own rs : List Receipt) (ls : List LoadEvent) → AllByRecursion (λ l. (l.turns ≤ most) × (l.receipts ≤ length own)) ls → AllByRecursion (WasFull t history callers own) ls
-    → AllByRecursion (WasFull t history callers (own ++ rs)) ls
+pub all_ended : (t : Terms) (history : List Update) (callers most : ℕ) (own : ReceiptList) (rs : List Receipt) (ls : List LoadEvent) → AllByRecursion (λ l. (l.turns ≤ most) × (l.receipts ≤ length own.list)) ls → AllByRecursion (WasFull t history callers own) ls
+    → AllByRecursion (WasFull t history callers (record own { list = own.list ++ rs })) ls
 all_ended t history callers most own rs [] e h = tt
 all_ended t history callers most own rs (l ∷ ls) e h = (ended t history callers own rs l e.0.1 h.0, all_ended t history callers most own rs ls e.1 h.1)
 
 -- A log that gets such receipts, and does nothing else.
-module _ (t : Terms) (words : List ℕ) (views : List Log) (r : TableInvariant t words views) (id : ℕ) (v : Log) (at : get_elem? views id ≡ some v) (caller : v.role ≡ role.Caller) (rs : List Receipt) (told : Told t v.past v.receipts.own rs) where
+module _ (t : Terms) (words : List ℕ) (views : List Log) (r : TableInvariant t words views) (id : ℕ) (v : Log) (at : get_elem? views id ≡ some v) (caller : v.role ≡ role.Caller) (rs : List Receipt) (told : Told t v.past (own_list v.receipts) rs) where
   abbrev m : Memory
   m = memory_of t words
 
@@ -81,7 +82,7 @@ module _ (t : Terms) (words : List ℕ) (views : List Log) (r : TableInvariant t
       (let mine = subst (λ k. LogHolds t r.memory.history k v) (sym is_c) (r.memory.callers.each id v at) in record {
         terms = mine.terms;
         begins = mine.begins;
-        receipts = record { own = told_record t v.past v.past c v.receipts.own rs own_past told mine.receipts.own; joined = mine.receipts.joined; heard = mine.receipts.heard };
+        receipts = record { since = mine.receipts.since; own = told_record t v.past v.past c (own_list v.receipts) rs own_past mine.receipts.since told mine.receipts.own; joined = mine.receipts.joined; heard = mine.receipts.heard };
         lineage = mine.lineage;
         idle = busy v w caller;
       })
@@ -97,7 +98,7 @@ module _ (t : Terms) (words : List ℕ) (views : List Log) (r : TableInvariant t
         terms = c.terms;
         members = c.members;
         room = (let e = total_same (λ u. u.budget.allowance) views id v w at refl in let o = c.room in omega (arith, e, o));
-        numbers = λ n. total_same (dones_in n) views id v w at (let e = told_numbers t v.past v.receipts.own rs n told in omega (arith, e)) ∙ c.numbers n;
+        numbers = λ n. total_same (dones_in n) views id v w at (let e = told_numbers t v.past (own_list v.receipts) rs n told in omega (arith, e)) ∙ c.numbers n;
         each = each (total (λ u. u.made) (set views id w) + 1) (ap (λ k. k + 1) made_same);
         weights = (let e = total_same (λ u. weight u.role) views id v w at refl in let b = made_same in let o = c.weights in omega (arith, e, b, o));
         loader = lock_stays views m.loader m.loader id v w c.holder at refl (λ e. subst (LoaderLock (memory_of t words).loader views) e c.loader) c.loader;
@@ -112,7 +113,7 @@ module _ (t : Terms) (words : List ℕ) (views : List Log) (r : TableInvariant t
       let len : length (v.receipts.own ++ rs) ≡ length v.receipts.own + length rs = length-append v.receipts.own rs in record {
         sights = o.sights;
         copies = o.copies;
-        full = all_ended t r.memory.history (total (λ u. u.made) views + 1) (turns v.trace) v.receipts.own rs v.trace.loads o.earlier o.full;
+        full = all_ended t r.memory.history (total (λ u. u.made) views + 1) (turns v.trace) (own_list v.receipts) rs v.trace.loads o.earlier o.full;
         earlier = all_map (λ l. (l.turns ≤ turns v.trace) × (l.receipts ≤ length v.receipts.own)) (λ l. (l.turns ≤ turns v.trace) × (l.receipts ≤ length (v.receipts.own ++ rs))) (λ l e. let b = e.1 in (e.0, omega (arith, b, len))) v.trace.loads o.earlier;
       }
 

@@ -16,6 +16,7 @@ use Rattle.reg_model.specs.Query.{member_at}
 use Rattle.tree_shape.specs.NodeData.{IsLeaf, IsInFences, LiesInFences, entries_of}
 use Rattle.tree_shape.specs.Trees.{Contents, HasEntry}
 use Rattle.tree_shape.specs.Lawful.{IsTree}
+use Rattle.word_rule.specs.declared.log.ReceiptList.{ReceiptList}
 use Rattle.word_rule.specs.declared.log.Role.TheVariants as role
 use Rattle.word_rule.specs.declared.log.Ask.{Ask}
 use Rattle.word_rule.specs.declared.log.Ask.TheVariants as ask
@@ -26,7 +27,7 @@ use Rattle.word_rule.specs.declared.log.Terms.{Terms}
 use Rattle.word_rule.specs.declared.log.Log.{Log}
 use Rattle.word_rule.specs.Places.{lower, upper}
 use Rattle.word_rule.specs.Memory.{Memory, memory_of}
-use Rattle.word_rule.specs.Logs.{is_spent, weight, turns, load_of}
+use Rattle.word_rule.specs.Logs.{is_spent, weight, turns, load_of, own_list}
 use Rattle.word_rule.specs.Sights.{after_clock, copies_after_clock, query_receipt, walk_receipts, with_clock}
 use Rattle.word_rule.specs.Callers.{total, CallersHold, LogHolds, IsMemberOf, AtLoader, LoaderLock, dones_in, start}
 use Rattle.word_rule.specs.Copies.{ListsAll, ListsMembers, CopySightHolds}
@@ -51,6 +52,7 @@ use Rattle.word_rule.proofs.NodesFrame.{nodes_same}
 use Rattle.word_rule.proofs.Frames.{Sit, table_step, still_after_load}
 use Rattle.word_rule.proofs.Listings.{ascending_disjoint, contains_find, disjoint_fit, lists_same, loaded_members, loaded_spans, none_registered, registered_members, start_lawful, state_fixed}
 use Rattle.word_rule.proofs.Joins.{prefix_both, records_later}
+use Rattle.word_rule.proofs.ObservationsFrame.{longer_length}
 use Rattle.word_rule.proofs.Alone.{seen_all}
 
 -- a live leaf's entries are those of the tree inside its fences: a law of tree_shape
@@ -103,23 +105,23 @@ module _ (law : LeafLaw) (t : Terms) (slots id : ℕ) (me : Seated) (caller : me
     low = r.memory.callers.updates
 
     -- the receipt of a walk
-    walked : (pc : ℕ) (o : Option CopySight) → Told t r.memory.history me.0.receipts.own (walk_receipts (record me.0 { past = r.memory.history }) (get_or s.words 0 0) pc o)
+    walked : (pc : ℕ) (o : Option CopySight) → Told t r.memory.history (own_list me.0.receipts) (walk_receipts (record me.0 { past = r.memory.history }) (get_or s.words 0 0) pc o)
     walked pc None = inl refl
     walked pc (Some g) = go (g.guard == upper (get_or s.words 0 0))
       where
-        go : (b : Bool) → Told t r.memory.history me.0.receipts.own (if b then (query_receipt half.Loaded (record me.0 { past = r.memory.history }) pc (lower (get_or s.words 0 0)) ∷ []) else [])
+        go : (b : Bool) → Told t r.memory.history (own_list me.0.receipts) (if b then (query_receipt half.Loaded (record me.0 { past = r.memory.history }) pc (lower (get_or s.words 0 0)) ∷ []) else [])
         go true = inr (query_at t r.memory.history half.Loaded pc (length r.memory.history), ((λ i. query_at (terms i) r.memory.history half.Loaded pc (low i) ∷ []), query_answers t r.memory.history half.Loaded pc _))
         go false = inl refl
 
     -- the receipt of a refusal by what the active copy lists
-    refused : (u : Update) → IsSomeAnd me.0.loader (MayRefuse t u) → (x : Receipt) × (IsRefusalOf u (state_after (start me.0.terms) r.memory.history) (lower (get_or s.words 0 0)) x × HoldsNow t r.memory.history (last_moment 0 me.0.receipts.own) x)
+    refused : (u : Update) → IsSomeAnd me.0.loader (MayRefuse t u) → (x : Receipt) × (IsRefusalOf u (state_after (start me.0.terms) r.memory.history) (lower (get_or s.words 0 0)) x × HoldsNow t r.memory.history (last_moment me.0.receipts.since me.0.receipts.own) x)
     refused u may =
         let h = some_with me.0.loader (MayRefuse t u) may in
         let mine = loader_held m r.memory.callers.holder id me.0.loader h.0 h.1.0 (r.memory.callers.at_loader id me.0 at) in
         let copy : h.0.active ≡ m.copies (upper (get_or s.words 0 0) % 2) = mine.1.active in
         let listed : ListsAll (m.copies (upper (get_or s.words 0 0) % 2)) (state_after (start t) r.memory.history).loaded = r.memory.active in
         let members_are : h.1.1.0 ≡ listed.members = lists_same (m.copies (upper (get_or s.words 0 0) % 2)) h.1.1.0 listed.members (subst (λ ws. ListsMembers ws h.1.1.0) copy h.1.1.1.0) listed.lists in
-        let told = refusal t r.memory.history (last_moment 0 me.0.receipts.own) r.memory.callers.terms r.memory.callers.lawful r.memory.callers.members listed.members listed.lists.ascending listed.same u (subst (Refuses t u) members_are h.1.1.1.1) in
+        let told = refusal t r.memory.history (last_moment me.0.receipts.since me.0.receipts.own) r.memory.callers.terms r.memory.callers.lawful r.memory.callers.members listed.members listed.lists.ascending listed.same u (subst (Refuses t u) members_are h.1.1.1.1) in
         (told.0, (subst (λ k. IsRefusalOf u (state_after (start k) r.memory.history) (lower (get_or s.words 0 0)) told.0) (sym terms) (subst (λ k. IsRefusalOf u (state_after (start t) r.memory.history) k told.0) (sym low) told.1.0), told.1.1))
 
     -- a live leaf's entries are the members of now inside its fences
@@ -149,14 +151,14 @@ module _ (law : LeafLaw) (t : Terms) (slots id : ℕ) (me : Seated) (caller : me
       full = (r.memory.observations id me.0 at).full;
     }
 
-    appended : (x : Receipt) → IsRight (state_after (start me.0.terms) r.memory.history) x → HoldsNow t r.memory.history (last_moment 0 me.0.receipts.own) x → (y : Receipt) → x ≡ y → Appends y me.0 (after_clock (get_or s.words 0 0) r.memory.history (x ∷ []) me.0)
+    appended : (x : Receipt) → IsRight (state_after (start me.0.terms) r.memory.history) x → HoldsNow t r.memory.history (last_moment me.0.receipts.since me.0.receipts.own) x → (y : Receipt) → x ≡ y → Appends y me.0 (after_clock (get_or s.words 0 0) r.memory.history (x ∷ []) me.0)
     appended x right now y same = record {
       own = ap (λ z. me.0.receipts.own ++ z ∷ []) same;
       right = subst (IsRight (state_after (start me.0.terms) r.memory.history)) same right;
-      filled = subst (HadTenMembers (start me.0.terms) r.memory.history (last_moment 0 me.0.receipts.own)) same (subst (λ k. HadTenMembers (start k) r.memory.history (last_moment 0 me.0.receipts.own) x) (sym terms) (now.holds 0).filled);
+      filled = subst (HadTenMembers (start me.0.terms) r.memory.history (last_moment me.0.receipts.since me.0.receipts.own)) same (subst (λ k. HadTenMembers (start k) r.memory.history (last_moment me.0.receipts.since me.0.receipts.own) x) (sym terms) (now.holds 0).filled);
     }
 
-    pub asked : (b : Ask) → MayAsk t b me.0 → (rs : List Receipt) × (AreAsked b (get_or s.words 0 0) me.0.sights.copies (record me.0 { past = r.memory.history }) rs × (Told t r.memory.history me.0.receipts.own rs × AppendsRefusal b (get_or s.words 0 0) me.0 (after_clock (get_or s.words 0 0) r.memory.history rs me.0)))
+    pub asked : (b : Ask) → MayAsk t b me.0 → (rs : List Receipt) × (AreAsked b (get_or s.words 0 0) me.0.sights.copies (record me.0 { past = r.memory.history }) rs × (Told t r.memory.history (own_list me.0.receipts) rs × AppendsRefusal b (get_or s.words 0 0) me.0 (after_clock (get_or s.words 0 0) r.memory.history rs me.0)))
     asked ask.Nothing q = ([], (refl, (inl refl, tt)))
     asked (ask.Registered pc) q = ([], (refl, (inl refl, tt)))
     asked (ask.Loaded pc) q = (_, (refl, (walked pc me.0.sights.copies, tt)))
@@ -179,8 +181,11 @@ module _ (law : LeafLaw) (t : Terms) (slots id : ℕ) (me : Seated) (caller : me
     abbrev w : Log
     w = after_clock (get_or s.words 0 0) r.memory.history (asked a may).0 me.0
 
-    told : Told t r.memory.history me.0.receipts.own (asked a may).0
+    told : Told t r.memory.history (own_list me.0.receipts) (asked a may).0
     told = (asked a may).1.1.0
+
+    since : me.0.receipts.since ≤ length r.memory.history
+    since = let low = log.receipts.since in let seen = longer_length me.0.past r.memory.history log.begins in omega (arith, low, seen)
 
     made_same : total (λ v. v.made) (set s.views id w) ≡ total (λ v. v.made) s.views
     made_same = total_same (λ v. v.made) s.views id me.0 w at refl
@@ -190,7 +195,7 @@ module _ (law : LeafLaw) (t : Terms) (slots id : ℕ) (me : Seated) (caller : me
         (let mine = subst (λ k. LogHolds t r.memory.history k me.0) (sym is_c) log in record {
           terms = λ _. terms;
           begins = ([], append-nil r.memory.history);
-          receipts = record { own = told_record t me.0.past r.memory.history c me.0.receipts.own receipts log.begins told mine.receipts.own; joined = records_later t me.0.past r.memory.history c c mine.begins me.0.receipts.joined mine.receipts.joined; heard = prefix_both me.0.receipts.heard me.0.past r.memory.history mine.receipts.heard mine.begins };
+          receipts = record { since = since; own = told_record t me.0.past r.memory.history c (own_list me.0.receipts) receipts log.begins since told mine.receipts.own; joined = records_later t me.0.past r.memory.history c c mine.begins me.0.receipts.joined mine.receipts.joined; heard = prefix_both me.0.receipts.heard me.0.past r.memory.history mine.receipts.heard mine.begins };
           lineage = mine.lineage;
           idle = busy me.0 w caller;
         })
@@ -206,7 +211,7 @@ module _ (law : LeafLaw) (t : Terms) (slots id : ℕ) (me : Seated) (caller : me
           terms = c.terms;
           members = c.members;
           room = (let e = total_same (λ v. v.budget.allowance) s.views id me.0 w at refl in let o = c.room in omega (arith, e, o));
-          numbers = λ n. total_same (dones_in n) s.views id me.0 w at (let e = told_numbers t r.memory.history me.0.receipts.own receipts n told in omega (arith, e)) ∙ c.numbers n;
+          numbers = λ n. total_same (dones_in n) s.views id me.0 w at (let e = told_numbers t r.memory.history (own_list me.0.receipts) receipts n told in omega (arith, e)) ∙ c.numbers n;
           each = each (total (λ v. v.made) (set s.views id w) + 1) (ap (λ k. k + 1) made_same);
           weights = (let e = total_same (λ v. weight v.role) s.views id me.0 w at refl in let b = made_same in let o = c.weights in omega (arith, e, b, o));
           loader = lock_stays s.views m.loader m.loader id me.0 w c.holder at refl (λ e. subst (LoaderLock (memory_of t s.words).loader s.views) e c.loader) c.loader;
@@ -247,7 +252,7 @@ module _ (law : LeafLaw) (t : Terms) (slots id : ℕ) (me : Seated) (caller : me
         go true = h
         go false = fresh
 
-    not_full : (rs : List Receipt) → WasFull t r.memory.history (total (λ v. v.made) s.views + 1) rs event
+    not_full : (rs : ReceiptList) → WasFull t r.memory.history (total (λ v. v.made) s.views + 1) rs event
     not_full rs = record {
       count = λ _. all_of (λ h. IsFullCount event h → HadMembers t r.memory.history rs 10) (λ h is_full. absurd (let e = is_full.0 in omega (arith, e))) me.0.holdings.held;
       head = λ _ is _ _. absurd (omega (arith, is));
@@ -259,7 +264,7 @@ module _ (law : LeafLaw) (t : Terms) (slots id : ℕ) (me : Seated) (caller : me
         let len : length (me.0.receipts.own ++ receipts) ≡ length me.0.receipts.own + length receipts = length-append me.0.receipts.own receipts in record {
           sights = all_clocked me.0.sights.nodes o.sights;
           copies = copies me.0.sights.copies o.copies;
-          full = all_append (WasFull t r.memory.history (total (λ v. v.made) s.views + 1) (me.0.receipts.own ++ receipts)) me.0.trace.loads (event ∷ []) (all_ended t r.memory.history (total (λ v. v.made) s.views + 1) (turns me.0.trace) me.0.receipts.own receipts me.0.trace.loads o.earlier o.full) (not_full (me.0.receipts.own ++ receipts), tt);
+          full = all_append (WasFull t r.memory.history (total (λ v. v.made) s.views + 1) (own_list w.receipts)) me.0.trace.loads (event ∷ []) (all_ended t r.memory.history (total (λ v. v.made) s.views + 1) (turns me.0.trace) (own_list me.0.receipts) receipts me.0.trace.loads o.earlier o.full) (not_full (own_list w.receipts), tt);
           earlier = all_append (λ l. (l.turns ≤ turns me.0.trace) × (l.receipts ≤ length (me.0.receipts.own ++ receipts))) me.0.trace.loads (event ∷ [])
               (all_map (λ l. (l.turns ≤ turns me.0.trace) × (l.receipts ≤ length me.0.receipts.own)) (λ l. (l.turns ≤ turns me.0.trace) × (l.receipts ≤ length (me.0.receipts.own ++ receipts))) (λ l e. let b = e.1 in (e.0, omega (arith, b, len))) me.0.trace.loads o.earlier)
               ((omega arith, omega (arith, len)), tt);

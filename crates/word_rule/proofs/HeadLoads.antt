@@ -12,7 +12,7 @@ use Rattle.word_rule.specs.declared.log.Terms.{Terms}
 use Rattle.word_rule.specs.declared.log.Log.{Log}
 use Rattle.word_rule.specs.Memory.{Memory, memory_of}
 use Rattle.word_rule.specs.Held.{held_of}
-use Rattle.word_rule.specs.Logs.{is_spent, load_of, weight}
+use Rattle.word_rule.specs.Logs.{is_spent, load_of, weight, own_list}
 use Rattle.word_rule.specs.Steps.{after_head_load}
 use Rattle.word_rule.specs.Callers.{total, IsIdle}
 use Rattle.word_rule.specs.Nodes.{HoldingsHold, IsChain}
@@ -104,9 +104,9 @@ module _ (t : Terms) (slots id : ℕ) (me : Seated) (caller : me.0.role ≡ role
             let one : once (nat_lt k t.nodes) ≡ 1 = ap once (lt-ltb k t.nodes less) in
             let reached = r.memory.nodes.lawful.tree.reached k in omega (arith, all, free, one, reached)
 
-    head_full : WasFull t r.memory.history (total (λ u. u.made) s.views + 1) me.0.receipts.own (load_of me.0 1 (get_or s.words 1 0))
+    head_full : WasFull t r.memory.history (total (λ u. u.made) s.views + 1) (own_list me.0.receipts) (load_of me.0 1 (get_or s.words 1 0))
     head_full = record {
-      count = λ _. all_of (λ h. IsFullCount (load_of me.0 1 (get_or s.words 1 0)) h → HadMembers t r.memory.history me.0.receipts.own 10) (λ h full. absurd (let e = full.0 in omega (arith, e))) me.0.holdings.held;
+      count = λ _. all_of (λ h. IsFullCount (load_of me.0 1 (get_or s.words 1 0)) h → HadMembers t r.memory.history (own_list me.0.receipts) 10) (λ h full. absurd (let e = full.0 in omega (arith, e))) me.0.holdings.held;
       head = λ _ _ empty two.
           let g = grown empty in
           let twice = entries_law r.memory.shadow.settled r.memory.shadow.live r.memory.nodes.lawful (omega (arith, g, two)) in

@@ -66,7 +66,7 @@ callers_begin t terms = record {
   members = tt;
   room = omega arith;
   numbers = λ n. no_numbers n;
-  each = only (λ _ v. LogHolds t [] 1 v) (first_log t) (record { terms = λ _. refl; begins = ([], refl); receipts = record { own = (tt, tt); joined = tt; heard = ([], refl) }; lineage = new_lineage_holds []; idle = λ zero_weight. absurd (omega (arith, zero_weight)) });
+  each = only (λ _ v. LogHolds t [] 1 v) (first_log t) (record { terms = λ _. refl; begins = ([], refl); receipts = record { since = omega arith; own = (tt, tt); joined = tt; heard = ([], refl) }; lineage = new_lineage_holds []; idle = λ zero_weight. absurd (omega (arith, zero_weight)) });
   weights = omega arith;
   loader = refl;
   at_loader = only (λ j v. AtLoader (memory_of t (initial_words t)) None j v.loader) (first_log t) tt;

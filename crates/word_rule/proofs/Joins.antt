@@ -2,6 +2,7 @@
 use Rattle.std.proofs.Common.{◌≡◌, ◌≢◌, ℕ, ◌+◌, ◌*◌, ◌<◌, ◌≤◌, List, [], ◌∷◌, ◌++◌, length, length-append, set, sym, refl, ap, ◌∙◌, subst, ⊎_elim, arith, append-nil, append_assoc, nat_lt, if◌then◌else◌, lt_of_not-le, le_of_lt, Option, Some, None, false, true, true≢false, max, IfSome}
 use Rattle.std.specs.List.{AllByRecursion, count_by}
 use Rattle.std.proofs.lemmas.List.Sums.{sum_by-cons, sum_by-append}
+use Rattle.word_rule.specs.declared.log.ReceiptList.{ReceiptList}
 use Rattle.word_rule.specs.declared.log.Role.TheVariants as role
 use Rattle.word_rule.specs.Places.{CALL_CREDIT}
 use mathlib.Core.Option.{some, some-injective}
@@ -23,7 +24,7 @@ use Rattle.word_rule.specs.declared.log.Log.{Log}
 use Rattle.word_rule.specs.declared.log.Terms.{Terms}
 use Rattle.tree_shape.specs.Numbers.{once}
 use Rattle.word_rule.specs.Names.{name_count, is_same, child_name, after_fork, joined_lineage}
-use Rattle.word_rule.specs.Logs.{is_spent, weight, turns, child_log, after_split, split_off, after_note, note_of, after_join, after_learn, spent_log, longer, shorter, budget_given}
+use Rattle.word_rule.specs.Logs.{is_spent, weight, turns, child_log, after_split, split_off, after_note, note_of, after_join, after_learn, spent_log, longer, shorter, budget_given, own_list}
 use Rattle.word_rule.specs.Callers.{total, CallersHold, IsIdle, IsAlone, LogHolds, LineageHolds, LineagesHold, AtLoader, LoaderLock, IsRecord, ReceiptsHold, dones, dones_of_all, dones_in, start}
 use Rattle.reg_model.specs.Numbers.{has_number}
 use Rattle.word_rule.specs.CallerInvariant.{IsNote}
@@ -36,7 +37,7 @@ use Rattle.word_rule.specs.Observations.{SightHolds, WasFull, ObservationsHold}
 use Rattle.word_rule.specs.TableInvariant.{TableInvariant, IsStill}
 use Rattle.word_rule.proofs.Lineages.{snoc_parts, one_place, unused_childless, none_alone}
 use Rattle.word_rule.proofs.SeatNodes.{nodes_fork, nodes_join}
-use Rattle.word_rule.proofs.ObservationsFrame.{no_more, observations_over, observations_same}
+use Rattle.word_rule.proofs.ObservationsFrame.{no_more, longer_length, observations_over, observations_same}
 use Rattle.word_rule.proofs.Frames.{still_after_turn}
 
 -- a beginning of a beginning
@@ -48,10 +49,10 @@ pub holds_later : (t : Terms) (past more : List Update) (callers later since : �
 holds_later t past more callers later since [] h = tt
 holds_later t past more callers later since (r ∷ rs) h = (holds_on (start t) past more t.nodes callers later since r h.0, holds_later t past more callers later (max since (moment r)) rs h.1)
 
-pub record_later : (t : Terms) (past past' : List Update) (callers later : ℕ) → IsPrefix past past' → (rs : List Receipt) → IsRecord t past callers rs → IsRecord t past' later rs
-record_later t past past' callers later pre rs h = (subst (λ p. AllHold (start t) p t.nodes later 0 rs) pre.1 (holds_later t past pre.0 callers later 0 rs h.0), h.1)
+pub record_later : (t : Terms) (past past' : List Update) (callers later : ℕ) → IsPrefix past past' → (rs : ReceiptList) → IsRecord t past callers rs → IsRecord t past' later rs
+record_later t past past' callers later pre rs h = (subst (λ p. AllHold (start t) p t.nodes later rs.since rs.list) pre.1 (holds_later t past pre.0 callers later rs.since rs.list h.0), h.1)
 
-pub records_later : (t : Terms) (past past' : List Update) (callers later : ℕ) → IsPrefix past past' → (lists : List (List Receipt)) → AllByRecursion (IsRecord t past callers) lists → AllByRecursion (IsRecord t past' later) lists
+pub records_later : (t : Terms) (past past' : List Update) (callers later : ℕ) → IsPrefix past past' → (lists : List ReceiptList) → AllByRecursion (IsRecord t past callers) lists → AllByRecursion (IsRecord t past' later) lists
 records_later t past past' callers later pre [] h = tt
 records_later t past past' callers later pre (rs ∷ lists) h = (record_later t past past' callers later pre rs h.0, records_later t past past' callers later pre lists h.1)
 
@@ -60,7 +61,8 @@ own_prefix past = ([], append-nil past)
 
 receipts_later : (t : Terms) (past past' : List Update) (callers later : ℕ) → IsPrefix past past' → (rs : Receipts) → ReceiptsHold t past callers rs → ReceiptsHold t past' later rs
 receipts_later t past past' callers later pre rs h = record {
-  own = record_later t past past' callers later pre rs.own h.own;
+  since = (let low = h.since in let len = longer_length past past' pre in omega (arith, low, len));
+  own = record_later t past past' callers later pre (own_list rs) h.own;
   joined = records_later t past past' callers later pre rs.joined h.joined;
   heard = prefix_both rs.heard past past' h.heard pre;
 }
@@ -160,7 +162,7 @@ module _ (t : Terms) (m : Memory) (views : List Log) (history : List Update) (r 
           lineage = subst LineageHolds (sym forks.lineage) (fork_holds v.lineage own_name h.lineage);
           idle = idle;
         })) (λ j u _ e. log_later t history _ (total (λ y. y.made) both + 1) u (r.each j u e)))
-        (λ _. record { terms = λ _. (r.each id v at).terms stands; begins = (r.each id v at).begins; receipts = record { own = (tt, tt); joined = tt; heard = (v.past, refl) }; lineage = new_lineage_holds (child_name v.lineage); idle = λ _. record { held = refl; out = refl; loader = refl } });
+        (λ _. record { terms = λ _. (r.each id v at).terms stands; begins = (r.each id v at).begins; receipts = record { since = omega arith; own = (tt, tt); joined = tt; heard = (v.past, refl) }; lineage = new_lineage_holds (child_name v.lineage); idle = λ _. record { held = refl; out = refl; loader = refl } });
     loader = loader_fork r.holder r.loader;
     at_loader = behind (λ j u. AtLoader m r.holder j u.loader) (set views id w) child
         (after_step (λ j u. AtLoader m r.holder j u.loader) views id w (subst (AtLoader m r.holder id) (sym forks.loader) (r.at_loader id v at)) (λ j u _ e. r.at_loader j u e)) (λ _. tt);
@@ -202,19 +204,19 @@ both_begin a b = elim (nat_lt (length a) (length b)) as (λ c. IsPrefix (if c th
 ]
 
 -- lists of receipts side by side
-records_append : (t : Terms) (past : List Update) (callers : ℕ) (xs ys : List (List Receipt)) → AllByRecursion (IsRecord t past callers) xs → AllByRecursion (IsRecord t past callers) ys → AllByRecursion (IsRecord t past callers) (xs ++ ys)
+records_append : (t : Terms) (past : List Update) (callers : ℕ) (xs ys : List ReceiptList) → AllByRecursion (IsRecord t past callers) xs → AllByRecursion (IsRecord t past callers) ys → AllByRecursion (IsRecord t past callers) (xs ++ ys)
 records_append t past callers [] ys h i = i
 records_append t past callers (x ∷ xs) ys h i = (h.0, records_append t past callers xs ys h.1 i)
 
-dones_append : (n : ℕ) (xs ys : List (List Receipt)) → dones_of_all n (xs ++ ys) ≡ dones_of_all n xs + dones_of_all n ys
-dones_append n xs ys = sum_by-append (λ receipts. count_by (has_number n) receipts) xs ys
+dones_append : (n : ℕ) (xs ys : List ReceiptList) → dones_of_all n (xs ++ ys) ≡ dones_of_all n xs + dones_of_all n ys
+dones_append n xs ys = sum_by-append (λ (receipts : ReceiptList). count_by (has_number n) receipts.list) xs ys
 
 -- What is told of one into which another was joined or learnt. `lists` are the lists of receipts that it gained.
-pub record Gains (v u b : Log) (lists : List (List Receipt)) : Type 0 where
+pub record Gains (v u b : Log) (lists : List ReceiptList) : Type 0 where
   pub terms : b.terms ≡ v.terms
   pub role : b.role ≡ v.role
   pub past : b.past ≡ longer v.past u.past
-  pub own : b.receipts.own ≡ v.receipts.own
+  pub own : own_list b.receipts ≡ own_list v.receipts
   pub joined : b.receipts.joined ≡ v.receipts.joined ++ lists
   pub heard : b.receipts.heard ≡ shorter v.past u.past
   pub loader : b.loader ≡ v.loader
@@ -224,7 +226,7 @@ pub record Gains (v u b : Log) (lists : List (List Receipt)) : Type 0 where
   pub lineage : b.lineage ≡ joined_lineage v.lineage u.lineage
   pub counts : (n : ℕ) → dones_of_all n lists ≡ dones_in n u
 
-module _ (t : Terms) (m : Memory) (views : List Log) (history : List Update) (r : CallersHold t m views history) (id other : ℕ) (v u b : Log) (lists : List (List Receipt)) (at : get_elem? views id ≡ some v) (ne : other ≢ id)
+module _ (t : Terms) (m : Memory) (views : List Log) (history : List Update) (r : CallersHold t m views history) (id other : ℕ) (v u b : Log) (lists : List ReceiptList) (at : get_elem? views id ≡ some v) (ne : other ≢ id)
     (there : get_elem? (set views id b) other ≡ some u) (stands : is_spent v.role ≡ false) (stood : is_spent u.role ≡ false) (free : u.loader ≡ None) (gains : Gains v u b lists) (idle : weight b.role ≡ 0 → IsIdle b) where
   abbrev one : List Log
   one = set views id b
@@ -284,7 +286,7 @@ module _ (t : Terms) (m : Memory) (views : List Log) (history : List Update) (r 
   lengthened : IsPrefix v.past (longer v.past u.past) × IsPrefix u.past (longer v.past u.past) × IsPrefix (longer v.past u.past) history
   lengthened = in_longer v.past u.past history (r.each id v at).begins (r.each other u was_there).begins
 
-  pub callers_join : (AllByRecursion (IsRecord t (longer v.past u.past) count) (u.receipts.own ∷ u.receipts.joined) → AllByRecursion (IsRecord t (longer v.past u.past) count) lists) → CallersHold t m after history
+  pub callers_join : (AllByRecursion (IsRecord t (longer v.past u.past) count) (own_list u.receipts ∷ u.receipts.joined) → AllByRecursion (IsRecord t (longer v.past u.past) count) lists) → CallersHold t m after history
   callers_join gained = record {
     holder = r.holder;
     lawful = r.lawful;
@@ -293,17 +295,18 @@ module _ (t : Terms) (m : Memory) (views : List Log) (history : List Update) (r 
     updates = r.updates;
     published = r.published;
     room = (let s = sums_join (λ x. x.budget.allowance) (let a = gains.allowance in omega (arith, a)) in let o = r.room in omega (arith, s, o));
-    numbers = λ n. sums_join (dones_in n) (let e : dones_in n b ≡ dones n record { own = v.receipts.own; joined = v.receipts.joined ++ lists; heard = b.receipts.heard } = (λ i. dones n record { own = gains.own i; joined = gains.joined i; heard = b.receipts.heard }) in let a = dones_append n v.receipts.joined lists in let c = gains.counts n in omega (arith, e, a, c)) ∙ r.numbers n;
+    numbers = λ n. sums_join (dones_in n) (let e : dones_in n b ≡ dones n record { since = v.receipts.since; own = v.receipts.own; joined = v.receipts.joined ++ lists; heard = b.receipts.heard } = (λ i. dones n record { since = (gains.own i).since; own = (gains.own i).list; joined = gains.joined i; heard = b.receipts.heard }) in let a = dones_append n v.receipts.joined lists in let c = gains.counts n in omega (arith, e, a, c)) ∙ r.numbers n;
     each = everywhere (λ _ x. LogHolds t history count x)
-        (record { terms = λ s. absurd (true≢false s); begins = (history, refl); receipts = record { own = (tt, tt); joined = tt; heard = ([], refl) }; lineage = record { balanced = λ x. refl; given_by = λ x h. absurd (omega arith) }; idle = λ _. record { held = refl; out = refl; loader = refl } })
+        (record { terms = λ s. absurd (true≢false s); begins = (history, refl); receipts = record { since = omega arith; own = (tt, tt); joined = tt; heard = ([], refl) }; lineage = record { balanced = λ x. refl; given_by = λ x h. absurd (omega arith) }; idle = λ _. record { held = refl; out = refl; loader = refl } })
         (let h = r.each id v at in let i = r.each other u was_there in record {
           terms = λ s. gains.terms ∙ h.terms stands;
           begins = subst (λ p. IsPrefix p history) (sym gains.past) lengthened.2;
           receipts = subst (λ p. ReceiptsHold t p count b.receipts) (sym gains.past) record {
-            own = subst (IsRecord t (longer v.past u.past) count) (sym gains.own) (record_later t v.past (longer v.past u.past) _ count lengthened.0 v.receipts.own h.receipts.own);
+            since = (let same = ap (λ (c : ReceiptList). c.since) gains.own in let low = h.receipts.since in let len = longer_length v.past (longer v.past u.past) lengthened.0 in omega (arith, same, low, len));
+            own = subst (IsRecord t (longer v.past u.past) count) (sym gains.own) (record_later t v.past (longer v.past u.past) _ count lengthened.0 (own_list v.receipts) h.receipts.own);
             joined = subst (AllByRecursion (IsRecord t (longer v.past u.past) count)) (sym gains.joined)
                 (records_append t (longer v.past u.past) count v.receipts.joined lists (records_later t v.past (longer v.past u.past) _ count lengthened.0 v.receipts.joined h.receipts.joined)
-                (gained (record_later t u.past (longer v.past u.past) _ count lengthened.1 u.receipts.own i.receipts.own, records_later t u.past (longer v.past u.past) _ count lengthened.1 u.receipts.joined i.receipts.joined)));
+                (gained (record_later t u.past (longer v.past u.past) _ count lengthened.1 (own_list u.receipts) i.receipts.own, records_later t u.past (longer v.past u.past) _ count lengthened.1 u.receipts.joined i.receipts.joined)));
             heard = subst (λ p. IsPrefix p (longer v.past u.past)) (sym gains.heard) (shorter_begins v.past u.past lengthened.0 lengthened.1);
           };
           lineage = subst LineageHolds (sym gains.lineage) (join_holds v.lineage u.lineage h.lineage i.lineage);
@@ -321,7 +324,7 @@ module _ (t : Terms) (m : Memory) (views : List Log) (history : List Update) (r 
 pub record Meets (v w : Log) : Type 0 where
   pub holdings : w.holdings ≡ v.holdings
   pub sights : w.sights ≡ v.sights
-  pub own : w.receipts.own ≡ v.receipts.own
+  pub own : own_list w.receipts ≡ own_list v.receipts
   pub loads : w.trace.loads ≡ v.trace.loads
   pub turn : turns v.trace < turns w.trace
 
@@ -352,7 +355,7 @@ module _ (t : Terms) (id : ℕ) (v : Log) (caller : v.role ≡ role.Caller) wher
   fresh m history callers shadow u sights loads = record {
     sights = subst (λ k. AllByRecursion (SightHolds t m.nodes history shadow) k.nodes) (sym sights) tt;
     copies = subst (λ k. IfSome k.copies (CopySightHolds t m.clock m.copies)) (sym sights) tt;
-    full = subst (AllByRecursion (WasFull t history callers u.receipts.own)) (sym loads) tt;
+    full = subst (AllByRecursion (WasFull t history callers (own_list u.receipts))) (sym loads) tt;
     earlier = subst (AllByRecursion (λ l. (l.turns ≤ turns u.trace) × (l.receipts ≤ length u.receipts.own))) (sym loads) tt;
   }
 
@@ -387,9 +390,9 @@ module _ (t : Terms) (id : ℕ) (v : Log) (caller : v.role ≡ role.Caller) wher
       (record { terms = refl; role = refl; past = refl; receipts = refl; loader = refl; lineage = refl }) (record { holdings = refl; sights = refl; own = refl; loads = refl; turn = omega arith })
       (omega arith) (omega arith) (omega arith)
 
-  joined_table : (s : State (Unit {0}) Log) (r : TableInvariant t s.words s.views) (other : ℕ) (u b : Log) (lists : List (List Receipt)) → get_elem? s.views id ≡ some v → (ne : other ≢ id) → get_elem? (set s.views id b) other ≡ some u
+  joined_table : (s : State (Unit {0}) Log) (r : TableInvariant t s.words s.views) (other : ℕ) (u b : Log) (lists : List ReceiptList) → get_elem? s.views id ≡ some v → (ne : other ≢ id) → get_elem? (set s.views id b) other ≡ some u
       → is_spent u.role ≡ false → u.loader ≡ None → u.holdings.held ≡ [] → u.holdings.out ≡ [] → (gains : Gains v u b lists) → Meets v b
-      → ((callers : ℕ) → AllByRecursion (IsRecord t (longer v.past u.past) callers) (u.receipts.own ∷ u.receipts.joined) → AllByRecursion (IsRecord t (longer v.past u.past) callers) lists)
+      → ((callers : ℕ) → AllByRecursion (IsRecord t (longer v.past u.past) callers) (own_list u.receipts ∷ u.receipts.joined) → AllByRecursion (IsRecord t (longer v.past u.past) callers) lists)
       → TableInvariant t s.words (set (set s.views id b) other spent_log)
   joined_table s r other u b lists at ne there stood free held out gains meets gained =
       let callers : ℕ = total (λ z. z.made) (set (set s.views id b) other spent_log) + 1 in
@@ -411,7 +414,7 @@ module _ (t : Terms) (id : ℕ) (v : Log) (caller : v.role ≡ role.Caller) wher
   -- a caller that holds no lock and has no node out is joined into another
   pub joins : (other : ℕ) (u : Log) → is_spent u.role ≡ false → u.loader ≡ None → u.holdings.held ≡ [] → u.holdings.out ≡ []
       → Joins (λ (s : State (Unit {0}) Log). TableInvariant t s.words s.views) id v other u (after_join v u) spent_log
-  joins other u stood free held out s r at ne there = joined_table s r other u (after_join v u) (u.receipts.own ∷ u.receipts.joined) at ne there stood free held out
+  joins other u stood free held out s r at ne there = joined_table s r other u (after_join v u) (own_list u.receipts ∷ u.receipts.joined) at ne there stood free held out
       (record {
         terms = refl;
         role = refl;
@@ -424,7 +427,7 @@ module _ (t : Terms) (id : ℕ) (v : Log) (caller : v.role ≡ role.Caller) wher
         credit = refl;
         made = refl;
         lineage = refl;
-        counts = λ n. sum_by-cons (λ receipts. count_by (has_number n) receipts) u.receipts.own u.receipts.joined;
+        counts = λ n. sum_by-cons (λ (receipts : ReceiptList). count_by (has_number n) receipts.list) (own_list u.receipts) u.receipts.joined;
       }) (record { holdings = refl; sights = refl; own = refl; loads = refl; turn = omega arith }) (λ c h. h)
 
   pub learns : (other : ℕ) (u : Log) → IsNote u → Joins (λ (s : State (Unit {0}) Log). TableInvariant t s.words s.views) id v other u (after_learn v u) spent_log
@@ -441,5 +444,5 @@ module _ (t : Terms) (id : ℕ) (v : Log) (caller : v.role ≡ role.Caller) wher
         credit = (let a = note.credit in omega (arith, a));
         made = (let a = note.made in omega (arith, a));
         lineage = refl;
-        counts = λ n. let e : dones_in n u ≡ 0 = (λ i. dones n record { own = note.own i; joined = note.joined i; heard = u.receipts.heard }) in sym e;
+        counts = λ n. let e : dones_in n u ≡ 0 = (λ i. dones n record { since = u.receipts.since; own = note.own i; joined = note.joined i; heard = u.receipts.heard }) in sym e;
       }) (record { holdings = refl; sights = refl; own = refl; loads = refl; turn = omega arith }) (λ c h. tt)

@@ -17,7 +17,7 @@ use Rattle.word_rule.specs.declared.log.LoadEvent.{LoadEvent}
 use Rattle.word_rule.specs.declared.log.LoaderHolding.{LoaderHolding}
 use Rattle.word_rule.specs.Places.{spare, upper}
 use Rattle.word_rule.specs.Memory.{Memory, memory_of, copy_of}
-use Rattle.word_rule.specs.Logs.{is_spent, weight, turns, load_of, IsTaken, after_load, after_loader_lock, after_write, after_loader_release, after_loader_release_same}
+use Rattle.word_rule.specs.Logs.{is_spent, weight, turns, load_of, IsTaken, after_load, after_loader_lock, after_write, after_loader_release, after_loader_release_same, own_list}
 use Rattle.word_rule.specs.Callers.{total, AtLoader, LoaderLock, IsLockedAt}
 use Rattle.word_rule.specs.Observations.{ObservationsHold, WasFull}
 use Rattle.word_rule.specs.TableInvariant.{TableInvariant, IsStill}
@@ -48,8 +48,8 @@ module _ (t : Terms) (slots id : ℕ) (me : Seated) (caller : me.0.role ≡ role
   observed : (s : Sit) (r : Holds s) (w : Log) (more : List LoadEvent) → mine_at s → w.sights ≡ me.0.sights → Loads me.0 w more
       → AllByRecursion (λ l. (l.word ≡ 2) × (l.turns ≤ turns w.trace) × (l.receipts ≤ length me.0.receipts.own)) more → ObservationsHold t (memory_of t s.words) r.memory.history (total (λ u. u.made) s.views + 1) r.memory.shadow w
   observed s r w more at sights loads told = observations_same t (memory_of t s.words) r.memory.history (total (λ u. u.made) s.views + 1) r.memory.shadow me.0 w more loads sights
-      (all_map (λ l. (l.word ≡ 2) × (l.turns ≤ turns w.trace) × (l.receipts ≤ length me.0.receipts.own)) (WasFull t r.memory.history (total (λ u. u.made) s.views + 1) me.0.receipts.own)
-      (λ l h. of_loader t r.memory.history (total (λ u. u.made) s.views + 1) me.0.receipts.own l h.0) more told)
+      (all_map (λ l. (l.word ≡ 2) × (l.turns ≤ turns w.trace) × (l.receipts ≤ length me.0.receipts.own)) (WasFull t r.memory.history (total (λ u. u.made) s.views + 1) (own_list me.0.receipts))
+      (λ l h. of_loader t r.memory.history (total (λ u. u.made) s.views + 1) (own_list me.0.receipts) l h.0) more told)
       (all_map (λ l. (l.word ≡ 2) × (l.turns ≤ turns w.trace) × (l.receipts ≤ length me.0.receipts.own)) (λ l. (l.turns ≤ turns w.trace) × (l.receipts ≤ length me.0.receipts.own)) (λ l h. (h.1, h.2)) more told)
       (r.memory.observations id me.0 at)
 
@@ -61,7 +61,7 @@ module _ (t : Terms) (slots id : ℕ) (me : Seated) (caller : me.0.role ≡ role
       table_step t s.words s.views r id me.0 w at stands (set s.words 2 x) (record (memory_of t s.words) { loader = x }) (length-set s.words 2 x) (set_loader t s.words r.wide x)
       (loader_memory t s.words s.views r id me.0 w at stands x holdings like.made
       (callers_step t (memory_of t s.words) s.views r.memory.history r.memory.callers id me.0 w at like (record (memory_of t s.words) { loader = x }) holder refl (omega (arith, fewer)) lock at_lock (λ zero_weight. busy me.0 w caller (ap weight (sym like.role) ∙ zero_weight)))
-      (observed s r w [] at sights (no_more me.0 w (ap (λ k. k.own) like.receipts) (omega (arith, turn)) loads) tt))
+      (observed s r w [] at sights (no_more me.0 w (ap own_list like.receipts) (omega (arith, turn)) loads) tt))
       (λ _. still_after_turn (set s.words 2 x) me.0 w turn loads (r.memory.observations id me.0 at).earlier)
 
   -- a load of the lock's word

@@ -22,7 +22,7 @@ use Rattle.word_rule.specs.declared.log.Log.{Log}
 use Rattle.word_rule.specs.Places.{is_of_copy, copy_place, copy_words}
 use Rattle.word_rule.specs.Memory.{Memory, memory_of, copy_of}
 use Rattle.word_rule.specs.Spelling.{node_word}
-use Rattle.word_rule.specs.Logs.{is_spent, load_of}
+use Rattle.word_rule.specs.Logs.{is_spent, load_of, own_list}
 use Rattle.word_rule.specs.Sights.{with_copy_word, after_copy_load}
 use Rattle.word_rule.specs.Callers.{total, start, AtLoader}
 use Rattle.word_rule.specs.Steps.{IsHeldWord}
@@ -91,9 +91,9 @@ module _ (t : Terms) (slots id : ℕ) (me : Seated) (caller : me.0.role ≡ role
       go false is = h
 
   -- the copies stand after the nodes, so a load there tells nothing of fullness
-  past_nodes : (s : Sit) (r : Holds s) (at : ℕ) → get_elem? s.views id ≡ some me.0 → 4 + 36 * t.nodes ≤ at → WasFull t r.memory.history (total (λ u. u.made) s.views + 1) me.0.receipts.own (load_of me.0 at (get_or s.words at 0))
+  past_nodes : (s : Sit) (r : Holds s) (at : ℕ) → get_elem? s.views id ≡ some me.0 → 4 + 36 * t.nodes ≤ at → WasFull t r.memory.history (total (λ u. u.made) s.views + 1) (own_list me.0.receipts) (load_of me.0 at (get_or s.words at 0))
   past_nodes s r at here far = record {
-    count = λ _. all_map (HoldsNode t (memory_of t s.words).nodes r.memory.shadow id) (λ h. IsFullCount (load_of me.0 at (get_or s.words at 0)) h → HadMembers t r.memory.history me.0.receipts.own 10)
+    count = λ _. all_map (HoldsNode t (memory_of t s.words).nodes r.memory.shadow id) (λ h. IsFullCount (load_of me.0 at (get_or s.words at 0)) h → HadMembers t r.memory.history (own_list me.0.receipts) 10)
         (λ h holds full. absurd (let e = full.0 in let w = holds.within in omega (arith, e, w, far))) me.0.holdings.held (r.memory.nodes.holdings id me.0 here).each;
     head = λ _ is _ _. absurd (omega (arith, is, far));
   }
@@ -132,11 +132,11 @@ module _ (t : Terms) (slots id : ℕ) (me : Seated) (caller : me.0.role ≡ role
       )
 
   -- as many members are registered as the tree has entries
-  pub had_members : (order : OrderLaw) (s : Sit) (r : Holds s) → get_elem? s.views id ≡ some me.0 → (least : ℕ) → least ≤ length (entries r.memory.shadow.settled) → HadMembers t r.memory.history me.0.receipts.own least
+  pub had_members : (order : OrderLaw) (s : Sit) (r : Holds s) → get_elem? s.views id ≡ some me.0 → (least : ℕ) → least ≤ length (entries r.memory.shadow.settled) → HadMembers t r.memory.history (own_list me.0.receipts) least
   had_members order s r here least many =
       let log = r.memory.callers.each id me.0 here in
       let seen = longer_length me.0.past r.memory.history log.begins in
-      let last = last_within t me.0.past (total (λ u. u.made) s.views + 1) 0 me.0.receipts.own (omega arith) log.receipts.own.0 in
+      let last = last_within t me.0.past (total (λ u. u.made) s.views + 1) me.0.receipts.since me.0.receipts.own log.receipts.since log.receipts.own.0 in
       let tree = r.memory.nodes.lawful.tree in
       let fit = ascending_fit 0 (2 ^ 64 - 1) (entries r.memory.shadow.settled) (state_after (start t) r.memory.history).registered (order.ascending r.memory.shadow.settled r.memory.shadow.live tree)
       (λ x there. (r.memory.nodes.entries x).0 ((order.members r.memory.shadow.settled r.memory.shadow.live x tree).0 there)) in
@@ -145,9 +145,9 @@ module _ (t : Terms) (slots id : ℕ) (me : Seated) (caller : me.0.role ≡ role
 
   -- a full node's count, loaded under its lock
   pub full_count : (law : FullLaw) (order : OrderLaw) (s : Sit) (r : Holds s) (n at : ℕ) → get_elem? s.views id ≡ some me.0 → 1 ≤ at → at ≤ 35
-      → WasFull t r.memory.history (total (λ u. u.made) s.views + 1) me.0.receipts.own (load_of me.0 (4 + 36 * n + at) (get_or s.words (4 + 36 * n + at) 0))
+      → WasFull t r.memory.history (total (λ u. u.made) s.views + 1) (own_list me.0.receipts) (load_of me.0 (4 + 36 * n + at) (get_or s.words (4 + 36 * n + at) 0))
   full_count law order s r n at here low high = record {
-    count = λ _. all_map (HoldsNode t (memory_of t s.words).nodes r.memory.shadow id) (λ h. IsFullCount (load_of me.0 (4 + 36 * n + at) (get_or s.words (4 + 36 * n + at) 0)) h → HadMembers t r.memory.history me.0.receipts.own 10) told me.0.holdings.held (r.memory.nodes.holdings id me.0 here).each;
+    count = λ _. all_map (HoldsNode t (memory_of t s.words).nodes r.memory.shadow id) (λ h. IsFullCount (load_of me.0 (4 + 36 * n + at) (get_or s.words (4 + 36 * n + at) 0)) h → HadMembers t r.memory.history (own_list me.0.receipts) 10) told me.0.holdings.held (r.memory.nodes.holdings id me.0 here).each;
     head = λ _ is _ _. absurd (omega (arith, is));
   }
     where
@@ -165,7 +165,7 @@ module _ (t : Terms) (slots id : ℕ) (me : Seated) (caller : me.0.role ≡ role
           go None none_there p = absurd (true≢false (sym none_there))
           go (Some f) there p = p.0
 
-      told : (h : Holding) → HoldsNode t (memory_of t s.words).nodes r.memory.shadow id h → IsFullCount (load_of me.0 (4 + 36 * n + at) (get_or s.words (4 + 36 * n + at) 0)) h → HadMembers t r.memory.history me.0.receipts.own 10
+      told : (h : Holding) → HoldsNode t (memory_of t s.words).nodes r.memory.shadow id h → IsFullCount (load_of me.0 (4 + 36 * n + at) (get_or s.words (4 + 36 * n + at) 0)) h → HadMembers t r.memory.history (own_list me.0.receipts) 10
       told h holds full =
           let place = full.0 in
           let five : at ≡ 5 = omega (arith, place, low, high) in

@@ -16,7 +16,7 @@ use Rattle.word_rule.specs.declared.log.Log.{Log}
 use Rattle.word_rule.specs.Memory.{NodeWords, Memory, memory_of, updated, node_counters}
 use Rattle.word_rule.specs.Spelling.{SpellsNode}
 use Rattle.word_rule.specs.Held.{held_of}
-use Rattle.word_rule.specs.Logs.{is_spent, load_of, after_load}
+use Rattle.word_rule.specs.Logs.{is_spent, load_of, after_load, own_list}
 use Rattle.word_rule.specs.Steps.{mark_at_lock, head_without, after_node_lock}
 use Rattle.word_rule.specs.Callers.{total, IsLockedAt}
 use Rattle.word_rule.specs.Nodes.{Shadow, NodesHold, HoldsNode, HoldingsHold, HeldBy, IsOpen, IsPlaced}
@@ -62,9 +62,9 @@ module _ (t : Terms) (slots id : ℕ) (me : Seated) (caller : me.0.role ≡ role
   stands = ap is_spent caller
 
   -- a load of a node's version word tells nothing of fullness
-  pub of_version : (s : Sit) (r : Holds s) (n : ℕ) → WasFull t r.memory.history (total (λ u. u.made) s.views + 1) me.0.receipts.own (load_of me.0 (4 + 36 * n) (get_or s.words (4 + 36 * n) 0))
+  pub of_version : (s : Sit) (r : Holds s) (n : ℕ) → WasFull t r.memory.history (total (λ u. u.made) s.views + 1) (own_list me.0.receipts) (load_of me.0 (4 + 36 * n) (get_or s.words (4 + 36 * n) 0))
   of_version s r n = record {
-    count = λ _. all_of (λ h. IsFullCount (load_of me.0 (4 + 36 * n) (get_or s.words (4 + 36 * n) 0)) h → HadMembers t r.memory.history me.0.receipts.own 10) (λ h full. absurd (let e = full.0 in omega (arith, e))) me.0.holdings.held;
+    count = λ _. all_of (λ h. IsFullCount (load_of me.0 (4 + 36 * n) (get_or s.words (4 + 36 * n) 0)) h → HadMembers t r.memory.history (own_list me.0.receipts) 10) (λ h full. absurd (let e = full.0 in omega (arith, e))) me.0.holdings.held;
     head = λ _ is _ _. absurd (omega (arith, is));
   }
 

@@ -25,7 +25,7 @@ use Rattle.word_rule.specs.declared.log.NodeSight.{NodeSight}
 use Rattle.word_rule.specs.declared.log.Log.{Log}
 use Rattle.word_rule.specs.Memory.{NodeWords, Memory, memory_of}
 use Rattle.word_rule.specs.Spelling.{node_word, is_short, pair_at, pairs_at, SpellsNode}
-use Rattle.word_rule.specs.Logs.{is_spent, weight, turns, load_of, after_load}
+use Rattle.word_rule.specs.Logs.{is_spent, weight, turns, load_of, after_load, own_list}
 use Rattle.word_rule.specs.NodeTells.{AloneTells, IsLiveNode, IsOfNode}
 use Rattle.word_rule.specs.declared.log.Ask.{Ask}
 use Rattle.reg_model.specs.declared.answer.Half.TheVariants as half
@@ -321,22 +321,22 @@ module _ (t : Terms) (words : NodeWords) (views : List Log) (history : List Upda
   found_again wide past seen u terms n found is (Some s) cs there all = λ same. let h = found_sight n cs s all there in subst (λ k. IsOfNode k past s) (sym terms) (is_of wide past seen s h.0 (inl (ap words.versions h.1 ∙ (is ∙ sym same))))
 
 -- the receipts of a version are those of a try, which holds now
-told_version : (t : Terms) (v : Log) (a : Ask) (found : ℕ) (o : Option NodeSight) → v.terms ≡ t → Told t v.past v.receipts.own (receipts_after_version v a found o)
+told_version : (t : Terms) (v : Log) (a : Ask) (found : ℕ) (o : Option NodeSight) → v.terms ≡ t → Told t v.past (own_list v.receipts) (receipts_after_version v a found o)
 told_version t v a found None terms = inl refl
 told_version t v a found (Some s) terms = go (s.version == found) (tried a s.clock)
   where
-    go : (b : Bool) → Told t v.past v.receipts.own (try_receipts v a s s.clock) → Told t v.past v.receipts.own (if b then try_receipts v a s s.clock else [])
+    go : (b : Bool) → Told t v.past (own_list v.receipts) (try_receipts v a s s.clock) → Told t v.past (own_list v.receipts) (if b then try_receipts v a s s.clock else [])
     go true told = told
     go false told = inl refl
 
-    tried : (b : Ask) (clock : Option ℕ) → Told t v.past v.receipts.own (try_receipts v b s clock)
+    tried : (b : Ask) (clock : Option ℕ) → Told t v.past (own_list v.receipts) (try_receipts v b s clock)
     tried ask.Nothing clock = inl refl
     tried (ask.Loaded pc) clock = inl refl
     tried (ask.Refused u) clock = inl refl
     tried (ask.Registered pc) None = inl refl
     tried (ask.Registered pc) (Some stamp) = by_test (is_leaf_for pc (place_of s) && (stamp == length v.past)) refl
       where
-        by_test : (b : Bool) → (is_leaf_for pc (place_of s) && (stamp == length v.past)) ≡ b → Told t v.past v.receipts.own (if b then (query_receipt half.Registered v pc stamp ∷ []) else [])
+        by_test : (b : Bool) → (is_leaf_for pc (place_of s) && (stamp == length v.past)) ≡ b → Told t v.past (own_list v.receipts) (if b then (query_receipt half.Registered v pc stamp ∷ []) else [])
         by_test false is = inl refl
         by_test true is =
             let now : stamp ≡ length v.past = eqb_true stamp (length v.past) (and_parts (is_leaf_for pc (place_of s)) (stamp == length v.past) is).1 in

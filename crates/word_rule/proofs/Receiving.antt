@@ -30,16 +30,16 @@ in_order_snoc : (since : ℕ) (rs : List Receipt) (r : Receipt) (u : Update) →
 in_order_snoc since [] r u h is later = (rw is later, tt)
 in_order_snoc since (x ∷ rs) r u h is later = (h.0, in_order_snoc (moment x) rs r u h.1 is later)
 
-pub in_order_next : (t : Terms) (past : List Update) (callers : ℕ) (rs : List Receipt) (r : Receipt) (u : Update) → AllHold (start t) past t.nodes callers 0 rs → AreInOrder 0 rs → accepted r ≡ Some u → length past < moment r → AreInOrder 0 (rs ++ r ∷ [])
-in_order_next t past callers rs r u hold order is later = let l = last_of_within t past callers 0 0 rs (omega arith) hold in in_order_snoc 0 rs r u order is (omega (arith, l, later))
+pub in_order_next : (t : Terms) (past : List Update) (callers since : ℕ) (rs : List Receipt) (r : Receipt) (u : Update) → since ≤ length past → AllHold (start t) past t.nodes callers since rs → AreInOrder since rs → accepted r ≡ Some u → length past < moment r → AreInOrder since (rs ++ r ∷ [])
+in_order_next t past callers since rs r u low hold order is later = let l = last_of_within t past callers since since rs low hold in in_order_snoc since rs r u order is (omega (arith, l, later))
 
 -- an answer that accepts nothing, at the end of all that was seen
-pub in_order_later : (t : Terms) (past : List Update) (callers : ℕ) (rs : List Receipt) (r : Receipt) → AllHold (start t) past t.nodes callers 0 rs → AreInOrder 0 rs → accepted r ≡ None → moment r ≡ length past → AreInOrder 0 (rs ++ r ∷ [])
-in_order_later t past callers rs r hold order is now = let l = last_of_within t past callers 0 0 rs (omega arith) hold in go 0 rs order (omega (arith, l, now))
+pub in_order_later : (t : Terms) (past : List Update) (callers since : ℕ) (rs : List Receipt) (r : Receipt) → since ≤ length past → AllHold (start t) past t.nodes callers since rs → AreInOrder since rs → accepted r ≡ None → moment r ≡ length past → AreInOrder since (rs ++ r ∷ [])
+in_order_later t past callers since rs r low hold order is now = let l = last_of_within t past callers since since rs low hold in go since rs order (omega (arith, l, now))
   where
-    go : (since : ℕ) (qs : List Receipt) → AreInOrder since qs → last_of since qs ≤ moment r → AreInOrder since (qs ++ r ∷ [])
-    go since [] h later = (rw is later, tt)
-    go since (x ∷ qs) h later = (h.0, go (moment x) qs h.1 later)
+    go : (low : ℕ) (qs : List Receipt) → AreInOrder low qs → last_of low qs ≤ moment r → AreInOrder low (qs ++ r ∷ [])
+    go low [] h later = (rw is later, tt)
+    go low (x ∷ qs) h later = (h.0, go (moment x) qs h.1 later)
 
 -- how many say that the n-th update was accepted
 pub done_snoc : (n number : ℕ) (rs : List Receipt) (r : Receipt) (u : Update) → accepted r ≡ Some u → moment r ≡ number → count_by (has_number n) (rs ++ r ∷ []) ≡ count_by (has_number n) rs + once (number == n)

@@ -18,6 +18,7 @@ use Rattle.reg_model.specs.declared.answer.Receipt.{Receipt}
 use Rattle.reg_model.specs.declared.answer.Receipt.TheVariants.{Query}
 use Rattle.reg_model.specs.declared.answer.Receipt.TheVariants as receipt
 use Rattle.segment_array.specs.Ascending.{AscendFrom}
+use Rattle.word_rule.specs.declared.log.ReceiptList.{ReceiptList}
 use Rattle.word_rule.specs.declared.log.Terms.{Terms}
 use Rattle.word_rule.specs.Sights.{found_at}
 use Rattle.word_rule.specs.Steps.{IsRefusalOf, Refuses}
@@ -56,11 +57,11 @@ query_answers t history which pc since = record {
 }
 
 -- a log's own receipts, with such a receipt more
-pub answer_record : (t : Terms) (past history : List Update) (callers : ℕ) (rs : List Receipt) (r : Receipt) → HoldsNow t history (last_moment 0 rs) r → IsPrefix past history → IsRecord t past callers rs → IsRecord t history callers (rs ++ r ∷ [])
-answer_record t past history callers rs r a longer h =
+pub answer_record : (t : Terms) (past history : List Update) (callers : ℕ) (rs : ReceiptList) (r : Receipt) → HoldsNow t history (last_moment rs.since rs.list) r → IsPrefix past history → rs.since ≤ length history → IsRecord t past callers rs → IsRecord t history callers (record rs { list = rs.list ++ r ∷ [] })
+answer_record t past history callers rs r a longer since h =
     let later = record_later t past history callers callers longer rs h in (
-      all_hold_snoc t history callers 0 rs r later.0 (a.holds callers),
-      in_order_later t history callers rs r later.0 later.1 a.accepts a.now,
+      all_hold_snoc t history callers rs.since rs.list r later.0 (a.holds callers),
+      in_order_later t history callers rs.since rs.list r since later.0 later.1 a.accepts a.now,
     )
 
 -- an answer that is right of the state at the end

@@ -24,6 +24,8 @@ use Rattle.tree_shape.specs.NodeData.{NodeData, Body, Pairs, Entries, Link, IsIn
 use Rattle.tree_shape.specs.Trees.{Contents}
 use Rattle.tree_shape.specs.Lawful.{IsOrderedAs}
 use Rattle.tree_shape.specs.declared.node.Frame.{Frame}
+use Rattle.word_rule.specs.Logs.{own_list}
+use Rattle.word_rule.specs.declared.log.ReceiptList.{ReceiptList}
 use Rattle.word_rule.specs.declared.log.Terms.{Terms}
 use Rattle.word_rule.specs.declared.log.Holding.{Holding}
 use Rattle.word_rule.specs.declared.log.LoadEvent.{LoadEvent}
@@ -163,7 +165,7 @@ all_at P [] x behind h = h.0
 all_at P (y ∷ before) x behind h = all_at P before x behind h.1
 
 -- the count of a full node among the loads tells of ten members since the last receipt
-had_ten : (t : Terms) (history : List Update) (callers base : ℕ) (own : List Receipt) (loads : List LoadEvent) → AllByRecursion (WasFull t history callers own) loads → HadNoRoom base (length own) loads → HadMembers t history own 10
+had_ten : (t : Terms) (history : List Update) (callers base : ℕ) (own : ReceiptList) (loads : List LoadEvent) → AllByRecursion (WasFull t history callers own) loads → HadNoRoom base (length own.list) loads → HadMembers t history own 10
 had_ten t history callers base own loads full q =
     let counted = all_at (WasFull t history callers own) q.before q.count (q.between ++ q.cause ∷ q.behind) (subst (AllByRecursion (WasFull t history callers own)) q.in_order full) in
     all_with (λ h. IsFullCount q.count h → HadMembers t history own 10) q.count.held q.node (counted.count q.since) q.held q.full
@@ -176,12 +178,12 @@ pub record ShownLeaves (t : Terms) (history : List Update) (v : Log) : Type 0 wh
   pub ordered : (x : Member) → Contains (state_after (start t) history).registered x → x.span.first ≤ x.span.last
   pub inside : (n : ℕ) → IsTrue (marked_in v.holdings.held n) → (settled_in v.holdings.held n).level ≡ 0 → AreInside (state_after (start t) history).registered (settled_in v.holdings.held n)
   pub callers : ℕ
-  pub full : AllByRecursion (WasFull t history callers v.receipts.own) v.trace.loads
+  pub full : AllByRecursion (WasFull t history callers (own_list v.receipts)) v.trace.loads
 
 -- the receipt of a refusal of a registration, which is the one that the leaves show
 pub record IsRegisterRefused (t : Terms) (history : List Update) (v : Log) (stamp : ℕ) (m : Member) (r : Receipt) : Type 0 where
   pub right : IsRefusalOf (update.Register m) (state_after (start v.terms) history) stamp r
-  pub holds : HoldsNow t history (last_moment 0 v.receipts.own) r
+  pub holds : HoldsNow t history (last_moment v.receipts.since v.receipts.own) r
   pub overlap : (other : Member) → ShowsOverlap m other v → r ≡ receipt.Register m (inserted.Overlap other stamp)
   pub full : ShowsFull m v → r ≡ receipt.Register m (inserted.Full stamp)
 
@@ -206,7 +208,7 @@ module _ (t : Terms) (history : List Update) (v : Log) (stamp : ℕ) (now : stam
         receipt.Register m (inserted.Overlap o.0 stamp),
         record {
           right = (refl, refl, refl, subst (λ (k : Terms). IsLowestOverlap m.span (state_after (start k) history).registered o.0) (sym terms) lowest);
-          holds = subst (λ k. HoldsNow t history (last_moment 0 v.receipts.own) (receipt.Register m (inserted.Overlap o.0 k))) (sym now)
+          holds = subst (λ k. HoldsNow t history (last_moment v.receipts.since v.receipts.own) (receipt.Register m (inserted.Overlap o.0 k))) (sym now)
               (record { accepts = refl; now = refl; holds = λ callers. record { within = omega arith; numbered = tt; right = right_now t history (receipt.Register m (inserted.Overlap o.0 (length history))) lowest; filled = tt } });
           overlap = λ other h. ap (λ z. receipt.Register m (inserted.Overlap z stamp)) (one_lowest m.span (state_after (start t) history).registered o.0 other shown.disjoint lowest (overlap_so m other h));
           full = λ h. absurd (not_free m.span (state_after (start t) history).registered o.0 lowest (free_so m h));
@@ -217,7 +219,7 @@ module _ (t : Terms) (history : List Update) (v : Log) (stamp : ℕ) (now : stam
         receipt.Register m (inserted.Full stamp),
         record {
           right = (refl, refl, refl, subst (λ (k : Terms). IsFree m.span (state_after (start k) history).registered) (sym terms) free);
-          holds = subst (λ k. HoldsNow t history (last_moment 0 v.receipts.own) (receipt.Register m (inserted.Full k))) (sym now)
+          holds = subst (λ k. HoldsNow t history (last_moment v.receipts.since v.receipts.own) (receipt.Register m (inserted.Full k))) (sym now)
               (record {
                 accepts = refl;
                 now = refl;
@@ -225,7 +227,7 @@ module _ (t : Terms) (history : List Update) (v : Log) (stamp : ℕ) (now : stam
                   within = omega arith;
                   numbered = tt;
                   right = right_now t history (receipt.Register m (inserted.Full (length history))) free;
-                  filled = (let ten = had_ten t history shown.callers m.span.first v.receipts.own v.trace.loads shown.full f.no_room in (ten.0, ten.1.0, ten.1.1, ten.1.2));
+                  filled = (let ten = had_ten t history shown.callers m.span.first (own_list v.receipts) v.trace.loads shown.full f.no_room in (ten.0, ten.1.0, ten.1.1, ten.1.2));
                 };
               });
           overlap = λ other h. absurd (not_free m.span (state_after (start t) history).registered other (overlap_so m other h) free);
@@ -234,10 +236,10 @@ module _ (t : Terms) (history : List Update) (v : Log) (stamp : ℕ) (now : stam
       ))
       may
 
-  pub deregister_refused : (base : ℕ) → ShowsNone base v → IsRefusalOf (update.Deregister base) (state_after (start v.terms) history) stamp (receipt.Deregister base (removed.NotFound stamp)) × HoldsNow t history (last_moment 0 v.receipts.own) (receipt.Deregister base (removed.NotFound stamp))
+  pub deregister_refused : (base : ℕ) → ShowsNone base v → IsRefusalOf (update.Deregister base) (state_after (start v.terms) history) stamp (receipt.Deregister base (removed.NotFound stamp)) × HoldsNow t history (last_moment v.receipts.since v.receipts.own) (receipt.Deregister base (removed.NotFound stamp))
   deregister_refused base h =
       let none = none_so base h in (
         (refl, refl, refl, subst (λ (k : Terms). IsNone (at_base base (state_after (start k) history).registered)) (sym terms) none),
-        subst (λ k. HoldsNow t history (last_moment 0 v.receipts.own) (receipt.Deregister base (removed.NotFound k))) (sym now)
+        subst (λ k. HoldsNow t history (last_moment v.receipts.since v.receipts.own) (receipt.Deregister base (removed.NotFound k))) (sym now)
             (record { accepts = refl; now = refl; holds = λ callers. record { within = omega arith; numbered = tt; right = right_now t history (receipt.Deregister base (removed.NotFound (length history))) none; filled = tt } }),
       )

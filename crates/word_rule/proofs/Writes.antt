@@ -10,7 +10,7 @@ use Rattle.word_rule.specs.declared.log.NodeSight.{NodeSight}
 use Rattle.word_rule.specs.declared.log.CopySight.{CopySight}
 use Rattle.word_rule.specs.declared.log.Log.{Log}
 use Rattle.word_rule.specs.Memory.{NodeWords, Memory, memory_of, counters}
-use Rattle.word_rule.specs.Logs.{is_spent, weight, turns}
+use Rattle.word_rule.specs.Logs.{is_spent, weight, turns, own_list}
 use Rattle.word_rule.specs.Callers.{total, CallersHold, IsIdle, AtLoader, LoaderLock}
 use Rattle.word_rule.specs.Nodes.{Shadow, NodesHold}
 use Rattle.word_rule.specs.Copies.{ActiveCopy, CopySightHolds}
@@ -23,7 +23,7 @@ use Rattle.word_rule.proofs.Frames.{table_step, still_after_turn}
 
 -- What a step that writes leaves of its log's observations.
 pub record Wrote (v w : Log) : Type 0 where
-  pub own : w.receipts.own ≡ v.receipts.own
+  pub own : own_list w.receipts ≡ own_list v.receipts
   pub sights : w.sights ≡ v.sights
   pub loads : w.trace.loads ≡ v.trace.loads
   pub turn : turns v.trace < turns w.trace

@@ -14,16 +14,16 @@ use Rattle.reg_model.specs.Receipt.{AllHold, AreInOrder}
 use Rattle.reg_model.specs.Numbers.{has_number}
 use Rattle.reg_model.specs.declared.answer.Update.{Update}
 use Rattle.reg_model.specs.declared.answer.Update.TheVariants.{Register, Deregister, Load, Unload}
-use Rattle.reg_model.specs.declared.answer.Receipt.{Receipt}
 use Rattle.segment_array.specs.Ascending.{AscendFrom}
 use Rattle.tree_shape.specs.Numbers.{once}
 use Rattle.word_rule.specs.declared.log.Terms.{Terms}
+use Rattle.word_rule.specs.declared.log.ReceiptList.{ReceiptList}
 use Rattle.word_rule.specs.declared.log.Receipts.{Receipts}
 use Rattle.word_rule.specs.declared.log.Lineage.{Lineage}
 use Rattle.word_rule.specs.declared.log.LoaderHolding.{LoaderHolding}
 use Rattle.word_rule.specs.declared.log.Log.{Log}
 use Rattle.word_rule.specs.Names.{name_count, is_same}
-use Rattle.word_rule.specs.Logs.{is_spent, weight}
+use Rattle.word_rule.specs.Logs.{is_spent, own_list, weight}
 use Rattle.word_rule.specs.Memory.{Memory, counters}
 use Rattle.word_rule.specs.Places.{ALLOWANCE, CREDIT, lower, upper, spare}
 
@@ -67,8 +67,8 @@ pub record AreTerms (t : Terms) : Type 0 where
   pub members : AllByRecursion (IsMemberOf t) t.fixed
 
 -- how many receipts of a log say that the n-th update was accepted
-abbrev pub dones_of_all : ℕ → List (List Receipt) → ℕ
-dones_of_all n lists = sum_by (λ receipts. count_by (has_number n) receipts) lists
+abbrev pub dones_of_all : ℕ → List ReceiptList → ℕ
+dones_of_all n lists = sum_by (λ receipts. count_by (has_number n) receipts.list) lists
 
 abbrev pub dones : ℕ → Receipts → ℕ
 dones n r = count_by (has_number n) r.own + dones_of_all n r.joined
@@ -80,15 +80,19 @@ dones_in n v = dones n v.receipts
 abbrev pub number_of : ℕ → ℕ → ℕ
 number_of len n = once (nat_le 1 n && nat_le n len)
 
--- the receipts of a list hold in this history, and along it stamps and numbers never fall
-abbrev pub IsRecord : Terms → List Update → ℕ → List Receipt → Type 0
+-- The receipts of a list hold in this history, and along it stamps and numbers never fall. The list
+-- begins with what its caller had seen when it was split off: no stamp is below that, each number
+-- is above it, and a Full looks back no further.
+abbrev pub IsRecord : Terms → List Update → ℕ → ReceiptList → Type 0
 IsRecord t history callers receipts =
-    AllHold (start t) history t.nodes callers 0 receipts × AreInOrder 0 receipts
+    AllHold (start t) history t.nodes callers receipts.since receipts.list
+    × AreInOrder receipts.since receipts.list
 
 -- each list of a log is such a record, and the history begins with what was heard
 pub record ReceiptsHold (t : Terms) (history : List Update) (callers : ℕ)
     (r : Receipts) : Type 0 where
-  pub own : IsRecord t history callers r.own
+  pub since : r.since ≤ length history
+  pub own : IsRecord t history callers (own_list r)
   pub joined : AllByRecursion (IsRecord t history callers) r.joined
   pub heard : IsPrefix r.heard history
 

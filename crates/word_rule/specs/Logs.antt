@@ -9,6 +9,8 @@ use Rattle.word_rule.specs.declared.log.Role.TheVariants as role
 use Rattle.word_rule.specs.declared.log.Budget.{Budget}
 use Rattle.word_rule.specs.declared.log.LoaderHolding.{LoaderHolding}
 use Rattle.word_rule.specs.declared.log.LoadEvent.{LoadEvent}
+use Rattle.word_rule.specs.declared.log.ReceiptList.{ReceiptList}
+use Rattle.word_rule.specs.declared.log.Receipts.{Receipts}
 use Rattle.word_rule.specs.declared.log.Trace.{Trace}
 use Rattle.word_rule.specs.declared.log.Lineage.{Lineage}
 use Rattle.word_rule.specs.declared.log.Log.{Log}
@@ -83,6 +85,10 @@ longer a b = if nat_lt (length a) (length b) then b else a
 abbrev pub shorter : List Update → List Update → List Update
 shorter a b = if nat_lt (length a) (length b) then a else b
 
+-- a caller's own receipts
+abbrev pub own_list : Receipts → ReceiptList
+own_list r = record { since = r.since; list = r.own }
+
 -- a log that has seen so much and done nothing
 abbrev pub new_log : Terms → Role → List Update → Budget → Lineage → Log
 new_log terms role past budget lineage = record {
@@ -90,7 +96,7 @@ new_log terms role past budget lineage = record {
   role = role;
   past = past;
   budget = budget;
-  receipts = record { own = []; joined = []; heard = [] };
+  receipts = record { since = length past; own = []; joined = []; heard = [] };
   trace = record { loads = []; stores = []; writes = 0; meetings = 0 };
   holdings = record { held = []; out = []; head = None };
   loader = None;
@@ -177,7 +183,7 @@ after_join v other = record (after_learn v other) {
     credit = v.budget.credit + other.budget.credit;
   };
   receipts = record v.receipts {
-    joined = v.receipts.joined ++ other.receipts.own ∷ other.receipts.joined;
+    joined = v.receipts.joined ++ own_list other.receipts ∷ other.receipts.joined;
     heard = shorter v.past other.past;
   };
   made = v.made + other.made;

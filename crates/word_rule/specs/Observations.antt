@@ -17,11 +17,12 @@ use Rattle.word_rule.specs.declared.log.LoadEvent.{LoadEvent}
 use Rattle.word_rule.specs.declared.log.LoadedWord.{LoadedWord}
 use Rattle.word_rule.specs.declared.log.NodeSight.{NodeSight}
 use Rattle.word_rule.specs.declared.log.Log.{Log}
+use Rattle.word_rule.specs.declared.log.ReceiptList.{ReceiptList}
 use Rattle.word_rule.specs.Places.{HEAD, node_place}
 use Rattle.word_rule.specs.Memory.{NodeWords, Memory}
 use Rattle.word_rule.specs.Spelling.{node_word, SpellsNode}
 use Rattle.word_rule.specs.Sights.{place_of}
-use Rattle.word_rule.specs.Logs.{turns}
+use Rattle.word_rule.specs.Logs.{own_list, turns}
 use Rattle.word_rule.specs.Callers.{IsLockedAt, start}
 use Rattle.word_rule.specs.Nodes.{Shadow, IsPlaced}
 use Rattle.word_rule.specs.Copies.{CopySightHolds}
@@ -61,16 +62,16 @@ pub record SightHolds (t : Terms) (words : NodeWords) (history : List Update) (s
       × (IsTrue (shadow.live s.node) → (shadow.settled s.node).level ≡ 0
       → AreInside (state_at (start t) history k).registered (shadow.settled s.node)))
 
--- the last stamp or number of a list
+-- the last stamp or number of a list, or where it begins
 abbrev pub last_moment : ℕ → List Receipt → ℕ
 last_moment since [] = since
 last_moment since (r ∷ receipts) = last_moment (max since (moment r)) receipts
 
--- at some moment of the history, not before the last of these receipts, so many members were
--- registered
-abbrev pub HadMembers : Terms → List Update → List Receipt → ℕ → Type 0
+-- at some moment of the history, not before the last of these receipts and not before their list
+-- begins, so many members were registered
+abbrev pub HadMembers : Terms → List Update → ReceiptList → ℕ → Type 0
 HadMembers t history receipts least =
-    (j : ℕ) × ((last_moment 0 receipts ≤ j) × (j ≤ length history)
+    (j : ℕ) × ((last_moment receipts.since receipts.list ≤ j) × (j ≤ length history)
     × (least ≤ length (state_at (start t) history j).registered))
 
 -- the count of a full node
@@ -87,19 +88,19 @@ IsFullCount l h = (l.word ≡ node_place h.node + 5) × IsSome h.mark × SpellsN
 -- What a load tells of fullness while the receipts are those with which it was made. After a full
 -- node's count ten members were registered; after a free head of 0, twice as many as nodes that no
 -- caller can have out.
-pub record WasFull (t : Terms) (history : List Update) (callers : ℕ) (receipts : List Receipt)
+pub record WasFull (t : Terms) (history : List Update) (callers : ℕ) (receipts : ReceiptList)
     (l : LoadEvent) : Type 0 where
-  pub count : l.receipts ≡ length receipts
+  pub count : l.receipts ≡ length receipts.list
       → AllByRecursion (λ h. IsFullCount l h → HadMembers t history receipts 10) l.held
-  pub head : l.receipts ≡ length receipts → l.word ≡ HEAD → l.found ≡ 0 → 2 ≤ t.nodes - 4 * callers
-      → HadMembers t history receipts (2 * (t.nodes - 4 * callers))
+  pub head : l.receipts ≡ length receipts.list → l.word ≡ HEAD → l.found ≡ 0
+      → 2 ≤ t.nodes - 4 * callers → HadMembers t history receipts (2 * (t.nodes - 4 * callers))
 
 -- What holds of one log's sights and loads, where so many callers were ever made.
 pub record ObservationsHold (t : Terms) (m : Memory) (history : List Update) (callers : ℕ)
     (shadow : Shadow) (v : Log) : Type 0 where
   pub sights : AllByRecursion (SightHolds t m.nodes history shadow) v.sights.nodes
   pub copies : IfSome v.sights.copies (CopySightHolds t m.clock m.copies)
-  pub full : AllByRecursion (WasFull t history callers v.receipts.own) v.trace.loads
+  pub full : AllByRecursion (WasFull t history callers (own_list v.receipts)) v.trace.loads
   -- no load was made after more turns or receipts than there are
   pub earlier : AllByRecursion
       (λ l. (l.turns ≤ turns v.trace) × (l.receipts ≤ length v.receipts.own)) v.trace.loads

@@ -101,11 +101,13 @@ pub record ShowsFull (m : Member) (v : Log) : Type 0 where
   pub no_room : HadNoRoom m.span.first (length v.receipts.own) v.trace.loads
 
 -- One receipt more, which is right in the state after all that is now seen. Where it is a Full, ten
--- members were registered at some moment since the receipt before it.
+-- members were registered at some moment since the receipt before it, and since its caller was
+-- split off.
 pub record Appends (r : Receipt) (v w : Log) : Type 0 where
   pub own : w.receipts.own ≡ v.receipts.own ++ r ∷ []
   pub right : IsRight (state_after (start w.terms) w.past) r
-  pub filled : HadTenMembers (start w.terms) w.past (last_moment 0 v.receipts.own) r
+  pub filled : HadTenMembers (start w.terms) w.past (last_moment v.receipts.since v.receipts.own)
+      r
 
 -- Which receipt a load of the clock appends that is asked for the refusal of an update of the tree:
 -- the one that the held leaves show, with the clock's number of updates as its stamp.

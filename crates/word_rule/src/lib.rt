@@ -40,7 +40,7 @@ mod words;
 pub use caller::{Caller, Note};
 pub use log::{
     Ask, Budget, CopySight, Holding, Holdings, Lineage, LoadEvent, LoadedWord, LoaderHolding,
-    LockId, Log, NodeSight, Receipts, Role, Sights, Terms, Trace,
+    LockId, Log, NodeSight, ReceiptList, Receipts, Role, Sights, Terms, Trace,
 };
 pub use nodes::{FIRST_NODE, NODE_WORDS};
 pub use words::Words;

@@ -43,11 +43,19 @@ pub struct Budget {
     pub credit: u64,
 }
 
+/// The receipts of one caller, in order, and how many updates it had seen when it was split off.
+pub struct ReceiptList {
+    pub since: u64,
+    pub list: LinkedList<Receipt>,
+}
+
 /// The receipts of a caller, and of each caller that was joined into it, directly or through
 /// others; and what it heard of the history as it took in another.
 pub struct Receipts {
+    /// How many updates it had seen when it was split off.
+    pub since: u64,
     pub own: LinkedList<Receipt>,
-    pub joined: LinkedList<LinkedList<Receipt>>,
+    pub joined: LinkedList<ReceiptList>,
     /// The shorter of what it had seen and what the one had that it took in last.
     pub heard: LinkedList<Update>,
 }

@@ -1,6 +1,7 @@
 use Rattle.std.proofs.Common.{◌≡◌, ap, ◌∙◌}
 use Rattle.word_rule.specs.CallerData.{CallerData}
 use Rattle.word_rule.specs.Logs.{first_log}
+use Rattle.registry_core.specs.Rounds.{joined_lists}
 use Rattle.run_engine.specs.Shared.{script_terms}
 use Rattle.run_engine.proofs.Played.{played_play}
 use Rattle.run_engine.proofs.SharedLawfulness.{receipts_joined, shared_lawful}
@@ -21,4 +22,4 @@ returns-clause-played g c = played_play (λ thread. thread.items) (λ round. rou
 
 pub returns-clause-receipts : goal.returns-clause-receipts
 returns-clause-receipts g c =
-    rw (← c.script.view_is) (receipts_joined c.script.inside.images.items (λ thread. thread.items) (λ round. round.items) c.in_ok-rounds.rounds.items c.seen-updates.result c.args.me.now c.play_shared.new.me (ap (λ (k : CallerData). k.log.receipts.joined) c.requires.caller) (rw (← c.deref.ensures.value) c.in_ok-rounds.ensures.after))
+    rw (← c.script.view_is) (receipts_joined c.script.inside.images.items (λ thread. thread.items) (λ round. round.items) c.in_ok-rounds.rounds.items c.seen-updates.result c.args.me.now c.play_shared.new.me (ap (λ (k : CallerData). joined_lists k.log.receipts) c.requires.caller) (rw (← c.deref.ensures.value) c.in_ok-rounds.ensures.after))
