@@ -23,7 +23,7 @@ use Rattle.word_rule.specs.Steps.{MayStore, after_node_store, store_in, stored_l
 use Rattle.word_rule.specs.declared.log.Holding.{Holding}
 use Rattle.word_rule.specs.declared.log.Log.{Log}
 use Rattle.word_rule.specs.declared.log.Terms.{Terms}
-use Rattle.node_store.specs.Holding.{SpellsHeld, WritesHeld}
+use Rattle.node_store.specs.Holding.{SpellsHeld, StoresHeld}
 use Rattle.node_store.specs.Writing.{kind_of_body}
 use Rattle.btree_change.specs.Paths.{StepsOnNodes}
 use Rattle.btree_change.specs.Removing.{IsSpare, IsSpareAs}
@@ -119,7 +119,7 @@ module _ (t : Terms) (x : Siblings) (k k1 : CallerData) (found : ℕ) (hs : Hold
   pub may_low : MayStore x.left.node k1.log
   may_low = may_store l hs.low k1.log (ap (held_of l) held1 ∙ both_low hs.left_first hs.low hs.high (hs.upper ∷ hs.rest) l hs.left.node (λ e. apart.left_right (sym (sym hs.right.node ∙ e)))) hs.left.marked
 
-  module _ (k2 : CallerData) (writes1 : WritesHeld x.left.node (joined x.left.content x.right.content) k1 k2) (spells1 : SpellsHeld x.left.node (joined x.left.content x.right.content) k2.log) where
+  module _ (k2 : CallerData) (writes1 : StoresHeld x.left.node (joined x.left.content x.right.content) k1 k2) (spells1 : SpellsHeld x.left.node (joined x.left.content x.right.content) k2.log) where
     w1 : IsWrittenAs (joined x.left.content x.right.content) hs.low (λ z. both_of hs.left_first z hs.high (hs.upper ∷ hs.rest)) k1 k2
     w1 = write_low hs.left_first one l hs.low hs.high (hs.upper ∷ hs.rest) k1 k2 (fit_kind x.left.content.body x.right.content.body fit) hs.left.node (λ e. apart.left_right (sym (sym hs.right.node ∙ e))) ((λ e. apart.left_above (sym (sym hs.parent.node ∙ e))), apart.rest_left) held1 writes1 spells1
 
@@ -129,7 +129,7 @@ module _ (t : Terms) (x : Siblings) (k k1 : CallerData) (found : ℕ) (hs : Hold
     pub may_upper : MayStore x.above.at.node k2.log
     may_upper = may_store n hs.upper k2.log (ap (held_of n) w1.held ∙ (both_more hs.left_first w1.lock hs.high (hs.upper ∷ hs.rest) n (λ e. apart.left_above (sym low_node ∙ e)) (λ e. apart.right_above (sym hs.right.node ∙ e)) ∙ found_head n hs.upper hs.rest hs.parent.node)) hs.parent.marked
 
-    module _ (k3 : CallerData) (writes2 : WritesHeld x.above.at.node (record x.above.at.content { body = Pairs (at_slot swallow_next x.slot (pairs_of x.above.at.content)) }) k2 k3) (spells2 : SpellsHeld x.above.at.node (record x.above.at.content { body = Pairs (at_slot swallow_next x.slot (pairs_of x.above.at.content)) }) k3.log) where
+    module _ (k3 : CallerData) (writes2 : StoresHeld x.above.at.node (record x.above.at.content { body = Pairs (at_slot swallow_next x.slot (pairs_of x.above.at.content)) }) k2 k3) (spells2 : SpellsHeld x.above.at.node (record x.above.at.content { body = Pairs (at_slot swallow_next x.slot (pairs_of x.above.at.content)) }) k3.log) where
       w2 : IsWrittenAs (record x.above.at.content { body = Pairs (at_slot swallow_next x.slot (pairs_of x.above.at.content)) }) hs.upper (λ z. both_of hs.left_first w1.lock hs.high (z ∷ hs.rest)) k2 k3
       w2 = write_upper hs.left_first less n w1.lock hs.high hs.upper hs.rest k2 k3 (λ e. omega (arith, e)) hs.parent.node (λ e. apart.left_above (sym low_node ∙ e)) (λ e. apart.right_above (sym hs.right.node ∙ e)) apart.rest_above w1.held writes2 spells2
 

@@ -19,7 +19,7 @@ use Rattle.word_rule.specs.Held.{held_of}
 use Rattle.word_rule.specs.Memory.{updated}
 use Rattle.word_rule.specs.NodeTells.{KnowsTree}
 use Rattle.word_rule.specs.Steps.{MayStore}
-use Rattle.node_store.specs.Holding.{SpellsHeld, WritesHeld}
+use Rattle.node_store.specs.Holding.{SpellsHeld, StoresHeld}
 use Rattle.node_store.specs.Writing.{kind_of_body}
 use Rattle.btree_change.specs.declared.lift.FullRoot.{FullRoot}
 use Rattle.btree_change.specs.declared.split.Parts.{Parts}
@@ -151,10 +151,10 @@ module _ (t : Terms) (full : FullRoot) (pc : ℕ) (k0 : CallerData) (h : HoldsFu
       (inr (ap (λ (z : Holdings). is_among z.out full.left) start ∙ (ap (λ ns. is_among ns full.left) h.out ∙ is_second full.right full.left [])))
 
   -- The three nodes are written, the root last.
-  module _ (parts : Parts) (are : parts ≡ root_parts_for full) (k k1 : CallerData) (start : k.log.holdings ≡ k0.log.holdings) (write1 : WritesHeld full.left parts.left k k1) (spell1 : SpellsHeld full.left parts.left k1.log) where
+  module _ (parts : Parts) (are : parts ≡ root_parts_for full) (k k1 : CallerData) (start : k.log.holdings ≡ k0.log.holdings) (write1 : StoresHeld full.left parts.left k k1) (spell1 : SpellsHeld full.left parts.left k1.log) where
     first : IsRewritten (root_parts_for full).left h.left (h.right ∷ []) (h.upper ∷ []) k k1
     first = rewritten_so (root_parts_for full).left full.left h.left (h.right ∷ []) (h.upper ∷ []) k k1 left_kind h.left_free.node far_left far_left' (ap (λ (z : Holdings). z.held) start ∙ h.held)
-        (subst (λ (z : Parts). WritesHeld full.left z.left k k1) are write1) (subst (λ (z : Parts). SpellsHeld full.left z.left k1.log) are spell1)
+        (subst (λ (z : Parts). StoresHeld full.left z.left k k1) are write1) (subst (λ (z : Parts). SpellsHeld full.left z.left k1.log) are spell1)
 
     left_is : first.lock.node ≡ full.left
     left_is = first.node ∙ h.left_free.node
@@ -170,10 +170,10 @@ module _ (t : Terms) (full : FullRoot) (pc : ℕ) (k0 : CallerData) (h : HoldsFu
         (sym (ap (held_of full.right) first.held ∙ found_at full.right [] h.right (first.lock ∷ h.upper ∷ []) h.right_free.node tt))
         (inr (ap (λ ns. is_among ns full.right) out1 ∙ is_first full.right (full.left ∷ [])))
 
-    module _ (k2 : CallerData) (write2 : WritesHeld full.right parts.right k1 k2) (spell2 : SpellsHeld full.right parts.right k2.log) where
+    module _ (k2 : CallerData) (write2 : StoresHeld full.right parts.right k1 k2) (spell2 : SpellsHeld full.right parts.right k2.log) where
       second : IsRewritten (root_parts_for full).right h.right [] (first.lock ∷ h.upper ∷ []) k1 k2
       second = rewritten_so (root_parts_for full).right full.right h.right [] (first.lock ∷ h.upper ∷ []) k1 k2 right_kind h.right_free.node tt far_right first.held
-          (subst (λ (z : Parts). WritesHeld full.right z.right k1 k2) are write2) (subst (λ (z : Parts). SpellsHeld full.right z.right k2.log) are spell2)
+          (subst (λ (z : Parts). StoresHeld full.right z.right k1 k2) are write2) (subst (λ (z : Parts). SpellsHeld full.right z.right k2.log) are spell2)
 
       pub table_then : k2.table ≡ k.table
       table_then = second.same.table ∙ first.same.table
@@ -188,10 +188,10 @@ module _ (t : Terms) (full : FullRoot) (pc : ℕ) (k0 : CallerData) (h : HoldsFu
       may_third = subst (λ o. IsSomeAnd o (λ (z : Holding). IsSome z.mark ⊎ IsTrue (is_among k2.log.holdings.out full.root.node)))
           (sym (ap (held_of full.root.node) second.held ∙ found_at full.root.node (second.lock ∷ first.lock ∷ []) h.upper [] h.root.node far_root)) (inl h.root.marked)
 
-      module _ (k3 : CallerData) (write3 : WritesHeld full.root.node parts.above k2 k3) (spell3 : SpellsHeld full.root.node parts.above k3.log) where
+      module _ (k3 : CallerData) (write3 : StoresHeld full.root.node parts.above k2 k3) (spell3 : SpellsHeld full.root.node parts.above k3.log) where
         third : IsRewritten (root_parts_for full).above h.upper (second.lock ∷ first.lock ∷ []) [] k2 k3
         third = rewritten_so (root_parts_for full).above full.root.node h.upper (second.lock ∷ first.lock ∷ []) [] k2 k3 (λ e. omega (arith, e)) h.root.node far_root tt second.held
-            (subst (λ (z : Parts). WritesHeld full.root.node z.above k2 k3) are write3) (subst (λ (z : Parts). SpellsHeld full.root.node z.above k3.log) are spell3)
+            (subst (λ (z : Parts). StoresHeld full.root.node z.above k2 k3) are write3) (subst (λ (z : Parts). SpellsHeld full.root.node z.above k3.log) are spell3)
 
         pub lift_written : StepsOnNodes k0 k → WritesRootParts full k0 k3
         lift_written steps = record {

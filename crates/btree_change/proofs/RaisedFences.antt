@@ -21,7 +21,7 @@ use Rattle.word_rule.specs.Held.{held_of}
 use Rattle.word_rule.specs.NodeTells.{IsLiveNode, KnowsTree}
 use Rattle.word_rule.specs.Spelling.{SpellsNode}
 use Rattle.word_rule.specs.Steps.{MayStore}
-use Rattle.node_store.specs.Holding.{ReadsHeld, SpellsHeld, WritesHeld}
+use Rattle.node_store.specs.Holding.{ReadsHeld, SpellsHeld, StoresHeld}
 use Rattle.btree_change.specs.Paths.{AreHigher, IsSettledLock, StepsOnNodes}
 use Rattle.btree_change.specs.Spines.{AreApart, AreMovedLocks, AreRewritten, HoldsNext, HoldsSpines, IsFreshLock, IsMovedLock, IsPending, IsReadable, IsRewrittenAs, IsSpine, LetsGoSettled, MovesFence, WritesSpines}
 use Rattle.btree_change.proofs.Descending.{is_inner}
@@ -200,7 +200,7 @@ module _ (t : Terms) (x slot fence : ℕ) (k : CallerData) (next : HoldsNext t x
     out2 = ap (λ (z : Holdings). z.out) start ∙ (ap (λ (z : Holdings). z.out) next.same ∙ next.way.out)
 
     -- X was written
-    module _ (k3 : CallerData) (written : NodeData) (written_is : written ≡ record content { body = Pairs (at_slot (separate_at fence) slot (pairs_of content)) }) (writes : WritesHeld x written k2 k3) (spells : SpellsHeld x written k3.log) where
+    module _ (k3 : CallerData) (written : NodeData) (written_is : written ≡ record content { body = Pairs (at_slot (separate_at fence) slot (pairs_of content)) }) (writes : StoresHeld x written k2 k3) (spells : SpellsHeld x written k3.log) where
       is_now : written ≡ now_top
       is_now = written_is ∙ ap (λ (s : NodeData). record s { body = Pairs (at_slot (separate_at fence) slot (pairs_of s)) }) (sym content_is ∙ sym (top_content t x slot fence hs next tree raised lies inside))
 
@@ -208,7 +208,7 @@ module _ (t : Terms) (x slot fence : ℕ) (k : CallerData) (next : HoldsNext t x
       w = rewritten_so now_top x T (RT ++ LT) RE k2 k3 (λ e. absurd (omega (arith, e))) next.way.node
           (subst (λ m. AllByRecursion (λ (a : Holding). a.node ≢ m) (RT ++ LT)) next.way.node (apart_mid (RT ++ LT) T RE apart2).0)
           (subst (λ m. AllByRecursion (λ (a : Holding). a.node ≢ m) RE) next.way.node (apart_mid (RT ++ LT) T RE apart2).1)
-          held2 (subst (λ s. WritesHeld x s k2 k3) is_now writes) (subst (λ s. SpellsHeld x s k3.log) is_now spells)
+          held2 (subst (λ s. StoresHeld x s k2 k3) is_now writes) (subst (λ s. SpellsHeld x s k3.log) is_now spells)
 
       pub one_top : IsRewrittenAs (λ _. now_top) T w.lock
       one_top = record {

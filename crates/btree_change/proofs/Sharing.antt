@@ -23,7 +23,7 @@ use Rattle.word_rule.specs.Steps.{MayRelease, MayStore, after_node_release, afte
 use Rattle.word_rule.specs.declared.log.Holding.{Holding}
 use Rattle.word_rule.specs.declared.log.Log.{Log}
 use Rattle.word_rule.specs.declared.log.Terms.{Terms}
-use Rattle.node_store.specs.Holding.{SpellsHeld, WritesHeld}
+use Rattle.node_store.specs.Holding.{SpellsHeld, StoresHeld}
 use Rattle.btree_change.specs.Paths.{StepsOnNodes}
 use Rattle.btree_change.specs.Releases.{Spends}
 use Rattle.btree_change.specs.Shares.{IsChosen, shares_for}
@@ -83,7 +83,7 @@ module _ (t : Terms) (x : Siblings) (k k1 : CallerData) (found : ℕ) (hs : Hold
   pub may_left : MayStore x.left.node k1.log
   may_left = may_store l hs.low k1.log (ap (held_of l) held1 ∙ both_low hs.left_first hs.low hs.high (hs.upper ∷ hs.rest) l hs.left.node high_far_l) hs.left.marked
 
-  module _ (k2 : CallerData) (writes1 : WritesHeld x.left.node (shares_for x).left k1 k2) (spells1 : SpellsHeld x.left.node (shares_for x).left k2.log) where
+  module _ (k2 : CallerData) (writes1 : StoresHeld x.left.node (shares_for x).left k1 k2) (spells1 : SpellsHeld x.left.node (shares_for x).left k2.log) where
     w1 : IsWrittenAs (shares_for x).left hs.low (λ z. both_of hs.left_first z hs.high (hs.upper ∷ hs.rest)) k1 k2
     w1 = write_low hs.left_first fst l hs.low hs.high (hs.upper ∷ hs.rest) k1 k2 (share_kinds x.left.content.body x.right.content.body over).0 hs.left.node high_far_l ((λ e. apart.left_above (sym (sym hs.parent.node ∙ e))), apart.rest_left) held1 writes1 spells1
 
@@ -96,7 +96,7 @@ module _ (t : Terms) (x : Siblings) (k k1 : CallerData) (found : ℕ) (hs : Hold
     pub may_right : MayStore x.right.node k2.log
     may_right = may_store r hs.high k2.log (ap (held_of r) w1.held ∙ both_high hs.left_first w1.lock hs.high (hs.upper ∷ hs.rest) r hs.right.node low_far_r) hs.right.marked
 
-    module _ (k3 : CallerData) (writes2 : WritesHeld x.right.node (shares_for x).right k2 k3) (spells2 : SpellsHeld x.right.node (shares_for x).right k3.log) where
+    module _ (k3 : CallerData) (writes2 : StoresHeld x.right.node (shares_for x).right k2 k3) (spells2 : SpellsHeld x.right.node (shares_for x).right k3.log) where
       w2 : IsWrittenAs (shares_for x).right hs.high (λ z. both_of hs.left_first w1.lock z (hs.upper ∷ hs.rest)) k2 k3
       w2 = write_high hs.left_first snd r w1.lock hs.high (hs.upper ∷ hs.rest) k2 k3 (share_kinds x.left.content.body x.right.content.body over).1 hs.right.node low_far_r ((λ e. apart.right_above (sym (sym hs.parent.node ∙ e))), apart.rest_right) w1.held writes2 spells2
 
@@ -109,7 +109,7 @@ module _ (t : Terms) (x : Siblings) (k k1 : CallerData) (found : ℕ) (hs : Hold
       pub may_above : MayStore x.above.at.node k3.log
       may_above = may_store n hs.upper k3.log (ap (held_of n) w2.held ∙ (both_more hs.left_first w1.lock w2.lock (hs.upper ∷ hs.rest) n (λ e. apart.left_above (sym low_node ∙ e)) (λ e. apart.right_above (sym high_node ∙ e)) ∙ found_head n hs.upper hs.rest hs.parent.node)) hs.parent.marked
 
-      module _ (k4 : CallerData) (writes3 : WritesHeld x.above.at.node (shares_for x).above k3 k4) (spells3 : SpellsHeld x.above.at.node (shares_for x).above k4.log)
+      module _ (k4 : CallerData) (writes3 : StoresHeld x.above.at.node (shares_for x).above k3 k4) (spells3 : SpellsHeld x.above.at.node (shares_for x).above k4.log)
           (laws : SettlingLaws) (law : ShareLaw) (small : IsTrue (is_small_body x.left.content.body || is_small_body x.right.content.body)) where
         w3 : IsWrittenAs (shares_for x).above hs.upper (λ z. both_of hs.left_first w1.lock w2.lock (z ∷ hs.rest)) k3 k4
         w3 = write_upper hs.left_first top n w1.lock w2.lock hs.upper hs.rest k3 k4 (λ e. omega (arith, e)) hs.parent.node (λ e. apart.left_above (sym low_node ∙ e)) (λ e. apart.right_above (sym high_node ∙ e)) apart.rest_above w2.held writes3 spells3

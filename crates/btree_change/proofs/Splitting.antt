@@ -19,7 +19,7 @@ use Rattle.word_rule.specs.Held.{held_of}
 use Rattle.word_rule.specs.Memory.{updated}
 use Rattle.word_rule.specs.NodeTells.{KnowsTree}
 use Rattle.word_rule.specs.Steps.{MayStore}
-use Rattle.node_store.specs.Holding.{SpellsHeld, WritesHeld}
+use Rattle.node_store.specs.Holding.{SpellsHeld, StoresHeld}
 use Rattle.node_store.specs.Writing.{kind_of_body}
 use Rattle.btree_change.specs.declared.split.FullChild.{FullChild}
 use Rattle.btree_change.specs.declared.split.Parts.{Parts}
@@ -219,10 +219,10 @@ module _ (t : Terms) (full : FullChild) (pc : ℕ) (k0 : CallerData) (h : HoldsF
   rest_is = ap (drop 3) h.held
 
   -- The three nodes are written, the new one first and the child last.
-  module _ (parts : Parts) (are : parts ≡ parts_for full pc) (k k1 : CallerData) (start : k.log.holdings ≡ k0.log.holdings) (write1 : WritesHeld full.fresh parts.right k k1) (spell1 : SpellsHeld full.fresh parts.right k1.log) where
+  module _ (parts : Parts) (are : parts ≡ parts_for full pc) (k k1 : CallerData) (start : k.log.holdings ≡ k0.log.holdings) (write1 : StoresHeld full.fresh parts.right k k1) (spell1 : SpellsHeld full.fresh parts.right k1.log) where
     first : IsRewritten (parts_for full pc).right h.new [] (h.lower ∷ h.upper ∷ h.rest) k k1
     first = rewritten_so (parts_for full pc).right full.fresh h.new [] (h.lower ∷ h.upper ∷ h.rest) k k1 right_kind h.free.node tt before_new (ap (λ (z : Holdings). z.held) start ∙ h.held)
-        (subst (λ (z : Parts). WritesHeld full.fresh z.right k k1) are write1) (subst (λ (z : Parts). SpellsHeld full.fresh z.right k1.log) are spell1)
+        (subst (λ (z : Parts). StoresHeld full.fresh z.right k k1) are write1) (subst (λ (z : Parts). SpellsHeld full.fresh z.right k1.log) are spell1)
 
     new_is : first.lock.node ≡ full.fresh
     new_is = first.node ∙ h.free.node
@@ -234,10 +234,10 @@ module _ (t : Terms) (full : FullChild) (pc : ℕ) (k0 : CallerData) (h : HoldsF
     may_second = subst (λ o. IsSomeAnd o (λ (z : Holding). IsSome z.mark ⊎ IsTrue (is_among k1.log.holdings.out full.parent.node))) (sym (ap (held_of full.parent.node) first.held ∙ found_at full.parent.node (first.lock ∷ h.lower ∷ []) h.upper h.rest h.parent.node far_up))
         (inl h.parent.marked)
 
-    module _ (k2 : CallerData) (write2 : WritesHeld full.parent.node parts.above k1 k2) (spell2 : SpellsHeld full.parent.node parts.above k2.log) where
+    module _ (k2 : CallerData) (write2 : StoresHeld full.parent.node parts.above k1 k2) (spell2 : SpellsHeld full.parent.node parts.above k2.log) where
       second : IsRewritten (parts_for full pc).above h.upper (first.lock ∷ h.lower ∷ []) h.rest k1 k2
       second = rewritten_so (parts_for full pc).above full.parent.node h.upper (first.lock ∷ h.lower ∷ []) h.rest k1 k2 (λ e. omega (arith, e)) h.parent.node far_up rest_up first.held
-          (subst (λ (z : Parts). WritesHeld full.parent.node z.above k1 k2) are write2) (subst (λ (z : Parts). SpellsHeld full.parent.node z.above k2.log) are spell2)
+          (subst (λ (z : Parts). StoresHeld full.parent.node z.above k1 k2) are write2) (subst (λ (z : Parts). SpellsHeld full.parent.node z.above k2.log) are spell2)
 
       pub table_then : k2.table ≡ k.table
       table_then = second.same.table ∙ first.same.table
@@ -255,10 +255,10 @@ module _ (t : Terms) (full : FullChild) (pc : ℕ) (k0 : CallerData) (h : HoldsF
       may_third = subst (λ o. IsSomeAnd o (λ (z : Holding). IsSome z.mark ⊎ IsTrue (is_among k2.log.holdings.out full.child.node))) (sym (ap (held_of full.child.node) second.held ∙ found_at full.child.node (first.lock ∷ []) h.lower (second.lock ∷ h.rest) h.child.node far_down'))
           (inl h.child.marked)
 
-      module _ (k3 : CallerData) (write3 : WritesHeld full.child.node parts.left k2 k3) (spell3 : SpellsHeld full.child.node parts.left k3.log) where
+      module _ (k3 : CallerData) (write3 : StoresHeld full.child.node parts.left k2 k3) (spell3 : SpellsHeld full.child.node parts.left k3.log) where
         third : IsRewritten (parts_for full pc).left h.lower (first.lock ∷ []) (second.lock ∷ h.rest) k2 k3
         third = rewritten_so (parts_for full pc).left full.child.node h.lower (first.lock ∷ []) (second.lock ∷ h.rest) k2 k3 left_kind h.child.node far_down' far_down second.held
-            (subst (λ (z : Parts). WritesHeld full.child.node z.left k2 k3) are write3) (subst (λ (z : Parts). SpellsHeld full.child.node z.left k3.log) are spell3)
+            (subst (λ (z : Parts). StoresHeld full.child.node z.left k2 k3) are write3) (subst (λ (z : Parts). SpellsHeld full.child.node z.left k3.log) are spell3)
 
         pub split_written : StepsOnNodes k0 k → WritesParts full pc k0 k3
         split_written steps = record {

@@ -13,14 +13,13 @@ use Rattle.word_rule.specs.Exchange.{settle}
 use Rattle.word_rule.specs.Spelling.{node_word, spelled, SpellsNode}
 use Rattle.word_rule.specs.Steps.{after_node_store, frees, store_in, stored_log}
 use Rattle.node_store.specs.declared.writing.Store.{Store}
-use Rattle.node_store.specs.Holding.{SpellsHeld, WritesHeld, after_node_stores}
-use Rattle.node_store.specs.Sights.{after_words}
+use Rattle.node_store.specs.Holding.{MakesStores, SpellsHeld, StoresHeld, after_node_stores}
 use Rattle.node_store.specs.Writing.{kind_of_body, place_in_turn, store_in_turn, store_of, stores, stores_upto, wanted_node_word}
 use Rattle.btree_change.specs.Paths.{StepsOnNodes}
-use Rattle.btree_change.proofs.Descending.{steps_equal, steps_none, steps_of_words, steps_then}
+use Rattle.btree_change.proofs.Descending.{steps_none, steps_then}
+use Rattle.btree_change.proofs.Outlining.{steps_of_loads}
 use Rattle.btree_change.proofs.Loading.{none_more}
 use Rattle.word_rule.proofs.Each.{all_append}
-use Rattle.node_store.proofs.Sighted.{holdings_same}
 
 -- what is stored is what is wanted there
 abbrev IsWanted : NodeData → Store → Type 0
@@ -116,13 +115,14 @@ pub record IsRewritten (s : NodeData) (h : Holding) (before above : List Holding
   pub out : k'.log.holdings.out ≡ k.log.holdings.out
   pub same : StepsOnNodes k k'
 
-pub rewritten_so : (s : NodeData) (n : ℕ) (h : Holding) (before above : List Holding) (k k' : CallerData) → kind_of_body s.body ≢ 2 → h.node ≡ n → AllByRecursion (λ a. a.node ≢ n) before → AllByRecursion (λ a. a.node ≢ n) above → k.log.holdings.held ≡ before ++ h ∷ above → WritesHeld n s k k' → SpellsHeld n s k'.log
+pub rewritten_so : (s : NodeData) (n : ℕ) (h : Holding) (before above : List Holding) (k k' : CallerData) → kind_of_body s.body ≢ 2 → h.node ≡ n → AllByRecursion (λ a. a.node ≢ n) before → AllByRecursion (λ a. a.node ≢ n) above → k.log.holdings.held ≡ before ++ h ∷ above → StoresHeld n s k k' → SpellsHeld n s k'.log
     → IsRewritten s h before above k k'
 rewritten_so s n h before above k k' kind is none far held writes spells =
     let found : held_of n k.log.holdings.held ≡ Some h = ap (held_of n) held ∙ found_at n before h above is none in
-    let equal = subst (λ o. IsSomeAnd o (λ (z : Holding). k' ≡ record k { log = after_node_stores n (stores s z.words) (after_words n z.words 35 k.log) })) found writes in
-    let loaded = holdings_same n h.words 35 k.log in
-    let kept = stored_keeps s n (stores s h.words) h before above (after_words n h.words 35 k.log) kind (all_wanted s h.words 35) is none far (ap (λ hs. hs.held) loaded ∙ held) in
+    let made = subst (λ o. IsSomeAnd o (λ (z : Holding). MakesStores n (stores s z.words) k k')) found writes in
+    let equal = made.1 in
+    let kept = stored_keeps s n (stores s h.words) h before above k.log kind (all_wanted s h.words 35) is none far held in
+    let w : CallerData = record k { log = after_node_stores n (stores s h.words) k.log } in
     let now : k'.log.holdings.held ≡ before ++ kept.lock ∷ above = ap (λ (z : CallerData). z.log.holdings.held) equal ∙ kept.held in
     let found' : held_of n k'.log.holdings.held ≡ Some kept.lock = ap (held_of n) now ∙ found_at n before kept.lock above (kept.node ∙ is) none in
     let spelled_now : SpellsNode kept.lock.words s = subst (λ o. IsSomeAnd o (λ (z : Holding). SpellsNode z.words s)) found' spells in record {
@@ -133,9 +133,8 @@ rewritten_so s n h before above k k' kind is none far held writes spells =
       settled = kept.settled;
       spells = spelled_now;
       stored = λ old was differs. differ_stored kept.lock kept.kept spelled_now old was differs;
-      out = ap (λ (z : CallerData). z.log.holdings.out) equal ∙ (kept.out ∙ ap (λ hs. hs.out) loaded);
-      same = steps_equal k (record k { log = after_node_stores n (stores s h.words) (after_words n h.words 35 k.log) }) k' equal
-          (steps_then k (record k { log = after_words n h.words 35 k.log }) (record k { log = after_node_stores n (stores s h.words) (after_words n h.words 35 k.log) }) (steps_of_words n h.words 35 k) (kept.same k));
+      out = ap (λ (z : CallerData). z.log.holdings.out) equal ∙ kept.out;
+      same = steps_then k w k' (kept.same k) (steps_of_loads w k' (made.0, equal));
     }
   where
     differ_stored : (lock : Holding) → (lock.words ≡ h.words) ⊎ (lock.stored ≡ true) → SpellsNode lock.words s → (old : NodeData) → SpellsNode h.words old → old ≢ s → lock.stored ≡ true
@@ -153,6 +152,6 @@ pub record IsWritten (s : NodeData) (h : Holding) (above : List Holding) (k k' :
   pub out : k'.log.holdings.out ≡ k.log.holdings.out
   pub same : StepsOnNodes k k'
 
-pub written_so : (s : NodeData) (n : ℕ) (h : Holding) (above : List Holding) (k k' : CallerData) → kind_of_body s.body ≢ 2 → h.node ≡ n → AllByRecursion (λ a. a.node ≢ n) above → k.log.holdings.held ≡ h ∷ above → WritesHeld n s k k' → SpellsHeld n s k'.log → IsWritten s h above k k'
+pub written_so : (s : NodeData) (n : ℕ) (h : Holding) (above : List Holding) (k k' : CallerData) → kind_of_body s.body ≢ 2 → h.node ≡ n → AllByRecursion (λ a. a.node ≢ n) above → k.log.holdings.held ≡ h ∷ above → StoresHeld n s k k' → SpellsHeld n s k'.log → IsWritten s h above k k'
 written_so s n h above k k' kind is far held writes spells =
     let r = rewritten_so s n h [] above k k' kind is tt far held writes spells in record { lock = r.lock; held = r.held; node = r.node; mark = r.mark; settled = r.settled; spells = r.spells; out = r.out; same = r.same }

@@ -18,7 +18,7 @@ use Rattle.word_rule.specs.Steps.{MayStore, after_node_store, store_in, stored_l
 use Rattle.word_rule.specs.declared.log.Holding.{Holding}
 use Rattle.word_rule.specs.declared.log.Log.{Log}
 use Rattle.word_rule.specs.declared.log.Terms.{Terms}
-use Rattle.node_store.specs.Holding.{SpellsHeld, WritesHeld}
+use Rattle.node_store.specs.Holding.{SpellsHeld, StoresHeld}
 use Rattle.node_store.specs.Writing.{kind_of_body}
 use Rattle.btree_change.specs.Paths.{StepsOnNodes}
 use Rattle.btree_change.specs.Siblings.{HoldsSiblings, HoldsSunk, both_of, sunk_root}
@@ -99,7 +99,7 @@ module _ (t : Terms) (x : Siblings) (k k1 k2 : CallerData) (seen seen' : ℕ) (h
   wide_high : length hs.high.words ≡ 35
   wide_high = wide_of t r hs.high k1.log (ap (held_of r) held1 ∙ both_high hs.left_first hs.low hs.high (hs.upper ∷ hs.rest) r hs.right.node low_far_r) holder'
 
-  module _ (k3 : CallerData) (writes : WritesHeld x.above.at.node (sunk_root x) k2 k3) (spells : SpellsHeld x.above.at.node (sunk_root x) k3.log) where
+  module _ (k3 : CallerData) (writes : StoresHeld x.above.at.node (sunk_root x) k2 k3) (spells : SpellsHeld x.above.at.node (sunk_root x) k3.log) where
     w : IsWrittenAs (sunk_root x) hs.upper (λ z. both_of hs.left_first hs.low hs.high (z ∷ hs.rest)) k2 k3
     w = write_upper hs.left_first (sunk_root x) n hs.low hs.high hs.upper hs.rest k2 k3 (fits_no_free x.left.content.body x.right.content.body fit) hs.parent.node (λ e. apart.left_above (sym hs.left.node ∙ e)) (λ e. apart.right_above (sym hs.right.node ∙ e)) apart.rest_above held2 writes spells
 

@@ -8,7 +8,7 @@ use Rattle.word_rule.specs.CallerData.{CallerData}
 use Rattle.word_rule.specs.Held.{edited}
 use Rattle.word_rule.specs.Spelling.{body_of_kind, is_short, node_word, SpellsNode}
 use Rattle.word_rule.specs.declared.log.Holding.{Holding}
-use Rattle.node_store.specs.Holding.{SpellsHeld, WritesHeld}
+use Rattle.node_store.specs.Holding.{SpellsHeld, StoresHeld}
 use Rattle.node_store.specs.Writing.{kind_of_body}
 use Rattle.btree_change.specs.Paths.{StepsOnNodes}
 use Rattle.btree_change.specs.Siblings.{both_of}
@@ -29,15 +29,15 @@ pub record IsWrittenAs (s : NodeData) (h : Holding) (place : Holding → List Ho
 written_as : (s : NodeData) (h : Holding) (place : Holding → List Holding) (before above : List Holding) (k k' : CallerData) → ((z : Holding) → before ++ z ∷ above ≡ place z) → IsRewritten s h before above k k' → IsWrittenAs s h place k k'
 written_as s h place before above k k' is r = record { lock = r.lock; held = r.held ∙ is r.lock; node = r.node; mark = r.mark; settled = r.settled; spells = r.spells; stored = r.stored; out = r.out; same = r.same }
 
-pub write_low : (o : Bool) (s : NodeData) (n : ℕ) (low high : Holding) (more : List Holding) (k k' : CallerData) → kind_of_body s.body ≢ 2 → low.node ≡ n → high.node ≢ n → AllByRecursion (λ a. a.node ≢ n) more → k.log.holdings.held ≡ both_of o low high more → WritesHeld n s k k' → SpellsHeld n s k'.log → IsWrittenAs s low (λ z. both_of o z high more) k k'
+pub write_low : (o : Bool) (s : NodeData) (n : ℕ) (low high : Holding) (more : List Holding) (k k' : CallerData) → kind_of_body s.body ≢ 2 → low.node ≡ n → high.node ≢ n → AllByRecursion (λ a. a.node ≢ n) more → k.log.holdings.held ≡ both_of o low high more → StoresHeld n s k k' → SpellsHeld n s k'.log → IsWrittenAs s low (λ z. both_of o z high more) k k'
 write_low true s n low high more k k' kind is far rest held writes spells = written_as s low (λ z. both_of true z high more) [] (high ∷ more) k k' (λ z. refl) (rewritten_so s n low [] (high ∷ more) k k' kind is tt (far, rest) held writes spells)
 write_low false s n low high more k k' kind is far rest held writes spells = written_as s low (λ z. both_of false z high more) (high ∷ []) more k k' (λ z. refl) (rewritten_so s n low (high ∷ []) more k k' kind is (far, tt) rest held writes spells)
 
-pub write_high : (o : Bool) (s : NodeData) (n : ℕ) (low high : Holding) (more : List Holding) (k k' : CallerData) → kind_of_body s.body ≢ 2 → high.node ≡ n → low.node ≢ n → AllByRecursion (λ a. a.node ≢ n) more → k.log.holdings.held ≡ both_of o low high more → WritesHeld n s k k' → SpellsHeld n s k'.log → IsWrittenAs s high (λ z. both_of o low z more) k k'
+pub write_high : (o : Bool) (s : NodeData) (n : ℕ) (low high : Holding) (more : List Holding) (k k' : CallerData) → kind_of_body s.body ≢ 2 → high.node ≡ n → low.node ≢ n → AllByRecursion (λ a. a.node ≢ n) more → k.log.holdings.held ≡ both_of o low high more → StoresHeld n s k k' → SpellsHeld n s k'.log → IsWrittenAs s high (λ z. both_of o low z more) k k'
 write_high true s n low high more k k' kind is far rest held writes spells = written_as s high (λ z. both_of true low z more) (low ∷ []) more k k' (λ z. refl) (rewritten_so s n high (low ∷ []) more k k' kind is (far, tt) rest held writes spells)
 write_high false s n low high more k k' kind is far rest held writes spells = written_as s high (λ z. both_of false low z more) [] (low ∷ more) k k' (λ z. refl) (rewritten_so s n high [] (low ∷ more) k k' kind is tt (far, rest) held writes spells)
 
-pub write_upper : (o : Bool) (s : NodeData) (n : ℕ) (low high upper : Holding) (rest : List Holding) (k k' : CallerData) → kind_of_body s.body ≢ 2 → upper.node ≡ n → low.node ≢ n → high.node ≢ n → AllByRecursion (λ a. a.node ≢ n) rest → k.log.holdings.held ≡ both_of o low high (upper ∷ rest) → WritesHeld n s k k' → SpellsHeld n s k'.log → IsWrittenAs s upper (λ z. both_of o low high (z ∷ rest)) k k'
+pub write_upper : (o : Bool) (s : NodeData) (n : ℕ) (low high upper : Holding) (rest : List Holding) (k k' : CallerData) → kind_of_body s.body ≢ 2 → upper.node ≡ n → low.node ≢ n → high.node ≢ n → AllByRecursion (λ a. a.node ≢ n) rest → k.log.holdings.held ≡ both_of o low high (upper ∷ rest) → StoresHeld n s k k' → SpellsHeld n s k'.log → IsWrittenAs s upper (λ z. both_of o low high (z ∷ rest)) k k'
 write_upper true s n low high upper rest k k' kind is a b far held writes spells = written_as s upper (λ z. both_of true low high (z ∷ rest)) (low ∷ high ∷ []) rest k k' (λ z. refl) (rewritten_so s n upper (low ∷ high ∷ []) rest k k' kind is (a, (b, tt)) far held writes spells)
 write_upper false s n low high upper rest k k' kind is a b far held writes spells = written_as s upper (λ z. both_of false low high (z ∷ rest)) (high ∷ low ∷ []) rest k k' (λ z. refl) (rewritten_so s n upper (high ∷ low ∷ []) rest k k' kind is (b, (a, tt)) far held writes spells)
 

@@ -17,14 +17,13 @@ use Rattle.word_rule.specs.Held.{held_of}
 use Rattle.word_rule.specs.Spelling.{spelled}
 use Rattle.word_rule.specs.Steps.{MayStore, after_node_store, frees, stored_log}
 use Rattle.node_store.specs.declared.writing.Store.{Store}
-use Rattle.node_store.specs.Holding.{ReadsHeld, SpellsHeld, WritesHeld, after_node_stores}
-use Rattle.node_store.specs.Sights.{after_words}
+use Rattle.node_store.specs.Holding.{MakesStores, ReadsHeld, SpellsHeld, StoresHeld, after_node_stores}
 use Rattle.node_store.specs.Writing.{kind_of_body, stores}
 use Rattle.btree_change.specs.Paths.{StepsOnNodes}
 use Rattle.btree_change.specs.Loads.{KeepsLoads}
 use Rattle.btree_change.specs.Spines.{AreApart, AreRewritten, HoldsSpines, IsLeftToMove, IsLockAt, IsRewrittenAs, IsRightToMove, IsSpine, IsToMove, WritesSpines}
 use Rattle.btree_change.proofs.FreshSpines.{all_parts, apart_mid}
-use Rattle.btree_change.proofs.Loading.{keeps_none, keeps_then, keeps_words}
+use Rattle.btree_change.proofs.Loading.{keeps_none}
 use Rattle.btree_change.proofs.LockedSpines.{may_read_found, reads_spelled}
 use Rattle.btree_change.proofs.Storing.{IsRewritten, found_at, rewritten_so}
 
@@ -45,14 +44,12 @@ unfolding after_node_stores
 loads_of_stores n [] v = refl
 loads_of_stores n (x ∷ xs) v = loads_of_stores n xs (after_node_store n x.at x.value v) ∙ loads_of_store n x.at x.value v
 
-pub loads_of_write : (n : ℕ) (s : NodeData) (k k' : CallerData) → WritesHeld n s k k' → KeepsLoads k k'
+pub loads_of_write : (n : ℕ) (s : NodeData) (k k' : CallerData) → StoresHeld n s k k' → KeepsLoads k k'
 loads_of_write n s k k' writes = go (held_of n k.log.holdings.held) writes
   where
-    go : (o : Option Holding) → IsSomeAnd o (λ h. k' ≡ record k { log = after_node_stores n (stores s h.words) (after_words n h.words 35 k.log) }) → KeepsLoads k k'
+    go : (o : Option Holding) → IsSomeAnd o (λ h. MakesStores n (stores s h.words) k k') → KeepsLoads k k'
     go None r = absurd r
-    go (Some h) r = subst (KeepsLoads k) (sym r)
-        (keeps_then k (record k { log = after_words n h.words 35 k.log }) (record k { log = after_node_stores n (stores s h.words) (after_words n h.words 35 k.log) }) (keeps_words n h.words 35 k)
-        (keeps_none (record k { log = after_words n h.words 35 k.log }) (record k { log = after_node_stores n (stores s h.words) (after_words n h.words 35 k.log) }) (loads_of_stores n (stores s h.words) (after_words n h.words 35 k.log))))
+    go (Some h) (more, is) = (more, ap (λ (z : CallerData). z.log.trace.loads) is ∙ ap (λ loads. loads ++ more) (loads_of_stores n (stores s h.words) k.log))
 
 -- another lock of the same node in its place
 pub apart_swap : (xs : List Holding) (h z : Holding) (ys : List Holding) → z.node ≡ h.node → AreApart (xs ++ h ∷ ys) → AreApart (xs ++ z ∷ ys)
@@ -169,7 +166,7 @@ module _ (t : Terms) (l r level fence : ℕ) (k : CallerData) (s : HoldsSpines t
       pub may_store_l : MayStore l k2.log
       may_store_l = subst (λ o. IsSomeAnd o (λ (h : Holding). IsSome h.mark ⊎ IsTrue (is_among k2.log.holdings.out l))) (sym (ap (λ (z : Holdings). held_of l z.held) start ∙ found_l)) (inl move_l.marked)
 
-      module _ (k3 : CallerData) (raised : NodeData) (raised_is : raised ≡ ends_at_fence fence left) (writes_l : WritesHeld l raised k2 k3) (spells_l : SpellsHeld l raised k3.log) where
+      module _ (k3 : CallerData) (raised : NodeData) (raised_is : raised ≡ ends_at_fence fence left) (writes_l : StoresHeld l raised k2 k3) (spells_l : SpellsHeld l raised k3.log) where
         now_l : raised ≡ ends_at_fence fence lt.0.settled
         now_l = raised_is ∙ ap (ends_at_fence fence) (sym left_is)
 
@@ -179,7 +176,7 @@ module _ (t : Terms) (l r level fence : ℕ) (k : CallerData) (s : HoldsSpines t
             (subst (λ m. AllByRecursion (λ (a : Holding). a.node ≢ m) ((s.rights ++ s.between) ++ lt.1)) lt.2.0.0 (apart_mid ((s.rights ++ s.between) ++ lt.1) lt.0 s.behind apart_l).0)
             (subst (λ m. AllByRecursion (λ (a : Holding). a.node ≢ m) s.behind) lt.2.0.0 (apart_mid ((s.rights ++ s.between) ++ lt.1) lt.0 s.behind apart_l).1)
             (ap (λ (z : Holdings). z.held) start ∙ held_left)
-            (subst (λ z. WritesHeld l z k2 k3) now_l writes_l) (subst (λ z. SpellsHeld l z k3.log) now_l spells_l)
+            (subst (λ z. StoresHeld l z k2 k3) now_l writes_l) (subst (λ z. SpellsHeld l z k3.log) now_l spells_l)
 
         one_l : IsRewrittenAs (ends_at_fence fence) lt.0 w3.lock
         one_l = record { node = w3.node; mark = w3.mark; settled = w3.settled; spells = w3.spells; stored = w3.stored lt.0.settled move_l.spells (λ e. (let d = ap (λ (z : NodeData). z.high) e in let b = each_l.1.0.1 in omega (arith, d, b))) }
@@ -199,7 +196,7 @@ module _ (t : Terms) (l r level fence : ℕ) (k : CallerData) (s : HoldsSpines t
         pub steps_l : StepsOnNodes k2 k3
         steps_l = w3.same
 
-        module _ (k4 : CallerData) (shortened : NodeData) (shortened_is : shortened ≡ begins_after fence right) (writes_r : WritesHeld r shortened k3 k4) (spells_r : SpellsHeld r shortened k4.log) where
+        module _ (k4 : CallerData) (shortened : NodeData) (shortened_is : shortened ≡ begins_after fence right) (writes_r : StoresHeld r shortened k3 k4) (spells_r : SpellsHeld r shortened k4.log) where
           now_r : shortened ≡ begins_after fence rt.0.settled
           now_r = shortened_is ∙ ap (begins_after fence) (sym right_is)
 
@@ -208,7 +205,7 @@ module _ (t : Terms) (l r level fence : ℕ) (k : CallerData) (s : HoldsSpines t
               (not_free rt.0.settled.body rt.0.settled.level move_r.ordered) rt.2.0.0
               (subst (λ m. AllByRecursion (λ (a : Holding). a.node ≢ m) rt.1) rt.2.0.0 (apart_mid rt.1 rt.0 (s.between ++ (lt.1 ++ w3.lock ∷ s.behind)) apart3).0)
               (subst (λ m. AllByRecursion (λ (a : Holding). a.node ≢ m) (s.between ++ (lt.1 ++ w3.lock ∷ s.behind))) rt.2.0.0 (apart_mid rt.1 rt.0 (s.between ++ (lt.1 ++ w3.lock ∷ s.behind)) apart3).1)
-              held3 (subst (λ z. WritesHeld r z k3 k4) now_r writes_r) (subst (λ z. SpellsHeld r z k4.log) now_r spells_r)
+              held3 (subst (λ z. StoresHeld r z k3 k4) now_r writes_r) (subst (λ z. SpellsHeld r z k4.log) now_r spells_r)
 
           one_r : IsRewrittenAs (begins_after fence) rt.0 w4.lock
           one_r = record { node = w4.node; mark = w4.mark; settled = w4.settled; spells = w4.spells; stored = w4.stored rt.0.settled move_r.spells (λ e. (let d = ap (λ (z : NodeData). z.low) e in let b = each_r.1.0.1 in omega (arith, d, b))) }

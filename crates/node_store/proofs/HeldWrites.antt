@@ -1,5 +1,5 @@
 -- The stores that write a held node, and what they make of its holder's log.
-use Rattle.std.proofs.Common.{◌≡◌, ◌≢◌, ℕ, zero, suc, ◌+◌, ◌-◌, ◌<◌, ◌≤◌, ◌⊎◌, inl, inr, ⊎_elim, rules, Bool, true, false, cond, ◌&&◌, ◌==◌, List, [], ◌∷◌, ◌++◌, length, map, Option, Some, None, IfSome, IsSome, IsSomeAnd, IsTrue, option_map, set, nat_eq, nat_le, if◌then◌else◌, refl, ap, sym, ◌∙◌, subst, arith, ne_eqb, leb-true, leb-false}
+use Rattle.std.proofs.Common.{◌≡◌, ◌≢◌, ℕ, zero, suc, ◌+◌, ◌-◌, ◌<◌, ◌≤◌, ◌⊎◌, inl, inr, ⊎_elim, rules, Bool, true, false, cond, ◌&&◌, ◌==◌, List, [], ◌∷◌, ◌++◌, map, Option, Some, None, IsSome, IsSomeAnd, IsTrue, option_map, set, nat_eq, nat_le, if◌then◌else◌, refl, ap, sym, ◌∙◌, subst, arith, ne_eqb, leb-true, leb-false}
 use Rattle.std.specs.Option.{option_to_list}
 use Rattle.std.proofs.lemmas.Option.{none-some, cond_some}
 use native.Mathlib.Decide.{ℕ_discrete}
@@ -7,18 +7,15 @@ use Rattle.tree_shape.specs.Numbers.{is_among}
 use Rattle.tree_shape.specs.NodeData.{NodeData, Body, Pairs, Entries, Link}
 use Rattle.word_rule.specs.declared.log.Log.{Log}
 use Rattle.word_rule.specs.declared.log.Holding.{Holding}
-use Rattle.word_rule.specs.CallerData.{CallerData}
 use Rattle.word_rule.specs.Exchange.{after_exchange, group_of, is_lawful, settle, settle_free, top_of}
 use Rattle.word_rule.specs.Held.{edited, held_of, marked_in}
-use Rattle.word_rule.specs.NodeTells.{HolderTells, IsHeldNode}
-use Rattle.word_rule.specs.Places.{CONTENT_WORDS}
-use Rattle.word_rule.specs.Spelling.{node_word, SpellsNode}
+use Rattle.word_rule.specs.Spelling.{node_word}
 use Rattle.word_rule.specs.Steps.{MayStore, after_node_store, frees, store_in, stored_log}
 use Rattle.node_store.specs.declared.writing.Store.{Store}
-use Rattle.node_store.specs.Holding.{AgreeUpto, AreHeld, SpellsHeld, WritesHeld, WritesInOrder, after_node_stores}
+use Rattle.node_store.specs.Holding.{AgreeUpto, after_node_stores}
 use Rattle.node_store.specs.Sights.{after_words}
-use Rattle.node_store.specs.Writing.{FitsWords, Write, count_of, kind_of_body, place_in_turn, store_in_turn, store_of, stores, stores_upto, after_stores, wanted_node_word}
-use Rattle.node_store.proofs.Sighted.{holdings_same, words_same}
+use Rattle.node_store.specs.Writing.{count_of, kind_of_body, place_in_turn, store_in_turn, store_of, stores_upto, after_stores, wanted_node_word}
+use Rattle.node_store.proofs.Sighted.{holdings_same}
 use Rattle.node_store.proofs.Stores.{comes_before, never_again, place_inside, same_store}
 
 -- the lock of a node, where each lock was changed and kept its node
@@ -44,7 +41,7 @@ held_edited n f keeps (h ∷ held) = go (nat_eq h.node n) refl (held_edited n f 
         ap (λ c. cond c (Some h) (held_of n (edited n f held))) e
         ∙ (later ∙ sym (ap (λ c. option_map f (cond c (Some h) (held_of n held))) e))
 
-append_node_stores : (n : ℕ) (made more : List Store) (v : Log) → after_node_stores n (made ++ more) v ≡ after_node_stores n more (after_node_stores n made v)
+pub append_node_stores : (n : ℕ) (made more : List Store) (v : Log) → after_node_stores n (made ++ more) v ≡ after_node_stores n more (after_node_stores n made v)
 unfolding after_node_stores
 append_node_stores n [] more v = refl
 append_node_stores n (x ∷ made) more v = append_node_stores n made more (after_node_store n x.at x.value v)
@@ -201,36 +198,15 @@ has_stored n at value words v has = go (frees n at value v)
     go true = settled (is_lawful (stored_log n at value v) None)
     go false = plain
 
-has_all_stored : (n : ℕ) (made : List Store) (words : List ℕ) (v : Log) → HasHeld n words v → HasHeld n (after_stores made words) (after_node_stores n made v)
+pub has_all_stored : (n : ℕ) (made : List Store) (words : List ℕ) (v : Log) → HasHeld n words v → HasHeld n (after_stores made words) (after_node_stores n made v)
 unfolding after_node_stores
 has_all_stored n [] words v has = has
 has_all_stored n (x ∷ made) words v has = has_all_stored n made (set words (x.at - 1) x.value) (after_node_store n x.at x.value v) (has_stored n x.at x.value words v has)
 
 -- the stores are a matter of the first 35 words
-stores_same : (s : NodeData) (words others : List ℕ) → AgreeUpto words others 35 → (turns : ℕ) → turns ≤ 35 → stores_upto s words turns ≡ stores_upto s others turns
+pub stores_same : (s : NodeData) (words others : List ℕ) → AgreeUpto words others 35 → (turns : ℕ) → turns ≤ 35 → stores_upto s words turns ≡ stores_upto s others turns
 stores_same s words others same zero most = refl
 stores_same s words others same (suc t) most =
     let inside = place_inside t (omega (arith, most)) in
     let here = same_store words others (place_in_turn t) (wanted_node_word s (place_in_turn t)) (same (place_in_turn t) inside.0 inside.1) in
     (λ i. stores_same s words others same t (omega (arith, most)) i ++ option_to_list (here i))
-
--- a held node was written
-pub written : (n : ℕ) (s : NodeData) (loaded : List ℕ) (k k' : CallerData) → FitsWords s → ((words : List ℕ) → length words ≡ CONTENT_WORDS → FitsWords s → Write s words (stores s words)) → MayStore n k.log → AreHeld n loaded 35 k.log → HolderTells n k.log → k' ≡ record k { log = after_node_stores n (stores s loaded) (after_words n loaded 35 k.log) } → WritesHeld n s k k' × WritesInOrder n s k.log × SpellsHeld n s k'.log
-written n s loaded k k' fits writes may held told is = go (held_of n k.log.holdings.held) refl may held told
-  where
-    go : (o : Option Holding) → held_of n k.log.holdings.held ≡ o → IsSomeAnd o (λ h. IsSome h.mark ⊎ IsTrue (is_among k.log.holdings.out n)) → IfSome o (λ h. AgreeUpto loaded h.words 35) → IfSome o (IsHeldNode k.log.terms)
-        → IsSomeAnd o (λ h. k' ≡ record k { log = after_node_stores n (stores s h.words) (after_words n h.words CONTENT_WORDS k.log) }) × IsSomeAnd o (λ h. Write s h.words (stores s h.words)) × SpellsHeld n s k'.log
-    go None e may same told = absurd may
-    go (Some h) e may same told =
-        let log : after_node_stores n (stores s loaded) (after_words n loaded 35 k.log) ≡ after_node_stores n (stores s h.words) (after_words n h.words 35 k.log) =
-        (λ i. after_node_stores n (stores_same s loaded h.words same 35 (omega arith) i) (words_same n loaded h.words 35 k.log same i)) in
-        let all : k' ≡ record k { log = after_node_stores n (stores s h.words) (after_words n h.words 35 k.log) } = is ∙ ap (λ v. record k { log = v }) log in
-        let holds = holdings_same n h.words 35 k.log in
-        let has : HasHeld n h.words (after_words n h.words 35 k.log) = subst (λ o. IsSomeAnd o (λ z. z.words ≡ h.words)) (sym (ap (λ hs. held_of n hs.held) holds ∙ e)) refl in
-        let after : HasHeld n (after_stores (stores s h.words) h.words) k'.log = subst (λ (z : CallerData). HasHeld n (after_stores (stores s h.words) h.words) z.log) (sym all) (has_all_stored n (stores s h.words) h.words (after_words n h.words 35 k.log) has) in
-        let write : Write s h.words (stores s h.words) = writes h.words told.wide fits in
-        (all, write, spelled_now (held_of n k'.log.holdings.held) (after_stores (stores s h.words) h.words) write.spells after)
-      where
-        spelled_now : (o : Option Holding) (words : List ℕ) → SpellsNode words s → IsSomeAnd o (λ z. z.words ≡ words) → IsSomeAnd o (λ z. SpellsNode z.words s)
-        spelled_now None words spells has = has
-        spelled_now (Some z) words spells has = subst (λ ws. SpellsNode ws s) (sym has) spells

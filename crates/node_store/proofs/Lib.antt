@@ -11,3 +11,4 @@ pub mod OutNodes
 pub mod Overwritten
 pub mod Shapes
 pub mod Outlined
+pub mod Making

@@ -1,6 +1,6 @@
 -- What a caller holds and has out between its steps on the free list: the root is held, and so is
 -- each node that is out.
-use Rattle.std.proofs.Common.{◌≡◌, ◌≢◌, ◌⊎◌, inr, ℕ, zero, suc, ◌-◌, ◌*◌, Bool, true, false, true≢false, not, List, [], ◌∷◌, length, Option, Some, None, is_some, IsSome, IsSomeAnd, IsTrue, option_map, set, nat_eq, if◌then◌else◌, refl, ap, sym, ◌∙◌, subst}
+use Rattle.std.proofs.Common.{◌≡◌, ◌≢◌, ◌⊎◌, inr, ℕ, ◌-◌, ◌*◌, Bool, true, false, true≢false, not, List, [], ◌∷◌, length, Option, Some, None, is_some, IsSome, IsSomeAnd, IsTrue, option_map, set, nat_eq, if◌then◌else◌, refl, ap, sym, ◌∙◌, subst}
 use Rattle.std.proofs.lemmas.Bool.{eq-eqb}
 use native.Mathlib.Decide.{ℕ_discrete}
 use Rattle.std.specs.List.{AllByRecursion}
@@ -11,7 +11,6 @@ use Rattle.word_rule.specs.CallerData.{CallerData, surplus}
 use Rattle.word_rule.specs.Exchange.{exchange, nothing_reached}
 use Rattle.word_rule.specs.Held.{all_but, held_of}
 use Rattle.word_rule.specs.NodeTells.{HolderTells, OutTells}
-use Rattle.word_rule.specs.Places.{CONTENT_WORDS}
 use Rattle.word_rule.specs.Sights.{after_node_load}
 use Rattle.word_rule.specs.Spelling.{SpellsNode}
 use Rattle.word_rule.specs.Steps.{MayStore, after_node_store}
@@ -20,12 +19,11 @@ use Rattle.word_rule.specs.declared.log.Budget.{Budget}
 use Rattle.word_rule.specs.declared.log.Log.{Log}
 use Rattle.node_store.specs.declared.writing.Store.{Store}
 use Rattle.node_store.specs.Free.{HoldsOut, IsSettled, GivesFree, LeavesOthers}
-use Rattle.node_store.specs.Holding.{SpellsHeld, WritesHeld, after_node_stores}
-use Rattle.node_store.specs.Sights.{after_words}
+use Rattle.node_store.specs.Holding.{MakesStores, SpellsHeld, StoresHeld, after_node_stores}
+use Rattle.node_store.specs.Outlines.{loaded}
 use Rattle.node_store.specs.Writing.{stores}
 use Rattle.node_store.proofs.Giving.{Apart, HasOut, Stays, apart, apart_settled, out_stored, stays_stored, stored_budget}
 use Rattle.node_store.proofs.Giving as giving
-use Rattle.node_store.proofs.Sighted.{holdings_same}
 
 -- what a step leaves as it was
 pub record Keeps (k k' : CallerData) : Type 0 where
@@ -92,13 +90,8 @@ unfolding after_node_stores
 stores_budget n [] v = refl
 stores_budget n (x ∷ made) v = stores_budget n made (after_node_store n x.at x.value v) ∙ stored_budget n x.at x.value v
 
-words_budget : (n : ℕ) (words : List ℕ) (count : ℕ) (v : Log) → (after_words n words count v).budget ≡ v.budget
-unfolding after_words
-words_budget n words zero v = refl
-words_budget n words (suc count) v = words_budget n words count v
-
 -- a node that is out was written
-pub wrote : (n : ℕ) (s : NodeData) (k k' : CallerData) → HoldsOut k.log → IsTrue (is_among k.log.holdings.out n) → HolderTells n k.log → OutTells n k.log → WritesHeld n s k k' → SpellsHeld n s k'.log
+pub wrote : (n : ℕ) (s : NodeData) (k k' : CallerData) → HoldsOut k.log → IsTrue (is_among k.log.holdings.out n) → HolderTells n k.log → OutTells n k.log → StoresHeld n s k k' → SpellsHeld n s k'.log
     → Keeps k k' × (k'.log.holdings.out ≡ k.log.holdings.out)
 wrote n s k k' holds out told unmarked writes spells = go (held_of n k.log.holdings.held) writes
   where
@@ -123,25 +116,17 @@ wrote n s k k' holds out told unmarked writes spells = go (held_of n k.log.holdi
         one (yes e) = subst (λ x. IsSome (held_of x w.holdings.held)) (sym e) own
         one (no ne) = subst IsSome (sym (others m ne)) all.0
 
-    stays : (h : Holding) → Stays n v (after_node_stores n (stores s h.words) (after_words n h.words CONTENT_WORDS v))
-    stays h =
-        let u = after_words n h.words CONTENT_WORDS v in
-        let same : u.holdings ≡ v.holdings = holdings_same n h.words CONTENT_WORDS v in
-        let all = stays_all n (stores s h.words) first.0 u (subst (HasOut n first.0) (sym same) first.1.0) in
-        record {
-          out = all.out ∙ ap (λ hs. hs.out) same;
-          others = λ m other. all.others m other ∙ ap (λ hs. held_of m hs.held) same;
-          apart = λ a. all.apart (subst (λ hs. Apart n hs.held) (sym same) a);
-        }
+    stays : (h : Holding) → Stays n v (after_node_stores n (stores s h.words) v)
+    stays h = stays_all n (stores s h.words) first.0 v first.1.0
 
-    go : (o : Option Holding) → IsSomeAnd o (λ h. k' ≡ record k { log = after_node_stores n (stores s h.words) (after_words n h.words CONTENT_WORDS k.log) }) → Keeps k k' × (k'.log.holdings.out ≡ k.log.holdings.out)
+    go : (o : Option Holding) → IsSomeAnd o (λ h. MakesStores n (stores s h.words) k k') → Keeps k k' × (k'.log.holdings.out ≡ k.log.holdings.out)
     go None is = absurd is
-    go (Some h) is =
-        let w = after_node_stores n (stores s h.words) (after_words n h.words CONTENT_WORDS v) in
+    go (Some h) (more, is) =
+        let w = after_node_stores n (stores s h.words) v in
         let leaves = stays h in
-        let budget : w.budget ≡ v.budget = stores_budget n (stores s h.words) (after_words n h.words CONTENT_WORDS v) ∙ words_budget n h.words CONTENT_WORDS v in
+        let budget : w.budget ≡ v.budget = stores_budget n (stores s h.words) v in
         let own : IsSome (held_of n w.holdings.held) = subst (λ (z : CallerData). IsSome (held_of n z.log.holdings.held)) is (still (held_of n k'.log.holdings.held) spells) in
-        let kept : HoldsOut w = record {
+        let kept : HoldsOut (loaded more w) = record {
           root = subst (λ o. IsSomeAnd o (λ z. z.stored ≡ false)) (sym (leaves.others 0 far)) holds.root;
           out = subst (AllByRecursion (λ m. IsSome (held_of m w.holdings.held))) (sym leaves.out) (each w own leaves.others v.holdings.out holds.out);
           settled = apart_settled n w.holdings.held (leaves.apart (apart n v.holdings.held holds.settled (unmarked out).1));
@@ -155,10 +140,10 @@ wrote n s k k' holds out told unmarked writes spells = go (held_of n k.log.holdi
         )
 
 -- a word of it was loaded before
-pub wrote_after_load : (n at found : ℕ) (s : NodeData) (k k1 k2 : CallerData) → k1 ≡ record k { log = after_node_load n at found k.log } → HoldsOut k.log → IsTrue (is_among k.log.holdings.out n) → HolderTells n k.log → OutTells n k.log → WritesHeld n s k1 k2 → SpellsHeld n s k2.log → Keeps k k2 × (k2.log.holdings.out ≡ k.log.holdings.out)
+pub wrote_after_load : (n at found : ℕ) (s : NodeData) (k k1 k2 : CallerData) → k1 ≡ record k { log = after_node_load n at found k.log } → HoldsOut k.log → IsTrue (is_among k.log.holdings.out n) → HolderTells n k.log → OutTells n k.log → StoresHeld n s k1 k2 → SpellsHeld n s k2.log → Keeps k k2 × (k2.log.holdings.out ≡ k.log.holdings.out)
 wrote_after_load n at found s k k1 k2 loaded holds out told unmarked writes spells =
     let here : CallerData = record k { log = after_node_load n at found k.log } in
-    let done = wrote n s here k2 (record { root = holds.root; out = holds.out; settled = holds.settled }) out told unmarked (subst (λ z. WritesHeld n s z k2) loaded writes) spells in
+    let done = wrote n s here k2 (record { root = holds.root; out = holds.out; settled = holds.settled }) out told unmarked (subst (λ z. StoresHeld n s z k2) loaded writes) spells in
     (record { table = done.0.table; credit = done.0.credit; holds = done.0.holds }, done.1)
 
 pub may_write : (n at found : ℕ) (k k1 : CallerData) → k1 ≡ record k { log = after_node_load n at found k.log } → HoldsOut k.log → IsTrue (is_among k.log.holdings.out n) → MayStore n k1.log

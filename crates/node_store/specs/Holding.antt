@@ -1,6 +1,7 @@
 -- The words of a node that a caller holds, read and written.
 use Rattle.std.specs.Prelude.{◌≡◌, ℕ, ◌≤◌, false, List, [], ◌∷◌, IfSome, IsSomeAnd}
 use Rattle.tree_shape.specs.NodeData.{NodeData}
+use Rattle.word_rule.specs.declared.log.LoadEvent.{LoadEvent}
 use Rattle.word_rule.specs.declared.log.Log.{Log}
 use Rattle.word_rule.specs.CallerData.{CallerData}
 use Rattle.word_rule.specs.Held.{held_of}
@@ -9,6 +10,7 @@ use Rattle.word_rule.specs.Places.{CONTENT_WORDS}
 use Rattle.word_rule.specs.Spelling.{node_word, SpellsNode}
 use Rattle.word_rule.specs.Steps.{after_node_store}
 use Rattle.node_store.specs.declared.writing.Store.{Store}
+use Rattle.node_store.specs.Outlines.{loaded}
 use Rattle.node_store.specs.Sights.{after_words}
 use Rattle.node_store.specs.Writing.{Write, stores}
 
@@ -44,12 +46,15 @@ after_node_stores n (store ∷ more) v =
 abbrev pub SpellsHeld : ℕ → NodeData → Log → Type 0
 SpellsHeld n s v = IsSomeAnd (held_of n v.holdings.held) (λ h. SpellsNode h.words s)
 
--- A held node was written: its words were loaded, and those that differ were stored.
-abbrev pub WritesHeld : ℕ → NodeData → CallerData → CallerData → Type 0
-WritesHeld n s k k' = IsSomeAnd (held_of n k.log.holdings.held)
-    (λ h. k' ≡ record k {
-      log = after_node_stores n (stores s h.words) (after_words n h.words CONTENT_WORDS k.log);
-    })
+-- words were loaded, and these stores were made in a held node, one after another
+abbrev pub MakesStores : ℕ → List Store → CallerData → CallerData → Type 0
+MakesStores n made k k' = (more : List LoadEvent)
+    × (k' ≡ record k { log = loaded more (after_node_stores n made k.log) })
+
+-- A held node was written: those of its words that differ were stored, and words were loaded.
+abbrev pub StoresHeld : ℕ → NodeData → CallerData → CallerData → Type 0
+StoresHeld n s k k' = IsSomeAnd (held_of n k.log.holdings.held)
+    (λ h. MakesStores n (stores s h.words) k k')
 
 -- these stores are the fewest that write it, in their order
 abbrev pub WritesInOrder : ℕ → NodeData → Log → Type 0

@@ -6,7 +6,7 @@ ghost use Rattle.word_rule.specs.Places.{CONTENT_WORDS};
 ghost use Rattle.word_rule.specs.Spelling.{spelled};
 ghost use Rattle.word_rule.specs.Steps.{MayStore};
 ghost use Rattle.node_store.specs.Holding.{AreHeld, IsLiveHeld, ReadsHeld, SpellsHeld};
-ghost use Rattle.node_store.specs.Holding.{WritesHeld, WritesInOrder};
+ghost use Rattle.node_store.specs.Holding.{StoresHeld, WritesInOrder};
 ghost use Rattle.node_store.specs.Sights.{after_words};
 
 use crate::reading::CONTENT_WORDS;
@@ -54,7 +54,7 @@ pub fn write_held(words: &Words, me: &mut Caller, node: u32, content: &Node)
     requires table { me.old.table ≡ words.now.table }
     requires inside { node < words.now.terms.nodes }
     requires may { MayStore node me.old.log }
-    ensures stores { WritesHeld node content.now me.old me.new }
+    ensures stores { StoresHeld node content.now me.old me.new }
     ensures order { WritesInOrder node content.now me.old.log }
     ensures spells { SpellsHeld node content.now me.new.log }
 {

@@ -4,7 +4,7 @@ use Rattle.reg_model.specs.State.{at_base}
 use Rattle.tree_shape.specs.NodeData.{NodeData, Entries, IsLeaf, entries_of}
 use Rattle.word_rule.specs.CallerData.{CallerData, due}
 use Rattle.word_rule.specs.NodeTells.{KnowsTree}
-use Rattle.node_store.specs.Holding.{SpellsHeld, WritesHeld}
+use Rattle.node_store.specs.Holding.{SpellsHeld, StoresHeld}
 use Rattle.btree_change.specs.Removing.{HoldsBesideRoot}
 use Rattle.btree_change.proofs.Descending.{steps_then}
 use Rattle.btree_change.proofs.Descents.{steps_of_load}
@@ -23,7 +23,7 @@ commit-number-requires-clause-due c =
     let now : NodeData = record s { body = Entries (without base (entries_of s)) } in
     let left : c.take_entry-left.result.0 ≡ record s { body = Entries (without base (entries_of s)) } = c.take_entry-left.ensures.left ∙ ap (λ (z : NodeData). record z { body = Entries (without base (entries_of z)) }) c.requires.content in
     let leaf : IsLeaf s = leaf_at_zero s (settled_live t n s b path.lock path.here).1.1.ordered c.requires.leaf in
-    let written = rewritten_so now n path.lock [] path.above k1 k2 (λ e. omega (arith, e)) path.here.node tt (beside_far n rb path.above path.root) path.held (subst (λ z. WritesHeld n z k1 k2) left c.write_held.ensures.stores) (subst (λ z. SpellsHeld n z k2.log) left c.write_held.ensures.spells) in
+    let written = rewritten_so now n path.lock [] path.above k1 k2 (λ e. omega (arith, e)) path.here.node tt (beside_far n rb path.above path.root) path.held (subst (λ z. StoresHeld n z k1 k2) left c.write_held.ensures.stores) (subst (λ z. SpellsHeld n z k2.log) left c.write_held.ensures.spells) in
     let steps = steps_then k k1 k2 (steps_of_load n 5 c.load_node.result k k1 c.load_node.ensures.log) written.same in
     let some : 0 < due k2 = subst (λ d. 0 < d) (sym (λ i. (steps.budget i).allowance - steps.left i)) c.requires.due in
     some
@@ -37,7 +37,7 @@ commit-number-requires-clause-may c =
     let now : NodeData = record s { body = Entries (without base (entries_of s)) } in
     let left : c.take_entry-left.result.0 ≡ record s { body = Entries (without base (entries_of s)) } = c.take_entry-left.ensures.left ∙ ap (λ (z : NodeData). record z { body = Entries (without base (entries_of z)) }) c.requires.content in
     let leaf : IsLeaf s = leaf_at_zero s (settled_live t n s b path.lock path.here).1.1.ordered c.requires.leaf in
-    let written = rewritten_so now n path.lock [] path.above k1 k2 (λ e. omega (arith, e)) path.here.node tt (beside_far n rb path.above path.root) path.held (subst (λ z. WritesHeld n z k1 k2) left c.write_held.ensures.stores) (subst (λ z. SpellsHeld n z k2.log) left c.write_held.ensures.spells) in
+    let written = rewritten_so now n path.lock [] path.above k1 k2 (λ e. omega (arith, e)) path.here.node tt (beside_far n rb path.above path.root) path.held (subst (λ z. StoresHeld n z k1 k2) left c.write_held.ensures.stores) (subst (λ z. SpellsHeld n z k2.log) left c.write_held.ensures.spells) in
     let steps = steps_then k k1 k2 (steps_of_load n 5 c.load_node.result k k1 c.load_node.ensures.log) written.same in
     let some : 0 < due k2 = subst (λ d. 0 < d) (sym (λ i. (steps.budget i).allowance - steps.left i)) c.requires.due in
     may_take c.take.ensures.change (record { decided = c.exchange_decided.ensures; transfer = c.transfer.ensures.lawful; tests = c.transfer.ensures.tests }) t n base s c.take_entry-left.result.1 b rb k k1 k2 path tree leaf c.requires.leaf c.requires.here c.requires.spare (subst (λ (z : NodeData). at_base base (entries_of z) ≡ Some c.take_entry-left.result.1) c.requires.content c.take_entry-left.ensures.taken) written (omega (arith, some))
@@ -51,7 +51,7 @@ returns c =
     let now : NodeData = record s { body = Entries (without base (entries_of s)) } in
     let left : c.take_entry-left.result.0 ≡ record s { body = Entries (without base (entries_of s)) } = c.take_entry-left.ensures.left ∙ ap (λ (z : NodeData). record z { body = Entries (without base (entries_of z)) }) c.requires.content in
     let leaf : IsLeaf s = leaf_at_zero s (settled_live t n s b path.lock path.here).1.1.ordered c.requires.leaf in
-    let written = rewritten_so now n path.lock [] path.above k1 k2 (λ e. omega (arith, e)) path.here.node tt (beside_far n rb path.above path.root) path.held (subst (λ z. WritesHeld n z k1 k2) left c.write_held.ensures.stores) (subst (λ z. SpellsHeld n z k2.log) left c.write_held.ensures.spells) in
+    let written = rewritten_so now n path.lock [] path.above k1 k2 (λ e. omega (arith, e)) path.here.node tt (beside_far n rb path.above path.root) path.held (subst (λ z. StoresHeld n z k1 k2) left c.write_held.ensures.stores) (subst (λ z. SpellsHeld n z k2.log) left c.write_held.ensures.spells) in
     let steps = steps_then k k1 k2 (steps_of_load n 5 c.load_node.result k k1 c.load_node.ensures.log) written.same in
     let some : 0 < due k2 = subst (λ d. 0 < d) (sym (λ i. (steps.budget i).allowance - steps.left i)) c.requires.due in
     let log = c.commit-number.ensures.log in

@@ -5,7 +5,8 @@ use Rattle.word_rule.specs.Steps.{MayStore, after_node_store}
 use Rattle.node_store.specs.Holding.{after_node_stores}
 use Rattle.node_store.specs.Sights.{after_words}
 use Rattle.node_store.specs.Writing.{store_in_turn, stores_upto}
-use Rattle.node_store.proofs.HeldWrites.{may_after_words, may_next, no_store, still_before, turn_none, turn_some, written}
+use Rattle.node_store.proofs.HeldWrites.{may_after_words, may_next, no_store, still_before, turn_none, turn_some}
+use Rattle.node_store.proofs.Making.{written}
 use Rattle.node_store.proofs.Overwritten.{none_upto}
 use Rattle.node_store.proofs.held.write_held.Goals as goal
 use Rattle.node_store.proofs.held.write_held.Goals.{in-Some, in_default}
@@ -56,4 +57,4 @@ returns c =
     let all : c.loop-turn.turn ≡ 35 = omega (arith, c.loop-turn-test.false, c.loop-turn.auto.turn-end) in
     let stored = c.loop-turn.invariant.stored ∙ ap (λ count. record c.args.me.now { log = after_node_stores n (stores_upto s old count) (after_words n old CONTENT_WORDS c.args.me.now.log) }) all in
     let done = written n s old c.args.me.now c.loop-turn.me c.node_fits.ensures (c.writes.ensures s) c.requires.may c.load_words.ensures.held c.load_words.ensures.holder stored in
-    record { stores = done.0; order = done.1; spells = done.2 }
+    record { stores = done.stores; order = done.order; spells = done.spells }
