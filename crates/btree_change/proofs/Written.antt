@@ -10,6 +10,7 @@ use Rattle.word_rule.specs.Spelling.{body_of_kind, is_short, node_word, SpellsNo
 use Rattle.word_rule.specs.declared.log.Holding.{Holding}
 use Rattle.node_store.specs.Holding.{SpellsHeld, StoresHeld}
 use Rattle.node_store.specs.Writing.{kind_of_body}
+use Rattle.node_store.proofs.LeafWords.{short_level}
 use Rattle.btree_change.specs.Paths.{StepsOnNodes}
 use Rattle.btree_change.specs.Siblings.{both_of}
 use Rattle.btree_change.proofs.Storing.{IsRewritten, edited_at, rewritten_so}
@@ -48,14 +49,6 @@ edit_high false n f low high more is far rest = edited_at n f [] high (low ∷ m
 pub edit_low : (o : Bool) (n : ℕ) (f : Holding → Holding) (low high : Holding) (more : List Holding) → low.node ≡ n → high.node ≢ n → AllByRecursion (λ a. a.node ≢ n) more → edited n f (both_of o low high more) ≡ both_of o (f low) high more
 edit_low true n f low high more is far rest = edited_at n f [] low (high ∷ more) is tt (far, rest)
 edit_low false n f low high more is far rest = edited_at n f (high ∷ []) low more is (far, tt) rest
-
--- the numbers of a node that words spell are short
-pub short_level : (words : List ℕ) (s : NodeData) → SpellsNode words s → is_short (node_word words 2) ≡ true
-short_level words s e = go (is_short (node_word words 2)) (option_map (λ body. record { level = node_word words 2; low = node_word words 3; high = node_word words 4; body = body }) (body_of_kind words (node_word words 1) (node_word words 5))) e
-  where
-    go : (b : Bool) (o : Option NodeData) → ◌≡◌ {A = Option NodeData} (if b then o else None) (Some s) → b ≡ true
-    go true o f = refl
-    go false o f = absurd (none-some s f)
 
 -- words of a node spell a free one once the link and the kind were stored
 pub spells_freed : (words : List ℕ) (s : NodeData) → length words ≡ 35 → SpellsNode words s → SpellsNode (set (set words 5 0) 0 2) (record s { body = Link 0 })

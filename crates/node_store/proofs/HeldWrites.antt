@@ -50,7 +50,7 @@ append_node_stores n (x ∷ made) more v = append_node_stores n made more (after
 pub plain_store : (n at value : ℕ) (v : Log) → frees n at value v ≡ false → after_node_store n at value v ≡ stored_log n at value v
 plain_store n at value v e = ap (λ b. if b then settle None (stored_log n at value v) else stored_log n at value v) e
 
-may_stays : (n at value : ℕ) (v : Log) → frees n at value v ≡ false → MayStore n v → MayStore n (after_node_store n at value v)
+pub may_stays : (n at value : ℕ) (v : Log) → frees n at value v ≡ false → MayStore n v → MayStore n (after_node_store n at value v)
 may_stays n at value v e may =
     subst (MayStore n) (sym (plain_store n at value v e))
     (subst (λ o. IsSomeAnd o (λ h. IsSome h.mark ⊎ IsTrue (is_among v.holdings.out n))) (sym (held_edited n (store_in at value) (λ h. refl) v.holdings.held)) (go (held_of n v.holdings.held) may))

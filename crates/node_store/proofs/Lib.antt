@@ -12,3 +12,7 @@ pub mod Overwritten
 pub mod Shapes
 pub mod Outlined
 pub mod Making
+pub mod LeafWords
+pub mod LeafStores
+pub mod LeafSearch
+pub mod LeafMoves

@@ -36,7 +36,7 @@ abbrev pub framed : NodeData → List ℕ → List ℕ
 framed s words = set (set (set words 1 s.level) 2 s.low) 3 s.high
 
 -- a word after the version is one of the first five, or stands from word 6 on
-each_word : (P : ℕ → Type 0) → P 1 → P 2 → P 3 → P 4 → P 5 → ((i : ℕ) → P (6 + i)) → (at : ℕ) → 1 ≤ at → P at
+pub each_word : (P : ℕ → Type 0) → P 1 → P 2 → P 3 → P 4 → P 5 → ((i : ℕ) → P (6 + i)) → (at : ℕ) → 1 ≤ at → P at
 each_word P one two three four five items zero least = absurd (omega (arith, least))
 each_word P one two three four five items (suc zero) least = one
 each_word P one two three four five items (suc (suc zero)) least = two

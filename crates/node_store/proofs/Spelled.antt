@@ -77,7 +77,7 @@ pair_count : (pairs : List Pair) → length (pair_words pairs) ≡ 2 * length pa
 pair_count [] = refl
 pair_count (p ∷ pairs) = omega (arith, pair_count pairs)
 
-entry_count : (entries : List Member) → length (entry_words entries) ≡ 3 * length entries
+pub entry_count : (entries : List Member) → length (entry_words entries) ≡ 3 * length entries
 entry_count [] = refl
 entry_count (m ∷ entries) = omega (arith, entry_count entries)
 

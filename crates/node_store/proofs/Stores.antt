@@ -21,12 +21,12 @@ low_place t more less =
     ap (λ b. if b then 35 - t else (if nat_lt t 34 then 34 - t else 5)) (le-ltb t 30 more)
     ∙ ap (λ b. if b then 34 - t else 5) (lt-ltb t 34 less)
 
-data Turn (t : ℕ) : Type 0 where
+pub data Turn (t : ℕ) : Type 0 where
   High : t < 30 → place_in_turn t ≡ 35 - t → Turn t
   Low : 30 ≤ t → t < 34 → place_in_turn t ≡ 34 - t → Turn t
   Last : t ≡ 34 → place_in_turn t ≡ 5 → Turn t
 
-turn : (t : ℕ) → t < 35 → Turn t
+pub turn : (t : ℕ) → t < 35 → Turn t
 turn t less = high (nat_lt t 30) refl
   where
     low : 30 ≤ t → (b : Bool) → nat_lt t 34 ≡ b → Turn t
@@ -120,16 +120,19 @@ in_order s words (suc t) most =
     (stores_upto s words t) (of_turns s words t))
 
 -- a word whose turn is yet to come is as it was
-still_old : (s : NodeData) (words : List ℕ) (t : ℕ) → t < 35 → node_word (after_stores (stores_upto s words t) words) (place_in_turn t) ≡ node_word words (place_in_turn t)
-still_old s words t less =
-    kept_word (stores_upto s words t) words (place_in_turn t)
-    (all_map (IsOfTurn words t) (λ x. x.at - 1 ≢ place_in_turn t - 1)
+pub yet_old : (s : NodeData) (words : List ℕ) (t u : ℕ) → t ≤ u → u < 35 → node_word (after_stores (stores_upto s words t) words) (place_in_turn u) ≡ node_word words (place_in_turn u)
+yet_old s words t u until less =
+    kept_word (stores_upto s words t) words (place_in_turn u)
+    (all_map (IsOfTurn words t) (λ x. x.at - 1 ≢ place_in_turn u - 1)
     (λ x h e.
-    let here = place_inside t less in
-    let there = place_inside h.0 (omega (arith, h.1.0, less)) in
+    let here = place_inside u less in
+    let there = place_inside h.0 (omega (arith, h.1.0, until, less)) in
     let is = h.1.1 in
-    never_again (place_in_turn h.0) (place_in_turn t) (comes_before h.0 t h.1.0 less) (omega (arith, e, is, here.0, there.0)))
+    never_again (place_in_turn h.0) (place_in_turn u) (comes_before h.0 u (omega (arith, h.1.0, until)) less) (omega (arith, e, is, here.0, there.0)))
     (stores_upto s words t) (of_turns s words t))
+
+still_old : (s : NodeData) (words : List ℕ) (t : ℕ) → t < 35 → node_word (after_stores (stores_upto s words t) words) (place_in_turn t) ≡ node_word words (place_in_turn t)
+still_old s words t less = yet_old s words t t (omega arith) less
 
 -- the word whose turn it was is as it is to be
 now_right : (old now : List ℕ) (at : ℕ) (w : Option ℕ) → 1 ≤ at → at ≤ length now → node_word now at ≡ node_word old at → IfSome w (λ value. node_word (after_stores (option_to_list (store_of old at w)) now) at ≡ value)

@@ -4,3 +4,4 @@ pub mod Free
 pub mod Sights
 pub mod Writing
 pub mod Outlines
+pub mod Entries

@@ -8,6 +8,7 @@
 //! or by the few words that are wanted (`outline_of`).
 #![tactic(auto)]
 
+mod entries;
 mod free;
 mod held;
 mod locking;
@@ -18,6 +19,7 @@ mod shaping;
 mod sight;
 mod writing;
 
+pub use entries::{Placed, begun_in, cut_in_place, entry_of, put_in_place};
 pub use free::{give_free, take_free};
 pub use held::{read_held, write_held};
 pub use locking::{Busy, Locking, Once, Trying, Waiting};
