@@ -57,3 +57,5 @@ pub mod RemovalAnswers
 pub mod Releases
 pub mod Takings
 pub mod Absences
+pub mod PuttingThere
+pub mod TakingThere

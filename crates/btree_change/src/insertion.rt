@@ -15,35 +15,20 @@ ghost use Rattle.btree_change.specs.Stands.{StandsOnWay, releases_at};
 
 use crate::beyond::{Far, beyond_leaf};
 use crate::descent::{at_root, let_go_of};
-use crate::leaf::{full_here, put_in_leaf, refused};
+use crate::leaf::{full_here, put_in_held, refused};
 use crate::root::at_held_root;
 use crate::stand::{Outcome, Reply, Room, Stand, go_below, is_changed, place_of};
 use node_store::{Busy, Locking, Trying, Waiting, read_held};
 use reg_model::{Inserted, Member};
 use std::sync::Wait;
-use tree_shape::Node;
 use word_rule::{Caller, Words};
-
-/// A leaf at which an insertion stands, and what it holds.
-#[derive(Drop)]
-struct InLeaf<'a> {
-    stand: Stand,
-    content: &'a Node,
-}
 
 /// Puts a member into its leaf, in which nothing overlaps it and whose fences hold its span, or
 /// says Full.
-fn in_place(
-    words: &Words,
-    me: &mut Caller,
-    member: &Member,
-    stand: &Stand,
-    content: &Node,
-) -> Outcome
+fn in_place(words: &Words, me: &mut Caller, member: &Member, stand: &Stand) -> Outcome
     requires table { me.old.table ≡ words.now.table }
     requires terms { me.old.log.terms ≡ words.now.terms }
     requires stands { StandsOnWay words.now.terms member.now stand.now me.old.log }
-    requires content { content.now ≡ stand.now.at.content }
     requires level { stand.now.at.content.level ≡ 0 }
     requires high { member.now.span.last ≤ stand.now.at.content.high }
     requires free { IsFree member.now.span (entries_of stand.now.at.content) }
@@ -60,7 +45,7 @@ fn in_place(
             changed: stand.at.changed,
         },
         Room::Splitting => {
-            let number = put_in_leaf(words, me, stand.at.node, content, member);
+            let number = put_in_held(words, me, &stand.at, member);
             Outcome {
                 answer: Inserted::Done { number },
                 changed: true,
@@ -75,14 +60,13 @@ fn in_free_leaf<L: Locking>(
     words: &Words,
     me: &mut Caller,
     member: &Member,
-    leaf: InLeaf,
+    stand: Stand,
 ) -> Result<Reply, Busy>
     requires table { me.old.table ≡ words.now.table }
     requires terms { me.old.log.terms ≡ words.now.terms }
-    requires stands { StandsOnWay words.now.terms member.now leaf.stand me.old.log }
-    requires content { leaf.content.now ≡ leaf.stand.at.content }
-    requires level { leaf.stand.at.content.level ≡ 0 }
-    requires free { IsFree member.now.span (entries_of leaf.stand.at.content) }
+    requires stands { StandsOnWay words.now.terms member.now stand me.old.log }
+    requires level { stand.at.content.level ≡ 0 }
+    requires free { IsFree member.now.span (entries_of stand.at.content) }
     requires span { IsSpan member.now.span }
     requires due { 0 < due me.old }
     requires surplus { releases_at 0 ≤ surplus me.old }
@@ -90,12 +74,11 @@ fn in_free_leaf<L: Locking>(
     ensures answer { IfOk result (λ reply. AnswersBelow words.now.terms member.now reply
         (releases_at 0) me.old me.new) }
     ensures full { IfOk result (λ reply. IfFull reply.answer
-        (HasCause leaf.entry.stand.room member.now.span.first me.old me.new)) }
+        (HasCause stand.room member.now.span.first me.old me.new)) }
     ensures busy { IfErr result (λ e. GivesUpBelow (releases_at 0) me.old me.new
         × (L.gives_up ≡ true)) }
     ensures cause { IfErr result (λ e. FoundTaken e.lock me.old me.new) }
 {
-    let InLeaf { stand, content } = leaf;
     match stand.beyond {
         Some(beyond) => {
             let far = Far {
@@ -106,7 +89,7 @@ fn in_free_leaf<L: Locking>(
             beyond_leaf(locking, words, me, member, far)
         }
         None => {
-            let outcome = in_place(words, me, member, &stand, content);
+            let outcome = in_place(words, me, member, &stand);
             let_go_of(locking, words, me, stand.at.node, outcome.changed);
             Ok(Reply {
                 answer: outcome.answer,
@@ -146,10 +129,7 @@ fn in_leaf<L: Locking>(
             let_go_of(locking, words, me, stand.at.node, stand.at.changed);
             Ok(Reply { answer, moved: 0 })
         }
-        None => {
-            let content = &content;
-            in_free_leaf(locking, words, me, member, InLeaf { stand, content })
-        }
+        None => in_free_leaf(locking, words, me, member, stand),
     }
 }
 

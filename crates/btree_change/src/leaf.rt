@@ -10,7 +10,7 @@ ghost use Rattle.btree_change.specs.Loads.{KeepsLoads};
 ghost use Rattle.btree_change.specs.Stands.{StandsAt};
 
 use crate::descent::Held;
-use node_store::write_held;
+use node_store::{Placed, begun_in, put_in_place, write_held};
 use reg_model::{Inserted, Member, Update};
 use tree_shape::{ENTRIES, Node, first_overlap, laws, put_entry};
 use word_rule::exchange::exchange_decided;
@@ -50,6 +50,39 @@ pub(crate) fn put_in_leaf(
     words.load_node(me, node, COUNT);
     write_held(words, me, node, &put_entry(leaf, member));
     words.commit(me, Update::Register { member: *member })
+}
+
+/// Puts a member into a leaf that is held, in which it has room and overlaps nothing, and commits
+/// it: its number. The leaf's words are loaded and stored from the member's place on alone.
+pub(crate) fn put_in_held(words: &Words, me: &mut Caller, leaf: &Held, member: &Member) -> u32
+    requires table { me.old.table ≡ words.now.table }
+    requires terms { me.old.log.terms ≡ words.now.terms }
+    requires leaf { HoldsLeaf words.now.terms leaf.now me.old.log.holdings }
+    requires level { leaf.now.content.level ≡ 0 }
+    requires span { IsSpan member.now.span }
+    requires low { leaf.now.content.low ≤ member.now.span.first }
+    requires high { member.now.span.last ≤ leaf.now.content.high }
+    requires room { length (entries_of leaf.now.content) < ENTRIES }
+    requires free { IsFree member.now.span (entries_of leaf.now.content) }
+    requires due { 0 < due me.old }
+    requires payload { member.now.payload < words.now.terms.payloads }
+    ensures { PutsMember member.now leaf.now.node result me.old me.new }
+{
+    laws::put();
+    laws::transfer();
+    exchange_decided();
+    let node = leaf.node;
+    // By this load it is known of which tree the leaf is.
+    words.load_node(me, node, COUNT);
+    let first = member.span.first();
+    let place = begun_in(words, me, node, &leaf.content, first);
+    let placed = Placed {
+        place,
+        member: *member,
+    };
+    put_in_place(words, me, node, &leaf.content, &placed);
+    let update = Update::Register { member: *member };
+    words.commit(me, update)
 }
 
 /// Tells that a member is refused where a held leaf, which was read, has one that overlaps: the

@@ -204,7 +204,7 @@ pub fn remove_by<L: Locking>(
         let_go_of_way(locking, words, me, &way);
         return Ok(answer);
     }
-    let (number, member) = take_in_leaf(words, me, &way, &leaf, base);
+    let (number, member) = take_in_leaf(words, me, &way, base);
     way.at.changed = true;
     let_go_of_way(locking, words, me, &way);
     Ok(Removed::Done { number, member })

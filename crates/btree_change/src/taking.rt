@@ -7,9 +7,9 @@ ghost use Rattle.btree_change.specs.Takings.{RefusesBase, TakesMember};
 ghost use Rattle.btree_change.specs.Removing.{HoldsBesideRoot, IsSpare};
 
 use crate::way::Way;
-use node_store::write_held;
+use node_store::{begun_in, cut_in_place};
 use reg_model::{Member, Removed, Update};
-use tree_shape::{Node, laws, take_entry};
+use tree_shape::{Node, laws};
 use word_rule::exchange::exchange_decided;
 use word_rule::places::{COUNT, LOWER};
 use word_rule::{Ask, Caller, Words};
@@ -59,20 +59,13 @@ pub(crate) fn not_found(
 }
 
 /// Takes the member that begins at a base out of a held leaf, and commits that: its number, and the
-/// member.
-pub(crate) fn take_in_leaf(
-    words: &Words,
-    me: &mut Caller,
-    way: &Way,
-    leaf: &Node,
-    base: u64,
-) -> (u32, Member)
+/// member. The leaf's words are loaded and stored from the member's place on alone.
+pub(crate) fn take_in_leaf(words: &Words, me: &mut Caller, way: &Way, base: u64) -> (u32, Member)
     requires table { me.old.table ≡ words.now.table }
     requires terms { me.old.log.terms ≡ words.now.terms }
     requires path { HoldsBesideRoot words.now.terms way.now.at.node way.now.at.content
         way.now.at.changed way.now.root_changed me.old.log.holdings }
     requires leaf { way.now.at.content.level ≡ 0 }
-    requires content { leaf.now ≡ way.now.at.content }
     requires here { IsInFences base way.now.at.content }
     requires spare { IsSpare way.now.at.node way.now.at.content }
     requires held { IsSome (at_base base (entries_of way.now.at.content)) }
@@ -83,10 +76,11 @@ pub(crate) fn take_in_leaf(
     laws::take();
     laws::transfer();
     exchange_decided();
+    let node = way.at.node;
     // By this load it is known of which tree the leaf is.
-    words.load_node(me, way.at.node, COUNT);
-    let (left, member) = take_entry(leaf, base);
-    write_held(words, me, way.at.node, &left);
+    words.load_node(me, node, COUNT);
+    let begun = begun_in(words, me, node, &way.at.content, base);
+    let member = cut_in_place(words, me, node, &way.at.content, begun - 1);
     let number = words.commit(me, Update::Deregister { base });
     (number, member)
 }

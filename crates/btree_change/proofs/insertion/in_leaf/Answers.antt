@@ -93,13 +93,6 @@ in_free_leaf-requires-clause-stands g c =
     let is : c.read_held-content.result ≡ at.content = spell_one at.node c.read_held-content.result at.content k.log (spells_read at.node k k1 c.read_held-content.result c.read_held-content.ensures.reads) (stands_spelled t at k.log c.requires.stands.at) in
     subst (λ (z : CallerData). StandsOnWay t m stand z.log) (sym c.in-None.ensures.free.1) s
 
-pub in_free_leaf-requires-clause-content : goal.in_free_leaf-requires-clause-content
-in_free_leaf-requires-clause-content g c =
-    let t = c.args.words.now.terms in let m = c.args.member.now in let stand = c.args.stand in let at = c.args.stand.at in let k = c.args.me.now in let k1 = c.read_held-content.new.me in let kept = c.read_held-content.ensures.holdings in
-    let steps = steps_of_read at.node k k1 c.read_held-content.result c.read_held-content.ensures.reads in let s = stands_still t m stand k k1 kept steps c.requires.stands in
-    let is : c.read_held-content.result ≡ at.content = spell_one at.node c.read_held-content.result at.content k.log (spells_read at.node k k1 c.read_held-content.result c.read_held-content.ensures.reads) (stands_spelled t at k.log c.requires.stands.at) in
-    is
-
 pub in_free_leaf-requires-clause-free : goal.in_free_leaf-requires-clause-free
 in_free_leaf-requires-clause-free g c =
     let t = c.args.words.now.terms in let m = c.args.member.now in let stand = c.args.stand in let at = c.args.stand.at in let k = c.args.me.now in let k1 = c.read_held-content.new.me in let kept = c.read_held-content.ensures.holdings in

@@ -1,7 +1,4 @@
-use Rattle.std.proofs.Common.{◌<◌, ◌≤◌, ◌∙◌, ap, length, subst, sym}
-use Rattle.reg_model.specs.State.{IsFree}
-use Rattle.tree_shape.specs.NodeData.{NodeData, entries_of}
-use Rattle.btree_change.specs.Insertion.{HoldsLeaf}
+use Rattle.std.proofs.Common.{subst, sym}
 use Rattle.btree_change.specs.Stands.{HasCause, HasWayOn}
 use Rattle.btree_change.proofs.Answering.{holds_leaf, leaf_room, put_here, refused_here}
 use Rattle.btree_change.proofs.NoRoom.{any_full}
@@ -10,25 +7,14 @@ use Rattle.btree_change.proofs.insertion.in_place.Goals as goal
 pub full_here-requires-clause-cause : goal.full_here-requires-clause-cause
 full_here-requires-clause-cause c = subst (λ w. HasWayOn w c.args.member.now.span.first c.args.stand.now.at.content c.args.me.now.log) c.in-NoneFree.is c.requires.stands.way
 
-pub put_in_leaf-number-requires-clause-leaf : goal.put_in_leaf-number-requires-clause-leaf
-put_in_leaf-number-requires-clause-leaf c =
-    let at = c.args.stand.now.at in
-    (at.changed, subst (λ s. HoldsLeaf c.args.words.now.terms (record { node = at.node; content = s; changed = at.changed }) c.args.me.now.log.holdings) (sym c.requires.content) (holds_leaf c.args.words.now.terms at c.args.me.now.log.holdings c.requires.stands.at))
+pub put_in_held-number-requires-clause-leaf : goal.put_in_held-number-requires-clause-leaf
+put_in_held-number-requires-clause-leaf c = holds_leaf c.args.words.now.terms c.args.stand.now.at c.args.me.now.log.holdings c.requires.stands.at
 
-pub put_in_leaf-number-requires-clause-level : goal.put_in_leaf-number-requires-clause-level
-put_in_leaf-number-requires-clause-level c = ap (λ (s : NodeData). s.level) c.requires.content ∙ c.requires.level
+pub put_in_held-number-requires-clause-low : goal.put_in_held-number-requires-clause-low
+put_in_held-number-requires-clause-low c = c.requires.stands.here.0
 
-pub put_in_leaf-number-requires-clause-low : goal.put_in_leaf-number-requires-clause-low
-put_in_leaf-number-requires-clause-low c = subst (λ (s : NodeData). s.low ≤ c.args.member.now.span.first) (sym c.requires.content) c.requires.stands.here.0
-
-pub put_in_leaf-number-requires-clause-high : goal.put_in_leaf-number-requires-clause-high
-put_in_leaf-number-requires-clause-high c = subst (λ (s : NodeData). c.args.member.now.span.last ≤ s.high) (sym c.requires.content) c.requires.high
-
-pub put_in_leaf-number-requires-clause-free : goal.put_in_leaf-number-requires-clause-free
-put_in_leaf-number-requires-clause-free c = subst (λ (s : NodeData). IsFree c.args.member.now.span (entries_of s)) (sym c.requires.content) c.requires.free
-
-pub put_in_leaf-number-requires-clause-room : goal.put_in_leaf-number-requires-clause-room
-put_in_leaf-number-requires-clause-room c = subst (λ (s : NodeData). length (entries_of s) < 10) (sym c.requires.content) (leaf_room c.args.words.now.terms c.args.stand.now.at c.args.me.now.log.holdings c.requires.stands.at c.requires.level (subst (λ w. HasWayOn w c.args.member.now.span.first c.args.stand.now.at.content c.args.me.now.log) c.in-Splitting.is c.requires.stands.way))
+pub put_in_held-number-requires-clause-room : goal.put_in_held-number-requires-clause-room
+put_in_held-number-requires-clause-room c = leaf_room c.args.words.now.terms c.args.stand.now.at c.args.me.now.log.holdings c.requires.stands.at c.requires.level (subst (λ w. HasWayOn w c.args.member.now.span.first c.args.stand.now.at.content c.args.me.now.log) c.in-Splitting.is c.requires.stands.way)
 
 pub returns-in-NoneFree-clause-answer : goal.returns-in-NoneFree-clause-answer
 returns-in-NoneFree-clause-answer c = refused_here c.args.words.now.terms c.args.member.now c.args.stand.now.at c.args.me.now c.requires.stands.at c.full_here.result c.full_here.new.me c.full_here.ensures.refused
@@ -37,4 +23,4 @@ pub returns-in-NoneFree-clause-full : goal.returns-in-NoneFree-clause-full
 returns-in-NoneFree-clause-full c = any_full c.full_here.result (subst (λ w. HasCause w c.args.member.now.span.first c.args.me.now c.full_here.new.me) (sym c.in-NoneFree.is) c.full_here.ensures.loads)
 
 pub returns-in-Splitting-clause-answer : goal.returns-in-Splitting-clause-answer
-returns-in-Splitting-clause-answer c = put_here c.args.words.now.terms c.args.member.now c.args.stand.now.at c.args.me.now c.requires.stands.at c.put_in_leaf-number.result c.put_in_leaf-number.new.me c.put_in_leaf-number.ensures
+returns-in-Splitting-clause-answer c = put_here c.args.words.now.terms c.args.member.now c.args.stand.now.at c.args.me.now c.requires.stands.at c.put_in_held-number.result c.put_in_held-number.new.me c.put_in_held-number.ensures
