@@ -121,7 +121,7 @@ refuses_held w c u xs None e l r = absurd e
 refuses_held w c u xs (Some g) e l r = (xs, (l, r))
 
 pub may_refuse : (w : WordsData) (a : ActiveCopy) (k : CallerData) (u : Update) (h : KnowsCopy w a k) → Refuses w.terms u h.listing.members → IsSomeAnd k.log.loader (MayRefuse w.terms u)
-may_refuse w a k u h r = refuses_held w a.copy u h.listing.members k.log.loader h.holder.holds h.listing.lists r
+may_refuse w a k u h r = refuses_held w a.starts.copy u h.listing.members k.log.loader h.holder.holds h.listing.lists r
 
 -- what the active copy lists is free of a span that ends before its place
 pub begin_listed : (active : List ℕ) (xs : List Member) (n k a : ℕ) (d : Member) → ListsMembers active xs → n ≡ length xs → k ≤ n → (k ≡ n) ⊎ (a < (member_in active k).span.first) → (k ≡ length xs) ⊎ (a < (get_or xs k d).span.first)
@@ -324,14 +324,14 @@ written_held : (t : Terms) (c allowance k n : ℕ) (m d : Member) (xs : List Mem
 written_held t c allowance k n m d xs None h due member lists len room le fixed end begin written = absurd h
 written_held t c allowance k n m d xs (Some g) h due member lists len room le fixed end begin written = may_load t allowance k n m d xs g due member lists len room le fixed end begin written
 
-pub may_publish : (w : WordsData) (a : ActiveCopy) (k3 k4 : CallerData) (place : ℕ) (m : Member) → KnowsCopy w a k3 → Spells (spare_words k4.log.loader) k3 k4 → IsSomeAnd k4.log.loader (Holds w.terms a.copy) → 0 < k4.log.budget.allowance → IsMemberOf w.terms m → a.count < w.terms.loads → place ≤ a.count → EndsBelow (active_words k3.log.loader) m.span.first place → IsFree m.span w.terms.fixed → (place ≡ a.count) ⊎ (m.span.last < (member_in (active_words k3.log.loader) place).span.first)
+pub may_publish : (w : WordsData) (a : ActiveCopy) (k3 k4 : CallerData) (place : ℕ) (m : Member) → KnowsCopy w a k3 → Spells (spare_words k4.log.loader) k3 k4 → IsSomeAnd k4.log.loader (Holds w.terms a.starts.copy) → 0 < k4.log.budget.allowance → IsMemberOf w.terms m → a.count < w.terms.loads → place ≤ a.count → EndsBelow (active_words k3.log.loader) m.span.first place → IsFree m.span w.terms.fixed → (place ≡ a.count) ⊎ (m.span.last < (member_in (active_words k3.log.loader) place).span.first)
     → IsWritten (Put place m) (active_words k3.log.loader) (a.count + 1) (spare_words k4.log.loader) → IsSomeAnd k4.log.loader (MayPublish w.terms k4.log.budget.allowance (update.Load m))
 may_publish w a k3 k4 place m knows same held due member room le below fixed begin written =
     let xs : List Member = knows.listing.members in
     let lists = knows.listing.lists in
     let active = spells_active (spare_words k4.log.loader) k3 k4 same in
     let count = knows.count in
-    written_held w.terms a.copy k4.log.budget.allowance place a.count m m xs k4.log.loader held due member (subst (λ ws. ListsMembers ws xs) (sym active) lists) count room le fixed
+    written_held w.terms a.starts.copy k4.log.budget.allowance place a.count m m xs k4.log.loader held due member (subst (λ ws. ListsMembers ws xs) (sym active) lists) count room le fixed
     (ends_listed (active_words k3.log.loader) xs m.span.first place m lists.stand (omega (arith, le, count)) below) (begin_listed (active_words k3.log.loader) xs a.count place m.span.last m lists count le begin)
     (subst (λ ws. IsWritten (Put place m) ws (a.count + 1) (spare_words k4.log.loader)) (sym active) written)
 

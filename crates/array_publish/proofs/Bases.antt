@@ -60,7 +60,7 @@ written_held : (t : Terms) (c allowance k n base : ℕ) (d : Member) (xs : List 
 written_held t c allowance k n base d xs None h due lists len less is written = absurd h
 written_held t c allowance k n base d xs (Some g) h due lists len less is written = may_unload t allowance k n base d xs g due lists len less is written
 
-pub may_publish : (w : WordsData) (a : ActiveCopy) (k3 k4 : CallerData) (place base : ℕ) (knows : KnowsCopy w a k3) → Spells (spare_words k4.log.loader) k3 k4 → IsSomeAnd k4.log.loader (Holds w.terms a.copy) → 0 < k4.log.budget.allowance → place < a.count → (member_in (active_words k3.log.loader) place).span.first ≡ base
+pub may_publish : (w : WordsData) (a : ActiveCopy) (k3 k4 : CallerData) (place base : ℕ) (knows : KnowsCopy w a k3) → Spells (spare_words k4.log.loader) k3 k4 → IsSomeAnd k4.log.loader (Holds w.terms a.starts.copy) → 0 < k4.log.budget.allowance → place < a.count → (member_in (active_words k3.log.loader) place).span.first ≡ base
     → IsWritten (Take place) (active_words k3.log.loader) (a.count - 1) (spare_words k4.log.loader) → IsSomeAnd k4.log.loader (MayPublish w.terms k4.log.budget.allowance (update.Unload base))
 may_publish w a k3 k4 place base knows same held due less is written =
     let xs : List Member = knows.listing.members in
@@ -68,7 +68,7 @@ may_publish w a k3 k4 place base knows same held due less is written =
     let d : Member = member_in (active_words k3.log.loader) place in
     let active = spells_active (spare_words k4.log.loader) k3 k4 same in
     let count = knows.count in
-    written_held w.terms a.copy k4.log.budget.allowance place a.count base d xs k4.log.loader held due (subst (λ ws. ListsMembers ws xs) (sym active) lists) count less
+    written_held w.terms a.starts.copy k4.log.budget.allowance place a.count base d xs k4.log.loader held due (subst (λ ws. ListsMembers ws xs) (sym active) lists) count less
     (ap (λ (m : Member). m.span.first) (sym (listed_is (active_words k3.log.loader) xs place d lists.stand (omega (arith, less, count)))) ∙ is)
     (subst (λ ws. IsWritten (Take place) ws (a.count - 1) (spare_words k4.log.loader)) (sym active) written)
 

@@ -16,17 +16,18 @@ use Rattle.word_rule.specs.Copies.{ListsAll, ListsMembers}
 use Rattle.word_rule.specs.Places.{copy_words, upper}
 use Rattle.word_rule.proofs.Each.{all_with, some_with}
 use Rattle.word_rule.proofs.Listings.{ascending_disjoint, disjoint_fit, state_fixed}
-use Rattle.array_publish.specs.Holders.{IsHolder, Spells, active_words, member_in, spare_words}
+use Rattle.array_publish.specs.Holders.{HasStarts, IsHolder, Spells, active_words, member_in, spare_words}
 use Rattle.array_publish.proofs.Overlaps.{listed_is}
 use Rattle.array_publish.specs.Update.{HoldsCopies, KnowsCopy, Works}
 use Rattle.array_publish.specs.declared.writing.ActiveCopy.{ActiveCopy}
+use Rattle.array_publish.specs.declared.writing.CopyStarts.{CopyStarts}
 use Rattle.array_publish.proofs.Works.{Holds, holder_stays, spells_active}
 
 all_there : (P : Member → Type 0) (xs : List Member) → ((x : Member) → Contains xs x → P x) → AllByRecursion P xs
 all_there P [] f = tt
 all_there P (x ∷ xs) f = (f x (0, omega arith, refl), all_there P xs (λ z c. f z (suc c.0, (let l = c.1 in omega (arith, l)), c.2)))
 
-module _ (w : WordsData) (k0 k1 k2 : CallerData) (found count : ℕ) (table : k0.table ≡ w.table) (own : HoldsCopies k0.log.terms k0) (one : AfterClock w.terms ask.Nothing found k0.log k1.log) (rest : k1 ≡ record k0 { log = k1.log }) (two : Spells (spare_words k1.log.loader) k1 k2) (is : count ≡ get_or (active_words k1.log.loader) 1 0) where
+module _ (w : WordsData) (k0 k1 k2 : CallerData) (found count : ℕ) (s : CopyStarts) (active : s.copy ≡ upper found % 2) (places : HasStarts w.terms s) (table : k0.table ≡ w.table) (own : HoldsCopies k0.log.terms k0) (one : AfterClock w.terms ask.Nothing found k0.log k1.log) (rest : k1 ≡ record k0 { log = k1.log }) (two : Spells (spare_words k1.log.loader) k1 k2) (is : count ≡ get_or (active_words k1.log.loader) 1 0) where
   lock : (h : LoaderHolding) × ((k0.log.loader ≡ Some h) × ((length h.active ≡ copy_words w.terms) × (length h.spare ≡ copy_words w.terms)))
   lock = some_with k0.log.loader (λ (h : LoaderHolding). (length h.active ≡ copy_words w.terms) × (length h.spare ≡ copy_words w.terms)) (subst (λ (t : Terms). HoldsCopies t k0) one.2.0.terms own)
 
@@ -39,13 +40,13 @@ module _ (w : WordsData) (k0 k1 k2 : CallerData) (found count : ℕ) (table : k0
   loader_is : k1.log.loader ≡ Some lock.0
   loader_is = ap (λ v. v.loader) one.2.2 ∙ lock.1.0
 
-  holder1 : IsHolder w (upper found % 2) k1
+  holder1 : IsHolder w s.copy k1
   holder1 = record {
     table = ap (λ k. k.table) rest ∙ table;
     terms = ap (λ v. v.terms) one.2.2 ∙ tells.terms;
     valid = tells.valid;
-    one = omega arith;
-    holds = subst (λ o. IsSomeAnd o (Holds w.terms (upper found % 2))) (sym loader_is) (ap (λ u. u % 2) (sym told.0), lock.1.1.0, lock.1.1.1);
+    one = omega (arith, active);
+    holds = subst (λ o. IsSomeAnd o (Holds w.terms s.copy)) (sym loader_is) (ap (λ u. u % 2) (sym told.0) ∙ sym active, lock.1.1.0, lock.1.1.1);
   }
 
   active_is : active_words k2.log.loader ≡ lock.0.active
@@ -62,9 +63,10 @@ module _ (w : WordsData) (k0 k1 k2 : CallerData) (found count : ℕ) (table : k0
       let less = disjoint_fit told.1.members (state_after (start w.terms) one.0).loaded (ascending_disjoint 0 told.1.members told.1.lists.ascending) (λ x c. (all_with (IsMemberOf w.terms) told.1.members x members_known c).0) (λ x c. (told.1.same x).0 c) in
       let room = tells.lawful.room in let loads = (state_fixed (start w.terms) one.0).1 in omega (arith, less, room, loads)
 
-  pub knows : KnowsCopy w (record { copy = upper found % 2; count = count }) k2
+  pub knows : KnowsCopy w (record { starts = s; count = count }) k2
   knows = record {
-    holder = holder_stays w (upper found % 2) (spare_words k1.log.loader) k1 k2 holder1 two (ap (λ o. length (spare_words o)) loader_is ∙ lock.1.1.1);
+    places = places;
+    holder = holder_stays w s.copy (spare_words k1.log.loader) k1 k2 holder1 two (ap (λ o. length (spare_words o)) loader_is ∙ lock.1.1.1);
     listing = record {
       members = told.1.members;
       lists = subst (λ ws. ListsMembers ws told.1.members) (sym active_is) told.1.lists;
@@ -81,7 +83,8 @@ terms_before w a k k' works knows = sym (ap (λ (z : CallerData). z.log.terms) w
 
 pub knows_stays : (w : WordsData) (a : ActiveCopy) (spare : List ℕ) (k k' : CallerData) → KnowsCopy w a k → Spells spare k k' → length spare ≡ copy_words w.terms → KnowsCopy w a k'
 knows_stays w a spare k k' h p wide = record {
-  holder = holder_stays w a.copy spare k k' h.holder p wide;
+  holder = holder_stays w a.starts.copy spare k k' h.holder p wide;
+  places = h.places;
   listing = record {
     members = h.listing.members;
     lists = subst (λ ws. ListsMembers ws h.listing.members) (sym (spells_active spare k k' p)) h.listing.lists;

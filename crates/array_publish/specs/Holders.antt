@@ -1,6 +1,6 @@
 -- The holder of the loader's lock: the words of both copies, and what it makes of the one that
 -- isn't active.
-use Rattle.std.specs.Prelude.{◌≡◌, ℕ, ◌+◌, ◌<◌, ◌%◌, Bool, List, [], ◌++◌, length, Option, Some}
+use Rattle.std.specs.Prelude.{◌≡◌, ℕ, ◌+◌, ◌-◌, ◌<◌, ◌%◌, Bool, List, [], ◌++◌, length, Option, Some}
 use Rattle.std.specs.Prelude.{None, option_map, IsSomeAnd, slice_index}
 use Rattle.reg_model.specs.declared.span.Member.{Member}
 use Rattle.word_rule.specs.declared.log.LoadEvent.{LoadEvent}
@@ -9,7 +9,9 @@ use Rattle.word_rule.specs.declared.log.Log.{Log}
 use Rattle.word_rule.specs.declared.log.Sights.{Sights}
 use Rattle.word_rule.specs.CallerData.{CallerData, WordsData}
 use Rattle.word_rule.specs.Callers.{AreTerms}
-use Rattle.word_rule.specs.Places.{copy_words, member_place}
+use Rattle.word_rule.specs.Places.{copy_place, copy_words, member_place}
+use Rattle.array_publish.specs.declared.writing.CopyStarts.{CopyStarts}
+use Rattle.word_rule.specs.declared.log.Terms.{Terms}
 
 -- the words of the active copy, and of the other one
 abbrev pub active_words : Option LoaderHolding → List ℕ
@@ -28,6 +30,11 @@ pub record IsHolder (w : WordsData) (c : ℕ) (k : CallerData) : Type 0 where
   pub one : c < 2
   pub holds : IsSomeAnd k.log.loader (λ h. (h.published % 2 ≡ c)
       × (length h.active ≡ copy_words w.terms) × (length h.spare ≡ copy_words w.terms))
+
+-- the places where both copies begin
+pub record HasStarts (t : Terms) (s : CopyStarts) : Type 0 where
+  pub active : s.active ≡ copy_place t s.copy
+  pub spare : s.spare ≡ copy_place t (1 - s.copy)
 
 abbrev pub with_spare : List ℕ → Bool → LoaderHolding → LoaderHolding
 with_spare spare stored h = record h { spare = spare; stored = stored }

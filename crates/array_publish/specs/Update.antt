@@ -25,7 +25,7 @@ use Rattle.word_rule.specs.Callers.{IsMemberOf, start}
 use Rattle.word_rule.specs.Copies.{ListsAll}
 use Rattle.word_rule.specs.Logs.{after_loader_release, after_loader_release_same}
 use Rattle.word_rule.specs.Places.{copy_words}
-use Rattle.array_publish.specs.Holders.{IsHolder, active_words, after_work}
+use Rattle.array_publish.specs.Holders.{HasStarts, IsHolder, active_words, after_work}
 
 -- the lock of the loader is held, and both copies have all their words
 abbrev pub HoldsCopies : Terms → CallerData → Type 0
@@ -39,7 +39,8 @@ IsClean k = IsSomeAnd k.log.loader (λ h. h.stored ≡ false)
 -- What the holder knows of the active copy: it lists the loaded members of the history that was
 -- seen, so many.
 pub record KnowsCopy (w : WordsData) (a : ActiveCopy) (k : CallerData) : Type 0 where
-  pub holder : IsHolder w a.copy k
+  pub holder : IsHolder w a.starts.copy k
+  pub places : HasStarts w.terms a.starts
   pub listing : ListsAll (active_words k.log.loader)
       (state_after (start w.terms) k.log.past).loaded
   pub count : a.count ≡ length listing.members

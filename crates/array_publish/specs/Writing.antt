@@ -5,9 +5,7 @@ use Rattle.reg_model.specs.declared.span.Member.{Member}
 use Rattle.array_publish.specs.declared.writing.Change.{Change}
 use Rattle.array_publish.specs.declared.writing.Change.TheVariants.{Put, Take}
 use Rattle.word_rule.specs.Places.{member_place, segment_place, segments}
-use Rattle.word_rule.specs.Callers.{IsMemberOf}
 use Rattle.word_rule.specs.Copies.{count_in}
-use Rattle.word_rule.specs.declared.log.Terms.{Terms}
 use Rattle.array_publish.specs.Holders.{member_in}
 
 -- member i of the list after the change, where the words of the active copy are these
@@ -34,11 +32,6 @@ HasPlace (Take place) count = place < count
 abbrev pub changed_count : Change → ℕ → ℕ
 changed_count (Put place m) count = count + 1
 changed_count (Take place) count = count - 1
-
--- the words of so many members say what may be made known, and there is room for them
-pub record AreKnown (t : Terms) (words : List ℕ) (count : ℕ) : Type 0 where
-  pub each : (i : ℕ) → i < count → IsMemberOf t (member_in words i)
-  pub room : count ≤ t.loads
 
 -- a member written into its place
 abbrev pub with_member : ℕ → Member → List ℕ → List ℕ

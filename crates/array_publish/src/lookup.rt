@@ -21,11 +21,7 @@ fn object_at(words: &Words, me: &mut Caller, copy: u32, pc: u64) -> Option<Liste
         → load_count me.new ≤ load_count me.old + n + 3 }
 {
     match fixed::containing(words.fixed(), pc) {
-        Some(member) => Some(Listed {
-            first: member.span.first(),
-            last: member.span.last(),
-            payload: member.payload as u64,
-        }),
+        Some(member) => Some(Listed::of(&member)),
         None => walk::listed_at(words, me, copy, pc),
     }
 }

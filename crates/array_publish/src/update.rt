@@ -11,12 +11,14 @@ ghost use Rattle.array_publish.specs.Update.{AnswersLoad, AnswersUnload, HoldsCo
 ghost use Rattle.array_publish.specs.Update.{KnowsCopy, Works};
 
 use crate::walk::COUNT;
-use crate::writing::{ActiveCopy, Change, active_member, active_word, ending_below, write_copy};
+use crate::writing::{
+    ActiveCopy, Change, active_member, active_word, ending_below, starts_of, write_copy,
+};
 use reg_model::{Loading, Member, Removed, Span, Update};
 use word_rule::places::LOWER;
 use word_rule::{Ask, Caller, Words};
 
-/// Which copy is active, and how many members it lists.
+/// The active copy, and how many members it lists.
 fn active_copy(words: &Words, me: &mut Caller) -> ActiveCopy
     requires table { me.old.table ≡ words.now.table }
     requires held { HoldsCopies me.old.log.terms me.old }
@@ -25,9 +27,9 @@ fn active_copy(words: &Words, me: &mut Caller) -> ActiveCopy
     ensures knows { KnowsCopy words.now result me.new }
 {
     let clock = words.load_clock(me, Ask::Nothing);
-    let copy = (clock / LOWER % 2) as u32;
-    let count = active_word(words, me, copy, COUNT) as u32;
-    ActiveCopy { copy, count }
+    let starts = starts_of(words, (clock / LOWER % 2) as u32);
+    let count = active_word(words, me, &starts, COUNT) as u32;
+    ActiveCopy { starts, count }
 }
 
 /// Of members that ascend, the first one that overlaps the span.
@@ -70,7 +72,7 @@ fn lowest_overlap(
     if place == active.count {
         return fixed;
     }
-    let member = active_member(words, me, active.copy, place);
+    let member = active_member(words, me, &active.starts, place);
     if span.last() < member.span.first() {
         return fixed;
     }
@@ -106,7 +108,7 @@ fn beginning_at(
     if place == active.count {
         return None;
     }
-    let member = active_member(words, me, active.copy, place);
+    let member = active_member(words, me, &active.starts, place);
     if member.span.first() == base {
         Some(member)
     } else {

@@ -167,6 +167,17 @@ pub fn listed_at(words: &Words, me: &mut Caller, copy: u32, pc: u64) -> Option<L
 }
 
 impl Listed {
+    /// What is said of a member.
+    pub fn of(member: &Member) -> Listed
+        ensures { listed_member result ≡ member.now }
+    {
+        Listed {
+            first: member.span.first(),
+            last: member.span.last(),
+            payload: member.payload as u64,
+        }
+    }
+
     /// The member that is meant.
     pub fn member(self) -> Member
         requires { IsMember self }

@@ -12,8 +12,8 @@ pub returns-in-Some-clause-found : goal.returns-in-Some-clause-found
 returns-in-Some-clause-found c =
     let t : Terms = c.args.words.now.terms in
     let found : Some c.in-Some.member ≡ member_at c.args.pc t.fixed = sym c.in-Some.is ∙ (c.containing.ensures ∙ ap (member_at c.args.pc) c.fixed.ensures) in
-    fixed_first t c.args.copy c.args.me.now t.fixed c.args.pc c.in-Some.member (record { first = c.first.result; last = c.last.result; payload = c.in-Some.member.payload }) found
-    (λ i. record { span = record { first = c.first.ensures.value i; last = c.last.ensures.value i }; payload = c.in-Some.member.payload })
+    fixed_first t c.args.copy c.args.me.now t.fixed c.args.pc c.in-Some.member c.of.result found
+    c.of.ensures
 
 pub returns-in-None-clause-found : goal.returns-in-None-clause-found
 returns-in-None-clause-found c =

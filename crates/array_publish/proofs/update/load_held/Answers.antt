@@ -9,21 +9,21 @@ use Rattle.array_publish.specs.Holders.{active_words, member_in, spare_words}
 use Rattle.array_publish.specs.Writing.{EndsBelow}
 use Rattle.array_publish.specs.declared.writing.ActiveCopy.{ActiveCopy}
 use Rattle.array_publish.proofs.Answering.{may_refuse, overlap_so, full_so, published_so, may_publish, free_listed, works_then, is_held, holds_of, stays_clean}
-use Rattle.array_publish.proofs.Knowing.{counted_so, known_at, knows_stays, terms_before}
+use Rattle.array_publish.proofs.Knowing.{counted_so, knows_stays, terms_before}
 use Rattle.array_publish.proofs.Works.{spare_wide, spells_active}
 use Rattle.array_publish.proofs.update.load_held.Goals as goal
 
 pub lowest_overlap-requires-clause-knows : goal.lowest_overlap-requires-clause-knows
 lowest_overlap-requires-clause-knows c =
     let w : WordsData = c.args.words.now in let a : ActiveCopy = c.active_copy-active.result in let k1 : CallerData = c.active_copy-active.new.me in let one = c.active_copy-active.ensures.knows in
-    knows_stays w a (spare_words k1.log.loader) k1 c.ending_below-place.new.me one c.ending_below-place.ensures.same (spare_wide w a.copy k1 one.holder)
+    knows_stays w a (spare_words k1.log.loader) k1 c.ending_below-place.new.me one c.ending_below-place.ensures.same (spare_wide w a.starts.copy k1 one.holder)
 
 pub returns-in-Some-clause-answer : goal.returns-in-Some-clause-answer
 returns-in-Some-clause-answer c =
     let w : WordsData = c.args.words.now in let a : ActiveCopy = c.active_copy-active.result in let k1 : CallerData = c.active_copy-active.new.me in let one = c.active_copy-active.ensures.knows in
     let k2 : CallerData = c.ending_below-place.new.me in let k3 : CallerData = c.lowest_overlap.new.me in
-    let two = knows_stays w a (spare_words k1.log.loader) k1 k2 one c.ending_below-place.ensures.same (spare_wide w a.copy k1 one.holder) in
-    let three = knows_stays w a (spare_words k2.log.loader) k2 k3 two c.lowest_overlap.ensures.same (spare_wide w a.copy k2 two.holder) in
+    let two = knows_stays w a (spare_words k1.log.loader) k1 k2 one c.ending_below-place.ensures.same (spare_wide w a.starts.copy k1 one.holder) in
+    let three = knows_stays w a (spare_words k2.log.loader) k2 k3 two c.lowest_overlap.ensures.same (spare_wide w a.starts.copy k2 two.holder) in
     let works = works_then (spare_words k2.log.loader) c.args.me.now k2 k3 (works_then (spare_words k1.log.loader) c.args.me.now k1 k2 c.active_copy-active.ensures.works c.ending_below-place.ensures.same) c.lowest_overlap.ensures.same in
     overlap_so w.terms c.args.me.now k3 c.load_clock-clock.new.me c.load_clock-clock.result c.args.member.now works (stays_clean c.args.me.now k1 k2 k3 c.active_copy-active.ensures.kept c.ending_below-place.ensures.kept c.lowest_overlap.ensures.kept c.requires.clean) c.load_clock-clock.ensures.log c.load_clock-clock.ensures.rest c.in-Some.other
     (λ xs lists. c.in-Some.ensures.found xs (subst (λ ws. ListsMembers ws xs) (spells_active (spare_words k2.log.loader) k2 k3 c.lowest_overlap.ensures.same) lists))
@@ -32,8 +32,8 @@ pub load_clock-clock-requires-then-active-loads-clause-ask : goal.load_clock-clo
 load_clock-clock-requires-then-active-loads-clause-ask c =
     let w : WordsData = c.args.words.now in let a : ActiveCopy = c.active_copy-active.result in let k1 : CallerData = c.active_copy-active.new.me in let one = c.active_copy-active.ensures.knows in
     let k2 : CallerData = c.ending_below-place.new.me in let k3 : CallerData = c.lowest_overlap.new.me in
-    let two = knows_stays w a (spare_words k1.log.loader) k1 k2 one c.ending_below-place.ensures.same (spare_wide w a.copy k1 one.holder) in
-    let three = knows_stays w a (spare_words k2.log.loader) k2 k3 two c.lowest_overlap.ensures.same (spare_wide w a.copy k2 two.holder) in
+    let two = knows_stays w a (spare_words k1.log.loader) k1 k2 one c.ending_below-place.ensures.same (spare_wide w a.starts.copy k1 one.holder) in
+    let three = knows_stays w a (spare_words k2.log.loader) k2 k3 two c.lowest_overlap.ensures.same (spare_wide w a.starts.copy k2 two.holder) in
     let none = c.in_default.ensures.none in
     let below = subst (λ pc. EndsBelow (active_words k1.log.loader) pc c.ending_below-place.result) c.first.ensures.value c.ending_below-place.ensures.below in
     let begin = subst (λ ws. (c.ending_below-place.result ≡ a.count) ⊎ (c.args.member.now.span.last < (member_in ws c.ending_below-place.result).span.first)) (spells_active (spare_words k1.log.loader) k1 k2 c.ending_below-place.ensures.same) none.1 in
@@ -47,8 +47,8 @@ pub returns-then-active-loads-clause-answer : goal.returns-then-active-loads-cla
 returns-then-active-loads-clause-answer c =
     let w : WordsData = c.args.words.now in let a : ActiveCopy = c.active_copy-active.result in let k1 : CallerData = c.active_copy-active.new.me in let one = c.active_copy-active.ensures.knows in
     let k2 : CallerData = c.ending_below-place.new.me in let k3 : CallerData = c.lowest_overlap.new.me in
-    let two = knows_stays w a (spare_words k1.log.loader) k1 k2 one c.ending_below-place.ensures.same (spare_wide w a.copy k1 one.holder) in
-    let three = knows_stays w a (spare_words k2.log.loader) k2 k3 two c.lowest_overlap.ensures.same (spare_wide w a.copy k2 two.holder) in
+    let two = knows_stays w a (spare_words k1.log.loader) k1 k2 one c.ending_below-place.ensures.same (spare_wide w a.starts.copy k1 one.holder) in
+    let three = knows_stays w a (spare_words k2.log.loader) k2 k3 two c.lowest_overlap.ensures.same (spare_wide w a.starts.copy k2 two.holder) in
     let works = works_then (spare_words k2.log.loader) c.args.me.now k2 k3 (works_then (spare_words k1.log.loader) c.args.me.now k1 k2 c.active_copy-active.ensures.works c.ending_below-place.ensures.same) c.lowest_overlap.ensures.same in
     let none = c.in_default.ensures.none in
     let below = subst (λ pc. EndsBelow (active_words k1.log.loader) pc c.ending_below-place.result) c.first.ensures.value c.ending_below-place.ensures.below in
@@ -60,20 +60,15 @@ returns-then-active-loads-clause-answer c =
     let mine = subst (λ ws. ListsMembers ws xs) (active3 ∙ active2) lists in
     All-append (λ x. ¬ Overlaps x.span c.args.member.now.span) w.terms.fixed xs none.0 (free_listed (active_words k1.log.loader) xs a.count c.ending_below-place.result c.args.member.now.span c.args.member.now mine (counted_so w a k1 xs one mine) c.ending_below-place.ensures.inside below begin))
 
-pub write_copy-requires-clause-known : goal.write_copy-requires-clause-known
-write_copy-requires-clause-known c =
-    let w : WordsData = c.args.words.now in let a : ActiveCopy = c.active_copy-active.result in let k1 : CallerData = c.active_copy-active.new.me in let one = c.active_copy-active.ensures.knows in
-    let k2 : CallerData = c.ending_below-place.new.me in let k3 : CallerData = c.lowest_overlap.new.me in
-    let two = knows_stays w a (spare_words k1.log.loader) k1 k2 one c.ending_below-place.ensures.same (spare_wide w a.copy k1 one.holder) in
-    let three = knows_stays w a (spare_words k2.log.loader) k2 k3 two c.lowest_overlap.ensures.same (spare_wide w a.copy k2 two.holder) in
-    record { each = λ i less. known_at w a k3 i three less; room = three.room }
+pub write_copy-requires-clause-before : goal.write_copy-requires-clause-before
+write_copy-requires-clause-before c = c.active_copy-active.ensures.knows.room
 
 pub publish-number-requires-clause-may : goal.publish-number-requires-clause-may
 publish-number-requires-clause-may c =
     let w : WordsData = c.args.words.now in let a : ActiveCopy = c.active_copy-active.result in let k1 : CallerData = c.active_copy-active.new.me in let one = c.active_copy-active.ensures.knows in
     let k2 : CallerData = c.ending_below-place.new.me in let k3 : CallerData = c.lowest_overlap.new.me in let k4 : CallerData = c.write_copy.new.me in
-    let two = knows_stays w a (spare_words k1.log.loader) k1 k2 one c.ending_below-place.ensures.same (spare_wide w a.copy k1 one.holder) in
-    let three = knows_stays w a (spare_words k2.log.loader) k2 k3 two c.lowest_overlap.ensures.same (spare_wide w a.copy k2 two.holder) in
+    let two = knows_stays w a (spare_words k1.log.loader) k1 k2 one c.ending_below-place.ensures.same (spare_wide w a.starts.copy k1 one.holder) in
+    let three = knows_stays w a (spare_words k2.log.loader) k2 k3 two c.lowest_overlap.ensures.same (spare_wide w a.starts.copy k2 two.holder) in
     let works = works_then (spare_words k4.log.loader) c.args.me.now k3 k4 (works_then (spare_words k2.log.loader) c.args.me.now k2 k3 (works_then (spare_words k1.log.loader) c.args.me.now k1 k2 c.active_copy-active.ensures.works c.ending_below-place.ensures.same) c.lowest_overlap.ensures.same) c.write_copy.ensures.same in
     let none = c.in_default.ensures.none in
     let active2 = spells_active (spare_words k1.log.loader) k1 k2 c.ending_below-place.ensures.same in
@@ -82,17 +77,17 @@ publish-number-requires-clause-may c =
     let begin = subst (λ ws. (c.ending_below-place.result ≡ a.count) ⊎ (c.args.member.now.span.last < (member_in ws c.ending_below-place.result).span.first)) (sym active3) none.1 in
     let allowance : k4.log.budget.allowance ≡ c.args.me.now.log.budget.allowance = ap (λ (k : CallerData). k.log.budget.allowance) works.6.1 in
     let due_now = c.requires.due in let room = three.room in let loads = c.loads.ensures in let less = c.if-active-loads.false in
-    may_publish w a k3 k4 c.ending_below-place.result c.args.member.now three c.write_copy.ensures.same (holds_of w.terms a.copy (spare_words k4.log.loader) k3 k4 three.holder.holds c.write_copy.ensures.same c.write_copy.ensures.wide) (omega (arith, allowance, due_now)) (c.first.ensures.span, c.requires.payload) (omega (arith, room, loads, less)) c.ending_below-place.ensures.inside below none.0 begin c.write_copy.ensures.written
+    may_publish w a k3 k4 c.ending_below-place.result c.args.member.now three c.write_copy.ensures.same (holds_of w.terms a.starts.copy (spare_words k4.log.loader) k3 k4 three.holder.holds c.write_copy.ensures.same c.write_copy.ensures.wide) (omega (arith, allowance, due_now)) (c.first.ensures.span, c.requires.payload) (omega (arith, room, loads, less)) c.ending_below-place.ensures.inside below none.0 begin c.write_copy.ensures.written
 
 pub returns-clause-answer : goal.returns-clause-answer
 returns-clause-answer c =
     let w : WordsData = c.args.words.now in let a : ActiveCopy = c.active_copy-active.result in let k1 : CallerData = c.active_copy-active.new.me in let one = c.active_copy-active.ensures.knows in
     let k2 : CallerData = c.ending_below-place.new.me in let k3 : CallerData = c.lowest_overlap.new.me in let k4 : CallerData = c.write_copy.new.me in
-    let two = knows_stays w a (spare_words k1.log.loader) k1 k2 one c.ending_below-place.ensures.same (spare_wide w a.copy k1 one.holder) in
-    let three = knows_stays w a (spare_words k2.log.loader) k2 k3 two c.lowest_overlap.ensures.same (spare_wide w a.copy k2 two.holder) in
+    let two = knows_stays w a (spare_words k1.log.loader) k1 k2 one c.ending_below-place.ensures.same (spare_wide w a.starts.copy k1 one.holder) in
+    let three = knows_stays w a (spare_words k2.log.loader) k2 k3 two c.lowest_overlap.ensures.same (spare_wide w a.starts.copy k2 two.holder) in
     let works = works_then (spare_words k4.log.loader) c.args.me.now k3 k4 (works_then (spare_words k2.log.loader) c.args.me.now k2 k3 (works_then (spare_words k1.log.loader) c.args.me.now k1 k2 c.active_copy-active.ensures.works c.ending_below-place.ensures.same) c.lowest_overlap.ensures.same) c.write_copy.ensures.same in
-    let holds = holds_of w.terms a.copy (spare_words k4.log.loader) k3 k4 three.holder.holds c.write_copy.ensures.same c.write_copy.ensures.wide in
-    published_so w.terms c.args.me.now k4 c.publish-number.new.me c.publish-number.ensures.log.0 c.publish-number.result c.args.member.now works (is_held w.terms a.copy k4.log.loader holds) c.publish-number.ensures.log.1 c.publish-number.ensures.rest c.publish-number.ensures.number
+    let holds = holds_of w.terms a.starts.copy (spare_words k4.log.loader) k3 k4 three.holder.holds c.write_copy.ensures.same c.write_copy.ensures.wide in
+    published_so w.terms c.args.me.now k4 c.publish-number.new.me c.publish-number.ensures.log.0 c.publish-number.result c.args.member.now works (is_held w.terms a.starts.copy k4.log.loader holds) c.publish-number.ensures.log.1 c.publish-number.ensures.rest c.publish-number.ensures.number
 
 pub returns-in-Some-clause-terms : goal.returns-in-Some-clause-terms
 returns-in-Some-clause-terms c = terms_before c.args.words.now c.active_copy-active.result c.args.me.now c.active_copy-active.new.me c.active_copy-active.ensures.works c.active_copy-active.ensures.knows

@@ -16,14 +16,14 @@ use Rattle.array_publish.proofs.update.unload_held.Goals as goal
 pub beginning_at-requires-clause-knows : goal.beginning_at-requires-clause-knows
 beginning_at-requires-clause-knows c =
     let w : WordsData = c.args.words.now in let a : ActiveCopy = c.active_copy-active.result in let k1 : CallerData = c.active_copy-active.new.me in let one = c.active_copy-active.ensures.knows in
-    knows_stays w a (spare_words k1.log.loader) k1 c.ending_below-place.new.me one c.ending_below-place.ensures.same (spare_wide w a.copy k1 one.holder)
+    knows_stays w a (spare_words k1.log.loader) k1 c.ending_below-place.new.me one c.ending_below-place.ensures.same (spare_wide w a.starts.copy k1 one.holder)
 
 pub load_clock-clock-requires-clause-ask : goal.load_clock-clock-requires-clause-ask
 load_clock-clock-requires-clause-ask c =
     let w : WordsData = c.args.words.now in let a : ActiveCopy = c.active_copy-active.result in let k1 : CallerData = c.active_copy-active.new.me in let one = c.active_copy-active.ensures.knows in
     let k2 : CallerData = c.ending_below-place.new.me in let k3 : CallerData = c.beginning_at.new.me in
-    let two = knows_stays w a (spare_words k1.log.loader) k1 k2 one c.ending_below-place.ensures.same (spare_wide w a.copy k1 one.holder) in
-    let three = knows_stays w a (spare_words k2.log.loader) k2 k3 two c.in_default.ensures.same (spare_wide w a.copy k2 two.holder) in
+    let two = knows_stays w a (spare_words k1.log.loader) k1 k2 one c.ending_below-place.ensures.same (spare_wide w a.starts.copy k1 one.holder) in
+    let three = knows_stays w a (spare_words k2.log.loader) k2 k3 two c.in_default.ensures.same (spare_wide w a.starts.copy k2 two.holder) in
     let active2 = spells_active (spare_words k1.log.loader) k1 k2 c.ending_below-place.ensures.same in
     let active3 = spells_active (spare_words k2.log.loader) k2 k3 c.in_default.ensures.same in
     let below = subst (λ ws. EndsBelow ws c.args.base c.ending_below-place.result) (sym active2) c.ending_below-place.ensures.below in
@@ -35,48 +35,43 @@ pub returns-in_default-clause-answer : goal.returns-in_default-clause-answer
 returns-in_default-clause-answer c =
     let w : WordsData = c.args.words.now in let a : ActiveCopy = c.active_copy-active.result in let k1 : CallerData = c.active_copy-active.new.me in let one = c.active_copy-active.ensures.knows in
     let k2 : CallerData = c.ending_below-place.new.me in let k3 : CallerData = c.beginning_at.new.me in
-    let two = knows_stays w a (spare_words k1.log.loader) k1 k2 one c.ending_below-place.ensures.same (spare_wide w a.copy k1 one.holder) in
-    let three = knows_stays w a (spare_words k2.log.loader) k2 k3 two c.in_default.ensures.same (spare_wide w a.copy k2 two.holder) in
+    let two = knows_stays w a (spare_words k1.log.loader) k1 k2 one c.ending_below-place.ensures.same (spare_wide w a.starts.copy k1 one.holder) in
+    let three = knows_stays w a (spare_words k2.log.loader) k2 k3 two c.in_default.ensures.same (spare_wide w a.starts.copy k2 two.holder) in
     let works = works_then (spare_words k2.log.loader) c.args.me.now k2 k3 (works_then (spare_words k1.log.loader) c.args.me.now k1 k2 c.active_copy-active.ensures.works c.ending_below-place.ensures.same) c.in_default.ensures.same in
     not_found_so w.terms c.args.me.now k3 c.load_clock-clock.new.me c.load_clock-clock.result c.args.base works (stays_clean c.args.me.now k1 k2 k3 c.active_copy-active.ensures.kept c.ending_below-place.ensures.kept c.in_default.ensures.kept c.requires.clean) c.load_clock-clock.ensures.log c.load_clock-clock.ensures.rest
 
-pub write_copy-requires-clause-known : goal.write_copy-requires-clause-known
-write_copy-requires-clause-known c =
-    let w : WordsData = c.args.words.now in let a : ActiveCopy = c.active_copy-active.result in let k1 : CallerData = c.active_copy-active.new.me in let one = c.active_copy-active.ensures.knows in
-    let k2 : CallerData = c.ending_below-place.new.me in let k3 : CallerData = c.beginning_at.new.me in
-    let two = knows_stays w a (spare_words k1.log.loader) k1 k2 one c.ending_below-place.ensures.same (spare_wide w a.copy k1 one.holder) in
-    let three = knows_stays w a (spare_words k2.log.loader) k2 k3 two c.in-Some.ensures.same (spare_wide w a.copy k2 two.holder) in
-    record { each = λ i less. known_at w a k3 i three less; room = three.room }
+pub write_copy-requires-clause-before : goal.write_copy-requires-clause-before
+write_copy-requires-clause-before c = c.active_copy-active.ensures.knows.room
 
 pub publish-number-requires-clause-may : goal.publish-number-requires-clause-may
 publish-number-requires-clause-may c =
     let w : WordsData = c.args.words.now in let a : ActiveCopy = c.active_copy-active.result in let k1 : CallerData = c.active_copy-active.new.me in let one = c.active_copy-active.ensures.knows in
     let k2 : CallerData = c.ending_below-place.new.me in let k3 : CallerData = c.beginning_at.new.me in let k4 : CallerData = c.write_copy.new.me in
-    let two = knows_stays w a (spare_words k1.log.loader) k1 k2 one c.ending_below-place.ensures.same (spare_wide w a.copy k1 one.holder) in
-    let three = knows_stays w a (spare_words k2.log.loader) k2 k3 two c.in-Some.ensures.same (spare_wide w a.copy k2 two.holder) in
+    let two = knows_stays w a (spare_words k1.log.loader) k1 k2 one c.ending_below-place.ensures.same (spare_wide w a.starts.copy k1 one.holder) in
+    let three = knows_stays w a (spare_words k2.log.loader) k2 k3 two c.in-Some.ensures.same (spare_wide w a.starts.copy k2 two.holder) in
     let works = works_then (spare_words k4.log.loader) c.args.me.now k3 k4 (works_then (spare_words k2.log.loader) c.args.me.now k2 k3 (works_then (spare_words k1.log.loader) c.args.me.now k1 k2 c.active_copy-active.ensures.works c.ending_below-place.ensures.same) c.in-Some.ensures.same) c.write_copy.ensures.same in
     let active3 = spells_active (spare_words k2.log.loader) k2 k3 c.in-Some.ensures.same in
     let found = c.in-Some.ensures.found in
     let allowance : k4.log.budget.allowance ≡ c.args.me.now.log.budget.allowance = ap (λ (k : CallerData). k.log.budget.allowance) works.6.1 in
     let due_now = c.requires.due in
-    may_publish w a k3 k4 c.ending_below-place.result c.args.base three c.write_copy.ensures.same (holds_of w.terms a.copy (spare_words k4.log.loader) k3 k4 three.holder.holds c.write_copy.ensures.same c.write_copy.ensures.wide) (omega (arith, allowance, due_now)) found.0
+    may_publish w a k3 k4 c.ending_below-place.result c.args.base three c.write_copy.ensures.same (holds_of w.terms a.starts.copy (spare_words k4.log.loader) k3 k4 three.holder.holds c.write_copy.ensures.same c.write_copy.ensures.wide) (omega (arith, allowance, due_now)) found.0
     (ap (λ ws. (member_in ws c.ending_below-place.result).span.first) active3 ∙ (ap (λ (m : Member). m.span.first) (sym found.1) ∙ found.2)) c.write_copy.ensures.written
 
 pub returns-clause-answer : goal.returns-clause-answer
 returns-clause-answer c =
     let w : WordsData = c.args.words.now in let a : ActiveCopy = c.active_copy-active.result in let k1 : CallerData = c.active_copy-active.new.me in let one = c.active_copy-active.ensures.knows in
     let k2 : CallerData = c.ending_below-place.new.me in let k3 : CallerData = c.beginning_at.new.me in let k4 : CallerData = c.write_copy.new.me in
-    let two = knows_stays w a (spare_words k1.log.loader) k1 k2 one c.ending_below-place.ensures.same (spare_wide w a.copy k1 one.holder) in
-    let three = knows_stays w a (spare_words k2.log.loader) k2 k3 two c.in-Some.ensures.same (spare_wide w a.copy k2 two.holder) in
+    let two = knows_stays w a (spare_words k1.log.loader) k1 k2 one c.ending_below-place.ensures.same (spare_wide w a.starts.copy k1 one.holder) in
+    let three = knows_stays w a (spare_words k2.log.loader) k2 k3 two c.in-Some.ensures.same (spare_wide w a.starts.copy k2 two.holder) in
     let works = works_then (spare_words k4.log.loader) c.args.me.now k3 k4 (works_then (spare_words k2.log.loader) c.args.me.now k2 k3 (works_then (spare_words k1.log.loader) c.args.me.now k1 k2 c.active_copy-active.ensures.works c.ending_below-place.ensures.same) c.in-Some.ensures.same) c.write_copy.ensures.same in
-    let holds = holds_of w.terms a.copy (spare_words k4.log.loader) k3 k4 three.holder.holds c.write_copy.ensures.same c.write_copy.ensures.wide in
+    let holds = holds_of w.terms a.starts.copy (spare_words k4.log.loader) k3 k4 three.holder.holds c.write_copy.ensures.same c.write_copy.ensures.wide in
     let active3 = spells_active (spare_words k2.log.loader) k2 k3 c.in-Some.ensures.same in
     let active4 = spells_active (spare_words k4.log.loader) k3 k4 c.write_copy.ensures.same in
     let found = c.in-Some.ensures.found in
     unpublished_so w.terms c.args.me.now k4 c.publish-number.new.me c.publish-number.ensures.log.0 c.publish-number.result c.args.base c.in-Some.member three.listing.members
     (holder_terms w a k3 k4 three c.write_copy.ensures.same) (subst (IsMemberOf w.terms) (sym (found.1 ∙ sym (ap (λ ws. member_in ws c.ending_below-place.result) active3))) (known_at w a k3 c.ending_below-place.result three found.0)) (subst (λ ws. ListsMembers ws three.listing.members) (sym active4) three.listing.lists)
     (member_listed w a k3 three c.ending_below-place.result c.in-Some.member found.0 (found.1 ∙ sym (ap (λ ws. member_in ws c.ending_below-place.result) active3))) found.2
-    works (is_held w.terms a.copy k4.log.loader holds) c.publish-number.ensures.log.1 c.publish-number.ensures.rest c.publish-number.ensures.number
+    works (is_held w.terms a.starts.copy k4.log.loader holds) c.publish-number.ensures.log.1 c.publish-number.ensures.rest c.publish-number.ensures.number
 
 pub returns-in_default-clause-terms : goal.returns-in_default-clause-terms
 returns-in_default-clause-terms c = terms_before c.args.words.now c.active_copy-active.result c.args.me.now c.active_copy-active.new.me c.active_copy-active.ensures.works c.active_copy-active.ensures.knows

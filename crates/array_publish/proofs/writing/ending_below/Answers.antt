@@ -6,7 +6,7 @@ use Rattle.array_publish.proofs.writing.ending_below.Goals as goal
 
 pub loop-low-init : goal.loop-low-init
 loop-low-init c = record {
-  work = written_none c.args.words.now c.args.active.now.copy c.args.me.now c.requires.holder;
+  work = written_none c.args.words.now c.args.active.now.starts.copy c.args.me.now c.requires.holder;
   kept = refl;
   order = (omega arith, omega arith);
   below = inl refl;
@@ -26,7 +26,7 @@ loop-low-preserved-then-last-address c =
     let before : index ≡ index + 1 - 1 = omega arith in
     let true_test = c.if-last-address.true in
     let ends : (member_in (active_words k0.log.loader) index).span.last < c.args.address = omega (arith, value, true_test) in record {
-      work = written_next w c.args.active.now.copy (spare_words k0.log.loader) (spare_words k0.log.loader) k0 k c.active_word-last.new.me inv.work same (spare_wide w c.args.active.now.copy k0 c.requires.holder);
+      work = written_next w c.args.active.now.starts.copy (spare_words k0.log.loader) (spare_words k0.log.loader) k0 k c.active_word-last.new.me inv.work same (spare_wide w c.args.active.now.starts.copy k0 c.requires.holder);
       kept = c.active_word-last.ensures.kept ∙ inv.kept;
       order = (omega (arith, order, test), order.1);
       below = inr (subst (λ i. (member_in (active_words k0.log.loader) i).span.last < c.args.address) before ends);
@@ -43,7 +43,7 @@ loop-low-preserved c =
     let same = subst (λ ws. Spells ws k c.active_word-last.new.me) inv.work.spare c.active_word-last.ensures.same in
     let value = c.active_word-last.ensures.value ∙ (λ i. get_or (inv.work.active i) (c.place_of_member.ensures i + 1) 0) in
     let false_test = c.if-last-address.false in record {
-      work = written_next w c.args.active.now.copy (spare_words k0.log.loader) (spare_words k0.log.loader) k0 k c.active_word-last.new.me inv.work same (spare_wide w c.args.active.now.copy k0 c.requires.holder);
+      work = written_next w c.args.active.now.starts.copy (spare_words k0.log.loader) (spare_words k0.log.loader) k0 k c.active_word-last.new.me inv.work same (spare_wide w c.args.active.now.starts.copy k0 c.requires.holder);
       kept = c.active_word-last.ensures.kept ∙ inv.kept;
       order = (omega (arith, order, test), omega (arith, order, test));
       below = inv.below;

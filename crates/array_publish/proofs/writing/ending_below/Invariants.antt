@@ -6,7 +6,7 @@ use Rattle.array_publish.proofs.writing.ending_below.Given as goal
 
 abbrev pub invariant-loop-low : goal.invariant-loop-low
 invariant-loop-low l = record {
-  work : Written l.words l.active.copy (spare_words l.fn.me.log.loader) l.fn.me l.me;
+  work : Written l.words l.active.starts.copy (spare_words l.fn.me.log.loader) l.fn.me l.me;
   kept : l.me.log.loader ≡ l.fn.me.log.loader;
   order : (l.low ≤ l.high) × (l.high ≤ l.active.count);
   below : EndsBelow (active_words l.fn.me.log.loader) l.address l.low;

@@ -15,7 +15,7 @@ returns-clause-same c =
     let k3 : CallerData = c.store_totals.new.me in
     let words : List ℕ = with_totals c.args.count (spare_words k2.log.loader) in
     let two = spells_both (spare_words k1.log.loader) (spare_words k2.log.loader) k0 k1 k2 c.write_members.ensures.same c.write_headers.ensures.same in
-    let is = spells_spare c.args.words.now.terms c.args.active.now.copy words k2 k3 c.write_headers.ensures.holder.holds c.store_totals.ensures in
+    let is = spells_spare c.args.words.now.terms c.args.active.now.starts.copy words k2 k3 c.write_headers.ensures.holder.holds c.store_totals.ensures in
     subst (λ ws. Spells ws k0 k3) (sym is) (spells_both (spare_words k2.log.loader) words k0 k2 k3 two c.store_totals.ensures)
 
 pub returns-clause-written : goal.returns-clause-written
@@ -26,8 +26,8 @@ returns-clause-written c =
     let k3 : CallerData = c.store_totals.new.me in
     let words : List ℕ = with_totals c.args.count (spare_words k2.log.loader) in
     let h2 = c.write_headers.ensures.holder in
-    let is = spells_spare w.terms c.args.active.now.copy words k2 k3 h2.holds c.store_totals.ensures in
-    let wide = spare_wide w c.args.active.now.copy k2 h2 in
+    let is = spells_spare w.terms c.args.active.now.starts.copy words k2 k3 h2.holds c.store_totals.ensures in
+    let wide = spare_wide w c.args.active.now.starts.copy k2 h2 in
     let active : List ℕ = active_words k0.log.loader in
     subst (IsWritten c.args.change.now active c.args.count) (sym is)
     (totals_written c.args.change.now active (spare_words k2.log.loader) c.args.count (omega (arith, wide)) (λ i less. c.write_headers.ensures.members i ∙ c.write_members.ensures.members i less) c.write_headers.ensures.headers)
@@ -39,5 +39,5 @@ returns-clause-wide c =
     let k3 : CallerData = c.store_totals.new.me in
     let words : List ℕ = with_totals c.args.count (spare_words k2.log.loader) in
     let h2 = c.write_headers.ensures.holder in
-    let is = spells_spare w.terms c.args.active.now.copy words k2 k3 h2.holds c.store_totals.ensures in
-    ap length is ∙ (length-set (set (spare_words k2.log.loader) 0 (segments c.args.count)) 1 c.args.count ∙ (length-set (spare_words k2.log.loader) 0 (segments c.args.count) ∙ spare_wide w c.args.active.now.copy k2 h2))
+    let is = spells_spare w.terms c.args.active.now.starts.copy words k2 k3 h2.holds c.store_totals.ensures in
+    ap length is ∙ (length-set (set (spare_words k2.log.loader) 0 (segments c.args.count)) 1 c.args.count ∙ (length-set (spare_words k2.log.loader) 0 (segments c.args.count) ∙ spare_wide w c.args.active.now.starts.copy k2 h2))

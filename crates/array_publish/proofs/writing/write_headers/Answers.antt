@@ -10,7 +10,7 @@ use Rattle.array_publish.proofs.writing.write_headers.Goals as goal
 
 pub loop-segment-init : goal.loop-segment-init
 loop-segment-init c = record {
-  work = written_none c.args.words.now c.args.copy c.args.me.now c.requires.holder;
+  work = written_none c.args.words.now c.args.starts.now.copy c.args.me.now c.requires.holder;
   headers = λ s less. absurd (omega (arith, less));
   members = λ i. refl;
 }
@@ -25,8 +25,8 @@ loop-segment-preserved c =
     let n : ℕ = count_in c.args.count s in
     let words : List ℕ = spare_words k.log.loader in
     let inv = c.loop-segment.invariant in
-    let wide = spare_wide w c.args.copy k inv.work.holder in
-    let one = written_next w c.args.copy words (with_header s n words) k0 k k1 inv.work c.store_header.ensures (length-set (set words (segment_place s) s) (segment_place s + 1) n ∙ (length-set words (segment_place s) s ∙ wide)) in
+    let wide = spare_wide w c.args.starts.now.copy k inv.work.holder in
+    let one = written_next w c.args.starts.now.copy words (with_header s n words) k0 k k1 inv.work c.store_header.ensures (length-set (set words (segment_place s) s) (segment_place s + 1) n ∙ (length-set words (segment_place s) s ∙ wide)) in
     let room = c.requires.room in
     let upto = c.segments_for-segment-end.ensures in
     let less = c.loop-segment-test.true in

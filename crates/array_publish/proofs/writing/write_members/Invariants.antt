@@ -5,6 +5,6 @@ use Rattle.array_publish.proofs.writing.write_members.Given as goal
 
 abbrev pub invariant-loop-index : goal.invariant-loop-index
 invariant-loop-index l = record {
-  work : Written l.words l.active.copy (spare_words l.me.log.loader) l.fn.me l.me;
+  work : Written l.words l.active.starts.copy (spare_words l.me.log.loader) l.fn.me l.me;
   members : HasMembers l.change (active_words l.fn.me.log.loader) (spare_words l.me.log.loader) l.index;
 }
