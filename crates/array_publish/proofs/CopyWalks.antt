@@ -1,5 +1,5 @@
 -- Loads of words of one copy, one after another.
-use Rattle.std.proofs.Common.{◌≡◌, ℕ, ◌+◌, ◌-◌, ◌<◌, inl, inr, ⊎_elim, ◌%◌, List, [], ◌∷◌, ◌++◌, get_or, sym, refl, ap, ◌∙◌, subst, arith, IsTrue, Option, Some, None, option_map, IsSomeAnd, append-nil, append_assoc, true}
+use Rattle.std.proofs.Common.{◌≡◌, ℕ, ◌+◌, ◌-◌, ◌<◌, ◌%◌, List, [], ◌∷◌, ◌++◌, get_or, sym, refl, ap, ◌∙◌, subst, arith, IsTrue, Option, Some, None, option_map, IsSomeAnd, append-nil, append_assoc, true}
 use Rattle.std.proofs.lemmas.Bool.{and_from, le-leb, lt-ltb}
 use Rattle.word_rule.specs.declared.log.CopySight.{CopySight}
 use Rattle.word_rule.specs.declared.log.LoadEvent.{LoadEvent}
@@ -13,7 +13,7 @@ use Rattle.word_rule.specs.Places.{copy_place, copy_words, is_of_copy}
 use Rattle.word_rule.specs.Sights.{with_copy_word, after_copy_load}
 use Rattle.word_rule.proofs.Each.{all_append, all_behind}
 use Rattle.array_publish.specs.CopyLoads.{sight_words, with_words, after_copy_loads, LoadsCopy, IsTold, IsAtCopy}
-use Rattle.array_publish.specs.Search.{BeginsAbove}
+use Rattle.array_publish.specs.Search.{IsNarrowed}
 
 -- a caller after loads of a copy
 abbrev loaded_by : CallerData → List LoadEvent → List LoadedWord → CallerData
@@ -40,16 +40,20 @@ module _ (t : Terms) (c : ℕ) where
       joined None = refl
       joined (Some s) = ap (λ ws. Some (record s { words = ws })) (sym (append_assoc q.1 p.1 s.words))
 
-  -- what was told is told of more words
-  pub told_later : (k k' : CallerData) (at value : ℕ) → LoadsCopy t c k k' → IsTold t c k at value → IsTold t c k' at value
-  told_later k k' at value p told copy agrees = told copy (less k.log.sights.copies (subst (λ o. AreOfCopy t c copy (sight_words o)) (ap (λ z. z.log.sights.copies) p.2.1) agrees))
+  -- what agrees with more words agreed with the first of them
+  pub agreed_before : (k k' : CallerData) (copy : List ℕ) → LoadsCopy t c k k' → AreOfCopy t c copy (sight_words k'.log.sights.copies) → AreOfCopy t c copy (sight_words k.log.sights.copies)
+  agreed_before k k' copy p agrees = less k.log.sights.copies (subst (λ o. AreOfCopy t c copy (sight_words o)) (ap (λ z. z.log.sights.copies) p.2.1) agrees)
     where
       less : (o : Option CopySight) → AreOfCopy t c copy (sight_words (option_map (with_words p.1) o)) → AreOfCopy t c copy (sight_words o)
       less None h = h
       less (Some s) h = all_behind (λ w. get_or copy (w.at - copy_place t c) 0 ≡ w.value) p.1 s.words h
 
-  pub above_later : (k k' : CallerData) (pc count i : ℕ) → LoadsCopy t c k k' → BeginsAbove t c k pc count i → BeginsAbove t c k' pc count i
-  above_later k k' pc count i p h = ⊎_elim (λ (e : i ≡ count). inl e) (λ (one : (first : ℕ) × (IsTold t c k (_) first × (pc < first))). inr (one.0, (told_later k k' _ one.0 p one.1.0, one.1.1))) h
+  -- what was told is told of more words
+  pub told_later : (k k' : CallerData) (at value : ℕ) → LoadsCopy t c k k' → IsTold t c k at value → IsTold t c k' at value
+  told_later k k' at value p told copy agrees = told copy (agreed_before k k' copy p agrees)
+
+  pub between_later : (k k' : CallerData) (pc count low high : ℕ) → LoadsCopy t c k k' → IsNarrowed t c k pc count low high → IsNarrowed t c k' pc count low high
+  between_later k k' pc count low high p h copy members agrees lists len = h copy members (agreed_before k k' copy p agrees) lists len
 
   module _ (k : CallerData) (at found : ℕ) (terms : k.log.terms ≡ t) (sight : IsSomeAnd k.log.sights.copies (λ s. s.guard % 2 ≡ c)) (inside : at < copy_words t) where
     is_inside : IsTrue (is_of_copy t c (copy_place t c + at))

@@ -1,4 +1,5 @@
 pub mod CopyWalks
+pub mod Counts
 pub mod Searches
 pub mod Halves
 pub mod Lookups

@@ -1,5 +1,5 @@
 -- How many loads a lookup makes.
-use Rattle.std.proofs.Common.{◌≡◌, ℕ, zero, suc, ◌+◌, ◌^◌, ◌<◌, ◌≤◌, [], ◌∷◌, length, length-append, ap, ◌∙◌, arith}
+use Rattle.std.proofs.Common.{◌≡◌, ℕ, ◌+◌, [], ◌∷◌, length, length-append, ap, ◌∙◌}
 use Rattle.word_rule.specs.CallerData.{CallerData}
 use Rattle.word_rule.specs.Clock.{AfterClock}
 use Rattle.word_rule.specs.Logs.{load_of}
@@ -14,8 +14,3 @@ word_counted k k' at found e = ap load_count e ∙ length-append k.log.trace.loa
 
 pub clock_counted : (t : Terms) (a : Ask) (found : ℕ) (k k' : CallerData) → AfterClock t a found k.log k'.log → load_count k' ≡ load_count k + 1
 clock_counted t a found k k' after = ap (λ v. length v.trace.loads) after.2.2 ∙ length-append k.log.trace.loads (load_of k.log CLOCK found ∷ [])
-
--- of so many ways a half, or the greater one, needs one turn less
-pub half_left : (size half odd left : ℕ) → size ≡ half + half + odd → odd < 2 → 0 < half → size ≤ 2 ^ left → (less : ℕ) × ((left ≡ less + 1) × (half + odd ≤ 2 ^ less))
-half_left size half odd zero is few pos le = absurd (omega (arith, is, pos, le))
-half_left size half odd (suc less) is few pos le = (less, (omega arith, omega (arith, is, few, le)))

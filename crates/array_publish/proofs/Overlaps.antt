@@ -3,7 +3,7 @@ use Rattle.std.proofs.Common.{◌≡◌, ℕ, zero, suc, ◌+◌, ◌-◌, ◌<�
 use Rattle.std.specs.List.{All, AllByRecursion}
 use Rattle.std.proofs.lemmas.List.{take-append-drop}
 use Rattle.std.proofs.lemmas.List.Elements.{All-append, Contains-get_or}
-use native.Mathlib.Decide.{dec_le}
+use native.Mathlib.Decide.{ℕ_discrete, dec_le}
 use Rattle.reg_model.specs.SpanData.{SpanData, Overlaps}
 use Rattle.reg_model.specs.State.{IsFree, IsLowestOverlap}
 use Rattle.reg_model.specs.declared.span.Member.{Member}
@@ -92,3 +92,60 @@ listed_lowest active xs n k x span lists len less below above is span_ok x_ok be
     let end = subst (λ (m : Member). span.first ≤ m.span.last) (sym here) ends in
     first_lowest xs k x span lists.ascending (omega (arith, less, len)) here (free_front xs k span x lists.ascending (omega (arith, less, len)) (ends_listed active xs span.first k x lists.stand (omega (arith, less, len)) below))
     (overlap_of x.span span x_ok span_ok begins end)
+
+-- ---- a search by halves
+
+-- the members before the i-th end below an address, and those from it on don't
+abbrev pub EndBelow : List Member → ℕ → ℕ → Type 0
+EndBelow xs a i = (i ≡ 0) ⊎ ((x : Member) × ((x ≡ get_or xs (i - 1) x) × (x.span.last < a)))
+
+abbrev pub EndAbove : List Member → ℕ → ℕ → Type 0
+EndAbove xs a i = (i ≡ length xs) ⊎ ((d : Member) → a ≤ (get_or xs i d).span.last)
+
+same_there : (xs : List Member) (i : ℕ) (d e : Member) → i < length xs → get_or xs i d ≡ get_or xs i e
+same_there [] i d e less = absurd (omega (arith, less))
+same_there (x ∷ xs) zero d e less = refl
+same_there (x ∷ xs) (suc i) d e less = same_there xs i d e (omega (arith, less))
+
+ordered_at : (low : ℕ) (xs : List Member) (i : ℕ) (d : Member) → AscendFrom low xs → i < length xs → (get_or xs i d).span.first ≤ (get_or xs i d).span.last
+ordered_at low [] i d h less = absurd (omega (arith, less))
+ordered_at low (x ∷ xs) zero d h less = h.1
+ordered_at low (x ∷ xs) (suc i) d h less = ordered_at (x.span.last + 1) xs i d h.2 (omega (arith, less))
+
+pub end_below : (xs : List Member) (a i : ℕ) (x : Member) → x ≡ get_or xs i x → x.span.last < a → EndBelow xs a (i + 1)
+end_below xs a i x is less = let before : i ≡ i + 1 - 1 = omega arith in inr (x, (subst (λ j. x ≡ get_or xs j x) before is, less))
+
+pub end_above : (xs : List Member) (a i : ℕ) (x : Member) → x ≡ get_or xs i x → i < length xs → a ≤ x.span.last → EndAbove xs a i
+end_above xs a i x is inside le = inr (λ d. subst (λ (m : Member). a ≤ m.span.last) (is ∙ same_there xs i x d inside) le)
+
+-- the one before, where there is one, ends below
+before_ends : (xs : List Member) (a i : ℕ) (d : Member) → i ≤ length xs → EndBelow xs a i → (i ≡ 0) ⊎ ((get_or xs (i - 1) d).span.last < a)
+before_ends xs a i d le below = go (ℕ_discrete i 0)
+  where
+    go : Dec (i ≡ 0) → (i ≡ 0) ⊎ ((get_or xs (i - 1) d).span.last < a)
+    go (yes e) = inl e
+    go (no ne) = ⊎_elim (λ (z : i ≡ 0). inl z) (λ (z : (x : Member) × ((x ≡ get_or xs (i - 1) x) × (x.span.last < a))). inr (subst (λ (m : Member). m.span.last < a) (z.1.0 ∙ same_there xs (i - 1) z.0 d (omega (arith, ne, le))) z.1.1)) below
+
+some_member : Member
+some_member = record { span = record { first = 0; last = 0 }; payload = 0 }
+
+-- none is left: all end below
+pub none_left : (xs : List Member) (span : SpanData) (i : ℕ) → AscendFrom 0 xs → EndBelow xs span.first i → i ≡ length xs → IsFree span xs
+none_left xs span i h below end = free_split xs i span some_member h (omega (arith, end)) (before_ends xs span.first i some_member (omega (arith, end)) below) (inl end)
+
+-- the first that doesn't end below overlaps, or none does
+pub first_at : (xs : List Member) (span : SpanData) (i : ℕ) (x : Member) → AscendFrom 0 xs → EndBelow xs span.first i → i < length xs → x ≡ get_or xs i x → Overlaps x.span span → IsLowestOverlap span xs x
+first_at xs span i x h below inside is meets = first_lowest xs i x span h inside is (free_front xs i span x h (omega (arith, inside)) (before_ends xs span.first i x (omega (arith, inside)) below)) meets
+
+pub none_at : (xs : List Member) (span : SpanData) (i : ℕ) (x : Member) → AscendFrom 0 xs → EndBelow xs span.first i → EndAbove xs span.first i → i < length xs → x ≡ get_or xs i x → span.first ≤ span.last → ¬ Overlaps x.span span → IsFree span xs
+none_at xs span i x h below above inside is span_ok apart = free_split xs i span x h (omega (arith, inside)) (before_ends xs span.first i x (omega (arith, inside)) below) (begin (dec_le x.span.first span.last))
+  where
+    end : span.first ≤ x.span.last
+    end = ⊎_elim (λ (z : i ≡ length xs). absurd (omega (arith, z, inside))) (λ (f : (d : Member) → span.first ≤ (get_or xs i d).span.last). subst (λ (m : Member). span.first ≤ m.span.last) (sym is) (f x)) above
+
+    x_ok : x.span.first ≤ x.span.last
+    x_ok = subst (λ (m : Member). m.span.first ≤ m.span.last) (sym is) (ordered_at 0 xs i x h inside)
+
+    begin : Dec (x.span.first ≤ span.last) → (i ≡ length xs) ⊎ (span.last < (get_or xs i x).span.first)
+    begin (yes le) = absurd (apart (overlap_of x.span span x_ok span_ok le end))
+    begin (no more) = let less = lt_of_not-le more in inr (subst (λ (m : Member). span.last < m.span.first) is less)

@@ -1,9 +1,9 @@
 -- The search of a copy: what the words that were loaded say of its members.
-use Rattle.std.proofs.Common.{◌≡◌, ℕ, ◌+◌, ◌-◌, ◌<◌, ◌≤◌, ◌⊎◌, inl, inr, ⊎_elim, List, [], ◌∷◌, length, get_or, min, sym, refl, ap, ◌∙◌, subst, arith, nat_le, Bool, ◌&&◌, true, false, Option, Some, None, if◌then◌else◌, leb-true, leb-false}
+use Rattle.std.proofs.Common.{◌≡◌, ℕ, ◌+◌, ◌*◌, ◌-◌, ◌/◌, ◌%◌, ◌<◌, ◌≤◌, ◌⊎◌, inl, inr, ⊎_elim, List, [], ◌∷◌, length, get_or, min, sym, refl, ap, ◌∙◌, subst, arith, nat_le, Bool, ◌&&◌, true, false, Option, Some, None, if◌then◌else◌}
 use Rattle.std.specs.Option.{option_or}
 use Rattle.std.proofs.lemmas.List.Folds.{find-append}
 use Rattle.std.proofs.lemmas.Bool.{le-leb}
-use native.Mathlib.Decide.{ℕ_discrete}
+use native.Mathlib.Decide.{ℕ_discrete, dec_le}
 use borrow.Author.Tests.{lt-leb}
 use Rattle.reg_model.specs.SpanData.{contains}
 use Rattle.reg_model.specs.Query.{member_at}
@@ -14,107 +14,13 @@ use Rattle.word_rule.specs.CallerData.{CallerData}
 use Rattle.word_rule.specs.Copies.{AreOfCopy, ListsMembers, StandFrom}
 use Rattle.word_rule.specs.Places.{member_place}
 use Rattle.array_publish.specs.CopyLoads.{LoadsCopy, IsTold, sight_words}
-use Rattle.array_publish.specs.Search.{BeginsAbove, IsLastBegun, IsObjectAt, listed_member}
-use Rattle.array_publish.specs.declared.walk.Begun.{Begun}
+use Rattle.array_publish.specs.Search.{CountsBegun, AreEnds, IsNarrowed, IsLastBegun, IsObjectAt, SeriesAscends, listed_member, others, series_word}
+use Rattle.array_publish.specs.declared.search.Begun.{Begun}
+use Rattle.array_publish.specs.declared.search.SegmentStart.{SegmentStart}
+use Rattle.array_publish.specs.declared.search.Series.{Series}
 use Rattle.array_publish.specs.declared.walk.Listed.{Listed}
-use Rattle.array_publish.proofs.CopyWalks.{told_later, above_later}
+use Rattle.array_publish.proofs.CopyWalks.{told_later, between_later}
 use Rattle.segment_array.proofs.Places.{none_above, unheld_above, unheld_below}
-
--- ---- the halves
-
--- so many members begin at or below the address, the last of them with this word
-abbrev pub IsBelow : Terms → ℕ → CallerData → ℕ → ℕ → ℕ → Type 0
-IsBelow t c k pc begun first = (begun ≡ 0) ⊎ ((b : ℕ) × ((begun ≡ b + 1) × (first ≤ pc) × IsTold t c k (member_place b) first))
-
-below_later : (t : Terms) (c : ℕ) (k k' : CallerData) (pc begun first : ℕ) → LoadsCopy t c k k' → IsBelow t c k pc begun first → IsBelow t c k' pc begun first
-below_later t c k k' pc begun first p h = ⊎_elim (λ (e : begun ≡ 0). inl e) (λ (one : (b : ℕ) × ((begun ≡ b + 1) × (first ≤ pc) × IsTold t c k (member_place b) first)). inr (one.0, (one.1.0, one.1.1, told_later t c k k' (member_place one.0) first p one.1.2))) h
-
--- of so many members it is known of so many that they begin at or below the address, and there are
--- at most `size` ways left in which it can be of more: `top` ends them, the last of these or the one
--- before
-pub record AreLeft (t : Terms) (c : ℕ) (k : CallerData) (pc count begun first size : ℕ) : Type 0 where
-  pub within : begun + size ≤ count + 1
-  pub below : IsBelow t c k pc begun first
-  pub top : ℕ
-  pub least : begun ≤ top
-  pub most : top < begun + size
-  pub near : begun + size ≤ top + 2
-  pub above : BeginsAbove t c k pc count top
-
-pub all_left : (t : Terms) (c : ℕ) (k : CallerData) (pc count : ℕ) → AreLeft t c k pc count 0 0 (count + 1)
-all_left t c k pc count = record { within = omega arith; below = inl refl; top = count; least = omega arith; most = omega arith; near = omega arith; above = inl refl }
-
--- a word that is told to be two numbers is of no copy
-told_twice : (t : Terms) (c : ℕ) (k : CallerData) (pc count at one other i : ℕ) → IsTold t c k at one → IsTold t c k at other → one < other → BeginsAbove t c k pc count i
-told_twice t c k pc count at one other i a b less = inr (pc + 1, ((λ copy agrees. let x = a copy agrees in let y = b copy agrees in absurd (omega (arith, x, y, less))), omega arith))
-
--- where the member in the middle begins at or below the address, the ways left end as before, or no
--- copy has what was loaded
-top_stays : (t : Terms) (c : ℕ) (k : CallerData) (pc count begun first size half odd next : ℕ) (left : AreLeft t c k pc count begun first size) → size ≡ half + half + odd → 0 < half → IsTold t c k (member_place (begun + half - 1)) next → next ≤ pc
-    → (top : ℕ) × (begun + half ≤ top) × (top < begun + half + (half + odd)) × (begun + half + (half + odd) ≤ top + 2) × BeginsAbove t c k pc count top
-top_stays t c k pc count begun first size half odd next left is pos told at = go (nat_le (begun + half) left.top) refl
-  where
-    go : (b : Bool) → nat_le (begun + half) left.top ≡ b
-        → (top : ℕ) × (begun + half ≤ top) × (top < begun + half + (half + odd)) × (begun + half + (half + odd) ≤ top + 2) × BeginsAbove t c k pc count top
-    go true e = let m = left.most in let n = left.near in (left.top, leb-true _ _ e, omega (arith, m, is), omega (arith, n, is), left.above)
-    go false e =
-        let less = leb-false _ _ e in let l = left.least in let m = left.most in let n = left.near in let w = left.within in (
-          begun + 1,
-          omega (arith, less, l, m, n, is, pos),
-          omega (arith, pos),
-          omega (arith, less, l, m, n, is, pos),
-          ⊎_elim (λ (z : left.top ≡ count). absurd (omega (arith, z, less, l, m, n, is, pos, w)))
-              (λ (one : (value : ℕ) × (IsTold t c k (member_place left.top) value × (pc < value))). let above = one.1.1 in
-              told_twice t c k pc count (member_place (begun + half - 1)) next one.0 (begun + 1) told (subst (λ i. IsTold t c k (member_place i) one.0) (omega (arith, less, l, m, n, is, pos)) one.1.0) (omega (arith, at, above))) left.above,
-        )
-
-left_later : (t : Terms) (c : ℕ) (k k' : CallerData) (pc count begun first size : ℕ) → LoadsCopy t c k k' → AreLeft t c k pc count begun first size → AreLeft t c k' pc count begun first size
-left_later t c k k' pc count begun first size p left = record {
-  within = left.within;
-  below = below_later t c k k' pc begun first p left.below;
-  top = left.top;
-  least = left.least;
-  most = left.most;
-  near = left.near;
-  above = above_later t c k k' pc count left.top p left.above;
-}
-
--- the member in the middle leaves one half of the ways; the greater one is counted
-pub halved : (t : Terms) (c : ℕ) (k k' : CallerData) (pc count begun first size half odd next : ℕ) → LoadsCopy t c k k' → AreLeft t c k pc count begun first size → size ≡ half + half + odd → odd < 2 → 0 < half → IsTold t c k' (member_place (begun + half - 1)) next
-    → (below : Bool) → nat_le next pc ≡ below → AreLeft t c k' pc count (begun + (if below then half else 0)) (if below then next else first) (half + odd)
-halved t c k k' pc count begun first size half odd next p left is few pos told true e =
-    let now = left_later t c k k' pc count begun first size p left in let w = left.within in
-    let stays = top_stays t c k' pc count begun first size half odd next now is pos told (leb-true _ _ e) in record {
-      within = omega (arith, w, is);
-      below = inr (begun + half - 1, (omega (arith, pos), leb-true _ _ e, told));
-      top = stays.0;
-      least = stays.1;
-      most = stays.2;
-      near = stays.3;
-      above = stays.4;
-    }
-halved t c k k' pc count begun first size half odd next p left is few pos told false e =
-    let w = left.within in let none : begun + 0 ≡ begun = omega arith in record {
-      within = omega (arith, w, is);
-      below = subst (λ b. IsBelow t c k' pc b first) (sym none) (below_later t c k k' pc begun first p left.below);
-      top = begun + half - 1;
-      least = omega (arith, pos);
-      most = omega (arith, pos);
-      near = omega (arith, pos, few);
-      above = inr (next, (told, leb-false _ _ e));
-    }
-
--- where one way is left, that many it is
-pub none_begun : (t : Terms) (c : ℕ) (k : CallerData) (pc count begun first size : ℕ) → AreLeft t c k pc count begun first size → size ≤ 1 → begun ≡ 0 → IsLastBegun t c k pc count None
-none_begun t c k pc count begun first size left one is = let most = left.most in subst (λ i. BeginsAbove t c k pc count i) (omega (arith, most, one, is)) left.above
-
-pub one_begun : (t : Terms) (c : ℕ) (k : CallerData) (pc count begun first size : ℕ) → AreLeft t c k pc count begun first size → size ≤ 1 → 0 < begun → IsLastBegun t c k pc count (Some (record { index = begun - 1; first = first }))
-one_begun t c k pc count begun first size left one pos =
-    let least = left.least in let most = left.most in let w = left.within in
-    ⊎_elim (λ (e : begun ≡ 0). absurd (omega (arith, pos, e)))
-    (λ (h : (b : ℕ) × ((begun ≡ b + 1) × (first ≤ pc) × IsTold t c k (member_place b) first)). let is = h.1.0 in
-    (omega (arith, w, least, most, pos), h.1.1, subst (λ i. IsTold t c k (member_place i) first) (omega (arith, is)) h.1.2, subst (λ i. BeginsAbove t c k pc count i) (omega (arith, least, most, one, pos)) left.above))
-    left.below
 
 -- ---- what a copy lists
 
@@ -130,6 +36,97 @@ begins_from words i b low (m ∷ members) h stand le less = go (ℕ_discrete i b
     go : Dec (i ≡ b) → (i + 1 ≤ b → b < i + 1 + length members → m.span.last + 1 ≤ get_or words (member_place b) 0) → low ≤ get_or words (member_place b) 0
     go (yes e) rest = let first : get_or words (member_place b) 0 ≡ m.span.first = ap (λ j. get_or words (member_place j) 0) (sym e) ∙ stand.0 in let a = h.0 in omega (arith, first, a)
     go (no ne) rest = let r = rest (omega (arith, le, ne)) (omega (arith, less)) in let a = h.0 in let b = h.1 in omega (arith, r, a, b)
+
+-- members begin in the order of their numbers
+begin_in_order : (words : List ℕ) (i a b low : ℕ) (members : List Member) → AscendFrom low members → StandFrom words i members → i ≤ a → a ≤ b → b < i + length members → get_or words (member_place a) 0 ≤ get_or words (member_place b) 0
+begin_in_order words i a b low [] h stand from order less = absurd (omega (arith, from, order, less))
+begin_in_order words i a b low (m ∷ members) h stand from order less = go (ℕ_discrete i a) (ℕ_discrete i b) (begin_in_order words (i + 1) a b (m.span.last + 1) members h.2 stand.3)
+  where
+    go : Dec (i ≡ a) → Dec (i ≡ b) → (i + 1 ≤ a → a ≤ b → b < i + 1 + length members → get_or words (member_place a) 0 ≤ get_or words (member_place b) 0) → get_or words (member_place a) 0 ≤ get_or words (member_place b) 0
+    go (yes e) (yes f) rest = subst (λ j. get_or words (member_place a) 0 ≤ get_or words (member_place j) 0) (sym e ∙ f) (omega arith)
+    go (yes e) (no nf) rest =
+        let first : get_or words (member_place a) 0 ≡ m.span.first = ap (λ j. get_or words (member_place j) 0) (sym e) ∙ stand.0 in
+        let later = begins_from words (i + 1) b (m.span.last + 1) members h.2 stand.3 (omega (arith, from, order, nf)) (omega (arith, less)) in
+        let ordered = h.1 in omega (arith, first, later, ordered)
+    go (no ne) f rest = rest (omega (arith, from, ne)) order (omega (arith, less))
+
+-- a series of words with which members begin
+series_ascends : (copy : List ℕ) (members : List Member) (s : Series) (number : ℕ → ℕ) → ListsMembers copy members → ((i j : ℕ) → i ≤ j → number i ≤ number j) → ((i : ℕ) → i < s.length → (s.place + s.apart * i ≡ member_place (number i)) × (number i < length members)) → SeriesAscends copy s
+series_ascends copy members s number lists up at i j le less =
+    let a = at i (omega (arith, le, less)) in let b = at j less in let inside = b.1 in
+    let order = begin_in_order copy 0 (number i) (number j) 0 members lists.ascending lists.stand (omega arith) (up i j le) (omega (arith, inside)) in
+    let one : series_word copy s i ≡ get_or copy (member_place (number i)) 0 = ap (λ p. get_or copy p 0) a.0 in
+    let other : series_word copy s j ≡ get_or copy (member_place (number j)) 0 = ap (λ p. get_or copy p 0) b.0 in omega (arith, one, other, order)
+
+-- ---- the three counts
+
+-- so many of a series are at or below the address: the last member that is begins between the two
+-- that are next to each other there
+narrowed : (copy : List ℕ) (pc count low high : ℕ) (s : Series) (n lower upper : ℕ) → AreEnds copy pc count low high → ((n ≡ 0) ⊎ (series_word copy s (n - 1) ≤ pc)) × ((n ≡ s.length) ⊎ (pc < series_word copy s n)) → n ≤ s.length
+    → (n ≡ 0 → lower ≡ low) → (0 < n → s.place + s.apart * (n - 1) ≡ member_place lower) → (n ≡ s.length → (upper ≡ high) ⊎ (count ≤ upper)) → (n < s.length → s.place + s.apart * n ≡ member_place upper) → AreEnds copy pc count lower upper
+narrowed copy pc count low high s n lower upper ends counted most none some all more = (from (ℕ_discrete n 0), before (ℕ_discrete n s.length))
+  where
+    from : Dec (n ≡ 0) → (lower ≡ 0) ⊎ (get_or copy (member_place lower) 0 ≤ pc)
+    from (yes e) = subst (λ l. (l ≡ 0) ⊎ (get_or copy (member_place l) 0 ≤ pc)) (sym (none e)) ends.0
+    from (no ne) = ⊎_elim (λ (z : n ≡ 0). absurd (ne z)) (λ (z : series_word copy s (n - 1) ≤ pc). inr (subst (λ p. get_or copy p 0 ≤ pc) (some (omega (arith, ne))) z)) counted.0
+
+    before : Dec (n ≡ s.length) → (count ≤ upper) ⊎ (pc < get_or copy (member_place upper) 0)
+    before (yes e) = ⊎_elim (λ (z : upper ≡ high). subst (λ u. (count ≤ u) ⊎ (pc < get_or copy (member_place u) 0)) (sym z) ends.1) (λ (z : count ≤ upper). inl z) (all e)
+    before (no ne) = ⊎_elim (λ (z : n ≡ s.length). absurd (ne z)) (λ (z : pc < series_word copy s n). inr (subst (λ p. pc < get_or copy p 0) (more (omega (arith, ne, most))) z)) counted.1
+
+abbrev pub eights : ℕ → Series
+eights last = record { place = 404; apart = 400; length = last / 128 }
+
+abbrev pub seven_after : ℕ → ℕ → Series
+seven_after last e = record { place = 4 + 400 * e + 50; apart = 50; length = min ((last - 128 * e) / 16) 7 }
+
+-- the segment, where its first member has number `low`
+pub by_segments : (t : Terms) (c : ℕ) (k : CallerData) (pc last e o low : ℕ) → CountsBegun t c k pc (eights last) (last / 128) e → e ≤ last / 128 → CountsBegun t c k pc (seven_after last e) (min ((last - 128 * e) / 16) 7) o → o ≤ min ((last - 128 * e) / 16) 7 → low ≡ 128 * e + 16 * o → IsNarrowed t c k pc (last + 1) low (low + 16)
+by_segments t c k pc last e o low one few two less is copy members agrees lists len =
+    narrowed copy pc (last + 1) (128 * e) (128 * (e + 1)) (seven_after last e) o low (low + 16) by_eights (two copy agrees ascends) less (λ z. omega (arith, z, is)) (λ pos. omega (arith, pos, is, less)) (all (dec_le 7 ((last - 128 * e) / 16))) (λ more. omega (arith, more, is, less))
+  where
+    by_eights : AreEnds copy pc (last + 1) (128 * e) (128 * (e + 1))
+    by_eights = narrowed copy pc (last + 1) 0 (last + 1) (eights last) e (128 * e) (128 * (e + 1)) (inl refl, inl (omega arith)) (one copy agrees (series_ascends copy members (eights last) (λ i. 128 * (i + 1)) lists (λ i j le. omega (arith, le)) (λ i inside. (omega arith, omega (arith, inside, len))))) few
+        (λ z. omega (arith, z)) (λ pos. omega (arith, pos)) (λ z. inr (omega (arith, z))) (λ more. omega arith)
+
+    ascends : SeriesAscends copy (seven_after last e)
+    ascends = series_ascends copy members (seven_after last e) (λ i. 128 * e + 16 * (i + 1)) lists (λ i j le. omega (arith, le)) (λ i inside. (omega arith, omega (arith, inside, len, few)))
+
+    all : Dec (7 ≤ (last - 128 * e) / 16) → o ≡ min ((last - 128 * e) / 16) 7 → (low + 16 ≡ 128 * (e + 1)) ⊎ (last + 1 ≤ low + 16)
+    all (yes full) z = inl (omega (arith, full, z, is))
+    all (no short) z = inr (omega (arith, short, z, is, few))
+
+-- the member, where its segment's first one has number `low`
+pub by_members : (t : Terms) (c : ℕ) (k : CallerData) (pc count : ℕ) (s : SegmentStart) (low n : ℕ) → IsNarrowed t c k pc count low (low + 16) → low % 16 ≡ 0 → s.place ≡ member_place low → count ≡ low + s.after + 1 → CountsBegun t c k pc (others s) (min s.after 15) n → n ≤ min s.after 15 → IsNarrowed t c k pc count (low + n) (low + n + 1)
+by_members t c k pc count s low n between whole place is begun few copy members agrees lists len =
+    narrowed copy pc count low (low + 16) (others s) n (low + n) (low + n + 1) (between copy members agrees lists len) (begun copy agrees ascends) few (λ z. omega (arith, z)) (λ pos. omega (arith, pos, place, whole, few)) (all (dec_le 15 s.after)) (λ more. omega (arith, more, place, whole))
+  where
+    ascends : SeriesAscends copy (others s)
+    ascends = series_ascends copy members (others s) (λ i. low + (i + 1)) lists (λ i j le. omega (arith, le)) (λ i inside. (omega (arith, inside, place, whole), omega (arith, inside, len, is)))
+
+    all : Dec (15 ≤ s.after) → n ≡ min s.after 15 → (low + n + 1 ≡ low + 16) ⊎ (count ≤ low + n + 1)
+    all (yes full) z = inl (omega (arith, full, z))
+    all (no short) z = inr (omega (arith, short, z, is))
+
+-- the place that both counts lead to, and what is known there after one more load
+pub found_last : (t : Terms) (c : ℕ) (k1 k2 k3 : CallerData) (pc count : ℕ) (s : SegmentStart) (n : ℕ) → 0 < count → s.after ≤ count - 1 → (count - 1 - s.after) % 16 ≡ 0 → s.place ≡ member_place (count - 1 - s.after) → IsNarrowed t c k1 pc (count - 1 + 1) (count - 1 - s.after) (count - 1 - s.after + 16) → LoadsCopy t c k1 k2 → n ≤ min s.after 15 → CountsBegun t c k2 pc (others s) (min s.after 15) n → LoadsCopy t c k2 k3
+    → (s.place + 3 * n ≡ member_place (count - 1 - s.after + n)) × IsNarrowed t c k3 pc count (count - 1 - s.after + n) (count - 1 - s.after + n + 1)
+found_last t c k1 k2 k3 pc count s n some after whole place between one inside begun two =
+    let low : ℕ = count - 1 - s.after in
+    let same : count - 1 + 1 ≡ count = omega (arith, some) in (
+      omega (arith, place, whole, inside),
+      between_later t c k2 k3 pc count (low + n) (low + n + 1) two
+          (by_members t c k2 pc count s low n (subst (λ m. IsNarrowed t c k2 pc m low (low + 16)) same (between_later t c k1 k2 pc (count - 1 + 1) low (low + 16) one between)) whole place (omega (arith, some, after)) begun inside),
+    )
+
+-- where even that one begins above the address, all do
+pub none_begun : (t : Terms) (c : ℕ) (k : CallerData) (pc count index place first : ℕ) → IsNarrowed t c k pc count index (index + 1) → place ≡ member_place index → IsTold t c k place first → pc < first → IsNarrowed t c k pc count 0 0
+none_begun t c k pc count index place first between at told above copy members agrees lists len =
+    let is : get_or copy (member_place index) 0 ≡ first = ap (λ p. get_or copy p 0) (sym at) ∙ told copy agrees in
+    (inl refl, ⊎_elim (λ (z : index ≡ 0). inr (subst (λ i. pc < get_or copy (member_place i) 0) z (omega (arith, is, above)))) (λ (z : get_or copy (member_place index) 0 ≤ pc). absurd (omega (arith, is, above, z))) (between copy members agrees lists len).0)
+
+pub nothing_listed : (t : Terms) (c : ℕ) (k : CallerData) (pc count : ℕ) → count ≡ 0 → IsNarrowed t c k pc count 0 0
+nothing_listed t c k pc count none copy members agrees lists len = (inl refl, inl (omega (arith, none)))
 
 -- where the first of them begins above the address, none contains it
 pub none_from : (words : List ℕ) (i pc low : ℕ) (members : List Member) → AscendFrom low members → StandFrom words i members → (length members ≡ 0) ⊎ (pc < get_or words (member_place i) 0) → member_at pc members ≡ None
@@ -170,36 +167,42 @@ module _ (t : Terms) (c : ℕ) (k : CallerData) (pc count value : ℕ) (told : I
   counted : (copy : List ℕ) (members : List Member) → AreOfCopy t c copy (sight_words k.log.sights.copies) → ListsMembers copy members → length members ≤ t.loads → count ≡ length members
   counted copy members agrees lists few = let a = told copy agrees in let b = lists.count in omega (arith, is, a, b, few)
 
-  above_is : (i : ℕ) (copy : List ℕ) (members : List Member) → AreOfCopy t c copy (sight_words k.log.sights.copies) → count ≡ length members → BeginsAbove t c k pc count i → (i ≡ length members) ⊎ (pc < get_or copy (member_place i) 0)
-  above_is i copy members agrees n h = ⊎_elim (λ (e : i ≡ count). inl (e ∙ n)) (λ (one : (first : ℕ) × (IsTold t c k (member_place i) first × (pc < first))). inr (let e = one.1.0 copy agrees in let l = one.1.1 in omega (arith, e, l))) h
-
-  pub none_listed : BeginsAbove t c k pc count 0 → IsObjectAt t c k [] pc None
+  pub none_listed : IsNarrowed t c k pc count 0 0 → IsObjectAt t c k [] pc None
   none_listed h copy members agrees lists few =
       let n = counted copy members agrees lists few in
-      none_from copy 0 pc 0 members lists.ascending lists.stand (⊎_elim (λ (e : 0 ≡ length members). inl (sym e)) (λ (l : pc < get_or copy (member_place 0) 0). inr l) (above_is 0 copy members agrees n h))
+      none_from copy 0 pc 0 members lists.ascending lists.stand (⊎_elim (λ (e : count ≤ 0). inl (omega (arith, e, n))) (λ (l : pc < get_or copy (member_place 0) 0). inr l) (h copy members agrees lists n).1)
 
-  module _ (b : Begun) (begun : IsLastBegun t c k pc count (Some b)) (last : ℕ) (told_last : IsTold t c k (member_place b.index + 1) last) where
-    by_last : (copy : List ℕ) (members : List Member) → AreOfCopy t c copy (sight_words k.log.sights.copies) → ListsMembers copy members → length members ≤ t.loads → member_at pc members ≡ (if nat_le pc (get_or copy (member_place b.index + 1) 0) then Some (said copy b.index) else None)
+  module _ (b : Begun) (begun : IsLastBegun t c k pc count (Some b)) (last : ℕ) (told_last : IsTold t c k (b.place + 1) last) where
+    abbrev index : ℕ
+    index = begun.0
+
+    said_at : (copy : List ℕ) (d value : ℕ) → get_or copy (b.place + d) 0 ≡ value → get_or copy (member_place index + d) 0 ≡ value
+    said_at copy d value e = ap (λ p. get_or copy (p + d) 0) (sym begun.1) ∙ e
+
+    first_at : (copy : List ℕ) → AreOfCopy t c copy (sight_words k.log.sights.copies) → get_or copy (member_place index) 0 ≡ b.first
+    first_at copy agrees = ap (λ p. get_or copy p 0) (sym begun.1) ∙ begun.4 copy agrees
+
+    by_last : (copy : List ℕ) (members : List Member) → AreOfCopy t c copy (sight_words k.log.sights.copies) → ListsMembers copy members → length members ≤ t.loads → member_at pc members ≡ (if nat_le pc (get_or copy (member_place index + 1) 0) then Some (said copy index) else None)
     by_last copy members agrees lists few =
         let n = counted copy members agrees lists few in
-        let first = begun.2 copy agrees in let low = begun.1 in let inside = begun.0 in
-        last_contains copy 0 b.index 0 pc members lists.ascending lists.stand (omega arith) (omega (arith, inside, n)) (omega (arith, first, low))
-        (⊎_elim (λ (e : b.index + 1 ≡ length members). inl (omega (arith, e))) (λ (l : pc < get_or copy (member_place (b.index + 1)) 0). inr l) (above_is (b.index + 1) copy members agrees n begun.3))
+        let first = first_at copy agrees in let low = begun.3 in let inside = begun.2 in
+        last_contains copy 0 index 0 pc members lists.ascending lists.stand (omega arith) (omega (arith, inside, n)) (omega (arith, first, low))
+        (⊎_elim (λ (e : count ≤ index + 1). inl (omega (arith, e, inside, n))) (λ (l : pc < get_or copy (member_place (index + 1)) 0). inr l) (begun.5 copy members agrees lists n).1)
 
     pub ends_below : last < pc → IsObjectAt t c k [] pc None
     ends_below less copy members agrees lists few =
-        let e = told_last copy agrees in
-        by_last copy members agrees lists few ∙ rw (lt-leb pc (get_or copy (member_place b.index + 1) 0) (omega (arith, e, less))) refl
+        let e = said_at copy 1 last (told_last copy agrees) in
+        by_last copy members agrees lists few ∙ rw (lt-leb pc (get_or copy (member_place index + 1) 0) (omega (arith, e, less))) refl
 
-    pub is_listed : pc ≤ last → (payload : ℕ) → IsTold t c k (member_place b.index + 2) payload → IsObjectAt t c k [] pc (Some (record { first = b.first; last = last; payload = payload }))
+    pub is_listed : pc ≤ last → (payload : ℕ) → IsTold t c k (b.place + 2) payload → IsObjectAt t c k [] pc (Some (record { first = b.first; last = last; payload = payload }))
     is_listed le payload told_payload copy members agrees lists few =
-        let first = begun.2 copy agrees in let e = told_last copy agrees in let p = told_payload copy agrees in
-        by_last copy members agrees lists few ∙ (rw (le-leb pc (get_or copy (member_place b.index + 1) 0) (omega (arith, e, le))) refl
+        let first = first_at copy agrees in let e = said_at copy 1 last (told_last copy agrees) in let p = said_at copy 2 payload (told_payload copy agrees) in
+        by_last copy members agrees lists few ∙ (rw (le-leb pc (get_or copy (member_place index + 1) 0) (omega (arith, e, le))) refl
         ∙ (λ j. Some (record { span = record { first = first j; last = e j }; payload = p j })))
 
 pub begun_later : (t : Terms) (c : ℕ) (k k' : CallerData) (pc count : ℕ) (o : Option Begun) → LoadsCopy t c k k' → IsLastBegun t c k pc count o → IsLastBegun t c k' pc count o
-begun_later t c k k' pc count None p h = above_later t c k k' pc count 0 p h
-begun_later t c k k' pc count (Some b) p h = (h.0, h.1, told_later t c k k' (member_place b.index) b.first p h.2, above_later t c k k' pc count (b.index + 1) p h.3)
+begun_later t c k k' pc count None p h = between_later t c k k' pc count 0 0 p h
+begun_later t c k k' pc count (Some b) p h = (h.0, h.1, h.2, h.3, told_later t c k k' b.place b.first p h.4, between_later t c k k' pc count h.0 (h.0 + 1) p h.5)
 
 -- ---- the fixed members before those of a copy
 

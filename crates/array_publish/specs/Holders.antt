@@ -1,7 +1,7 @@
 -- The holder of the loader's lock: the words of both copies, and what it makes of the one that
 -- isn't active.
-use Rattle.std.specs.Prelude.{◌≡◌, ℕ, ◌+◌, ◌-◌, ◌<◌, ◌%◌, Bool, List, [], ◌++◌, length, Option, Some}
-use Rattle.std.specs.Prelude.{None, option_map, IsSomeAnd, slice_index}
+use Rattle.std.specs.Prelude.{◌≡◌, ℕ, ◌+◌, ◌-◌, ◌<◌, ◌%◌, Bool, List, [], ◌++◌, length, Option}
+use Rattle.std.specs.Prelude.{Some, None, option_map, IsSomeAnd, slice_index}
 use Rattle.reg_model.specs.declared.span.Member.{Member}
 use Rattle.word_rule.specs.declared.log.LoadEvent.{LoadEvent}
 use Rattle.word_rule.specs.declared.log.LoaderHolding.{LoaderHolding}

@@ -13,6 +13,7 @@
 mod calls;
 mod fixed;
 mod lookup;
+mod search;
 mod update;
 mod walk;
 mod writing;

@@ -17,8 +17,7 @@ fn object_at(words: &Words, me: &mut Caller, copy: u32, pc: u64) -> Option<Liste
     requires copy { IsAtCopy words.now copy me.old }
     ensures loads { LoadsCopy words.now.terms copy me.old me.new }
     ensures found { IsObjectAt words.now.terms copy me.new words.now.terms.fixed pc result }
-    ensures few { (n : ℕ) → words.now.terms.loads < 2 ^ n
-        → load_count me.new ≤ load_count me.old + n + 3 }
+    ensures few { load_count me.new ≤ load_count me.old + 33 }
 {
     match fixed::containing(words.fixed(), pc) {
         Some(member) => Some(Listed::of(&member)),
@@ -49,8 +48,7 @@ pub fn try_object(words: &Words, me: &mut Caller, pc: u64) -> Result<Found, Agai
     ensures looks { LooksUp words.now.terms pc me.old me.new result }
     ensures alone { IsAlone me.old.log.lineage → IsOk result }
     ensures writes { me.new.log.trace.writes ≡ me.old.log.trace.writes }
-    ensures few { (n : ℕ) → words.now.terms.loads < 2 ^ n
-        → load_count me.new ≤ load_count me.old + n + 5 }
+    ensures few { load_count me.new ≤ load_count me.old + 36 }
 {
     let first = words.load_clock(me, Ask::Nothing);
     let published = first / LOWER;

@@ -32,18 +32,34 @@ fn active_copy(words: &Words, me: &mut Caller) -> ActiveCopy
     ActiveCopy { starts, count }
 }
 
-/// Of members that ascend, the first one that overlaps the span.
+/// Of members that ascend, the first one that overlaps the span: the first that doesn't end below
+/// it, or none. Half of those that are left are passed by at a time.
 fn first_overlap(members: &[Member], span: &Span) -> Option<Member>
     requires { AscendFrom 0 members.now }
     ensures found { IfSome result (IsLowestOverlap span.now members.now) }
     ensures none { IfNone result (IsFree span.now members.now) }
 {
-    for member in members {
-        if member.span.overlaps(span) {
-            return Some(*member);
+    let first = span.first();
+    let mut low = 0;
+    let mut high = members.len();
+    while low < high {
+        let middle = low + (high - low) / 2;
+        let member = &members[middle];
+        if member.span.last() < first {
+            low = middle + 1;
+        } else {
+            high = middle;
         }
     }
-    None
+    if low == members.len() {
+        return None;
+    }
+    let member = members[low];
+    if member.span.overlaps(span) {
+        Some(member)
+    } else {
+        None
+    }
 }
 
 /// The lowest of the fixed and the loaded members that overlap a span, below which so many loaded

@@ -1,24 +1,28 @@
-//! The search of one of the loader's copies.
+//! What one of the loader's copies says of an address, and where its words stand.
 //!
 //! Nothing that is loaded is trusted: a copy may be stored into meanwhile. What a search found is
 //! said of every copy that agrees with the words that were loaded.
-ghost use Rattle.std.specs.Prelude.{◌≡◌, ℕ, ◌+◌, ◌*◌, ◌^◌, ◌<◌, ◌≤◌, [], if◌then◌else◌};
+ghost use Rattle.std.specs.Prelude.{◌≡◌, ◌+◌, ◌*◌, ◌<◌, ◌≤◌, []};
 ghost use Rattle.word_rule.specs.Callers.{AreTerms};
 ghost use Rattle.word_rule.specs.Places.{copy_place, copy_words, member_place, segment_place};
 ghost use Rattle.array_publish.specs.CopyLoads.{IsAtCopy, IsTold, LoadsCopy, load_count};
-ghost use Rattle.array_publish.specs.Search.{IsLastBegun, IsMember, IsObjectAt, listed_member};
+ghost use Rattle.array_publish.specs.Search.{IsMember, IsObjectAt, listed_member};
 
+use crate::search::{Begun, last_begun};
 use reg_model::{Member, Span};
 use segment_array::{segments_for, spot};
 use word_rule::{Caller, FIRST_NODE, NODE_WORDS, Words};
 
 /// The words of a segment, and those before the members of a copy or a segment.
-const SEGMENT_WORDS: u32 = 50;
+pub const SEGMENT_WORDS: u32 = 50;
 
 const HEADER_WORDS: u32 = 2;
 
 /// The words of a member: its first and its last address, and its payload.
-const MEMBER_WORDS: u32 = 3;
+pub const MEMBER_WORDS: u32 = 3;
+
+/// The members of a full segment.
+pub const FULL: u32 = 16;
 
 /// Where a copy says how many segments are in use.
 pub const HEAD: u32 = 0;
@@ -31,13 +35,6 @@ pub const COUNT: u32 = 1;
 pub struct CopyStart {
     pub copy: u32,
     pub start: u32,
-}
-
-/// The last member that begins at or below an address: which it is, and where it begins.
-#[derive(Clone, Copy)]
-pub struct Begun {
-    pub index: u32,
-    pub first: u64,
 }
 
 /// What the words of a copy say of a member.
@@ -77,7 +74,8 @@ pub fn place_of_member(index: u32) -> u32
 }
 
 /// Loads a word of a copy, counted from the copy's first.
-fn load_word(words: &Words, me: &mut Caller, at: CopyStart, word: u32) -> u64
+#[inline(always)]
+pub fn load_word(words: &Words, me: &mut Caller, at: CopyStart, word: u32) -> u64
     requires copy { IsAtCopy words.now at.copy me.old }
     requires start { at.start ≡ copy_place words.now.terms at.copy }
     requires inside { word < copy_words words.now.terms }
@@ -88,72 +86,20 @@ fn load_word(words: &Words, me: &mut Caller, at: CopyStart, word: u32) -> u64
     words.load_copy(me, at.start + word)
 }
 
-/// All of a number where something holds, else 0. There is no branch, since the processor would
-/// guess half of them wrong.
-#[inline(always)]
-fn where_holds(number: u32, holds: bool) -> u32
-    ensures { result ≡ (if holds then number else 0) }
-{
-    number * u32::from(holds)
-}
-
-/// The one where something holds, else the other.
-#[inline(always)]
-fn one_of(holds: bool, one: u64, other: u64) -> u64
-    ensures { result ≡ (if holds then one else other) }
-{
-    if holds { one } else { other }
-}
-
-/// Of so many members, the last one that begins at or below the address. `begun` of them are known
-/// to, the last of these at `first`; `size` is in how many ways it can go on, and each turn leaves
-/// half of these. Of an odd number it leaves the greater half, whatever was loaded, so that the
-/// number of turns is that of the members alone, and can be guessed.
-fn last_begun(words: &Words, me: &mut Caller, at: CopyStart, pc: u64, count: u32) -> Option<Begun>
-    requires copy { IsAtCopy words.now at.copy me.old }
-    requires start { at.start ≡ copy_place words.now.terms at.copy }
-    requires count { count ≤ words.now.terms.loads }
-    ensures loads { LoadsCopy words.now.terms at.copy me.old me.new }
-    ensures last { IsLastBegun words.now.terms at.copy me.new pc count result }
-    ensures few { (n : ℕ) → words.now.terms.loads < 2 ^ n
-        → load_count me.new ≤ load_count me.old + n }
-{
-    let mut begun = 0;
-    let mut first = 0;
-    let mut size = count + 1;
-    while size > 1 {
-        let half = size / 2;
-        let next = load_word(words, me, at, place_of_member(begun + half - 1));
-        let below = next <= pc;
-        first = one_of(below, next, first);
-        begun += where_holds(half, below);
-        size -= half;
-    }
-    if begun == 0 {
-        return None;
-    }
-    Some(Begun {
-        index: begun - 1,
-        first,
-    })
-}
-
 /// The member of a copy that contains the address.
 pub fn listed_at(words: &Words, me: &mut Caller, copy: u32, pc: u64) -> Option<Listed>
     requires copy { IsAtCopy words.now copy me.old }
     ensures loads { LoadsCopy words.now.terms copy me.old me.new }
     ensures found { IsObjectAt words.now.terms copy me.new [] pc result }
-    ensures few { (n : ℕ) → words.now.terms.loads < 2 ^ n
-        → load_count me.new ≤ load_count me.old + n + 3 }
+    ensures few { load_count me.new ≤ load_count me.old + 33 }
 {
     let start = place_of_copy(words, copy);
     let at = CopyStart { copy, start };
     let loads = words.loads();
     let count = load_word(words, me, at, COUNT).min(loads as u64) as u32;
-    let Some(Begun { index, first }) = last_begun(words, me, at, pc, count) else {
+    let Some(Begun { place, first }) = last_begun(words, me, at, pc, count) else {
         return None;
     };
-    let place = place_of_member(index);
     let last = load_word(words, me, at, place + 1);
     if pc > last {
         return None;

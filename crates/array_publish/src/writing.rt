@@ -11,13 +11,10 @@ ghost use Rattle.array_publish.specs.Writing.{IsWritten, SameMembers, changed_co
 ghost use Rattle.array_publish.specs.Writing.{with_header, with_member, with_totals};
 ghost use Rattle.word_rule.specs.Copies.{count_in};
 
-use crate::walk::{COUNT, HEAD, Listed, place_of_copy, place_of_member, place_of_segment};
+use crate::walk::{COUNT, FULL, HEAD, Listed, place_of_copy, place_of_member, place_of_segment};
 use reg_model::Member;
 use segment_array::segments_for;
 use word_rule::{Caller, Words};
-
-/// The members of a full segment.
-const FULL: u32 = 16;
 
 /// What an update makes of a list of members: one more, which comes to stand at a place, or the one
 /// there less.

@@ -21,7 +21,7 @@ returns-in-None-clause-found c =
     then_listed t c.args.copy c.listed_at.new.me t.fixed c.args.pc c.listed_at.result (sym c.in-None.is ∙ (c.containing.ensures ∙ ap (member_at c.args.pc) c.fixed.ensures)) c.listed_at.ensures.found
 
 pub returns-in-Some-clause-few : goal.returns-in-Some-clause-few
-returns-in-Some-clause-few c n small = omega arith
+returns-in-Some-clause-few c = omega arith
 
 pub returns-in-None-clause-few : goal.returns-in-None-clause-few
-returns-in-None-clause-few c n small = c.listed_at.ensures.few n small
+returns-in-None-clause-few c = c.listed_at.ensures.few

@@ -23,13 +23,13 @@ returns-then-second-published-clause-looks c =
     one.log one.rest o.loads o.found two.log two.rest c.if-second-published.true
 
 pub returns-clause-few : goal.returns-clause-few
-returns-clause-few c n small =
-    let one = clock_counted c.args.words.now.terms ask.Nothing c.load_clock-first.result c.args.me.now c.load_clock-first.new.me c.load_clock-first.ensures.log in let two = c.object_at-object.ensures.few n small in
+returns-clause-few c =
+    let one = clock_counted c.args.words.now.terms ask.Nothing c.load_clock-first.result c.args.me.now c.load_clock-first.new.me c.load_clock-first.ensures.log in let two = c.object_at-object.ensures.few in
     let three = clock_counted c.args.words.now.terms (ask.Loaded c.args.pc) c.load_clock-second.result c.object_at-object.new.me c.load_clock-second.new.me c.load_clock-second.ensures.log in
     omega (arith, one, two, three)
 
 pub returns-then-second-published-clause-few : goal.returns-then-second-published-clause-few
-returns-then-second-published-clause-few c n small =
-    let one = clock_counted c.args.words.now.terms ask.Nothing c.load_clock-first.result c.args.me.now c.load_clock-first.new.me c.load_clock-first.ensures.log in let two = c.object_at-object.ensures.few n small in
+returns-then-second-published-clause-few c =
+    let one = clock_counted c.args.words.now.terms ask.Nothing c.load_clock-first.result c.args.me.now c.load_clock-first.new.me c.load_clock-first.ensures.log in let two = c.object_at-object.ensures.few in
     let three = clock_counted c.args.words.now.terms (ask.Loaded c.args.pc) c.load_clock-second.result c.object_at-object.new.me c.load_clock-second.new.me c.load_clock-second.ensures.log in
     omega (arith, one, two, three)

@@ -1,22 +1,43 @@
-use Rattle.std.proofs.Common.{take_all, subst, arith}
+use Rattle.std.proofs.Common.{◌≡◌, ◌+◌, ◌-◌, ◌/◌, inl, refl, sym, subst, arith}
 use Rattle.std.proofs.lemmas.Bool.{both_ways}
-use Rattle.std.proofs.lemmas.List.Elements.{All-more}
-use Rattle.reg_model.specs.SpanData.{Overlaps}
-use Rattle.reg_model.specs.State.{IsFree}
-use Rattle.reg_model.specs.declared.span.Member.{Member}
-use Rattle.array_publish.proofs.Overlaps.{first_lowest}
+use Rattle.array_publish.proofs.Overlaps.{EndAbove, end_above, end_below, first_at, none_at, none_left}
 use Rattle.array_publish.proofs.update.first_overlap.Goals as goal
+
+pub loop-low-init : goal.loop-low-init
+loop-low-init c = record {
+  order = (omega arith, omega arith);
+  below = inl refl;
+  above = inl refl;
+}
+
+pub loop-low-preserved-then-last-first : goal.loop-low-preserved-then-last-first
+loop-low-preserved-then-last-first c =
+    let inv = c.loop-low.invariant in let order = inv.order in let test = c.loop-low-test.true in
+    let lower = c.if-last-first.true in let one = c.last.ensures.value in let two = c.first-first.ensures.value in record {
+      order = (omega (arith, order, test), order.1);
+      below = end_below c.args.members.now c.args.span.now.first (c.loop-low.low + (c.loop-low.high - c.loop-low.low) / 2) c.index-members-middle.result c.index-members-middle.is (omega (arith, lower, one, two));
+      above = inv.above;
+    }
+
+pub loop-low-preserved : goal.loop-low-preserved
+loop-low-preserved c =
+    let inv = c.loop-low.invariant in let order = inv.order in let test = c.loop-low-test.true in
+    let lower = c.if-last-first.false in let one = c.last.ensures.value in let two = c.first-first.ensures.value in record {
+      order = (omega (arith, order, test), omega (arith, order, test));
+      below = inv.below;
+      above = end_above c.args.members.now c.args.span.now.first (c.loop-low.low + (c.loop-low.high - c.loop-low.low) / 2) c.index-members-middle.result c.index-members-middle.is (omega (arith, order, test)) (omega (arith, lower, one, two));
+    }
+
+pub returns-then-low-members-clause-none : goal.returns-then-low-members-clause-none
+returns-then-low-members-clause-none c = none_left c.args.members.now c.args.span.now c.loop-low.low c.requires c.loop-low.invariant.below c.if-low-members.true
 
 pub returns-then-overlaps-clause-found : goal.returns-then-overlaps-clause-found
 returns-then-overlaps-clause-found c =
-    first_lowest c.args.members.now c.loop-member.member-index c.member-item.result c.args.span.now c.requires (omega (arith, c.loop-member-test.true)) c.member-item.is c.loop-member.invariant (c.overlaps.ensures.0 c.if-overlaps.true)
+    let order = c.loop-low.invariant.order in
+    first_at c.args.members.now c.args.span.now c.loop-low.low c.index-members-low.result c.requires c.loop-low.invariant.below (omega (arith, order, c.loop-low-test.false, c.if-low-members.false)) c.index-members-low.is (c.overlaps.ensures.0 c.if-overlaps.true)
 
-pub loop-member-preserved : goal.loop-member-preserved
-loop-member-preserved c =
-    let apart : Overlaps c.member-item.result.span c.args.span.now → ⊥ = λ meets. both_ways c.overlaps.result c.if-overlaps.false (c.overlaps.ensures.1 meets) in
-    All-more (λ (m : Member). ¬ Overlaps m.span c.args.span.now) c.args.members.now c.loop-member.member-index c.member-item.result (omega (arith, c.loop-member-test.true)) c.loop-member.invariant (subst (λ (m : Member). ¬ Overlaps m.span c.args.span.now) c.member-item.is apart)
-
-pub returns-clause-none : goal.returns-clause-none
-returns-clause-none c =
-    let all = take_all c.loop-member.member-index c.args.members.now (omega (arith, c.loop-member-test.false)) in
-    subst (λ ms. IsFree c.args.span.now ms) all c.loop-member.invariant
+pub returns-else-overlaps-clause-none : goal.returns-else-overlaps-clause-none
+returns-else-overlaps-clause-none c =
+    let order = c.loop-low.invariant.order in
+    let same : c.loop-low.low ≡ c.loop-low.high = omega (arith, order, c.loop-low-test.false) in
+    none_at c.args.members.now c.args.span.now c.loop-low.low c.index-members-low.result c.requires c.loop-low.invariant.below (subst (EndAbove c.args.members.now c.args.span.now.first) (sym same) c.loop-low.invariant.above) (omega (arith, order, c.loop-low-test.false, c.if-low-members.false)) c.index-members-low.is c.first-first.ensures.span.ordered (λ meets. both_ways c.overlaps.result c.if-overlaps.false (c.overlaps.ensures.1 meets))

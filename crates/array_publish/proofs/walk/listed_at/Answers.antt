@@ -1,7 +1,6 @@
 use Rattle.std.proofs.Common.{◌+◌, Some, subst, arith}
 use Rattle.word_rule.specs.CallerData.{CallerData}
 use Rattle.word_rule.specs.declared.log.Terms.{Terms}
-use Rattle.array_publish.specs.CopyLoads.{IsTold}
 use Rattle.array_publish.specs.Search.{IsLastBegun}
 use Rattle.array_publish.proofs.CopyWalks.{loads_both, told_later}
 use Rattle.array_publish.proofs.Searches.{begun_later, none_listed, ends_below, is_listed}
@@ -33,7 +32,7 @@ returns-then-pc-last-clause-found c =
     let told = told_later t c.args.copy k1 k 1 c.load_word.result c.load_word-last.ensures.loads (told_later t c.args.copy c.load_word.new.me k1 1 c.load_word.result c.last_begun.ensures.loads c.load_word.ensures.told) in
     let last = subst (IsLastBegun t c.args.copy k1 c.args.pc c.min-count.result) c.in-Some.is c.last_begun.ensures.last in
     let begun = begun_later t c.args.copy k1 k c.args.pc c.min-count.result (Some c.in-Some.field-0) c.load_word-last.ensures.loads last in
-    let told_last = subst (λ p. IsTold t c.args.copy k (p + 1) c.load_word-last.result) c.place_of_member-place.ensures c.load_word-last.ensures.told in
+    let told_last = c.load_word-last.ensures.told in
     ends_below t c.args.copy k c.args.pc c.min-count.result c.load_word.result told (omega (arith, c.min-count.ensures, c.loads-loads.ensures)) c.in-Some.field-0 begun c.load_word-last.result told_last (omega (arith, c.if-pc-last.true))
 
 pub returns-clause-loads : goal.returns-clause-loads
@@ -53,18 +52,17 @@ returns-clause-found c =
     let told = told_later t c.args.copy k1 k 1 c.load_word.result two (told_later t c.args.copy c.load_word.new.me k1 1 c.load_word.result c.last_begun.ensures.loads c.load_word.ensures.told) in
     let last = subst (IsLastBegun t c.args.copy k1 c.args.pc c.min-count.result) c.in-Some.is c.last_begun.ensures.last in
     let begun = begun_later t c.args.copy k1 k c.args.pc c.min-count.result (Some c.in-Some.field-0) two last in
-    let told_last = told_later t c.args.copy k2 k (c.place_of_member-place.result + 1) c.load_word-last.result c.load_word-payload.ensures.loads c.load_word-last.ensures.told in
-    let last_at = subst (λ p. IsTold t c.args.copy k (p + 1) c.load_word-last.result) c.place_of_member-place.ensures told_last in
-    let payload_at = subst (λ p. IsTold t c.args.copy k (p + 2) c.load_word-payload.result) c.place_of_member-place.ensures c.load_word-payload.ensures.told in
-    is_listed t c.args.copy k c.args.pc c.min-count.result c.load_word.result told (omega (arith, c.min-count.ensures, c.loads-loads.ensures)) c.in-Some.field-0 begun c.load_word-last.result last_at (omega (arith, c.if-pc-last.false)) c.load_word-payload.result payload_at
+    let told_last = told_later t c.args.copy k2 k (c.in-Some.field-0.place + 1) c.load_word-last.result c.load_word-payload.ensures.loads c.load_word-last.ensures.told in
+    let payload_at = c.load_word-payload.ensures.told in
+    is_listed t c.args.copy k c.args.pc c.min-count.result c.load_word.result told (omega (arith, c.min-count.ensures, c.loads-loads.ensures)) c.in-Some.field-0 begun c.load_word-last.result told_last (omega (arith, c.if-pc-last.false)) c.load_word-payload.result payload_at
 
 pub returns-in_default-clause-few : goal.returns-in_default-clause-few
-returns-in_default-clause-few c n small = let one = c.load_word.ensures.one in let two = c.last_begun.ensures.few n small in omega (arith, one, two)
+returns-in_default-clause-few c = let one = c.load_word.ensures.one in let two = c.last_begun.ensures.few in omega (arith, one, two)
 
 pub returns-then-pc-last-clause-few : goal.returns-then-pc-last-clause-few
-returns-then-pc-last-clause-few c n small = let one = c.load_word.ensures.one in let two = c.last_begun.ensures.few n small in let three = c.load_word-last.ensures.one in omega (arith, one, two, three)
+returns-then-pc-last-clause-few c = let one = c.load_word.ensures.one in let two = c.last_begun.ensures.few in let three = c.load_word-last.ensures.one in omega (arith, one, two, three)
 
 pub returns-clause-few : goal.returns-clause-few
-returns-clause-few c n small =
-    let one = c.load_word.ensures.one in let two = c.last_begun.ensures.few n small in let three = c.load_word-last.ensures.one in let four = c.load_word-payload.ensures.one in
+returns-clause-few c =
+    let one = c.load_word.ensures.one in let two = c.last_begun.ensures.few in let three = c.load_word-last.ensures.one in let four = c.load_word-payload.ensures.one in
     omega (arith, one, two, three, four)

@@ -1,0 +1,206 @@
+//! The search of a copy for the last member that begins at or below an address.
+//!
+//! Members ascend, so how many of some begin at or below the address tells which is the last that
+//! does. The search counts three times: of segments 8, 16 and so on, of the seven segments after
+//! the last of these that does, and of the fifteen members after that segment's first. No load
+//! waits for another one of its count. All segments but the highest are full, so no word behind the
+//! members is loaded and no comparison needs a test beside it.
+ghost use Rattle.std.specs.Prelude.{◌≡◌, ℕ, ◌+◌, ◌*◌, ◌-◌, ◌%◌, ◌<◌, ◌≤◌, min};
+ghost use Rattle.std.specs.Prelude.{if◌then◌else◌};
+ghost use Rattle.word_rule.specs.Places.{copy_place, copy_words, member_place};
+ghost use Rattle.array_publish.specs.CopyLoads.{IsAtCopy, LoadsCopy, load_count};
+ghost use Rattle.array_publish.specs.Search.{CountsBegun, IsNarrowed, IsLastBegun, others};
+
+use crate::walk::{CopyStart, FULL, MEMBER_WORDS, SEGMENT_WORDS, load_word};
+use word_rule::{Caller, Words};
+
+/// Where the first member of a copy begins.
+const FIRST_MEMBER: u32 = 4;
+
+/// The members of eight full segments, and the words of eight segments.
+const EIGHT: u32 = 128;
+
+const EIGHT_WORDS: u32 = 400;
+
+/// The members after the first one of a full segment.
+const OTHERS: u32 = 15;
+
+/// Words of a copy at equal distances: the first one's place, how far each is from the one before,
+/// and how many there are.
+#[derive(Clone, Copy)]
+pub struct Series {
+    pub place: u32,
+    pub apart: u32,
+    pub length: u32,
+}
+
+/// The first member of a segment: where it stands, and how many members there are after it.
+#[derive(Clone, Copy)]
+pub struct SegmentStart {
+    pub place: u32,
+    pub after: u32,
+}
+
+/// The last member that begins at or below an address: where it stands, and where it begins.
+#[derive(Clone, Copy)]
+pub struct Begun {
+    pub place: u32,
+    pub first: u64,
+}
+
+/// All of a number where something holds, else 0. There is no branch, since the processor would
+/// guess half of them wrong.
+#[inline(always)]
+fn where_holds(number: u32, holds: bool) -> u32
+    ensures { result ≡ (if holds then number else 0) }
+{
+    number * u32::from(holds)
+}
+
+/// How many words of a series are at or below the address. Each is loaded.
+#[inline(always)]
+fn begun_in(words: &Words, me: &mut Caller, at: CopyStart, pc: u64, series: Series) -> u32
+    requires copy { IsAtCopy words.now at.copy me.old }
+    requires start { at.start ≡ copy_place words.now.terms at.copy }
+    requires inside { (i : ℕ) → i < series.length
+        → series.place + series.apart * i < copy_words words.now.terms }
+    ensures loads { LoadsCopy words.now.terms at.copy me.old me.new }
+    ensures few { load_count me.new ≤ load_count me.old + series.length }
+    ensures inside { result ≤ series.length }
+    ensures begun { CountsBegun words.now.terms at.copy me.new pc series series.length result }
+{
+    let mut begun = 0;
+    for number in 0..series.length {
+        let first = load_word(words, me, at, series.place + series.apart * number);
+        begun += where_holds(1, first <= pc);
+    }
+    begun
+}
+
+/// The same for a series that may be short: each turn leaves half of the ways in which it can go
+/// on, of an odd number the greater one, so how many loads there are depends on its length alone.
+#[inline(always)]
+fn begun_by_halves(words: &Words, me: &mut Caller, at: CopyStart, pc: u64, series: Series) -> u32
+    requires copy { IsAtCopy words.now at.copy me.old }
+    requires start { at.start ≡ copy_place words.now.terms at.copy }
+    requires short { series.length < 16 }
+    requires inside { (i : ℕ) → i < series.length
+        → series.place + series.apart * i < copy_words words.now.terms }
+    ensures loads { LoadsCopy words.now.terms at.copy me.old me.new }
+    ensures few { load_count me.new ≤ load_count me.old + series.length }
+    ensures inside { result ≤ series.length }
+    ensures begun { CountsBegun words.now.terms at.copy me.new pc series series.length result }
+{
+    let mut begun = 0;
+    let mut ways = series.length + 1;
+    while ways > 1 {
+        let half = ways / 2;
+        let middle = begun + half - 1;
+        let first = load_word(words, me, at, series.place + series.apart * middle);
+        begun += where_holds(half, first <= pc);
+        ways -= half;
+    }
+    begun
+}
+
+/// The last segment whose first member begins at or below the address, or the first one. The last
+/// member has this number.
+#[inline(always)]
+fn segment_for(words: &Words, me: &mut Caller, at: CopyStart, pc: u64, last: u32) -> SegmentStart
+    requires copy { IsAtCopy words.now at.copy me.old }
+    requires start { at.start ≡ copy_place words.now.terms at.copy }
+    requires last { last < words.now.terms.loads }
+    ensures loads { LoadsCopy words.now.terms at.copy me.old me.new }
+    ensures few { load_count me.new ≤ load_count me.old + 14 }
+    ensures after { result.after ≤ last }
+    ensures whole { (last - result.after) % 16 ≡ 0 }
+    ensures place { result.place ≡ member_place (last - result.after) }
+    ensures between { IsNarrowed words.now.terms at.copy me.new pc (last + 1)
+        (last - result.after) (last - result.after + 16) }
+{
+    let eights = Series {
+        place: FIRST_MEMBER + EIGHT_WORDS,
+        apart: EIGHT_WORDS,
+        length: last / EIGHT,
+    };
+    let begun = begun_in(words, me, at, pc, eights);
+    let place = FIRST_MEMBER + EIGHT_WORDS * begun;
+    let after = last - EIGHT * begun;
+    let length = (after / FULL).min(7);
+    let seven = Series {
+        place: place + SEGMENT_WORDS,
+        apart: SEGMENT_WORDS,
+        length,
+    };
+    let more = begun_in(words, me, at, pc, seven);
+    SegmentStart {
+        place: place + SEGMENT_WORDS * more,
+        after: after - FULL * more,
+    }
+}
+
+/// How many of the other members of a segment begin at or below the address.
+#[inline(always)]
+fn begun_within(
+    words: &Words,
+    me: &mut Caller,
+    at: CopyStart,
+    pc: u64,
+    segment: SegmentStart,
+) -> u32
+    requires copy { IsAtCopy words.now at.copy me.old }
+    requires start { at.start ≡ copy_place words.now.terms at.copy }
+    requires place { segment.place < copy_words words.now.terms }
+    requires inside { (i : ℕ) → i < min segment.after 15
+        → segment.place + 3 + 3 * i < copy_words words.now.terms }
+    ensures loads { LoadsCopy words.now.terms at.copy me.old me.new }
+    ensures few { load_count me.new ≤ load_count me.old + 15 }
+    ensures inside { result ≤ min segment.after 15 }
+    ensures begun { CountsBegun words.now.terms at.copy me.new pc
+        (others segment) (min segment.after 15) result }
+{
+    let place = segment.place + MEMBER_WORDS;
+    let apart = MEMBER_WORDS;
+    if segment.after < OTHERS {
+        let few = Series {
+            place,
+            apart,
+            length: segment.after,
+        };
+        return begun_by_halves(words, me, at, pc, few);
+    }
+    let all = Series {
+        place,
+        apart,
+        length: OTHERS,
+    };
+    begun_in(words, me, at, pc, all)
+}
+
+/// Of so many members, the last one that begins at or below the address.
+pub fn last_begun(
+    words: &Words,
+    me: &mut Caller,
+    at: CopyStart,
+    pc: u64,
+    count: u32,
+) -> Option<Begun>
+    requires copy { IsAtCopy words.now at.copy me.old }
+    requires start { at.start ≡ copy_place words.now.terms at.copy }
+    requires count { count ≤ words.now.terms.loads }
+    ensures loads { LoadsCopy words.now.terms at.copy me.old me.new }
+    ensures last { IsLastBegun words.now.terms at.copy me.new pc count result }
+    ensures few { load_count me.new ≤ load_count me.old + 30 }
+{
+    if count == 0 {
+        return None;
+    }
+    let segment = segment_for(words, me, at, pc, count - 1);
+    let more = begun_within(words, me, at, pc, segment);
+    let place = segment.place + MEMBER_WORDS * more;
+    let first = load_word(words, me, at, place);
+    if first > pc {
+        return None;
+    }
+    Some(Begun { place, first })
+}
