@@ -8,6 +8,7 @@ pub mod Lines
 pub mod Joined
 pub mod Steps
 pub mod Sections
+pub mod LowerDigits
 pub mod Words
 pub mod Spoken
 pub mod Fixed

@@ -33,7 +33,7 @@ or_right_of : (x y : Bool) → (not x || y) ≡ true → x ≡ true → y ≡ tr
 or_right_of true y e t = e
 or_right_of false y e t = absurd cc
 
-lower_below : (c : ℕ) → is_lower c ≡ true → c < 256
+pub lower_below : (c : ℕ) → is_lower c ≡ true → c < 256
 lower_below c e = elim (or_cases (leb 48 c && leb c 57) (leb 97 c && leb c 102) e) [
   | inl low ↦ omega (arith, leb-true c 57 (and_parts (leb 48 c) (leb c 57) low).1)
   | inr high ↦ omega (arith, leb-true c 102 (and_parts (leb 97 c) (leb c 102) high).1)

@@ -11,19 +11,22 @@ pub fn place_of(bytes: &[u8], byte: u8) -> usize
     ensures before { (k : ℕ) → k < result → slice_index bytes.now k ≢ byte }
     ensures found { result < length bytes.now → slice_index bytes.now result ≡ byte }
 {
-    for (i, b) in bytes.iter().enumerate() {
-        if *b == byte {
-            return i;
-        }
+    match memchr::memchr(byte, bytes) {
+        Some(place) => place,
+        None => bytes.len(),
     }
-    bytes.len()
 }
 
-/// Whether no byte stands in the line but those from the space to the tilde.
+/// Whether no byte stands in the line but those from the space to the tilde. No byte ends the loop,
+/// so that many are tested at a time.
 pub fn is_printable(line: &[u8]) -> bool
     ensures { result ≡ is_printable line.now }
 {
-    line.iter().all(|b| 0x20 <= *b && *b <= 0x7e)
+    let mut printable = true;
+    for byte in line {
+        printable = printable & (0x20 <= *byte) & (*byte <= 0x7e);
+    }
+    printable
 }
 
 /// The first field of a line, and what follows it.

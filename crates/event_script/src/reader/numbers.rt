@@ -1,27 +1,37 @@
 //! Numbers and bytes in fields.
 
-ghost use Rattle.std.specs.Prelude.{◌≡◌, ℕ, ◌+◌, ◌^◌, ◌<◌, ◌≤◌, false, MatchOption, IfOk};
-ghost use Rattle.std.specs.Fmt.{digit_glyph};
+ghost use Rattle.std.specs.Prelude.{◌≡◌, ◌^◌, ◌<◌, ◌≤◌, IfOk};
 ghost use Rattle.event_script.specs.Fields.{number_in, decimal_in, hex_in, hex_bytes_in};
 ghost use Rattle.event_script.specs.Fields.{section_bytes};
-ghost use Rattle.std.specs.List.{list_all};
 ghost use Rattle.std.specs.Option.{option_map};
-ghost use Rattle.event_script.specs.Lower.{is_lower};
+ghost use Rattle.event_script.specs.Lower.{lower_value};
 
-use hex::FromHexError;
 use reg_model::NoMemory;
 use std::alloc::Global;
 
-/// The value of a digit, in lower case.
-fn digit_of(byte: u8) -> Option<u64>
-    ensures { MatchOption result ((d : ℕ) → d < 16 → ¬ (byte ≡ digit_glyph false d))
-        (λ d. (d < 16) × (byte ≡ digit_glyph false d)) }
+/// The value of each byte as a digit in lower case, or 255.
+const DIGITS: [u8; 256] = [
+    255, 255, 255, 255, 255, 255, 255, 255, 255, 255, 255, 255, 255, 255, 255, 255, 255, 255, 255,
+    255, 255, 255, 255, 255, 255, 255, 255, 255, 255, 255, 255, 255, 255, 255, 255, 255, 255, 255,
+    255, 255, 255, 255, 255, 255, 255, 255, 255, 255, 0, 1, 2, 3, 4, 5, 6, 7, 8, 9, 255, 255, 255,
+    255, 255, 255, 255, 255, 255, 255, 255, 255, 255, 255, 255, 255, 255, 255, 255, 255, 255, 255,
+    255, 255, 255, 255, 255, 255, 255, 255, 255, 255, 255, 255, 255, 255, 255, 255, 255, 10, 11,
+    12, 13, 14, 15, 255, 255, 255, 255, 255, 255, 255, 255, 255, 255, 255, 255, 255, 255, 255, 255,
+    255, 255, 255, 255, 255, 255, 255, 255, 255, 255, 255, 255, 255, 255, 255, 255, 255, 255, 255,
+    255, 255, 255, 255, 255, 255, 255, 255, 255, 255, 255, 255, 255, 255, 255, 255, 255, 255, 255,
+    255, 255, 255, 255, 255, 255, 255, 255, 255, 255, 255, 255, 255, 255, 255, 255, 255, 255, 255,
+    255, 255, 255, 255, 255, 255, 255, 255, 255, 255, 255, 255, 255, 255, 255, 255, 255, 255, 255,
+    255, 255, 255, 255, 255, 255, 255, 255, 255, 255, 255, 255, 255, 255, 255, 255, 255, 255, 255,
+    255, 255, 255, 255, 255, 255, 255, 255, 255, 255, 255, 255, 255, 255, 255, 255, 255, 255, 255,
+    255, 255, 255, 255, 255, 255, 255, 255, 255, 255, 255, 255, 255, 255, 255, 255, 255, 255, 255,
+    255, 255, 255, 255,
+];
+
+/// The value of a digit in lower case, or 255 of another byte.
+fn digit_of(byte: u8) -> u8
+    ensures { result ≡ lower_value byte }
 {
-    match byte {
-        b'0'..=b'9' => Some((byte - b'0') as u64),
-        b'a'..=b'f' => Some((byte - b'a') as u64 + 10),
-        _ => None,
-    }
+    DIGITS[byte as usize]
 }
 
 /// The number whose digits in the base the field is, where it has at most so many.
@@ -38,7 +48,7 @@ fn number_of(base: u64, most: usize, field: &[u8]) -> Option<u64>
     }
     let mut number = 0;
     for byte in field {
-        let digit = digit_of(*byte)?;
+        let digit = digit_of(*byte) as u64;
         if digit >= base {
             return None;
         }
@@ -66,32 +76,26 @@ pub fn hex_in(field: &[u8]) -> Option<u64>
     number_of(16, 16, field)
 }
 
-/// Whether each byte is a hexadecimal digit in lower case.
-fn are_lower(field: &[u8]) -> bool
-    ensures { result ≡ list_all is_lower field.now }
-{
-    field.iter().all(|b| (b'0' <= *b && *b <= b'9') || (b'a' <= *b && *b <= b'f'))
-}
-
-#[tactic(auto, unfolding(crate::specs::Fields::hex_bytes_in))]
-/// The bytes, one at least, whose digits in lower case the field is.
+/// The bytes, one at least, whose digits in lower case the field is. Whether all were such digits
+/// is asked at the end, once.
 pub fn hex_bytes_in(alloc: Global, field: &[u8]) -> Result<Option<Vec<u8>>, NoMemory>
     ensures { IfOk result
         (λ found. option_map (λ bytes. bytes.items) found ≡ hex_bytes_in field.now) }
 {
-    if field.is_empty() {
+    if field.is_empty() || field.len() % 2 != 0 {
         return Ok(None);
     }
-    if !are_lower(field) {
-        return Ok(None);
+    let mut bytes = Vec::with_capacity(alloc, field.len() / 2)?;
+    let mut lower = true;
+    let mut left = field;
+    while let [high, low, rest @ ..] = left {
+        let high = digit_of(*high);
+        let low = digit_of(*low);
+        lower = lower & (high < 16) & (low < 16);
+        bytes.push(high.wrapping_mul(16).wrapping_add(low))?;
+        left = rest;
     }
-    match hex::decode(alloc, field) {
-        Ok(bytes) => Ok(Some(bytes)),
-        Err(fault) => match fault {
-            FromHexError::OutOfMemory => Err(NoMemory),
-            _ => Ok(None),
-        },
-    }
+    if lower { Ok(Some(bytes)) } else { Ok(None) }
 }
 
 #[tactic(auto, unfolding(crate::specs::Fields::section_bytes))]

@@ -1,16 +1,24 @@
-use Rattle.std.proofs.Common.{sym, eqb-true, inl, inr}
+use Rattle.std.proofs.Common.{sym, ap, ◌∙◌, eqb-true, Some, arith}
 use Rattle.std.proofs.lemmas.Bool.{eqb-false}
-use Rattle.event_script.proofs.Sections.{undecoded_in, empty_in, not_lower_in, decoded_in}
+use Rattle.event_script.proofs.Sections.{empty_in, not_lower_in}
+use Rattle.event_script.proofs.LowerDigits.{odd_in, pairs_in, pairs_end}
 use Rattle.event_script.proofs.reader.numbers.hex_bytes_in.Goals as goal
+use Rattle.event_script.proofs.reader.numbers.hex_bytes_in.Goals.{then-is_empty-via-then-is_empty, then-is_empty-via-else-is_empty+then-field-ne0}
 
 pub returns-then-is_empty : goal.returns-then-is_empty
-returns-then-is_empty c = sym (empty_in c.args.field.now (eqb-true _ _ (sym c.if-is_empty.ensures)))
+returns-then-is_empty c = sym (elim c.then-is_empty.branch [
+  | then-is_empty-via-then-is_empty w ↦ empty_in c.args.field.now (eqb-true _ _ (sym w.if-is_empty.ensures))
+  | then-is_empty-via-else-is_empty+then-field-ne0 w ↦ odd_in c.args.field.now w.if-field-ne0.true
+])
 
-pub returns-then-not-are_lower : goal.returns-then-not-are_lower
-returns-then-not-are_lower c = sym (not_lower_in c.args.field.now (sym c.if-not-are_lower.ensures))
+pub returns-then-lower : goal.returns-then-lower
+returns-then-lower c =
+    let l = c.loop-left in
+    let whole = pairs_end c.args.field.now l.bytes.items l.left.now l.lower c.in_default.len_below l.invariant.even l.invariant.so_far l.invariant.digits in
+    ap Some whole.0 ∙ sym (pairs_in c.args.field.now (eqb-false _ _ (sym c.if-is_empty.ensures)) (omega arith) (sym whole.1 ∙ c.if-lower.true))
 
-pub returns-in-Ok : goal.returns-in-Ok
-returns-in-Ok c = sym (decoded_in c.args.field.now c.in-Ok.bytes.items (eqb-false _ _ (sym c.if-is_empty.ensures)) (sym c.if-not-are_lower.ensures) c.in-Ok.ensures.ok)
-
-pub returns-in_default : goal.returns-in_default
-returns-in_default c = sym (elim c.in-Err.ensures.err [ inl memory ↦ absurd (c.in_default.not-OutOfMemory memory) | inr is ↦ undecoded_in c.args.field.now c.in-Err.fault is ])
+pub returns-else-lower : goal.returns-else-lower
+returns-else-lower c =
+    let l = c.loop-left in
+    let whole = pairs_end c.args.field.now l.bytes.items l.left.now l.lower c.in_default.len_below l.invariant.even l.invariant.so_far l.invariant.digits in
+    sym (not_lower_in c.args.field.now (sym whole.1 ∙ c.if-lower.false))

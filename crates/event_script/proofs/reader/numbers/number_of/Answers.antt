@@ -2,7 +2,8 @@ use Rattle.std.proofs.Common.{◌≡◌, ℕ, ◌<◌, List, length, get_or, sub
 use Rattle.std.specs.Str.Parse.{digits_value}
 use Rattle.std.specs.List.{AllByRecursion}
 use Rattle.std.proofs.lemmas.Bool.{eqb-true, eqb-false, cases_eq}
-use Rattle.event_script.proofs.Numbers.{IsGlyph, all_at, number_none, number_found, digits_more, digits_fit, glyph_not}
+use Rattle.event_script.proofs.Numbers.{IsGlyph, all_at, number_none, number_found, digits_more, digits_fit}
+use Rattle.event_script.proofs.LowerDigits.{glyph_below, glyph_of}
 use Rattle.event_script.proofs.reader.numbers.number_of.Goals as goal
 use Rattle.event_script.proofs.reader.numbers.number_of.Goals.{then-is_empty-via-then-is_empty, then-is_empty-via-else-is_empty+then-field-most, else-field-gt1-via-then-field-gt1+else-field-eq48, else-field-gt1-via-else-field-gt1}
 
@@ -17,26 +18,22 @@ pub returns-then-field-eq48 : goal.returns-then-field-eq48
 returns-then-field-eq48 c = sym (number_none c.args.base c.args.most c.args.field.now (omega arith) (omega arith) (omega arith) (omega arith)
     (λ number. omega (arith, number.lead c.if-field-eq48.true)))
 
-pub returns-in_err-digit : goal.returns-in_err-digit
-returns-in_err-digit c = let h = c.in_err-digit.ensures in c.from_residual.ensures ∙ sym (number_none c.args.base c.args.most c.args.field.now (omega arith) (omega arith) (omega arith) (omega arith)
-    (λ number. let g = all_at (IsGlyph c.args.base) c.args.field.now c.loop-byte.byte-index number.each c.loop-byte-test.true in h g.0 (omega (arith, g.1)) g.2))
-
 pub returns-then-digit-base : goal.returns-then-digit-base
-returns-then-digit-base c = let h = c.in_ok-digit.ensures in sym (number_none c.args.base c.args.most c.args.field.now (omega arith) (omega arith) (omega arith) (omega arith)
+returns-then-digit-base c = sym (number_none c.args.base c.args.most c.args.field.now (omega arith) (omega arith) (omega arith) (omega arith)
     (λ number. let g = all_at (IsGlyph c.args.base) c.args.field.now c.loop-byte.byte-index number.each c.loop-byte-test.true in
-    glyph_not c.args.base c.in_ok-digit.digit _ (omega arith) h.0 c.if-digit-base.true h.1 g))
+    omega (arith, glyph_below c.args.base _ (omega arith) g, c.digit_of-digit.ensures, c.if-digit-base.true)))
 
 pub overflow_mul-number : goal.overflow_mul-number
-overflow_mul-number c = let h = c.in_ok-digit.ensures in let i = c.loop-byte.invariant in
-    omega (arith, digits_fit c.args.base c.args.most c.loop-byte.number c.in_ok-digit.digit c.loop-byte.byte-index c.args.field.now (omega arith) (omega arith) (omega arith) (omega arith) i.each i.value c.loop-byte-test.true (omega arith) h.1)
+overflow_mul-number c = let i = c.loop-byte.invariant in
+    omega (arith, digits_fit c.args.base c.args.most c.loop-byte.number c.digit_of-digit.result c.loop-byte.byte-index c.args.field.now (omega arith) (omega arith) (omega arith) (omega arith) i.each i.value c.loop-byte-test.true (omega arith) (glyph_of (get_or c.args.field.now c.loop-byte.byte-index 0) c.digit_of-digit.result (omega (arith, c.type_inv.field c.loop-byte.byte-index)) c.digit_of-digit.ensures (omega arith)))
 
 pub overflow_add-number : goal.overflow_add-number
-overflow_add-number c = let h = c.in_ok-digit.ensures in let i = c.loop-byte.invariant in
-    omega (arith, digits_fit c.args.base c.args.most c.loop-byte.number c.in_ok-digit.digit c.loop-byte.byte-index c.args.field.now (omega arith) (omega arith) (omega arith) (omega arith) i.each i.value c.loop-byte-test.true (omega arith) h.1)
+overflow_add-number c = let i = c.loop-byte.invariant in
+    omega (arith, digits_fit c.args.base c.args.most c.loop-byte.number c.digit_of-digit.result c.loop-byte.byte-index c.args.field.now (omega arith) (omega arith) (omega arith) (omega arith) i.each i.value c.loop-byte-test.true (omega arith) (glyph_of (get_or c.args.field.now c.loop-byte.byte-index 0) c.digit_of-digit.result (omega (arith, c.type_inv.field c.loop-byte.byte-index)) c.digit_of-digit.ensures (omega arith)))
 
 pub loop-byte-preserved : goal.loop-byte-preserved
-loop-byte-preserved c = let h = c.in_ok-digit.ensures in let i = c.loop-byte.invariant in
-    let more = digits_more c.args.base c.loop-byte.number c.in_ok-digit.digit c.loop-byte.byte-index c.args.field.now (omega arith) i.each i.value c.loop-byte-test.true (omega arith) h.1 in
+loop-byte-preserved c = let i = c.loop-byte.invariant in
+    let more = digits_more c.args.base c.loop-byte.number c.digit_of-digit.result c.loop-byte.byte-index c.args.field.now (omega arith) i.each i.value c.loop-byte-test.true (omega arith) (glyph_of (get_or c.args.field.now c.loop-byte.byte-index 0) c.digit_of-digit.result (omega (arith, c.type_inv.field c.loop-byte.byte-index)) c.digit_of-digit.ensures (omega arith)) in
     record { each = more.0; value = more.1 }
 
 pub returns : goal.returns
