@@ -1,8 +1,8 @@
 //! Lines of journals, refusals and summaries, as the worked cases have them.
 
 use event_script::{
-    Answer, EventNumber, Journal, Reason, print_answer, print_fault, print_journal, print_line,
-    print_updates,
+    Answer, EventNumber, Journal, Reason, print_answer, print_fault, print_journal, print_updates,
+    put_event_line,
 };
 use frame_parse::FrameFault;
 use reg_model::Inserted;
@@ -42,8 +42,9 @@ fn lines_of_a_journal(rt: HostRuntime) -> Result<(), Fail> {
         thread: 1,
         event: 2,
     };
-    let text = print_line(alloc, number, &unwound, 1)?;
-    assert!(rt; text.as_slice() == b"1.1.2 end nobytes 7000\n".as_slice());
+    let mut text = String::new(alloc);
+    put_event_line(&mut text, number, &unwound, 1)?;
+    assert!(rt; text.as_str() == "1.1.2 end nobytes 7000\n");
     let text = print_updates(alloc, 1)?;
     assert!(rt; text.as_slice() == b"updates 1\n".as_slice());
     let journal = Journal {

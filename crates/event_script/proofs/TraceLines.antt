@@ -1,11 +1,12 @@
 -- The lines of a backtrace, by their places.
-use Rattle.std.proofs.Common.{◌≡◌, ℕ, zero, suc, ◌+◌, ◌-◌, ◌<◌, ◌≤◌, List, [], ◌∷◌, ◌++◌, length, get_or, take, sym, ap, ap₂, ◌∙◌, append_assoc, append-nil, length-append, arith}
+use Rattle.std.proofs.Common.{◌≡◌, ℕ, zero, suc, ◌+◌, ◌-◌, ◌<◌, ◌≤◌, List, [], ◌∷◌, ◌++◌, length, get_or, take, sym, ap, ◌∙◌, append-nil, length-append, arith}
 use Rattle.std.specs.List.{flat_map}
 use Rattle.std.proofs.lemmas.Grind.{flat_map-append}
 use Rattle.std.proofs.lemmas.List.{take_more, get_or_append_left, get_or-append_right}
 use Rattle.unwind_step.specs.Backtrace.{TraceData}
 use Rattle.unwind_step.specs.declared.backtrace.FrameLine.{FrameLine}
 use Rattle.event_script.specs.Text.{frame_line, frame_lines, end_line, trace_lines}
+use Rattle.event_script.proofs.Texts.{appended}
 
 frame_count : (number : ℕ) (frames : List FrameLine) → length (frame_lines number frames) ≡ length frames
 frame_count number [] = omega arith
@@ -34,9 +35,9 @@ end_of_trace trace i past within =
     ∙ ap (λ (n : ℕ). get_or (end_line trace.end ∷ []) n []) last
 
 -- one more line of an event
-pub line_added : (text : List ℕ → List ℕ) (lines : List (List ℕ)) (i : ℕ) → i < length lines → (old mid piece new : List ℕ) → mid ≡ old ++ flat_map text (take i lines) → piece ≡ text (get_or lines i []) → new ≡ mid ++ piece → new ≡ old ++ flat_map text (take (i + 1) lines)
-line_added text lines i lt old mid piece new so_far is more =
+pub line_added : (text : List ℕ → List ℕ) (lines : List (List ℕ)) (i : ℕ) → i < length lines → (old mid new : List ℕ) → mid ≡ old ++ flat_map text (take i lines) → new ≡ mid ++ text (get_or lines i []) → new ≡ old ++ flat_map text (take (i + 1) lines)
+line_added text lines i lt old mid new so_far more =
     let line = get_or lines i [] in
     let grown : flat_map text (take (i + 1) lines) ≡ flat_map text (take i lines) ++ text line =
     ap (flat_map text) (take_more lines i [] lt) ∙ flat_map-append text (take i lines) (line ∷ []) ∙ ap (λ (x : List ℕ). flat_map text (take i lines) ++ x) (append-nil (text line)) in
-    more ∙ ap₂ (λ (x y : List ℕ). x ++ y) so_far is ∙ append_assoc old (flat_map text (take i lines)) (text line) ∙ ap (λ (x : List ℕ). old ++ x) (sym grown)
+    appended old mid new (flat_map text (take i lines)) (text line) so_far more ∙ ap (λ (x : List ℕ). old ++ x) (sym grown)

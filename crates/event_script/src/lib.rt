@@ -18,7 +18,7 @@ pub use journal::{Answer, Journal};
 pub use limits::MOST_LOADS;
 pub use print::fault::print_fault;
 pub use print::journal::{
-    EventNumber, line_count, print_answer, print_journal, print_line, print_updates,
+    EventNumber, line_count, print_answer, print_journal, print_updates, put_event_line,
 };
 pub use print::script::print_script;
 pub use reader::fault::Reason;

@@ -11,7 +11,7 @@ ghost use Rattle.run_engine.specs.Ports.{Rose, Gains, GainsPart};
 ghost use Rattle.run_engine.specs.Played.{IsPlayedThread, IsPlayed};
 
 use crate::ports::{Sink, SinkFault};
-use event_script::{Answer, EventNumber, Journal, line_count, print_line, print_updates};
+use event_script::{Answer, EventNumber, Journal, line_count, print_updates, put_event_line};
 use script_generator::{print_summary, summary};
 use std::alloc::Global;
 
@@ -35,9 +35,9 @@ pub fn write_piece<K: Sink>(sink: &mut K, piece: &[u8]) -> Result<(), SinkFault>
     Ok(())
 }
 
-/// Writes a line of an event.
+/// Writes a line of an event. The text is room for the line.
 fn write_line<K: Sink>(
-    alloc: Global,
+    text: &mut String,
     sink: &mut K,
     number: EventNumber,
     answer: &Answer,
@@ -58,15 +58,16 @@ fn write_line<K: Sink>(
     ensures failed { result ≡ Err SinkFault.Failed → Rose (K.faults sink.old) (K.faults sink.new) }
     ensures sound { result ≢ Err SinkFault.Failed → K.faults sink.new ≡ K.faults sink.old }
 {
-    match print_line(alloc, number, answer, line) {
-        Ok(text) => write_piece(sink, &text),
+    text.clear();
+    match put_event_line(text, number, answer, line) {
+        Ok(()) => write_piece(sink, text.as_bytes()),
         Err(_) => Err(SinkFault::NoMemory),
     }
 }
 
 /// Writes the lines of an event, a piece for each.
 fn write_answer<K: Sink>(
-    alloc: Global,
+    text: &mut String,
     sink: &mut K,
     number: EventNumber,
     answer: &Answer,
@@ -84,7 +85,7 @@ fn write_answer<K: Sink>(
     ensures sound { result ≢ Err SinkFault.Failed → K.faults sink.new ≡ K.faults sink.old }
 {
     for line in 0..line_count(answer) {
-        match write_line(alloc, sink, number, answer, line) {
+        match write_line(text, sink, number, answer, line) {
             Ok(()) => {}
             Err(fault) => return Err(fault),
         }
@@ -94,7 +95,7 @@ fn write_answer<K: Sink>(
 
 /// Writes the answers of a thread.
 fn write_thread<K: Sink>(
-    alloc: Global,
+    text: &mut String,
     sink: &mut K,
     round: usize,
     thread: usize,
@@ -118,7 +119,7 @@ fn write_thread<K: Sink>(
             thread,
             event: index + 1,
         };
-        match write_answer(alloc, sink, number, answer) {
+        match write_answer(text, sink, number, answer) {
             Ok(()) => {}
             Err(fault) => return Err(fault),
         }
@@ -128,7 +129,7 @@ fn write_thread<K: Sink>(
 
 /// Writes the answers of a round.
 fn write_round<K: Sink>(
-    alloc: Global,
+    text: &mut String,
     sink: &mut K,
     round: usize,
     threads: &[Vec<Answer>],
@@ -147,7 +148,7 @@ fn write_round<K: Sink>(
     ensures sound { result ≢ Err SinkFault.Failed → K.faults sink.new ≡ K.faults sink.old }
 {
     for (index, answers) in threads.iter().enumerate() {
-        match write_thread(alloc, sink, round, index + 1, answers) {
+        match write_thread(text, sink, round, index + 1, answers) {
             Ok(()) => {}
             Err(fault) => return Err(fault),
         }
@@ -157,7 +158,7 @@ fn write_round<K: Sink>(
 
 /// Writes the answers of all rounds.
 fn write_rounds<K: Sink>(
-    alloc: Global,
+    text: &mut String,
     sink: &mut K,
     rounds: &[Vec<Vec<Answer>>],
 ) -> Result<(), SinkFault>
@@ -180,7 +181,7 @@ fn write_rounds<K: Sink>(
     ensures sound { result ≢ Err SinkFault.Failed → K.faults sink.new ≡ K.faults sink.old }
 {
     for (index, threads) in rounds.iter().enumerate() {
-        match write_round(alloc, sink, index + 1, threads) {
+        match write_round(text, sink, index + 1, threads) {
             Ok(()) => {}
             Err(fault) => return Err(fault),
         }
@@ -203,7 +204,8 @@ pub fn write_journal<K: Sink>(
     ensures failed { result ≡ Err SinkFault.Failed → Rose (K.faults sink.old) (K.faults sink.new) }
     ensures sound { result ≢ Err SinkFault.Failed → K.faults sink.new ≡ K.faults sink.old }
 {
-    match write_rounds(alloc, sink, &journal.rounds) {
+    let mut text = String::new(alloc);
+    match write_rounds(&mut text, sink, &journal.rounds) {
         Ok(()) => {}
         Err(fault) => return Err(fault),
     }

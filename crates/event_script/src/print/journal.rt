@@ -7,7 +7,7 @@ ghost use Rattle.event_script.specs.Digits.{hex};
 ghost use Rattle.event_script.specs.Text.{IsPrintable, overlap_text, inserted_text, loading_text};
 ghost use Rattle.event_script.specs.Text.{removed_text, found_text, place_text, frame_line};
 ghost use Rattle.event_script.specs.Text.{end_line, trace_lines, answer_line, answer_lines};
-ghost use Rattle.event_script.specs.Text.{event_line};
+ghost use Rattle.event_script.specs.Text.{event_line, event_number};
 ghost use Rattle.event_script.specs.Text.{answer_text, numbered, thread_text, updates_text};
 ghost use Rattle.event_script.specs.Text.{journal_text};
 
@@ -41,9 +41,9 @@ pub fn print_answer(
         thread: thread as usize,
         event: event as usize,
     };
-    let mut text = Vec::new(alloc);
-    add_answer(alloc, &mut text, number, answer)?;
-    Ok(text)
+    let mut text = String::new(alloc);
+    put_event(&mut text, number, answer)?;
+    Ok(text.into_bytes())
 }
 
 /// How many lines an event has: one, and of a backtrace one more for each frame and for its end.
@@ -56,29 +56,36 @@ pub fn line_count(answer: &Answer) -> usize
     }
 }
 
-/// A line of an event, which are counted from 0, after the event's number.
-pub fn print_line(
-    alloc: Global,
+/// Adds a line of an event, which are counted from 0, after the event's number.
+pub fn put_event_line(
+    text: &mut String,
     number: EventNumber,
     answer: &Answer,
     line: usize,
-) -> Result<Vec<u8>, NoMemory>
+) -> Result<(), NoMemory>
     requires printable { IsPrintable answer.now }
     requires line { line < length (answer_lines answer.now) }
-    ensures text { IfOk result
-        (λ text. text.items ≡ event_line number.round number.thread number.event
+    ensures text { OnOk result (string_bytes text.new ≡ string_bytes text.old
+        ++ event_line number.round number.thread number.event
         (slice_index_or (answer_lines answer.now) line [])) }
+{
+    put_number(text, number)?;
+    put_line(text, answer, line)?;
+    text.push_str("\n")?;
+    Ok(())
+}
+
+/// Adds an event's number, and a space.
+fn put_number(text: &mut String, number: EventNumber) -> Result<(), AllocError>
+    ensures { OnOk result (string_bytes text.new ≡ string_bytes text.old
+        ++ (event_number number.round number.thread number.event ++ codes " ")) }
 {
     let EventNumber {
         round,
         thread,
         event,
     } = number;
-    let mut text = String::new(alloc);
-    write!(text, "{round}.{thread}.{event} ")?;
-    put_line(&mut text, answer, line)?;
-    text.push_str("\n")?;
-    Ok(text.into_bytes())
+    write!(text, "{round}.{thread}.{event} ")
 }
 
 /// Adds what a line of an event says after its number.
@@ -268,8 +275,17 @@ fn put_found(text: &mut String, found: &Found) -> Result<(), AllocError>
 pub fn print_updates(alloc: Global, updates: u32) -> Result<Vec<u8>, NoMemory>
     ensures text { IfOk result (λ text. text.items ≡ updates_text updates) }
 {
-    let line = format!(in alloc; "updates {updates}\n")?;
-    Ok(line.into_bytes())
+    let mut text = String::new(alloc);
+    put_updates(&mut text, updates)?;
+    Ok(text.into_bytes())
+}
+
+/// Adds the last line of a journal.
+fn put_updates(text: &mut String, updates: u32) -> Result<(), AllocError>
+    ensures { OnOk result (string_bytes text.new
+        ≡ string_bytes text.old ++ updates_text updates) }
+{
+    write!(text, "updates {updates}\n")
 }
 
 /// The whole text of a journal.
@@ -277,42 +293,34 @@ pub fn print_journal(alloc: Global, journal: &Journal) -> Result<Vec<u8>, NoMemo
     requires { All (All (All IsPrintable)) journal.now.rounds }
     ensures text { IfOk result (λ text. text.items ≡ journal_text journal.now) }
 {
-    let mut text = Vec::new(alloc);
-    add_rounds(alloc, &mut text, &journal.rounds)?;
-    let last = print_updates(alloc, journal.updates)?;
-    text.extend_from_slice(&last)?;
-    Ok(text)
+    let mut text = String::new(alloc);
+    put_rounds(&mut text, &journal.rounds)?;
+    put_updates(&mut text, journal.updates)?;
+    Ok(text.into_bytes())
 }
 
 /// Adds the lines of one event.
-fn add_answer(
-    alloc: Global,
-    text: &mut Vec<u8>,
-    number: EventNumber,
-    answer: &Answer,
-) -> Result<(), NoMemory>
+fn put_event(text: &mut String, number: EventNumber, answer: &Answer) -> Result<(), NoMemory>
     requires { IsPrintable answer.now }
-    ensures { OnOk result (text.new.items
-        ≡ text.old.items ++ answer_text number.round number.thread number.event answer.now) }
+    ensures { OnOk result (string_bytes text.new ≡ string_bytes text.old
+        ++ answer_text number.round number.thread number.event answer.now) }
 {
     for line in 0..line_count(answer) {
-        let piece = print_line(alloc, number, answer, line)?;
-        text.extend_from_slice(&piece)?;
+        put_event_line(text, number, answer, line)?;
     }
     Ok(())
 }
 
 /// Adds the answers of a thread.
-fn add_thread(
-    alloc: Global,
-    text: &mut Vec<u8>,
+fn put_thread(
+    text: &mut String,
     round: usize,
     thread: usize,
     answers: &[Answer],
 ) -> Result<(), NoMemory>
     requires { All IsPrintable answers.now }
-    ensures { OnOk result (text.new.items
-        ≡ text.old.items ++ thread_text round thread answers.now) }
+    ensures { OnOk result (string_bytes text.new
+        ≡ string_bytes text.old ++ thread_text round thread answers.now) }
 {
     for (index, answer) in answers.iter().enumerate() {
         let number = EventNumber {
@@ -320,43 +328,34 @@ fn add_thread(
             thread,
             event: index + 1,
         };
-        add_answer(alloc, text, number, answer)?;
+        put_event(text, number, answer)?;
     }
     Ok(())
 }
 
 /// Adds the answers of a round.
-fn add_round(
-    alloc: Global,
-    text: &mut Vec<u8>,
-    round: usize,
-    threads: &[Vec<Answer>],
-) -> Result<(), NoMemory>
+fn put_round(text: &mut String, round: usize, threads: &[Vec<Answer>]) -> Result<(), NoMemory>
     requires { All (λ answers. All IsPrintable answers.items) threads.now }
-    ensures { OnOk result (text.new.items ≡ text.old.items ++ numbered
+    ensures { OnOk result (string_bytes text.new ≡ string_bytes text.old ++ numbered
         (λ thread answers. thread_text round thread answers.items) 1 threads.now) }
 {
     for (index, answers) in threads.iter().enumerate() {
-        add_thread(alloc, text, round, index + 1, answers)?;
+        put_thread(text, round, index + 1, answers)?;
     }
     Ok(())
 }
 
 /// Adds the answers of all rounds.
-fn add_rounds(
-    alloc: Global,
-    text: &mut Vec<u8>,
-    rounds: &[Vec<Vec<Answer>>],
-) -> Result<(), NoMemory>
+fn put_rounds(text: &mut String, rounds: &[Vec<Vec<Answer>>]) -> Result<(), NoMemory>
     requires { All (λ threads. All
         (λ answers. All IsPrintable answers.items) threads.items) rounds.now }
-    ensures { OnOk result (text.new.items ≡ text.old.items ++ numbered
+    ensures { OnOk result (string_bytes text.new ≡ string_bytes text.old ++ numbered
         (λ round threads. numbered
         (λ thread answers. thread_text round thread answers.items) 1 threads.items) 1
         rounds.now) }
 {
     for (index, threads) in rounds.iter().enumerate() {
-        add_round(alloc, text, index + 1, threads)?;
+        put_round(text, index + 1, threads)?;
     }
     Ok(())
 }
