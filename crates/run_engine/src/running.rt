@@ -175,6 +175,7 @@ fn run_source<R: Threads + Wait + Sync, S: Source, K: Sink, G: Gate + Sync>(
         Err(ScriptFault::Bad { line, reason }) => return refuse(alloc, sink, line, reason),
         Err(ScriptFault::NoMemory) => return Status::NoMemory,
     };
+    drop(bytes);
     let journal = match play_script(rt, alloc, gate, &script) {
         Ok(journal) => journal,
         Err(_) => return Status::NoMemory,

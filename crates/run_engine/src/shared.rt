@@ -67,6 +67,15 @@ impl Finder for SharedFinder<'_> {
     }
 }
 
+/// The trace, kept in room for the lines that it has: `trace` takes room for as many as there may
+/// be.
+fn fitted(mut trace: Trace) -> Trace
+    ensures { result ≡ trace }
+{
+    trace.frames.shrink_to_fit();
+    trace
+}
+
 /// One caller of a registry that threads share, which plays the events of its thread.
 #[derive(Drop)]
 pub struct SharedPlayer<'a> {
@@ -182,7 +191,7 @@ impl<'a> SharedPlayer<'a> {
                 Answer::Find { pc, place }
             }
             Event::Unwind { snapshot } => {
-                let trace = self.unwind(rt, alloc, setting, snapshot)?;
+                let trace = fitted(self.unwind(rt, alloc, setting, snapshot)?);
                 Answer::Unwind { snapshot, trace }
             }
         })

@@ -57,7 +57,7 @@ fn play_thread<R: Wait, G: Gate>(
     ensures played { IfOk result (λ answers. IsPlayedThread answers.items) }
 {
     let ThreadNumber { round, thread } = number;
-    let mut answers = Vec::new(alloc);
+    let mut answers = Vec::with_capacity(alloc, events.len())?;
     for (index, event) in events.iter().enumerate() {
         let count = index as u32 + 1;
         gate.pass(rt, round, thread, count, None);
