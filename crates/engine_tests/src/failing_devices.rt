@@ -3,7 +3,9 @@
 ghost use Rattle.std.specs.Prelude.{◌-◌, ◌^◌, None};
 
 use crate::playing::{ONE_RANGE, ONE_RANGE_JOURNAL, words_of};
-use run_engine::{MemorySink, MemorySource, NoGate, Sink, SinkFault, Status, SureSource, run};
+use run_engine::{
+    BufferedSink, MemorySink, MemorySource, NoGate, Sink, SinkFault, Status, SureSource, run,
+};
 use std::alloc::Global;
 use std::test::Fail;
 
@@ -125,6 +127,31 @@ fn failed_writes_leave_the_lines_before(rt: HostRuntime) -> Result<(), Fail> {
         let lines = ONE_RANGE_JOURNAL.as_bytes();
         let front = if write == 4 { &lines[..112] } else { lines };
         assert!(rt; sink.bytes() == front, "with write {write} failing");
+    }
+    Ok(())
+}
+
+#[test]
+fn a_failed_flush_is_a_failed_write(rt: HostRuntime) -> Result<(), Fail> {
+    let alloc = rt.alloc();
+    let words = words_of(alloc, "run")?;
+    for (fault, wanted) in [
+        (SinkFault::Failed, Status::WriteFault),
+        (SinkFault::NoMemory, Status::NoMemory),
+    ] {
+        let counting = CountingSink {
+            bytes: Vec::new(alloc),
+            calls: 0,
+            failing: 1,
+            fault,
+        };
+        let mut sink = BufferedSink::new(alloc, counting);
+        let mut source = SureSource::new(ONE_RANGE.as_bytes().to_vec(alloc)?);
+        let status = run(&rt, alloc, &words, &mut source, &mut sink, &NoGate);
+        assert!(rt; status == Status::Done);
+        assert!(rt; sink.finish(status) == wanted);
+        assert!(rt; sink.finish(Status::WriteFault) == Status::WriteFault);
+        assert!(rt; sink.sink().calls == 1);
     }
     Ok(())
 }

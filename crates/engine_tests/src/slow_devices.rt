@@ -4,7 +4,7 @@
 ghost use Rattle.std.specs.Prelude.{None};
 
 use crate::playing::{ONE_RANGE, ONE_RANGE_JOURNAL, run_text, words_of};
-use run_engine::{Failed, NoGate, Sink, SinkFault, Source, Status, run};
+use run_engine::{BufferedSink, Failed, NoGate, Sink, SinkFault, Source, Status, run};
 use std::test::Fail;
 
 #[test]
@@ -78,5 +78,24 @@ fn one_byte_at_a_time(rt: HostRuntime) -> Result<(), Fail> {
     let status = run(&rt, alloc, &words, &mut source, &mut sink, &NoGate);
     assert!(rt; status == Status::Done);
     assert!(rt; sink.bytes.as_slice() == ONE_RANGE_JOURNAL.as_bytes());
+    Ok(())
+}
+
+#[test]
+fn held_bytes_are_handed_on_at_the_end(rt: HostRuntime) -> Result<(), Fail> {
+    let alloc = rt.alloc();
+    let slow = SlowSink {
+        bytes: Vec::new(alloc),
+    };
+    let mut sink = BufferedSink::new(alloc, slow);
+    let mut wanted = Vec::new(alloc);
+    for _ in 0..2_000 {
+        assert!(rt; sink.write(b"one line\n") == Ok(9));
+        wanted.extend_from_slice(b"one line\n")?;
+    }
+    let early = sink.sink().bytes.len();
+    assert!(rt; 0 < early && early < wanted.len());
+    assert!(rt; sink.finish(Status::Done) == Status::Done);
+    assert!(rt; sink.sink().bytes.as_slice() == wanted.as_slice());
     Ok(())
 }

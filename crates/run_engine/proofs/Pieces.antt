@@ -1,7 +1,7 @@
 -- What is handed out and gained, one piece after another, and counts that rise.
-use Rattle.std.proofs.Common.{◌≡◌, ℕ, ◌<◌, ◌≤◌, List, [], ◌++◌, Option, Some, None, IfSome, length, length-append, subst, append_assoc, refl, sym, ◌∙◌, ap, inl, inr, arith}
+use Rattle.std.proofs.Common.{◌≡◌, ℕ, ◌<◌, ◌≤◌, List, [], ◌++◌, Option, Some, None, IfSome, length, take, take_all, length-append, subst, append_assoc, refl, sym, ◌∙◌, ap, inl, inr, arith}
 use Rattle.std.proofs.lemmas.List.{append-nil}
-use Rattle.run_engine.specs.Ports.{Rose, Hands, Gains, GainsPart}
+use Rattle.run_engine.specs.Ports.{Rose, Hands, Gains, GainsPart, with_bytes}
 
 pub Hands-none : (old : Option (List ℕ)) → Hands old old []
 Hands-none None = tt
@@ -14,11 +14,11 @@ Hands-more (Some had) (Some mid) None xs ys first second = absurd second
 Hands-more (Some had) (Some mid) (Some left) xs ys first second = first ∙ ap (λ rest. xs ++ rest) second ∙ sym (append_assoc xs ys left)
 
 pub Gains-none : (old : Option (List ℕ)) → Gains old old []
-Gains-none None = tt
+Gains-none None = refl
 Gains-none (Some held) = ap Some (sym (append-nil held))
 
 pub Gains-more : (a b c : Option (List ℕ)) (xs ys : List ℕ) → Gains a b xs → Gains b c ys → Gains a c (xs ++ ys)
-Gains-more None b c xs ys first second = tt
+Gains-more None b c xs ys first second = rw first at second
 Gains-more (Some held) b c xs ys first second = (let second' = rw first at second in second' ∙ ap Some (append_assoc held xs ys))
 
 -- a part of what comes next
@@ -57,3 +57,23 @@ Hands-longer n (Some had) (Some left) xs hands long = rw (hands, length-append) 
 pub IfSome-same : (o : Option (List ℕ)) (xs : List ℕ) (P : List ℕ → Type 0) → IfSome o (λ had. had ≡ xs) → P xs → IfSome o P
 IfSome-same None xs P same holds = tt
 IfSome-same (Some had) xs P same holds = subst P (sym same) holds
+
+-- a sink that gained the front has as much as before with the rest behind it
+pub with_bytes-moved : (old new : Option (List ℕ)) (front rest : List ℕ) → Gains old new front → with_bytes new rest ≡ with_bytes old (front ++ rest)
+with_bytes-moved None new front rest gains = rw gains refl
+with_bytes-moved (Some held) new front rest gains = rw gains (ap Some (append_assoc held front rest))
+
+pub with_bytes-none : (held : Option (List ℕ)) → with_bytes held [] ≡ held
+with_bytes-none None = refl
+with_bytes-none (Some bytes) = ap Some (append-nil bytes)
+
+-- more bytes behind it
+pub with_bytes-gains : (held : Option (List ℕ)) (xs ys : List ℕ) → Gains (with_bytes held xs) (with_bytes held (xs ++ ys)) ys
+with_bytes-gains None xs ys = refl
+with_bytes-gains (Some bytes) xs ys = ap Some (sym (append_assoc bytes xs ys))
+
+-- a piece more is held
+pub held_gains : (old mid : Option (List ℕ)) (xs ys piece : List ℕ) → with_bytes mid xs ≡ old → ys ≡ xs ++ piece → Gains old (with_bytes mid ys) (take (length piece) piece)
+held_gains old mid xs ys piece kept held =
+    subst (λ (had : Option (List ℕ)). Gains had (with_bytes mid ys) (take (length piece) piece)) kept
+    (rw (held, take_all (length piece) piece (omega arith)) (with_bytes-gains mid xs piece))

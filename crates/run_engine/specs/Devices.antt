@@ -18,3 +18,8 @@ pub record MemorySinkData : Type 0 where
   pub fails : List ℕ
   pub calls : ℕ
   pub faults : ℕ
+
+-- a sink, and the bytes that are held for it
+pub record BufferedSinkData (K : Type 0) : Type 0 where
+  pub sink : K
+  pub held : List ℕ

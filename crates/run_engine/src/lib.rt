@@ -7,6 +7,7 @@
 //! Sources and sinks are traits, so that the promise speaks of bytes and holds for every device.
 #![tactic(auto)]
 
+mod buffered;
 mod gate;
 mod memory;
 mod ports;
@@ -20,6 +21,7 @@ mod status;
 mod threads;
 mod writing;
 
+pub use buffered::BufferedSink;
 pub use gate::{Gate, NoGate};
 pub use memory::{MemorySink, MemorySource, SureSink, SureSource};
 pub use ports::{Failed, Sink, SinkFault, Source};

@@ -4,7 +4,7 @@
 
 mod standard;
 
-use run_engine::{NoGate, Status, run};
+use run_engine::{BufferedSink, NoGate, Status, run};
 use standard::{StandardInput, StandardOutput};
 use std::env;
 use std::io::ErrorKind;
@@ -27,7 +27,7 @@ fn main(rt: HostRuntime) -> ExitCode {
         Err(_) => {}
     }
     let mut source = StandardInput::new(&rt, rt.reader());
-    let mut sink = StandardOutput::new(&rt);
+    let mut sink = BufferedSink::new(rt.alloc(), StandardOutput::new(&rt));
     let status = run(&rt, rt.alloc(), &words, &mut source, &mut sink, &NoGate);
-    ExitCode::from(status.code())
+    ExitCode::from(sink.finish(status).code())
 }
