@@ -27,6 +27,8 @@ mod playing;
 #[cfg(test)]
 mod printing;
 #[cfg(test)]
+mod raising;
+#[cfg(test)]
 mod scripts;
 #[cfg(test)]
 mod shared_finder;
