@@ -15,7 +15,7 @@ use Rattle.word_rule.specs.declared.log.Holding.{Holding}
 use Rattle.word_rule.specs.declared.log.Log.{Log}
 use Rattle.node_store.specs.declared.entries.EntryWords.{EntryWords}
 use Rattle.node_store.specs.declared.writing.Store.{Store}
-use Rattle.node_store.specs.Entries.{AreOfEntry, HasEntryWords, entry_words_in, leaf_with, leaf_without, member_of_words, store_over, stores_over, with_entries, with_entry_at, without_entry_at, words_of_entry}
+use Rattle.node_store.specs.Entries.{AreOfEntry, HasEntryWords, entry_words_in, leaf_with, leaf_without, member_of_words, store_over, stores_over, with_entry_at, without_entry_at, words_of_entry}
 use Rattle.node_store.specs.Holding.{MakesStores, after_node_stores}
 use Rattle.node_store.specs.Outlines.{OnlyLoads}
 use Rattle.node_store.specs.Writing.{after_stores, place_in_turn, stores, stores_upto, wanted_node_word}
