@@ -8,7 +8,7 @@ use Rattle.frame_parse.specs.Instructions.{PlacedInstruction}
 use Rattle.frame_rows.specs.declared.placed_row.PlacedRow.{PlacedRow}
 use Rattle.frame_rows.specs.Rows.{applied, unset}
 use Rattle.row_table.specs.declared.transitions.Transition.{Transition}
-use Rattle.row_table.specs.Courses.{CourseData, Standing, state_in, standing, AreStates, AreNumbered, IsCourse}
+use Rattle.row_table.specs.Courses.{CourseData, Standing, state_in, standing, AreStates, HaveRowNumbers, IsCourse}
 use Rattle.row_table.specs.Tables.{IsNumbered}
 use Rattle.row_table.specs.Transitions.{IsNumberOf, IsLonger, IsTransition}
 
@@ -96,15 +96,15 @@ last_of_none [] (suc k) = refl
 last_of_none (x ∷ others) zero = refl
 last_of_none (x ∷ others) (suc k) = last_of_none others k
 
-pub none_more : (distinct states : List PlacedRow) (numbers : List (Option ℕ)) → AreNumbered distinct states numbers → AreNumbered distinct states (numbers ++ None ∷ [])
+pub none_more : (distinct states : List PlacedRow) (numbers : List (Option ℕ)) → HaveRowNumbers distinct states numbers → HaveRowNumbers distinct states (numbers ++ None ∷ [])
 none_more distinct states numbers are = λ state number known. are state number (sym (last_of_none numbers state) ∙ known)
 
-pub more_distinct : (old new states : List PlacedRow) (numbers : List (Option ℕ)) (row : PlacedRow) (number : ℕ) → IsNumbered old row number new → AreNumbered old states numbers → AreNumbered new states numbers
+pub more_distinct : (old new states : List PlacedRow) (numbers : List (Option ℕ)) (row : PlacedRow) (number : ℕ) → IsNumbered old row number new → HaveRowNumbers old states numbers → HaveRowNumbers new states numbers
 more_distinct old new states numbers row number is are = λ state n known.
     let was = are state n known in
     (was.0, subst (λ (rows : List PlacedRow). IsNumberOf rows n (state_in states state)) (sym is.are) (number_stays old is.more n (state_in states state) was.1))
 
-pub one_noted : (distinct states : List PlacedRow) (numbers : List (Option ℕ)) (state number : ℕ) → AreNumbered distinct states numbers → state < length numbers → state < length states → IsNumberOf distinct number (state_in states state) → AreNumbered distinct states (set numbers state (Some number))
+pub one_noted : (distinct states : List PlacedRow) (numbers : List (Option ℕ)) (state number : ℕ) → HaveRowNumbers distinct states numbers → state < length numbers → state < length states → IsNumberOf distinct number (state_in states state) → HaveRowNumbers distinct states (set numbers state (Some number))
 one_noted distinct states numbers state number are room there is = λ k n known.
     let other : k ≢ state → (k < length states) × IsNumberOf distinct n (state_in states k) = λ apart. are k n (sym (get_or-set_other numbers state k (Some number) None apart) ∙ known) in
     elim (cases_lt k state) [

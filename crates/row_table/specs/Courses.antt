@@ -38,8 +38,8 @@ pub record AreStates (c : CourseData) : Type 0 where
   pub kept : All (λ number. number < length c.states) c.kept
 
 -- a state's row has the number that is told of it
-abbrev pub AreNumbered : List PlacedRow → List PlacedRow → List (Option ℕ) → Type 0
-AreNumbered distinct states numbers = (state number : ℕ)
+abbrev pub HaveRowNumbers : List PlacedRow → List PlacedRow → List (Option ℕ) → Type 0
+HaveRowNumbers distinct states numbers = (state number : ℕ)
     → get_or numbers state None ≡ Some number
     → (state < length states) × IsNumberOf distinct number (state_in states state)
 
@@ -48,4 +48,4 @@ pub record IsCourse (c : CourseData) (numbers : List (Option ℕ)) (met : List T
     : Type 0 where
   pub states : AreStates c
   pub transitions : All (IsTransition c.states) met
-  pub numbered : AreNumbered c.distinct c.states numbers
+  pub numbered : HaveRowNumbers c.distinct c.states numbers

@@ -4,7 +4,7 @@ ghost use Rattle.std.specs.Prelude.{◌≡◌, ◌⊎◌, ◌<◌, ◌≤◌, �
 ghost use Rattle.std.specs.Prelude.{All, length, map};
 ghost use Rattle.frame_rows.specs.declared.placed_row.PlacedRow.{PlacedRow};
 ghost use Rattle.frame_rows.specs.Rows.{applied};
-ghost use Rattle.row_table.specs.Courses.{AreNumbered, standing, state_in};
+ghost use Rattle.row_table.specs.Courses.{HaveRowNumbers, standing, state_in};
 ghost use Rattle.row_table.specs.Tables.{IsNumbered, IsOneTooMany};
 ghost use Rattle.row_table.specs.Transitions.{IsLonger, IsNumberOf};
 
@@ -85,9 +85,9 @@ fn copy_kept(
 
 /// Notes the number of a state's row.
 fn note(numbers: &mut Vec<Option<u16>>, state: u16, number: u16) -> Result<(), AllocError>
-    ensures { (distinct states : List PlacedRow) → AreNumbered distinct states numbers.old.items
+    ensures { (distinct states : List PlacedRow) → HaveRowNumbers distinct states numbers.old.items
         → state < length states → IsNumberOf distinct number (state_in states state)
-        → AreNumbered distinct states numbers.new.items }
+        → HaveRowNumbers distinct states numbers.new.items }
 {
     let index = state as usize;
     'unknown: while numbers.len() <= index {

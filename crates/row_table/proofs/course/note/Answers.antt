@@ -1,15 +1,15 @@
 use Rattle.std.proofs.Common.{ℕ, List, Option, sym, subst, arith}
-use Rattle.row_table.specs.Courses.{AreNumbered}
+use Rattle.row_table.specs.Courses.{HaveRowNumbers}
 use Rattle.row_table.proofs.CourseLaws.{none_more, one_noted}
 use Rattle.row_table.proofs.course.note.Goals as goal
 
 pub unknown-preserved : goal.unknown-preserved
 unknown-preserved c = λ distinct states are.
-    subst (λ (l : List (Option ℕ)). AreNumbered distinct states l) (sym c.in_ok-push.ensures.items) (none_more distinct states c.unknown.numbers.items (c.unknown.invariant distinct states are))
+    subst (λ (l : List (Option ℕ)). HaveRowNumbers distinct states l) (sym c.in_ok-push.ensures.items) (none_more distinct states c.unknown.numbers.items (c.unknown.invariant distinct states are))
 
 pub returns-in_err-push : goal.returns-in_err-push
 returns-in_err-push c = λ distinct states are there is.
-    subst (λ (l : List (Option ℕ)). AreNumbered distinct states l) (sym c.in_err-push.ensures.items) (c.unknown.invariant distinct states are)
+    subst (λ (l : List (Option ℕ)). HaveRowNumbers distinct states l) (sym c.in_err-push.ensures.items) (c.unknown.invariant distinct states are)
 
 pub returns : goal.returns
 returns c = λ distinct states are there is.
