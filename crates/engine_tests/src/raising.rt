@@ -1,7 +1,7 @@
 //! Raises over recorded stacks, and with a finder that answers otherwise the second time.
 
-ghost use Rattle.std.specs.Prelude.{Unit};
 ghost use Rattle.reg_model.specs.Receipt.{IsPlace};
+ghost use Rattle.unwind_step.specs.Backtrace.{IsBelow};
 
 use event_script::read;
 use raise_phases::{RaiseEnd, raise};
@@ -40,33 +40,44 @@ impl Finder for Forgetful {
 
     fn find<R: Wait>(&mut self, _rt: &R, pc: u64) -> Place {
         if self.left == 0 {
-            return loaded(Found::Miss { stamp: 0 });
+            return nothing();
         }
         self.left -= 1;
-        loaded(image_at(pc))
+        image_at(pc)
     }
 }
 
-fn image_at(pc: u64) -> Found {
+/// Both halves miss.
+fn nothing() -> Place
+    ensures halves { IsPlace result }
+    ensures below { IsBelow 3 result }
+{
+    Place {
+        registered: Found::Miss { stamp: 0 },
+        loaded: Some(Found::Miss { stamp: 0 }),
+    }
+}
+
+/// The registered half misses, and the loader's half finds image 2 or 1.
+fn image_at(pc: u64) -> Place
+    ensures halves { IsPlace result }
+    ensures below { IsBelow 3 result }
+{
     let (base, size, payload) = if pc < 0x50000 {
         (0x8000, 0x40, 1)
     } else {
         (0x50000, 0x10, 2)
     };
     match Span::new(base, size) {
-        Some(span) => Found::Hit {
-            member: Member { span, payload },
-            stamp: 0,
-        },
-        None => Found::Miss { stamp: 0 },
-    }
-}
-
-/// The registered half misses, and the loader's half answers so.
-fn loaded(found: Found) -> Place {
-    Place {
-        registered: Found::Miss { stamp: 0 },
-        loaded: Some(found),
+        Some(span) => {
+            let member = Member { span, payload };
+            let hit = Found::Hit { member, stamp: 0 };
+            Place {
+                registered: Found::Miss { stamp: 0 },
+                loaded: Some(hit),
+            }
+        }
+        None => nothing(),
     }
 }
 
@@ -117,8 +128,8 @@ fn a_raise_ends_where_the_second_answer_is_another(rt: HostRuntime) -> Result<()
     )?;
     let end = RaiseEnd::Changed {
         frame: 0,
-        first: loaded(image_at(0x50008)),
-        second: loaded(Found::Miss { stamp: 0 }),
+        first: image_at(0x50008),
+        second: nothing(),
     };
     assert!(rt; raised.end == end);
     let asked = raised.cleanup.first().ok_or("a frame")?;
