@@ -1,5 +1,5 @@
 -- A member is put into a held leaf in its place, after loads of the leaf's words.
-use Rattle.std.proofs.Common.{◌≡◌, ◌≢◌, ℕ, ◌<◌, ◌≤◌, ◌∙◌, List, ◌∷◌, length, sym, refl, ap, subst, arith, ◌⊎◌, inl, Some, IsSome, IsSomeAnd, IsTrue, Option}
+use Rattle.std.proofs.Common.{◌≡◌, ℕ, ◌∙◌, sym, ap, subst, arith, ◌⊎◌, inl, IsSome, IsSomeAnd, IsTrue}
 use Rattle.tree_shape.proofs.Slots.{with_entry-parts}
 use Rattle.tree_shape.specs.Changes.{with_entry}
 use Rattle.tree_shape.specs.NodeData.{NodeData, Entries, IsLeaf, entries_of, place_for}

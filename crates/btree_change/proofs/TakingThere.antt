@@ -1,12 +1,12 @@
 -- A member is cut out of a held leaf in its place, after loads of the leaf's words.
-use Rattle.std.proofs.Common.{◌≡◌, ℕ, zero, suc, ◌-◌, ◌<◌, ◌≤◌, ◌∙◌, Bool, List, [], ◌∷◌, length, get_or, sym, refl, ap, subst, arith, ◌⊎◌, inl, Option, Some, IsSome, IsSomeAnd, IsTrue}
+use Rattle.std.proofs.Common.{◌≡◌, ℕ, zero, suc, ◌-◌, ◌<◌, ◌∙◌, Bool, List, [], ◌∷◌, get_or, sym, ap, subst, arith, ◌⊎◌, inl, Some, IsSome, IsSomeAnd, IsTrue}
 use Rattle.std.proofs.lemmas.Option.{none-some, same_Some}
 use Rattle.std.specs.List.{slice_get}
 use Rattle.reg_model.specs.History.{without}
 use Rattle.reg_model.specs.State.{at_base}
 use Rattle.reg_model.specs.declared.span.Member.{Member}
 use Rattle.tree_shape.proofs.Orders.{leaf_order}
-use Rattle.tree_shape.proofs.Slots.{AtPlace, at_place}
+use Rattle.tree_shape.proofs.Slots.{at_place}
 use Rattle.tree_shape.specs.NodeData.{NodeData, Entries, InOrder, IsLeaf, entries_of, place_for}
 use Rattle.tree_shape.specs.Numbers.{is_among}
 use Rattle.word_rule.specs.CallerData.{CallerData}

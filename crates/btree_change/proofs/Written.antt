@@ -1,6 +1,5 @@
 -- Two neighbouring children and their parent are written, whichever of the two was locked first.
-use Rattle.std.proofs.Common.{◌≡◌, ◌≢◌, ℕ, List, [], ◌∷◌, ◌++◌, length, sym, refl, ap, ◌∙◌, arith, Bool, true, false, Option, Some, None, if◌then◌else◌, set, option_map, get_or-set_same, get_or-set_other, length-set}
-use Rattle.std.proofs.lemmas.Option.{none-some}
+use Rattle.std.proofs.Common.{◌≡◌, ◌≢◌, ℕ, List, [], ◌∷◌, ◌++◌, length, sym, refl, ap, ◌∙◌, arith, Bool, true, false, Some, None, if◌then◌else◌, set, option_map, get_or-set_same, get_or-set_other, length-set}
 use Rattle.word_rule.proofs.Spells.{reads}
 use Rattle.std.specs.List.{AllByRecursion}
 use Rattle.tree_shape.specs.NodeData.{NodeData, Link}

@@ -23,7 +23,6 @@ use Rattle.btree_change.specs.Paths.{StepsOnNodes}
 use Rattle.btree_change.specs.Loads.{KeepsLoads}
 use Rattle.btree_change.specs.Spines.{AreApart, AreRewritten, HoldsSpines, IsLeftToMove, IsLockAt, IsRewrittenAs, IsRightToMove, IsSpine, IsToMove, WritesSpines}
 use Rattle.btree_change.proofs.FreshSpines.{all_parts, apart_mid}
-use Rattle.btree_change.proofs.Loading.{keeps_none}
 use Rattle.btree_change.proofs.LockedSpines.{may_read_found, reads_spelled}
 use Rattle.btree_change.proofs.Storing.{IsRewritten, found_at, rewritten_so}
 

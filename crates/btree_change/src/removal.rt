@@ -19,8 +19,8 @@ use crate::descent::at_root;
 use crate::mending::{join, share, sink};
 use crate::sibling::{Siblings, is_leaf, is_small, leave, pair_count, take_child, take_sibling};
 use crate::taking::{not_found, take_in_leaf};
-use crate::way::{Way, content_of, let_go_of_way};
-use node_store::{Busy, Locking, Trying, Waiting};
+use crate::way::{Way, let_go_of_way};
+use node_store::{Busy, Locking, Trying, Waiting, begun_in};
 use reg_model::Removed;
 use std::sync::Wait;
 use tree_shape::{ENTRIES, PAIRS};
@@ -199,12 +199,12 @@ pub fn remove_by<L: Locking>(
     ensures terms { me.old.log.terms ≡ words.now.terms }
 {
     let mut way = leaf_on_way(locking, words, me, base)?;
-    let leaf = content_of(words, me, &way.at);
-    if let Some(answer) = not_found(words, me, &way, &leaf, base) {
+    let begun = begun_in(words, me, way.at.node, &way.at.content, base);
+    if let Some(answer) = not_found(words, me, &way, begun, base) {
         let_go_of_way(locking, words, me, &way);
         return Ok(answer);
     }
-    let (number, member) = take_in_leaf(words, me, &way, base);
+    let (number, member) = take_in_leaf(words, me, &way, begun, base);
     way.at.changed = true;
     let_go_of_way(locking, words, me, &way);
     Ok(Removed::Done { number, member })
