@@ -57,5 +57,6 @@ pub mod RemovalAnswers
 pub mod Releases
 pub mod Takings
 pub mod Absences
+pub mod Overlapping
 pub mod PuttingThere
 pub mod TakingThere

@@ -1,8 +1,8 @@
 //! The insertion of a member.
-ghost use Rattle.std.specs.Prelude.{◌≡◌, ◌<◌, ◌≤◌, true, IfOk, IfErr};
+ghost use Rattle.std.specs.Prelude.{◌≡◌, ◌<◌, ◌≤◌, true, IfOk, IfErr, length};
 ghost use Rattle.reg_model.specs.SpanData.{IsSpan};
 ghost use Rattle.reg_model.specs.State.{IsFree};
-ghost use Rattle.tree_shape.specs.NodeData.{entries_of};
+ghost use Rattle.tree_shape.specs.NodeData.{entries_of, place_for};
 ghost use Rattle.word_rule.specs.CallerData.{due, surplus};
 ghost use Rattle.word_rule.specs.Callers.{IsIdle};
 ghost use Rattle.word_rule.specs.Places.{CALL_CREDIT};
@@ -18,34 +18,37 @@ use crate::descent::{at_root, let_go_of};
 use crate::leaf::{full_here, put_in_held, refused};
 use crate::root::at_held_root;
 use crate::stand::{Outcome, Reply, Room, Stand, go_below, is_changed, place_of};
-use node_store::{Busy, Locking, Trying, Waiting, read_held};
+use node_store::{Busy, Locking, Placed, Trying, Waiting, begun_in};
 use reg_model::{Inserted, Member};
 use std::sync::Wait;
 use word_rule::{Caller, Words};
 
 /// Puts a member into its leaf, in which nothing overlaps it and whose fences hold its span, or
 /// says Full.
-fn in_place(words: &Words, me: &mut Caller, member: &Member, stand: &Stand) -> Outcome
+fn in_place(words: &Words, me: &mut Caller, placed: &Placed, stand: &Stand) -> Outcome
     requires table { me.old.table ≡ words.now.table }
     requires terms { me.old.log.terms ≡ words.now.terms }
-    requires stands { StandsOnWay words.now.terms member.now stand.now me.old.log }
+    requires stands { StandsOnWay words.now.terms placed.now.member stand.now me.old.log }
     requires level { stand.now.at.content.level ≡ 0 }
-    requires high { member.now.span.last ≤ stand.now.at.content.high }
-    requires free { IsFree member.now.span (entries_of stand.now.at.content) }
-    requires span { IsSpan member.now.span }
+    requires high { placed.now.member.span.last ≤ stand.now.at.content.high }
+    requires free { IsFree placed.now.member.span (entries_of stand.now.at.content) }
+    requires place { placed.now.place
+        ≡ place_for placed.now.member.span.first (entries_of stand.now.at.content) }
+    requires few { placed.now.place ≤ length (entries_of stand.now.at.content) }
+    requires span { IsSpan placed.now.member.span }
     requires due { 0 < due me.old }
-    requires payload { member.now.payload < words.now.terms.payloads }
-    ensures answer { AnswersHere words.now.terms member.now stand.now.at.node result me.old me.new }
+    requires payload { placed.now.member.payload < words.now.terms.payloads }
+    ensures answer { AnswersHere words.now.terms placed.now.member stand.now.at.node result me.old me.new }
     ensures full { IfFull result.answer
-        (HasCause stand.now.room member.now.span.first me.old me.new) }
+        (HasCause stand.now.room placed.now.member.span.first me.old me.new) }
 {
     match stand.room {
         Room::NoneFree => Outcome {
-            answer: full_here(words, me, &stand.at, member),
+            answer: full_here(words, me, &stand.at, &placed.member),
             changed: stand.at.changed,
         },
         Room::Splitting => {
-            let number = put_in_held(words, me, &stand.at, member);
+            let number = put_in_held(words, me, &stand.at, placed);
             Outcome {
                 answer: Inserted::Done { number },
                 changed: true,
@@ -59,22 +62,25 @@ fn in_free_leaf<L: Locking>(
     locking: &L,
     words: &Words,
     me: &mut Caller,
-    member: &Member,
+    placed: &Placed,
     stand: Stand,
 ) -> Result<Reply, Busy>
     requires table { me.old.table ≡ words.now.table }
     requires terms { me.old.log.terms ≡ words.now.terms }
-    requires stands { StandsOnWay words.now.terms member.now stand me.old.log }
+    requires stands { StandsOnWay words.now.terms placed.now.member stand me.old.log }
     requires level { stand.at.content.level ≡ 0 }
-    requires free { IsFree member.now.span (entries_of stand.at.content) }
-    requires span { IsSpan member.now.span }
+    requires free { IsFree placed.now.member.span (entries_of stand.at.content) }
+    requires place { placed.now.place
+        ≡ place_for placed.now.member.span.first (entries_of stand.at.content) }
+    requires few { placed.now.place ≤ length (entries_of stand.at.content) }
+    requires span { IsSpan placed.now.member.span }
     requires due { 0 < due me.old }
     requires surplus { releases_at 0 ≤ surplus me.old }
-    requires payload { member.now.payload < words.now.terms.payloads }
-    ensures answer { IfOk result (λ reply. AnswersBelow words.now.terms member.now reply
+    requires payload { placed.now.member.payload < words.now.terms.payloads }
+    ensures answer { IfOk result (λ reply. AnswersBelow words.now.terms placed.now.member reply
         (releases_at 0) me.old me.new) }
     ensures full { IfOk result (λ reply. IfFull reply.answer
-        (HasCause stand.room member.now.span.first me.old me.new)) }
+        (HasCause stand.room placed.now.member.span.first me.old me.new)) }
     ensures busy { IfErr result (λ e. GivesUpBelow (releases_at 0) me.old me.new
         × (L.gives_up ≡ true)) }
     ensures cause { IfErr result (λ e. FoundTaken e.lock me.old me.new) }
@@ -86,10 +92,10 @@ fn in_free_leaf<L: Locking>(
                 beyond,
                 room: stand.room,
             };
-            beyond_leaf(locking, words, me, member, far)
+            beyond_leaf(locking, words, me, &placed.member, far)
         }
         None => {
-            let outcome = in_place(words, me, member, &stand);
+            let outcome = in_place(words, me, placed, &stand);
             let_go_of(locking, words, me, stand.at.node, outcome.changed);
             Ok(Reply {
                 answer: outcome.answer,
@@ -123,13 +129,20 @@ fn in_leaf<L: Locking>(
         × (L.gives_up ≡ true)) }
     ensures cause { IfErr result (λ e. FoundTaken e.lock me.old me.new) }
 {
-    let content = read_held(words, me, stand.at.node);
-    match refused(words, me, stand.at.node, &content, member) {
+    let first = member.span.first();
+    let begun = begun_in(words, me, stand.at.node, &stand.at.content, first);
+    match refused(words, me, &stand.at, begun, member) {
         Some(answer) => {
             let_go_of(locking, words, me, stand.at.node, stand.at.changed);
             Ok(Reply { answer, moved: 0 })
         }
-        None => in_free_leaf(locking, words, me, member, stand),
+        None => {
+            let placed = Placed {
+                place: begun,
+                member: *member,
+            };
+            in_free_leaf(locking, words, me, &placed, stand)
+        }
     }
 }
 

@@ -1,8 +1,11 @@
 //! The answers of an insertion at its leaf, and the change of it.
-ghost use Rattle.std.specs.Prelude.{◌≡◌, ◌<◌, ◌≤◌, Bool, IfNone, IfSome, length};
-ghost use Rattle.reg_model.specs.SpanData.{IsSpan};
-ghost use Rattle.reg_model.specs.State.{IsFree};
-ghost use Rattle.tree_shape.specs.NodeData.{IsInFences, entries_of};
+ghost use Rattle.std.specs.Prelude.{◌≡◌, ◌<◌, ◌≤◌, Bool, IfNone, IfSome, Some, length, slice_get};
+ghost use Rattle.reg_model.specs.SpanData.{IsSpan, Overlaps};
+ghost use Rattle.reg_model.specs.State.{IsFree, IsLowestOverlap};
+ghost use Rattle.tree_shape.specs.NodeData.{InOrder, IsInFences, IsLeaf, entries_of, place_for};
+ghost use Rattle.reg_model.specs.declared.span.Member.{Member};
+ghost use Rattle.node_store.specs.Holding.{SpellsHeld};
+ghost use Rattle.node_store.specs.Outlines.{OnlyLoads};
 ghost use Rattle.word_rule.specs.CallerData.{due};
 ghost use Rattle.word_rule.specs.TreeRefusals.{HadNoRoom};
 ghost use Rattle.btree_change.specs.Insertion.{HoldsLeaf, IfFull, PutsMember, RefusesMember};
@@ -10,9 +13,9 @@ ghost use Rattle.btree_change.specs.Loads.{KeepsLoads};
 ghost use Rattle.btree_change.specs.Stands.{StandsAt};
 
 use crate::descent::Held;
-use node_store::{Placed, begun_in, put_in_place, write_held};
-use reg_model::{Inserted, Member, Update};
-use tree_shape::{ENTRIES, Node, first_overlap, laws, put_entry};
+use node_store::{Placed, entry_of, put_in_place, write_held};
+use reg_model::{Inserted, Member, Span, Update};
+use tree_shape::{ENTRIES, Node, laws, put_entry};
 use word_rule::exchange::exchange_decided;
 use word_rule::places::{COUNT, LOWER};
 use word_rule::{Ask, Caller, Words};
@@ -54,19 +57,22 @@ pub(crate) fn put_in_leaf(
 
 /// Puts a member into a leaf that is held, in which it has room and overlaps nothing, and commits
 /// it: its number. The leaf's words are loaded and stored from the member's place on alone.
-pub(crate) fn put_in_held(words: &Words, me: &mut Caller, leaf: &Held, member: &Member) -> u32
+pub(crate) fn put_in_held(words: &Words, me: &mut Caller, leaf: &Held, placed: &Placed) -> u32
     requires table { me.old.table ≡ words.now.table }
     requires terms { me.old.log.terms ≡ words.now.terms }
     requires leaf { HoldsLeaf words.now.terms leaf.now me.old.log.holdings }
     requires level { leaf.now.content.level ≡ 0 }
-    requires span { IsSpan member.now.span }
-    requires low { leaf.now.content.low ≤ member.now.span.first }
-    requires high { member.now.span.last ≤ leaf.now.content.high }
+    requires span { IsSpan placed.now.member.span }
+    requires low { leaf.now.content.low ≤ placed.now.member.span.first }
+    requires high { placed.now.member.span.last ≤ leaf.now.content.high }
     requires room { length (entries_of leaf.now.content) < ENTRIES }
-    requires free { IsFree member.now.span (entries_of leaf.now.content) }
+    requires free { IsFree placed.now.member.span (entries_of leaf.now.content) }
+    requires place { placed.now.place
+        ≡ place_for placed.now.member.span.first (entries_of leaf.now.content) }
+    requires few { placed.now.place ≤ length (entries_of leaf.now.content) }
     requires due { 0 < due me.old }
-    requires payload { member.now.payload < words.now.terms.payloads }
-    ensures { PutsMember member.now leaf.now.node result me.old me.new }
+    requires payload { placed.now.member.payload < words.now.terms.payloads }
+    ensures { PutsMember placed.now.member leaf.now.node result me.old me.new }
 {
     laws::put();
     laws::transfer();
@@ -74,42 +80,90 @@ pub(crate) fn put_in_held(words: &Words, me: &mut Caller, leaf: &Held, member: &
     let node = leaf.node;
     // By this load it is known of which tree the leaf is.
     words.load_node(me, node, COUNT);
-    let first = member.span.first();
-    let place = begun_in(words, me, node, &leaf.content, first);
-    let placed = Placed {
-        place,
-        member: *member,
+    put_in_place(words, me, node, &leaf.content, placed);
+    let update = Update::Register {
+        member: placed.member,
     };
-    put_in_place(words, me, node, &leaf.content, &placed);
-    let update = Update::Register { member: *member };
     words.commit(me, update)
 }
 
-/// Tells that a member is refused where a held leaf, which was read, has one that overlaps: the
-/// lowest.
+// The entry at a place of a held leaf, where one stands there and overlaps the span.
+fn overlap_at(
+    words: &Words,
+    me: &mut Caller,
+    leaf: &Held,
+    place: usize,
+    span: &Span,
+) -> Option<Member>
+    requires table { me.old.table ≡ words.now.table }
+    requires inside { leaf.now.node < words.now.terms.nodes }
+    requires spells { SpellsHeld leaf.now.node leaf.now.content me.old.log }
+    requires leaf { IsLeaf leaf.now.content }
+    ensures found { IfSome result (λ m. Overlaps m.span span.now
+        × (slice_get (entries_of leaf.now.content) place ≡ Some m)) }
+    ensures none { IfNone result ((m : Member)
+        → slice_get (entries_of leaf.now.content) place ≡ Some m → ¬ Overlaps m.span span.now) }
+    ensures loads { OnlyLoads me.old me.new }
+{
+    if leaf.content.count() <= place as u64 {
+        return None;
+    }
+    let entry = entry_of(words, me, leaf.node, &leaf.content, place);
+    if entry.span.overlaps(span) {
+        Some(entry)
+    } else {
+        None
+    }
+}
+
+// The lowest entry of a held leaf that overlaps a span, at whose first address or below so many
+// begin. It is the last of these or the one behind it: entries ascend and are disjoint.
+fn overlap_in(
+    words: &Words,
+    me: &mut Caller,
+    leaf: &Held,
+    begun: usize,
+    span: &Span,
+) -> Option<Member>
+    requires table { me.old.table ≡ words.now.table }
+    requires inside { leaf.now.node < words.now.terms.nodes }
+    requires spells { SpellsHeld leaf.now.node leaf.now.content me.old.log }
+    requires leaf { IsLeaf leaf.now.content }
+    requires ordered { InOrder leaf.now.content }
+    requires begun { begun ≡ place_for span.now.first (entries_of leaf.now.content) }
+    ensures found { IfSome result (IsLowestOverlap span.now (entries_of leaf.now.content)) }
+    ensures none { IfNone result (IsFree span.now (entries_of leaf.now.content)) }
+    ensures loads { OnlyLoads me.old me.new }
+{
+    if begun > 0 {
+        if let Some(entry) = overlap_at(words, me, leaf, begun - 1, span) {
+            return Some(entry);
+        }
+    }
+    overlap_at(words, me, leaf, begun, span)
+}
+
+/// Tells that a member is refused where a held leaf has one that overlaps: the lowest. So many of
+/// its entries begin at or below the member's first address.
 pub(crate) fn refused(
     words: &Words,
     me: &mut Caller,
-    node: u32,
-    leaf: &Node,
+    leaf: &Held,
+    begun: usize,
     member: &Member,
 ) -> Option<Inserted>
     requires table { me.old.table ≡ words.now.table }
-    requires stands { (changed : Bool) × StandsAt words.now.terms (record {
-      node = node;
-      content = leaf.now;
-      changed = changed;
-    }) me.old.log.holdings }
-    requires level { leaf.now.level ≡ 0 }
-    requires here { IsInFences member.now.span.first leaf.now }
+    requires stands { StandsAt words.now.terms leaf.now me.old.log.holdings }
+    requires level { leaf.now.content.level ≡ 0 }
+    requires here { IsInFences member.now.span.first leaf.now.content }
+    requires begun { begun ≡ place_for member.now.span.first (entries_of leaf.now.content) }
     ensures overlaps { IfSome result (λ answer. RefusesMember words.now.terms member.now answer
         me.old me.new) }
     ensures never_full { IfSome result (λ answer. IfFull answer ⊥) }
-    ensures free { IfNone result (IsFree member.now.span (entries_of leaf.now)
-        × (me.new ≡ me.old)) }
+    ensures free { IfNone result (IsFree member.now.span (entries_of leaf.now.content)
+        × OnlyLoads me.old me.new) }
 {
-    let _ = node;
-    let other = first_overlap(leaf, &member.span)?;
+    let other = overlap_in(words, me, leaf, begun, &member.span)?;
     let update = Update::Register { member: *member };
     let clock = words.load_clock(me, Ask::Refused { update });
     Some(Inserted::Overlap {

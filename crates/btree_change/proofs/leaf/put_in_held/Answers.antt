@@ -3,65 +3,60 @@ use Rattle.tree_shape.specs.NodeData.{entries_of, place_for}
 use Rattle.word_rule.specs.CallerData.{CallerData, due}
 use Rattle.btree_change.proofs.Descending.{steps_then}
 use Rattle.btree_change.proofs.Putting.{may_put, put_so}
-use Rattle.btree_change.proofs.PuttingThere.{is_leaf, may_put_there, same_held, spells_first, steps_there, still_leaf, still_spells, still_tree, written_there}
+use Rattle.btree_change.proofs.PuttingThere.{is_leaf, may_put_there, same_held, steps_there, still_leaf, still_spells, still_tree, written_there}
+use Rattle.node_store.proofs.Outlined.{no_loads}
 use Rattle.btree_change.proofs.leaf.put_in_held.Goals as goal
 
-pub begun_in-place-requires-clause-spells : goal.begun_in-place-requires-clause-spells
-begun_in-place-requires-clause-spells c = spells_first c.args.words.now.terms c.args.leaf.now c.args.me.now c.load_node.new.me c.load_node.new.me c.load_node.result c.requires.leaf c.requires.level c.load_node.ensures.tree c.load_node.ensures.log
-
-pub begun_in-place-requires-clause-leaf : goal.begun_in-place-requires-clause-leaf
-begun_in-place-requires-clause-leaf c = is_leaf c.args.words.now.terms c.args.leaf.now c.args.me.now c.load_node.new.me c.load_node.new.me c.load_node.result c.requires.leaf c.requires.level c.load_node.ensures.tree c.load_node.ensures.log
-
 pub put_in_place-requires-clause-table : goal.put_in_place-requires-clause-table
-put_in_place-requires-clause-table c = ap (λ (z : CallerData). z.table) c.begun_in-place.ensures.loads.1 ∙ (ap (λ (z : CallerData). z.table) c.load_node.ensures.log ∙ c.requires.table)
+put_in_place-requires-clause-table c = ap (λ (z : CallerData). z.table) c.load_node.ensures.log ∙ c.requires.table
 
 pub put_in_place-requires-clause-may : goal.put_in_place-requires-clause-may
-put_in_place-requires-clause-may c = may_put_there c.args.words.now.terms c.args.leaf.now c.args.me.now c.load_node.new.me c.begun_in-place.new.me c.load_node.result c.requires.leaf c.requires.level c.load_node.ensures.tree c.load_node.ensures.log c.begun_in-place.ensures.loads
+put_in_place-requires-clause-may c = may_put_there c.args.words.now.terms c.args.leaf.now c.args.me.now c.load_node.new.me c.load_node.new.me c.load_node.result c.requires.leaf c.requires.level c.load_node.ensures.tree c.load_node.ensures.log (no_loads c.load_node.new.me)
 
 pub put_in_place-requires-clause-spells : goal.put_in_place-requires-clause-spells
-put_in_place-requires-clause-spells c = still_spells c.args.words.now.terms c.args.leaf.now c.args.me.now c.load_node.new.me c.begun_in-place.new.me c.load_node.result c.requires.leaf c.requires.level c.load_node.ensures.tree c.load_node.ensures.log c.begun_in-place.ensures.loads
+put_in_place-requires-clause-spells c = still_spells c.args.words.now.terms c.args.leaf.now c.args.me.now c.load_node.new.me c.load_node.new.me c.load_node.result c.requires.leaf c.requires.level c.load_node.ensures.tree c.load_node.ensures.log (no_loads c.load_node.new.me)
 
 pub put_in_place-requires-clause-leaf : goal.put_in_place-requires-clause-leaf
 put_in_place-requires-clause-leaf c = is_leaf c.args.words.now.terms c.args.leaf.now c.args.me.now c.load_node.new.me c.load_node.new.me c.load_node.result c.requires.leaf c.requires.level c.load_node.ensures.tree c.load_node.ensures.log
 
 pub commit-requires-clause-due : goal.commit-requires-clause-due
 commit-requires-clause-due c =
-    let t = c.args.words.now.terms in let at = c.args.leaf.now in let m = c.args.member.now in
-    let k = c.args.me.now in let k0 = c.load_node.new.me in let k1 = c.begun_in-place.new.me in let k2 = c.put_in_place.new.me in
-    let found = c.load_node.result in let tree = c.load_node.ensures.tree in let load = c.load_node.ensures.log in let loads = c.begun_in-place.ensures.loads in
-    let place : c.begun_in-place.result ≡ place_for m.span.first (entries_of at.content) = c.begun_in-place.ensures.begun ∙ ap (λ pc. place_for pc (entries_of at.content)) c.first-first.ensures.value in
+    let t = c.args.words.now.terms in let at = c.args.leaf.now in let m = c.args.placed.now.member in
+    let k = c.args.me.now in let k0 = c.load_node.new.me in let k1 = c.load_node.new.me in let k2 = c.put_in_place.new.me in
+    let found = c.load_node.result in let tree = c.load_node.ensures.tree in let load = c.load_node.ensures.log in let loads = (no_loads c.load_node.new.me) in
+    let place : c.args.placed.now.place ≡ place_for m.span.first (entries_of at.content) = c.requires.place in
     let path = still_leaf t at k k0 k1 found c.requires.leaf c.requires.level tree load loads in
     let kept = same_held t at k k0 k1 found c.requires.leaf c.requires.level tree load loads in
     let now_tree = still_tree t at k k0 k1 found c.requires.leaf c.requires.level tree load loads in
-    let written = written_there t at k k0 k1 found c.requires.leaf c.requires.level tree load loads m c.begun_in-place.result k2 place c.put_in_place.ensures.stores c.put_in_place.ensures.spells in
+    let written = written_there t at k k0 k1 found c.requires.leaf c.requires.level tree load loads m c.args.placed.now.place k2 place c.put_in_place.ensures.stores c.put_in_place.ensures.spells in
     let steps = steps_then k k1 k2 (steps_there t at k k0 k1 found c.requires.leaf c.requires.level tree load loads) written.same in
     let some : 0 < due k2 = subst (λ d. 0 < d) (sym (λ i. (steps.budget i).allowance - steps.left i)) c.requires.due in
     some
 
 pub commit-requires-clause-may : goal.commit-requires-clause-may
 commit-requires-clause-may c =
-    let t = c.args.words.now.terms in let at = c.args.leaf.now in let m = c.args.member.now in
-    let k = c.args.me.now in let k0 = c.load_node.new.me in let k1 = c.begun_in-place.new.me in let k2 = c.put_in_place.new.me in
-    let found = c.load_node.result in let tree = c.load_node.ensures.tree in let load = c.load_node.ensures.log in let loads = c.begun_in-place.ensures.loads in
-    let place : c.begun_in-place.result ≡ place_for m.span.first (entries_of at.content) = c.begun_in-place.ensures.begun ∙ ap (λ pc. place_for pc (entries_of at.content)) c.first-first.ensures.value in
+    let t = c.args.words.now.terms in let at = c.args.leaf.now in let m = c.args.placed.now.member in
+    let k = c.args.me.now in let k0 = c.load_node.new.me in let k1 = c.load_node.new.me in let k2 = c.put_in_place.new.me in
+    let found = c.load_node.result in let tree = c.load_node.ensures.tree in let load = c.load_node.ensures.log in let loads = (no_loads c.load_node.new.me) in
+    let place : c.args.placed.now.place ≡ place_for m.span.first (entries_of at.content) = c.requires.place in
     let path = still_leaf t at k k0 k1 found c.requires.leaf c.requires.level tree load loads in
     let kept = same_held t at k k0 k1 found c.requires.leaf c.requires.level tree load loads in
     let now_tree = still_tree t at k k0 k1 found c.requires.leaf c.requires.level tree load loads in
-    let written = written_there t at k k0 k1 found c.requires.leaf c.requires.level tree load loads m c.begun_in-place.result k2 place c.put_in_place.ensures.stores c.put_in_place.ensures.spells in
+    let written = written_there t at k k0 k1 found c.requires.leaf c.requires.level tree load loads m c.args.placed.now.place k2 place c.put_in_place.ensures.stores c.put_in_place.ensures.spells in
     let steps = steps_then k k1 k2 (steps_there t at k k0 k1 found c.requires.leaf c.requires.level tree load loads) written.same in
     let some : 0 < due k2 = subst (λ d. 0 < d) (sym (λ i. (steps.budget i).allowance - steps.left i)) c.requires.due in
     may_put c.put.ensures.change (record { decided = c.exchange_decided.ensures; transfer = c.transfer.ensures.lawful; tests = c.transfer.ensures.tests }) t at.node at.content at.changed m k k1 k2 path kept now_tree c.requires.level c.requires.low c.requires.high c.requires.span c.requires.room c.requires.free written (omega (arith, some)) c.requires.payload
 
 pub returns : goal.returns
 returns c =
-    let t = c.args.words.now.terms in let at = c.args.leaf.now in let m = c.args.member.now in
-    let k = c.args.me.now in let k0 = c.load_node.new.me in let k1 = c.begun_in-place.new.me in let k2 = c.put_in_place.new.me in
-    let found = c.load_node.result in let tree = c.load_node.ensures.tree in let load = c.load_node.ensures.log in let loads = c.begun_in-place.ensures.loads in
-    let place : c.begun_in-place.result ≡ place_for m.span.first (entries_of at.content) = c.begun_in-place.ensures.begun ∙ ap (λ pc. place_for pc (entries_of at.content)) c.first-first.ensures.value in
+    let t = c.args.words.now.terms in let at = c.args.leaf.now in let m = c.args.placed.now.member in
+    let k = c.args.me.now in let k0 = c.load_node.new.me in let k1 = c.load_node.new.me in let k2 = c.put_in_place.new.me in
+    let found = c.load_node.result in let tree = c.load_node.ensures.tree in let load = c.load_node.ensures.log in let loads = (no_loads c.load_node.new.me) in
+    let place : c.args.placed.now.place ≡ place_for m.span.first (entries_of at.content) = c.requires.place in
     let path = still_leaf t at k k0 k1 found c.requires.leaf c.requires.level tree load loads in
     let kept = same_held t at k k0 k1 found c.requires.leaf c.requires.level tree load loads in
     let now_tree = still_tree t at k k0 k1 found c.requires.leaf c.requires.level tree load loads in
-    let written = written_there t at k k0 k1 found c.requires.leaf c.requires.level tree load loads m c.begun_in-place.result k2 place c.put_in_place.ensures.stores c.put_in_place.ensures.spells in
+    let written = written_there t at k k0 k1 found c.requires.leaf c.requires.level tree load loads m c.args.placed.now.place k2 place c.put_in_place.ensures.stores c.put_in_place.ensures.spells in
     let steps = steps_then k k1 k2 (steps_there t at k k0 k1 found c.requires.leaf c.requires.level tree load loads) written.same in
     let some : 0 < due k2 = subst (λ d. 0 < d) (sym (λ i. (steps.budget i).allowance - steps.left i)) c.requires.due in
     let log = c.commit.ensures.log in
