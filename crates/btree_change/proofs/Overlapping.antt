@@ -1,26 +1,18 @@
 -- Which entry of a leaf overlaps a span and begins lowest: the last of those that begin at or below
 -- the span's first address, or the one behind it.
-use Rattle.std.proofs.Common.{◌≡◌, ◌≢◌, ℕ, zero, suc, ◌+◌, ◌-◌, ◌<◌, ◌≤◌, ◌⊎◌, List, [], ◌∷◌, length, get_or, take, Option, Some, None, IfSome, IfNone, Bool, true, false, ◌&&◌, refl, sym, ap, ◌∙◌, subst, arith, nat_lt, nat_le, if◌then◌else◌, inl, inr, leb-true, ltb-true}
-use Rattle.std.proofs.lemmas.Bool.{and_parts, cases_lt, le-leb, ltb-false}
+use Rattle.std.proofs.Common.{◌≡◌, ◌≢◌, ℕ, zero, suc, ◌+◌, ◌-◌, ◌<◌, ◌≤◌, ◌⊎◌, List, [], ◌∷◌, length, get_or, take, Option, Some, None, IfSome, IfNone, Bool, true, false, ◌&&◌, refl, sym, ap, ◌∙◌, subst, arith, nat_lt, nat_le, if◌then◌else◌, inl, inr, ltb-true}
+use Rattle.std.proofs.lemmas.Bool.{cases_lt, le-leb, ltb-false}
 use Rattle.std.proofs.lemmas.Option.{same_Some, slice_get-get_or}
 use Rattle.std.proofs.lemmas.List.{get_or-take, length-take-le}
 use Rattle.std.specs.List.{slice_get}
 use native.Mathlib.Decide.{ℕ_discrete}
 use Rattle.reg_model.specs.SpanData.{SpanData, Overlaps, contains}
+use Rattle.reg_model.proofs.Spans.{overlap_bounds}
 use Rattle.reg_model.specs.State.{IsFree, IsLowestOverlap}
 use Rattle.reg_model.specs.declared.span.Member.{Member}
 use Rattle.tree_shape.specs.NodeData.{EntriesWithin, place_for}
 use Rattle.tree_shape.proofs.Orders.{begin_in_order, begins_inside, first_is_lowest}
 use Rattle.node_store.proofs.LeafSearch.{inside_list}
-
--- spans that overlap, by their ends
-meets : (a b : SpanData) → Overlaps a b → (a.first ≤ b.last) × (b.first ≤ a.last)
-meets a b (pc, (one, other)) =
-    let x = and_parts (nat_le a.first pc) (nat_le pc a.last) one in
-    let y = and_parts (nat_le b.first pc) (nat_le pc b.last) other in
-    let al = leb-true a.first pc x.0 in let ah = leb-true pc a.last x.1 in
-    let bl = leb-true b.first pc y.0 in let bh = leb-true pc b.last y.1 in
-    (omega (arith, al, bh), omega (arith, bl, ah))
 
 holds_so : (a : SpanData) (pc : ℕ) → a.first ≤ pc → pc ≤ a.last → contains a pc ≡ true
 holds_so a pc low high = ap (λ b. b && nat_le pc a.last) (le-leb a.first pc low) ∙ le-leb pc a.last high
@@ -82,7 +74,7 @@ module _ (low high : ℕ) (es : List Member) (span : SpanData) (within : Entries
       let few = place_few span.first es in
       let ends = ends_below low high es k d within (omega (arith, less, few)) in
       let next = begun_below span.first es (suc k) d less in
-      let m = (meets (get_or es k d).span span over).1 in
+      let m = (overlap_bounds (get_or es k d).span span over).1 in
       omega (arith, ends, next, m)
 
   before : (k : ℕ) (d : Member) → ((j : ℕ) → p ≡ suc j → Misses j) → k < p → ¬ Overlaps (get_or es k d).span span
@@ -117,7 +109,7 @@ module _ (low high : ℕ) (es : List Member) (span : SpanData) (within : Entries
           let here : p < length es = omega (arith, more, inside) in
           let above = begun_above low high span.first es p d within (omega arith) here in
           let order = begin_in_order low high es p k d within more inside in
-          let m = (meets (get_or es k d).span span over).0 in
+          let m = (overlap_bounds (get_or es k d).span span over).0 in
           next (get_or es p d) (slice_get-get_or es p d here)
           (overlap_so (get_or es p d).span span (omega (arith, above)) (omega (arith, order, m)) (in_order low high es p d within here))
 

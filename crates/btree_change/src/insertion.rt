@@ -38,7 +38,8 @@ fn in_place(words: &Words, me: &mut Caller, placed: &Placed, stand: &Stand) -> O
     requires span { IsSpan placed.now.member.span }
     requires due { 0 < due me.old }
     requires payload { placed.now.member.payload < words.now.terms.payloads }
-    ensures answer { AnswersHere words.now.terms placed.now.member stand.now.at.node result me.old me.new }
+    ensures answer { AnswersHere words.now.terms placed.now.member stand.now.at.node result me.old
+        me.new }
     ensures full { IfFull result.answer
         (HasCause stand.now.room placed.now.member.span.first me.old me.new) }
 {
