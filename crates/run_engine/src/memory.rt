@@ -41,11 +41,11 @@ impl MemorySource {
     /// These bytes, of which the reads with these numbers fail, counted from 1. It takes no memory.
     pub fn new(bytes: Vec<u8>, fails: Vec<u32>) -> Self
         ensures { result ≡ record {
-            rest = bytes.items;
-            most = 2 ^ 64 - 1;
-            fails = fails.items;
-            calls = 0;
-            faults = 0;
+          rest = bytes.items;
+          most = 2 ^ 64 - 1;
+          fails = fails.items;
+          calls = 0;
+          faults = 0;
         } }
     {
         MemorySource::in_pieces(bytes, fails, usize::MAX)
@@ -55,11 +55,11 @@ impl MemorySource {
     pub fn in_pieces(bytes: Vec<u8>, fails: Vec<u32>, most: usize) -> Self
         requires { 0 < most }
         ensures { result ≡ record {
-            rest = bytes.items;
-            most = most;
-            fails = fails.items;
-            calls = 0;
-            faults = 0;
+          rest = bytes.items;
+          most = most;
+          fails = fails.items;
+          calls = 0;
+          faults = 0;
         } }
     {
         MemorySource {
@@ -210,11 +210,11 @@ impl MemorySink {
     /// Nothing yet; the writes with these numbers will fail, counted from 1. It takes no memory.
     pub fn new(alloc: Global, fails: Vec<u32>) -> Self
         ensures { result ≡ record {
-            bytes = [];
-            most = 2 ^ 64 - 1;
-            fails = fails.items;
-            calls = 0;
-            faults = 0;
+          bytes = [];
+          most = 2 ^ 64 - 1;
+          fails = fails.items;
+          calls = 0;
+          faults = 0;
         } }
     {
         MemorySink::in_pieces(alloc, fails, usize::MAX)
@@ -224,11 +224,11 @@ impl MemorySink {
     pub fn in_pieces(alloc: Global, fails: Vec<u32>, most: usize) -> Self
         requires { 0 < most }
         ensures { result ≡ record {
-            bytes = [];
-            most = most;
-            fails = fails.items;
-            calls = 0;
-            faults = 0;
+          bytes = [];
+          most = most;
+          fails = fails.items;
+          calls = 0;
+          faults = 0;
         } }
     {
         MemorySink {
