@@ -235,6 +235,44 @@ enum frames_step {
 uint64_t frames_c_step(frames_section section, frames_memory memory, frames_frame *frame,
                        frames_section *back, frames_memory *memory_back);
 
+/* ---- exceptions ------------------------------------------------------------------------------ */
+
+/* What becomes of an exception at an address, by a function's table of call sites (LSDA), in the
+ * format that GCC and LLVM write for C++. `pad` is the address of a cleanup or a handler, `filter`
+ * what the handler is told; `at` is the place that is refused among the table's bytes, `byte` the
+ * encoding that is. What an outcome hasn't is 0. */
+typedef struct {
+  uint64_t outcome;
+  uint64_t pad;
+  uint64_t filter;
+  uint64_t at;
+  uint64_t byte;
+} frames_verdict;
+
+enum frames_outcome {
+  FRAMES_CONTINUE = 0,        /* it goes on to the caller                                   */
+  FRAMES_CLEANUP = 1,         /* what stands at `pad` is done first, and then it goes on    */
+  FRAMES_HANDLER = 2,         /* it is caught at `pad`, which is told `filter`              */
+  FRAMES_TERMINATE = 3,       /* no call site has the address: nothing may pass here        */
+  FRAMES_TABLE_SHORT = 4,     /* a field isn't whole, or the call sites aren't              */
+  FRAMES_TABLE_TOO_WIDE = 5,  /* a LEB128 number doesn't fit 64 bits                        */
+  FRAMES_TABLE_ENCODING = 6,  /* `byte` is no encoding that is read in its place            */
+  FRAMES_TABLE_FILTER = 7,    /* a filter below 0: exception specifications aren't read     */
+  FRAMES_TABLE_CHAIN = 8,     /* a chain of records goes on after 255, or leaves the bytes  */
+  FRAMES_TABLE_TYPE = 9,      /* the type of the filter at `at` isn't whole in the bytes    */
+  FRAMES_BELOW_FUNCTION = 10  /* the address is below `first`: nothing was read             */
+};
+
+/* Asks the table at an address, of the function that starts at `first`, of an exception of a kind
+ * at the address `look`; an FDE has `first` and, as `lsda`, the table's address. The bytes go from
+ * there on as far as is readable: how long a table is stands nowhere. A kind is the number that a
+ * type of the table has: its address, or where the table has an indirect type, the address of its
+ * pointer; a type of 0 catches all. What comes of it is `outcome`, which is told too. A table that
+ * is refused has no verdict: the first fault in the order in which the verdict needs the bytes is
+ * told. */
+uint64_t frames_c_verdict(uint64_t first, uint64_t address, const uint8_t *bytes, size_t length,
+                          uint64_t look, uint64_t kind, frames_verdict *out);
+
 /* ---- row tables ------------------------------------------------------------------------------ */
 
 /* A share of a row table, or nothing: {0}. For those who look up a section many times: its rows are

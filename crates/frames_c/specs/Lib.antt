@@ -9,3 +9,4 @@ pub mod TableEntries
 pub mod Batches
 pub mod HeaderAnswers
 pub mod RowTables
+pub mod CallSiteTables

@@ -2,6 +2,7 @@
 #![tactic(auto)]
 
 mod batch;
+mod call_sites;
 mod find;
 mod handle;
 mod header;
@@ -19,6 +20,7 @@ mod table;
 mod told_rows;
 
 pub use batch::frames_c_rows;
+pub use call_sites::{FramesVerdict, frames_c_verdict};
 pub use find::{FramesFde, frames_c_find};
 pub use handle::SectionHandle;
 pub use header::{FramesHeader, frames_c_read_with_header};
