@@ -1,5 +1,6 @@
 #!/usr/bin/env python3
-"""Tries the reader on cases/ and cases/tables/, whose answers come from outside the product.
+"""Tries the reader on cases/ and cases/tables/, whose answers come from outside the product, and on
+the tables of call sites of crates/frame_tables, which were worked by hand.
 
     check_reader.py [CASES]     CASES is a directory of cases; without it, that of this repository
 
@@ -12,6 +13,7 @@ import os
 import re
 import sys
 
+from call_sites import verdict
 from check import text_of
 from cursor import Refusal
 from eh_frame import read_section
@@ -25,6 +27,10 @@ MEMORY = {0x7000: 0x1122334455667788}
 SECTION_OF_SMALL_ONES = 0x2000
 
 FULL = re.compile("register [0-9]+ full")
+FAULTS = {"short": "Short", "wide": "TooWide", "encoding": "Encoding", "filter": "Filter",
+          "chain": "Chain", "typeentry": "TypeEntry"}
+HERE = os.path.dirname(os.path.abspath(__file__))
+TABLES = os.path.join(HERE, "..", "..", "crates", "frame_tables", "stdout")
 
 
 def rows(directory, name):
@@ -91,6 +97,26 @@ def expression_trials(directory):
         yield f"expressions: {digits}", wanted, expression_answer(bytes.fromhex(digits), 1)
 
 
+def verdict_answer(first, where, digits, look, kind):
+    """What the table of call sites of these words says."""
+    data = b"" if digits == "-" else bytes.fromhex(digits)
+    first, where, look, kind = (int(number, 16) for number in (first, where, look, kind))
+    try:
+        return verdict(first, where, data, look, kind)
+    except Refusal as refusal:
+        byte = f", byte: {data[refusal.at]}" if refusal.name == "encoding" else ""
+        return f"refused {FAULTS[refusal.name]} {{ at: {refusal.at}{byte} }}"
+
+
+def verdict_trials(directory):
+    """(what it is, answer wanted, answer given) for the tables of call sites."""
+    del directory
+    for line in text_of(TABLES).splitlines():
+        words, _, wanted = line.partition(" = ")
+        if words.startswith("verdict ") and not wanted.startswith("unreadable"):
+            yield words, wanted, verdict_answer(*words.split(" ")[1:])
+
+
 def journal_trials(directory):
     """(what it is, journal wanted, journal given) for the scripts that are run to their end."""
     for file_name in sorted(os.listdir(directory)):
@@ -104,10 +130,9 @@ def journal_trials(directory):
 
 def main(words):
     """Tries everything; the status."""
-    here = os.path.dirname(os.path.abspath(__file__))
-    directory = words[0] if words else os.path.join(here, "..", "..", "cases")
+    directory = words[0] if words else os.path.join(HERE, "..", "..", "cases")
     tried, failed = 0, 0
-    for trials in (section_trials, expression_trials, journal_trials):
+    for trials in (section_trials, expression_trials, verdict_trials, journal_trials):
         for name, wanted, given in trials(directory):
             tried += 1
             if wanted != given:

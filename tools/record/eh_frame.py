@@ -39,7 +39,10 @@ class Cie:
 
 
 class Fde:
-    """An FDE: its record's places, its CIE, `size` addresses from `first`, its program's place."""
+    """An FDE: its record's places, its CIE, `size` addresses from `first`, its program's place.
+
+    `lsda` is the address of its table of call sites, or None.
+    """
 
     def __init__(self, start, end, cie):
         self.start = start
@@ -47,6 +50,7 @@ class Fde:
         self.cie = cie
         self.first = 0
         self.size = 0
+        self.lsda = None
         self.program = 0
         self.pointers = []
 
@@ -176,8 +180,9 @@ def read_lsda(cursor, fde, section):
     encoding = fde.cie.lsda_encoding
     if encoding != OMITTED and cursor.left():
         place = cursor.at
-        number, _ = cursor.pointer(encoding, section)
+        number, address = cursor.pointer(encoding, section)
         fde.pointers.append(Pointer(place, encoding, number, True))
+        fde.lsda = address if number else None
 
 
 def read_fde(cursor, start, cie, section):

@@ -155,8 +155,8 @@ def objects_of(space, system_object):
     return sorted((one for one in found if one is not None), key=lambda one: one.base)
 
 
-def section_by_headers(found):
-    """(address, bytes) of `.eh_frame` by the section headers of the object's file, or None."""
+def section_by_headers(found, wanted=".eh_frame"):
+    """(address, bytes) of a section by the section headers of the object's file, or None."""
     header = file_bytes(found.path, 0, HEADER_BYTES)
     if header != found.header:
         return None
@@ -168,7 +168,7 @@ def section_by_headers(found):
     headers = [struct.unpack_from("<IIQQQQ", table, place) for place in range(0, len(table), size)]
     text = file_bytes(found.path, *headers[names][4:6])
     for name, _, flags, address, _, length in headers:
-        if text[name:].split(b"\0", 1)[0] == b".eh_frame" and flags & SECTION_ALLOCATED:
+        if text[name:].split(b"\0", 1)[0] == wanted.encode() and flags & SECTION_ALLOCATED:
             return found.bias + address, length
     return None
 

@@ -2,9 +2,11 @@
 
     gdb -batch -p PID -x tools/record/record.py -ex 'stack-script NAME.script'
     gdb -batch -p PID -x tools/record/record.py -ex 'stack-script NAME.script all'
+    gdb -batch -p PID -x tools/record/record.py -ex 'stack-script NAME.script raise'
 
-The selected thread's stack, or those of all threads. Also writes NAME.frames, the frames as gdb
-unwinds them. README.md says what is in both.
+The selected thread's stack, or those of all threads; with `raise` also the tables of call sites of
+its functions. Also writes NAME.frames, the frames as gdb unwinds them. README.md says what is in
+both.
 """
 
 import os
@@ -21,8 +23,9 @@ from eh_frame import SECTION_BYTES, read_section
 from elf import Mapping, NotFound, Space, objects_of, section_of
 from expressions import NoBytes
 from generated import Damaged, code_of, entries_of
-from script import SCRIPT_BYTES, script_lines
+from script import MEMORY_BYTES, SCRIPT_BYTES, script_lines
 from stack import SAVED_BYTES, stack_ranges
+from tables import tables_of
 from unwind import FRAMES, Frame, backtrace
 
 REGISTERS = ["rax", "rdx", "rcx", "rbx", "rsi", "rdi", "rbp", "rsp", "r8", "r9", "r10", "r11",
@@ -172,6 +175,11 @@ def images_of(pairs, looks):
     return images
 
 
+def with_frames(pairs, looks):
+    """The pairs whose object contains one of these addresses."""
+    return [pair for pair in pairs if any(pair[0].contains(look) for look in looks)]
+
+
 def longer(gdbs, ours, end):
     """The longer one of gdb's frames and ours, which end so; says where they differ."""
     for number, (one, other) in enumerate(zip(gdbs, ours)):
@@ -199,6 +207,22 @@ def recorded_memory(frames, last_sp):
     return found
 
 
+def recorded_tables(ranges, room):
+    """The bytes of tables of call sites as pairs of address and bytes, as many as have room."""
+    found = []
+    for first, last in ranges:
+        part = memory(first, last - first)
+        if part is None:
+            say(f"left out: the table of call sites at {first:x}: gdb can't read it")
+        elif len(part) > room:
+            say(f"left out: the table of call sites at {first:x}: a snapshot has {MEMORY_BYTES} "
+                "bytes")
+        else:
+            room -= len(part)
+            found.append((first, part))
+    return found
+
+
 def write_lines(path, lines):
     """Writes lines to a file; says how many bytes they have."""
     text = "".join(f"{line}\n" for line in lines)
@@ -209,9 +233,12 @@ def write_lines(path, lines):
 
 
 class Stack:
-    """The selected thread's stack: its columns, gdb's frames, and what a script needs of it."""
+    """The selected thread's stack: its columns, gdb's frames, and what a script needs of it.
 
-    def __init__(self, pairs):
+    With tables, its memory has those of its frames' functions too.
+    """
+
+    def __init__(self, pairs, with_tables=False):
         self.columns = [register(gdb.newest_frame(), name) for name in REGISTERS]
         self.gdbs, self.names, self.reason = frames_of_gdb()
 
@@ -223,6 +250,11 @@ class Stack:
         frames = longer(self.gdbs, ours, end)
         self.looks = [frame.look for frame in frames[:FRAMES]]
         self.memory = recorded_memory(frames[:FRAMES], frames[:FRAMES + 1][-1].sp)
+        if with_tables:
+            room = MEMORY_BYTES - sum(len(part) for _, part in self.memory)
+            tables = recorded_tables(tables_of(pairs, self.looks), room)
+            say(f"read: {len(tables)} tables of call sites")
+            self.memory = sorted(self.memory + tables)
 
     def frame_lines(self):
         """gdb's frames, as they stand in NAME.frames."""
@@ -232,7 +264,7 @@ class Stack:
         return lines + [f"end {self.reason}"]
 
 
-def stacks_of_all(pairs):
+def stacks_of_all(pairs, with_tables):
     """The Stacks of all threads, by gdb's numbers; the selected one stays selected."""
     selected = gdb.selected_thread()
     threads = sorted(gdb.selected_inferior().threads(), key=lambda thread: thread.num)
@@ -241,19 +273,25 @@ def stacks_of_all(pairs):
     stacks = []
     for thread in threads[:UNWOUND]:
         thread.switch()
-        stacks.append(Stack(pairs))
+        stacks.append(Stack(pairs, with_tables))
     selected.switch()
     return stacks
 
 
-def write_script(path, every_thread):
-    """Writes the script and the frames of the selected thread, or of all."""
+def write_script(path, every_thread, for_raise):
+    """Writes the script and the frames of the selected thread, or of all.
+
+    A script for a raise has the tables of call sites; its images are fixed, and have frames.
+    """
     pairs, generated = read_objects(), read_generated()
     known = generated + pairs
-    stacks = stacks_of_all(known) if every_thread else [Stack(known)]
+    stacks = stacks_of_all(known, for_raise) if every_thread else [Stack(known, for_raise)]
     looks = [look for stack in stacks for look in stack.looks]
+    if for_raise:
+        pairs, generated = with_frames(pairs, looks), with_frames(generated, looks)
     lines = script_lines(images_of(pairs, looks), images_of(generated, looks),
-                         [(stack.columns, stack.memory, stack.looks) for stack in stacks])
+                         [(stack.columns, stack.memory, stack.looks) for stack in stacks],
+                         for_raise)
     if write_lines(path, lines) > SCRIPT_BYTES:
         say(f"a script above {SCRIPT_BYTES} bytes isn't run")
     write_lines(os.path.splitext(path)[0] + ".frames",
@@ -261,9 +299,10 @@ def write_script(path, every_thread):
 
 
 class StackScript(gdb.Command):
-    """stack-script NAME.script [all]: write the selected thread's stack, or those of all threads.
+    """stack-script NAME.script [all] [raise]: write the selected thread's stack, or all threads'.
 
-    NAME.script is the script, and NAME.frames has gdb's frames."""
+    NAME.script is the script, and NAME.frames has gdb's frames. With raise the images are fixed,
+    and the tables of call sites are written too."""
 
     def __init__(self):
         super().__init__("stack-script", gdb.COMMAND_STACK, gdb.COMPLETE_FILENAME)
@@ -272,9 +311,9 @@ class StackScript(gdb.Command):
         """Does the command; `argument` is the path, and which threads."""
         del from_tty
         words = gdb.string_to_argv(argument)
-        if not words or words[1:] not in ([], ["all"]):
-            raise gdb.GdbError("stack-script NAME.script [all]")
-        write_script(words[0], every_thread=len(words) == 2)
+        if not words or words[1:] not in ([], ["all"], ["raise"], ["all", "raise"]):
+            raise gdb.GdbError("stack-script NAME.script [all] [raise]")
+        write_script(words[0], "all" in words[1:], "raise" in words[1:])
 
 
 StackScript()

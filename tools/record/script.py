@@ -185,8 +185,15 @@ def round_lines(threads):
     return ["round"] + [line for events in threads for line in ["thread"] + events]
 
 
-def script_lines(loaded, generated, stacks):
+def fixed_lines(images):
+    """The lines that have all images loaded from the start, in the order of their addresses."""
+    return [f"fixed {number}" for number in sorted(range(len(images)), key=lambda n: images[n][0])]
+
+
+def script_lines(loaded, generated, stacks, fixed=False):
     """The lines of a script. Images of objects are loaded, those of generated code registered.
+
+    Where they are `fixed` instead, they are there from the start.
 
     A stack is its columns, its memory and the addresses looked up. One alone is unwound by the
     thread that loads; several by threads of a round of their own, which runs side by side.
@@ -195,10 +202,12 @@ def script_lines(loaded, generated, stacks):
     nodes = max(SMALLEST_TREE, len(generated))
     lines = ["frames 1", f"nodes {nodes}", f"loads {max(1, len(loaded))}"]
     lines += [image_line(number, *image) for number, image in enumerate(images)]
+    lines += fixed_lines(images) if fixed else []
     for number, (columns, memory, _) in enumerate(stacks):
         lines += snapshot_lines(number, columns, memory)
     start = [f"load {number}" for number in range(len(loaded))]
     start += [f"register {number}" for number in range(len(loaded), len(images))]
+    start = [] if fixed else start
     events = [events_of(number, looks) for number, (_, _, looks) in enumerate(stacks)]
     if len(stacks) == 1:
         lines += round_lines([start + events[0]])
