@@ -12,6 +12,9 @@ void __real_free(void *block);
 /* Those that took memory, those that gave it back, and which of the first is to fail; 0 is none. */
 static unsigned heap_taken, heap_freed, heap_fails_at;
 
+/* How many blocks are held. */
+static long heap_held;
+
 static inline void heap_count_from_here(unsigned fails_at) {
   heap_taken = heap_freed = 0;
   heap_fails_at = fails_at;
@@ -20,15 +23,20 @@ static inline void heap_count_from_here(unsigned fails_at) {
 static inline unsigned heap_calls(void) { return heap_taken + heap_freed; }
 
 void *__wrap_malloc(size_t size) {
-  return ++heap_taken == heap_fails_at ? NULL : __real_malloc(size);
+  void *block = ++heap_taken == heap_fails_at ? NULL : __real_malloc(size);
+  heap_held += block != NULL;
+  return block;
 }
 
 void *__wrap_realloc(void *block, size_t size) {
-  return ++heap_taken == heap_fails_at ? NULL : __real_realloc(block, size);
+  void *moved = ++heap_taken == heap_fails_at ? NULL : __real_realloc(block, size);
+  heap_held += block == NULL && moved != NULL;
+  return moved;
 }
 
 void __wrap_free(void *block) {
   heap_freed++;
+  heap_held -= block != NULL;
   __real_free(block);
 }
 

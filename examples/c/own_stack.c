@@ -64,7 +64,10 @@ static __attribute__((noinline)) int walk(void) {
     printf("%2d %#18llx %18p\n", i, (unsigned long long)frame.columns[16], expected[i]);
     if (i > 0 && frame.columns[16] != (uintptr_t)expected[i]) differ = 1;
     outcome = step(&frame, &memory);
-    if (outcome != FRAMES_FRAME && i + 1 < depth) return 1;
+    if (outcome != FRAMES_FRAME && i + 1 < depth) {
+      differ = 1;
+      break;
+    }
   }
   printf("%d frames, then %llu\n", depth, (unsigned long long)outcome);
   frames_c_memory_free(memory);

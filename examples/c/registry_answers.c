@@ -146,6 +146,23 @@ static int splits(registry_client *client) {
   return 0;
 }
 
+/* A client without calls of its own gets no update done, and its maker has seen what it had. */
+static int spent(registry_client *client) {
+  const registry_member code = {0x3000, 1, 0};
+  registry_client other = {0};
+  registry_answer answers[4];
+  uint32_t left = registry_c_left(*client, client), seen = registry_c_seen(*client, client);
+  CHECK(registry_c_split(*client, 0, &other, client) == REGISTRY_SPLIT);
+  registry_c_register(other, &code, &answers[0], &other);
+  registry_c_deregister(other, 0x2020, &answers[1], &other);
+  registry_c_load(other, &code, &answers[2], &other);
+  registry_c_unload(other, 0x1000, &answers[3], &other);
+  for (int i = 0; i < 4; i++) CHECK(is_answer(answers[i], REGISTRY_SPENT, 0, 0, no_member));
+  CHECK(registry_c_join(*client, other, client, &other) == REGISTRY_JOINED);
+  CHECK(registry_c_seen(*client, client) == seen && registry_c_left(*client, client) == left);
+  return 0;
+}
+
 /* A client of another registry isn't joined, and both are as they were. */
 static int other_registries(registry_client *client) {
   registry_client other = {0};
@@ -234,7 +251,8 @@ int main(void) {
   heap_count_from_here(0);
   if (loads(&client) || registrations(&client) || places(&client) || members(&client)) return 1;
   CHECK(heap_calls() == 0);
-  if (splits(&client) || other_registries(&client) || closes(client) || node_counts()) return 1;
+  if (splits(&client) || spent(&client) || other_registries(&client)) return 1;
+  if (closes(client) || node_counts()) return 1;
   printf("all answers as worked out\n");
   return 0;
 }

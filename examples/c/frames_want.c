@@ -1,0 +1,147 @@
+/* Each call of frames_c that takes memory, with each of its allocations refused in turn: that is
+ * told as want of memory, nothing stays held, and what the call was given is as it was. Status 0:
+ * all is so. */
+#include "frames_c.h"
+#include "heap_calls.h"
+#include <stdio.h>
+#include <string.h>
+
+#define CHECK(holds)                                     \
+  do {                                                   \
+    if (!(holds)) {                                      \
+      printf("frames_want.c:%d: %s\n", __LINE__, #holds); \
+      return WRONG;                                      \
+    }                                                    \
+  } while (0)
+
+enum outcome { DONE, REFUSED, WRONG };
+
+/* A CIE, and FDEs of 0x1000 to 0x101f and of 0x1020 to 0x102f, at 0x2000; their header, at
+ * 0x2100. */
+static const uint8_t section_bytes[84] = {
+    0x14, 0x00, 0x00, 0x00, 0x00, 0x00, 0x00, 0x00, 0x01, 0x7a, 0x52, 0x00, 0x01, 0x78,
+    0x10, 0x01, 0x1b, 0x0c, 0x07, 0x08, 0x90, 0x01, 0x00, 0x00, 0x1c, 0x00, 0x00, 0x00,
+    0x1c, 0x00, 0x00, 0x00, 0xe0, 0xef, 0xff, 0xff, 0x20, 0x00, 0x00, 0x00, 0x00, 0x41,
+    0x0e, 0x10, 0x86, 0x02, 0x43, 0x0d, 0x06, 0x00, 0x00, 0x00, 0x00, 0x00, 0x00, 0x00,
+    0x14, 0x00, 0x00, 0x00, 0x3c, 0x00, 0x00, 0x00, 0xe0, 0xef, 0xff, 0xff, 0x10, 0x00,
+    0x00, 0x00, 0x00, 0x00, 0x00, 0x00, 0x00, 0x00, 0x00, 0x00, 0x00, 0x00, 0x00, 0x00};
+static const uint8_t header_bytes[28] = {0x01, 0x1b, 0x03, 0x3b, 0xfc, 0xfe, 0xff, 0xff, 0x02, 0x00,
+                                         0x00, 0x00, 0x00, 0xef, 0xff, 0xff, 0x18, 0xff, 0xff, 0xff,
+                                         0x20, 0xef, 0xff, 0xff, 0x38, 0xff, 0xff, 0xff};
+
+/* What the calls that share or make a table are given. */
+static frames_section section;
+static frames_row_table table;
+
+static enum outcome read_one(void) {
+  frames_section out = {0};
+  frames_refusal refusal = {99, 99, 99, 99};
+  if (!frames_c_read(0x2000, section_bytes, 84, &refusal, &out)) {
+    CHECK(refusal.kind == FRAMES_NO_MEMORY && out.at == NULL);
+    return REFUSED;
+  }
+  CHECK(frames_c_count(out, &out) == 2);
+  frames_c_free(out);
+  return DONE;
+}
+
+/* A header for which there is no memory changes no answer. */
+static enum outcome read_both(void) {
+  frames_section out = {0};
+  frames_refusal refusal = {99, 99, 99, 99};
+  frames_header told = {99, 99, 99};
+  frames_fde fde;
+  if (!frames_c_read_with_header(0x2000, section_bytes, 84, 0x2100, header_bytes, 28, &refusal,
+                                 &told, &out)) {
+    CHECK(refusal.kind == FRAMES_NO_MEMORY && out.at == NULL);
+    return REFUSED;
+  }
+  CHECK(frames_c_find(out, 0x102f, &fde, &out) && fde.first == 0x1020);
+  frames_c_free(out);
+  if (told.accepted == 1) return DONE;
+  CHECK(told.accepted == 0 && told.kind == FRAMES_HEADER_NO_MEMORY);
+  return REFUSED;
+}
+
+static enum outcome share(void) {
+  frames_section other = {0};
+  bool shared = frames_c_share(section, &other, &section);
+  CHECK(frames_c_count(section, &section) == 2);
+  if (!shared) {
+    CHECK(other.at == NULL);
+    return REFUSED;
+  }
+  frames_c_free(other);
+  return DONE;
+}
+
+static enum outcome record_one(void) {
+  frames_memory memory = {0};
+  if (!frames_c_memory(&memory)) {
+    CHECK(memory.at == NULL);
+    return REFUSED;
+  }
+  uint64_t told = frames_c_memory_push(memory, 0x7000, section_bytes, 84, &memory);
+  if (told == FRAMES_RECORDED)
+    told = frames_c_memory_push(memory, 0x8000, section_bytes, 84, &memory);
+  CHECK(frames_c_memory_push(memory, 0x9000, section_bytes, 0, &memory) == FRAMES_REGION_EMPTY);
+  frames_c_memory_free(memory);
+  if (told == FRAMES_RECORDED) return DONE;
+  CHECK(told == FRAMES_REGION_NO_MEMORY);
+  return REFUSED;
+}
+
+static enum outcome make_table(void) {
+  frames_row_table out = {0};
+  uint64_t told = frames_c_row_table(section, &out, &section);
+  CHECK(frames_c_count(section, &section) == 2);
+  if (told != FRAMES_ROW_TABLE_MADE) {
+    CHECK(told == FRAMES_ROW_TABLE_NO_MEMORY && out.at == NULL);
+    return REFUSED;
+  }
+  frames_c_row_table_free(out);
+  return DONE;
+}
+
+static enum outcome share_table(void) {
+  frames_row_table other = {0};
+  frames_row row;
+  bool shared = frames_c_row_table_share(table, &other, &table);
+  CHECK(frames_c_row_table_row(table, 0x1000, &row, &table) && row.cfa_column == 7);
+  if (!shared) {
+    CHECK(other.at == NULL);
+    return REFUSED;
+  }
+  frames_c_row_table_free(other);
+  return DONE;
+}
+
+/* How many allocations of a call were refused in turn. */
+static unsigned refused;
+
+static enum outcome each_refused(enum outcome (*call)(void)) {
+  for (unsigned fails_at = 1;; fails_at++, refused++) {
+    long held = heap_held;
+    heap_count_from_here(fails_at);
+    enum outcome outcome = call();
+    unsigned taken = heap_taken;
+    heap_count_from_here(0);
+    CHECK(outcome != WRONG && heap_held == held);
+    CHECK(outcome == (taken < fails_at ? DONE : REFUSED));
+    if (outcome == DONE) return DONE;
+  }
+}
+
+int main(void) {
+  frames_refusal refusal;
+  CHECK(frames_c_read(0x2000, section_bytes, 84, &refusal, &section));
+  CHECK(frames_c_row_table(section, &table, &section) == FRAMES_ROW_TABLE_MADE);
+  enum outcome (*const calls[])(void) = {read_one,   read_both,  share,
+                                         record_one, make_table, share_table};
+  for (size_t i = 0; i < sizeof calls / sizeof *calls; i++) CHECK(each_refused(calls[i]) == DONE);
+  frames_c_row_table_free(table);
+  frames_c_free(section);
+  CHECK(heap_held == 0);
+  printf("frames_want: %u allocations refused, all told\n", refused);
+  return 0;
+}
