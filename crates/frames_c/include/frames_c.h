@@ -11,7 +11,10 @@
  *   - A section, recorded memory, and a row table are one pointer each. C owns it from the call
  *     that wrote it until it is freed. A call takes it by value and gives it back through `back`,
  *     which may be the same variable: frames_c_count(section, &section). Never pass one that was
- *     freed, or passed and not given back, and never read or copy what it leads to.
+ *     freed, or passed and not given back, and never read or copy what it leads to. No call can
+ *     tell one that was freed: set the variable to {0}, and test its `at` where it may hold
+ *     nothing. No call tests for {0} either: it reads at address 0 or a little above, at which most
+ *     systems end the program.
  *   - Each share of a section is used by one thread at a time. Threads with a share each don't
  *     meet. A share goes from one thread to another in order: by a lock, or by a thread's start or
  *     join.
@@ -29,6 +32,14 @@
 #include <stdbool.h>
 #include <stddef.h>
 #include <stdint.h>
+
+/* Compilers that know the word warn of a null pointer in the place of an argument, and with
+ * -fsanitize=nonnull-attribute the program ends at one. */
+#if defined(__GNUC__)
+#define FRAMES_C_NONNULL __attribute__((nonnull))
+#else
+#define FRAMES_C_NONNULL
+#endif
 
 #ifdef __cplusplus
 extern "C" {
@@ -72,7 +83,7 @@ enum frames_refusal_kind {
 /* Reads the section whose bytes stand at an address; the bytes are copied. True: `out` has the
  * first share. False: `refusal` says why there is none, the first in order of bytes. */
 bool frames_c_read(uint64_t address, const uint8_t *bytes, size_t length, frames_refusal *refusal,
-                   frames_section *out);
+                   frames_section *out) FRAMES_C_NONNULL;
 
 /* What came of a header. `kind` and `at`, the place that is refused, are 0 where it is accepted. */
 typedef struct {
@@ -99,16 +110,17 @@ enum frames_header_kind {
 bool frames_c_read_with_header(uint64_t address, const uint8_t *bytes, size_t length,
                                uint64_t header_address, const uint8_t *header,
                                size_t header_length, frames_refusal *refusal, frames_header *told,
-                               frames_section *out);
+                               frames_section *out) FRAMES_C_NONNULL;
 
 /* Another share of the same section, which is freed by itself. False: memory ran out. */
-bool frames_c_share(frames_section section, frames_section *out, frames_section *back);
+bool frames_c_share(frames_section section, frames_section *out, frames_section *back)
+    FRAMES_C_NONNULL;
 
 /* Frees a share, and the section with its last one. */
 void frames_c_free(frames_section section);
 
 /* How many FDEs there are. */
-size_t frames_c_count(frames_section section, frames_section *back);
+size_t frames_c_count(frames_section section, frames_section *back) FRAMES_C_NONNULL;
 
 /* ---- FDEs ------------------------------------------------------------------------------------ */
 
@@ -127,7 +139,8 @@ typedef struct {
 
 /* The first FDE in order of bytes that covers an address. False: none does, and `out` is as it
  * was. */
-bool frames_c_find(frames_section section, uint64_t pc, frames_fde *out, frames_section *back);
+bool frames_c_find(frames_section section, uint64_t pc, frames_fde *out, frames_section *back)
+    FRAMES_C_NONNULL;
 
 /* The addresses of an FDE, and the place of its first byte. */
 typedef struct {
@@ -145,12 +158,13 @@ enum frames_table_made {
 /* Writes the FDEs that aren't empty in order of their first addresses. Where it is 2, the
  * entries are all there, and are no table. */
 uint64_t frames_c_table(frames_section section, frames_entry *entries, size_t room, size_t *count,
-                        frames_section *back);
+                        frames_section *back) FRAMES_C_NONNULL;
 
 /* The entry of a table that has an address: the one of the FDE that the section finds. False: none
  * has, and `out` is as it was. Any number of threads search the same entries. Whatever the entries
  * are, one that is written is one of them and has the address. */
-bool frames_c_search(const frames_entry *entries, size_t count, uint64_t pc, frames_entry *out);
+bool frames_c_search(const frames_entry *entries, size_t count, uint64_t pc, frames_entry *out)
+    FRAMES_C_NONNULL;
 
 /* ---- rows ------------------------------------------------------------------------------------ */
 
@@ -183,12 +197,13 @@ enum frames_rule {
 };
 
 /* The row of an address. False: no FDE covers it, and `out` is as it was. */
-bool frames_c_row(frames_section section, uint64_t pc, frames_row *out, frames_section *back);
+bool frames_c_row(frames_section section, uint64_t pc, frames_row *out, frames_section *back)
+    FRAMES_C_NONNULL;
 
 /* The rows of many addresses, each in the place of its address. False: there aren't as many rows as
  * addresses, and none is written. */
 bool frames_c_rows(frames_section section, const uint64_t *pcs, size_t count, frames_row *rows,
-                   size_t room, frames_section *back);
+                   size_t room, frames_section *back) FRAMES_C_NONNULL;
 
 /* ---- frames ---------------------------------------------------------------------------------- */
 
@@ -198,7 +213,7 @@ typedef struct {
 } frames_memory;
 
 /* Memory without any region. False: memory ran out. */
-bool frames_c_memory(frames_memory *out);
+bool frames_c_memory(frames_memory *out) FRAMES_C_NONNULL;
 
 enum frames_recorded {
   FRAMES_RECORDED = 0,
@@ -210,7 +225,7 @@ enum frames_recorded {
 
 /* Records the bytes from an address on, above all that are recorded; they are copied. */
 uint64_t frames_c_memory_push(frames_memory memory, uint64_t address, const uint8_t *bytes,
-                              size_t length, frames_memory *back);
+                              size_t length, frames_memory *back) FRAMES_C_NONNULL;
 
 void frames_c_memory_free(frames_memory memory);
 
@@ -233,7 +248,7 @@ enum frames_step {
 
 /* Makes of a frame the one that called it. Where it isn't 0, the registers are as they were. */
 uint64_t frames_c_step(frames_section section, frames_memory memory, frames_frame *frame,
-                       frames_section *back, frames_memory *memory_back);
+                       frames_section *back, frames_memory *memory_back) FRAMES_C_NONNULL;
 
 /* ---- exceptions ------------------------------------------------------------------------------ */
 
@@ -290,22 +305,24 @@ enum frames_row_table_made {
 };
 
 /* Makes the row table of a section. Where it isn't 0, `out` holds nothing. */
-uint64_t frames_c_row_table(frames_section section, frames_row_table *out, frames_section *back);
+uint64_t frames_c_row_table(frames_section section, frames_row_table *out, frames_section *back)
+    FRAMES_C_NONNULL;
 
 /* Another share of the same table, which is freed by itself. False: memory ran out. */
 bool frames_c_row_table_share(frames_row_table table, frames_row_table *out,
-                              frames_row_table *back);
+                              frames_row_table *back) FRAMES_C_NONNULL;
 
 /* Frees a share, and the table with its last one. */
 void frames_c_row_table_free(frames_row_table table);
 
 /* What frames_c_row of the section tells. */
 bool frames_c_row_table_row(frames_row_table table, uint64_t pc, frames_row *out,
-                            frames_row_table *back);
+                            frames_row_table *back) FRAMES_C_NONNULL;
 
 /* What frames_c_step by the section makes of a frame. */
 uint64_t frames_c_row_table_step(frames_row_table table, frames_memory memory, frames_frame *frame,
-                                 frames_row_table *back, frames_memory *memory_back);
+                                 frames_row_table *back, frames_memory *memory_back)
+    FRAMES_C_NONNULL;
 
 #ifdef __cplusplus
 }

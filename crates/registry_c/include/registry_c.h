@@ -15,7 +15,10 @@
  *   - A client is one pointer. C owns it from the call that wrote it until it is joined or closed.
  *     A call takes it by value and gives it back through `back`, which may be the same variable:
  *     registry_c_find(client, pc, &place, &client). Never pass one that was joined, closed, or
- *     passed and not given back, and never read or copy what it leads to.
+ *     passed and not given back, and never read or copy what it leads to. No call can tell one
+ *     that was joined or closed: set the variable to {0}, and test its `at` where it may hold
+ *     nothing. No call tests for {0} either: it reads at address 0 or a little above, at which most
+ *     systems end the program.
  *   - One call at a time is given a client. Each thread has one of its own (registry_c_split), and
  *     threads with a client each don't meet: no call waits. A client goes from one thread to
  *     another in order: by a lock, or by a thread's start or join.
@@ -66,6 +69,14 @@
 #include <stddef.h>
 #include <stdint.h>
 
+/* Compilers that know the word warn of a null pointer in the place of an argument, and with
+ * -fsanitize=nonnull-attribute the program ends at one. */
+#if defined(__GNUC__)
+#define REGISTRY_C_NONNULL __attribute__((nonnull))
+#else
+#define REGISTRY_C_NONNULL
+#endif
+
 #ifdef __cplusplus
 extern "C" {
 #endif
@@ -106,7 +117,7 @@ enum registry_new {
 
 /* Makes a registry and its first client, which has all 67,108,864 update calls. */
 uint64_t registry_c_new(const registry_limits *limits, const registry_member *fixed, size_t count,
-                        registry_client *out);
+                        registry_client *out) REGISTRY_C_NONNULL;
 
 enum registry_split {
   REGISTRY_SPLIT = 0,           /* `out` has a client                                          */
@@ -117,7 +128,7 @@ enum registry_split {
 /* Splits off a client, for another thread, and gives it so many of the update calls that are
  * left. */
 uint64_t registry_c_split(registry_client client, uint32_t give, registry_client *out,
-                          registry_client *back);
+                          registry_client *back) REGISTRY_C_NONNULL;
 
 enum registry_join {
   REGISTRY_JOINED = 0,             /* `other` is gone, and `other_back` isn't written           */
@@ -130,17 +141,17 @@ enum registry_join {
 /* Joins `other` into a client: its update calls, and what it has seen. An `other_back` that is {0}
  * and not the variable `other` itself shows whether one was lost. */
 uint64_t registry_c_join(registry_client client, registry_client other, registry_client *back,
-                         registry_client *other_back);
+                         registry_client *other_back) REGISTRY_C_NONNULL;
 
 /* Frees a client, and the registry with its last one. `seen` is how many updates it had seen. True:
  * every other client was joined into it, and then these are all that were ever accepted. */
-bool registry_c_close(registry_client client, uint32_t *seen);
+bool registry_c_close(registry_client client, uint32_t *seen) REGISTRY_C_NONNULL;
 
 /* How many update calls a client may still begin. One that is begun isn't among them. */
-uint32_t registry_c_left(registry_client client, registry_client *back);
+uint32_t registry_c_left(registry_client client, registry_client *back) REGISTRY_C_NONNULL;
 
 /* How many updates a client has seen. */
-uint32_t registry_c_seen(registry_client client, registry_client *back);
+uint32_t registry_c_seen(registry_client client, registry_client *back) REGISTRY_C_NONNULL;
 
 /* ---- lookups --------------------------------------------------------------------------------- */
 
@@ -159,11 +170,11 @@ typedef struct {
 
 /* Looks an address up once among the registered ranges. */
 void registry_c_try_registered(registry_client client, uint64_t pc, registry_found *found,
-                               registry_client *back);
+                               registry_client *back) REGISTRY_C_NONNULL;
 
 /* Looks an address up once among the fixed and the loaded ranges. */
 void registry_c_try_loaded(registry_client client, uint64_t pc, registry_found *found,
-                           registry_client *back);
+                           registry_client *back) REGISTRY_C_NONNULL;
 
 enum registry_place_kind {
   REGISTRY_NOWHERE = 0,    /* neither half has the address, each at its stamp              */
@@ -183,7 +194,7 @@ typedef struct {
 /* Looks an address up once among the registered ranges, and where none has it, once among the
  * fixed and the loaded ones. */
 void registry_c_find(registry_client client, uint64_t pc, registry_place *place,
-                     registry_client *back);
+                     registry_client *back) REGISTRY_C_NONNULL;
 
 /* ---- updates --------------------------------------------------------------------------------- */
 
@@ -208,19 +219,19 @@ typedef struct {
 
 /* Tries to register a range, which must overlap no other registered one. */
 void registry_c_register(registry_client client, const registry_member *member,
-                         registry_answer *answer, registry_client *back);
+                         registry_answer *answer, registry_client *back) REGISTRY_C_NONNULL;
 
 /* Tries to remove the registered range that begins at an address. */
 void registry_c_deregister(registry_client client, uint64_t first, registry_answer *answer,
-                           registry_client *back);
+                           registry_client *back) REGISTRY_C_NONNULL;
 
 /* Tries to load a range, which must overlap no fixed or loaded one. */
 void registry_c_load(registry_client client, const registry_member *member,
-                     registry_answer *answer, registry_client *back);
+                     registry_answer *answer, registry_client *back) REGISTRY_C_NONNULL;
 
 /* Tries to unload the loaded range that begins at an address. A fixed one stays. */
 void registry_c_unload(registry_client client, uint64_t first, registry_answer *answer,
-                       registry_client *back);
+                       registry_client *back) REGISTRY_C_NONNULL;
 
 #ifdef __cplusplus
 }
