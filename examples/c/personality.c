@@ -102,7 +102,7 @@ void sealed(void (*body)(void));
 /* clang-format off */
 #define BEGIN(name)                            \
   ".globl " name "\n.type " name ",@function\n" name ":\n.cfi_startproc\n"  \
-  ".cfi_personality 0x1b, of_kinds\n.cfi_lsda 0x1b, " name "_table\n"    \
+  ".cfi_personality 0x1b, of_kinds\n.cfi_lsda 0x1b, " name "_table\n"       \
   "pushq %rbx\n.cfi_def_cfa_offset 16\n.cfi_offset 3, -16\n"                \
   name "_call:\ncall *%rdi\n" name "_called:\n"
 #define RETURN "popq %rbx\n.cfi_def_cfa_offset 8\nret\n.cfi_def_cfa_offset 16\n"
