@@ -1,8 +1,9 @@
 -- The line that says why a script is refused.
-use Rattle.std.specs.Prelude.{ℕ, List, [], ◌++◌, codes}
+use Rattle.std.specs.Prelude.{◌≡◌, ℕ, ◌≤◌, List, [], ◌++◌, length, codes, Option, IfSome}
 use Rattle.std.specs.Fmt.{decimal}
 use Rattle.frame_parse.specs.declared.fault.FrameFault.{FrameFault}
 use Rattle.frame_parse.specs.declared.fault.FrameFault.TheVariants as section
+use Rattle.event_script.specs.Refusal.{IsFirstBad}
 use Rattle.event_script.specs.declared.reader.fault.Reason.{Reason}
 use Rattle.event_script.specs.declared.reader.fault.Reason.TheVariants.{Missing, After, Unended}
 use Rattle.event_script.specs.declared.reader.fault.Reason.TheVariants.{Byte, Word, Fields}
@@ -54,3 +55,11 @@ reason_text Region = codes "region"
 abbrev pub fault_text : ℕ → Reason → List ℕ
 fault_text line reason =
     codes "script line " ++ decimal line ++ codes ": " ++ reason_text reason ++ codes "\n"
+
+-- The text tells of a bad line, the first one of the bytes, where they are told, and of the first
+-- reason that holds. They are no more than a program takes.
+pub record IsRefusal (limit : ℕ) (input : Option (List ℕ)) (text : List ℕ) : Type 0 where
+  pub line : ℕ
+  pub reason : Reason
+  pub first : IfSome input (λ bytes. (length bytes ≤ limit) × IsFirstBad bytes line reason)
+  pub text_is : text ≡ fault_text line reason

@@ -60,24 +60,35 @@ loaded_text (Some found) = codes " loaded " ++ found_text found
 abbrev pub place_text : Place → List ℕ
 place_text place = codes "registered " ++ found_text place.registered ++ loaded_text place.loaded
 
+abbrev pub addresses_text : FrameLine → List ℕ
+addresses_text line =
+    codes " pc " ++ hex line.pc ++ codes " sp " ++ hex line.sp ++ codes " look " ++ hex line.look
+    ++ codes " "
+
+-- what is told of a frame under a word
+abbrev pub frame_text : List ℕ → ℕ → FrameLine → List ℕ
+frame_text word number line =
+    word ++ codes " " ++ decimal number ++ addresses_text line ++ place_text line.place
+
 -- what the line of a frame says, which are numbered from 0
 abbrev pub frame_line : ℕ → FrameLine → List ℕ
-frame_line number line =
-    codes "frame " ++ decimal number ++ codes " pc " ++ hex line.pc ++ codes " sp " ++ hex line.sp
-    ++ codes " look " ++ hex line.look ++ codes " " ++ place_text line.place
+frame_line number line = frame_text (codes "frame") number line
 
 abbrev pub frame_lines : ℕ → List FrameLine → List (List ℕ)
 frame_lines number [] = []
 frame_lines number (line ∷ lines) = frame_line number line ∷ frame_lines (number + 1) lines
 
 -- why there are no more
+abbrev pub end_text : End → List ℕ
+end_text end.NoObject = codes "noobject"
+end_text end.NoFde = codes "nofde"
+end_text end.NoRow = codes "norow"
+end_text end.Undefined = codes "undefined"
+end_text (end.NoBytes address) = codes "nobytes " ++ hex address
+end_text end.Long = codes "long"
+
 abbrev pub end_line : End → List ℕ
-end_line end.NoObject = codes "end noobject"
-end_line end.NoFde = codes "end nofde"
-end_line end.NoRow = codes "end norow"
-end_line end.Undefined = codes "end undefined"
-end_line (end.NoBytes address) = codes "end nobytes " ++ hex address
-end_line end.Long = codes "end long"
+end_line e = codes "end " ++ end_text e
 
 abbrev pub trace_lines : TraceData → List (List ℕ)
 trace_lines trace = frame_lines 0 trace.frames ++ end_line trace.end ∷ []

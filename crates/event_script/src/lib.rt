@@ -10,17 +10,21 @@
 mod journal;
 pub mod laws;
 mod limits;
+mod members;
 mod print;
 mod reader;
 mod script;
 
 pub use journal::{Answer, Journal};
 pub use limits::MOST_LOADS;
+pub use members::{member_of, members_of};
 pub use print::fault::print_fault;
 pub use print::journal::{
-    EventNumber, line_count, print_answer, print_journal, print_updates, put_event_line,
+    EventNumber, line_count, print_answer, print_journal, print_updates, put_end, put_event_line,
+    put_frame,
 };
 pub use print::script::print_script;
 pub use reader::fault::Reason;
+pub use reader::numbers::{decimal_in, hex_in};
 pub use reader::{ScriptFault, read};
 pub use script::{Event, Round, Script, Snapshot, Thread};

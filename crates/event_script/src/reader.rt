@@ -11,7 +11,7 @@ mod draft;
 pub mod fault;
 mod fields;
 mod kinds;
-mod numbers;
+pub mod numbers;
 mod snapshot_draft;
 mod statement;
 mod totals;

@@ -5,9 +5,9 @@ ghost use Rattle.std.specs.Prelude.{codes, decimal};
 ghost use Rattle.std.specs.String.{string_bytes};
 ghost use Rattle.event_script.specs.Digits.{hex};
 ghost use Rattle.event_script.specs.Text.{IsPrintable, overlap_text, inserted_text, loading_text};
-ghost use Rattle.event_script.specs.Text.{removed_text, found_text, place_text, frame_line};
-ghost use Rattle.event_script.specs.Text.{end_line, trace_lines, answer_line, answer_lines};
-ghost use Rattle.event_script.specs.Text.{event_line, event_number};
+ghost use Rattle.event_script.specs.Text.{removed_text, found_text, place_text, frame_text};
+ghost use Rattle.event_script.specs.Text.{end_text, end_line, trace_lines, answer_line};
+ghost use Rattle.event_script.specs.Text.{answer_lines, event_line, event_number, addresses_text};
 ghost use Rattle.event_script.specs.Text.{answer_text, numbered, thread_text, updates_text};
 ghost use Rattle.event_script.specs.Text.{journal_text};
 
@@ -110,47 +110,76 @@ fn put_trace_line(text: &mut String, trace: &Trace, line: usize) -> Result<(), A
         ≡ string_bytes text.old ++ slice_index_or (trace_lines trace.now) line []) }
 {
     if line < trace.frames.len() {
-        put_frame(text, line, &trace.frames[line])
+        put_frame(text, "frame", line, &trace.frames[line])
     } else {
-        put_end(text, trace.end)
+        put_end_line(text, trace.end)
     }
 }
 
-/// Adds the line of a frame.
-fn put_frame(text: &mut String, number: usize, line: &FrameLine) -> Result<(), AllocError>
+/// Adds what is told of a frame under a word: its number, its addresses, and where it was found.
+pub fn put_frame(
+    text: &mut String,
+    word: &str,
+    number: usize,
+    line: &FrameLine,
+) -> Result<(), AllocError>
     ensures { OnOk result (string_bytes text.new
-        ≡ string_bytes text.old ++ frame_line number line.now) }
+        ≡ string_bytes text.old ++ frame_text word.now number line.now) }
 {
-    put_frame_start(text, number, line.pc, line.sp, line.look)?;
+    put_frame_start(text, word, number, line)?;
     put_place(text, &line.place)
 }
 
-/// Adds the number and the addresses of a frame, and a space.
+/// Adds the word, the number and the addresses of a frame, and a space.
 fn put_frame_start(
     text: &mut String,
+    word: &str,
     number: usize,
-    pc: u64,
-    sp: u64,
-    look: u64,
+    line: &FrameLine,
 ) -> Result<(), AllocError>
     ensures { OnOk result (string_bytes text.new ≡ string_bytes text.old
-        ++ (codes "frame " ++ decimal number ++ codes " pc " ++ hex pc ++ codes " sp " ++ hex sp
-        ++ codes " look " ++ hex look ++ codes " ")) }
+        ++ (word.now ++ codes " " ++ decimal number ++ addresses_text line.now)) }
 {
-    write!(text, "frame {number} pc {pc:x} sp {sp:x} look {look:x} ")
+    put_word(text, word, number)?;
+    put_addresses(text, line)
+}
+
+/// Adds a word and a number.
+fn put_word(text: &mut String, word: &str, number: usize) -> Result<(), AllocError>
+    ensures { OnOk result (string_bytes text.new
+        ≡ string_bytes text.old ++ (word.now ++ codes " " ++ decimal number)) }
+{
+    write!(text, "{word} {number}")
+}
+
+/// Adds the addresses of a frame, with a space before and behind.
+fn put_addresses(text: &mut String, line: &FrameLine) -> Result<(), AllocError>
+    ensures { OnOk result (string_bytes text.new
+        ≡ string_bytes text.old ++ addresses_text line.now) }
+{
+    let (pc, sp, look) = (line.pc, line.sp, line.look);
+    write!(text, " pc {pc:x} sp {sp:x} look {look:x} ")
 }
 
 /// Adds the line that says why there are no more frames.
-fn put_end(text: &mut String, end: End) -> Result<(), AllocError>
+fn put_end_line(text: &mut String, end: End) -> Result<(), AllocError>
     ensures { OnOk result (string_bytes text.new ≡ string_bytes text.old ++ end_line end) }
 {
+    text.push_str("end ")?;
+    put_end(text, end)
+}
+
+/// Adds the word for why there are no more frames.
+pub fn put_end(text: &mut String, end: End) -> Result<(), AllocError>
+    ensures { OnOk result (string_bytes text.new ≡ string_bytes text.old ++ end_text end) }
+{
     match end {
-        End::NoObject => text.push_str("end noobject"),
-        End::NoFde => text.push_str("end nofde"),
-        End::NoRow => text.push_str("end norow"),
-        End::Undefined => text.push_str("end undefined"),
-        End::NoBytes { address } => write!(text, "end nobytes {address:x}"),
-        End::Long => text.push_str("end long"),
+        End::NoObject => text.push_str("noobject"),
+        End::NoFde => text.push_str("nofde"),
+        End::NoRow => text.push_str("norow"),
+        End::Undefined => text.push_str("undefined"),
+        End::NoBytes { address } => write!(text, "nobytes {address:x}"),
+        End::Long => text.push_str("long"),
     }
 }
 

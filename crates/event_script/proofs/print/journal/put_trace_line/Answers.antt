@@ -22,5 +22,5 @@ returns-else-line-len c =
     let line = c.args.line in
     let trace : TraceData = record { frames = c.trace.inside.frames.items; end = c.trace.inside.end } in
     let is : get_or (trace_lines trace) line [] ≡ end_line trace.end = end_of_trace trace line (omega (arith)) (subst (λ (t : TraceData). line < length (trace_lines t)) (sym c.trace.view_is) c.requires) in
-    subst (λ (t : TraceData). OnOk c.put_end.result (string_bytes c.put_end.new.text ≡ string_bytes c.args.text.now ++ get_or (trace_lines t) line [])) c.trace.view_is
-    (on_ok_weaker c.put_end.result (λ e. e ∙ ap (λ (x : List ℕ). string_bytes c.args.text.now ++ x) (sym is)) c.put_end.ensures)
+    subst (λ (t : TraceData). OnOk c.put_end_line.result (string_bytes c.put_end_line.new.text ≡ string_bytes c.args.text.now ++ get_or (trace_lines t) line [])) c.trace.view_is
+    (on_ok_weaker c.put_end_line.result (λ e. e ∙ ap (λ (x : List ℕ). string_bytes c.args.text.now ++ x) (sym is)) c.put_end_line.ensures)
