@@ -227,7 +227,7 @@ module _ (t : Terms) (k0 k3 k4 : CallerData) (found : ℕ) (u : Update) (works :
                   loader = loader i;
                 };
               }))),
-          λ _. lock.1.1,
+          lock.1.1,
         ),
       )
 
@@ -284,7 +284,7 @@ published_with u k0 k4 k5 found number right r works held after rest is ok =
                 loader = option_map exchange_copies (loader i);
               };
             }))),
-        λ no. absurd (true≢false no),
+        refl,
       ),
     )
 

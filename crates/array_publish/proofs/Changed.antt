@@ -1,7 +1,7 @@
 -- A list with one member more, or one less: where its members stand, and what it has.
-use Rattle.std.proofs.Common.{◌≡◌, ◌↔◌, ◌==◌, ◌≢◌, ℕ, zero, suc, ◌+◌, ◌-◌, ◌<◌, ◌≤◌, ◌⊎◌, inl, inr, ⊎_elim, List, [], ◌∷◌, ◌++◌, length, length-append, take, drop, get_or, Contains, sym, refl, ap, ◌∙◌, subst, arith, IfSome, slice_get, eq-eqb, ne_eqb, lt_of_not-le}
+use Rattle.std.proofs.Common.{◌≡◌, ◌↔◌, ◌==◌, ◌≢◌, ℕ, zero, suc, ◌+◌, ◌-◌, ◌<◌, ◌≤◌, ◌⊎◌, inl, inr, ⊎_elim, List, [], ◌∷◌, ◌++◌, length, take, drop, get_or, Contains, sym, refl, ap, ◌∙◌, subst, arith, IfSome, slice_get, eq-eqb, ne_eqb, lt_of_not-le}
 use Rattle.std.specs.List.{All, AllByRecursion}
-use Rattle.std.proofs.lemmas.List.{length-drop, length-take, take-append-drop}
+use Rattle.std.proofs.lemmas.List.{length-take, take-append-drop}
 use Rattle.std.proofs.lemmas.List.Elements.{All-append, Contains-get_or}
 use native.Mathlib.Decide.{ℕ_discrete, dec_le}
 use borrow.Author.Tests.{lt-ltb, le-ltb}
@@ -19,6 +19,8 @@ use Rattle.word_rule.specs.Steps.{MayPublish}
 use Rattle.word_rule.specs.declared.log.LoaderHolding.{LoaderHolding}
 use Rattle.word_rule.specs.declared.log.Terms.{Terms}
 use Rattle.reg_model.specs.declared.answer.Update.TheVariants as update
+use Rattle.node_store.specs.Entries.{with_entry_at, without_entry_at}
+use Rattle.node_store.proofs.LeafWords.{cut_length, put_length}
 use Rattle.word_rule.proofs.Listings.{contains_find}
 use Rattle.array_publish.proofs.Lookups.{begins_above}
 use Rattle.array_publish.specs.Holders.{member_in}
@@ -60,14 +62,7 @@ stand_each words j (x ∷ xs) d h =
 
 -- ---- one member more
 
-abbrev pub put_at : ℕ → Member → List Member → List Member
-put_at k m xs = take k xs ++ m ∷ drop k xs
-
-pub put_length : (k : ℕ) (m : Member) (xs : List Member) → k ≤ length xs → length (put_at k m xs) ≡ length xs + 1
-put_length k m xs le =
-    let a = length-append (take k xs) (m ∷ drop k xs) in let b = length-take k xs in let c = length-drop k xs in omega (arith, a, b, c, le)
-
-pub put_member : (words : List ℕ) (xs : List Member) (k i : ℕ) (m : Member) → StandFrom words 0 xs → k ≤ length xs → i < length xs + 1 → wanted (Put k m) words i ≡ get_or (put_at k m xs) i m
+pub put_member : (words : List ℕ) (xs : List Member) (k i : ℕ) (m : Member) → StandFrom words 0 xs → k ≤ length xs → i < length xs + 1 → wanted (Put k m) words i ≡ get_or (with_entry_at k m xs) i m
 put_member words xs k i m h le less = go (dec_le k i) (ℕ_discrete i k)
   where
     len : length (take k xs) ≡ k
@@ -76,17 +71,17 @@ put_member words xs k i m h le less = go (dec_le k i) (ℕ_discrete i k)
     at : (j : ℕ) → j < length xs → member_in words j ≡ get_or xs j m
     at j inside = (let e : j ≡ 0 + j = omega arith in ap (member_in words) e) ∙ stands_at words 0 j xs m h inside
 
-    go : Dec (k ≤ i) → Dec (i ≡ k) → wanted (Put k m) words i ≡ get_or (put_at k m xs) i m
+    go : Dec (k ≤ i) → Dec (i ≡ k) → wanted (Put k m) words i ≡ get_or (with_entry_at k m xs) i m
     go (no high) same =
         let less_k = lt_of_not-le high in
         let l = len in
         rw (lt-ltb i k less_k) (at i (omega (arith, less_k, le)) ∙ sym (get_front (take k xs) (m ∷ drop k xs) i m (omega (arith, l, less_k)) ∙ get_taken k i xs m less_k))
     go (yes low) (yes e) =
         let l = len in let place : i ≡ length (take k xs) + 0 = omega (arith, e, l) in
-        rw (le-ltb i k low, eq-eqb i k e) (sym (ap (λ j. get_or (put_at k m xs) j m) place ∙ get_behind (take k xs) (m ∷ drop k xs) 0 m))
+        rw (le-ltb i k low, eq-eqb i k e) (sym (ap (λ j. get_or (with_entry_at k m xs) j m) place ∙ get_behind (take k xs) (m ∷ drop k xs) 0 m))
     go (yes low) (no ne) =
         let l = len in let place : i ≡ length (take k xs) + suc (i - 1 - k) = omega (arith, ne, low, l) in let back : k + (i - 1 - k) ≡ i - 1 = omega (arith, ne, low) in
-        rw (le-ltb i k low, ne_eqb i k ne) (at (i - 1) (omega (arith, less, ne, low)) ∙ sym (ap (λ j. get_or (put_at k m xs) j m) place ∙ (get_behind (take k xs) (m ∷ drop k xs) (suc (i - 1 - k)) m ∙ (dropped_at k (i - 1 - k) xs m ∙ ap (λ j. get_or xs j m) back))))
+        rw (le-ltb i k low, ne_eqb i k ne) (at (i - 1) (omega (arith, less, ne, low)) ∙ sym (ap (λ j. get_or (with_entry_at k m xs) j m) place ∙ (get_behind (take k xs) (m ∷ drop k xs) (suc (i - 1 - k)) m ∙ (dropped_at k (i - 1 - k) xs m ∙ ap (λ j. get_or xs j m) back))))
 
 -- ---- where a span fits among members that ascend
 
@@ -141,15 +136,15 @@ fits_at xs k m d h span le end begin =
     )
 
 -- the words that were written list the members with this one
-pub lists_put : (k n : ℕ) (m : Member) (xs : List Member) (active spare : List ℕ) → ListsMembers active xs → n ≡ length xs → k ≤ n → AscendFrom 0 (put_at k m xs) → IsWritten (Put k m) active (n + 1) spare → ListsMembers spare (put_at k m xs)
+pub lists_put : (k n : ℕ) (m : Member) (xs : List Member) (active spare : List ℕ) → ListsMembers active xs → n ≡ length xs → k ≤ n → AscendFrom 0 (with_entry_at k m xs) → IsWritten (Put k m) active (n + 1) spare → ListsMembers spare (with_entry_at k m xs)
 lists_put k n m xs active spare lists len le ascending written =
-    let count : n + 1 ≡ length (put_at k m xs) = (let a = put_length k m xs (omega (arith, len, le)) in omega (arith, a, len)) in record {
+    let count : n + 1 ≡ length (with_entry_at k m xs) = (let a = put_length k m xs (omega (arith, len, le)) in omega (arith, a, len)) in record {
       head = written.head ∙ ap segments count;
       count = written.number ∙ count;
       previous = λ s less. (written.headers s (omega (arith, less, count))).0;
       counts = λ s less. (written.headers s (omega (arith, less, count))).1 ∙ ap (λ c. count_in c s) count;
       ascending = ascending;
-      stand = stand_each spare 0 (put_at k m xs) m (λ i less. (let e : 0 + i ≡ i = omega arith in ap (member_in spare) e) ∙ (written.members i (omega (arith, less, count)) ∙ put_member active xs k i m lists.stand (omega (arith, len, le)) (omega (arith, less, count, len))));
+      stand = stand_each spare 0 (with_entry_at k m xs) m (λ i less. (let e : 0 + i ≡ i = omega arith in ap (member_in spare) e) ∙ (written.members i (omega (arith, less, count)) ∙ put_member active xs k i m lists.stand (omega (arith, len, le)) (omega (arith, less, count, len))));
     }
 
 -- so a load may be published
@@ -159,7 +154,7 @@ may_load t allowance k n m d xs h due member lists len room le fixed end begin w
     let fit = fits_at xs k m d lists.ascending member.0.ordered (omega (arith, le, len)) end begin in
     let w = with_member xs m k lists.ascending member.0.ordered fit.0 fit.1 in record {
       before = xs;
-      after = put_at k m xs;
+      after = with_entry_at k m xs;
       due = due;
       member = member;
       active = lists;
@@ -169,14 +164,7 @@ may_load t allowance k n m d xs h due member lists len room le fixed end begin w
 
 -- ---- one member less
 
-abbrev pub cut_at : ℕ → List Member → List Member
-cut_at k xs = take k xs ++ drop (suc k) xs
-
-pub cut_length : (k : ℕ) (xs : List Member) → k < length xs → length (cut_at k xs) + 1 ≡ length xs
-cut_length k xs less =
-    let a = length-append (take k xs) (drop (suc k) xs) in let b = length-take k xs in let c = length-drop (suc k) xs in omega (arith, a, b, c, less)
-
-pub cut_member : (words : List ℕ) (xs : List Member) (k i : ℕ) (d : Member) → StandFrom words 0 xs → k < length xs → i + 1 < length xs → wanted (Take k) words i ≡ get_or (cut_at k xs) i d
+pub cut_member : (words : List ℕ) (xs : List Member) (k i : ℕ) (d : Member) → StandFrom words 0 xs → k < length xs → i + 1 < length xs → wanted (Take k) words i ≡ get_or (without_entry_at k xs) i d
 cut_member words xs k i d h inside less = go (dec_le k i)
   where
     len : length (take k xs) ≡ k
@@ -185,22 +173,22 @@ cut_member words xs k i d h inside less = go (dec_le k i)
     at : (j : ℕ) → j < length xs → member_in words j ≡ get_or xs j d
     at j within = (let e : j ≡ 0 + j = omega arith in ap (member_in words) e) ∙ stands_at words 0 j xs d h within
 
-    go : Dec (k ≤ i) → wanted (Take k) words i ≡ get_or (cut_at k xs) i d
+    go : Dec (k ≤ i) → wanted (Take k) words i ≡ get_or (without_entry_at k xs) i d
     go (no high) =
         let less_k = lt_of_not-le high in
         let l = len in
         rw (lt-ltb i k less_k) (at i (omega (arith, less)) ∙ sym (get_front (take k xs) (drop (suc k) xs) i d (omega (arith, l, less_k)) ∙ get_taken k i xs d less_k))
     go (yes low) =
         let l = len in let place : i ≡ length (take k xs) + (i - k) = omega (arith, low, l) in let back : suc k + (i - k) ≡ i + 1 = omega (arith, low) in
-        rw (le-ltb i k low) (at (i + 1) less ∙ sym (ap (λ j. get_or (cut_at k xs) j d) place ∙ (get_behind (take k xs) (drop (suc k) xs) (i - k) d ∙ (dropped_at (suc k) (i - k) xs d ∙ ap (λ j. get_or xs j d) back))))
+        rw (le-ltb i k low) (at (i + 1) less ∙ sym (ap (λ j. get_or (without_entry_at k xs) j d) place ∙ (get_behind (take k xs) (drop (suc k) xs) (i - k) d ∙ (dropped_at (suc k) (i - k) xs d ∙ ap (λ j. get_or xs j d) back))))
 
-pub cut_ascends : (low k : ℕ) (xs : List Member) → AscendFrom low xs → AscendFrom low (cut_at k xs)
+pub cut_ascends : (low k : ℕ) (xs : List Member) → AscendFrom low xs → AscendFrom low (without_entry_at k xs)
 cut_ascends low zero [] h = tt
 cut_ascends low zero (x ∷ xs) h = let a = h.0 in let b = h.1 in ascend_lower low (x.span.last + 1) xs (omega (arith, a, b)) h.2
 cut_ascends low (suc k) [] h = tt
 cut_ascends low (suc k) (x ∷ xs) h = (h.0, h.1, cut_ascends (x.span.last + 1) k xs h.2)
 
-pub cut_contains : (low k : ℕ) (xs : List Member) (d x : Member) → AscendFrom low xs → k < length xs → Contains (cut_at k xs) x ↔ (Contains xs x × (x.span.first ≢ (get_or xs k d).span.first))
+pub cut_contains : (low k : ℕ) (xs : List Member) (d x : Member) → AscendFrom low xs → k < length xs → Contains (without_entry_at k xs) x ↔ (Contains xs x × (x.span.first ≢ (get_or xs k d).span.first))
 cut_contains low k [] d x h inside = absurd (omega (arith, inside))
 cut_contains low zero (y ∷ xs) d x h inside = (
   (λ c. let from = begins_above (y.span.last + 1) xs x h.2 c in let o = h.1 in ((suc c.0, (let l = c.1 in omega (arith, l)), c.2), (λ e. omega (arith, e, from, o)))),
@@ -215,36 +203,36 @@ cut_contains low (suc k) (y ∷ xs) d x h inside = let rest = cut_contains (y.sp
     above : y.span.first < (get_or xs k d).span.first
     above = let b = begins_above (y.span.last + 1) xs (get_or xs k d) h.2 (Contains-get_or xs k d (omega (arith, inside))) in let o = h.1 in omega (arith, b, o)
 
-    to : (Contains (cut_at k xs) x ↔ (Contains xs x × (x.span.first ≢ (get_or xs k d).span.first))) → Contains (y ∷ cut_at k xs) x → Contains (y ∷ xs) x × (x.span.first ≢ (get_or xs k d).span.first)
+    to : (Contains (without_entry_at k xs) x ↔ (Contains xs x × (x.span.first ≢ (get_or xs k d).span.first))) → Contains (y ∷ without_entry_at k xs) x → Contains (y ∷ xs) x × (x.span.first ≢ (get_or xs k d).span.first)
     to rest (zero, l, e) = ((0, omega arith, e), (λ same. let f = ap (λ (z : Member). z.span.first) e in let a = above in omega (arith, same, f, a)))
     to rest (suc j, l, e) = let r = rest.0 (j, omega (arith, l), e) in ((suc r.0.0, (let s = r.0.1 in omega (arith, s)), r.0.2), r.1)
 
-    from : (Contains (cut_at k xs) x ↔ (Contains xs x × (x.span.first ≢ (get_or xs k d).span.first))) → x.span.first ≢ (get_or xs k d).span.first → Contains (y ∷ xs) x → Contains (y ∷ cut_at k xs) x
+    from : (Contains (without_entry_at k xs) x ↔ (Contains xs x × (x.span.first ≢ (get_or xs k d).span.first))) → x.span.first ≢ (get_or xs k d).span.first → Contains (y ∷ xs) x → Contains (y ∷ without_entry_at k xs) x
     from rest far (zero, l, e) = (0, omega arith, e)
     from rest far (suc j, l, e) = let r = rest.1 ((j, omega (arith, l), e), far) in (suc r.0, (let s = r.1 in omega (arith, s)), r.2)
 
-pub lists_cut : (k n : ℕ) (d : Member) (xs : List Member) (active spare : List ℕ) → ListsMembers active xs → n ≡ length xs → k < n → IsWritten (Take k) active (n - 1) spare → ListsMembers spare (cut_at k xs)
+pub lists_cut : (k n : ℕ) (d : Member) (xs : List Member) (active spare : List ℕ) → ListsMembers active xs → n ≡ length xs → k < n → IsWritten (Take k) active (n - 1) spare → ListsMembers spare (without_entry_at k xs)
 lists_cut k n d xs active spare lists len less written =
-    let count : n - 1 ≡ length (cut_at k xs) = (let a = cut_length k xs (omega (arith, len, less)) in omega (arith, a, len)) in record {
+    let count : n - 1 ≡ length (without_entry_at k xs) = (let a = cut_length k xs (omega (arith, len, less)) in omega (arith, a, len)) in record {
       head = written.head ∙ ap segments count;
       count = written.number ∙ count;
       previous = λ s few. (written.headers s (omega (arith, few, count))).0;
       counts = λ s few. (written.headers s (omega (arith, few, count))).1 ∙ ap (λ c. count_in c s) count;
       ascending = cut_ascends 0 k xs lists.ascending;
-      stand = stand_each spare 0 (cut_at k xs) d (λ i few. (let e : 0 + i ≡ i = omega arith in ap (member_in spare) e) ∙ (written.members i (omega (arith, few, count)) ∙ cut_member active xs k i d lists.stand (omega (arith, len, less)) (omega (arith, few, count, len, less))));
+      stand = stand_each spare 0 (without_entry_at k xs) d (λ i few. (let e : 0 + i ≡ i = omega arith in ap (member_in spare) e) ∙ (written.members i (omega (arith, few, count)) ∙ cut_member active xs k i d lists.stand (omega (arith, len, less)) (omega (arith, few, count, len, less))));
     }
 
 -- so an unload may be published
 pub may_unload : (t : Terms) (allowance k n base : ℕ) (d : Member) (xs : List Member) (h : LoaderHolding) → 0 < allowance → ListsMembers h.active xs → n ≡ length xs → k < n → (get_or xs k d).span.first ≡ base → IsWritten (Take k) h.active (n - 1) h.spare → MayPublish t allowance (update.Unload base) h
 may_unload t allowance k n base d xs h due lists len less is written = record {
   before = xs;
-  after = cut_at k xs;
+  after = without_entry_at k xs;
   due = due;
   member = tt;
   active = lists;
   spare = lists_cut k n d xs h.active h.spare lists len less written;
   publishes = (
     contains_find (λ (m : Member). m.span.first == base) xs (get_or xs k d) (Contains-get_or xs k d (omega (arith, len, less))) (eq-eqb (get_or xs k d).span.first base is),
-    λ x. subst (λ b. Contains (cut_at k xs) x ↔ (Contains xs x × (x.span.first ≢ b))) is (cut_contains 0 k xs d x lists.ascending (omega (arith, len, less))),
+    λ x. subst (λ b. Contains (without_entry_at k xs) x ↔ (Contains xs x × (x.span.first ≢ b))) is (cut_contains 0 k xs d x lists.ascending (omega (arith, len, less))),
   );
 }

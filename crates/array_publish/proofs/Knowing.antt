@@ -1,5 +1,5 @@
 -- What the holder of the loader's lock knows of the active copy.
-use Rattle.std.proofs.Common.{◌≡◌, ℕ, suc, ◌<◌, ◌≤◌, ◌%◌, ◌↔◌, List, [], ◌∷◌, length, get_or, Contains, sym, refl, ap, ◌∙◌, subst, arith, Some, IfSome, IsSomeAnd}
+use Rattle.std.proofs.Common.{◌≡◌, ℕ, suc, ◌<◌, ◌≤◌, ◌%◌, ◌↔◌, List, [], ◌∷◌, length, get_or, Contains, sym, refl, ap, ◌∙◌, subst, arith, Some, IfSome, IsSomeAnd, false}
 use Rattle.std.specs.List.{AllByRecursion}
 use Rattle.std.proofs.lemmas.List.Elements.{Contains-append_right, Contains-get_or}
 use Rattle.reg_model.specs.State.{objects}
@@ -12,13 +12,13 @@ use Rattle.word_rule.specs.declared.log.Terms.{Terms}
 use Rattle.word_rule.specs.CallerData.{CallerData, WordsData}
 use Rattle.word_rule.specs.Callers.{IsMemberOf, start}
 use Rattle.word_rule.specs.Clock.{AfterClock, ClockTells}
-use Rattle.word_rule.specs.Copies.{ListsAll, ListsMembers}
+use Rattle.word_rule.specs.Copies.{IsBehind, ListsAll, ListsMembers}
 use Rattle.word_rule.specs.Places.{copy_words, upper}
 use Rattle.word_rule.proofs.Each.{all_with, some_with}
 use Rattle.word_rule.proofs.Listings.{ascending_disjoint, disjoint_fit, state_fixed}
 use Rattle.array_publish.specs.Holders.{HasStarts, IsHolder, Spells, active_words, member_in, spare_words}
 use Rattle.array_publish.proofs.Overlaps.{listed_is}
-use Rattle.array_publish.specs.Update.{HoldsCopies, KnowsCopy, Works}
+use Rattle.array_publish.specs.Update.{HoldsCopies, IsClean, KnowsCopy, Works}
 use Rattle.array_publish.specs.declared.writing.ActiveCopy.{ActiveCopy}
 use Rattle.array_publish.specs.declared.writing.CopyStarts.{CopyStarts}
 use Rattle.array_publish.proofs.Works.{Holds, holder_stays, spells_active}
@@ -62,6 +62,11 @@ module _ (w : WordsData) (k0 k1 k2 : CallerData) (found count : ℕ) (s : CopySt
   few =
       let less = disjoint_fit told.1.members (state_after (start w.terms) one.0).loaded (ascending_disjoint 0 told.1.members told.1.lists.ascending) (λ x c. (all_with (IsMemberOf w.terms) told.1.members x members_known c).0) (λ x c. (told.1.same x).0 c) in
       let room = tells.lawful.room in let loads = (state_fixed (start w.terms) one.0).1 in omega (arith, less, room, loads)
+
+  -- and where it stored nothing, that the other one is a publication behind
+  pub behind : IsClean k0 → IsBehind w.terms (active_words k0.log.loader) (spare_words k0.log.loader)
+  behind clean = subst (λ o. IsBehind w.terms (active_words o) (spare_words o)) (sym lock.1.0)
+      (subst (λ o. IfSome o (λ (h : LoaderHolding). h.stored ≡ false → IsBehind w.terms h.active h.spare)) lock.1.0 tells.spare_copy (subst (λ o. IsSomeAnd o (λ (h : LoaderHolding). h.stored ≡ false)) lock.1.0 clean))
 
   pub knows : KnowsCopy w (record { starts = s; count = count }) k2
   knows = record {

@@ -12,3 +12,5 @@ pub mod Knowing
 pub mod Answering
 pub mod WholeCalls
 pub mod Bases
+pub mod Apart
+pub mod Rewriting

@@ -101,6 +101,5 @@ pub taken_clean : (k k' : CallerData) → Locks lock.Loader k k' → IsClean k'
 taken_clean k k' p = subst IsClean (sym p.3.2) p.3.1.clean
 
 -- what is asked where the lock is let go
-pub answered_held : (right : List Update → Type 0) (r : Receipt) (accepted published : Bool) (k k' : CallerData) → published ≡ accepted → AnswersWith right r accepted k k' → IsSomeAnd k'.log.loader (λ h. published ≡ false → h.stored ≡ false)
-answered_held right r accepted published k k' is p =
-    subst (λ (z : CallerData). IsSomeAnd z.log.loader (λ h. published ≡ false → h.stored ≡ false)) (sym p.5.1) (λ no. p.5.2 (sym is ∙ no))
+pub answered_clean : (right : List Update → Type 0) (r : Receipt) (accepted : Bool) (k k' : CallerData) → AnswersWith right r accepted k k' → IsSomeAnd k'.log.loader (λ h. h.stored ≡ false)
+answered_clean right r accepted k k' p = subst (λ (z : CallerData). IsSomeAnd z.log.loader (λ h. h.stored ≡ false)) (sym p.5.1) p.5.2

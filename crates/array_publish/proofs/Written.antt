@@ -1,11 +1,11 @@
 -- Words of members and segments, written one after another.
-use Rattle.std.proofs.Common.{◌≡◌, ◌≢◌, ℕ, ◌+◌, ◌<◌, ◌≤◌, List, length, get_or, set, length-set, get_or-set_same, get_or-set_other, sym, ◌∙◌, subst, arith}
-use native.Mathlib.Decide.{ℕ_discrete}
+use Rattle.std.proofs.Common.{◌≡◌, ◌≢◌, ℕ, ◌+◌, ◌<◌, ◌≤◌, inl, inr, ⊎_elim, List, length, get_or, set, length-set, get_or-set_same, get_or-set_other, sym, ◌∙◌, subst, arith, lt_of_not-le}
+use native.Mathlib.Decide.{ℕ_discrete, dec_le}
 use Rattle.word_rule.specs.Places.{member_place, segment_place, segments}
 use Rattle.word_rule.specs.Copies.{count_in}
 use Rattle.reg_model.specs.declared.span.Member.{Member}
 use Rattle.array_publish.specs.Holders.{member_in}
-use Rattle.array_publish.specs.Writing.{HasMembers, HaveHeaders, IsWritten, SameMembers, wanted, with_header, with_member, with_totals}
+use Rattle.array_publish.specs.Writing.{AreRightBeside, HasMembers, HaveHeaders, IsWritten, SameHeaders, SameMembers, wanted, with_header, with_member, with_totals}
 use Rattle.array_publish.specs.declared.writing.Change.{Change}
 
 -- members stand one after another
@@ -28,29 +28,41 @@ written_here i m words inside =
     let payload : get_or (set two (p + 2) m.payload) (p + 2) 0 ≡ m.payload = get_or-set_same two (p + 2) m.payload 0 (omega (arith, inside, l1, l2)) in
     (λ j. record { span = record { first = first j; last = last j }; payload = payload j })
 
-three_others : (words : List ℕ) (p x y z at : ℕ) → at < p → get_or (set (set (set words p x) (p + 1) y) (p + 2) z) at 0 ≡ get_or words at 0
-three_others words p x y z at less =
-    get_or-set_other (set (set words p x) (p + 1) y) (p + 2) at z 0 (λ e. omega (arith, e, less)) ∙ (get_or-set_other (set words p x) (p + 1) at y 0 (λ e. omega (arith, e, less)) ∙ get_or-set_other words p at x 0 (λ e. omega (arith, e, less)))
+three_others : (words : List ℕ) (p x y z at : ℕ) → at ≢ p → at ≢ p + 1 → at ≢ p + 2 → get_or (set (set (set words p x) (p + 1) y) (p + 2) z) at 0 ≡ get_or words at 0
+three_others words p x y z at a b c =
+    get_or-set_other (set (set words p x) (p + 1) y) (p + 2) at z 0 c ∙ (get_or-set_other (set words p x) (p + 1) at y 0 b ∙ get_or-set_other words p at x 0 a)
 
-pub written_below : (j i : ℕ) (m : Member) (words : List ℕ) → j < i → member_in (with_member i m words) j ≡ member_in words j
-written_below j i m words less =
-    let above = above_place j i less in
+-- words of two members are never the same
+apart_places : (j i d e : ℕ) → j ≢ i → d ≤ 2 → e ≤ 2 → member_place j + d ≢ member_place i + e
+apart_places j i d e ne few less same = go (dec_le j i)
+  where
+    go : Dec (j ≤ i) → ⊥
+    go (yes le) = let up = above_place j i (omega (arith, le, ne)) in omega (arith, up, few, less, same)
+    go (no far) = let low = lt_of_not-le far in let up = above_place i j low in omega (arith, up, few, less, same)
+
+written_elsewhere : (j i : ℕ) (m : Member) (words : List ℕ) → j ≢ i → member_in (with_member i m words) j ≡ member_in words j
+written_elsewhere j i m words ne =
     let p : ℕ = member_place i in
+    let far : (d : ℕ) → d ≤ 2 → (member_place j + d ≢ p) × (member_place j + d ≢ p + 1) × (member_place j + d ≢ p + 2) =
+    (λ d few. ((λ e. apart_places j i d 0 ne few (omega arith) (omega (arith, e))), apart_places j i d 1 ne few (omega arith), apart_places j i d 2 ne few (omega arith))) in
+    let zero : (member_place j ≢ p) × (member_place j ≢ p + 1) × (member_place j ≢ p + 2) =
+    ((λ e. (far 0 (omega arith)).0 (omega (arith, e))), (λ e. (far 0 (omega arith)).1 (omega (arith, e))), (λ e. (far 0 (omega arith)).2 (omega (arith, e)))) in
+    let one = far 1 (omega arith) in let two = far 2 (omega arith) in
     (λ k. record {
       span = record {
-        first = three_others words p m.span.first m.span.last m.payload (member_place j) (omega (arith, above)) k;
-        last = three_others words p m.span.first m.span.last m.payload (member_place j + 1) (omega (arith, above)) k;
+        first = three_others words p m.span.first m.span.last m.payload (member_place j) zero.0 zero.1 zero.2 k;
+        last = three_others words p m.span.first m.span.last m.payload (member_place j + 1) one.0 one.1 one.2 k;
       };
-      payload = three_others words p m.span.first m.span.last m.payload (member_place j + 2) (omega (arith, above)) k;
+      payload = three_others words p m.span.first m.span.last m.payload (member_place j + 2) two.0 two.1 two.2 k;
     })
 
 -- one member more is written
-pub one_more : (change : Change) (active words : List ℕ) (i : ℕ) (m : Member) → member_place i + 2 < length words → HasMembers change active words i → m ≡ wanted change active i → HasMembers change active (with_member i m words) (i + 1)
-one_more change active words i m inside h is j less = go (ℕ_discrete j i)
+pub one_more : (change : Change) (active words : List ℕ) (n i to : ℕ) (m : Member) → member_place i + 2 < length words → AreRightBeside change active words n (record { from = i; to = to }) → m ≡ wanted change active i → AreRightBeside change active (with_member i m words) n (record { from = i + 1; to = to })
+one_more change active words n i to m inside h is j less side = go (ℕ_discrete j i)
   where
     go : Dec (j ≡ i) → member_in (with_member i m words) j ≡ wanted change active j
     go (yes e) = subst (λ n. member_in (with_member i m words) n ≡ wanted change active n) (sym e) (written_here i m words inside ∙ is)
-    go (no ne) = written_below j i m words (omega (arith, less, ne)) ∙ h j (omega (arith, less, ne))
+    go (no ne) = written_elsewhere j i m words ne ∙ h j less (⊎_elim (λ (l : j < i + 1). inl (omega (arith, l, ne))) (λ (l : to ≤ j). inr l) side)
 
 -- a segment's header is no member's word
 never_header : (j s d e : ℕ) → d ≤ 2 → e ≤ 1 → member_place j + d ≢ segment_place s + e
@@ -58,6 +70,14 @@ never_header j s d e few one same = omega (arith, few, one, same)
 
 two_others : (words : List ℕ) (p q x y at : ℕ) → at ≢ p → at ≢ q → get_or (set (set words p x) q y) at 0 ≡ get_or words at 0
 two_others words p q x y at far other = get_or-set_other (set words p x) q at y 0 other ∙ get_or-set_other words p at x 0 far
+
+-- nor do members change headers
+pub member_apart : (i : ℕ) (m : Member) (words : List ℕ) → SameHeaders words (with_member i m words)
+member_apart i m words s =
+    let p : ℕ = member_place i in (
+      three_others words p m.span.first m.span.last m.payload (segment_place s) (λ e. never_header i s 0 0 (omega arith) (omega arith) (omega (arith, e))) (λ e. never_header i s 1 0 (omega arith) (omega arith) (omega (arith, e))) (λ e. never_header i s 2 0 (omega arith) (omega arith) (omega (arith, e))),
+      three_others words p m.span.first m.span.last m.payload (segment_place s + 1) (λ e. never_header i s 0 1 (omega arith) (omega arith) (omega (arith, e))) (λ e. never_header i s 1 1 (omega arith) (omega arith) (omega (arith, e))) (λ e. never_header i s 2 1 (omega arith) (omega arith) (omega (arith, e))),
+    )
 
 pub header_apart : (s count : ℕ) (words : List ℕ) → SameMembers words (with_header s count words)
 header_apart s count words j =

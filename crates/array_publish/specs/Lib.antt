@@ -4,3 +4,4 @@ pub mod Lookup
 pub mod Holders
 pub mod Writing
 pub mod Update
+pub mod Other

@@ -107,14 +107,14 @@ abbrev pub is_unloaded : Removed → Bool
 is_unloaded (removed.Done number m) = true
 is_unloaded _ = false
 
--- An update was answered under the lock, which is still held. Where it was refused, nothing was
--- stored.
+-- An update was answered under the lock, which is still held. Nothing was stored under it, or since
+-- the update was published.
 abbrev pub AnswersWith : (List Update → Type 0) → Receipt → Bool → CallerData → CallerData
     → Type 0
 AnswersWith right r accepted k k' = (past : List Update) × (more : List LoadEvent) × (stores : ℕ)
     × (sights : Sights) × (h : LoaderHolding) × (right past
     × (k' ≡ record k { log = after_answer past more stores sights (Some h) r accepted k.log })
-    × (accepted ≡ false → h.stored ≡ false))
+    × (h.stored ≡ false))
 
 abbrev pub AnswersLoad : Terms → Member → CallerData → CallerData → Loading → Type 0
 AnswersLoad t m k k' answer = AnswersWith (λ past. IsRightLoad t m k.log.past past answer)

@@ -3,6 +3,7 @@ use Rattle.std.specs.Prelude.{◌≡◌, ℕ, ◌+◌, ◌-◌, ◌<◌, ◌≤�
 use Rattle.std.specs.Prelude.{slice_set, if◌then◌else◌}
 use Rattle.reg_model.specs.declared.span.Member.{Member}
 use Rattle.array_publish.specs.declared.writing.Change.{Change}
+use Rattle.array_publish.specs.declared.writing.Stretch.{Stretch}
 use Rattle.array_publish.specs.declared.writing.Change.TheVariants.{Put, Take}
 use Rattle.word_rule.specs.Places.{member_place, segment_place, segments}
 use Rattle.word_rule.specs.Copies.{count_in}
@@ -27,6 +28,11 @@ EndsFrom words address count i = (i ≡ count) ⊎ (address ≤ (member_in words
 abbrev pub HasPlace : Change → ℕ → Type 0
 HasPlace (Put place m) count = place ≤ count
 HasPlace (Take place) count = place < count
+
+-- where
+abbrev pub change_place : Change → ℕ
+change_place (Put place m) = place
+change_place (Take place) = place
 
 -- how many there are afterwards
 abbrev pub changed_count : Change → ℕ → ℕ
@@ -54,6 +60,11 @@ abbrev pub HasMembers : Change → List ℕ → List ℕ → ℕ → Type 0
 HasMembers change active words upto =
     (i : ℕ) → i < upto → member_in words i ≡ wanted change active i
 
+-- of so many members, those outside of these places are as wanted
+abbrev pub AreRightBeside : Change → List ℕ → List ℕ → ℕ → Stretch → Type 0
+AreRightBeside change active words count at = (i : ℕ) → i < count → (i < at.from) ⊎ (at.to ≤ i)
+    → member_in words i ≡ wanted change active i
+
 -- the number of segments in use, and that of members
 abbrev pub with_totals : ℕ → List ℕ → List ℕ
 with_totals count words = slice_set (slice_set words 0 (segments count)) 1 count
@@ -61,6 +72,12 @@ with_totals count words = slice_set (slice_set words 0 (segments count)) 1 count
 -- all members are as they were
 abbrev pub SameMembers : List ℕ → List ℕ → Type 0
 SameMembers words words' = (i : ℕ) → member_in words' i ≡ member_in words i
+
+-- and all headers
+abbrev pub SameHeaders : List ℕ → List ℕ → Type 0
+SameHeaders words words' = (s : ℕ)
+    → (slice_index words' (segment_place s) ≡ slice_index words (segment_place s))
+    × (slice_index words' (segment_place s + 1) ≡ slice_index words (segment_place s + 1))
 
 -- A copy has all words that it is to have, for so many members.
 pub record IsWritten (change : Change) (active : List ℕ) (count : ℕ)

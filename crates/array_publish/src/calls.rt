@@ -28,11 +28,11 @@ fn take<L: Locking>(locking: &L, words: &Words, me: &mut Caller) -> Result<(), B
     }
 }
 
-/// Lets go of the loader's lock: with the next version where an update was published, and with the
-/// same one where nothing was stored.
+/// Lets go of the loader's lock: with the next version where an update was published, behind which
+/// nothing was stored, and with the same one where nothing was stored at all.
 fn let_go<L: Locking>(locking: &L, words: &Words, me: &mut Caller, published: bool)
     requires table { me.old.table ≡ words.now.table }
-    requires held { IsSomeAnd me.old.log.loader (λ h. published ≡ false → h.stored ≡ false) }
+    requires clean { IsSomeAnd me.old.log.loader (λ h. h.stored ≡ false) }
     requires surplus { 0 < surplus me.old }
     ensures { me.new ≡ record me.old { log = after_letting_go published me.old.log } }
 {

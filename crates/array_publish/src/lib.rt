@@ -13,6 +13,7 @@
 mod calls;
 mod fixed;
 mod lookup;
+mod other;
 mod search;
 mod update;
 mod walk;

@@ -4,7 +4,7 @@ ghost use Rattle.reg_model.specs.State.{IsFree, IsLowestOverlap};
 ghost use Rattle.reg_model.specs.declared.span.Member.{Member};
 ghost use Rattle.segment_array.specs.Ascending.{AscendFrom};
 ghost use Rattle.word_rule.specs.CallerData.{due};
-ghost use Rattle.word_rule.specs.Copies.{ListsMembers};
+ghost use Rattle.word_rule.specs.Copies.{IsBehind, ListsMembers};
 ghost use Rattle.array_publish.specs.Holders.{Spells, active_words, member_in, spare_words};
 ghost use Rattle.array_publish.specs.Writing.{EndsBelow, EndsFrom};
 ghost use Rattle.array_publish.specs.Update.{AnswersLoad, AnswersUnload, HoldsCopies, IsClean};
@@ -18,13 +18,17 @@ use reg_model::{Loading, Member, Removed, Span, Update};
 use word_rule::places::LOWER;
 use word_rule::{Ask, Caller, Words};
 
-/// The active copy, and how many members it lists.
+/// The active copy, and how many members it lists. The other one is a publication behind it, as
+/// nothing was stored under the lock.
 fn active_copy(words: &Words, me: &mut Caller) -> ActiveCopy
     requires table { me.old.table ≡ words.now.table }
     requires held { HoldsCopies me.old.log.terms me.old }
+    requires clean { IsClean me.old }
     ensures works { Works me.old me.new }
     ensures kept { me.new.log.loader ≡ me.old.log.loader }
     ensures knows { KnowsCopy words.now result me.new }
+    ensures behind { IsBehind words.now.terms (active_words me.old.log.loader)
+        (spare_words me.old.log.loader) }
 {
     let clock = words.load_clock(me, Ask::Nothing);
     let starts = starts_of(words, (clock / LOWER % 2) as u32);

@@ -1,16 +1,19 @@
-//! The copy that isn't active, written under the loader's lock: only words that differ are stored.
-ghost use Rattle.std.specs.Prelude.{◌≡◌, ◌*◌, ◌<◌, ◌≤◌, length, slice_index, slice_set};
+//! The copy that isn't active, written under the loader's lock. It is one publication behind the
+//! active one, so what it is to list differs from what it lists by two changes: only the members
+//! between both, and only words that differ, are written.
+ghost use Rattle.std.specs.Prelude.{◌≡◌, ℕ, ◌*◌, ◌<◌, ◌≤◌, length, slice_index, slice_set};
 ghost use Rattle.word_rule.specs.Callers.{AreTerms, IsMemberOf};
 ghost use Rattle.word_rule.specs.Places.{copy_words, segments};
 ghost use Rattle.array_publish.specs.Holders.{HasStarts, IsHolder, Spells, active_words, member_in};
 ghost use Rattle.array_publish.specs.Holders.{spare_words};
 ghost use Rattle.array_publish.specs.Search.{listed_member};
 ghost use Rattle.array_publish.specs.Writing.{EndsBelow, EndsFrom, HasMembers, HasPlace};
-ghost use Rattle.array_publish.specs.Writing.{HaveHeaders};
-ghost use Rattle.array_publish.specs.Writing.{IsWritten, SameMembers, changed_count, wanted};
+ghost use Rattle.array_publish.specs.Writing.{AreRightBeside, HaveHeaders, IsWritten, SameHeaders};
+ghost use Rattle.array_publish.specs.Writing.{SameMembers, changed_count, change_place, wanted};
 ghost use Rattle.array_publish.specs.Writing.{with_header, with_member, with_totals};
-ghost use Rattle.word_rule.specs.Copies.{count_in};
+ghost use Rattle.word_rule.specs.Copies.{IsBehind, count_in};
 
+use crate::other::{OtherCopy, other_copy};
 use crate::walk::{COUNT, FULL, HEAD, Listed, place_of_copy, place_of_member, place_of_segment};
 use reg_model::Member;
 use segment_array::segments_for;
@@ -37,6 +40,13 @@ pub struct CopyStarts {
 pub struct ActiveCopy {
     pub starts: CopyStarts,
     pub count: u32,
+}
+
+/// The members of a copy that may have to change: from one index on, and before another one.
+#[derive(Clone, Copy)]
+pub struct Stretch {
+    pub from: u32,
+    pub to: u32,
 }
 
 /// Where both copies begin, of which this one is active. It takes products, so an update works it
@@ -198,20 +208,52 @@ fn changed_listed(
     }
 }
 
-/// Writes so many members as they are after a change.
-fn write_members(words: &Words, me: &mut Caller, active: &ActiveCopy, change: &Change, count: u32)
+/// The place of a change.
+fn change_place(change: &Change) -> u32
+    ensures { result ≡ change_place change.now }
+{
+    match change {
+        Change::Put { place, .. } => *place,
+        Change::Take { place } => *place,
+    }
+}
+
+/// Which members of the other copy may have to change, where so many are to be listed: those from
+/// the place of the last change or of this one on, up to the later one where one of both put and
+/// the other one takes, so that those behind stand where they are to.
+fn places_to_write(change: &Change, other: OtherCopy, count: u32) -> Stretch
+    ensures inside { result.to ≤ count }
+    ensures below { (i : ℕ) → i < result.from → (i < change_place change.now) × (i < other.place) }
+    ensures above { (i : ℕ) → result.to ≤ i → i < count
+        → (other.count ≡ count) × (change_place change.now < i) × (other.place < i) }
+{
+    let place = change_place(change);
+    let from = place.min(other.place);
+    if other.count != count {
+        return Stretch { from, to: count };
+    }
+    let last = place.max(other.place);
+    let to = if last < count { last + 1 } else { count };
+    Stretch { from, to }
+}
+
+/// Writes these members as they are after a change, where all others of so many are so already.
+fn write_members(words: &Words, me: &mut Caller, active: &ActiveCopy, change: &Change, at: Stretch)
     requires holder { IsHolder words.now active.now.starts.copy me.old }
     requires places { HasStarts words.now.terms active.now.starts }
     requires place { HasPlace change.now active.now.count }
     requires before { active.now.count ≤ words.now.terms.loads }
-    requires count { count ≡ changed_count change.now active.now.count }
-    requires room { count ≤ words.now.terms.loads }
+    requires inside { at.to ≤ changed_count change.now active.now.count }
+    requires room { changed_count change.now active.now.count ≤ words.now.terms.loads }
+    requires rest { AreRightBeside change.now (active_words me.old.log.loader)
+        (spare_words me.old.log.loader) (changed_count change.now active.now.count) at }
     ensures same { Spells (spare_words me.new.log.loader) me.old me.new }
     ensures holder { IsHolder words.now active.now.starts.copy me.new }
     ensures members { HasMembers change.now (active_words me.old.log.loader)
-        (spare_words me.new.log.loader) count }
+        (spare_words me.new.log.loader) (changed_count change.now active.now.count) }
+    ensures headers { SameHeaders (spare_words me.old.log.loader) (spare_words me.new.log.loader) }
 {
-    for index in 0..count {
+    for index in at.from..at.to {
         let listed = changed_listed(words, me, active, change, index);
         store_listed(words, me, &active.starts, index, listed);
     }
@@ -232,17 +274,19 @@ fn store_header(words: &Words, me: &mut Caller, starts: &CopyStarts, segment: u3
     store_word(words, me, starts, place + 1, members as u64);
 }
 
-/// Says of each segment which is below it, and how many members it has.
-fn write_headers(words: &Words, me: &mut Caller, starts: &CopyStarts, count: u32)
+/// Says of each segment from this one on which is below it, and how many members it has. Those
+/// below it say so already.
+fn write_headers(words: &Words, me: &mut Caller, starts: &CopyStarts, first: u32, count: u32)
     requires holder { IsHolder words.now starts.now.copy me.old }
     requires places { HasStarts words.now.terms starts.now }
     requires room { count ≤ words.now.terms.loads }
+    requires below { HaveHeaders (spare_words me.old.log.loader) count first }
     ensures same { Spells (spare_words me.new.log.loader) me.old me.new }
     ensures holder { IsHolder words.now starts.now.copy me.new }
     ensures headers { HaveHeaders (spare_words me.new.log.loader) count (segments count) }
     ensures members { SameMembers (spare_words me.old.log.loader) (spare_words me.new.log.loader) }
 {
-    for segment in 0..segments_for(count) {
+    for segment in first..segments_for(count) {
         store_header(words, me, starts, segment, count);
     }
 }
@@ -257,20 +301,27 @@ fn store_totals(words: &Words, me: &mut Caller, starts: &CopyStarts, count: u32)
     store_word(words, me, starts, COUNT, count as u64);
 }
 
-/// Writes the copy that isn't active: what the active one lists, after a change.
+/// Writes the copy that isn't active, in which nothing was stored yet: what the active one lists,
+/// after a change.
 pub fn write_copy(words: &Words, me: &mut Caller, active: &ActiveCopy, change: &Change, count: u32)
     requires holder { IsHolder words.now active.now.starts.copy me.old }
     requires places { HasStarts words.now.terms active.now.starts }
     requires place { HasPlace change.now active.now.count }
+    requires number { active.now.count ≡ slice_index (active_words me.old.log.loader) 1 }
     requires count { count ≡ changed_count change.now active.now.count }
     requires before { active.now.count ≤ words.now.terms.loads }
     requires room { count ≤ words.now.terms.loads }
+    requires behind { IsBehind words.now.terms (active_words me.old.log.loader)
+        (spare_words me.old.log.loader) }
     ensures same { Spells (spare_words me.new.log.loader) me.old me.new }
     ensures wide { length (spare_words me.new.log.loader) ≡ copy_words words.now.terms }
     ensures written { IsWritten change.now (active_words me.old.log.loader) count
         (spare_words me.new.log.loader) }
 {
-    write_members(words, me, active, change, count);
-    write_headers(words, me, &active.starts, count);
+    let other = other_copy(words, me, active);
+    let places = places_to_write(change, other, count);
+    write_members(words, me, active, change, places);
+    let first = count.min(other.count) / FULL;
+    write_headers(words, me, &active.starts, first, count);
     store_totals(words, me, &active.starts, count);
 }

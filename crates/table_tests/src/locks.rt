@@ -1,4 +1,4 @@
-ghost use Rattle.std.specs.Prelude.{◌≡◌, ◌≤◌, ◌<◌, None, IsSome};
+ghost use Rattle.std.specs.Prelude.{◌≡◌, ◌≤◌, ◌<◌, None, IsSomeAnd, false};
 ghost use Rattle.word_rule.specs.CallerData.{surplus};
 ghost use Rattle.node_store.specs.Locking.{Turns};
 
@@ -102,7 +102,7 @@ fn pause() {
 // Lets go of the lock long after another sleeps on it, and says whether one did.
 fn let_go_late<R: Wait>(rt: &R, words: &Words, mut me: Caller) -> bool
     requires table { me.table ≡ words.now.table }
-    requires held { IsSome me.log.loader }
+    requires held { IsSomeAnd me.log.loader (λ h. h.stored ≡ false) }
     requires surplus { 0 < surplus me }
 {
     let slept = someone_sleeps(words, &mut me);
@@ -141,14 +141,15 @@ fn sleep_on_it<R: Wait>(rt: &R, words: &Words, mut me: Caller) -> bool
 
 fn one_waits<R: Threads + Wait + Sync>(rt: &R, words: &Words, a: Caller, b: Caller) -> bool
     requires tables { (a.table ≡ words.now.table) × (b.table ≡ words.now.table) }
-    requires held { IsSome a.log.loader }
+    requires held { IsSomeAnd a.log.loader (λ h. h.stored ≡ false) }
     requires free { b.log.loader ≡ None }
     requires surplus { (0 < surplus a) × (0 < surplus b) }
 {
     let (slept, _) = join(
         rt,
         || -> bool
-            requires { (a.table ≡ words.now.table) × IsSome a.log.loader × (0 < surplus a) }
+            requires { (a.table ≡ words.now.table)
+                × IsSomeAnd a.log.loader (λ h. h.stored ≡ false) × (0 < surplus a) }
         { let_go_late(rt, words, a) },
         || -> ()
             requires { (b.table ≡ words.now.table) × (b.log.loader ≡ None) × (0 < surplus b) }
@@ -159,13 +160,14 @@ fn one_waits<R: Threads + Wait + Sync>(rt: &R, words: &Words, a: Caller, b: Call
 
 fn one_sleeps<R: Threads + Wait + Sync>(rt: &R, words: &Words, a: Caller, b: Caller) -> (bool, bool)
     requires tables { (a.table ≡ words.now.table) × (b.table ≡ words.now.table) }
-    requires held { IsSome a.log.loader }
+    requires held { IsSomeAnd a.log.loader (λ h. h.stored ≡ false) }
     requires surplus { 0 < surplus a }
 {
     join(
         rt,
         || -> bool
-            requires { (a.table ≡ words.now.table) × IsSome a.log.loader × (0 < surplus a) }
+            requires { (a.table ≡ words.now.table)
+                × IsSomeAnd a.log.loader (λ h. h.stored ≡ false) × (0 < surplus a) }
         { let_go_late(rt, words, a) },
         || -> bool
             requires { b.table ≡ words.now.table }

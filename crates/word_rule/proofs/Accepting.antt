@@ -1,5 +1,5 @@
 -- An update is accepted: the history has it at its end, its caller has the receipt, and the callers' part of the rule is kept.
-use Rattle.std.proofs.Common.{◌≡◌, ℕ, ◌+◌, ◌<◌, ◌≤◌, List, [], ◌∷◌, ◌++◌, length, length-append, set, sym, refl, ap, ◌∙◌, subst, arith, Option, Some, None, IsSomeAnd, false, IfSome, append-nil, append_assoc, true≢false}
+use Rattle.std.proofs.Common.{◌≡◌, ℕ, ◌+◌, ◌<◌, ◌≤◌, List, [], ◌∷◌, ◌++◌, length, length-append, set, sym, refl, ap, ◌∙◌, subst, arith, Option, Some, None, IsSomeAnd, false, IfSome, append-nil, append_assoc, true≢false, ◌%◌}
 use Rattle.std.specs.List.{AllByRecursion}
 use mathlib.Core.Option.{some}
 use mathlib.Core.List.{IsPrefix}
@@ -23,13 +23,13 @@ use Rattle.word_rule.specs.declared.log.Terms.{Terms}
 use Rattle.word_rule.specs.declared.log.Holdings.{Holdings}
 use Rattle.word_rule.specs.declared.log.LoaderHolding.{LoaderHolding}
 use Rattle.word_rule.specs.declared.log.Log.{Log}
-use Rattle.word_rule.specs.Places.{lower, upper}
+use Rattle.word_rule.specs.Places.{lower, spare, upper}
 use Rattle.word_rule.specs.Memory.{Memory}
 use Rattle.word_rule.specs.Logs.{is_spent, weight, turns, own_list}
 use Rattle.word_rule.specs.Steps.{IsDone, after_update}
-use Rattle.word_rule.specs.Callers.{total, CallersHold, LogHolds, ReceiptsHold, AtLoader, LoaderLock, IsOfTerms, dones_in, number_of, publications, start}
+use Rattle.word_rule.specs.Callers.{total, CallersHold, LogHolds, ReceiptsHold, AtLoader, LoaderLock, NoneStored, IsOfTerms, dones_in, number_of, publications, start}
 use Rattle.word_rule.specs.Nodes.{Shadow}
-use Rattle.word_rule.specs.Copies.{CopySightHolds}
+use Rattle.word_rule.specs.Copies.{CopySightHolds, IsBehind}
 use Rattle.word_rule.specs.Observations.{SightHolds, WasFull, ObservationsHold, last_moment}
 use Rattle.word_rule.proofs.Facts.{total_set, total_same, part_of_total, after_step}
 use Rattle.word_rule.proofs.Each.{all_map, all_append, some_of}
@@ -171,8 +171,9 @@ module _ (t : Terms) (m : Memory) (views : List Log) (history : List Update) (c 
 
     -- what is owed of the clock and of the loader's lock
     pub callers_after : (clock : ℕ) → lower clock ≡ length history + 1 → upper clock ≡ publications (history ++ u ∷ []) → LoaderLock m.loader (set views id w) c.holder
-        → ((j : ℕ) (z : Log) → get_elem? (set views id w) j ≡ some z → AtLoader (record m { clock = clock }) c.holder j z.loader) → CallersHold t (record m { clock = clock }) (set views id w) (history ++ u ∷ [])
-    callers_after clock updates published lock at_lock = record {
+        → ((j : ℕ) (z : Log) → get_elem? (set views id w) j ≡ some z → AtLoader (record m { clock = clock }) c.holder j z.loader)
+        → (NoneStored (set views id w) → IsBehind t (m.copies (upper clock % 2)) (m.copies (spare clock))) → CallersHold t (record m { clock = clock }) (set views id w) (history ++ u ∷ [])
+    callers_after clock updates published lock at_lock spare_copy = record {
       holder = c.holder;
       lawful = IsHistory-append (start t) history (u ∷ []) c.lawful (fit, tt);
       updates = updates ∙ sym len;
@@ -185,6 +186,7 @@ module _ (t : Terms) (m : Memory) (views : List Log) (history : List Update) (c 
       weights = (let a = total_same (λ z. weight z.role) views id v w at refl in let b = made_same in let o = c.weights in omega (arith, a, b, o));
       loader = lock;
       at_loader = at_lock;
+      spare_copy = spare_copy;
       counted = (let a = total_same (λ z. z.budget.credit) views id v w at refl in let o = c.counted in omega (arith, a, o));
       lineages = lineages_over views c.lineages id v w at refl refl (λ gone. absurd (true≢false (sym gone ∙ stands)));
     }

@@ -24,7 +24,7 @@ use Rattle.word_rule.specs.TableInvariant.{TableInvariant}
 use Rattle.word_rule.proofs.Refusals.{HoldsNow, answer_record}
 use Rattle.word_rule.proofs.Facts.{total_same, after_step}
 use Rattle.word_rule.proofs.Each.{all_map}
-use Rattle.word_rule.proofs.CallersFrame.{lineages_over, lock_stays, busy}
+use Rattle.word_rule.proofs.CallersFrame.{lineages_over, lock_stays, none_before, busy}
 use Rattle.word_rule.proofs.NodesFrame.{nodes_same}
 use Rattle.word_rule.proofs.Frames.{table_step}
 use Rattle.word_rule.proofs.Joins.{record_later}
@@ -103,6 +103,7 @@ module _ (t : Terms) (words : List ℕ) (views : List Log) (r : TableInvariant t
         weights = (let e = total_same (λ u. weight u.role) views id v w at refl in let b = made_same in let o = c.weights in omega (arith, e, b, o));
         loader = lock_stays views m.loader m.loader id v w c.holder at refl (λ e. subst (LoaderLock (memory_of t words).loader views) e c.loader) c.loader;
         at_loader = after_step (λ j u. AtLoader (memory_of t words) r.memory.callers.holder j u.loader) views id w (c.at_loader id v at) (λ j u _ there. c.at_loader j u there);
+        spare_copy = λ clean. c.spare_copy (none_before views id v w at (λ h. h) clean);
         counted = (let e = total_same (λ u. u.budget.credit) views id v w at refl in let o = c.counted in omega (arith, e, o));
         lineages = lineages_over views c.lineages id v w at refl refl (λ gone. absurd (true≢false (sym gone ∙ stands)));
       }

@@ -1,16 +1,19 @@
 -- What is said of callers stays over a step that changes one log and not what it has seen or received.
-use Rattle.std.proofs.Common.{◌≡◌, ℕ, ◌+◌, ◌<◌, ◌≤◌, List, [], ◌∷◌, ◌++◌, set, sym, refl, ap, ◌∙◌, subst, arith, ⊎_elim, ◌≢◌, ◌%◌, Option, Some, None, Bool, false, true}
+use Rattle.std.proofs.Common.{◌≡◌, ℕ, ◌+◌, ◌<◌, ◌≤◌, List, [], ◌∷◌, ◌++◌, set, sym, refl, ap, ◌∙◌, subst, arith, ⊎_elim, ◌≢◌, ◌%◌, Option, Some, None, IfSome, Bool, false, true}
 use mathlib.Core.Option.{some, some-injective}
 use lib.ListN.{get_elem?}
 use Rattle.atomic_table.proofs.Lists.{set_here, set_else}
 use Rattle.reg_model.specs.declared.answer.Update.{Update}
 use Rattle.word_rule.specs.declared.log.Role.TheVariants as role
+use Rattle.word_rule.specs.declared.log.LoaderHolding.{LoaderHolding}
 use Rattle.word_rule.specs.declared.log.Log.{Log}
 use Rattle.word_rule.specs.declared.log.Terms.{Terms}
 use Rattle.word_rule.specs.Memory.{Memory, counters}
+use Rattle.word_rule.specs.Places.{spare, upper}
+use Rattle.word_rule.specs.Copies.{IsBehind}
 use Rattle.word_rule.specs.Names.{name_count}
 use Rattle.word_rule.specs.Logs.{is_spent, weight}
-use Rattle.word_rule.specs.Callers.{total, CallersHold, LogHolds, LineagesHold, IsIdle, AtLoader, LoaderLock, dones, dones_in}
+use Rattle.word_rule.specs.Callers.{total, CallersHold, LogHolds, LineagesHold, IsIdle, AtLoader, LoaderLock, NoneStored, dones, dones_in}
 use Rattle.word_rule.proofs.Facts.{total_set, total_same, after_step, within, decided}
 
 -- a caller's log has weight 1, so what is asked of others isn't asked of it
@@ -37,6 +40,17 @@ lock_stays views word x id v w (Some j) at same free h = ⊎_elim
   where
     mine : j ≡ id → v ≡ h.0
     mine is = some-injective v h.0 (sym at ∙ (ap (get_elem? views) (sym is) ∙ h.2.0))
+
+-- a log that isn't the holder's has no part in the lock, and stored nothing under it
+pub none_elsewhere : (m : Memory) (holder : Option ℕ) (j : ℕ) (o : Option LoaderHolding) → holder ≢ Some j → AtLoader m holder j o → IfSome o (λ h. h.stored ≡ false)
+none_elsewhere m holder j None far h = tt
+none_elsewhere m holder j (Some g) far h = absurd (far h.0)
+
+-- where no log has stored afterwards, none had before, if the log that steps then had none
+pub none_before : (views : List Log) (id : ℕ) (v w : Log) → get_elem? views id ≡ some v → (IfSome w.loader (λ h. h.stored ≡ false) → IfSome v.loader (λ h. h.stored ≡ false)) → NoneStored (set views id w) → NoneStored views
+none_before views id v w at mine clean j u there = ⊎_elim
+    (λ (is : j ≡ id). subst (λ k. IfSome k.loader (λ h. h.stored ≡ false)) (some-injective v u (sym at ∙ (ap (get_elem? views) (sym is) ∙ there))) (mine (clean id w (set_here views id w (within views id v at)))))
+    (λ (is : j ≢ id). clean j u (set_else views id j w is ∙ there)) (decided j id)
 
 -- how logs were forked stays where one keeps its role, its names and its count of callers
 module _ (views : List Log) (lineages : LineagesHold views) (id : ℕ) (v w : Log) (at : get_elem? views id ≡ some v) (role : w.role ≡ v.role) (lineage : w.lineage ≡ v.lineage) (gone : is_spent w.role ≡ true → (w.receipts.own ≡ []) × (w.receipts.joined ≡ []) × (w.made ≡ 0)) where
@@ -74,8 +88,9 @@ module _ (t : Terms) (m : Memory) (views : List Log) (history : List Update) (r 
 
   -- no counter rises by more than the credit falls
   pub callers_step : (m' : Memory) (holder : Option ℕ) → m'.clock ≡ m.clock → counters t m' + w.budget.credit ≤ counters t m + v.budget.credit → LoaderLock m'.loader (set views id w) holder
-      → ((j : ℕ) (u : Log) → get_elem? (set views id w) j ≡ some u → AtLoader m' holder j u.loader) → (weight w.role ≡ 0 → IsIdle w) → CallersHold t m' (set views id w) history
-  callers_step m' holder clock fewer lock at_lock idle =
+      → ((j : ℕ) (u : Log) → get_elem? (set views id w) j ≡ some u → AtLoader m' holder j u.loader) → (weight w.role ≡ 0 → IsIdle w)
+      → (NoneStored (set views id w) → IsBehind t (m'.copies (upper m'.clock % 2)) (m'.copies (spare m'.clock))) → CallersHold t m' (set views id w) history
+  callers_step m' holder clock fewer lock at_lock idle spare_copy =
       let made : total (λ u. u.made) (set views id w) ≡ total (λ u. u.made) views = total_same (λ u. u.made) views id v w at like.made in
       record {
         holder = holder;
@@ -90,6 +105,7 @@ module _ (t : Terms) (m : Memory) (views : List Log) (history : List Update) (r 
         weights = (let s = total_same (λ u. weight u.role) views id v w at (ap weight like.role) in let o = r.weights in omega (arith, s, made, o));
         loader = lock;
         at_loader = at_lock;
+        spare_copy = spare_copy;
         counted = (let c = total_set (λ u. u.budget.credit) views id v w at in let o = r.counted in omega (arith, c, o, fewer));
         lineages = lineages_stay;
       }

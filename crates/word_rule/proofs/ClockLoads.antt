@@ -1,8 +1,8 @@
 -- A load of the clock keeps the rule: all of the history is seen, and what was asked is answered.
-use Rattle.std.proofs.Common.{◌≡◌, ℕ, ◌+◌, ◌≤◌, ◌%◌, ◌↔◌, inl, inr, List, [], ◌∷◌, ◌++◌, length, length-append, get_or, set, map, take_all, Contains, sym, refl, ap, ◌∙◌, subst, arith, ◌==◌, Bool, true, false, true≢false, IsTrue, Option, Some, None, IfSome, IsSome, IsSomeAnd, append-nil, if◌then◌else◌}
+use Rattle.std.proofs.Common.{◌≡◌, ℕ, ◌+◌, ◌≤◌, ◌%◌, ◌↔◌, inl, inr, List, [], ◌∷◌, ◌++◌, length, length-append, get_or, set, map, take_all, Contains, sym, refl, ap, ◌∙◌, subst, arith, ◌==◌, Bool, true, false, true≢false, IsTrue, Option, Some, None, IfSome, IsSome, IsSomeAnd, append-nil, if◌then◌else◌, ⊎_elim, ◌≢◌}
 use Rattle.std.specs.List.{AllByRecursion}
 use Rattle.std.proofs.lemmas.List.{nil_from_length}
-use mathlib.Core.Option.{none, some}
+use mathlib.Core.Option.{none, some, some-injective}
 use lib.ListN.{get_elem?}
 use Rattle.atomic_table.specs.Table.{step, keeps, Allows}
 use Rattle.reg_model.specs.History.{state_after, state_at}
@@ -30,7 +30,7 @@ use Rattle.word_rule.specs.Memory.{Memory, memory_of}
 use Rattle.word_rule.specs.Logs.{is_spent, weight, turns, load_of, own_list}
 use Rattle.word_rule.specs.Sights.{after_clock, copies_after_clock, query_receipt, walk_receipts, with_clock}
 use Rattle.word_rule.specs.Callers.{total, CallersHold, LogHolds, IsMemberOf, AtLoader, LoaderLock, dones_in, start}
-use Rattle.word_rule.specs.Copies.{ListsAll, ListsMembers, CopySightHolds}
+use Rattle.word_rule.specs.Copies.{ListsAll, ListsMembers, CopySightHolds, IsBehind}
 use Rattle.word_rule.specs.Observations.{AreInside, SightHolds, WasFull, ObservationsHold, HadMembers, IsFullCount, last_moment}
 use Rattle.word_rule.specs.TableInvariant.{TableInvariant, IsStill}
 use Rattle.word_rule.specs.Clock.{IsSeen, ClockTells, MayAsk, AreAsked}
@@ -44,16 +44,17 @@ use Rattle.word_rule.proofs.TreeRefusals.{ShownLeaves, found_there, held_inside,
 use Rattle.word_rule.proofs.Answering.{Told, told_record, told_numbers, all_ended}
 use Rattle.word_rule.proofs.Refusals.{HoldsNow, query_at, query_answers, refusal}
 use Rattle.word_rule.specs.Plays.{Seated, loads_clock}
-use Rattle.word_rule.proofs.Facts.{total_same, after_step}
+use Rattle.word_rule.proofs.Facts.{total_same, after_step, decided}
 use Rattle.word_rule.proofs.Each.{all_map, all_append, all_of, some_with}
 use Rattle.word_rule.proofs.Memories.{set_same}
-use Rattle.word_rule.proofs.CallersFrame.{lineages_over, lock_stays, busy}
+use Rattle.word_rule.proofs.CallersFrame.{lineages_over, lock_stays, none_before, none_elsewhere, busy}
 use Rattle.word_rule.proofs.NodesFrame.{nodes_same}
 use Rattle.word_rule.proofs.Frames.{Sit, table_step, still_after_load}
-use Rattle.word_rule.proofs.Listings.{ascending_disjoint, contains_find, disjoint_fit, lists_same, loaded_members, loaded_spans, none_registered, registered_members, start_lawful, state_fixed}
+use Rattle.word_rule.proofs.Listings.{contains_find, lists_same, loaded_members, none_registered, registered_members, start_lawful, state_fixed, listed_few}
 use Rattle.word_rule.proofs.Joins.{prefix_both, records_later}
 use Rattle.word_rule.proofs.ObservationsFrame.{longer_length}
 use Rattle.word_rule.proofs.Alone.{seen_all}
+use Rattle.std.proofs.lemmas.Option.{same_Some}
 
 -- a live leaf's entries are those of the tree inside its fences: a law of tree_shape
 pub record LeafLaw : Type 0 where
@@ -216,6 +217,7 @@ module _ (law : LeafLaw) (t : Terms) (slots id : ℕ) (me : Seated) (caller : me
           weights = (let e = total_same (λ v. weight v.role) s.views id me.0 w at refl in let b = made_same in let o = c.weights in omega (arith, e, b, o));
           loader = lock_stays s.views m.loader m.loader id me.0 w c.holder at refl (λ e. subst (LoaderLock (memory_of t s.words).loader s.views) e c.loader) c.loader;
           at_loader = after_step (λ j v. AtLoader (memory_of t s.words) r.memory.callers.holder j v.loader) s.views id w (c.at_loader id me.0 at) (λ j v _ there. c.at_loader j v there);
+          spare_copy = λ clean. c.spare_copy (none_before s.views id me.0 w at (λ h. h) clean);
           counted = (let e = total_same (λ v. v.budget.credit) s.views id me.0 w at refl in let o = c.counted in omega (arith, e, o));
           lineages = lineages_over s.views c.lineages id me.0 w at refl refl (λ gone. absurd (true≢false (sym gone ∙ stands)));
         }
@@ -281,26 +283,26 @@ module _ (law : LeafLaw) (t : Terms) (slots id : ℕ) (me : Seated) (caller : me
           (after_step (λ _ v. ObservationsHold t m r.memory.history (total (λ z. z.made) s.views + 1) r.memory.shadow v) s.views id w mine (λ j v _ there. r.memory.observations j v there));
     }) (λ alone. subst (λ ws. IsStill ws w) (sym (set_same s.words 0)) (still_after_load s.words me.0 w event refl refl refl (r.alone id me.0 at alone)))
 
-    -- a listing has no more members than are loaded
-    few : {copy : List ℕ} → (l : ListsAll copy (state_after (start t) r.memory.history).loaded) → length l.members ≤ t.loads
-    few l =
-        let less = disjoint_fit l.members (state_after (start t) r.memory.history).loaded (ascending_disjoint 0 l.members l.lists.ascending)
-        (λ x c. loaded_spans t (start t) r.memory.history r.memory.callers.members (λ z d. absurd (omega (arith, d.1))) x ((l.same x).0 c)) (λ x c. (l.same x).0 c) in
-        let room = (lawful_history (start t) r.memory.history (start_lawful t r.memory.callers.terms) r.memory.callers.lawful).room in
-        let loads = (state_fixed (start t) r.memory.history).1 in omega (arith, less, room, loads)
-
     seen_copy : (o : Option CopySight) → IfSome o (CopySightHolds t (get_or s.words 0 0) m.copies) → IfSome o (λ g. g.guard ≡ upper (get_or s.words 0 0) → IsSeen t (state_after (start t) r.memory.history).loaded g)
     seen_copy None h = tt
     seen_copy (Some g) h = λ guard. record {
       copy = m.copies (g.guard % 2);
       loaded_so = h.loaded guard;
       listing = subst (λ u. ListsAll (m.copies (u % 2)) (state_after (start t) r.memory.history).loaded) (sym guard) r.memory.active;
-      few = few (subst (λ u. ListsAll (m.copies (u % 2)) (state_after (start t) r.memory.history).loaded) (sym guard) r.memory.active);
+      few = listed_few t r.memory.history r.memory.callers.terms r.memory.callers.members r.memory.callers.lawful (subst (λ u. ListsAll (m.copies (u % 2)) (state_after (start t) r.memory.history).loaded) (sym guard) r.memory.active);
     }
 
     held_copy : (o : Option LoaderHolding) → AtLoader m r.memory.callers.holder id o → IfSome o (λ h. (upper (get_or s.words 0 0) ≡ h.published) × ListsAll h.active (state_after (start t) r.memory.history).loaded)
     held_copy None h = tt
     held_copy (Some g) h = (sym h.1.published, subst (λ ws. ListsAll ws (state_after (start t) r.memory.history).loaded) (sym h.1.active) r.memory.active)
+
+    -- the holder alone has a part in the lock, so where it stored nothing, none did
+    held_spare : (o : Option LoaderHolding) → me.0.loader ≡ o → AtLoader m r.memory.callers.holder id o → IfSome o (λ h. h.stored ≡ false → IsBehind t h.active h.spare)
+    held_spare None is h = tt
+    held_spare (Some g) is h = λ clean. subst (λ ws. IsBehind t ws g.spare) (sym h.1.active) (subst (IsBehind t (m.copies (upper (get_or s.words 0 0) % 2))) (sym h.1.spare)
+        (r.memory.callers.spare_copy (λ j u there. ⊎_elim
+        (λ (same : j ≡ id). subst (λ k. IfSome k.loader (λ z. z.stored ≡ false)) (some-injective me.0 u (sym at ∙ (ap (get_elem? s.views) (sym same) ∙ there))) (subst (λ o. IfSome o (λ z. z.stored ≡ false)) (sym is) clean))
+        (λ (far : j ≢ id). none_elsewhere (memory_of t s.words) r.memory.callers.holder j u.loader (λ e. far (same_Some _ _ (sym e ∙ h.0))) (r.memory.callers.at_loader j u there)) (decided j id))))
 
     pub tells : ClockTells t (get_or s.words 0 0) me.0 r.memory.history
     tells = record {
@@ -317,6 +319,7 @@ module _ (law : LeafLaw) (t : Terms) (slots id : ℕ) (me : Seated) (caller : me
       registered = λ all. none_registered (start t) r.memory.history all refl;
       copies = seen_copy me.0.sights.copies (r.memory.observations id me.0 at).copies;
       holder = held_copy me.0.loader (r.memory.callers.at_loader id me.0 at);
+      spare_copy = held_spare me.0.loader refl (r.memory.callers.at_loader id me.0 at);
       alone = λ alone.
           let same = seen_all t m s.views r.memory.history r.memory.callers id me.0 at alone in
           let sum : length me.0.past + length log.begins.0 ≡ length r.memory.history = sym (length-append me.0.past log.begins.0) ∙ ap length log.begins.1 in

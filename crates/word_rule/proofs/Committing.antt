@@ -32,13 +32,13 @@ use Rattle.word_rule.specs.Steps.{IsDone, after_update}
 use Rattle.word_rule.specs.Commits.{AfterCommit, MayCommit, after_commit}
 use Rattle.word_rule.specs.Callers.{IsMemberOf, total, CallersHold, AtLoader, LoaderLock, is_of_loader, start}
 use Rattle.word_rule.specs.Nodes.{Shadow, NodesHold}
-use Rattle.word_rule.specs.Copies.{ListsAll, ActiveCopy}
+use Rattle.word_rule.specs.Copies.{ListsAll, ActiveCopy, IsBehind}
 use Rattle.word_rule.specs.Observations.{ObservationsHold}
 use Rattle.word_rule.specs.TableInvariant.{TableInvariant}
 use Rattle.word_rule.specs.Plays.{Seated, commits}
 use Rattle.word_rule.proofs.Facts.{total_same, after_step, set_twice, within}
 use Rattle.word_rule.proofs.Memories.{set_clock}
-use Rattle.word_rule.proofs.CallersFrame.{lock_stays}
+use Rattle.word_rule.proofs.CallersFrame.{lock_stays, none_before}
 use Rattle.word_rule.proofs.NodesFrame.{nodes_same}
 use Rattle.word_rule.proofs.NodeLoads.{OrderLaw}
 use Rattle.word_rule.proofs.ObservationsFrame.{observations_over}
@@ -164,6 +164,7 @@ module _ (t : Terms) (slots id : ℕ) (me : Seated) (caller : me.0.role ≡ role
         (let a = same_upper in let p = r.memory.callers.published in let q = sum_by_push (λ x. once (is_of_loader x)) r.memory.history u in let b : once (is_of_loader u) ≡ 0 = ap once fit.2 in omega (arith, a, p, q, b))
         (lock_stays s.views (memory_of t s.words).loader (memory_of t s.words).loader id me.0 w r.memory.callers.holder at refl (λ e. subst (LoaderLock (memory_of t s.words).loader s.views) e r.memory.callers.loader) r.memory.callers.loader)
         (after_step (λ j z. AtLoader m' r.memory.callers.holder j z.loader) s.views id w (kept_lock id me.0.loader (r.memory.callers.at_loader id me.0 at)) (λ j z _ there. kept_lock j z.loader (r.memory.callers.at_loader j z there)))
+        (λ clean. subst (λ k. IsBehind t ((memory_of t s.words).copies (k % 2)) ((memory_of t s.words).copies ((k + 1) % 2))) (sym same_upper) (r.memory.callers.spare_copy (none_before s.views id me.0 w at (λ h. h) clean)))
 
     active : ActiveCopy t (get_or s.words 0 0 + 1) (memory_of t s.words).copies longer
     active = subst (λ k. ListsAll ((memory_of t s.words).copies (k % 2)) (state_after (start t) longer).loaded) (sym same_upper)

@@ -1,5 +1,5 @@
 -- A store in the copy that is not active keeps the rule.
-use Rattle.std.proofs.Common.{◌≡◌, ◌≢◌, ℕ, zero, suc, ◌+◌, ◌-◌, ◌%◌, ◌<◌, List, [], get_or, set, length-set, sym, refl, ap, ◌∙◌, subst, arith, true, false, Option, Some, None, option_map, append-nil, IsSomeAnd}
+use Rattle.std.proofs.Common.{◌≡◌, ◌≢◌, ℕ, zero, suc, ◌+◌, ◌-◌, ◌%◌, ◌<◌, List, [], get_or, set, length-set, sym, refl, ap, ◌∙◌, subst, arith, true, false, true≢false, Option, Some, None, IfSome, option_map, append-nil, IsSomeAnd}
 use Rattle.std.proofs.lemmas.Option.{same_Some}
 use Rattle.std.specs.List.{AllByRecursion}
 use mathlib.Core.Option.{none, some}
@@ -117,7 +117,8 @@ module _ (t : Terms) (slots id : ℕ) (me : Seated) (caller : me.0.role ≡ role
         let like : IsLike me.0 w = record { terms = refl; role = refl; past = refl; receipts = refl; allowance = refl; made = refl; lineage = refl } in
         written t s.words s.views r id me.0 w at stands (set s.words (copy_place t (spare (get_or s.words 0 0)) + k) x) m' r.memory.history r.memory.shadow (length-set s.words (copy_place t (spare (get_or s.words 0 0)) + k) x)
         (set_copy t s.words r.wide x (spare (get_or s.words 0 0)) k (omega arith) inside) ([], append-nil r.memory.history)
-        (callers_step t (memory_of t s.words) s.views r.memory.history r.memory.callers id me.0 w at like m' r.memory.callers.holder refl (omega arith) lock at_lock (busy me.0 w caller))
+        (callers_step t (memory_of t s.words) s.views r.memory.history r.memory.callers id me.0 w at like m' r.memory.callers.holder refl (omega arith) lock at_lock (busy me.0 w caller)
+        (λ clean. absurd (true≢false (subst (λ o. IfSome o (λ g. g.stored ≡ false)) now (clean id w (set_here s.views id w (within s.views id me.0 at)))))))
         (nodes_same s.views id me.0 w at t (memory_of t s.words).nodes r.memory.history r.memory.shadow refl r.memory.nodes)
         (subst (λ ws. ListsAll ws (state_after (start t) r.memory.history).loaded) (sym active_stays) r.memory.active) refl (λ _ p. p) copies (record { own = refl; sights = refl; loads = refl; turn = omega arith })
 

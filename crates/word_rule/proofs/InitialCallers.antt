@@ -7,11 +7,12 @@ use Rattle.word_rule.specs.declared.log.Log.{Log}
 use Rattle.word_rule.specs.declared.log.Terms.{Terms}
 use Rattle.word_rule.specs.Names.{name_count}
 use Rattle.word_rule.specs.Places.{word_count, copy_words, initial_node, initial_nodes, initial_words}
-use Rattle.word_rule.specs.Memory.{memory_of, node_counters}
+use Rattle.word_rule.specs.Memory.{memory_of, node_counters, copy_of}
 use Rattle.word_rule.proofs.Memories.{load_version_at}
 use Rattle.word_rule.specs.Logs.{first_log, is_spent}
 use Rattle.word_rule.specs.Callers.{total, CallersHold, LogHolds, AreTerms, AtLoader, number_of}
 use Rattle.word_rule.proofs.Names.{new_lineage_holds}
+use Rattle.word_rule.specs.Copies.{IsBehind}
 
 initial_node_length : (nodes n : ℕ) → length (initial_node nodes n) ≡ 36
 initial_node_length nodes n = refl
@@ -56,8 +57,8 @@ at_first v w (suc j) e = absurd (some-ne-none w (sym e))
 pub only : (P : ℕ → Log → Type 0) (v : Log) → P 0 v → (j : ℕ) (w : Log) → get_elem? (v ∷ []) j ≡ some w → P j w
 only P v h j w e = let a = at_first v w j e in subst (λ (z : ℕ × Log). P z.0 z.1) (λ i. (sym a.0 i, a.1 i)) h
 
-pub callers_begin : (t : Terms) → AreTerms t → CallersHold t (memory_of t (initial_words t)) (first_log t ∷ []) []
-callers_begin t terms = record {
+pub callers_begin : (t : Terms) → AreTerms t → IsBehind t (copy_of t (initial_words t) 0) (copy_of t (initial_words t) 1) → CallersHold t (memory_of t (initial_words t)) (first_log t ∷ []) []
+callers_begin t terms copies = record {
   holder = None;
   lawful = tt;
   updates = refl;
@@ -70,6 +71,7 @@ callers_begin t terms = record {
   weights = omega arith;
   loader = refl;
   at_loader = only (λ j v. AtLoader (memory_of t (initial_words t)) None j v.loader) (first_log t) tt;
+  spare_copy = λ _. copies;
   counted = (let c = initial_counters t t.nodes (omega arith) in rw c (omega arith));
   lineages = record {
     gathered = λ x. omega arith;

@@ -23,6 +23,9 @@ use Rattle.word_rule.specs.TableInvariant.{TableInvariant, IsStill}
 use Rattle.word_rule.proofs.Memories.{load_version_at}
 use Rattle.word_rule.proofs.SeatNodes.{holds_nothing}
 use Rattle.word_rule.proofs.InitialCallers.{callers_begin, initial_length, initial_nodes_length, initial_version, only}
+use Rattle.word_rule.specs.Copies.{ListsMembers}
+use Rattle.std.proofs.lemmas.List.{drop-replicate}
+use Rattle.std.proofs.Math.Seq.{drop-append-add}
 
 -- what the opening words spell: the root an empty leaf, all others free
 abbrev initial_body : ℕ → ℕ → Body
@@ -179,12 +182,19 @@ zeros (suc k) zero i = refl
 zeros (suc k) (suc n) zero = refl
 zeros (suc k) (suc n) (suc i) = zeros k n i
 
-initial_copy : (t : Terms) (i : ℕ) → get_or (copy_of t (initial_words t) 0) i 0 ≡ 0
-initial_copy t i =
+initial_copy : (t : Terms) (c : ℕ) → c < 2 → (i : ℕ) → get_or (copy_of t (initial_words t) c) i 0 ≡ 0
+initial_copy t c two i =
     let n = initial_nodes_length t.nodes t.nodes in
-    let at : copy_place t 0 ≡ length (0 ∷ 1 ∷ 0 ∷ 0 ∷ initial_nodes t.nodes t.nodes) = omega (arith, n) in
-    ap (λ k. get_or (take (copy_words t) (drop k (initial_words t))) i 0) at
-    ∙ (ap (λ z. get_or (take (copy_words t) z) i 0) (drop-append_seam (0 ∷ 1 ∷ 0 ∷ 0 ∷ initial_nodes t.nodes t.nodes) (replicate (2 * copy_words t) 0)) ∙ zeros (copy_words t) (2 * copy_words t) i)
+    let before : List ℕ = 0 ∷ 1 ∷ 0 ∷ 0 ∷ initial_nodes t.nodes t.nodes in
+    let at : copy_place t c ≡ length before + c * copy_words t = omega (arith, n) in
+    subst (λ b. get_or (if b then take (copy_words t) (drop (copy_place t c) (initial_words t)) else []) i 0 ≡ 0) (sym (lt-ltb c 2 two))
+    (ap (λ k. get_or (take (copy_words t) (drop k (initial_words t))) i 0) at
+    ∙ (ap (λ z. get_or (take (copy_words t) z) i 0) (drop-append-add before (replicate (2 * copy_words t) 0) (c * copy_words t) ∙ drop-replicate (c * copy_words t) (2 * copy_words t) 0)
+    ∙ zeros (copy_words t) (2 * copy_words t - c * copy_words t) i))
+
+-- each copy lists no members
+lists_none : (t : Terms) (c : ℕ) → c < 2 → ListsMembers (copy_of t (initial_words t) c) []
+lists_none t c two = record { head = initial_copy t c two 0; count = initial_copy t c two 1; previous = λ s less. absurd (omega (arith, less)); counts = λ s less. absurd (omega (arith, less)); ascending = tt; stand = tt }
 
 initial_chain : (t : Terms) → 4 ≤ t.nodes → IsChain (memory_of t (initial_words t)).nodes.contents 1 (free_from 1 (t.nodes - 1))
 initial_chain t some_nodes = subst (λ h. IsChain (memory_of t (initial_words t)).nodes.contents h (free_from 1 (t.nodes - 1))) (rw (ne_eqb (t.nodes - 1) 0 (λ e. omega (arith, e, some_nodes))) refl)
@@ -195,7 +205,7 @@ table_begins t terms = record {
   wide = initial_length t;
   memory = record {
     history = [];
-    callers = callers_begin t terms;
+    callers = callers_begin t terms record { before = []; after = []; lists_before = lists_none t 1 (omega arith); lists_after = lists_none t 0 (omega arith); few = omega arith; change = inl (refl, refl) };
     shadow = initial_shadow t;
     nodes = record {
       lawful = initial_lawful t.nodes;
@@ -206,7 +216,7 @@ table_begins t terms = record {
       each_once = λ n. initial_each t.nodes n terms.nodes.0;
       chain = initial_chain t terms.nodes.0;
     };
-    active = record { members = []; lists = record { head = initial_copy t 0; count = initial_copy t 1; previous = λ s less. absurd (omega (arith, less)); counts = λ s less. absurd (omega (arith, less)); ascending = tt; stand = tt }; same = λ m. ((λ h. h), (λ h. h)) };
+    active = record { members = []; lists = lists_none t 0 (omega arith); same = λ m. ((λ h. h), (λ h. h)) };
     observations = only (λ _ v. ObservationsHold t (memory_of t (initial_words t)) [] 1 (initial_shadow t) v) (first_log t) (record { sights = tt; copies = tt; full = tt; earlier = tt });
   };
   alone = only (λ _ v. IsAlone v.lineage → IsStill (initial_words t) v) (first_log t) (λ _. tt);

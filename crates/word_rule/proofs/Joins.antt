@@ -28,6 +28,7 @@ use Rattle.word_rule.specs.Logs.{is_spent, weight, turns, child_log, after_split
 use Rattle.word_rule.specs.Callers.{total, CallersHold, IsIdle, IsAlone, LogHolds, LineageHolds, LineagesHold, AtLoader, LoaderLock, IsRecord, ReceiptsHold, dones, dones_of_all, dones_in, start}
 use Rattle.reg_model.specs.Numbers.{has_number}
 use Rattle.word_rule.specs.CallerInvariant.{IsNote}
+use Rattle.word_rule.proofs.CallersFrame.{none_before}
 use Rattle.word_rule.proofs.Facts.{total_set, total_snoc, total_set_two, after_step, within, decided, behind}
 use Rattle.word_rule.proofs.Names.{same_or, once_same, once_other, once_small, count_append, new_lineage_holds, fork_holds, join_holds}
 use Rattle.word_rule.specs.Memory.{Memory, memory_of}
@@ -166,6 +167,7 @@ module _ (t : Terms) (m : Memory) (views : List Log) (history : List Update) (r 
     loader = loader_fork r.holder r.loader;
     at_loader = behind (λ j u. AtLoader m r.holder j u.loader) (set views id w) child
         (after_step (λ j u. AtLoader m r.holder j u.loader) views id w (subst (AtLoader m r.holder id) (sym forks.loader) (r.at_loader id v at)) (λ j u _ e. r.at_loader j u e)) (λ _. tt);
+    spare_copy = λ clean. r.spare_copy (none_before views id v w at (subst (λ o. IfSome o (λ h. h.stored ≡ false)) forks.loader) (λ j u e. clean j u (at_longer (set views id w) (child ∷ []) j u e)));
     weights = (let a = total_set (λ u. weight u.role) views id v w at in let b = total_snoc (λ u. weight u.role) (set views id w) child in let c = total_set (λ u. u.made) views id v w at in let d = total_snoc (λ u. u.made) (set views id w) child in let e : weight w.role ≡ weight v.role = ap weight forks.role in let o = r.weights in omega (arith, a, b, c, d, e, made, o));
     counted = (let s = sums (λ u. u.budget.credit) credited in let o = r.counted in omega (arith, s, o));
     lineages = lineages_fork;
@@ -315,6 +317,7 @@ module _ (t : Terms) (m : Memory) (views : List Log) (history : List Update) (r 
         (λ j x _ _ e. log_later t history _ count x (r.each j x e));
     loader = loader_join r.holder r.loader;
     at_loader = everywhere (λ j x. AtLoader m r.holder j x.loader) tt (subst (AtLoader m r.holder id) (sym gains.loader) (r.at_loader id v at)) (λ j x _ _ e. r.at_loader j x e);
+    spare_copy = λ clean. r.spare_copy (none_before views id v b at (subst (λ o. IfSome o (λ h. h.stored ≡ false)) gains.loader) (none_before one other u spent_log there (λ _. subst (λ o. IfSome o (λ h. h.stored ≡ false)) (sym free) tt) clean));
     weights = (let s = total_set_two (λ x. weight x.role) views id other v b u spent_log at there in let e : weight b.role ≡ weight v.role = ap weight gains.role in let made = made_is in let o = r.weights in omega (arith, s, e, made, o));
     counted = (let s = sums_join (λ x. x.budget.credit) (let a = gains.credit in omega (arith, a)) in let o = r.counted in omega (arith, s, o));
     lineages = lineages_join;

@@ -18,7 +18,7 @@ use Rattle.std.proofs.lemmas.List.Sums.{count_by-le-length, sum_by-cons}
 use Rattle.tree_shape.specs.Numbers.{once}
 use Rattle.word_rule.specs.Callers.{IsOfTerms, IsMemberOf, AreTerms, is_of_loader, publications, start}
 use Rattle.word_rule.proofs.Each.{all_append}
-use Rattle.word_rule.specs.Copies.{StandFrom, ListsMembers}
+use Rattle.word_rule.specs.Copies.{StandFrom, ListsMembers, ListsAll}
 use Rattle.word_rule.proofs.Members.{drop_one, length_drop_one, contains_drop_one}
 
 -- two lists of one length that the same words list are one
@@ -172,3 +172,11 @@ there_at base (x ∷ es) m e = go (ℕ_discrete x.span.first base) (λ f. there_
     go : Dec (x.span.first ≡ base) → (at_base base es ≡ Some m → Contains es m × (m.span.first ≡ base)) → Contains (x ∷ es) m × (m.span.first ≡ base)
     go (yes is) later = let same : x ≡ m = same_Some _ _ (rw (eq-eqb x.span.first base is) at e) in ((0, omega arith, same), subst (λ (z : Member). z.span.first ≡ base) same is)
     go (no ne) later = let r = later (rw (ne_eqb x.span.first base ne) at e) in ((suc r.0.0, (let l = r.0.1 in omega (arith, l)), r.0.2), r.1)
+
+-- what lists the loaded members has no more of them than may be loaded
+pub listed_few : (t : Terms) (history : List Update) → AreTerms t → AllByRecursion (IsOfTerms t) history → IsHistory (start t) history → {copy : List ℕ} → (l : ListsAll copy (state_after (start t) history).loaded) → length l.members ≤ t.loads
+listed_few t history terms members lawful l =
+    let less = disjoint_fit l.members (state_after (start t) history).loaded (ascending_disjoint 0 l.members l.lists.ascending)
+    (λ x c. loaded_spans t (start t) history members (λ z d. absurd (omega (arith, d.1))) x ((l.same x).0 c)) (λ x c. (l.same x).0 c) in
+    let room = (lawful_history (start t) history (start_lawful t terms) lawful).room in
+    let loads = (state_fixed (start t) history).1 in omega (arith, less, room, loads)

@@ -1,5 +1,5 @@
 -- Steps on the loader's lock keep the rule.
-use Rattle.std.proofs.Common.{◌≡◌, ◌≢◌, ℕ, zero, suc, ◌+◌, ◌-◌, ◌/◌, ◌%◌, ◌^◌, ◌<◌, ◌≤◌, List, [], ◌∷◌, length, get_or, set, sym, refl, ap, ◌∙◌, subst, inl, inr, ⊎_elim, arith, ◌==◌, MatchBool, IfSome, IsSome, IsSomeAnd, bit_or, Option, Some, None, Bool, false, eq-eqb, ne_eqb, length-set}
+use Rattle.std.proofs.Common.{◌≡◌, ◌≢◌, ℕ, zero, suc, ◌+◌, ◌-◌, ◌/◌, ◌%◌, ◌^◌, ◌<◌, ◌≤◌, List, [], ◌∷◌, length, get_or, set, sym, refl, ap, ◌∙◌, subst, inl, inr, ⊎_elim, arith, ◌==◌, MatchBool, IfSome, IsSomeAnd, bit_or, Option, Some, None, Bool, false, eq-eqb, ne_eqb, length-set}
 use Rattle.std.specs.List.{AllByRecursion}
 use Rattle.std.proofs.lemmas.Option.{none-some, same_Some}
 use Rattle.std.proofs.lemmas.Nat.{or_disjoint}
@@ -23,9 +23,9 @@ use Rattle.word_rule.specs.Observations.{ObservationsHold, WasFull}
 use Rattle.word_rule.specs.TableInvariant.{TableInvariant, IsStill}
 use Rattle.word_rule.specs.Plays.{Seated, looks, locks, grabs, marks, releases, releases_same}
 use Rattle.word_rule.proofs.Facts.{after_step, within}
-use Rattle.word_rule.proofs.Each.{all_map, some_of}
+use Rattle.word_rule.proofs.Each.{all_map, some_with}
 use Rattle.word_rule.proofs.Memories.{set_loader, set_same, copy_length, by_same}
-use Rattle.word_rule.proofs.CallersFrame.{IsLike, callers_step, lock_stays, busy}
+use Rattle.word_rule.proofs.CallersFrame.{IsLike, callers_step, lock_stays, none_before, busy}
 use Rattle.word_rule.proofs.ObservationsFrame.{Loads, no_more, observations_same, of_loader}
 use Rattle.word_rule.proofs.Frames.{Sit, table_step, loader_memory, still_after_turn, still_after_load}
 
@@ -55,12 +55,13 @@ module _ (t : Terms) (slots id : ℕ) (me : Seated) (caller : me.0.role ≡ role
 
   -- a step that changes the lock's word to x
   writes : (s : Sit) (r : Holds s) (w : Log) (x : ℕ) (holder : Option ℕ) → mine_at s → IsLike me.0 w → w.holdings ≡ me.0.holdings → w.sights ≡ me.0.sights → w.trace.loads ≡ me.0.trace.loads → turns me.0.trace < turns w.trace
-      → x / 4 + w.budget.credit ≤ get_or s.words 2 0 / 4 + me.0.budget.credit → LoaderLock x (set s.views id w) holder
+      → x / 4 + w.budget.credit ≤ get_or s.words 2 0 / 4 + me.0.budget.credit → (IfSome w.loader (λ h. h.stored ≡ false) → IfSome me.0.loader (λ h. h.stored ≡ false)) → LoaderLock x (set s.views id w) holder
       → ((j : ℕ) (u : Log) → get_elem? (set s.views id w) j ≡ some u → AtLoader (record (memory_of t s.words) { loader = x }) holder j u.loader) → TableInvariant t (set s.words 2 x) (set s.views id w)
-  writes s r w x holder at like holdings sights loads turn fewer lock at_lock =
+  writes s r w x holder at like holdings sights loads turn fewer clean lock at_lock =
       table_step t s.words s.views r id me.0 w at stands (set s.words 2 x) (record (memory_of t s.words) { loader = x }) (length-set s.words 2 x) (set_loader t s.words r.wide x)
       (loader_memory t s.words s.views r id me.0 w at stands x holdings like.made
-      (callers_step t (memory_of t s.words) s.views r.memory.history r.memory.callers id me.0 w at like (record (memory_of t s.words) { loader = x }) holder refl (omega (arith, fewer)) lock at_lock (λ zero_weight. busy me.0 w caller (ap weight (sym like.role) ∙ zero_weight)))
+      (callers_step t (memory_of t s.words) s.views r.memory.history r.memory.callers id me.0 w at like (record (memory_of t s.words) { loader = x }) holder refl (omega (arith, fewer)) lock at_lock (λ zero_weight. busy me.0 w caller (ap weight (sym like.role) ∙ zero_weight))
+      (λ all. r.memory.callers.spare_copy (none_before s.views id me.0 w at clean all)))
       (observed s r w [] at sights (no_more me.0 w (ap own_list like.receipts) (omega (arith, turn)) loads) tt))
       (λ _. still_after_turn (set s.words 2 x) me.0 w turn loads (r.memory.observations id me.0 at).earlier)
 
@@ -77,7 +78,8 @@ module _ (t : Terms) (slots id : ℕ) (me : Seated) (caller : me.0.role ≡ role
       (lock_stays s.views x x id me.0 w r.memory.callers.holder at refl (λ e. subst (LoaderLock x s.views) e r.memory.callers.loader) r.memory.callers.loader)
       (after_step (λ j u. AtLoader (record m { loader = x }) r.memory.callers.holder j u.loader) s.views id w
       (part_stays m x r.memory.callers.holder id me.0.loader (λ _ h. h) (r.memory.callers.at_loader id me.0 at))
-      (λ j u _ e. part_stays m x r.memory.callers.holder j u.loader (λ _ h. h) (r.memory.callers.at_loader j u e))) (busy me.0 w caller))
+      (λ j u _ e. part_stays m x r.memory.callers.holder j u.loader (λ _ h. h) (r.memory.callers.at_loader j u e))) (busy me.0 w caller)
+      (λ all. r.memory.callers.spare_copy (none_before s.views id me.0 w at (λ h. h) all)))
       (observed s r w (load_of me.0 2 x ∷ []) at refl (record { own = refl; turns = omega arith; loads = refl }) ((refl, omega arith, omega arith), tt)))
       (λ alone. subst (λ ws. IsStill ws w) (sym (set_same s.words 2)) (still_after_load s.words me.0 w (load_of me.0 2 x) refl refl refl (r.alone id me.0 at alone)))
 
@@ -128,6 +130,7 @@ module _ (t : Terms) (slots id : ℕ) (me : Seated) (caller : me.0.role ≡ role
         keeps,
         tt,
         writes s r w (seen + 1) (Some id) at (record { terms = refl; role = refl; past = refl; receipts = refl; allowance = refl; made = refl; lineage = refl }) refl refl refl (omega arith) (omega (arith, hit, four))
+            (λ _. subst (λ o. IfSome o (λ g. g.stored ≡ false)) (sym (no_part m r.memory.callers.holder id me.0.loader (λ k. none-some id (sym free ∙ k)) (r.memory.callers.at_loader id me.0 at))) tt)
             (w, h, (set_here s.views id w (within s.views id me.0 at), refl))
             (after_step (λ j z. AtLoader (record m { loader = seen + 1 }) (Some id) j z.loader) s.views id w
             (refl, record { locked = (four, inl refl); published = refl; active = refl; spare = refl })
@@ -156,7 +159,7 @@ module _ (t : Terms) (slots id : ℕ) (me : Seated) (caller : me.0.role ≡ role
         w,
         keeps,
         tt,
-        writes s r w (marked seen) r.memory.callers.holder at (record { terms = refl; role = refl; past = refl; receipts = refl; allowance = refl; made = refl; lineage = refl }) refl refl refl (omega arith) (omega (arith, hit))
+        writes s r w (marked seen) r.memory.callers.holder at (record { terms = refl; role = refl; past = refl; receipts = refl; allowance = refl; made = refl; lineage = refl }) refl refl refl (omega arith) (omega (arith, hit)) (λ h. h)
             (lock_stays s.views n (marked seen) id me.0 w r.memory.callers.holder at refl (λ e. let z : get_or s.words 2 0 % 4 ≡ 0 = subst (LoaderLock n s.views) e r.memory.callers.loader in absurd (omega (arith, z, odd, hit))) r.memory.callers.loader)
             (after_step (λ j u. AtLoader (record m { loader = marked seen }) r.memory.callers.holder j u.loader) s.views id w
             (part_stays m (marked seen) r.memory.callers.holder id me.0.loader keeps_lock (r.memory.callers.at_loader id me.0 at))
@@ -170,37 +173,37 @@ module _ (t : Terms) (slots id : ℕ) (me : Seated) (caller : me.0.role ≡ role
   mine_held s r h at is = let a : AtLoader (memory_of t s.words) r.memory.callers.holder id (Some h) = subst (AtLoader (memory_of t s.words) r.memory.callers.holder id) is (r.memory.callers.at_loader id me.0 at) in (a.0, a.1.locked)
 
   -- the lock is let go with a word that is a multiple of 4
-  lets_go : (s : Sit) (r : Holds s) (h : LoaderHolding) (w : Log) (x : ℕ) → mine_at s → me.0.loader ≡ Some h → IsLike me.0 w → w.holdings ≡ me.0.holdings → w.sights ≡ me.0.sights → w.trace.loads ≡ me.0.trace.loads → turns me.0.trace < turns w.trace → w.loader ≡ None → x % 4 ≡ 0
+  lets_go : (s : Sit) (r : Holds s) (h : LoaderHolding) (w : Log) (x : ℕ) → mine_at s → me.0.loader ≡ Some h → IsLike me.0 w → w.holdings ≡ me.0.holdings → w.sights ≡ me.0.sights → w.trace.loads ≡ me.0.trace.loads → turns me.0.trace < turns w.trace → w.loader ≡ None → h.stored ≡ false → x % 4 ≡ 0
       → x / 4 + w.budget.credit ≤ get_or s.words 2 0 / 4 + me.0.budget.credit → TableInvariant t (set s.words 2 x) (set s.views id w)
-  lets_go s r h w x at is like holdings sights loads turn gone four fewer =
+  lets_go s r h w x at is like holdings sights loads turn gone clean four fewer =
       let mine = mine_held s r h at is in
       let m : Memory = memory_of t s.words in
-      writes s r w x None at like holdings sights loads turn fewer four
+      writes s r w x None at like holdings sights loads turn fewer (λ _. subst (λ o. IfSome o (λ g. g.stored ≡ false)) (sym is) clean) four
       (after_step (λ j u. AtLoader (record m { loader = x }) None j u.loader) s.views id w (nothing (record m { loader = x }) None id w.loader gone)
       (λ j u other e. nothing (record m { loader = x }) None j u.loader (no_part m r.memory.callers.holder j u.loader (λ held. other (same_Some _ _ (sym held ∙ mine.0))) (r.memory.callers.at_loader j u e))))
 
-  pub releases_loader : (h : LoaderHolding) → me.0.loader ≡ Some h → 0 < me.0.budget.credit → Allows Holds slots id me 2 (λ _. h.version + 4) (releases (step slots 2 (h.version + 4) 0 none) me)
-  releases_loader h is some_credit s r deep at small =
+  pub releases_loader : (h : LoaderHolding) → me.0.loader ≡ Some h → h.stored ≡ false → 0 < me.0.budget.credit → Allows Holds slots id me 2 (λ _. h.version + 4) (releases (step slots 2 (h.version + 4) 0 none) me)
+  releases_loader h is clean some_credit s r deep at small =
       let w : Log = after_loader_release me.0 in
       let lock = (mine_held s r h at is).1 in
       let four = lock.0 in (
         w,
         keeps,
         tt,
-        lets_go s r h w (h.version + 4) at is (record { terms = refl; role = refl; past = refl; receipts = refl; allowance = refl; made = refl; lineage = refl }) refl refl refl (omega arith) refl (omega (arith, four))
+        lets_go s r h w (h.version + 4) at is (record { terms = refl; role = refl; past = refl; receipts = refl; allowance = refl; made = refl; lineage = refl }) refl refl refl (omega arith) refl clean (omega (arith, four))
             (⊎_elim (λ (e : get_or s.words 2 0 ≡ h.version + 1). omega (arith, e, four, some_credit)) (λ (e : get_or s.words 2 0 ≡ h.version + 3). omega (arith, e, four, some_credit)) lock.1),
         (refl, subst (λ part. IfSome part (λ g. IsLockedAt g.version (get_or s.words 2 0))) (sym is) lock),
       )
 
-  pub releases_same_loader : (h : LoaderHolding) → me.0.loader ≡ Some h → Allows Holds slots id me 2 (λ _. h.version) (releases_same (step slots 2 h.version 0 none) me)
-  releases_same_loader h is s r deep at small =
+  pub releases_same_loader : (h : LoaderHolding) → me.0.loader ≡ Some h → h.stored ≡ false → Allows Holds slots id me 2 (λ _. h.version) (releases_same (step slots 2 h.version 0 none) me)
+  releases_same_loader h is clean s r deep at small =
       let w : Log = after_loader_release_same me.0 in
       let lock = (mine_held s r h at is).1 in
       let four = lock.0 in (
         w,
         keeps,
         tt,
-        lets_go s r h w h.version at is (record { terms = refl; role = refl; past = refl; receipts = refl; allowance = refl; made = refl; lineage = refl }) refl refl refl (omega arith) refl four
+        lets_go s r h w h.version at is (record { terms = refl; role = refl; past = refl; receipts = refl; allowance = refl; made = refl; lineage = refl }) refl refl refl (omega arith) refl clean four
             (⊎_elim (λ (e : get_or s.words 2 0 ≡ h.version + 1). omega (arith, e, four)) (λ (e : get_or s.words 2 0 ≡ h.version + 3). omega (arith, e, four)) lock.1),
         (refl, subst (λ part. IfSome part (λ g. IsLockedAt g.version (get_or s.words 2 0))) (sym is) lock),
       )
@@ -240,22 +243,17 @@ module _ (t : Terms) (slots id : ℕ) (me : Seated) (caller : me.0.role ≡ role
   grabs_loader s r deep at small = grabs_word s r deep at small (get_or s.words 2 0 % 2) refl
 
   -- and the version is the one that the caller keeps
-  pub releases_kept : (version : ℕ) → IsSome me.0.loader → IfSome me.0.loader (λ h. (h.version ≡ version) × (h.version < 2 ^ 63)) → 0 < me.0.budget.credit
+  pub releases_kept : (version : ℕ) → IsSomeAnd me.0.loader (λ h. h.stored ≡ false) → IfSome me.0.loader (λ h. (h.version ≡ version) × (h.version < 2 ^ 63)) → 0 < me.0.budget.credit
       → Allows Holds slots id me 2 (λ _. version + 4) (releases (step slots 2 (version + 4) 0 none) me)
   releases_kept version held kept some_credit =
-      let h = some_of me.0.loader held in let is = subst (λ part. IfSome part (λ g. (g.version ≡ version) × (g.version < 2 ^ 63))) h.1 kept in
-      subst (λ k. Allows Holds slots id me 2 (λ _. k + 4) (releases (step slots 2 (k + 4) 0 none) me)) is.0 (releases_loader h.0 h.1 some_credit)
+      let h = some_with me.0.loader (λ g. g.stored ≡ false) held in let is = subst (λ part. IfSome part (λ g. (g.version ≡ version) × (g.version < 2 ^ 63))) h.1.0 kept in
+      subst (λ k. Allows Holds slots id me 2 (λ _. k + 4) (releases (step slots 2 (k + 4) 0 none) me)) is.0 (releases_loader h.0 h.1.0 h.1.1 some_credit)
 
-  pub releases_same_kept : (version : ℕ) → IsSome me.0.loader → IfSome me.0.loader (λ h. (h.version ≡ version) × (h.version < 2 ^ 63))
+  pub releases_same_kept : (version : ℕ) → IsSomeAnd me.0.loader (λ h. h.stored ≡ false) → IfSome me.0.loader (λ h. (h.version ≡ version) × (h.version < 2 ^ 63))
       → Allows Holds slots id me 2 (λ _. version) (releases_same (step slots 2 version 0 none) me)
   releases_same_kept version held kept =
-      let h = some_of me.0.loader held in let is = subst (λ part. IfSome part (λ g. (g.version ≡ version) × (g.version < 2 ^ 63))) h.1 kept in
-      subst (λ k. Allows Holds slots id me 2 (λ _. k) (releases_same (step slots 2 k 0 none) me)) is.0 (releases_same_loader h.0 h.1)
-
--- a number is kept of a log that holds the lock
-pub is_held : (o : Option LoaderHolding) → IsSomeAnd o (λ h. h.stored ≡ false) → IsSome o
-is_held None h = absurd h
-is_held (Some g) h = refl
+      let h = some_with me.0.loader (λ g. g.stored ≡ false) held in let is = subst (λ part. IfSome part (λ g. (g.version ≡ version) × (g.version < 2 ^ 63))) h.1.0 kept in
+      subst (λ k. Allows Holds slots id me 2 (λ _. k) (releases_same (step slots 2 k 0 none) me)) is.0 (releases_same_loader h.0 h.1.0 h.1.1)
 
 -- the first of a list, read with a value that stands in past its end
 pub first_of : (xs : List ℕ) (y : ℕ) → 0 < length xs → y ≡ get_or xs 0 y → get_or xs 0 0 ≡ y

@@ -24,10 +24,10 @@ use Rattle.word_rule.specs.declared.log.Log.{Log}
 use Rattle.word_rule.specs.Places.{upper}
 use Rattle.word_rule.specs.Memory.{Memory, memory_of}
 use Rattle.word_rule.specs.Logs.{is_spent}
-use Rattle.word_rule.specs.Steps.{IsDone, exchange_copies, after_publish, AfterPublish, Publishes, MayPublish}
+use Rattle.word_rule.specs.Steps.{IsDone, exchange_copies, after_publish, AfterPublish, MayPublish}
 use Rattle.word_rule.specs.Callers.{total, CallersHold, HoldsLoader, AtLoader, LoaderLock, is_of_loader, start}
 use Rattle.word_rule.specs.Nodes.{NodesHold}
-use Rattle.word_rule.specs.Copies.{ListsAll, ListsMembers, ActiveCopy}
+use Rattle.word_rule.specs.Copies.{ListsAll, ListsMembers, ActiveCopy, Publishes}
 use Rattle.word_rule.specs.Observations.{ObservationsHold}
 use Rattle.word_rule.specs.TableInvariant.{TableInvariant}
 use Rattle.word_rule.specs.Plays.{Seated, publishes}
@@ -37,7 +37,7 @@ use Rattle.word_rule.proofs.Memories.{set_clock}
 use Rattle.word_rule.proofs.NodesFrame.{nodes_same}
 use Rattle.word_rule.proofs.ObservationsFrame.{observations_over, sight_over}
 use Rattle.word_rule.proofs.Frames.{Sit, table_step, still_after_turn}
-use Rattle.word_rule.proofs.Listings.{lists_same, contains_filter, filter_contains, find_contains, contains_find, state_fixed, loaded_spans, loaded_disjoint, disjoint_fit, free_of}
+use Rattle.word_rule.proofs.Listings.{lists_same, contains_filter, filter_contains, find_contains, contains_find, state_fixed, loaded_spans, loaded_disjoint, disjoint_fit, free_of, listed_few}
 use Rattle.word_rule.proofs.Accepting.{Accepts, answered, callers_after, few_updates, observations_received}
 use Rattle.word_rule.proofs.CopyStores.{other_loader, loader_held}
 
@@ -171,6 +171,14 @@ module _ (t : Terms) (slots id : ℕ) (me : Seated) (caller : me.0.role ≡ role
         (let a = higher in let p = r.memory.callers.published in let q = sum_by_push (λ x. once (is_of_loader x)) r.memory.history u in let b : once (is_of_loader u) ≡ 1 = ap once step_fits.2 in omega (arith, a, p, q, b))
         (subst (LoaderLock (memory_of t s.words).loader (set s.views id w)) (sym mine.0) (w, exchange_copies h, (set_here s.views id w (within s.views id me.0 at), loader_now)))
         at_lock
+        (λ _. let up = higher in record {
+          before = may.before;
+          after = may.after;
+          lists_before = subst (λ ws. ListsMembers ws may.before) (mine.1.active ∙ ap (memory_of t s.words).copies (omega (arith, up))) may.active;
+          lists_after = subst (λ ws. ListsMembers ws may.after) (mine.1.spare ∙ ap (memory_of t s.words).copies (omega (arith, up))) may.spare;
+          few = subst (λ xs. length xs ≤ t.loads) (sym before_is) (listed_few t r.memory.history r.memory.callers.terms r.memory.callers.members r.memory.callers.lawful r.memory.active);
+          change = inr (u, may.publishes);
+        })
 
     nodes : NodesHold t (memory_of t s.words).nodes (set s.views id w) (r.memory.history ++ u ∷ []) r.memory.shadow
     nodes =

@@ -1,5 +1,5 @@
 -- A step that changes no word keeps the rule where its log does.
-use Rattle.std.proofs.Common.{◌≡◌, ℕ, ◌+◌, List, get_or, set, length-set, sym, refl, ap, subst, arith, IsSome, false}
+use Rattle.std.proofs.Common.{◌≡◌, ℕ, ◌+◌, List, get_or, set, length-set, sym, refl, ap, subst, arith, IfSome, IsSome, false}
 use mathlib.Core.Option.{some}
 use lib.ListN.{get_elem?}
 use Rattle.tree_shape.specs.Numbers.{times}
@@ -14,7 +14,7 @@ use Rattle.word_rule.specs.Observations.{ObservationsHold}
 use Rattle.word_rule.specs.TableInvariant.{TableInvariant, IsStill}
 use Rattle.word_rule.proofs.Facts.{total_same, after_step}
 use Rattle.word_rule.proofs.Memories.{set_same}
-use Rattle.word_rule.proofs.CallersFrame.{IsLike, callers_step, lock_stays}
+use Rattle.word_rule.proofs.CallersFrame.{IsLike, callers_step, lock_stays, none_before}
 use Rattle.word_rule.proofs.NodesFrame.{nodes_own}
 use Rattle.word_rule.proofs.Frames.{table_step}
 
@@ -31,7 +31,8 @@ module _ (t : Terms) (words : List ℕ) (views : List Log) (r : TableInvariant t
         history = r.memory.history;
         callers = callers_step t m views r.memory.history r.memory.callers id v w at like m r.memory.callers.holder refl (omega (arith, credit))
             (lock_stays views m.loader m.loader id v w r.memory.callers.holder at loader (λ e. subst (LoaderLock m.loader views) e r.memory.callers.loader) r.memory.callers.loader)
-            (after_step (λ j u. AtLoader m r.memory.callers.holder j u.loader) views id w (subst (AtLoader m r.memory.callers.holder id) (sym loader) (r.memory.callers.at_loader id v at)) (λ j u _ e. r.memory.callers.at_loader j u e)) idle;
+            (after_step (λ j u. AtLoader m r.memory.callers.holder j u.loader) views id w (subst (AtLoader m r.memory.callers.holder id) (sym loader) (r.memory.callers.at_loader id v at)) (λ j u _ e. r.memory.callers.at_loader j u e)) idle
+            (λ clean. r.memory.callers.spare_copy (none_before views id v w at (subst (λ o. IfSome o (λ h. h.stored ≡ false)) loader) clean));
         shadow = r.memory.shadow;
         nodes = nodes_own views id v w at t m.nodes r.memory.history r.memory.shadow holdings kept out r.memory.nodes;
         active = r.memory.active;

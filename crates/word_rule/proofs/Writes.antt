@@ -1,5 +1,5 @@
 -- A step that changes a word keeps the rule where what it makes of nodes, copies and callers does.
-use Rattle.std.proofs.Common.{◌≡◌, ℕ, ◌+◌, ◌<◌, ◌≤◌, List, [], length, set, sym, refl, subst, arith, Option, Some, None, false}
+use Rattle.std.proofs.Common.{◌≡◌, ℕ, ◌+◌, ◌<◌, ◌≤◌, List, [], length, set, sym, refl, subst, arith, Option, Some, None, IfSome, false}
 use mathlib.Core.Option.{some}
 use mathlib.Core.List.{IsPrefix}
 use lib.ListN.{get_elem?}
@@ -17,7 +17,7 @@ use Rattle.word_rule.specs.Copies.{ActiveCopy, CopySightHolds}
 use Rattle.word_rule.specs.Observations.{SightHolds, ObservationsHold}
 use Rattle.word_rule.specs.TableInvariant.{TableInvariant}
 use Rattle.word_rule.proofs.Facts.{total_same, after_step}
-use Rattle.word_rule.proofs.CallersFrame.{IsLike, callers_step, lock_stays}
+use Rattle.word_rule.proofs.CallersFrame.{IsLike, callers_step, lock_stays, none_before}
 use Rattle.word_rule.proofs.ObservationsFrame.{no_more, observations_over, observations_same}
 use Rattle.word_rule.proofs.Frames.{table_step, still_after_turn}
 
@@ -44,6 +44,7 @@ module _ (t : Terms) (words : List ℕ) (views : List Log) (r : TableInvariant t
       (after_step (λ j u. AtLoader (record m { nodes = nodes }) r.memory.callers.holder j u.loader) views id w
       (subst (AtLoader (record m { nodes = nodes }) r.memory.callers.holder id) (sym loader) (nodes_at_loader m nodes r.memory.callers.holder id v.loader (r.memory.callers.at_loader id v at)))
       (λ j u _ e. nodes_at_loader m nodes r.memory.callers.holder j u.loader (r.memory.callers.at_loader j u e))) idle
+      (λ clean. r.memory.callers.spare_copy (none_before views id v w at (subst (λ o. IfSome o (λ h. h.stored ≡ false)) loader) clean))
 
   pub written : (words' : List ℕ) (m' : Memory) (history' : List Update) (shadow' : Shadow) → length words' ≡ length words → memory_of t words' ≡ m' → IsPrefix r.memory.history history'
       → CallersHold t m' (set views id w) history' → NodesHold t m'.nodes (set views id w) history' shadow' → ActiveCopy t m'.clock m'.copies history' → w.made ≡ v.made

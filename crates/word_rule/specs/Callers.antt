@@ -1,7 +1,7 @@
 -- What holds of the shared words and of all callers' logs between any two steps: the callers and
 -- the loader's lock.
 use Rattle.std.specs.Prelude.{◌≡◌, ℕ, ◌+◌, ◌<◌, ◌≤◌, ◌%◌, ◌⊎◌, Bool, List, [], ◌∷◌, ◌++◌, length}
-use Rattle.std.specs.Prelude.{◌&&◌, nat_le, ◌^◌, Option, Some, None, true, false}
+use Rattle.std.specs.Prelude.{◌&&◌, nat_le, ◌^◌, Option, Some, None, IfSome, true, false}
 use Rattle.std.specs.List.{AllByRecursion, sum_by, count_by}
 use mathlib.Core.Option.{some}
 use mathlib.Core.List.{IsPrefix}
@@ -22,6 +22,7 @@ use Rattle.word_rule.specs.declared.log.Receipts.{Receipts}
 use Rattle.word_rule.specs.declared.log.Lineage.{Lineage}
 use Rattle.word_rule.specs.declared.log.LoaderHolding.{LoaderHolding}
 use Rattle.word_rule.specs.declared.log.Log.{Log}
+use Rattle.word_rule.specs.Copies.{IsBehind}
 use Rattle.word_rule.specs.Names.{name_count, is_same}
 use Rattle.word_rule.specs.Logs.{is_spent, own_list, weight}
 use Rattle.word_rule.specs.Memory.{Memory, counters}
@@ -158,6 +159,12 @@ LoaderLock word views None = word % 4 ≡ 0
 LoaderLock word views (Some id) =
     (v : Log) × (h : LoaderHolding) × ((get_elem? views id ≡ some v) × (v.loader ≡ Some h))
 
+-- No log has the loader's lock and says that a word was stored since it was taken, or since it last
+-- published.
+abbrev pub NoneStored : List Log → Type 0
+NoneStored views = (id : ℕ) (v : Log) → get_elem? views id ≡ some v
+    → IfSome v.loader (λ h. h.stored ≡ false)
+
 -- How the logs were forked from one another.
 pub record LineagesHold (views : List Log) : Type 0 where
   -- each name given was gathered by one log at most; but the first caller's was given by none
@@ -197,6 +204,9 @@ pub record CallersHold (t : Terms) (m : Memory) (views : List Log)
   -- one caller at most holds the loader's lock
   pub loader : LoaderLock m.loader views holder
   pub at_loader : (id : ℕ) (v : Log) → get_elem? views id ≡ some v → AtLoader m holder id v.loader
+  -- but while its holder stores in it, the copy that isn't active is one publication behind
+  pub spare_copy : NoneStored views
+      → IsBehind t (m.copies (upper m.clock % 2)) (m.copies (spare m.clock))
   -- a version never returns: its counter has the credits above it
   pub counted : counters t m + total (λ v. v.budget.credit) views ≤ CREDIT
   pub lineages : LineagesHold views

@@ -1,6 +1,6 @@
 -- What a load of the clock tells, and what it makes of its caller's log.
 use Rattle.std.specs.Prelude.{◌≡◌, ℕ, ◌≤◌, ◌%◌, ◌⊎◌, List, [], ◌∷◌, length, Option, IfSome}
-use Rattle.std.specs.Prelude.{IsSomeAnd}
+use Rattle.std.specs.Prelude.{IsSomeAnd, false}
 use Rattle.std.specs.List.{AllByRecursion}
 use mathlib.Core.List.{IsPrefix}
 use Rattle.reg_model.specs.State.{IsLawful, objects}
@@ -16,7 +16,7 @@ use Rattle.word_rule.specs.declared.log.Log.{Log}
 use Rattle.word_rule.specs.declared.log.Terms.{Terms}
 use Rattle.word_rule.specs.Places.{lower, upper}
 use Rattle.word_rule.specs.Callers.{AreTerms, IsAlone, IsMemberOf, publications, start}
-use Rattle.word_rule.specs.Copies.{AreOfCopy, ListsAll}
+use Rattle.word_rule.specs.Copies.{AreOfCopy, IsBehind, ListsAll}
 use Rattle.word_rule.specs.Sights.{after_clock, walk_receipts}
 use Rattle.word_rule.specs.Steps.{IsRefusalOf, MayRefuse}
 use Rattle.word_rule.specs.TreeRefusals.{ShowsFull, ShowsNone, ShowsOverlap}
@@ -48,6 +48,9 @@ pub record ClockTells (t : Terms) (found : ℕ) (v : Log) (past : List Update) :
   -- the holder of the loader's lock knows how often it published, and what the active copy lists
   pub holder : IfSome v.loader (λ h. (upper found ≡ h.published)
       × ListsAll h.active (state_after (start t) past).loaded)
+  -- and, where it stored nothing since it last published, that the other copy is one publication
+  -- behind
+  pub spare_copy : IfSome v.loader (λ h. h.stored ≡ false → IsBehind t h.active h.spare)
   -- where nobody else can step, nothing was accepted since
   pub alone : IsAlone v.lineage → past ≡ v.past
 

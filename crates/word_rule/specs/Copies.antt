@@ -1,9 +1,12 @@
--- The loader's copies: what a copy lists, and what a caller has seen of the active one.
-use Rattle.std.specs.Prelude.{◌≡◌, ℕ, ◌+◌, ◌-◌, ◌*◌, ◌<◌, ◌≤◌, ◌%◌, ◌↔◌, IsTrue, List, [], ◌∷◌}
-use Rattle.std.specs.Prelude.{length, min, slice_index, Contains}
+-- The loader's copies: what a copy lists, what the other one lists beside it, and what a caller has
+-- seen of the active one.
+use Rattle.std.specs.Prelude.{◌≡◌, ◌≢◌, ℕ, ◌+◌, ◌-◌, ◌*◌, ◌<◌, ◌≤◌, ◌%◌, ◌⊎◌, ◌↔◌, IsTrue, List}
+use Rattle.std.specs.Prelude.{[], ◌∷◌, ◌++◌, length, min, slice_index, Contains, IsSome}
 use Rattle.std.specs.List.{AllByRecursion}
 use Rattle.reg_model.specs.History.{state_after}
+use Rattle.reg_model.specs.State.{IsFree, at_base, opening}
 use Rattle.reg_model.specs.declared.answer.Update.{Update}
+use Rattle.reg_model.specs.declared.answer.Update.TheVariants as update
 use Rattle.reg_model.specs.declared.span.Member.{Member}
 use Rattle.word_rule.specs.declared.log.Terms.{Terms}
 use Rattle.word_rule.specs.declared.log.LoadedWord.{LoadedWord}
@@ -11,7 +14,6 @@ use Rattle.word_rule.specs.declared.log.CopySight.{CopySight}
 use Rattle.segment_array.specs.Ascending.{AscendFrom}
 use Rattle.word_rule.specs.Places.{copy_place, is_of_copy, segments, segment_place, member_place}
 use Rattle.word_rule.specs.Places.{upper}
-use Rattle.word_rule.specs.Callers.{start}
 
 -- The members stand in a copy one after another, from the i-th on: of each its first and last
 -- address and its payload.
@@ -49,7 +51,28 @@ pub record ListsAll (words : List ℕ) (loaded : List Member) : Type 0 where
 -- the active copy lists the loaded members
 abbrev pub ActiveCopy : Terms → ℕ → (ℕ → List ℕ) → List Update → Type 0
 ActiveCopy t clock copies history =
-    ListsAll (copies (upper clock % 2)) (state_after (start t) history).loaded
+    ListsAll (copies (upper clock % 2)) (state_after (opening t.fixed t.loads) history).loaded
+
+-- what a publication makes of the loaded members
+abbrev pub Publishes : Terms → Update → List Member → List Member → Type 0
+Publishes t (update.Load m) before after =
+    IsFree m.span (t.fixed ++ before) × (length before < t.loads)
+    × ((x : Member) → Contains after x ↔ (Contains before x ⊎ (m ≡ x)))
+Publishes t (update.Unload base) before after =
+    IsSome (at_base base before)
+    × ((x : Member) → Contains after x ↔ (Contains before x × (x.span.first ≢ base)))
+Publishes t (update.Register m) before after = ⊥
+Publishes t (update.Deregister base) before after = ⊥
+
+-- The other copy is one publication behind the active one: it lists the members of before the last
+-- one. Before the first both list none.
+pub record IsBehind (t : Terms) (active other : List ℕ) : Type 0 where
+  pub before : List Member
+  pub after : List Member
+  pub lists_before : ListsMembers other before
+  pub lists_after : ListsMembers active after
+  pub few : length before ≤ t.loads
+  pub change : ((before ≡ []) × (after ≡ [])) ⊎ ((u : Update) × Publishes t u before after)
 
 -- the words that were loaded are those of copy c
 abbrev pub AreOfCopy : Terms → ℕ → List ℕ → List LoadedWord → Type 0

@@ -1,6 +1,6 @@
 -- What the steps on nodes, on the loader's copies, on the clock and on the free head make of a log,
 -- and what they ask for.
-use Rattle.std.specs.Prelude.{◌≡◌, ◌≢◌, ◌↔◌, Contains, is_some, option_map, ℕ, ◌+◌, ◌-◌, ◌<◌, ◌≤◌}
+use Rattle.std.specs.Prelude.{◌≡◌, ◌≢◌, is_some, option_map, ℕ, ◌+◌, ◌-◌, ◌<◌, ◌≤◌}
 use Rattle.std.specs.Prelude.{◌⊎◌, ◌%◌, slice_index, IfSome, IsNone}
 use Rattle.std.specs.Prelude.{Bool, true, false, ◌==◌, ◌&&◌, IsTrue, List, [], ◌∷◌, ◌++◌, length}
 use Rattle.std.specs.Prelude.{Option, Some, None, IsSome, IsSomeAnd, slice_set, if◌then◌else◌}
@@ -32,7 +32,7 @@ use Rattle.word_rule.specs.Logs.{after_load, after_write, after_spending}
 use Rattle.word_rule.specs.Sights.{with_receipts}
 use Rattle.word_rule.specs.declared.log.Terms.{Terms}
 use Rattle.word_rule.specs.Callers.{IsOfTerms, start}
-use Rattle.word_rule.specs.Copies.{ListsAll, ListsMembers}
+use Rattle.word_rule.specs.Copies.{ListsAll, ListsMembers, Publishes}
 
 -- The mark of a node at its lock: the root is live, and so is one that the settled content of a
 -- held live node names, at the place that it is given there.
@@ -171,22 +171,16 @@ pub record IsHeldWord (t : Terms) (at found : ℕ) (h : LoaderHolding) : Type 0 
 -- A publication: the update of the loader was accepted, and the copy that was stored is the active
 -- one now.
 abbrev pub exchange_copies : LoaderHolding → LoaderHolding
-exchange_copies h = record h { published = h.published + 1; active = h.spare; spare = h.active }
+exchange_copies h = record h {
+  published = h.published + 1;
+  active = h.spare;
+  spare = h.active;
+  stored = false;
+}
 
 abbrev pub after_publish : Update → List Update → Receipt → Log → Log
 after_publish u before r v =
     record (after_update u before r v) { loader = option_map exchange_copies v.loader }
-
--- what a publication makes of the loaded members
-abbrev pub Publishes : Terms → Update → List Member → List Member → Type 0
-Publishes t (update.Load m) before after =
-    IsFree m.span (t.fixed ++ before) × (length before < t.loads)
-    × ((x : Member) → Contains after x ↔ (Contains before x ⊎ (m ≡ x)))
-Publishes t (update.Unload base) before after =
-    IsSome (at_base base before)
-    × ((x : Member) → Contains after x ↔ (Contains before x × (x.span.first ≢ base)))
-Publishes t (update.Register m) before after = ⊥
-Publishes t (update.Deregister base) before after = ⊥
 
 -- A publication asks for one of the update calls that were begun, for a member that may be made
 -- known, and that the copy that was stored lists what the active one lists, with the update made.

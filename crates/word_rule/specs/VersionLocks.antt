@@ -1,5 +1,5 @@
 -- Steps on version locks, by whose lock it is: a node's, or the loader's.
-use Rattle.std.specs.Prelude.{◌≡◌, ℕ, ◌<◌, List, IfSome, IsSome, IsSomeAnd, false}
+use Rattle.std.specs.Prelude.{◌≡◌, ℕ, ◌<◌, List, IfSome, IsSomeAnd, false}
 use Rattle.tree_shape.specs.NodeData.{NodeData}
 use Rattle.word_rule.specs.declared.log.Ask.{Ask}
 use Rattle.word_rule.specs.declared.log.LockId.{LockId}
@@ -59,7 +59,7 @@ abbrev pub IsLockTaken : LockId → ℕ → CallerData → CallerData → Type 0
 IsLockTaken lock.Loader version k k' = LoaderTaken version k k'
 IsLockTaken (lock.Node n) version k k' = NodeTaken n version k k'
 
--- no word was stored under a lock that is held
+-- no word was stored under a lock that is held; under the loader's, since it last published
 abbrev pub IsHeldClean : LockId → Log → Type 0
 IsHeldClean lock.Loader v = IsSomeAnd v.loader (λ h. h.stored ≡ false)
 IsHeldClean (lock.Node n) v = IsSomeAnd (held_of n v.holdings.held) (λ h. h.stored ≡ false)
@@ -75,9 +75,10 @@ abbrev pub after_release_same : LockId → Log → Log
 after_release_same lock.Loader v = after_loader_release_same v
 after_release_same (lock.Node n) v = after_node_release_same n v
 
--- a lock is let go with the next version by one that holds it; a node, as its words allow it
+-- A lock is let go with the next version by one that holds it: the loader's, where no word was
+-- stored since it last published; a node, as its words allow it.
 abbrev pub MayLetGo : LockId → Log → Type 0
-MayLetGo lock.Loader v = IsSome v.loader
+MayLetGo lock.Loader v = IsSomeAnd v.loader (λ h. h.stored ≡ false)
 MayLetGo (lock.Node n) v = MayRelease n v
 
 -- a lock was let go with the next version

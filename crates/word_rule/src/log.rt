@@ -94,7 +94,7 @@ pub struct LoaderHolding {
     pub active: LinkedList<u64>,
     /// Those of the other copy, as they are now.
     pub spare: LinkedList<u64>,
-    /// Whether a word was stored since it was locked.
+    /// Whether a word was stored since it was locked, or since its last publication.
     pub stored: bool,
 }
 

@@ -1,6 +1,6 @@
 //! The words, and the steps on version locks.
 ghost use Rattle.std.specs.Prelude.{◌≡◌, ◌≢◌, ◌+◌, ◌%◌, ◌<◌, ◌≤◌, IfOk, IfErr};
-ghost use Rattle.std.specs.Prelude.{IfSome, IsSome, IsSomeAnd, false};
+ghost use Rattle.std.specs.Prelude.{IfSome, IsSomeAnd, false};
 ghost use Rattle.word_rule.specs.Logs.{after_load, after_write};
 ghost use Rattle.word_rule.specs.Logs.{after_loader_release, after_loader_release_same};
 ghost use Rattle.word_rule.specs.CallerData.{surplus};
@@ -199,7 +199,7 @@ impl Words {
 
     fn release_loader(&self, me: &mut Caller) -> u64
         requires table { me.old.table ≡ self.now.table }
-        requires held { IsSome me.old.log.loader }
+        requires clean { IsSomeAnd me.old.log.loader (λ h. h.stored ≡ false) }
         requires surplus { 0 < surplus me.old }
         ensures log { me.new ≡ record me.old { log = after_loader_release me.old.log } }
         ensures before { IfSome me.old.log.loader (λ h. IsLockedAt h.version result) }
@@ -212,7 +212,8 @@ impl Words {
     }
 
     /// Lets go of a lock with the next version, and answers the word before. Of a node, what the
-    /// caller changed settles.
+    /// caller changed settles; under the loader's lock nothing was stored since its last
+    /// publication.
     pub fn release(&self, me: &mut Caller, lock: LockId) -> u64
         requires table { me.old.table ≡ self.now.table }
         requires lock { IsLock self.now.terms lock }

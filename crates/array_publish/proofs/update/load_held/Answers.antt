@@ -4,7 +4,7 @@ use Rattle.reg_model.specs.SpanData.{Overlaps}
 use Rattle.reg_model.specs.declared.span.Member.{Member}
 use Rattle.reg_model.specs.declared.answer.Update.TheVariants as update
 use Rattle.word_rule.specs.CallerData.{CallerData, WordsData}
-use Rattle.word_rule.specs.Copies.{ListsMembers}
+use Rattle.word_rule.specs.Copies.{IsBehind, ListsMembers}
 use Rattle.array_publish.specs.Holders.{active_words, member_in, spare_words}
 use Rattle.array_publish.specs.Writing.{EndsBelow}
 use Rattle.array_publish.specs.declared.writing.ActiveCopy.{ActiveCopy}
@@ -59,6 +59,17 @@ returns-then-active-loads-clause-answer c =
     (λ xs lists.
     let mine = subst (λ ws. ListsMembers ws xs) (active3 ∙ active2) lists in
     All-append (λ x. ¬ Overlaps x.span c.args.member.now.span) w.terms.fixed xs none.0 (free_listed (active_words k1.log.loader) xs a.count c.ending_below-place.result c.args.member.now.span c.args.member.now mine (counted_so w a k1 xs one mine) c.ending_below-place.ensures.inside below begin))
+
+pub write_copy-requires-clause-number : goal.write_copy-requires-clause-number
+write_copy-requires-clause-number c =
+    let w : WordsData = c.args.words.now in let a : ActiveCopy = c.active_copy-active.result in let k1 : CallerData = c.active_copy-active.new.me in let one = c.active_copy-active.ensures.knows in
+    let k2 : CallerData = c.ending_below-place.new.me in let k3 : CallerData = c.lowest_overlap.new.me in
+    let two = knows_stays w a (spare_words k1.log.loader) k1 k2 one c.ending_below-place.ensures.same (spare_wide w a.starts.copy k1 one.holder) in
+    let three = knows_stays w a (spare_words k2.log.loader) k2 k3 two c.lowest_overlap.ensures.same (spare_wide w a.starts.copy k2 two.holder) in three.count ∙ sym three.listing.lists.count
+
+pub write_copy-requires-clause-behind : goal.write_copy-requires-clause-behind
+write_copy-requires-clause-behind c =
+    subst (λ o. IsBehind c.args.words.now.terms (active_words o) (spare_words o)) (sym (c.lowest_overlap.ensures.kept ∙ (c.ending_below-place.ensures.kept ∙ c.active_copy-active.ensures.kept))) c.active_copy-active.ensures.behind
 
 pub write_copy-requires-clause-before : goal.write_copy-requires-clause-before
 write_copy-requires-clause-before c = c.active_copy-active.ensures.knows.room

@@ -3,7 +3,7 @@ use Rattle.reg_model.specs.declared.answer.Update.TheVariants as update
 use Rattle.reg_model.specs.declared.span.Member.{Member}
 use Rattle.word_rule.specs.CallerData.{CallerData, WordsData}
 use Rattle.word_rule.specs.Callers.{IsMemberOf}
-use Rattle.word_rule.specs.Copies.{ListsMembers}
+use Rattle.word_rule.specs.Copies.{IsBehind, ListsMembers}
 use Rattle.array_publish.specs.Holders.{active_words, member_in, spare_words}
 use Rattle.array_publish.specs.Writing.{EndsBelow, EndsFrom}
 use Rattle.array_publish.specs.declared.writing.ActiveCopy.{ActiveCopy}
@@ -39,6 +39,17 @@ returns-in_default-clause-answer c =
     let three = knows_stays w a (spare_words k2.log.loader) k2 k3 two c.in_default.ensures.same (spare_wide w a.starts.copy k2 two.holder) in
     let works = works_then (spare_words k2.log.loader) c.args.me.now k2 k3 (works_then (spare_words k1.log.loader) c.args.me.now k1 k2 c.active_copy-active.ensures.works c.ending_below-place.ensures.same) c.in_default.ensures.same in
     not_found_so w.terms c.args.me.now k3 c.load_clock-clock.new.me c.load_clock-clock.result c.args.base works (stays_clean c.args.me.now k1 k2 k3 c.active_copy-active.ensures.kept c.ending_below-place.ensures.kept c.in_default.ensures.kept c.requires.clean) c.load_clock-clock.ensures.log c.load_clock-clock.ensures.rest
+
+pub write_copy-requires-clause-number : goal.write_copy-requires-clause-number
+write_copy-requires-clause-number c =
+    let w : WordsData = c.args.words.now in let a : ActiveCopy = c.active_copy-active.result in let k1 : CallerData = c.active_copy-active.new.me in let one = c.active_copy-active.ensures.knows in
+    let k2 : CallerData = c.ending_below-place.new.me in let k3 : CallerData = c.beginning_at.new.me in
+    let two = knows_stays w a (spare_words k1.log.loader) k1 k2 one c.ending_below-place.ensures.same (spare_wide w a.starts.copy k1 one.holder) in
+    let three = knows_stays w a (spare_words k2.log.loader) k2 k3 two c.in-Some.ensures.same (spare_wide w a.starts.copy k2 two.holder) in three.count ∙ sym three.listing.lists.count
+
+pub write_copy-requires-clause-behind : goal.write_copy-requires-clause-behind
+write_copy-requires-clause-behind c =
+    subst (λ o. IsBehind c.args.words.now.terms (active_words o) (spare_words o)) (sym (c.in-Some.ensures.kept ∙ (c.ending_below-place.ensures.kept ∙ c.active_copy-active.ensures.kept))) c.active_copy-active.ensures.behind
 
 pub write_copy-requires-clause-before : goal.write_copy-requires-clause-before
 write_copy-requires-clause-before c = c.active_copy-active.ensures.knows.room

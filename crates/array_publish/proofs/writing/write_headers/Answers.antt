@@ -11,7 +11,7 @@ use Rattle.array_publish.proofs.writing.write_headers.Goals as goal
 pub loop-segment-init : goal.loop-segment-init
 loop-segment-init c = record {
   work = written_none c.args.words.now c.args.starts.now.copy c.args.me.now c.requires.holder;
-  headers = λ s less. absurd (omega (arith, less));
+  headers = c.requires.below;
   members = λ i. refl;
 }
 
@@ -35,3 +35,8 @@ loop-segment-preserved c =
       headers = subst (λ ws. HaveHeaders ws c.args.count (s + 1)) (sym one.spare) (one_header c.args.count s words inside inv.headers);
       members = λ i. ap (λ ws. member_in ws i) one.spare ∙ (header_apart s n words i ∙ inv.members i);
     }
+
+pub returns-clause-headers : goal.returns-clause-headers
+returns-clause-headers c s less =
+    let upto = c.segments_for-segment-end.ensures in
+    let over = c.loop-segment-test.false in c.loop-segment.invariant.headers s (omega (arith, less, upto, over))
