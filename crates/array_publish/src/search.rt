@@ -77,32 +77,6 @@ fn begun_in(words: &Words, me: &mut Caller, at: CopyStart, pc: u64, series: Seri
     begun
 }
 
-/// The same for a series that may be short: each turn leaves half of the ways in which it can go
-/// on, of an odd number the greater one, so how many loads there are depends on its length alone.
-#[inline(always)]
-fn begun_by_halves(words: &Words, me: &mut Caller, at: CopyStart, pc: u64, series: Series) -> u32
-    requires copy { IsAtCopy words.now at.copy me.old }
-    requires start { at.start ≡ copy_place words.now.terms at.copy }
-    requires short { series.length < 16 }
-    requires inside { (i : ℕ) → i < series.length
-        → series.place + series.apart * i < copy_words words.now.terms }
-    ensures loads { LoadsCopy words.now.terms at.copy me.old me.new }
-    ensures few { load_count me.new ≤ load_count me.old + series.length }
-    ensures inside { result ≤ series.length }
-    ensures begun { CountsBegun words.now.terms at.copy me.new pc series series.length result }
-{
-    let mut begun = 0;
-    let mut ways = series.length + 1;
-    while ways > 1 {
-        let half = ways / 2;
-        let middle = begun + half - 1;
-        let first = load_word(words, me, at, series.place + series.apart * middle);
-        begun += where_holds(half, first <= pc);
-        ways -= half;
-    }
-    begun
-}
-
 /// The last segment whose first member begins at or below the address, or the first one. The last
 /// member has this number.
 #[inline(always)]
@@ -167,7 +141,7 @@ fn begun_within(
             apart,
             length: segment.after,
         };
-        return begun_by_halves(words, me, at, pc, few);
+        return begun_in(words, me, at, pc, few);
     }
     let all = Series {
         place,

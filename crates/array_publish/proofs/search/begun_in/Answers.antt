@@ -3,7 +3,7 @@ use Rattle.word_rule.specs.CallerData.{CallerData}
 use Rattle.word_rule.specs.declared.log.Terms.{Terms}
 use Rattle.array_publish.specs.Search.{CountsBegun}
 use Rattle.array_publish.proofs.CopyWalks.{loads_none, loads_both, at_copy_stays}
-use Rattle.array_publish.proofs.Counts.{none_counted, one_counted, half_at_most}
+use Rattle.array_publish.proofs.Counts.{none_counted, one_counted, counted_at_most}
 use Rattle.array_publish.proofs.search.begun_in.Goals as goal
 
 pub loop-number-init : goal.loop-number-init
@@ -25,7 +25,7 @@ loop-number-preserved c =
     let i = was.invariant in let more = c.load_word-first.ensures.loads in
     let first : ℕ = c.load_word-first.result in
     let count = i.few in let one = c.load_word-first.ensures.one in
-    let inside = i.inside in let number = c.where_holds-begun.ensures in let most = half_at_most first c.args.pc 1 in record {
+    let inside = i.inside in let number = c.where_holds-begun.ensures in let most = counted_at_most first c.args.pc 1 in record {
       loads = loads_both t copy c.args.me.now k k' i.loads more;
       copy = at_copy_stays c.args.words.now copy k k' i.copy more;
       few = omega (arith, count, one);
