@@ -22,6 +22,7 @@ pub mod Sound
 pub mod LinesRead
 pub mod LineCounts
 pub mod Added
+pub mod SaidLines
 pub mod Standing
 pub mod Rounds
 pub mod Complete

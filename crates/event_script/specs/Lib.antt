@@ -2,6 +2,7 @@ pub mod ScriptData
 pub mod Digits
 pub mod Statements
 pub mod Spelling
+pub mod EventLines
 pub mod Fields
 pub mod Lower
 pub mod Draft

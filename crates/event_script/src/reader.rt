@@ -8,8 +8,10 @@ ghost use Rattle.event_script.specs.Reading.{LeavesDraft, at_line, outcome};
 ghost use Rattle.event_script.specs.Fault.{Tells, IsOfScript, GivesDraft, LeavesLine};
 
 mod draft;
+mod events;
 pub mod fault;
 mod fields;
+mod images;
 mod kinds;
 pub mod numbers;
 mod snapshot_draft;

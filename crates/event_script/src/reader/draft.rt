@@ -1,8 +1,8 @@
 //! What the lines so far make known, and what one more line adds.
 
-ghost use Rattle.std.specs.Prelude.{◌≡◌, ◌≤◌, Ok, [], length};
+ghost use Rattle.std.specs.Prelude.{◌≡◌, ◌≤◌, Ok, Err, [], length, if◌then◌else◌};
 ghost use Rattle.frame_parse.specs.Reading.{section_of};
-ghost use Rattle.event_script.specs.Fields.{fields_after};
+ghost use Rattle.event_script.specs.Fields.{fields_after, is_printable, pieces};
 ghost use Rattle.event_script.specs.declared.limits.TheConstants.{MOST_SECTION_BYTES};
 ghost use Rattle.event_script.specs.declared.reader.kinds.Stage.TheVariants as stage;
 ghost use Rattle.event_script.specs.declared.reader.statement.Statement.TheVariants as statement;
@@ -11,14 +11,17 @@ ghost use Rattle.event_script.specs.Draft.{after_snapshot, after_round};
 ghost use Rattle.event_script.specs.Reading.{GivesLine, LeavesDraft, spoken_added, section_or};
 ghost use Rattle.event_script.specs.Reading.{image_added, last_fixed, is_above, fixed_added};
 ghost use Rattle.event_script.specs.Reading.{snapshot_added, memory_added, is_named, added};
-ghost use Rattle.event_script.specs.Reading.{after_line, at_end};
+ghost use Rattle.event_script.specs.Reading.{after_line, at_end, by_word};
+ghost use Rattle.event_script.specs.declared.reader.fault.Reason.TheVariants as reason;
 
 use crate::limits::{
     LEAST_LOADS, LEAST_NODES, MOST_EVENTS, MOST_IMAGES, MOST_LOADS, MOST_NODES, MOST_ROUNDS,
     MOST_SECTION_BYTES, MOST_SNAPSHOTS, MOST_THREADS, VERSION,
 };
+use crate::reader::events::event_of;
 use crate::reader::fault::{LineFault, Reason};
 use crate::reader::fields::{first_field, is_printable};
+use crate::reader::images::image_of;
 use crate::reader::kinds::{Kind, Stage, kind_of, may_come};
 use crate::reader::snapshot_draft::SnapshotDraft;
 use crate::reader::statement::{
@@ -344,14 +347,12 @@ impl Draft {
         self.add(alloc, statement)
     }
 
-    /// Reads a line, which comes here without its line feed.
-    #[tactic(auto, unfolding(crate::specs::Reading::after_line, crate::specs::Reading::by_word))]
-    pub fn read_line(&mut self, alloc: Global, line: &[u8]) -> Result<(), LineFault>
-        ensures { LeavesDraft self.new result (after_line self.old line.now) }
+    /// Reads a line field by field.
+    #[tactic(auto, unfolding(crate::specs::Reading::by_word))]
+    fn read_by_fields(&mut self, alloc: Global, line: &[u8]) -> Result<(), LineFault>
+        ensures { LeavesDraft self.new result (if is_printable line.now
+            then by_word self.old (pieces 32 line.now) else Err reason.Byte) }
     {
-        if matches!(self.stage, Stage::Ended) {
-            return Err(Reason::After.into());
-        }
         if !is_printable(line) {
             return Err(Reason::Byte.into());
         }
@@ -361,6 +362,42 @@ impl Draft {
             return Err(Reason::Word.into());
         }
         self.read_fields(alloc, kind, rest)
+    }
+
+    /// Reads a line of a thread.
+    fn read_event(&mut self, alloc: Global, line: &[u8]) -> Result<(), LineFault>
+        requires { self.old.stage ≡ stage.Thread }
+        ensures { LeavesDraft self.new result (after_line self.old line.now) }
+    {
+        match event_of(line) {
+            Some(event) => self.event(event),
+            None => self.read_by_fields(alloc, line),
+        }
+    }
+
+    /// Reads a line where images come.
+    fn read_image(&mut self, alloc: Global, line: &[u8]) -> Result<(), LineFault>
+        requires { self.old.stage ≡ stage.Images }
+        ensures { LeavesDraft self.new result (after_line self.old line.now) }
+    {
+        let found = image_of(alloc, line)?;
+        match found {
+            Some(image) => self.image(alloc, image),
+            None => self.read_by_fields(alloc, line),
+        }
+    }
+
+    /// Reads a line, which comes here without its line feed.
+    #[tactic(auto, unfolding(crate::specs::Reading::after_line))]
+    pub fn read_line(&mut self, alloc: Global, line: &[u8]) -> Result<(), LineFault>
+        ensures { LeavesDraft self.new result (after_line self.old line.now) }
+    {
+        match self.stage {
+            Stage::Ended => Err(Reason::After.into()),
+            Stage::Thread => self.read_event(alloc, line),
+            Stage::Images => self.read_image(alloc, line),
+            _ => self.read_by_fields(alloc, line),
+        }
     }
 
     /// Looks at what is left where no line feed comes any more.

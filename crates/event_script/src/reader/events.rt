@@ -1,0 +1,63 @@
+//! Lines of events, as nearly all are: read at once, where nothing is wrong with them.
+
+ghost use Rattle.std.specs.Prelude.{◌≡◌, ◌^◌, ◌<◌, ◌++◌, IfSome, decimal};
+ghost use Rattle.event_script.specs.Digits.{hex};
+ghost use Rattle.event_script.specs.Statements.{HasEventForm};
+ghost use Rattle.event_script.specs.EventLines.{event_spelling};
+
+use crate::reader::numbers::{decimal_in, hex_in};
+use crate::script::Event;
+
+/// What follows the word, where the line begins with it.
+#[inline(always)]
+pub fn after_word<'a>(line: &'a [u8], word: &[u8]) -> Option<&'a [u8]>
+    ensures { IfSome result (λ field. line.now ≡ word.now ++ field.now) }
+{
+    if line.len() < word.len() {
+        return None;
+    }
+    let (first, field) = line.split_at(word.len());
+    if first == word { Some(field) } else { None }
+}
+
+/// The decimal number that follows the word to the line's end.
+#[inline(always)]
+#[tactic(auto, using(crate::proofs::Steps::decimal_is))]
+fn decimal_after(line: &[u8], word: &[u8]) -> Option<u32>
+    ensures { IfSome result (λ number. line.now ≡ word.now ++ decimal number) }
+{
+    decimal_in(after_word(line, word)?)
+}
+
+/// The hexadecimal number that follows the word to the line's end.
+#[inline(always)]
+#[tactic(auto, using(crate::proofs::Steps::hex_is))]
+fn hex_after(line: &[u8], word: &[u8]) -> Option<u64>
+    ensures { IfSome result (λ number. line.now ≡ word.now ++ hex number) }
+{
+    hex_in(after_word(line, word)?)
+}
+
+/// The event that the line spells. None where it spells none: then the line is read field by field,
+/// which finds the reason.
+pub fn event_of(line: &[u8]) -> Option<Event>
+    ensures { IfSome result (λ event. HasEventForm event × (line.now ≡ event_spelling event)) }
+{
+    if let Some(pc) = hex_after(line, b"find ") {
+        return Some(Event::Find { pc });
+    }
+    if let Some(image) = decimal_after(line, b"register ") {
+        return Some(Event::Register { image });
+    }
+    if let Some(base) = hex_after(line, b"deregister ") {
+        return Some(Event::Deregister { base });
+    }
+    if let Some(image) = decimal_after(line, b"load ") {
+        return Some(Event::Load { image });
+    }
+    if let Some(base) = hex_after(line, b"unload ") {
+        return Some(Event::Unload { base });
+    }
+    let snapshot = decimal_after(line, b"unwind ")?;
+    Some(Event::Unwind { snapshot })
+}
