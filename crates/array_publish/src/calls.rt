@@ -2,7 +2,7 @@
 //! is taken, and lets go of it again.
 ghost use Rattle.std.specs.Prelude.{◌≡◌, ◌<◌, false, true, None, OnOk, IfOk, IfErr, IsSomeAnd};
 ghost use Rattle.word_rule.specs.CallerData.{due, surplus};
-ghost use Rattle.node_store.specs.Locking.{IsBusy, Locks};
+ghost use Rattle.node_store.specs.Locking.{IsBusyAt, Locks};
 ghost use Rattle.array_publish.specs.Update.{IsFreeAgain, LoadsMember, TellsLoad, TellsUnload};
 ghost use Rattle.array_publish.specs.Update.{UnloadsMember, after_letting_go, is_loaded};
 ghost use Rattle.array_publish.specs.Update.{is_unloaded};
@@ -18,13 +18,14 @@ fn take<L: Locking>(locking: &L, words: &Words, me: &mut Caller) -> Result<(), B
     requires table { me.old.table ≡ words.now.table }
     requires free { me.old.log.loader ≡ None }
     ensures ok { OnOk result (Locks LockId.Loader me.old me.new) }
-    ensures busy { IfErr result (λ e. IsBusy e.lock me.old me.new × (L.gives_up ≡ true)) }
+    ensures busy { IfErr result (λ e. IsBusyAt LockId.Loader e me.old me.new
+        × (L.gives_up ≡ true)) }
 {
     let lock = LockId::Loader;
     if locking.take(words, me, lock) {
         Ok(())
     } else {
-        Err(Busy { lock })
+        Err(Busy::Taken { lock })
     }
 }
 
@@ -81,7 +82,8 @@ pub fn load_by<L: Locking>(
     requires payload { member.payload < words.now.terms.payloads }
     ensures answer { IfOk result (TellsLoad words.now.terms member me.old me.new) }
     ensures terms { OnOk result (me.old.log.terms ≡ words.now.terms) }
-    ensures busy { IfErr result (λ e. IsBusy e.lock me.old me.new × (L.gives_up ≡ true)) }
+    ensures busy { IfErr result (λ e. IsBusyAt LockId.Loader e me.old me.new
+        × (L.gives_up ≡ true)) }
     ensures free { IsFreeAgain me.old me.new }
 {
     take(locking, words, me)?;
@@ -120,7 +122,7 @@ pub fn try_load(words: &Words, me: &mut Caller, member: Member) -> Result<Loadin
     requires payload { member.payload < words.now.terms.payloads }
     ensures answer { IfOk result (TellsLoad words.now.terms member me.old me.new) }
     ensures terms { OnOk result (me.old.log.terms ≡ words.now.terms) }
-    ensures busy { IfErr result (λ e. IsBusy e.lock me.old me.new) }
+    ensures busy { IfErr result (λ e. IsBusyAt LockId.Loader e me.old me.new) }
     ensures free { IsFreeAgain me.old me.new }
 {
     load_by(&Trying, words, me, member)
@@ -140,7 +142,8 @@ pub fn unload_by<L: Locking>(
     requires surplus { 0 < surplus me.old }
     ensures answer { IfOk result (TellsUnload words.now.terms base me.old me.new) }
     ensures terms { OnOk result (me.old.log.terms ≡ words.now.terms) }
-    ensures busy { IfErr result (λ e. IsBusy e.lock me.old me.new × (L.gives_up ≡ true)) }
+    ensures busy { IfErr result (λ e. IsBusyAt LockId.Loader e me.old me.new
+        × (L.gives_up ≡ true)) }
     ensures free { IsFreeAgain me.old me.new }
 {
     take(locking, words, me)?;
@@ -176,7 +179,7 @@ pub fn try_unload(words: &Words, me: &mut Caller, base: u64) -> Result<Removed, 
     requires surplus { 0 < surplus me.old }
     ensures answer { IfOk result (TellsUnload words.now.terms base me.old me.new) }
     ensures terms { OnOk result (me.old.log.terms ≡ words.now.terms) }
-    ensures busy { IfErr result (λ e. IsBusy e.lock me.old me.new) }
+    ensures busy { IfErr result (λ e. IsBusyAt LockId.Loader e me.old me.new) }
     ensures free { IsFreeAgain me.old me.new }
 {
     unload_by(&Trying, words, me, base)

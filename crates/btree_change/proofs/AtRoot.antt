@@ -1,5 +1,5 @@
 -- An insertion at the root, and below a lifted one.
-use Rattle.std.proofs.Common.{◌≡◌, ℕ, ◌+◌, ◌<◌, ◌≤◌, ◌⊎◌, inl, inr, List, [], ◌∷◌, drop, sym, refl, ap, ◌∙◌, subst, arith, true, true≢false, Some, None, is_some, Result, Ok, Err, IfOk, IfErr, eq-eqb, cond}
+use Rattle.std.proofs.Common.{◌≡◌, ℕ, ◌+◌, ◌<◌, ◌≤◌, ◌⊎◌, inl, inr, List, [], ◌∷◌, drop, sym, refl, ap, ◌∙◌, subst, arith, true, true≢false, Some, None, is_some, Result, Ok, Err, IfOk, OnOk, IfErr, eq-eqb, cond}
 use Rattle.reg_model.specs.SpanData.{IsSpan}
 use Rattle.reg_model.specs.declared.answer.Inserted.{Inserted}
 use Rattle.reg_model.specs.declared.answer.Receipt.TheVariants as receipt
@@ -12,7 +12,7 @@ use Rattle.word_rule.specs.Held.{held_of}
 use Rattle.word_rule.specs.Spelling.{SpellsNode}
 use Rattle.word_rule.specs.declared.log.Holding.{Holding}
 use Rattle.word_rule.specs.declared.log.Holdings.{Holdings}
-use Rattle.word_rule.specs.declared.log.LockId.{LockId}
+use Rattle.node_store.specs.declared.locking.Busy.{Busy}
 use Rattle.word_rule.specs.declared.log.Log.{Log}
 use Rattle.word_rule.specs.declared.log.Terms.{Terms}
 use Rattle.btree_change.specs.declared.descent.Held.{Held}
@@ -24,14 +24,15 @@ use Rattle.btree_change.specs.declared.stand.Room.{Room}
 use Rattle.btree_change.specs.declared.stand.Stand.{Stand}
 use Rattle.reg_model.specs.declared.answer.Inserted.TheVariants as inserted
 use Rattle.btree_change.specs.Insertion.{AnswersInsertion, IfFull, Inserts, call_begun, taken_by}
-use Rattle.btree_change.specs.Loads.{FoundNoRoom, FoundTaken}
-use Rattle.btree_change.specs.Paths.{AreHigher, HoldsNothing, StepsOnNodes}
+use Rattle.btree_change.specs.Loads.{FoundNoRoom}
+use Rattle.node_store.specs.Locking.{FoundBusy}
+use Rattle.btree_change.specs.Paths.{AreHigher, HoldsNothing, IsLeftOut, StepsOnNodes}
 use Rattle.btree_change.specs.Releases.{LetsGo, Spends}
 use Rattle.btree_change.specs.Roots.{EndsInsertion, GivesUpWhole}
 use Rattle.btree_change.specs.Splits.{HoldsFullAlone, HoldsFullRoot, KeepsHeld, LiftsRoot, TakesTwo, with_release_less}
 use Rattle.btree_change.specs.Stands.{AnswersBelow, AreLeftAs, GivesUpBelow, HasWayOn, HoldsPair, HoldsRoot, Reaches, StandsOnWay, StandsAt}
 use Rattle.btree_change.specs.Updates.{GivesUp}
-use Rattle.btree_change.proofs.Loading.{found_after}
+use Rattle.btree_change.proofs.Loading.{found_after, nothing_left}
 use Rattle.btree_change.proofs.Lowering.{settled_live}
 use Rattle.btree_change.proofs.NoRoom.{if_full, no_room_after}
 use Rattle.btree_change.proofs.Releasing.{IsLowest, left_above}
@@ -47,7 +48,6 @@ root_stands t root holdings h = record {
   here = h.here;
   higher = tt;
   apart = (tt, tt);
-  root = ap (λ b. is_some (cond b (Some h.lock) (held_of 0 []))) (eq-eqb h.lock.node 0 (h.here.node ∙ h.root));
   out = h.out;
 }
 
@@ -98,10 +98,10 @@ alone_ends t m reply most k k' alone few a = record {
   nothing = (none_left reply.moved k'.log.holdings.held (subst (λ hs. AreLeftAs reply.moved hs k'.log.holdings.held) alone a.above), a.out);
 }
 
-pub alone_gives_up : (most : ℕ) (k k' : CallerData) → drop 1 k.log.holdings.held ≡ [] → most ≤ 37 → GivesUpBelow most k k' → GivesUpWhole 37 k k'
-alone_gives_up most k k' alone few g = record {
+pub alone_gives_up : (most : ℕ) (why : Busy) (k k' : CallerData) → drop 1 k.log.holdings.held ≡ [] → most ≤ 37 → GivesUpBelow most k k' → GivesUpWhole 37 why k k'
+alone_gives_up most why k k' alone few g = record {
   steps = more_spent most 37 k k' (omega (arith, few)) g.steps;
-  nothing = (g.held ∙ alone, g.out);
+  nothing = nothing_left why k'.log.holdings (g.held ∙ alone, g.out);
 }
 
 -- The root was lifted.
@@ -125,7 +125,6 @@ module _ (t : Terms) (m : Member) (full : FullRoot) (k : CallerData) (held : Hol
     here = lifts.here;
     inner = let l = ap (λ (h : Held). h.content.level) lifts.parent in omega (arith, l);
     higher = subst (λ xs. AreHigher t split.parent.content.level xs) e tt;
-    root = ap (λ b. is_some (cond b (Some lifts.upper) (held_of 0 hs))) (eq-eqb lifts.upper.node 0 (lifts.parent_held.node ∙ parent_node));
     out = lifts.out;
   }
 
@@ -194,10 +193,10 @@ module _ (t : Terms) (m : Member) (full : FullRoot) (k : CallerData) (held : Hol
       pub gave_surplus : 39 ≤ surplus k → 0 < surplus k3
       gave_surplus enough = surplus_steps 38 k k3 1 (steps_after 1 most 38 k k2 k3 (omega (arith, few)) lifted_two g.steps) (omega (arith, enough))
 
-      pub lifted_gives_up : (k4 : CallerData) → LetsGo 0 k3 k4 → GivesUpWhole 39 k k4
-      lifted_gives_up k4 goes = record {
+      pub lifted_gives_up : (why : Busy) (k4 : CallerData) → LetsGo 0 k3 k4 → GivesUpWhole 39 why k k4
+      lifted_gives_up why k4 goes = record {
         steps = steps_after 1 38 39 k k2 k4 (omega arith) lifted_two (steps_after most 1 38 k2 k3 k4 (omega (arith, few)) g.steps goes.steps);
-        nothing = (left_above 0 true k3 k4 gave_lowest goes ∙ ap (drop 1) left_is, goes.out ∙ g.out);
+        nothing = nothing_left why k4.log.holdings (left_above 0 true k3 k4 gave_lowest goes ∙ ap (drop 1) left_is, goes.out ∙ g.out);
       }
 
 -- two nodes were taken for the full root
@@ -237,8 +236,8 @@ ends_after t m answer a b c k l n sum s e = record {
   nothing = e.nothing;
 }
 
-pub gives_up_after : (a b c : ℕ) (k l n : CallerData) → a + b ≤ c → Spends a k l → GivesUpWhole b l n → GivesUpWhole c k n
-gives_up_after a b c k l n sum s g = record { steps = steps_after a b c k l n sum s g.steps; nothing = g.nothing }
+pub gives_up_after : (a b c : ℕ) (why : Busy) (k l n : CallerData) → a + b ≤ c → Spends a k l → GivesUpWhole b why l n → GivesUpWhole c why k n
+gives_up_after a b c why k l n sum s g = record { steps = steps_after a b c k l n sum s g.steps; nothing = g.nothing }
 
 pub update_answered : (t : Terms) (m : Member) (answer : Inserted) (k l n : CallerData) → StepsOnNodes k l → EndsInsertion t m answer 64 l n → IfFull answer (FoundNoRoom m.span.first l n) → AnswersInsertion t m answer k n
 update_answered t m answer k l n same e full =
@@ -248,8 +247,8 @@ update_answered t m answer k l n same e full =
       call = answers_so (receipt.Register m answer) (taken_by answer) 64 k n (omega arith) all.call all.nothing;
     }
 
-gives_so : (id : LockId) (most : ℕ) (k n : CallerData) → most ≤ 64 → FoundTaken id k n → GivesUpWhole most k n → GivesUp id k n
-gives_so id most k n few cause g = record {
+gives_so : (why : Busy) (most : ℕ) (k n : CallerData) → most ≤ 64 → FoundBusy why k n → GivesUpWhole most why k n → GivesUp why k n
+gives_so why most k n few cause g = record {
   cause = cause;
   table = g.steps.table;
   left = g.steps.left;
@@ -265,11 +264,11 @@ gives_so id most k n few cause g = record {
   nothing = g.nothing;
 }
 
-pub update_given_up : (id : LockId) (k l n : CallerData) → StepsOnNodes k l → FoundTaken id l n → GivesUpWhole 64 l n → GivesUp id k n
-update_given_up id k l n same cause g = gives_so id 64 k n (omega arith) (found_after id k l n same.loads cause) (gives_up_after 0 64 64 k l n (omega arith) (spends_same k l same) g)
+pub update_given_up : (why : Busy) (k l n : CallerData) → StepsOnNodes k l → FoundBusy why l n → GivesUpWhole 64 why l n → GivesUp why k n
+update_given_up why k l n same cause g = gives_so why 64 k n (omega arith) (found_after why k l n same.loads cause) (gives_up_after 0 64 64 why k l n (omega arith) (spends_same k l same) g)
 
-pub root_busy : (id : LockId) (k l : CallerData) → StepsOnNodes k l → FoundTaken id k l → HoldsNothing l.log.holdings → GivesUp id k l
-root_busy id k l same cause nothing = gives_so id 0 k l (omega arith) cause (record { steps = spends_same k l same; nothing = nothing })
+pub root_busy : (why : Busy) (k l : CallerData) → StepsOnNodes k l → FoundBusy why k l → HoldsNothing l.log.holdings → GivesUp why k l
+root_busy why k l same cause nothing = gives_so why 0 k l (omega arith) cause (record { steps = spends_same k l same; nothing = nothing_left why l.log.holdings nothing })
 
 pub root_lowest : (t : Terms) (root : Held) (k k1 : CallerData) → HoldsRoot t root k.log.holdings → KeepsHeld k k1 → IsLowest root.node root.changed k1.log.holdings
 root_lowest t root k k1 h kept = record {
@@ -282,15 +281,19 @@ root_lowest t root k k1 h kept = record {
   apart = (tt, tt);
 }
 
-pub root_gone : (t : Terms) (root : Held) (k k1 k2 : CallerData) → HoldsRoot t root k.log.holdings → KeepsHeld k k1 → LetsGo root.node k1 k2 → GivesUpWhole 64 k k2
-root_gone t root k k1 k2 h kept goes = record {
+pub root_gone : (t : Terms) (root : Held) (why : Busy) (k k1 k2 : CallerData) → HoldsRoot t root k.log.holdings → KeepsHeld k k1 → IsLeftOut why k1.log.holdings.out → LetsGo root.node k1 k2 → GivesUpWhole 64 why k k2
+root_gone t root why k k1 k2 h kept left goes = record {
   steps = steps_after 1 1 64 k k1 k2 (omega arith) (kept_steps k k1 kept) goes.steps;
-  nothing = (left_above root.node root.changed k1 k2 (root_lowest t root k k1 h kept) goes ∙ ap (drop 1) (kept.held ∙ h.held), goes.out ∙ (kept.out ∙ h.out));
+  nothing = (left_above root.node root.changed k1 k2 (root_lowest t root k k1 h kept) goes ∙ ap (drop 1) (kept.held ∙ h.held), subst (IsLeftOut why) (sym goes.out) left);
 }
 
 pub if_ok : {A E : Type 0} (P Q : A → Type 0) (r : Result A E) → ((a : A) → P a → Q a) → IfOk r P → IfOk r Q
 if_ok P Q (Ok a) f p = f a p
 if_ok P Q (Err e) f p = tt
+
+pub on_ok : {A E : Type 0} (P Q : Type 0) (r : Result A E) → (P → Q) → OnOk r P → OnOk r Q
+on_ok P Q (Ok a) f p = f p
+on_ok P Q (Err e) f p = tt
 
 pub if_ok_both : {A E : Type 0} (P R Q : A → Type 0) (r : Result A E) → ((a : A) → P a → R a → Q a) → IfOk r P → IfOk r R → IfOk r Q
 if_ok_both P R Q (Ok a) f p x = f a p x

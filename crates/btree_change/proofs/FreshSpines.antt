@@ -11,7 +11,7 @@ use Rattle.word_rule.specs.declared.log.Holdings.{Holdings}
 use Rattle.word_rule.specs.declared.log.Terms.{Terms}
 use Rattle.word_rule.specs.Held.{held_of, without_lock}
 use Rattle.word_rule.specs.Spelling.{spelled}
-use Rattle.word_rule.specs.Steps.{after_node_release_same, head_without}
+use Rattle.word_rule.specs.Steps.{after_node_release_same}
 use Rattle.node_store.specs.Holding.{ReadsHeld}
 use Rattle.btree_change.specs.Spines.{AreApart, HoldsFresh, IsFreshLock, IsLockAt, IsSpine}
 use Rattle.btree_change.proofs.LockedSpines.{may_read_found, reads_spelled, without_head}
@@ -52,10 +52,7 @@ leaf_of child n level locks zero_level s = subst (λ k. IsSpine child k n locks)
 pub let_go_head : (n : ℕ) (h : Holding) (base : List Holding) (k k' : CallerData) → k.log.holdings.held ≡ h ∷ base → h.node ≡ n → AllByRecursion (λ (a : Holding). a.node ≢ h.node) base → n ≢ 0 → k' ≡ record k { log = after_node_release_same n k.log } → k'.log.holdings ≡ record k.log.holdings { held = base }
 let_go_head n h base k k' held node far never is =
     ap (λ (z : CallerData). z.log.holdings) is
-    ∙ (λ i. record k.log.holdings { held = (ap (without_lock n) held ∙ without_head n h base node (subst (λ m. AllByRecursion (λ (a : Holding). a.node ≢ m) base) node far)) i; head = head_is i })
-  where
-    head_is : head_without n k.log.holdings.head ≡ k.log.holdings.head
-    head_is = rw (ne_eqb n 0 never) refl
+    ∙ (λ i. record k.log.holdings { held = (ap (without_lock n) held ∙ without_head n h base node (subst (λ m. AllByRecursion (λ (a : Holding). a.node ≢ m) base) node far)) i })
 
 module _ (t : Terms) (n level : ℕ) (k : CallerData) (s : HoldsFresh t n level k.log.holdings) (zero_level : level ≡ 0) where
   leaf : (h : Holding) × (IsLockAt n zero h × (s.locks ≡ h ∷ []))

@@ -9,14 +9,15 @@ use Rattle.word_rule.specs.Held.{all_but, edited, held_of, is_marked, marked_in,
 use Rattle.word_rule.specs.Logs.{after_spending}
 use Rattle.word_rule.specs.Sights.{after_node_load}
 use Rattle.word_rule.specs.Spelling.{spelled}
-use Rattle.word_rule.specs.Steps.{after_give, after_head_load, after_node_release_same, after_node_store, store_in, stored_log}
+use Rattle.word_rule.specs.Steps.{after_head_load, after_node_release, after_node_release_same, after_node_store, after_push, store_in, stored_log}
 use Rattle.word_rule.specs.declared.log.Holding.{Holding}
 use Rattle.word_rule.specs.declared.log.LoadEvent.{LoadEvent}
 use Rattle.word_rule.specs.declared.log.Log.{Log}
-use Rattle.node_store.specs.Free.{GivesFree, after_linking, after_setting, held_word}
+use Rattle.node_store.specs.Free.{GivesFree, LosesNode, after_freeing, after_links, after_setting, held_word}
+use Rattle.node_store.specs.declared.locking.Busy.{Busy}
 use Rattle.word_rule.proofs.Exchanges.{spelled_decides}
 use Rattle.btree_change.specs.Releases.{Spends}
-use Rattle.btree_change.specs.Siblings.{ReturnsNode, IsGoneOrSettled}
+use Rattle.btree_change.specs.Siblings.{IsGoneOrSettled, KeepsOut, ReturnsNode}
 use Rattle.btree_change.proofs.LeafCommits.{all_nothing}
 use Rattle.node_store.proofs.Settled.{ExchangeLaw}
 use Rattle.btree_change.proofs.Loading.{keeps_then, none_more}
@@ -119,15 +120,19 @@ set_there n at value v all = go (held_word n at v == value)
     go true = loaded_there n at (held_word n at v) v all
     go false = there_then n v (after_node_load n at (held_word n at v) v) (after_node_store n at value (after_node_load n at (held_word n at v) v)) (loaded_there n at (held_word n at v) v all) (stored_there n at value (after_node_load n at (held_word n at v) v) all)
 
-linked_there : (n head : ℕ) (v : Log) → AllByRecursion (IsGoneOrSettled n) v.holdings.held → OnlyThere n v (after_linking n head v)
-linked_there n head v all =
-    let kind = set_there n 1 2 v all in
-    let level = set_there n 2 0 (after_setting n 1 2 v) kind.ready in
-    let both = there_then n v (after_setting n 1 2 v) (after_setting n 2 0 (after_setting n 1 2 v)) kind level in
-    let headed : OnlyThere n (after_setting n 2 0 (after_setting n 1 2 v)) (after_head_load head (after_setting n 2 0 (after_setting n 1 2 v))) = record { held = refl; ready = level.ready; out = refl; spends = λ k. no_spend k (after_setting n 2 0 (after_setting n 1 2 v)) (after_head_load head (after_setting n 2 0 (after_setting n 1 2 v))) refl (_ ∷ [], refl) } in
-    let linked = stored_there n 6 head (after_head_load head (after_setting n 2 0 (after_setting n 1 2 v))) headed.ready in
-    there_then n v (after_setting n 2 0 (after_setting n 1 2 v)) (after_linking n head v) both
-    (there_then n (after_setting n 2 0 (after_setting n 1 2 v)) (after_head_load head (after_setting n 2 0 (after_setting n 1 2 v))) (after_linking n head v) headed linked)
+headed_there : (n head : ℕ) (v : Log) → AllByRecursion (IsGoneOrSettled n) v.holdings.held → OnlyThere n v (after_head_load head v)
+headed_there n head v all = record { held = refl; ready = all; out = refl; spends = λ k. no_spend k v (after_head_load head v) refl (_ ∷ [], refl) }
+
+freed_there : (n : ℕ) (v : Log) → AllByRecursion (IsGoneOrSettled n) v.holdings.held → OnlyThere n v (after_freeing n v)
+freed_there n v all = let kind = set_there n 1 2 v all in there_then n v (after_setting n 1 2 v) (after_freeing n v) kind (set_there n 2 0 (after_setting n 1 2 v) kind.ready)
+
+links_there : (n : ℕ) (heads : List ℕ) (v : Log) → AllByRecursion (IsGoneOrSettled n) v.holdings.held → OnlyThere n v (after_links n heads v)
+links_there n [] v all = record { held = refl; ready = all; out = refl; spends = λ k. no_spend k v v refl (none_more v.trace.loads) }
+links_there n (head ∷ heads) v all =
+    let headed_so = headed_there n head v all in
+    let linked_so = stored_there n 6 head (after_head_load head v) headed_so.ready in
+    let one = there_then n v (after_head_load head v) (after_node_store n 6 head (after_head_load head v)) headed_so linked_so in
+    there_then n v (after_node_store n 6 head (after_head_load head v)) (after_links n (head ∷ heads) v) one (links_there n heads (after_node_store n 6 head (after_head_load head v)) one.ready)
 
 -- what settles then is the node alone
 unchanged : (n : ℕ) (h : Holding) → IsGoneOrSettled n h → is_changed None h ≡ false
@@ -166,16 +171,14 @@ frees_only law n v all = ap (λ b. if b then after_exchange v (top_of v None) (i
         let grouped = ((law v None).0 e).change.change.top_grouped in
         absurd (true≢false (sym grouped ∙ ap (λ hs. is_among (map node_of hs) (top_of v None)) none_changed))
 
-pub given_back : ExchangeLaw → (n : ℕ) (k k' : CallerData) → AllByRecursion (IsGoneOrSettled n) k.log.holdings.held → GivesFree n k k' → ReturnsNode n k k'
-given_back law n k k' all (head, is) =
-    let v = after_linking n head k.log in
-    let there = linked_there n head k.log all in
-    let w = after_give n v in
-    let free : settle None w ≡ settle_free w = frees_only law n w there.ready in
+-- it was let go of after such steps
+let_go_there : ExchangeLaw → (n : ℕ) (k k' : CallerData) (w : Log) → AllByRecursion (IsGoneOrSettled n) w.holdings.held → Spends 0 k (record k { log = w }) → k' ≡ record k { log = after_node_release n w }
+    → Spends 1 k k' × (k'.log.holdings.held ≡ without_lock n w.holdings.held) × (k'.log.holdings.out ≡ w.holdings.out)
+let_go_there law n k k' w ready p is =
+    let free : settle None w ≡ settle_free w = frees_only law n w ready in
     let equal : k' ≡ record k { log = record (after_node_release_same n (settle_free w)) { budget = after_spending w.budget } } = is ∙ ap (λ (z : Log). record k { log = record (after_node_release_same n z) { budget = after_spending z.budget } }) free in
-    let p = there.spends k in
-    subst (ReturnsNode n k) (sym equal) (record {
-      spends = record {
+    subst (λ (z : CallerData). Spends 1 k z × (z.log.holdings.held ≡ without_lock n w.holdings.held) × (z.log.holdings.out ≡ w.holdings.out)) (sym equal) (
+      record {
         table = refl;
         left = refl;
         terms = p.terms;
@@ -188,7 +191,25 @@ given_back law n k k' all (head, is) =
         allowance = p.allowance;
         credit = (let c = p.credit in omega (arith, c));
         loads = p.loads;
-      };
-      held = settled_rest n v.holdings.held there.ready ∙ there.held;
-      out = ap (all_but n) there.out;
-    })
+      },
+      settled_rest n w.holdings.held ready,
+      refl,
+    )
+
+module _ (law : ExchangeLaw) (n : ℕ) (k k' : CallerData) (all : AllByRecursion (IsGoneOrSettled n) k.log.holdings.held) where
+  there : (heads : List ℕ) → OnlyThere n k.log (after_links n heads (after_freeing n k.log))
+  there heads = let freed_so = freed_there n k.log all in there_then n k.log (after_freeing n k.log) (after_links n heads (after_freeing n k.log)) freed_so (links_there n heads (after_freeing n k.log) freed_so.ready)
+
+  pub given_back : GivesFree n k k' → ReturnsNode n k k'
+  given_back (freed, ((lost, head, (short, pushed)), is)) =
+      let u = after_links n (lost ++ head ∷ []) (after_freeing n k.log) in let t = there (lost ++ head ∷ []) in let p = t.spends k in
+      let left = let_go_there law n k k' (after_push n u) t.ready (record { table = p.table; left = p.left; terms = p.terms; role = p.role; past = p.past; receipts = p.receipts; loader = p.loader; made = p.made; lineage = p.lineage; allowance = p.allowance; credit = p.credit; loads = p.loads })
+      (is ∙ ap (λ (z : CallerData). record z { log = after_node_release n z.log }) pushed) in
+      record { spends = left.0; held = left.1 ∙ t.held; out = left.2 ∙ ap (all_but n) t.out }
+
+  pub kept_out : (why : Busy) → LosesNode n why k k' → KeepsOut n why k k'
+  kept_out why (named, cause, (freed, (found, (lost, head, (short, other, stays)), is))) =
+      let u = after_links n (lost ++ head ∷ []) (after_freeing n k.log) in let t = there (lost ++ head ∷ []) in
+      let all_of = there_then n k.log u (after_head_load found u) t (headed_there n found u t.ready) in
+      let left = let_go_there law n k k' (after_head_load found u) all_of.ready (all_of.spends k) (is ∙ ap (λ (z : CallerData). record z { log = after_node_release n z.log }) stays) in
+      record { lost = named; cause = cause; spends = left.0; held = left.1 ∙ all_of.held; out = left.2 ∙ all_of.out }

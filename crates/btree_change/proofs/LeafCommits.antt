@@ -63,14 +63,14 @@ none_out : (test : ℕ → Bool) (P : Holding → Type 0) → ((g : Holding) →
 none_out test P each [] all = refl
 none_out test P each (g ∷ rest) all = ap (λ b. cond b (g.node ∷ filter test (map node_of rest)) (filter test (map node_of rest))) (each g all.0) ∙ none_out test P each rest all.1
 
-module _ (laws : LeafLaws) (v : Log) (head : Option ℕ) (u : Update) (h : Holding) (rest : List Holding) (now : NodeData) (marked : is_some h.mark ≡ true) (spells : spelled h.words ≡ Some now) (all : AllByRecursion (StaysAs h.node) rest)
+module _ (laws : LeafLaws) (v : Log) (u : Update) (h : Holding) (rest : List Holding) (now : NodeData) (marked : is_some h.mark ≡ true) (spells : spelled h.words ≡ Some now) (all : AllByRecursion (StaysAs h.node) rest)
     (is_leaf : is_leaf_at (address_of u) (Some now) ≡ true) (level : now.level ≡ 0)
     (f : Contents) (live : ℕ → Bool) (g : Contents) (here : f h.node ≡ h.settled) (there : g h.node ≡ now) (change : IsLawfulChange f live h.node (is_among (h.node ∷ [])) (is_among []) g (Some u)) where
   abbrev pub holding : Holdings
-  holding = record { held = h ∷ rest; out = []; head = head }
+  holding = record { held = h ∷ rest; out = [] }
 
   abbrev pub w : Log
-  w = record v { holdings = record { held = h ∷ rest; out = []; head = head } }
+  w = record v { holdings = record { held = h ∷ rest; out = [] } }
 
   abbrev group : ℕ → Bool
   group = is_among (h.node ∷ [])
@@ -181,8 +181,8 @@ module _ (laws : LeafLaws) (v : Log) (head : Option ℕ) (u : Update) (h : Holdi
       go true = refl
       go false = ap (now_of a) s.spells
 
-  pub settled_after : settle (Some u) w ≡ record v { holdings = record { held = record h { settled = now; mark = Some (frame_of now) } ∷ rest; out = []; head = head } }
+  pub settled_after : settle (Some u) w ≡ record v { holdings = record { held = record h { settled = now; mark = Some (frame_of now) } ∷ rest; out = [] } }
   settled_after =
       ap (λ b. if b then after_exchange w (top_of w (Some u)) (is_among (group_of w (Some u))) else settle_free w) lawful_commit
       ∙ (ap (λ hs. after_exchange w (highest_of hs) (is_among (map node_of hs))) only_changed
-      ∙ (λ i. record v { holdings = record { held = lock_after i ∷ all_stay (exchange group (is_reached w h.node group)) (StaysAs h.node) stays_after rest all i; out = nothing_out i; head = head } }))
+      ∙ (λ i. record v { holdings = record { held = lock_after i ∷ all_stay (exchange group (is_reached w h.node group)) (StaysAs h.node) stays_after rest all i; out = nothing_out i } }))

@@ -74,10 +74,10 @@ module _ (laws : SettlingLaws) (law : LiftLaw) (t : Terms) (full : FullRoot) (pc
   reached = 0 ∷ full.left ∷ full.right ∷ []
 
   abbrev v : Log
-  v = record k'.log { holdings = record { held = w.right ∷ w.left ∷ w.upper ∷ []; out = full.right ∷ full.left ∷ []; head = k'.log.holdings.head } }
+  v = record k'.log { holdings = record { held = w.right ∷ w.left ∷ w.upper ∷ []; out = full.right ∷ full.left ∷ [] } }
 
   v_is : v ≡ k'.log
-  v_is = (λ i. record k'.log { holdings = record { held = sym w.held i; out = sym w.out i; head = k'.log.holdings.head } })
+  v_is = (λ i. record k'.log { holdings = record { held = sym w.held i; out = sym w.out i } })
 
   abbrev right' : Holding
   right' = settled_lock w.right (root_parts_for full).right

@@ -210,7 +210,7 @@ module _ (t : Terms) (full : FullRoot) (pc : ℕ) (k0 : CallerData) (h : HoldsFu
   -- What was written changes the tree lawfully.
   module _ (law : LiftLaw) (k' : CallerData) (w : WritesRootParts full k0 k') where
     abbrev holding : Holdings
-    holding = record { held = w.right ∷ w.left ∷ w.upper ∷ []; out = full.right ∷ full.left ∷ []; head = k'.log.holdings.head }
+    holding = record { held = w.right ∷ w.left ∷ w.upper ∷ []; out = full.right ∷ full.left ∷ [] }
 
     pub root_now : w.upper.node ≡ 0
     root_now = w.root_written.node ∙ h.is_root

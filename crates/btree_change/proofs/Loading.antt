@@ -1,5 +1,5 @@
--- What was loaded stays told while more is loaded, and a lock that was found taken stays found.
-use Rattle.std.proofs.Common.{◌≡◌, ℕ, zero, suc, List, [], ◌∷◌, ◌++◌, append_assoc, append-nil, refl, ap, sym, ◌∙◌, subst, Option, Some, None, IsSomeAnd}
+-- What was loaded stays told while more is loaded, and so does why an update gave up.
+use Rattle.std.proofs.Common.{◌≡◌, ℕ, zero, suc, ◌≤◌, arith, length, List, [], ◌∷◌, ◌++◌, append_assoc, append-nil, refl, ap, sym, ◌∙◌, subst, Option, Some, None, IsSomeAnd}
 use Rattle.tree_shape.specs.NodeData.{NodeData}
 use Rattle.word_rule.specs.CallerData.{CallerData}
 use Rattle.word_rule.specs.Held.{held_of}
@@ -8,13 +8,18 @@ use Rattle.word_rule.specs.Sights.{after_node_load}
 use Rattle.word_rule.specs.Spelling.{SpellsNode}
 use Rattle.word_rule.specs.VersionLocks.{lock_place}
 use Rattle.word_rule.specs.declared.log.Holding.{Holding}
+use Rattle.word_rule.specs.declared.log.Holdings.{Holdings}
 use Rattle.word_rule.specs.declared.log.LoadEvent.{LoadEvent}
 use Rattle.word_rule.specs.declared.log.LockId.{LockId}
 use Rattle.word_rule.specs.declared.log.LockId.TheVariants as lock
 use Rattle.node_store.specs.Holding.{ReadsHeld}
-use Rattle.node_store.specs.Locking.{IsBusy, Locks}
+use Rattle.node_store.specs.Locking.{FoundBusy, IsBusy, Locks}
 use Rattle.node_store.specs.Sights.{after_words}
-use Rattle.btree_change.specs.Loads.{FoundTaken, KeepsLoads}
+use Rattle.node_store.specs.declared.locking.Busy.{Busy}
+use Rattle.node_store.specs.declared.locking.Busy.TheVariants as busy
+use Rattle.node_store.proofs.Rounds.{found_later}
+use Rattle.btree_change.specs.Loads.{KeepsLoads}
+use Rattle.btree_change.specs.Paths.{HoldsLeftOver, HoldsNothing, IsLeftOut}
 
 pub keeps_then : (k l m : CallerData) → KeepsLoads k l → KeepsLoads l m → KeepsLoads k m
 keeps_then k l m (xs, e) (ys, d) = (xs ++ ys, d ∙ (ap (λ z. z ++ ys) e ∙ append_assoc k.log.trace.loads xs ys))
@@ -48,36 +53,36 @@ keeps_read n k k' s reads = go (held_of n k.log.holdings.held) reads
     go (Some h) r = subst (KeepsLoads k) (sym r.1) (keeps_words n h.words 35 k)
 
 -- the load by which a lock was found taken
-pub found_busy : (id : LockId) (k k' : CallerData) → IsBusy id k k' → FoundTaken id k k'
-found_busy id k k' (found, (odd, is)) = record {
+pub found_busy : (id : LockId) (k k' : CallerData) (why : Busy) → why ≡ busy.Taken id → IsBusy id k k' → FoundBusy why k k'
+found_busy id k k' why named (found, (odd, is)) = subst (λ w. FoundBusy w k k') (sym named) (record {
   before = [];
   load = load_of k.log (lock_place id) found;
   behind = [];
   loads = ap (λ (z : CallerData). z.log.trace.loads) is;
-  word = refl;
-  taken = odd;
-}
+  shows = (refl, odd);
+})
 
 -- steps before it, and after it
-pub found_after : (id : LockId) (k l m : CallerData) → KeepsLoads k l → FoundTaken id l m → FoundTaken id k m
-found_after id k l m (more, e) f = record {
-  before = more ++ f.before;
-  load = f.load;
-  behind = f.behind;
-  loads = f.loads ∙ (ap (λ xs. xs ++ (f.before ++ f.load ∷ f.behind)) e ∙ (append_assoc k.log.trace.loads more (f.before ++ f.load ∷ f.behind) ∙ ap (λ xs. k.log.trace.loads ++ xs) (sym (append_assoc more f.before (f.load ∷ f.behind)))));
-  word = f.word;
-  taken = f.taken;
-}
+pub found_after : (why : Busy) (k l m : CallerData) → KeepsLoads k l → FoundBusy why l m → FoundBusy why k m
+found_after why k l m (more, e) f = found_later why k l m more e f
 
-pub found_still : (id : LockId) (k l m : CallerData) → FoundTaken id k l → KeepsLoads l m → FoundTaken id k m
-found_still id k l m f (more, e) = record {
+pub found_still : (why : Busy) (k l m : CallerData) → FoundBusy why k l → KeepsLoads l m → FoundBusy why k m
+found_still why k l m f (more, e) = record {
   before = f.before;
   load = f.load;
   behind = f.behind ++ more;
   loads = e ∙ (ap (λ xs. xs ++ more) f.loads ∙ (append_assoc k.log.trace.loads (f.before ++ f.load ∷ f.behind) more ∙ ap (λ xs. k.log.trace.loads ++ xs) (append_assoc f.before (f.load ∷ f.behind) more)));
-  word = f.word;
-  taken = f.taken;
+  shows = f.shows;
 }
 
-pub found_between : (id : LockId) (k l m n : CallerData) → KeepsLoads k l → FoundTaken id l m → KeepsLoads m n → FoundTaken id k n
-found_between id k l m n before f behind = found_after id k l n before (found_still id l m n f behind)
+pub found_between : (why : Busy) (k l m n : CallerData) → KeepsLoads k l → FoundBusy why l m → KeepsLoads m n → FoundBusy why k n
+found_between why k l m n before f behind = found_after why k l n before (found_still why l m n f behind)
+
+-- nothing is out, whatever was the cause
+pub none_left_out : (why : Busy) (out : List ℕ) → out ≡ [] → IsLeftOut why out
+none_left_out (busy.Taken id) out e = e
+none_left_out busy.Raced out e = e
+none_left_out busy.Lost out e = subst (λ xs. length xs ≤ 2) (sym e) (omega arith)
+
+pub nothing_left : (why : Busy) (holdings : Holdings) → HoldsNothing holdings → HoldsLeftOver why holdings
+nothing_left why holdings (held, out) = (held, none_left_out why holdings.out out)

@@ -15,7 +15,7 @@ use Rattle.word_rule.specs.declared.log.Terms.{Terms}
 use Rattle.word_rule.specs.Held.{held_of, without_lock}
 use Rattle.word_rule.specs.NodeTells.{IsLiveNode, KnowsTree}
 use Rattle.word_rule.specs.Spelling.{spelled, SpellsNode}
-use Rattle.word_rule.specs.Steps.{after_node_release_same, first_mark, head_without, mark_at_lock, place_by, place_by_held}
+use Rattle.word_rule.specs.Steps.{after_node_release_same, first_mark, mark_at_lock, place_by, place_by_held}
 use Rattle.node_store.specs.Holding.{ReadsHeld}
 use Rattle.node_store.specs.Locking.{Locks}
 use Rattle.node_store.specs.Sights.{after_words}
@@ -56,7 +56,7 @@ locked_so t n level k k' terms c (more, marks, nodes, version, settled, words, (
         within = c.within;
         pairs = λ above. (some_pairs n settled live.ordered live.filled above).0;
       };
-      same = (λ i. record k.log.holdings { held = new ∷ k.log.holdings.held; head = head_is i });
+      same = refl;
     })
   where
     mark_is : mark_at_lock n settled k.log.holdings.held ≡ Some c.frame
@@ -67,9 +67,6 @@ locked_so t n level k k' terms c (more, marks, nodes, version, settled, words, (
 
     live : IsLiveNode t n settled c.frame
     live = subst (λ z. IsLiveNode z n settled c.frame) terms (subst (λ o. IfSome o (IsLiveNode k.log.terms n settled)) mark_is taken.live)
-
-    head_is : head_without n k.log.holdings.head ≡ k.log.holdings.head
-    head_is = rw (ne_eqb n 0 c.never_root) refl
 
 -- loads leave it so
 pub record Relocked (t : Terms) (n level low : ℕ) (before after : Holdings) (new : Holding) : Type 0 where
@@ -205,11 +202,8 @@ pub let_go_again : (t : Terms) (n level : ℕ) (before : Holdings) (k k' : Calle
 let_go_again t n level before k k' c l is =
     let start : k.log.holdings ≡ record before { held = l.new ∷ before.held } = l.same in
     ap (λ (z : CallerData). z.log.holdings) is
-    ∙ (ap (λ (z : Holdings). record z { held = without_lock n z.held; head = head_without n z.head }) start
-    ∙ (λ i. record before { held = without_head n l.new before.held l.node c.apart i; head = head_is i }))
-  where
-    head_is : head_without n before.head ≡ before.head
-    head_is = rw (ne_eqb n 0 c.never_root) refl
+    ∙ (ap (λ (z : Holdings). record z { held = without_lock n z.held }) start
+    ∙ (λ i. record before { held = without_head n l.new before.held l.node c.apart i }))
 
 pub clean_again : (t : Terms) (n level low : ℕ) (before : Holdings) (k : CallerData) → IsLocked t n level low before k.log.holdings → IsSomeAnd (held_of n k.log.holdings.held) (λ h. h.stored ≡ false)
 clean_again t n level low before k l = subst (λ o. IsSomeAnd o (λ (h : Holding). h.stored ≡ false)) (sym (ap (held_of n) l.held ∙ found_head n l.new before.held l.node)) l.fresh.clean

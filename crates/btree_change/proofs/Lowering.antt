@@ -103,7 +103,6 @@ module _ (t : Terms) (at : Held) (pc c : ℕ) (k k1 : CallerData) (terms : k.log
           here = subst (IsInFences pc) is taken.inside;
           inner = inner;
           higher = subst (AreHigher t at.content.level) (sym (ap (drop 1) stands.held)) stands.higher;
-          root = subst (λ hs. IsSome (held_of 0 (stands.lock ∷ hs))) (sym (ap (drop 1) stands.held)) stands.root;
           out = ap (λ (hs : Holdings). hs.out) same ∙ taken.out;
         },
         subst (λ (z : NodeData). z.level < at.content.level) is taken.less,

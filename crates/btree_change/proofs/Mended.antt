@@ -1,6 +1,6 @@
 -- What is held once a change of two children has settled, and all but one of them was let go of or
 -- given back.
-use Rattle.std.proofs.Common.{◌≡◌, ◌≢◌, ℕ, zero, suc, ◌-◌, ◌*◌, ◌<◌, List, [], ◌∷◌, sym, refl, ap, ◌∙◌, subst, arith, Bool, true, false, ◌==◌, not, IsTrue, Some, IfSome, IsSome, eq-eqb, ne_eqb, cond}
+use Rattle.std.proofs.Common.{◌≡◌, ◌≢◌, ℕ, zero, suc, ◌-◌, ◌*◌, ◌<◌, ◌≤◌, true≢false, length, List, [], ◌∷◌, sym, refl, ap, ◌∙◌, subst, arith, Bool, true, false, ◌==◌, not, IsTrue, Some, IfSome, IsSome, eq-eqb, ne_eqb, cond}
 use Rattle.std.specs.List.{AllByRecursion}
 use Rattle.tree_shape.specs.Changes.{joined}
 use Rattle.tree_shape.specs.Decisions.{is_entries}
@@ -15,12 +15,14 @@ use Rattle.word_rule.specs.declared.log.Holding.{Holding}
 use Rattle.word_rule.specs.declared.log.Holdings.{Holdings}
 use Rattle.word_rule.specs.declared.log.Terms.{Terms}
 use Rattle.btree_change.specs.Paths.{StepsOnNodes}
-use Rattle.btree_change.specs.Releases.{Spends}
+use Rattle.btree_change.specs.Releases.{HaveSettled, LetsGo, MayGo, Spends}
 use Rattle.btree_change.specs.Removing.{IsBeside}
-use Rattle.btree_change.specs.Siblings.{ReturnsNode, HoldsGone, HoldsSiblings, HoldsUnder, IsGoneOrSettled, MendsSiblings, both_of}
+use Rattle.btree_change.specs.Siblings.{ReturnsNode, HoldsGone, HoldsSiblings, HoldsUnder, IsGoneOrSettled, KeepsOut, LeavesWay, MendsSiblings, both_of}
+use Rattle.node_store.specs.declared.locking.Busy.{Busy}
 use Rattle.btree_change.specs.declared.sibling.Siblings.{Siblings}
 use Rattle.btree_change.proofs.Pairings.{IsBesideLock, beside_each, both_all, both_high, both_more, here}
-use Rattle.btree_change.proofs.Spending.{spends_same, steps_after}
+use Rattle.btree_change.proofs.Loading.{found_between}
+use Rattle.btree_change.proofs.Spending.{spends_same, steps_after, surplus_steps}
 use Rattle.word_rule.proofs.Each.{all_map}
 use Rattle.btree_change.proofs.HeldLists.{found_head}
 
@@ -36,13 +38,6 @@ without_high false low high more n is far rest = (λ i. cond (not (eq-eqb high.n
 pub without_low : (o : Bool) (low high : Holding) (more : List Holding) (n : ℕ) → low.node ≡ n → high.node ≢ n → AllByRecursion (λ a. a.node ≢ n) more → without_lock n (both_of o low high more) ≡ high ∷ more
 without_low true low high more n is far rest = without_high false high low more n is far rest
 without_low false low high more n is far rest = without_high true high low more n is far rest
-
--- the root is held, as the node above or beside it
-pub root_there : (o : Bool) (low high upper : Holding) (rest : List Holding) (n : ℕ) (changed : Bool) → low.node ≢ 0 → high.node ≢ 0 → upper.node ≡ n → IsBeside n changed rest → IsSome (held_of 0 (both_of o low high (upper ∷ rest)))
-root_there o low high upper rest zero changed a b is root = subst IsSome (sym (both_more o low high (upper ∷ rest) 0 a b ∙ found_head 0 upper rest is)) refl
-root_there o low high upper rest (suc n) changed a b is (root, (e, r)) =
-    let far : (upper.node == 0) ≡ false = ne_eqb upper.node 0 (λ z. omega (arith, z, is)) in
-    subst IsSome (sym (both_more o low high (upper ∷ rest) 0 a b ∙ (ap (λ z. cond z (Some upper) (held_of 0 rest)) far ∙ (ap (held_of 0) e ∙ found_head 0 root [] r.node)))) refl
 
 pub rest_far : (n m : ℕ) (changed : Bool) (rest : List Holding) → m ≢ 0 → IsBeside n changed rest → AllByRecursion (λ a. a.node ≢ m) rest
 rest_far n m changed rest some root = all_map (IsBesideLock n) (λ a. a.node ≢ m) (λ h b e. some (sym e ∙ b.node)) rest (beside_each n changed rest root)
@@ -114,9 +109,6 @@ module _ (t : Terms) (x : Siblings) (k : CallerData) (gone : HoldsGone t x k.log
       ((λ _. gone.gone), (λ ne. absurd (ne gone.right)))
       (((λ e. absurd (gone.no_parent.1 (sym (sym gone.parent ∙ e)))), (λ _. gone.parent_spells)), all_map (IsBesideLock x.above.at.node) (IsGoneOrSettled x.right.node) (λ h b. ((λ e. absurd (gone.no_root.1 (sym e ∙ b.node))), (λ _. b.spells))) gone.rest (beside_each x.above.at.node x.above.root_changed gone.rest gone.root)))
 
-  pub gone_root : IsSome (held_of 0 k.log.holdings.held)
-  gone_root = subst (λ hs. IsSome (held_of 0 hs)) (sym gone.held) (root_there gone.left_first gone.low gone.high gone.upper gone.rest x.above.at.node x.above.root_changed (λ e. gone.no_root.0 (sym gone.left ∙ e)) (λ e. gone.no_root.1 (sym gone.right ∙ e)) gone.parent gone.root)
-
   pub gone_held : IsSome (held_of x.right.node k.log.holdings.held)
   gone_held = subst IsSome (sym (ap (held_of x.right.node) gone.held ∙ both_high gone.left_first gone.low gone.high (gone.upper ∷ gone.rest) x.right.node gone.right (λ e. gone.different (sym gone.left ∙ e)))) refl
 
@@ -151,3 +143,47 @@ joins_so t x k k1 k2 k3 found way terms hs gone steps back tells loads is =
       spare = gone.spare;
       spends = steps_after 1 0 1 k k2 k3 (omega arith) (steps_after 0 1 1 k k1 k2 (omega arith) (spends_same k k1 steps) back.spends) (loaded_none x.left.node 2 found k2 k3 loads);
     })
+
+-- a caller as if it had given back the node that it lost
+abbrev pub as_given : ℕ → CallerData → CallerData → CallerData
+as_given n k k' = record k' { log = record k'.log { holdings = record k'.log.holdings { out = all_but n k.log.holdings.out } } }
+
+pub as_returned : (n : ℕ) (why : Busy) (k k' : CallerData) → KeepsOut n why k k' → ReturnsNode n k (as_given n k k')
+as_returned n why k k' keeps = let s = keeps.spends in record {
+  spends = record { table = s.table; left = s.left; terms = s.terms; role = s.role; past = s.past; receipts = s.receipts; loader = s.loader; made = s.made; lineage = s.lineage; allowance = s.allowance; credit = s.credit; loads = s.loads };
+  held = keeps.held;
+  out = refl;
+}
+
+-- the right one of two joined children was lost
+module _ (t : Terms) (x : Siblings) (why : Busy) (k k1 k2 : CallerData) (gone : HoldsGone t x k1.log.holdings) (steps : StepsOnNodes k k1) (keeps : KeepsOut x.right.node why k1 k2) where
+  settled_lost : AreSettled x.above.at.node x.left.node (joined x.left.content x.right.content) x.above.root_changed (as_given x.right.node k1 k2).log.holdings
+  settled_lost = settled_back t x k1 gone (as_given x.right.node k1 k2) (as_returned x.right.node why k1 k2 keeps)
+
+  pub lost_may : MayGo x.left.node true k2.log.holdings
+  lost_may = let a = settled_lost in record {
+    lock = a.lower;
+    found = ap (held_of x.left.node) a.held ∙ found_head x.left.node a.lower (a.upper ∷ a.rest) a.node;
+    stored = λ e. absurd (true≢false e);
+    settled = subst HaveSettled (sym a.held) (a.spells, (a.parent_spells, all_map (IsBesideLock x.above.at.node) (λ h. SpellsNode h.words h.settled) (λ h b. b.spells) a.rest (beside_each x.above.at.node x.above.root_changed a.rest a.root)));
+  }
+
+  pub lost_surplus : 1 < surplus k → 0 < surplus k2
+  lost_surplus some = surplus_steps 1 k k2 1 (steps_after 0 1 1 k k1 k2 (omega arith) (spends_same k k1 steps) keeps.spends) (omega (arith, some))
+
+  pub join_lost : (k3 : CallerData) → LetsGo x.left.node k2 k3 → LeavesWay x why k k3
+  join_lost k3 goes = let a = settled_lost in record {
+    lost = keeps.lost;
+    cause = found_between why k k1 k2 k3 steps.loads keeps.cause goes.steps.loads;
+    spends = steps_after 1 1 2 k k2 k3 (omega arith) (steps_after 0 1 1 k k1 k2 (omega arith) (spends_same k k1 steps) keeps.spends) goes.steps;
+    way = record {
+      lock = a.upper;
+      above = a.rest;
+      held = goes.held ∙ (ap (without_lock x.left.node) a.held ∙ without_low true a.lower a.upper a.rest x.left.node a.node (λ e. gone.no_parent.0 (sym (sym a.parent ∙ e))) (rest_far x.above.at.node x.left.node x.above.root_changed a.rest gone.no_root.0 a.root));
+      node = a.parent;
+      spells = a.parent_spells;
+      stored = a.parent_stored;
+      root = a.root;
+    };
+    out = subst (λ ns. length ns ≤ 2) (sym (goes.out ∙ (keeps.out ∙ gone.out))) (omega arith);
+  }

@@ -46,7 +46,6 @@ child_left t child pc k k' h is = subst (λ (z : CallerData). HoldsLocks child.a
   spells = subst (SpellsNode h.upper.words) (sym h.parent.settled) h.parent.spells;
   stored = h.parent.stored;
   root = h.root;
-  out = h.out;
 })
 
 -- how many pairs a parent has

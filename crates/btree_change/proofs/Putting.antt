@@ -124,26 +124,26 @@ module _ (law : PutLaw) (laws : LeafLaws) (t : Terms) (n : ℕ) (s : NodeData) (
   stays = above_stays n written.lock.node path.above (written.node ∙ path.here.node) (leaf_far t n s changed k1.log.holdings path tree level) path.inner
 
   abbrev exact : Log
-  exact = record k2.log { holdings = record { held = written.lock ∷ path.above; out = []; head = k2.log.holdings.head } }
+  exact = record k2.log { holdings = record { held = written.lock ∷ path.above; out = [] } }
 
   exact_is : exact ≡ k2.log
-  exact_is = (λ i. record k2.log { holdings = record { held = sym written.held i; out = sym (written.out ∙ path.out) i; head = k2.log.holdings.head } })
+  exact_is = (λ i. record k2.log { holdings = record { held = sym written.held i; out = sym (written.out ∙ path.out) i } })
 
   pub may_put : 0 < k2.log.budget.allowance → m.payload < t.payloads → MayCommit t (update.Register m) k2.log
   may_put due payload = record {
     due = due;
     member = (span, payload);
     lawful = subst (λ z. IsTrue (is_lawful z (Some (update.Register m)))) exact_is
-        (lawful_commit laws k2.log k2.log.holdings.head (update.Register m) written.lock path.above now marked written.spells stays in_leaf level tree.contents tree.live after here after_here change);
+        (lawful_commit laws k2.log (update.Register m) written.lock path.above now marked written.spells stays in_leaf level tree.contents tree.live after here after_here change);
   }
 
-  settles : settle (Some (update.Register m)) k2.log ≡ record k2.log { holdings = record { held = record written.lock { settled = now; mark = Some (frame_of now) } ∷ path.above; out = []; head = k2.log.holdings.head } }
+  settles : settle (Some (update.Register m)) k2.log ≡ record k2.log { holdings = record { held = record written.lock { settled = now; mark = Some (frame_of now) } ∷ path.above; out = [] } }
   settles = ap (settle (Some (update.Register m))) (sym exact_is)
-      ∙ settled_after laws k2.log k2.log.holdings.head (update.Register m) written.lock path.above now marked written.spells stays in_leaf level tree.contents tree.live after here after_here change
+      ∙ settled_after laws k2.log (update.Register m) written.lock path.above now marked written.spells stays in_leaf level tree.contents tree.live after here after_here change
 
   pub put_so : (k3 : CallerData) (found number : ℕ) → StepsOnNodes k k2 → AfterCommit (update.Register m) found k2.log k3.log → number ≡ length k3.log.past → k3 ≡ record k2 { log = k3.log } → PutsMember m n number k k3
   put_so k3 found number steps (before, r, (tells, done, is)) counted rest =
-      let log : k3.log ≡ after_update (update.Register m) before r (record k2.log { holdings = record { held = record written.lock { settled = now; mark = Some (frame_of now) } ∷ path.above; out = []; head = k2.log.holdings.head } }) = is ∙ ap (after_update (update.Register m) before r) settles in
+      let log : k3.log ≡ after_update (update.Register m) before r (record k2.log { holdings = record { held = record written.lock { settled = now; mark = Some (frame_of now) } ∷ path.above; out = [] } }) = is ∙ ap (after_update (update.Register m) before r) settles in
       let past : k3.log.past ≡ before ++ update.Register m ∷ [] = ap (λ z. z.past) log in
       let answer : r ≡ receipt.Register m (inserted.Done number) = done ∙ ap (λ j. receipt.Register m (inserted.Done j)) (sym (counted ∙ (ap length past ∙ length-append before (update.Register m ∷ [])))) in
       let answered : record k2.log.receipts { own = k2.log.receipts.own ++ r ∷ [] } ≡ record k2.log.receipts { own = k2.log.receipts.own ++ receipt.Register m (inserted.Done number) ∷ [] } = (λ i. record k2.log.receipts { own = k2.log.receipts.own ++ answer i ∷ [] }) in record {

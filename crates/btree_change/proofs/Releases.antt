@@ -31,8 +31,8 @@ locks_may n changed root_changed k h = record {
 }
 
 -- what is left of the way is the root
-pub left_beside : (n : ℕ) (changed root_changed : Bool) (k k1 : CallerData) → (h : HoldsLocks n changed root_changed k.log.holdings) → LetsGo n k k1 → (k1.log.holdings.held ≡ h.above) × (k1.log.holdings.out ≡ [])
-left_beside n changed root_changed k k1 h l = (l.held ∙ (ap (without_lock n) h.held ∙ without_first n h.lock root_changed h.above h.node h.root), l.out ∙ h.out)
+pub left_beside : (n : ℕ) (changed root_changed : Bool) (k k1 : CallerData) → (h : HoldsLocks n changed root_changed k.log.holdings) → LetsGo n k k1 → k1.log.holdings.held ≡ h.above
+left_beside n changed root_changed k k1 h l = l.held ∙ (ap (without_lock n) h.held ∙ without_first n h.lock root_changed h.above h.node h.root)
 
 pub root_may : (n : ℕ) (root_changed : Bool) (above : List Holding) (holdings : Holdings) → n ≢ 0 → holdings.held ≡ above → IsBeside n root_changed above → MayGo 0 root_changed holdings × (without_lock 0 holdings.held ≡ [])
 root_may zero root_changed above holdings never is root = absurd (never refl)

@@ -14,11 +14,15 @@ use Rattle.word_rule.specs.CallerData.{CallerData, surplus}
 use Rattle.word_rule.specs.Callers.{start}
 use Rattle.word_rule.specs.declared.log.Holdings.{Holdings}
 use Rattle.word_rule.specs.declared.log.Terms.{Terms}
-use Rattle.btree_change.specs.Paths.{HoldsNothing, StepsOnNodes}
+use Rattle.btree_change.specs.Paths.{HoldsLeftOver, HoldsNothing, IsLeftOut, StepsOnNodes}
 use Rattle.btree_change.specs.Releases.{Spends}
 use Rattle.btree_change.specs.Removal.{AnswersRemoval, AnswersRightly, taken_by_removal}
 use Rattle.btree_change.specs.Removing.{HoldsBesideRoot, IsSpare, IsSpareAs}
-use Rattle.btree_change.specs.Siblings.{HoldsChild, is_small_body}
+use Rattle.btree_change.specs.Siblings.{HoldsChild, LeavesWay, is_small_body}
+use Rattle.btree_change.specs.declared.sibling.Siblings.{Siblings}
+use Rattle.node_store.specs.Locking.{FoundBusy}
+use Rattle.node_store.specs.declared.locking.Busy.{Busy}
+use Rattle.btree_change.proofs.Loading.{found_still}
 use Rattle.btree_change.specs.Stands.{SpendsCall}
 use Rattle.btree_change.specs.Takings.{RefusesBase, TakesMember}
 use Rattle.btree_change.specs.Updates.{AnswersUpdate}
@@ -27,7 +31,7 @@ use Rattle.btree_change.specs.declared.descent.Held.{Held}
 use Rattle.btree_change.specs.declared.way.Way.{Way}
 use Rattle.btree_change.proofs.Joining.{spare_of}
 use Rattle.btree_change.proofs.Rooted.{surplus_left}
-use Rattle.btree_change.proofs.Spending.{answers_so, refused_call, spends_after, spends_before, spends_same, steps_after}
+use Rattle.btree_change.proofs.Spending.{answers_so, refused_call, spends_after, spends_before, spends_same, steps_after, surplus_steps}
 
 not_small : (b : Body) → is_small_body b ≡ false → IsSpareAs b
 not_small (Pairs pairs) e = let l = ltb-false (length pairs) 7 e in omega (arith, l)
@@ -96,3 +100,16 @@ surplus_refused t base answer k k1 k2 down most refuses = let left = surplus_lef
 
 pub surplus_taken : (t : Terms) (base n number : ℕ) (root_changed : Bool) (m : Member) (k k1 k2 : CallerData) → Spends 26 k k1 → 64 ≤ surplus k → TakesMember t base n root_changed number m k1 k2 → 1 < surplus k2
 surplus_taken t base n number root_changed m k k1 k2 down most takes = let left = surplus_left 26 k k1 down most (omega arith) in let a = ap (λ z. z.credit) takes.budget in let b : 64 * k2.left ≡ 64 * k1.left = ap (λ z. 64 * z) takes.left in omega (arith, left, a, b)
+
+-- a node of the way was lost: what is left once the way was let go of
+pub left_over : (x : Siblings) (why : Busy) (k k2 k3 : CallerData) → LeavesWay x why k k2 → k3.log.holdings.held ≡ [] → k3.log.holdings.out ≡ k2.log.holdings.out → HoldsLeftOver why k3.log.holdings
+left_over x why k k2 k3 lost held out = (held, subst (λ w. IsLeftOut w k3.log.holdings.out) (sym lost.lost) (subst (λ ns. length ns ≤ 2) (sym out) lost.out))
+
+pub left_surplus : (x : Siblings) (why : Busy) (k k2 : CallerData) → LeavesWay x why k k2 → 3 < surplus k → 1 < surplus k2
+left_surplus x why k k2 lost some = surplus_steps 2 k k2 2 lost.spends (omega (arith, some))
+
+pub left_spends : (x : Siblings) (why : Busy) (k k2 k3 : CallerData) → LeavesWay x why k k2 → Spends 2 k2 k3 → Spends 4 k k3
+left_spends x why k k2 k3 lost up = steps_after 2 2 4 k k2 k3 (omega arith) lost.spends up
+
+pub left_cause : (x : Siblings) (why : Busy) (k k2 k3 : CallerData) → LeavesWay x why k k2 → Spends 2 k2 k3 → FoundBusy why k k3
+left_cause x why k k2 k3 lost up = found_still why k k2 k3 lost.cause up.loads

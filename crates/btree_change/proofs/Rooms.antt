@@ -1,5 +1,5 @@
 -- A free node is taken for a full one; or none is free, and the loads say so.
-use Rattle.std.proofs.Common.{◌≡◌, ◌≢◌, ℕ, suc, ◌+◌, ◌⊎◌, inl, inr, List, [], ◌∷◌, length, sym, refl, ap, ◌∙◌, subst, arith, Bool, true, false, ◌==◌, ◌&&◌, nat_le, Option, Some, None, Result, Ok, Err, IsSome, IfSome, option_map, is_some, append_assoc, append-nil, Contains, eq-eqb, ne_eqb, if◌then◌else◌}
+use Rattle.std.proofs.Common.{◌≡◌, ◌≢◌, ℕ, suc, ◌+◌, ◌⊎◌, inl, inr, List, [], ◌∷◌, ◌++◌, length, sym, refl, ap, ◌∙◌, subst, arith, Bool, true, false, ◌==◌, ◌&&◌, nat_le, Option, Some, None, Result, Ok, Err, IsSome, IfSome, option_map, is_some, append_assoc, append-nil, Contains, eq-eqb, ne_eqb, if◌then◌else◌}
 use Rattle.std.proofs.lemmas.Option.{none-some, same_Some}
 use native.Mathlib.Decide.{ℕ_discrete}
 use Rattle.reg_model.specs.declared.span.Member.{Member}
@@ -8,24 +8,25 @@ use Rattle.tree_shape.specs.NodeData.{NodeData, Body, Pairs, Entries, Link, IsIn
 use Rattle.tree_shape.specs.Steps.{IsFull}
 use Rattle.word_rule.specs.CallerData.{CallerData}
 use Rattle.word_rule.specs.Held.{held_of}
-use Rattle.word_rule.specs.Logs.{after_load, load_of}
+use Rattle.word_rule.specs.Logs.{load_of}
 use Rattle.word_rule.specs.NodeTells.{HeldTells}
 use Rattle.word_rule.specs.Observations.{IsFullBody, IsFullCount}
 use Rattle.word_rule.specs.Places.{HEAD, node_place}
+use Rattle.word_rule.specs.TreeRefusals.{IsCountAt}
 use Rattle.word_rule.specs.Sights.{after_node_load}
 use Rattle.word_rule.specs.Spelling.{entries_at, is_short, node_word, pairs_at, SpellsNode}
-use Rattle.word_rule.specs.Steps.{after_node_lock, after_take, mark_at_lock}
+use Rattle.word_rule.specs.Steps.{mark_at_lock}
 use Rattle.word_rule.specs.declared.log.Holding.{Holding}
-use Rattle.word_rule.specs.declared.log.LockId.TheVariants as lock
 use Rattle.word_rule.specs.declared.log.Terms.{Terms}
-use Rattle.word_rule.proofs.Spells.{entries_length, pairs_length, reads}
+use Rattle.word_rule.proofs.Each.{all_map}
+use Rattle.word_rule.proofs.Spells.{entries_length, pairs_length, reads, spells_free}
 use Rattle.node_store.specs.declared.locking.Busy.{Busy}
-use Rattle.node_store.specs.Free.{IsFreeTaken, TakesFree, headed}
-use Rattle.node_store.specs.Locking.{IsBusy, Locks, sighted, tried}
+use Rattle.node_store.specs.Free.{IsFreeTaken, IsOfCount, LosesRounds, TakesFree, headed}
+use Rattle.node_store.specs.Locking.{tried}
 use Rattle.btree_change.specs.declared.descent.Held.{Held}
-use Rattle.btree_change.specs.Loads.{FoundNoRoom, FoundTaken}
+use Rattle.btree_change.specs.Loads.{FoundNoRoom}
 use Rattle.btree_change.specs.Splits.{HoldsFull, IsRoomFor, StaysHeld, TakesRoom}
-use Rattle.btree_change.proofs.Loading.{found_after, found_busy, keeps_load, keeps_then}
+use Rattle.btree_change.proofs.Loading.{found_after, keeps_load, keeps_then}
 
 -- the count of a full node is the greatest
 full_body : (inner few leaf low free : Bool) (pairs : Option (List Pair)) (entries : Option (List Member)) (link count : ℕ) (body : Body) → ((xs : List Pair) → pairs ≡ Some xs → length xs ≡ count) → ((xs : List Member) → entries ≡ Some xs → length xs ≡ count)
@@ -67,18 +68,38 @@ module _ (t : Terms) (full : Held) (pc : ℕ) (k k1 : CallerData) (found : ℕ) 
     subst (λ (z : NodeData). IsFullBody found z.body) (sym h.here.settled) (subst (λ n. IsFullBody n full.content.body) count_is (full_count h.lock.words full.content h.here.spells h.is_full)),
   )
 
-  pub had_no_room : (k' : CallerData) → k' ≡ headed 0 k1 → StaysHeld k k' × FoundNoRoom pc k k'
-  had_no_room k' is =
-      let whole : k' ≡ headed 0 (record k { log = after_node_load full.node 5 found k.log }) = is ∙ ap (headed 0) load in
-      let cause = load_of (after_node_load full.node 5 found k.log) HEAD 0 in (
-        subst (StaysHeld k) (sym whole) (record { held = refl; out = refl; same = record { table = refl; left = refl; terms = refl; role = refl; past = refl; budget = refl; receipts = refl; loader = refl; made = refl; lineage = refl; loads = keeps_then k (record k { log = after_node_load full.node 5 found k.log }) (headed 0 (record k { log = after_node_load full.node 5 found k.log })) (_ ∷ [], refl) (_ ∷ [], refl) } }),
+  -- lost rounds, and then a head of 0
+  pub had_no_room : (lost k' : CallerData) → LosesRounds k1 lost → k' ≡ headed 0 lost → StaysHeld k k' × FoundNoRoom pc k k'
+  had_no_room lost k' (more, marks, (none, rounds)) is =
+      let whole : k' ≡ headed 0 (record k { log = tried more marks (after_node_load full.node 5 found k.log) }) = is ∙ (ap (headed 0) rounds ∙ ap (λ (z : CallerData). headed 0 (record z { log = tried more marks z.log })) load) in
+      let count = load_of k.log (node_place full.node + 5) found in
+      let cause = load_of (tried more marks (after_node_load full.node 5 found k.log)) HEAD 0 in
+      let loads : k'.log.trace.loads ≡ k.log.trace.loads ++ (count ∷ (more ++ cause ∷ [])) =
+      ap (λ (z : CallerData). z.log.trace.loads) whole ∙ (ap (λ xs. xs ++ cause ∷ []) (append_assoc k.log.trace.loads (count ∷ []) more) ∙ append_assoc k.log.trace.loads (count ∷ more) (cause ∷ [])) in (
         record {
-          more = load_of k.log (node_place full.node + 5) found ∷ cause ∷ [];
-          loads = ap (λ (z : CallerData). z.log.trace.loads) whole ∙ append_assoc k.log.trace.loads (load_of k.log (node_place full.node + 5) found ∷ []) (cause ∷ []);
+          held = ap (λ (z : CallerData). z.log.holdings.held) whole;
+          out = ap (λ (z : CallerData). z.log.holdings.out) whole;
+          same = record {
+            table = ap (λ (z : CallerData). z.table) whole;
+            left = ap (λ (z : CallerData). z.left) whole;
+            terms = ap (λ (z : CallerData). z.log.terms) whole;
+            role = ap (λ (z : CallerData). z.log.role) whole;
+            past = ap (λ (z : CallerData). z.log.past) whole;
+            budget = ap (λ (z : CallerData). z.log.budget) whole;
+            receipts = ap (λ (z : CallerData). z.log.receipts) whole;
+            loader = ap (λ (z : CallerData). z.log.loader) whole;
+            made = ap (λ (z : CallerData). z.log.made) whole;
+            lineage = ap (λ (z : CallerData). z.log.lineage) whole;
+            loads = (count ∷ (more ++ cause ∷ []), loads);
+          };
+        },
+        record {
+          more = count ∷ (more ++ cause ∷ []);
+          loads = loads;
           no_room = record {
             before = [];
-            count = load_of k.log (node_place full.node + 5) found;
-            between = [];
+            count = count;
+            between = more;
             cause = cause;
             behind = [];
             in_order = refl;
@@ -87,7 +108,7 @@ module _ (t : Terms) (full : Held) (pc : ℕ) (k k1 : CallerData) (found : ℕ) 
             held = found_there full.node k.log.holdings.held h.lock h.found;
             full = is_full_count;
             on_way = subst (IsInFences pc) (sym h.here.settled) h.on_way;
-            last = tt;
+            last = all_map (λ l. ¬ IsOfCount l) (λ l. ¬ IsCountAt pc l) (λ l no at. no (at.0.node, at.1.1)) more none;
             stores = [];
             stored = sym (append-nil k.log.trace.stores);
             unstored = refl;
@@ -100,36 +121,33 @@ module _ (t : Terms) (full : Held) (pc : ℕ) (k k1 : CallerData) (found : ℕ) 
       none_or_one (inl none) = inl none
       none_or_one (inr one) = inr (one.0, h.here.node ∙ one.1)
 
-  pub takes_room : (k' : CallerData) (n : ℕ) → IsSome (held_of 0 k.log.holdings.held) → n ≢ 0 → TakesFree n k1 k' → TakesRoom n k k'
-  takes_room k' n root far (locked, next, (locks, is)) = subst (λ (z : CallerData). Locks (lock.Node n) (headed n z) locked → TakesRoom n k k') (sym load) go locks
+  pub takes_room : (k' : CallerData) (n : ℕ) → n ≢ 0 → TakesFree n k1 k' → TakesRoom n k k'
+  takes_room k' n far takes = go (subst (λ (z : CallerData). TakesFree n z k') load takes)
     where
-      go : Locks (lock.Node n) (headed n (record k { log = after_node_load full.node 5 found k.log })) locked → TakesRoom n k k'
-      go (more, marks, nodes, version, settled, words, (tries, taken, took)) =
-          let whole = is ∙ ap (λ (z : CallerData). record z { log = after_take n next (after_node_load n 6 next z.log) }) took in
-          let head : (if is_some (held_of 0 k.log.holdings.held) then Some n else None) ≡ Some n = ap (λ b. if b then Some n else None) root in
-          let loaded : CallerData = record k { log = after_node_load full.node 5 found k.log } in
-          let taking : CallerData = record (headed n loaded) { log = after_node_lock n version settled words (sighted nodes (tried more marks (headed n loaded).log)) } in
-          let told_so = keeps_then k taking (record taking { log = after_take n next (after_node_load n 6 next taking.log) }) (keeps_then k (headed n loaded) taking (keeps_then k loaded (headed n loaded) (_ ∷ [], refl) (_ ∷ [], refl)) (more, refl)) (_ ∷ [], refl) in
+      go : TakesFree n (record k { log = after_node_load full.node 5 found k.log }) k' → TakesRoom n k k'
+      go (more, marks, version, settled, words, (taken, kind, whole)) =
           subst (TakesRoom n k) (sym whole) (record {
             never_root = far;
             within = taken.within;
             unheld = taken.new;
             new = record { node = n; version = version; settled = settled; words = words; stored = false; mark = mark_at_lock n settled k.log.holdings.held };
             held = refl;
-            free = record { node = refl; spells = taken.spells; next = node_word words 6; free = taken.free head far };
+            free = record { node = refl; spells = taken.spells; next = node_word words 6; free = spells_free words settled taken.spells kind };
             out = refl;
-            same = record { table = refl; left = refl; terms = refl; role = refl; past = refl; budget = refl; receipts = refl; loader = refl; made = refl; lineage = refl; loads = told_so };
+            same = record { table = refl; left = refl; terms = refl; role = refl; past = refl; budget = refl; receipts = refl; loader = refl; made = refl; lineage = refl; loads = keeps_then k (record k { log = after_node_load full.node 5 found k.log }) (record k { log = tried more marks (after_node_load full.node 5 found k.log) }) (_ ∷ [], refl) (more, refl) };
           })
 
-  pub stays_busy : (k' : CallerData) (n : ℕ) → IsBusy (lock.Node n) (headed n k1) k' → StaysHeld k k'
-  stays_busy k' n (found', (odd, is)) = subst (λ (z : CallerData). k' ≡ record (headed n z) { log = after_load (node_place n) found' (headed n z).log } → StaysHeld k k') (sym load)
-      (λ whole. subst (StaysHeld k) (sym whole) (record { held = refl; out = refl; same = record { table = refl; left = refl; terms = refl; role = refl; past = refl; budget = refl; receipts = refl; loader = refl; made = refl; lineage = refl; loads = keeps_then k (headed n (record k { log = after_node_load full.node 5 found k.log })) (record (headed n (record k { log = after_node_load full.node 5 found k.log })) { log = after_load (node_place n) found' (headed n (record k { log = after_node_load full.node 5 found k.log })).log }) (keeps_then k (record k { log = after_node_load full.node 5 found k.log }) (headed n (record k { log = after_node_load full.node 5 found k.log })) (_ ∷ [], refl) (_ ∷ [], refl)) (_ ∷ [], refl) } })) is
+  pub stays_lost : (k' : CallerData) → LosesRounds k1 k' → StaysHeld k k'
+  stays_lost k' lost = go (subst (λ (z : CallerData). LosesRounds z k') load lost)
+    where
+      go : LosesRounds (record k { log = after_node_load full.node 5 found k.log }) k' → StaysHeld k k'
+      go (more, marks, (none, whole)) = subst (StaysHeld k) (sym whole) (record {
+        held = refl;
+        out = refl;
+        same = record { table = refl; left = refl; terms = refl; role = refl; past = refl; budget = refl; receipts = refl; loader = refl; made = refl; lineage = refl; loads = keeps_then k (record k { log = after_node_load full.node 5 found k.log }) (record k { log = tried more marks (after_node_load full.node 5 found k.log) }) (_ ∷ [], refl) (more, refl) };
+      })
 
-  pub room_found : (gives_up : Bool) (k' : CallerData) (r : Result (Option ℕ) Busy) → IsSome (held_of 0 k.log.holdings.held) → IsFreeTaken gives_up k1 k' r → IsRoomFor gives_up pc k k' r
-  room_found gives_up k' (Ok None) root is = had_no_room k' is
-  room_found gives_up k' (Ok (Some n)) root (far, takes) = takes_room k' n root far takes
-  room_found gives_up k' (Err busy) root (n, (named, far, busy_now, up)) = (
-    stays_busy k' n busy_now,
-    up,
-    subst (λ id. FoundTaken id k k') (sym named) (found_after (lock.Node n) k (headed n k1) k' (keeps_then k k1 (headed n k1) (keeps_load full.node 5 found k k1 load) (_ ∷ [], refl)) (found_busy (lock.Node n) (headed n k1) k' busy_now)),
-  )
+  pub room_found : (gives_up : Bool) (k' : CallerData) (r : Result (Option ℕ) Busy) → IsFreeTaken gives_up k1 k' r → IsRoomFor gives_up pc k k' r
+  room_found gives_up k' (Ok None) (lost, (rounds, is)) = had_no_room lost k' rounds is
+  room_found gives_up k' (Ok (Some n)) (far, takes) = takes_room k' n far takes
+  room_found gives_up k' (Err why) ((rounds, cause), up) = (stays_lost k' rounds, up, found_after why k k1 k' (keeps_load full.node 5 found k k1 load) cause)

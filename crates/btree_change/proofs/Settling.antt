@@ -21,7 +21,7 @@ use Rattle.word_rule.specs.Exchange.{Differs, IsLawfulExchange, after_exchange, 
 use Rattle.word_rule.specs.Held.{held_of, is_marked, marked_in, now_in, now_of, now_shape, settled_in, settled_shape, without_lock}
 use Rattle.word_rule.specs.Logs.{after_spending, after_write}
 use Rattle.word_rule.specs.Spelling.{spelled, SpellsNode}
-use Rattle.word_rule.specs.Steps.{MayRelease, after_node_release, after_node_release_same, head_without}
+use Rattle.word_rule.specs.Steps.{MayRelease, after_node_release, after_node_release_same}
 use Rattle.word_rule.proofs.Each.{some_of}
 use Rattle.word_rule.proofs.Exchanges.{filtered, mapped, spelled_decides}
 use Rattle.btree_change.proofs.HeldLists.{HeldOnce, IsBelow, and_parts, filter_none, filter_same, found_is, highest_of_is, in_filter, in_list, in_nodes, marked_is, once_found, or_parts, same_test, tested}
@@ -311,7 +311,6 @@ module _ (laws : SettlingLaws) (v : Log) (f : Contents) (live : ℕ → Bool) (t
     holdings = record {
       held = without_lock n (map (exchange (is_among group) (is_among reached)) v.holdings.held);
       out = left_out group reached v.holdings;
-      head = head_without n v.holdings.head;
     };
     budget = after_spending v.budget;
   }

@@ -1,9 +1,9 @@
 -- The root has taken the place of its only two children, which are given back.
-use Rattle.std.proofs.Common.{◌≡◌, ◌≢◌, ℕ, [], ◌∷◌, sym, refl, ap, ◌∙◌, subst, arith, true, IsTrue, Some, IfSome, IsSome, ne_eqb, cond}
+use Rattle.std.proofs.Common.{◌≡◌, ◌≢◌, ℕ, ◌<◌, ◌≤◌, length, true≢false, [], ◌∷◌, sym, refl, ap, ◌∙◌, subst, arith, true, IsTrue, Some, IfSome, IsSome, ne_eqb, cond}
 use Rattle.std.specs.List.{AllByRecursion}
 use Rattle.tree_shape.specs.NodeData.{NodeData}
 use Rattle.tree_shape.specs.Numbers.{is_among}
-use Rattle.word_rule.specs.CallerData.{CallerData}
+use Rattle.word_rule.specs.CallerData.{CallerData, surplus}
 use Rattle.word_rule.specs.Held.{all_but, held_of, without_lock}
 use Rattle.word_rule.specs.NodeTells.{HolderTells, IsHeldNode, IsLiveNode}
 use Rattle.word_rule.specs.Sights.{after_node_load}
@@ -11,11 +11,16 @@ use Rattle.word_rule.specs.Spelling.{SpellsNode}
 use Rattle.word_rule.specs.declared.log.Holdings.{Holdings}
 use Rattle.word_rule.specs.declared.log.Terms.{Terms}
 use Rattle.btree_change.specs.Paths.{StepsOnNodes}
-use Rattle.btree_change.specs.Siblings.{ReturnsNode, HoldsSiblings, HoldsSunk, IsGoneOrSettled, SinksRoot, sunk_root}
+use Rattle.btree_change.specs.Releases.{HaveSettled, LetsGo, MayGo}
+use Rattle.btree_change.specs.Removing.{IsBeside}
+use Rattle.btree_change.specs.Siblings.{ReturnsNode, HoldsSiblings, HoldsSunk, IsGoneOrSettled, KeepsOut, LeavesWay, SinksRoot, sunk_root}
+use Rattle.node_store.specs.declared.locking.Busy.{Busy}
+use Rattle.word_rule.proofs.HeadPlays.{all_but_shorter}
 use Rattle.btree_change.specs.declared.sibling.Siblings.{Siblings}
-use Rattle.btree_change.proofs.Mended.{loaded_none, without_low}
+use Rattle.btree_change.proofs.Loading.{found_after, found_between, keeps_then}
+use Rattle.btree_change.proofs.Mended.{as_given, as_returned, loaded_none, without_low}
 use Rattle.btree_change.proofs.Pairings.{both_all, both_low, both_more}
-use Rattle.btree_change.proofs.Spending.{spends_same, steps_after}
+use Rattle.btree_change.proofs.Spending.{spends_same, steps_after, surplus_steps}
 use Rattle.btree_change.proofs.HeldLists.{found_head}
 
 module _ (x : Siblings) (k : CallerData) (gone : HoldsSunk x k.log.holdings) where
@@ -28,9 +33,6 @@ module _ (x : Siblings) (k : CallerData) (gone : HoldsSunk x k.log.holdings) whe
   pub left_held : IsSome (held_of x.left.node k.log.holdings.held)
   left_held = subst IsSome (sym (ap (held_of x.left.node) gone.held ∙ both_low gone.left_first gone.low gone.high (gone.upper ∷ []) x.left.node gone.left high_far)) refl
 
-  pub left_root : IsSome (held_of 0 k.log.holdings.held)
-  left_root = subst IsSome (sym (ap (held_of 0) gone.held ∙ (both_more gone.left_first gone.low gone.high (gone.upper ∷ []) 0 (λ e. gone.no_root.0 (sym gone.left ∙ e)) (λ e. gone.no_root.1 (sym gone.right ∙ e)) ∙ found_head 0 gone.upper [] gone.root))) refl
-
   pub left_ready : AllByRecursion (IsGoneOrSettled x.left.node) k.log.holdings.held
   left_ready = subst (AllByRecursion (IsGoneOrSettled x.left.node)) (sym gone.held) (both_all (IsGoneOrSettled x.left.node) gone.left_first gone.low gone.high (gone.upper ∷ [])
       ((λ _. gone.left_gone), (λ ne. absurd (ne gone.left)))
@@ -38,11 +40,8 @@ module _ (x : Siblings) (k : CallerData) (gone : HoldsSunk x k.log.holdings) whe
       (((λ e. absurd (upper_far x.left.node gone.no_root.0 e)), (λ _. gone.spells)), tt))
 
   module _ (k1 : CallerData) (back : ReturnsNode x.left.node k k1) where
-    held1 : k1.log.holdings.held ≡ gone.high ∷ gone.upper ∷ []
+    pub held1 : k1.log.holdings.held ≡ gone.high ∷ gone.upper ∷ []
     held1 = back.held ∙ (ap (without_lock x.left.node) gone.held ∙ without_low gone.left_first gone.low gone.high (gone.upper ∷ []) x.left.node gone.left high_far (upper_far x.left.node gone.no_root.0, tt))
-
-    pub right_root : IsSome (held_of 0 k1.log.holdings.held)
-    right_root = subst IsSome (sym (ap (held_of 0) held1 ∙ (ap (λ b. cond b (Some gone.high) (held_of 0 (gone.upper ∷ []))) (ne_eqb gone.high.node 0 (λ e. gone.no_root.1 (sym gone.right ∙ e))) ∙ found_head 0 gone.upper [] gone.root))) refl
 
     pub right_held : IsSome (held_of x.right.node k1.log.holdings.held)
     right_held = subst IsSome (sym (ap (held_of x.right.node) held1 ∙ found_head x.right.node gone.high (gone.upper ∷ []) gone.right)) refl
@@ -54,7 +53,7 @@ module _ (x : Siblings) (k : CallerData) (gone : HoldsSunk x k.log.holdings) whe
     right_is_out = subst (λ os. IsTrue (is_among os x.right.node)) (sym back.out) gone.right_out
 
     module _ (k2 : CallerData) (again : ReturnsNode x.right.node k1 k2) where
-      held2 : k2.log.holdings.held ≡ gone.upper ∷ []
+      pub held2 : k2.log.holdings.held ≡ gone.upper ∷ []
       held2 = again.held ∙ (ap (without_lock x.right.node) held1 ∙ without_low true gone.high gone.upper [] x.right.node gone.right (upper_far x.right.node gone.no_root.1) tt)
 
       out2 : k2.log.holdings.out ≡ []
@@ -87,3 +86,58 @@ module _ (x : Siblings) (k : CallerData) (gone : HoldsSunk x k.log.holdings) whe
             level = hs.level;
             spends = steps_after 2 0 2 k0 k2 k3 (omega arith) (steps_after 1 1 2 k0 k1 k2 (omega arith) (steps_after 0 1 1 k0 k k1 (omega arith) (spends_same k0 k steps) back.spends) again.spends) (loaded_none 0 2 found k2 k3 loads);
           })
+
+-- a child was lost, and the other one let go of
+module _ (x : Siblings) (why : Busy) (k k1 : CallerData) (gone : HoldsSunk x k1.log.holdings) (steps : StepsOnNodes k k1) (root : x.above.at.node ≡ 0) where
+  beside : IsBeside x.above.at.node x.above.root_changed []
+  beside = subst (λ n. IsBeside n x.above.root_changed []) (sym root) refl
+
+  module _ (k2 : CallerData) (keeps : KeepsOut x.left.node why k1 k2) where
+    held_lost : k2.log.holdings.held ≡ gone.high ∷ gone.upper ∷ []
+    held_lost = held1 x k1 gone (as_given x.left.node k1 k2) (as_returned x.left.node why k1 k2 keeps)
+
+    pub left_lost_may : MayGo x.right.node true k2.log.holdings
+    left_lost_may = record {
+      lock = gone.high;
+      found = ap (held_of x.right.node) held_lost ∙ found_head x.right.node gone.high (gone.upper ∷ []) gone.right;
+      stored = λ e. absurd (true≢false e);
+      settled = subst HaveSettled (sym held_lost) (gone.right_spells, (gone.spells, tt));
+    }
+
+    pub left_lost_surplus : 1 < surplus k → 0 < surplus k2
+    left_lost_surplus some = surplus_steps 1 k k2 1 (steps_after 0 1 1 k k1 k2 (omega arith) (spends_same k k1 steps) keeps.spends) (omega (arith, some))
+
+    pub left_lost : (k3 : CallerData) → LetsGo x.right.node k2 k3 → LeavesWay x why k k3
+    left_lost k3 goes = record {
+      lost = keeps.lost;
+      cause = found_between why k k1 k2 k3 steps.loads keeps.cause goes.steps.loads;
+      spends = steps_after 1 1 2 k k2 k3 (omega arith) (steps_after 0 1 1 k k1 k2 (omega arith) (spends_same k k1 steps) keeps.spends) goes.steps;
+      way = record {
+        lock = gone.upper;
+        above = [];
+        held = goes.held ∙ (ap (without_lock x.right.node) held_lost ∙ without_low true gone.high gone.upper [] x.right.node gone.right (upper_far x k1 gone x.right.node gone.no_root.1) tt);
+        node = gone.root ∙ sym root;
+        spells = gone.spells;
+        stored = gone.stored;
+        root = beside;
+      };
+      out = (let two = gone.two_out in let e = ap length (goes.out ∙ keeps.out) in omega (arith, two, e));
+    }
+
+  -- the left one was given back, and the right one lost
+  pub right_lost : (k2 k3 : CallerData) → ReturnsNode x.left.node k1 k2 → KeepsOut x.right.node why k2 k3 → LeavesWay x why k k3
+  right_lost k2 k3 back keeps = record {
+    lost = keeps.lost;
+    cause = found_after why k k2 k3 (keeps_then k k1 k2 steps.loads back.spends.loads) keeps.cause;
+    spends = steps_after 1 1 2 k k2 k3 (omega arith) (steps_after 0 1 1 k k1 k2 (omega arith) (spends_same k k1 steps) back.spends) keeps.spends;
+    way = record {
+      lock = gone.upper;
+      above = [];
+      held = held2 x k1 gone k2 back (as_given x.right.node k2 k3) (as_returned x.right.node why k2 k3 keeps);
+      node = gone.root ∙ sym root;
+      spells = gone.spells;
+      stored = gone.stored;
+      root = beside;
+    };
+    out = (let two = gone.two_out in let e = ap length (keeps.out ∙ back.out) in let fewer = all_but_shorter x.left.node k1.log.holdings.out in omega (arith, two, e, fewer));
+  }

@@ -143,10 +143,10 @@ module _ (laws : SettlingLaws) (law : SplitLaw) (t : Terms) (full : FullChild) (
   reached = full.parent.node ∷ full.child.node ∷ full.fresh ∷ []
 
   abbrev v : Log
-  v = record k'.log { holdings = record { held = w.new ∷ w.lower ∷ w.upper ∷ rest; out = full.fresh ∷ []; head = k'.log.holdings.head } }
+  v = record k'.log { holdings = record { held = w.new ∷ w.lower ∷ w.upper ∷ rest; out = full.fresh ∷ [] } }
 
   v_is : v ≡ k'.log
-  v_is = (λ i. record k'.log { holdings = record { held = sym (w.held ∙ ap (λ xs. w.new ∷ w.lower ∷ w.upper ∷ xs) (rest_is t full pc k h w.tree)) i; out = sym w.out i; head = k'.log.holdings.head } })
+  v_is = (λ i. record k'.log { holdings = record { held = sym (w.held ∙ ap (λ xs. w.new ∷ w.lower ∷ w.upper ∷ xs) (rest_is t full pc k h w.tree)) i; out = sym w.out i } })
 
   abbrev new' : Holding
   new' = settled_lock w.new (parts_for full pc).right

@@ -283,7 +283,7 @@ module _ (t : Terms) (full : FullChild) (pc : ℕ) (k0 : CallerData) (h : HoldsF
     reached = full.parent.node ∷ full.child.node ∷ full.fresh ∷ []
 
     abbrev holding : Holdings
-    holding = record { held = w.new ∷ w.lower ∷ w.upper ∷ h.rest; out = full.fresh ∷ []; head = k'.log.holdings.head }
+    holding = record { held = w.new ∷ w.lower ∷ w.upper ∷ h.rest; out = full.fresh ∷ [] }
 
     far_child : AreFar full.child.node (w.upper ∷ h.rest)
     far_child = (moved full.child.node full.parent.node w.upper w.parent_written.node (λ e. down_up (sym e)), rest_down)

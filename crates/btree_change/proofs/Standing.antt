@@ -138,13 +138,8 @@ module _ (t : Terms) (pc last : ℕ) (parent below : Held) (above : List Holding
     here = pair.child_is;
     higher = higher;
     apart = apart_with tree.contents tree.live tree.lawful t below.content.level pair.lower (pair.upper ∷ above) on.0 on.1 (let z = ap (λ (s : NodeData). s.level) pair.child_is.settled in omega (arith, z)) higher;
-    root = go (pair.lower.node == 0);
     out = pair.out;
   }
-    where
-      go : (z : Bool) → IsSome (cond z (Some pair.lower) (held_of 0 (pair.upper ∷ above)))
-      go true = refl
-      go false = pair.root
 
   -- the words of both are theirs
   pub upper_spelled : (v : Log) → v.holdings ≡ holdings → SpellsHeld parent.node parent.content v

@@ -31,16 +31,9 @@ use Rattle.btree_change.proofs.Releasing.{IsLowest, left_above}
 use Rattle.btree_change.proofs.Spending.{more_spent, spends_all, spends_one, spends_same, steps_after}
 use Rattle.btree_change.proofs.Settling.{found_first}
 
--- the child is found among what is held, and the root above it
+-- the child is found among what is held
 pub child_found : (t : Terms) (pc : ℕ) (parent child : Held) (above held : List Holding) (lower upper : Holding) → held ≡ lower ∷ upper ∷ above → lower.node ≡ child.node → held_of child.node held ≡ Some lower
 child_found t pc parent child above held lower upper is node = ap (held_of child.node) is ∙ subst (λ k. held_of k (lower ∷ upper ∷ above) ≡ Some lower) node (found_first lower (upper ∷ above))
-
-pub root_below : (lower : Holding) (held : List Holding) → IsSome (held_of 0 held) → IsSome (held_of 0 (lower ∷ held))
-root_below lower held root = go (lower.node == 0)
-  where
-    go : (z : Bool) → IsSome (cond z (Some lower) (held_of 0 held))
-    go true = refl
-    go false = root
 
 -- an inner node with room has room for a pair
 pub pairs_room : (s : NodeData) → s.body ≡ Pairs (pairs_of s) → HasSpace s.body → length (pairs_of s) < 15
@@ -75,9 +68,6 @@ module _ (t : Terms) (pc : ℕ) (step : Step) (above : List Holding) (k : Caller
     out = inl pair.out;
   }
 
-  pub root_there : IsSome (held_of 0 k.log.holdings.held)
-  root_there = subst (λ hs. IsSome (held_of 0 hs)) (sym pair.held) (root_below pair.lower (pair.upper ∷ above) pair.root)
-
   -- nothing was split
   pub stays_unsplit : above ≡ drop 2 k.log.holdings.held → HasWayOn step.room pc step.child.content k.log → step.child.content.level < step.parent.content.level → HasSplit t pc step step k k
   stays_unsplit is way less = record {
@@ -103,7 +93,6 @@ module _ (t : Terms) (pc : ℕ) (step : Step) (above : List Holding) (k : Caller
     here = pair.here;
     inner = pair.inner;
     higher = pair.higher;
-    root = pair.root;
     out = stays.out ∙ pair.out;
   }
 
@@ -135,7 +124,6 @@ module _ (t : Terms) (pc : ℕ) (step : Step) (above : List Holding) (k : Caller
       here = pair.here;
       inner = pair.inner;
       higher = subst (AreHigher t step.parent.content.level) is pair.higher;
-      root = subst (λ hs. IsSome (held_of 0 (pair.upper ∷ hs))) is pair.root;
       out = stays.out ∙ pair.out;
     };
     way = subst (λ (rs : Receipts). HadNoRoom pc (length rs.own) k1.log.trace.loads) (sym stays.same.receipts) (no_room_now pc k k1 found);
@@ -187,7 +175,6 @@ module _ (t : Terms) (pc : ℕ) (step : Step) (above : List Holding) (k : Caller
           here = s.here;
           inner = let e = level in let i = pair.inner in omega (arith, e, i);
           higher = subst (λ l. AreHigher t l (drop 2 k.log.holdings.held)) (sym level) (subst (AreHigher t step.parent.content.level) is pair.higher);
-          root = subst (λ hs. IsSome (held_of 0 (s.upper ∷ hs))) is (same_root s.upper pair.upper above (s.parent_held.node ∙ (ap (λ (h : Held). h.node) s.parent ∙ sym pair.parent_is.node)) pair.root);
           out = s.out;
         };
         way = s.room;
@@ -197,10 +184,3 @@ module _ (t : Terms) (pc : ℕ) (step : Step) (above : List Holding) (k : Caller
         less = s.lower_level;
         steps = steps_after 0 1 1 k k1 k2 (omega arith) (spends_same k k1 takes.same) (spends_one k1 k2 s.same);
       }
-    where
-      same_root : (a b : Holding) (held : List Holding) → a.node ≡ b.node → IsSome (held_of 0 (b ∷ held)) → IsSome (held_of 0 (a ∷ held))
-      same_root a b held e root = go (b.node == 0) (ap (λ n. n == 0) e) root
-        where
-          go : (z : Bool) → (a.node == 0) ≡ z → IsSome (cond z (Some b) (held_of 0 held)) → IsSome (held_of 0 (a ∷ held))
-          go true e r = ap (λ q. is_some (cond q (Some a) (held_of 0 held))) e
-          go false e r = ap (λ q. is_some (cond q (Some a) (held_of 0 held))) e ∙ r

@@ -64,7 +64,6 @@ pub record KeepsLocks (h : Holding) (before above : List Holding) (v w : Log) : 
   pub stored : h.stored ≡ true → lock.stored ≡ true
   pub kept : (lock.words ≡ h.words) ⊎ (lock.stored ≡ true)
   pub out : w.holdings.out ≡ v.holdings.out
-  pub head : w.holdings.head ≡ v.holdings.head
   pub same : (k : CallerData) → StepsOnNodes (record k { log = v }) (record k { log = w })
 
 edited_above : (n : ℕ) (f : Holding → Holding) (above : List Holding) → AllByRecursion (λ a. a.node ≢ n) above → edited n f above ≡ above
@@ -83,7 +82,7 @@ found_at n (b ∷ before) h above is none = ap (λ z. cond z (Some b) (held_of n
 stored_keeps : (s : NodeData) (n : ℕ) (xs : List Store) (h : Holding) (before above : List Holding) (v : Log) → kind_of_body s.body ≢ 2 → AllByRecursion (IsWanted s) xs → h.node ≡ n → AllByRecursion (λ a. a.node ≢ n) before → AllByRecursion (λ a. a.node ≢ n) above → v.holdings.held ≡ before ++ h ∷ above
     → KeepsLocks h before above v (after_node_stores n xs v)
 unfolding after_node_stores
-stored_keeps s n [] h before above v kind wanted is none far held = record { lock = h; held = held; node = refl; mark = refl; settled = refl; stored = λ e. e; kept = inl refl; out = refl; head = refl; same = λ k. steps_none (record k { log = v }) }
+stored_keeps s n [] h before above v kind wanted is none far held = record { lock = h; held = held; node = refl; mark = refl; settled = refl; stored = λ e. e; kept = inl refl; out = refl; same = λ k. steps_none (record k { log = v }) }
 stored_keeps s n (x ∷ xs) h before above v kind wanted is none far held =
     let plain : after_node_store n x.at x.value v ≡ stored_log n x.at x.value v = ap (λ b. if b then settle None (stored_log n x.at x.value v) else stored_log n x.at x.value v) (no_free s x n v kind wanted.0) in
     let one : (stored_log n x.at x.value v).holdings.held ≡ before ++ store_in x.at x.value h ∷ above = ap (edited n (store_in x.at x.value)) held ∙ edited_at n (store_in x.at x.value) before h above is none far in
@@ -97,7 +96,6 @@ stored_keeps s n (x ∷ xs) h before above v kind wanted is none far held =
       stored = λ _. rest.stored refl;
       kept = inr (rest.stored refl);
       out = rest.out;
-      head = rest.head;
       same = λ k. steps_then (record k { log = v }) (record k { log = stored_log n x.at x.value v }) (record k { log = after_node_stores n xs (stored_log n x.at x.value v) })
           (record { table = refl; left = refl; terms = refl; role = refl; past = refl; budget = refl; receipts = refl; loader = refl; made = refl; lineage = refl; loads = none_more v.trace.loads }) (rest.same k);
     })

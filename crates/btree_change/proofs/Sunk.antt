@@ -60,6 +60,11 @@ but_first a b far = (λ i. cond (not (eq-eqb a a refl i)) (a ∷ cond (not (ne_e
 but_second : (a b : ℕ) → a ≢ b → all_but b (a ∷ b ∷ []) ≡ a ∷ []
 but_second a b far = (λ i. cond (not (ne_eqb a b far i)) (a ∷ cond (not (eq-eqb b b refl i)) (b ∷ []) []) (cond (not (eq-eqb b b refl i)) (b ∷ []) []))
 
+-- both of them are two
+two_left : (l r : ℕ) (o : Bool) → length (both_left o true true l r) ≡ 2
+two_left l r true = refl
+two_left l r false = refl
+
 pub without_two : (l r : ℕ) (o : Bool) → l ≢ r → IsTrue (is_among (both_left o true true l r) l) × IsTrue (is_among (all_but l (both_left o true true l r)) r) × (all_but r (all_but l (both_left o true true l r)) ≡ [])
 without_two l r true far = (here l (r ∷ []), subst (λ os. IsTrue (is_among os r)) (sym (but_first l r far)) (here r []), ap (all_but r) (but_first l r far) ∙ but_one r)
 without_two l r false far = (later l r (l ∷ []) (here l []), subst (λ os. IsTrue (is_among os r)) (sym (but_second r l (λ e. far (sym e)))) (here r []), ap (all_but r) (but_second r l (λ e. far (sym e))) ∙ but_one r)
@@ -252,6 +257,7 @@ module _ (t : Terms) (x : Siblings) (k k1 k2 : CallerData) (seen seen' : ℕ) (h
                 left_out = subst (λ os. IsTrue (is_among os l)) (sym out_is) outs.0;
                 right_out = subst (λ os. IsTrue (is_among (all_but l os) r)) (sym out_is) outs.1;
                 no_other = ap (λ os. all_but r (all_but l os)) out_is ∙ outs.2;
+                two_out = ap length out_is ∙ two_left l r hs.left_first;
               }
 
           pub sunk_steps : StepsOnNodes k k6

@@ -118,22 +118,22 @@ module _ (law : TakeLaw) (laws : LeafLaws) (t : Terms) (n base : ℕ) (s : NodeD
   stays = beside_stays n written.lock.node root_changed path.above node path.root
 
   abbrev exact : Log
-  exact = record k2.log { holdings = record { held = written.lock ∷ path.above; out = []; head = k2.log.holdings.head } }
+  exact = record k2.log { holdings = record { held = written.lock ∷ path.above; out = [] } }
 
   exact_is : exact ≡ k2.log
-  exact_is = (λ i. record k2.log { holdings = record { held = sym written.held i; out = sym (written.out ∙ path.out) i; head = k2.log.holdings.head } })
+  exact_is = (λ i. record k2.log { holdings = record { held = sym written.held i; out = sym (written.out ∙ path.out) i } })
 
   pub may_take : 0 < k2.log.budget.allowance → MayCommit t (update.Deregister base) k2.log
   may_take due = record {
     due = due;
     member = tt;
     lawful = subst (λ z. IsTrue (is_lawful z (Some (update.Deregister base)))) exact_is
-        (lawful_commit laws k2.log k2.log.holdings.head (update.Deregister base) written.lock path.above now marked written.spells stays in_leaf level tree.contents tree.live after here after_here change);
+        (lawful_commit laws k2.log (update.Deregister base) written.lock path.above now marked written.spells stays in_leaf level tree.contents tree.live after here after_here change);
   }
 
-  settles : settle (Some (update.Deregister base)) k2.log ≡ record k2.log { holdings = record { held = record written.lock { settled = now; mark = Some (frame_of now) } ∷ path.above; out = []; head = k2.log.holdings.head } }
+  settles : settle (Some (update.Deregister base)) k2.log ≡ record k2.log { holdings = record { held = record written.lock { settled = now; mark = Some (frame_of now) } ∷ path.above; out = [] } }
   settles = ap (settle (Some (update.Deregister base))) (sym exact_is)
-      ∙ settled_after laws k2.log k2.log.holdings.head (update.Deregister base) written.lock path.above now marked written.spells stays in_leaf level tree.contents tree.live after here after_here change
+      ∙ settled_after laws k2.log (update.Deregister base) written.lock path.above now marked written.spells stays in_leaf level tree.contents tree.live after here after_here change
 
   differs : s ≢ now
   differs e = none-some m (sym (none_without base (entries_of s)) ∙ (ap (λ (z : NodeData). at_base base (entries_of z)) (sym e) ∙ has))
@@ -150,7 +150,7 @@ module _ (law : TakeLaw) (laws : LeafLaws) (t : Terms) (n base : ℕ) (s : NodeD
 
   pub take_so : (k3 : CallerData) (found number : ℕ) → StepsOnNodes k k2 → k.log.terms ≡ t → AfterCommit (update.Deregister base) found k2.log k3.log → number ≡ length k3.log.past → k3 ≡ record k2 { log = k3.log } → TakesMember t base n root_changed number m k k3
   take_so k3 found number steps terms (before, r, (tells, done, is)) counted rest =
-      let log : k3.log ≡ after_update (update.Deregister base) before r (record k2.log { holdings = record { held = record written.lock { settled = now; mark = Some (frame_of now) } ∷ path.above; out = []; head = k2.log.holdings.head } }) = is ∙ ap (after_update (update.Deregister base) before r) settles in
+      let log : k3.log ≡ after_update (update.Deregister base) before r (record k2.log { holdings = record { held = record written.lock { settled = now; mark = Some (frame_of now) } ∷ path.above; out = [] } }) = is ∙ ap (after_update (update.Deregister base) before r) settles in
       let past : k3.log.past ≡ before ++ update.Deregister base ∷ [] = ap (λ z. z.past) log in
       let member = registered (state_after (start k2.log.terms) before).registered tells.entries in
       let answer : r ≡ receipt.Deregister base (removed.Done number m) = done_is (length before + 1) (state_after (start k2.log.terms) before).registered r member done ∙ ap (λ j. receipt.Deregister base (removed.Done j m)) (sym (counted ∙ (ap length past ∙ length-append before (update.Deregister base ∷ [])))) in
@@ -173,6 +173,6 @@ module _ (law : TakeLaw) (laws : LeafLaws) (t : Terms) (n base : ℕ) (s : NodeD
           spells = written.spells;
           stored = written.stored s path.here.spells differs;
           root = path.root;
-          out = ap (λ z. z.holdings.out) log;
         };
+        out = ap (λ z. z.holdings.out) log;
       }

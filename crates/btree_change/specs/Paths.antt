@@ -1,6 +1,6 @@
 -- The way of an update down the tree, by what its caller holds.
 use Rattle.std.specs.Prelude.{◌≡◌, ℕ, ◌-◌, ◌<◌, ◌≤◌, Bool, List, [], ◌∷◌, IfSome}
-use Rattle.std.specs.Prelude.{IsSome, Contains}
+use Rattle.std.specs.Prelude.{IsSome, Contains, length}
 use Rattle.tree_shape.specs.NodeData.{NodeData}
 use Rattle.tree_shape.specs.Trees.{Branch, branches}
 use Rattle.word_rule.specs.CallerData.{CallerData}
@@ -9,6 +9,8 @@ use Rattle.word_rule.specs.declared.log.Holdings.{Holdings}
 use Rattle.word_rule.specs.declared.log.Terms.{Terms}
 use Rattle.word_rule.specs.NodeTells.{IsLiveNode}
 use Rattle.word_rule.specs.Spelling.{SpellsNode}
+use Rattle.node_store.specs.declared.locking.Busy.{Busy}
+use Rattle.node_store.specs.declared.locking.Busy.TheVariants as busy
 use Rattle.btree_change.specs.Loads.{KeepsLoads}
 
 -- The lock of a live node that has settled: the node is this one, and a word was stored under the
@@ -35,6 +37,16 @@ AreHigher t level (h ∷ held) =
 -- no node is held, and none is out
 abbrev pub HoldsNothing : Holdings → Type 0
 HoldsNothing holdings = (holdings.held ≡ []) × (holdings.out ≡ [])
+
+-- what is out where an update gave up: none, but for at most two nodes that it couldn't put back
+abbrev pub IsLeftOut : Busy → List ℕ → Type 0
+IsLeftOut (busy.Taken id) out = out ≡ []
+IsLeftOut busy.Raced out = out ≡ []
+IsLeftOut busy.Lost out = length out ≤ 2
+
+-- no node is held then
+abbrev pub HoldsLeftOver : Busy → Holdings → Type 0
+HoldsLeftOver why holdings = (holdings.held ≡ []) × IsLeftOut why holdings.out
 
 -- an address leads from a node to this child: it is one of the node's, and its fences hold it
 abbrev pub HasChildFor : NodeData → ℕ → ℕ → Type 0

@@ -36,7 +36,7 @@ pub record HoldsBesideRoot (t : Terms) (n : ℕ) (s : NodeData) (changed root_ch
   pub root : IsBeside n root_changed above
   pub out : holdings.out ≡ []
 
--- The same of the locks alone.
+-- The locks of a node and of the root beside it, where that is another.
 pub record HoldsLocks (n : ℕ) (changed root_changed : Bool) (holdings : Holdings) : Type 0 where
   pub lock : Holding
   pub above : List Holding
@@ -45,7 +45,6 @@ pub record HoldsLocks (n : ℕ) (changed root_changed : Bool) (holdings : Holdin
   pub spells : SpellsNode lock.words lock.settled
   pub stored : lock.stored ≡ changed
   pub root : IsBeside n root_changed above
-  pub out : holdings.out ≡ []
 
 -- a node has more than the fewest pairs or entries, so that one may go
 abbrev pub IsSpareAs : Body → Type 0

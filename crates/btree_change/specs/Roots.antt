@@ -5,8 +5,9 @@ use Rattle.reg_model.specs.declared.answer.Receipt.TheVariants as receipt
 use Rattle.reg_model.specs.declared.span.Member.{Member}
 use Rattle.word_rule.specs.CallerData.{CallerData}
 use Rattle.word_rule.specs.declared.log.Terms.{Terms}
+use Rattle.node_store.specs.declared.locking.Busy.{Busy}
 use Rattle.btree_change.specs.Insertion.{IsRightInsertion, taken_by}
-use Rattle.btree_change.specs.Paths.{HoldsNothing}
+use Rattle.btree_change.specs.Paths.{HoldsLeftOver, HoldsNothing}
 use Rattle.btree_change.specs.Releases.{Spends}
 use Rattle.btree_change.specs.Stands.{SpendsCall}
 
@@ -17,7 +18,7 @@ pub record EndsInsertion (t : Terms) (m : Member) (answer : Inserted) (most : �
   pub call : SpendsCall (receipt.Register m answer ∷ []) (taken_by answer) most k k'
   pub nothing : HoldsNothing k'.log.holdings
 
--- It gave up, and nothing is held.
-pub record GivesUpWhole (most : ℕ) (k k' : CallerData) : Type 0 where
+-- It gave up, and nothing is held; no node is out but one that was lost.
+pub record GivesUpWhole (most : ℕ) (why : Busy) (k k' : CallerData) : Type 0 where
   pub steps : Spends most k k'
-  pub nothing : HoldsNothing k'.log.holdings
+  pub nothing : HoldsLeftOver why k'.log.holdings

@@ -17,7 +17,10 @@ use Rattle.btree_change.specs.declared.sibling.Child.{Child}
 use Rattle.btree_change.specs.declared.sibling.Siblings.{Siblings}
 use Rattle.btree_change.specs.declared.descent.Held.{Held}
 use Rattle.btree_change.specs.Releases.{Spends}
-use Rattle.btree_change.specs.Removing.{HoldsBesideRoot, IsBeside, IsSpare}
+use Rattle.node_store.specs.Locking.{FoundBusy}
+use Rattle.node_store.specs.declared.locking.Busy.{Busy}
+use Rattle.node_store.specs.declared.locking.Busy.TheVariants as busy
+use Rattle.btree_change.specs.Removing.{HoldsBesideRoot, HoldsLocks, IsBeside, IsSpare}
 use Rattle.btree_change.specs.Splits.{IsHeldAs}
 
 -- A node is held under another, which has settled, and beside that the root; no node is out.
@@ -174,11 +177,30 @@ pub record HoldsSunk (x : Siblings) (holdings : Holdings) : Type 0 where
   pub left_out : IsTrue (is_among holdings.out x.left.node)
   pub right_out : IsTrue (is_among (all_but x.left.node holdings.out) x.right.node)
   pub no_other : all_but x.right.node (all_but x.left.node holdings.out) ≡ []
+  pub two_out : length holdings.out ≡ 2
 
 -- what giving back asks of each lock: that of the node is unmarked, and the others have settled
 abbrev pub IsGoneOrSettled : ℕ → Holding → Type 0
 IsGoneOrSettled n h =
     (h.node ≡ n → h.mark ≡ None) × (h.node ≢ n → SpellsNode h.words h.settled)
+
+-- A node couldn't be put back: it was let go of and stays out, and all else that is held is as it
+-- was.
+pub record KeepsOut (n : ℕ) (why : Busy) (k k' : CallerData) : Type 0 where
+  pub lost : why ≡ busy.Lost
+  pub cause : FoundBusy why k k'
+  pub spends : Spends 1 k k'
+  pub held : k'.log.holdings.held ≡ without_lock n k.log.holdings.held
+  pub out : k'.log.holdings.out ≡ k.log.holdings.out
+
+-- A node that left the tree was lost. The way above is held still, changed; the two children are
+-- not.
+pub record LeavesWay (x : Siblings) (why : Busy) (k k' : CallerData) : Type 0 where
+  pub lost : why ≡ busy.Lost
+  pub cause : FoundBusy why k k'
+  pub spends : Spends 2 k k'
+  pub way : HoldsLocks x.above.at.node true x.above.root_changed k'.log.holdings
+  pub out : length k'.log.holdings.out ≤ 2
 
 -- A node was given back, and all else that is held is as it was.
 pub record ReturnsNode (n : ℕ) (k k' : CallerData) : Type 0 where

@@ -14,15 +14,18 @@ use Rattle.word_rule.specs.Spelling.{SpellsNode}
 use Rattle.word_rule.specs.declared.log.Holding.{Holding}
 use Rattle.word_rule.specs.declared.log.Holdings.{Holdings}
 use Rattle.word_rule.specs.declared.log.Terms.{Terms}
+use Rattle.node_store.specs.Locking.{FoundBusy}
 use Rattle.node_store.specs.declared.locking.Busy.{Busy}
+use Rattle.node_store.specs.declared.locking.Busy.TheVariants as busy
 use Rattle.btree_change.specs.declared.descent.Held.{Held}
 use Rattle.btree_change.specs.declared.split.FullChild.{FullChild}
 use Rattle.btree_change.specs.declared.split.Parts.{Parts}
 use Rattle.btree_change.specs.declared.split.Split.{Split}
 use Rattle.btree_change.specs.declared.lift.FullRoot.{FullRoot}
 use Rattle.btree_change.specs.declared.lift.TwoNodes.{TwoNodes}
-use Rattle.btree_change.specs.Loads.{FoundNoRoom, FoundTaken}
-use Rattle.btree_change.specs.Paths.{AreHigher, HasChildFor, IsSettledLock, StepsOnNodes}
+use Rattle.btree_change.specs.Loads.{FoundNoRoom}
+use Rattle.btree_change.specs.Paths.{AreHigher, HasChildFor, IsLeftOut, IsSettledLock}
+use Rattle.btree_change.specs.Paths.{StepsOnNodes}
 
 -- The lock of a node that was taken off the free list: its words spell a free one.
 pub record IsFreeLock (n : ℕ) (h : Holding) : Type 0 where
@@ -158,12 +161,12 @@ pub record StaysHeld (k k' : CallerData) : Type 0 where
   pub same : StepsOnNodes k k'
 
 -- What comes of the search for a free node: the node; or none, with the cause among the loads; or
--- that the first one was found locked, by a caller that may give up: its lock.
+-- why it was given up, by a caller that may give up.
 abbrev pub IsRoomFor : Bool → ℕ → CallerData → CallerData → Result (Option ℕ) Busy → Type 0
 IsRoomFor gives_up pc k k' (Ok (Some fresh)) = TakesRoom fresh k k'
 IsRoomFor gives_up pc k k' (Ok None) = StaysHeld k k' × FoundNoRoom pc k k'
-IsRoomFor gives_up pc k k' (Err busy) =
-    StaysHeld k k' × (gives_up ≡ true) × FoundTaken busy.lock k k'
+IsRoomFor gives_up pc k k' (Err why) =
+    StaysHeld k k' × (gives_up ≡ true) × FoundBusy why k k'
 
 -- The full root is held, and two free nodes that are out.
 pub record HoldsFullRoot (t : Terms) (full : FullRoot) (pc : ℕ) (holdings : Holdings) : Type 0 where
@@ -248,10 +251,17 @@ pub record GivesBack (k k' : CallerData) : Type 0 where
   pub out : k'.log.holdings.out ≡ []
   pub same : StepsOnNodes (with_release_less k) k'
 
+-- It couldn't be given back, and stays out: what was held below it is held still.
+pub record LosesFree (why : Busy) (k k' : CallerData) : Type 0 where
+  pub lost : why ≡ busy.Lost
+  pub cause : FoundBusy why k k'
+  pub held : k'.log.holdings.held ≡ drop 1 k.log.holdings.held
+  pub out : k'.log.holdings.out ≡ k.log.holdings.out
+  pub same : StepsOnNodes (with_release_less k) k'
+
 -- What is held stays so, for at most a release.
 pub record KeepsHeld (k k' : CallerData) : Type 0 where
   pub held : k'.log.holdings.held ≡ k.log.holdings.held
-  pub out : k'.log.holdings.out ≡ k.log.holdings.out
   pub same : StepsOnNodes k k' ⊎ StepsOnNodes (with_release_less k) k'
 
 -- Two free nodes were taken, and are held and out.
@@ -268,12 +278,13 @@ pub record TakesTwo (two : TwoNodes) (k k' : CallerData) : Type 0 where
   pub same : StepsOnNodes k k'
 
 -- What comes of the search for two free nodes for the full root: both, where it may rise; or none,
--- with the cause among the loads; or that one was found locked, by a caller that may give up: its
--- lock.
+-- with the cause among the loads; or why it was given up, by a caller that may give up. No node is
+-- out then, but where the first one was lost.
 abbrev pub IsRoomForRoot
     : Bool → Held → ℕ → CallerData → CallerData → Result (Option TwoNodes) Busy → Type 0
 IsRoomForRoot gives_up root pc k k' (Ok (Some two)) =
     (root.content.level < HIGHEST_LEVEL) × TakesTwo two k k'
 IsRoomForRoot gives_up root pc k k' (Ok None) = KeepsHeld k k' × FoundNoRoom pc k k'
-IsRoomForRoot gives_up root pc k k' (Err busy) =
-    KeepsHeld k k' × (gives_up ≡ true) × FoundTaken busy.lock k k'
+    × (k'.log.holdings.out ≡ k.log.holdings.out)
+IsRoomForRoot gives_up root pc k k' (Err why) = KeepsHeld k k' × (gives_up ≡ true)
+    × FoundBusy why k k' × IsLeftOut why k'.log.holdings.out

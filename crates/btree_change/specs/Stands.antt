@@ -1,7 +1,7 @@
 -- Where an insertion stands on its way down, and what each part of it makes of its caller.
 use Rattle.std.specs.Prelude.{◌≡◌, ℕ, ◌+◌, ◌-◌, ◌*◌, ◌^◌, ◌<◌, ◌≤◌, false, ◌||◌, List, [], ◌∷◌}
 use Rattle.std.specs.Prelude.{◌++◌}
-use Rattle.std.specs.Prelude.{length, drop, nat_le, Option, Some, None, IsSome}
+use Rattle.std.specs.Prelude.{length, drop, nat_le, Option, Some, None}
 use Rattle.std.specs.Prelude.{slice_get, ◌⊎◌}
 use Rattle.reg_model.specs.declared.answer.Receipt.{Receipt}
 use Rattle.reg_model.specs.declared.answer.Receipt.TheVariants as receipt
@@ -9,7 +9,6 @@ use Rattle.reg_model.specs.declared.span.Member.{Member}
 use Rattle.tree_shape.specs.NodeData.{NodeData, IsInFences, frame_of, pairs_of, slot_for}
 use Rattle.tree_shape.specs.declared.pair.Pair.{Pair}
 use Rattle.word_rule.specs.CallerData.{CallerData}
-use Rattle.word_rule.specs.Held.{held_of}
 use Rattle.word_rule.specs.Spelling.{SpellsNode}
 use Rattle.word_rule.specs.TreeRefusals.{HadNoRoom}
 use Rattle.word_rule.specs.declared.log.Holding.{Holding}
@@ -33,7 +32,7 @@ use Rattle.btree_change.specs.Spines.{AreApart, Climbs}
 use Rattle.btree_change.specs.Splits.{HasSpace, IsHeldAs}
 
 -- A caller holds a node, and above it live nodes that have settled, each of a higher level than the
--- one below it, up to the root. No node is out.
+-- one below it. No node is out.
 pub record StandsAt (t : Terms) (at : Held) (holdings : Holdings) : Type 0 where
   pub within : at.node < t.nodes
   pub lock : Holding
@@ -42,7 +41,6 @@ pub record StandsAt (t : Terms) (at : Held) (holdings : Holdings) : Type 0 where
   pub here : IsHeldAs t at lock
   pub higher : AreHigher t at.content.level above
   pub apart : AreApart (lock ∷ above)
-  pub root : IsSome (held_of 0 (lock ∷ above))
   pub out : holdings.out ≡ []
 
 -- A caller holds the root alone, in which nothing was stored.
@@ -181,7 +179,6 @@ pub record HoldsPair (t : Terms) (pc : ℕ) (parent child : Held) (above : List 
   pub here : IsInFences pc child.content
   pub inner : 0 < parent.content.level
   pub higher : AreHigher t parent.content.level above
-  pub root : IsSome (held_of 0 (upper ∷ above))
   pub out : holdings.out ≡ []
 
 -- A node is held under its parent; the node above the parent and the way on are known.

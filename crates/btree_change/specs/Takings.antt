@@ -27,6 +27,7 @@ pub record TakesMember (t : Terms) (base : ℕ) (n : ℕ) (root_changed : Bool) 
   }
   pub budget : k'.log.budget ≡ record k.log.budget { allowance = k.log.budget.allowance - 1 }
   pub holds : HoldsLocks n true root_changed k'.log.holdings
+  pub out : k'.log.holdings.out ≡ []
 
 -- A removal was refused under the lock of a leaf.
 pub record RefusesBase (t : Terms) (base : ℕ) (answer : Removed) (k k' : CallerData) : Type 0 where

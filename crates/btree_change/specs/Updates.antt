@@ -3,9 +3,9 @@ use Rattle.std.specs.Prelude.{◌≡◌, ℕ, ◌+◌, ◌-◌, ◌≤◌, [], �
 use Rattle.reg_model.specs.declared.answer.Receipt.{Receipt}
 use Rattle.word_rule.specs.CallerData.{CallerData}
 use Rattle.word_rule.specs.Places.{CALL_CREDIT}
-use Rattle.word_rule.specs.declared.log.LockId.{LockId}
-use Rattle.btree_change.specs.Loads.{FoundTaken}
-use Rattle.btree_change.specs.Paths.{HoldsNothing}
+use Rattle.node_store.specs.declared.locking.Busy.{Busy}
+use Rattle.node_store.specs.Locking.{FoundBusy}
+use Rattle.btree_change.specs.Paths.{HoldsLeftOver, HoldsNothing}
 
 -- An update call that was begun was answered with this receipt, and took so many of the allowance:
 -- one where it was accepted. No lock is held and no node is out. Nothing else of the caller changed
@@ -41,10 +41,11 @@ pub record RefusesUpdate (r : Receipt) (k k' : CallerData) : Type 0 where
     own = k.log.receipts.own ++ r ∷ [];
   }
 
--- This lock was found taken, and the update gave up: the call is still begun, and no receipt was
--- taken. Nodes that were split or joined on the way stay so, which changes no entry.
-pub record GivesUp (id : LockId) (k k' : CallerData) : Type 0 where
-  pub cause : FoundTaken id k k'
+-- The update gave up, and its loads show why: the call is still begun, and no receipt was taken.
+-- Nodes that were split or joined on the way stay so, which changes no entry. No lock is held, and
+-- no node is out but one that was lost.
+pub record GivesUp (why : Busy) (k k' : CallerData) : Type 0 where
+  pub cause : FoundBusy why k k'
   pub table : k'.table ≡ k.table
   pub left : k'.left ≡ k.left
   pub terms : k'.log.terms ≡ k.log.terms
@@ -56,4 +57,4 @@ pub record GivesUp (id : LockId) (k k' : CallerData) : Type 0 where
   pub lineage : k'.log.lineage ≡ k.log.lineage
   pub allowance : k'.log.budget.allowance ≡ k.log.budget.allowance
   pub credit : k.log.budget.credit ≤ k'.log.budget.credit + CALL_CREDIT
-  pub nothing : HoldsNothing k'.log.holdings
+  pub nothing : HoldsLeftOver why k'.log.holdings

@@ -11,7 +11,8 @@ ghost use Rattle.word_rule.specs.CallerData.{due, surplus};
 ghost use Rattle.word_rule.specs.NodeTells.{IsLiveNode};
 ghost use Rattle.word_rule.specs.TreeRefusals.{HadNoRoom};
 ghost use Rattle.node_store.specs.Holding.{SpellsHeld};
-ghost use Rattle.btree_change.specs.Loads.{FoundTaken, KeepsLoads};
+ghost use Rattle.node_store.specs.Locking.{FoundBusy};
+ghost use Rattle.btree_change.specs.Loads.{KeepsLoads};
 ghost use Rattle.btree_change.specs.Paths.{StepsOnNodes};
 ghost use Rattle.btree_change.specs.Insertion.{IfFull, RefusesMember};
 ghost use Rattle.btree_change.specs.Spines.{HoldsLeafPair, HoldsNext};
@@ -214,7 +215,7 @@ pub(crate) fn beyond_leaf<L: Locking>(
         (HasCause far.room member.now.span.first me.old me.new)) }
     ensures busy { IfErr result (λ e. GivesUpBelow (releases_at 0) me.old me.new
         × (L.gives_up ≡ true)) }
-    ensures cause { IfErr result (λ e. FoundTaken e.lock me.old me.new) }
+    ensures cause { IfErr result (λ e. FoundBusy e me.old me.new) }
 {
     let above = Ancestor {
         node: far.beyond.node,

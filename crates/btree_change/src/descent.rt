@@ -4,9 +4,8 @@ ghost use Rattle.tree_shape.specs.NodeData.{InOrder, IsInFences, IsInner};
 ghost use Rattle.word_rule.specs.CallerData.{surplus};
 ghost use Rattle.word_rule.specs.Callers.{IsIdle};
 ghost use Rattle.node_store.specs.Holding.{SpellsHeld};
-ghost use Rattle.node_store.specs.Locking.{IsBusy, Locks};
+ghost use Rattle.node_store.specs.Locking.{FoundBusy, IsBusy, Locks};
 ghost use Rattle.node_store.specs.Outlines.{OnlyLoads};
-ghost use Rattle.btree_change.specs.Loads.{FoundTaken};
 ghost use Rattle.btree_change.specs.Paths.{HasChildFor, HoldsNothing, StepsOnNodes};
 ghost use Rattle.btree_change.specs.Releases.{LetsGo, MayGo};
 ghost use Rattle.btree_change.specs.Stands.{HoldsRoot};
@@ -35,14 +34,14 @@ pub(crate) fn take_node<L: Locking>(
     requires table { me.old.table ≡ words.now.table }
     requires inside { node < words.now.terms.nodes }
     ensures ok { OnOk result (Locks (LockId.Node node) me.old me.new) }
-    ensures busy { IfErr result (λ e. (e.lock ≡ LockId.Node node) × IsBusy e.lock me.old me.new
-        × (L.gives_up ≡ true)) }
+    ensures busy { IfErr result (λ e. (e ≡ Busy.Taken (LockId.Node node))
+        × IsBusy (LockId.Node node) me.old me.new × (L.gives_up ≡ true)) }
 {
     let lock = LockId::Node { node };
     if locking.take(words, me, lock) {
         Ok(())
     } else {
-        Err(Busy { lock })
+        Err(Busy::Taken { lock })
     }
 }
 
@@ -90,7 +89,7 @@ pub(crate) fn at_root<L: Locking>(locking: &L, words: &Words, me: &mut Caller) -
     requires idle { IsIdle me.old.log }
     ensures ok { IfOk result (λ at. HoldsRoot words.now.terms at me.new.log.holdings) }
     ensures busy { IfErr result (λ e. HoldsNothing me.new.log.holdings × (L.gives_up ≡ true)) }
-    ensures cause { IfErr result (λ e. FoundTaken e.lock me.old me.new) }
+    ensures cause { IfErr result (λ e. FoundBusy e me.old me.new) }
     ensures same { StepsOnNodes me.old me.new }
     ensures terms { me.old.log.terms ≡ words.now.terms }
 {

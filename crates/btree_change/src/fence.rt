@@ -11,7 +11,8 @@ ghost use Rattle.word_rule.specs.NodeTells.{IsLiveNode};
 ghost use Rattle.node_store.specs.Holding.{SpellsHeld};
 ghost use Rattle.btree_change.specs.Insertion.{IfFull, RefusesMember};
 ghost use Rattle.btree_change.specs.Paths.{StepsOnNodes};
-ghost use Rattle.btree_change.specs.Loads.{FoundTaken, KeepsLoads};
+ghost use Rattle.node_store.specs.Locking.{FoundBusy};
+ghost use Rattle.btree_change.specs.Loads.{KeepsLoads};
 ghost use Rattle.btree_change.specs.Spines.{HoldsLeafPair, HoldsNext, HoldsWay};
 ghost use Rattle.btree_change.specs.Spines.{MovesFence};
 
@@ -57,7 +58,7 @@ pub(crate) fn next_leaf<L: Locking>(
         place)) }
     ensures busy { IfErr result (λ e. (me.new.log.holdings ≡ me.old.log.holdings)
         × (L.gives_up ≡ true)) }
-    ensures cause { IfErr result (λ e. FoundTaken e.lock me.old me.new) }
+    ensures cause { IfErr result (λ e. FoundBusy e me.old me.new) }
     ensures same { StepsOnNodes me.old me.new }
 {
     // By this load it is known of which tree the way is.

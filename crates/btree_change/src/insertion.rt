@@ -6,7 +6,7 @@ ghost use Rattle.tree_shape.specs.NodeData.{entries_of, place_for};
 ghost use Rattle.word_rule.specs.CallerData.{due, surplus};
 ghost use Rattle.word_rule.specs.Callers.{IsIdle};
 ghost use Rattle.word_rule.specs.Places.{CALL_CREDIT};
-ghost use Rattle.btree_change.specs.Loads.{FoundTaken};
+ghost use Rattle.node_store.specs.Locking.{FoundBusy};
 ghost use Rattle.btree_change.specs.Insertion.{AnswersInsertion, IfFull, Inserts, TriesInsertion};
 ghost use Rattle.btree_change.specs.Paths.{HoldsNothing};
 ghost use Rattle.btree_change.specs.Updates.{GivesUp};
@@ -84,7 +84,7 @@ fn in_free_leaf<L: Locking>(
         (HasCause stand.room placed.now.member.span.first me.old me.new)) }
     ensures busy { IfErr result (λ e. GivesUpBelow (releases_at 0) me.old me.new
         × (L.gives_up ≡ true)) }
-    ensures cause { IfErr result (λ e. FoundTaken e.lock me.old me.new) }
+    ensures cause { IfErr result (λ e. FoundBusy e me.old me.new) }
 {
     match stand.beyond {
         Some(beyond) => {
@@ -128,7 +128,7 @@ fn in_leaf<L: Locking>(
         (HasCause stand.room member.now.span.first me.old me.new)) }
     ensures busy { IfErr result (λ e. GivesUpBelow (releases_at 0) me.old me.new
         × (L.gives_up ≡ true)) }
-    ensures cause { IfErr result (λ e. FoundTaken e.lock me.old me.new) }
+    ensures cause { IfErr result (λ e. FoundBusy e me.old me.new) }
 {
     let first = member.span.first();
     let begun = begun_in(words, me, stand.at.node, &stand.at.content, first);
@@ -169,7 +169,7 @@ pub(crate) fn below<L: Locking>(
     ensures busy { IfErr result
         (λ e. GivesUpBelow (releases_at stand.at.content.level) me.old me.new
         × (L.gives_up ≡ true)) }
-    ensures cause { IfErr result (λ e. FoundTaken e.lock me.old me.new) }
+    ensures cause { IfErr result (λ e. FoundBusy e me.old me.new) }
 {
     if stand.at.content.level() == 0 {
         return in_leaf(locking, words, me, member, stand);
@@ -192,8 +192,9 @@ pub(crate) fn below<L: Locking>(
 
 /// Registers a member, for an update call that was begun: Done with the next number; Overlap with
 /// the lowest registered member that overlaps it; or Full where a node had to be split and none was
-/// free, or the root stands at its highest. Busy where a lock on the way was found taken and
-/// `locking` gives up: the call is still begun, and no entry was changed.
+/// free, or the root stands at its highest. Busy where `locking` gives up, since a lock on
+/// the way was found taken or the free list moved: the call is still begun, and no entry was
+/// changed.
 pub fn insert_by<L: Locking>(
     locking: &L,
     words: &Words,
@@ -207,7 +208,7 @@ pub fn insert_by<L: Locking>(
     requires payload { member.payload < words.now.terms.payloads }
     ensures answer { IfOk result (λ answer. AnswersInsertion words.now.terms member answer
         me.old me.new) }
-    ensures busy { IfErr result (λ e. GivesUp e.lock me.old me.new × (L.gives_up ≡ true)) }
+    ensures busy { IfErr result (λ e. GivesUp e me.old me.new × (L.gives_up ≡ true)) }
     ensures terms { me.old.log.terms ≡ words.now.terms }
 {
     let _base = member.span.first();
@@ -215,9 +216,9 @@ pub fn insert_by<L: Locking>(
     at_held_root(locking, words, me, &member, root)
 }
 
-/// Registers a member as `insert_by` does, for an update call that was begun, or answers Busy where
-/// a lock on the way is taken: then the call may be tried again. Spent where fewer releases are
-/// left than a try may make.
+/// Registers a member as `insert_by` does, for an update call that was begun, or is Busy where a
+/// lock on the way is taken or the free list moves: then the call may be tried again. Spent where
+/// fewer releases are left than a try may make.
 pub fn try_insert(words: &Words, me: &mut Caller, member: Member) -> Result<Inserted, Busy>
     requires table { me.old.table ≡ words.now.table }
     requires idle { IsIdle me.old.log }
@@ -226,7 +227,7 @@ pub fn try_insert(words: &Words, me: &mut Caller, member: Member) -> Result<Inse
     ensures answer { IfOk result (λ answer. TriesInsertion words.now.terms member
         me.old me.new answer) }
     ensures busy { IfErr result (λ e. (CALL_CREDIT ≤ surplus me.old)
-        × GivesUp e.lock me.old me.new) }
+        × GivesUp e me.old me.new) }
     ensures terms { CALL_CREDIT ≤ surplus me.old → me.old.log.terms ≡ words.now.terms }
 {
     if !me.may_try() {

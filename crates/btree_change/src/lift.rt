@@ -1,5 +1,5 @@
 //! The lift of the full root, which is split with it.
-ghost use Rattle.std.specs.Prelude.{◌≡◌, ◌≢◌, ◌<◌, MatchBool};
+ghost use Rattle.std.specs.Prelude.{◌≡◌, ◌≢◌, ◌<◌, true, IfErr, MatchBool, OnOk};
 ghost use Rattle.tree_shape.specs.Lawful.{IsOrdered};
 ghost use Rattle.tree_shape.specs.Steps.{IsFull};
 ghost use Rattle.tree_shape.specs.declared.limits.TheConstants.{HIGHEST_LEVEL};
@@ -8,7 +8,7 @@ ghost use Rattle.node_store.specs.Holding.{SpellsHeld};
 ghost use Rattle.btree_change.specs.Halves.{WritesRootParts};
 ghost use Rattle.btree_change.specs.Loads.{FoundNoRoom};
 ghost use Rattle.btree_change.specs.Paths.{StepsOnNodes};
-ghost use Rattle.btree_change.specs.Splits.{GivesBack, HoldsFullAlone, HoldsFullRoot};
+ghost use Rattle.btree_change.specs.Splits.{GivesBack, HoldsFullAlone, HoldsFullRoot, LosesFree};
 ghost use Rattle.btree_change.specs.Splits.{HoldsOneFree, IsRoomForRoot, LiftsRoot, StaysHeld};
 ghost use Rattle.btree_change.specs.Splits.{root_parts_for};
 
@@ -119,22 +119,23 @@ fn load_height(words: &Words, me: &mut Caller, root: &Held, pc: u64)
 }
 
 /// Gives back the one free node that was taken.
-fn give_back<L: Locking>(locking: &L, words: &Words, me: &mut Caller, node: u32)
+fn give_back<L: Locking>(locking: &L, words: &Words, me: &mut Caller, node: u32) -> Result<(), Busy>
     requires table { me.old.table ≡ words.now.table }
     requires inside { node < words.now.terms.nodes }
     requires held { HoldsOneFree node me.old.log.holdings }
     requires surplus { 0 < surplus me.old }
-    ensures { GivesBack me.old me.new }
+    ensures ok { OnOk result (GivesBack me.old me.new) }
+    ensures lost { IfErr result (λ e. LosesFree e me.old me.new × (L.gives_up ≡ true)) }
 {
     exchange_decided();
     // By this load it is known that no lock of it is marked live.
     words.load_node(me, node, LEVEL);
-    give_free(locking, words, me, node);
+    give_free(locking, words, me, node)
 }
 
 /// Takes two free nodes for the full root, or None where it can't be split: it has the highest
 /// level, or none is free, or only one, which is given back. The loads say so then. Busy where
-/// another has a free node locked and `locking` gives up.
+/// the free list moves too often and `locking` gives up.
 pub(crate) fn room_for_root<L: Locking>(
     locking: &L,
     words: &Words,
@@ -157,13 +158,13 @@ pub(crate) fn room_for_root<L: Locking>(
     };
     match room_for(locking, words, me, root, pc) {
         Ok(Some(right)) => Ok(Some(TwoNodes { left, right })),
-        Ok(None) => {
-            give_back(locking, words, me, left);
-            Ok(None)
-        }
-        Err(busy) => {
-            give_back(locking, words, me, left);
-            Err(busy)
-        }
+        Ok(None) => match give_back(locking, words, me, left) {
+            Ok(()) => Ok(None),
+            Err(lost) => Err(lost),
+        },
+        Err(busy) => match give_back(locking, words, me, left) {
+            Ok(()) => Err(busy),
+            Err(lost) => Err(lost),
+        },
     }
 }

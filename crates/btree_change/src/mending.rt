@@ -1,6 +1,7 @@
 //! Two neighbouring children of a held node made into one, or given even shares; and the root that
 //! takes the place of its only two.
-ghost use Rattle.std.specs.Prelude.{◌≡◌, ◌+◌, ◌<◌, ◌||◌, IsSome, IsTrue, length};
+ghost use Rattle.std.specs.Prelude.{◌≡◌, ◌+◌, ◌<◌, ◌||◌, true, IsSome, IsTrue, IfOk, IfErr};
+ghost use Rattle.std.specs.Prelude.{OnOk, length};
 ghost use Rattle.std.specs.List.{AllByRecursion};
 ghost use Rattle.tree_shape.specs.Changes.{Fit, Overfill, at_slot, joined, swallow_next};
 ghost use Rattle.tree_shape.specs.Lawful.{fewest_pairs};
@@ -10,33 +11,34 @@ ghost use Rattle.word_rule.specs.CallerData.{surplus};
 ghost use Rattle.word_rule.specs.Held.{held_of};
 ghost use Rattle.btree_change.specs.Paths.{StepsOnNodes};
 ghost use Rattle.btree_change.specs.Siblings.{ReturnsNode, HoldsGone, HoldsSiblings, IsInEither};
+ghost use Rattle.btree_change.specs.Siblings.{KeepsOut, LeavesWay};
 ghost use Rattle.btree_change.specs.Shares.{IsChosen, shares_for};
 ghost use Rattle.btree_change.specs.Siblings.{HoldsSunk, sunk_root};
 ghost use Rattle.btree_change.specs.Siblings.{IsGoneOrSettled, MendsSiblings, SinksRoot};
 ghost use Rattle.btree_change.specs.Siblings.{is_small_body};
 
-use crate::descent::Held;
+use crate::descent::{Held, let_go_of};
 use crate::sibling::Siblings;
 use crate::way::content_of;
-use node_store::{Locking, Outline, give_free, outline_of, write_held};
+use node_store::{Busy, Locking, Outline, give_free, outline_of, write_held};
 use tree_shape::{Node, drop_pair, even_pair, join_pair, laws, set_separator, sink_root};
 use word_rule::exchange::exchange_decided;
 use word_rule::places::{FREE, KIND, LEVEL, LINK};
 use word_rule::{Caller, LockId, Words};
 
 /// Gives back a node that is out, where all else that is held has settled.
-fn give_back<L: Locking>(locking: &L, words: &Words, me: &mut Caller, node: u32)
+fn give_back<L: Locking>(locking: &L, words: &Words, me: &mut Caller, node: u32) -> Result<(), Busy>
     requires table { me.old.table ≡ words.now.table }
     requires inside { node < words.now.terms.nodes }
-    requires root { IsSome (held_of 0 me.old.log.holdings.held) }
     requires held { IsSome (held_of node me.old.log.holdings.held) }
     requires out { IsTrue (is_among me.old.log.holdings.out node) }
     requires settled { AllByRecursion (IsGoneOrSettled node) me.old.log.holdings.held }
     requires surplus { 0 < surplus me.old }
-    ensures { ReturnsNode node me.old me.new }
+    ensures ok { OnOk result (ReturnsNode node me.old me.new) }
+    ensures lost { IfErr result (λ e. KeepsOut node e me.old me.new × (L.gives_up ≡ true)) }
 {
     exchange_decided();
-    give_free(locking, words, me, node);
+    give_free(locking, words, me, node)
 }
 
 /// Writes what two children hold into the left one, and makes the right one free: with that it has
@@ -69,15 +71,22 @@ fn join_into_left(words: &Words, me: &mut Caller, x: &Siblings, content: &Node, 
 
 /// Joins two children that fit into one node: the left one holds both, and the right one leaves the
 /// tree and is given back.
-pub(crate) fn join<L: Locking>(locking: &L, words: &Words, me: &mut Caller, x: &Siblings) -> Held
+pub(crate) fn join<L: Locking>(
+    locking: &L,
+    words: &Words,
+    me: &mut Caller,
+    x: &Siblings,
+) -> Result<Held, Busy>
     requires table { me.old.table ≡ words.now.table }
     requires terms { me.old.log.terms ≡ words.now.terms }
     requires held { HoldsSiblings words.now.terms x.now me.old.log.holdings }
     requires fit { Fit x.now.left.content x.now.right.content }
     requires spare { fewest_pairs x.now.above.at.node < length (pairs_of x.now.above.at.content) }
-    requires surplus { 0 < surplus me.old }
-    ensures mends { MendsSiblings words.now.terms x.now result me.old me.new }
-    ensures content { result.content ≡ joined x.now.left.content x.now.right.content }
+    requires surplus { 1 < surplus me.old }
+    ensures mends { IfOk result
+        (λ at. MendsSiblings words.now.terms x.now at me.old me.new
+        × (at.content ≡ joined x.now.left.content x.now.right.content)) }
+    ensures lost { IfErr result (λ e. LeavesWay x.now e me.old me.new × (L.gives_up ≡ true)) }
 {
     // By this load it is known that they are three nodes.
     words.load_node(me, x.right.node, LEVEL);
@@ -87,15 +96,18 @@ pub(crate) fn join<L: Locking>(locking: &L, words: &Words, me: &mut Caller, x: &
     let both = join_pair(&left, &right);
     let above = drop_pair(&parent, x.slot);
     join_into_left(words, me, x, &both, &above);
-    give_back(locking, words, me, x.right.node);
     let node = x.left.node;
+    if let Err(busy) = give_back(locking, words, me, x.right.node) {
+        let_go_of(locking, words, me, node, true);
+        return Err(busy);
+    }
     words.load_node(me, node, LEVEL);
     let content = outline_of(words, me, node);
-    Held {
+    Ok(Held {
         node,
         content,
         changed: true,
-    }
+    })
 }
 
 /// What two children hold once they have even shares, and their parent.
@@ -227,7 +239,12 @@ fn sink_into_root(words: &Words, me: &mut Caller, x: &Siblings, content: &Node)
 
 /// The root takes the place of its only two children, which fit together: both leave the tree and
 /// are given back.
-pub(crate) fn sink<L: Locking>(locking: &L, words: &Words, me: &mut Caller, x: &Siblings) -> Held
+pub(crate) fn sink<L: Locking>(
+    locking: &L,
+    words: &Words,
+    me: &mut Caller,
+    x: &Siblings,
+) -> Result<Held, Busy>
     requires table { me.old.table ≡ words.now.table }
     requires terms { me.old.log.terms ≡ words.now.terms }
     requires held { HoldsSiblings words.now.terms x.now me.old.log.holdings }
@@ -235,8 +252,9 @@ pub(crate) fn sink<L: Locking>(locking: &L, words: &Words, me: &mut Caller, x: &
     requires two { length (pairs_of x.now.above.at.content) ≡ 2 }
     requires fit { Fit x.now.left.content x.now.right.content }
     requires surplus { 1 < surplus me.old }
-    ensures sinks { SinksRoot words.now.terms x.now result me.old me.new }
-    ensures content { result.content ≡ sunk_root x.now }
+    ensures sinks { IfOk result (λ at. SinksRoot words.now.terms x.now at me.old me.new
+        × (at.content ≡ sunk_root x.now)) }
+    ensures lost { IfErr result (λ e. LeavesWay x.now e me.old me.new × (L.gives_up ≡ true)) }
 {
     // By this load it is known that they are three nodes.
     words.load_node(me, x.right.node, LEVEL);
@@ -245,13 +263,18 @@ pub(crate) fn sink<L: Locking>(locking: &L, words: &Words, me: &mut Caller, x: &
     let root = content_of(words, me, &x.above.at);
     let sunk = sink_root(&root, &left, &right);
     sink_into_root(words, me, x, &sunk);
-    give_back(locking, words, me, x.left.node);
-    give_back(locking, words, me, x.right.node);
+    if let Err(busy) = give_back(locking, words, me, x.left.node) {
+        let_go_of(locking, words, me, x.right.node, true);
+        return Err(busy);
+    }
+    if let Err(lost) = give_back(locking, words, me, x.right.node) {
+        return Err(lost);
+    }
     words.load_node(me, 0, LEVEL);
     let content = outline_of(words, me, 0);
-    Held {
+    Ok(Held {
         node: 0,
         content,
         changed: true,
-    }
+    })
 }

@@ -4,12 +4,12 @@ ghost use Rattle.std.specs.Prelude.{IsTrue, IfOk, IfErr, length};
 ghost use Rattle.tree_shape.specs.Changes.{Fit, Overfill};
 ghost use Rattle.tree_shape.specs.Lawful.{IsFilled, IsOrdered};
 ghost use Rattle.tree_shape.specs.NodeData.{IsInFences, IsInner, pairs_of};
-ghost use Rattle.btree_change.specs.Loads.{FoundTaken};
+ghost use Rattle.node_store.specs.Locking.{FoundBusy};
 ghost use Rattle.btree_change.specs.Siblings.{HoldsSiblings, IsInEither, SameKind, is_small_body};
 ghost use Rattle.word_rule.specs.CallerData.{due, surplus};
 ghost use Rattle.word_rule.specs.Callers.{IsIdle};
 ghost use Rattle.word_rule.specs.Places.{CALL_CREDIT};
-ghost use Rattle.btree_change.specs.Paths.{HoldsNothing};
+ghost use Rattle.btree_change.specs.Paths.{HoldsLeftOver, HoldsNothing};
 ghost use Rattle.btree_change.specs.Releases.{Spends};
 ghost use Rattle.btree_change.specs.Removal.{AnswersRemoval, Removes, TriesRemoval};
 ghost use Rattle.btree_change.specs.Removing.{HoldsBesideRoot, IsSpare};
@@ -35,7 +35,7 @@ fn root_of_way<L: Locking>(locking: &L, words: &Words, me: &mut Caller) -> Resul
         × (way.at.node ≡ 0) × (way.at.content.level ≤ 12)
         × ((pc : ℕ) → pc ≤ 2 ^ 64 - 1 → IsInFences pc way.at.content)) }
     ensures busy { IfErr result (λ e. HoldsNothing me.new.log.holdings × (L.gives_up ≡ true)) }
-    ensures cause { IfErr result (λ e. FoundTaken e.lock me.old me.new) }
+    ensures cause { IfErr result (λ e. FoundBusy e me.old me.new) }
     ensures spends { Spends 0 me.old me.new }
     ensures terms { me.old.log.terms ≡ words.now.terms }
 {
@@ -83,8 +83,15 @@ fn sinks(x: &Siblings) -> bool
 }
 
 /// Joins two children of a node of the way, or gives them even shares, or sinks the root: the way
-/// one level further down, with one to spare in its node.
-fn mend<L: Locking>(locking: &L, words: &Words, me: &mut Caller, x: Siblings, pc: u64) -> Way
+/// one level further down, with one to spare in its node. Lost where a node that left the tree
+/// can't be put back.
+fn mend<L: Locking>(
+    locking: &L,
+    words: &Words,
+    me: &mut Caller,
+    x: Siblings,
+    pc: u64,
+) -> Result<Way, Busy>
     requires table { me.old.table ≡ words.now.table }
     requires terms { me.old.log.terms ≡ words.now.terms }
     requires held { HoldsSiblings words.now.terms x me.old.log.holdings }
@@ -93,27 +100,39 @@ fn mend<L: Locking>(locking: &L, words: &Words, me: &mut Caller, x: Siblings, pc
         || is_small_body x.right.content.body) }
     requires spare { IsSpare x.above.at.node x.above.at.content }
     requires here { IsInFences pc x.above.at.content }
-    requires surplus { 1 < surplus me.old }
-    ensures held { HoldsBesideRoot words.now.terms result.at.node result.at.content
-        result.at.changed result.root_changed me.new.log.holdings }
-    ensures level { result.at.content.level + 1 ≡ x.above.at.content.level }
-    ensures fences { IsInFences pc result.at.content }
-    ensures spare { IsSpare result.at.node result.at.content }
-    ensures spends { Spends 2 me.old me.new }
+    requires surplus { 3 < surplus me.old }
+    ensures ok { IfOk result (λ below. HoldsBesideRoot words.now.terms below.at.node
+        below.at.content below.at.changed below.root_changed me.new.log.holdings
+        × IsInFences pc below.at.content × IsSpare below.at.node below.at.content
+        × (below.at.content.level + 1 ≡ x.above.at.content.level)) }
+    ensures busy { IfErr result (λ e. HoldsLeftOver e me.new.log.holdings × (L.gives_up ≡ true)) }
+    ensures cause { IfErr result (λ e. FoundBusy e me.old me.new) }
+    ensures spends { IfOk result (λ below. Spends 2 me.old me.new) }
+    ensures most { IfErr result (λ e. Spends 4 me.old me.new) }
 {
     if !fit(&x) {
         let at = share(locking, words, me, &x, pc);
-        return leave(locking, words, me, changed(x.above), at);
+        return Ok(leave(locking, words, me, changed(x.above), at));
     }
     if sinks(&x) {
-        let at = sink(locking, words, me, &x);
-        return Way {
-            at,
-            root_changed: false,
+        return match sink(locking, words, me, &x) {
+            Ok(at) => Ok(Way {
+                at,
+                root_changed: false,
+            }),
+            Err(busy) => {
+                let_go_of_way(locking, words, me, &changed(x.above));
+                Err(busy)
+            }
         };
     }
-    let at = join(locking, words, me, &x);
-    leave(locking, words, me, changed(x.above), at)
+    match join(locking, words, me, &x) {
+        Ok(at) => Ok(leave(locking, words, me, changed(x.above), at)),
+        Err(busy) => {
+            let_go_of_way(locking, words, me, &changed(x.above));
+            Err(busy)
+        }
+    }
 }
 
 /// From an inner node of the way down to the child for an address, which gets a pair or an entry to
@@ -132,21 +151,22 @@ fn step_down<L: Locking>(
     requires inner { 0 < way.at.content.level }
     requires here { IsInFences pc way.at.content }
     requires spare { IsSpare way.at.node way.at.content }
-    requires surplus { 1 < surplus me.old }
+    requires surplus { 3 < surplus me.old }
     ensures ok { IfOk result (λ below. HoldsBesideRoot words.now.terms below.at.node
         below.at.content below.at.changed below.root_changed me.new.log.holdings
         × IsInFences pc below.at.content × IsSpare below.at.node below.at.content
         × (below.at.content.level + 1 ≡ way.at.content.level)) }
-    ensures busy { IfErr result (λ e. HoldsNothing me.new.log.holdings × (L.gives_up ≡ true)) }
-    ensures cause { IfErr result (λ e. FoundTaken e.lock me.old me.new) }
-    ensures spends { Spends 2 me.old me.new }
+    ensures busy { IfErr result (λ e. HoldsLeftOver e me.new.log.holdings × (L.gives_up ≡ true)) }
+    ensures cause { IfErr result (λ e. FoundBusy e me.old me.new) }
+    ensures spends { IfOk result (λ below. Spends 2 me.old me.new) }
+    ensures most { IfErr result (λ e. Spends 4 me.old me.new) }
 {
     let child = take_child(locking, words, me, way, pc)?;
     if !is_small(&child.at.content) {
         return Ok(leave(locking, words, me, child.above, child.at));
     }
     match take_sibling(locking, words, me, child, pc) {
-        Ok(x) => Ok(mend(locking, words, me, x, pc)),
+        Ok(x) => mend(locking, words, me, x, pc),
         Err(busy) => Err(busy),
     }
 }
@@ -165,9 +185,10 @@ fn leaf_on_way<L: Locking>(
         leaf.at.content leaf.at.changed leaf.root_changed me.new.log.holdings
         × IsInFences pc leaf.at.content × IsSpare leaf.at.node leaf.at.content
         × (leaf.at.content.level ≡ 0)) }
-    ensures busy { IfErr result (λ e. HoldsNothing me.new.log.holdings × (L.gives_up ≡ true)) }
-    ensures cause { IfErr result (λ e. FoundTaken e.lock me.old me.new) }
-    ensures spends { Spends 26 me.old me.new }
+    ensures busy { IfErr result (λ e. HoldsLeftOver e me.new.log.holdings × (L.gives_up ≡ true)) }
+    ensures cause { IfErr result (λ e. FoundBusy e me.old me.new) }
+    ensures spends { IfOk result (λ leaf. Spends 26 me.old me.new) }
+    ensures most { IfErr result (λ e. Spends 28 me.old me.new) }
     ensures terms { me.old.log.terms ≡ words.now.terms }
 {
     let mut way = root_of_way(locking, words, me)?;
@@ -181,8 +202,8 @@ fn leaf_on_way<L: Locking>(
 }
 
 /// Removes the member that begins at a base, for an update call that was begun. NotFound where none
-/// begins there. Busy where a lock on the way was found taken and `locking` gives up: the call is
-/// still begun.
+/// begins there. Busy where `locking` gives up, since a lock on the way was found taken or a node
+/// couldn't be put back: the call is still begun.
 pub fn remove_by<L: Locking>(
     locking: &L,
     words: &Words,
@@ -195,7 +216,7 @@ pub fn remove_by<L: Locking>(
     requires surplus { CALL_CREDIT ≤ surplus me.old }
     ensures answer { IfOk result (λ answer. AnswersRemoval words.now.terms base answer
         me.old me.new) }
-    ensures busy { IfErr result (λ e. GivesUp e.lock me.old me.new × (L.gives_up ≡ true)) }
+    ensures busy { IfErr result (λ e. GivesUp e me.old me.new × (L.gives_up ≡ true)) }
     ensures terms { me.old.log.terms ≡ words.now.terms }
 {
     let mut way = leaf_on_way(locking, words, me, base)?;
@@ -210,7 +231,7 @@ pub fn remove_by<L: Locking>(
     Ok(Removed::Done { number, member })
 }
 
-/// Removes a member as `remove_by` does, for an update call that was begun, or answers Busy where a
+/// Removes a member as `remove_by` does, for an update call that was begun, or is Busy where a
 /// lock on the way is taken: then the call may be tried again. Spent where fewer releases are left
 /// than a try may make.
 pub fn try_remove(words: &Words, me: &mut Caller, base: u64) -> Result<Removed, Busy>
@@ -220,7 +241,7 @@ pub fn try_remove(words: &Words, me: &mut Caller, base: u64) -> Result<Removed, 
     ensures answer { IfOk result (λ answer. TriesRemoval words.now.terms base
         me.old me.new answer) }
     ensures busy { IfErr result (λ e. (CALL_CREDIT ≤ surplus me.old)
-        × GivesUp e.lock me.old me.new) }
+        × GivesUp e me.old me.new) }
     ensures terms { CALL_CREDIT ≤ surplus me.old → me.old.log.terms ≡ words.now.terms }
 {
     if !me.may_try() {

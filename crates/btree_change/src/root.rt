@@ -3,7 +3,8 @@ ghost use Rattle.std.specs.Prelude.{◌≡◌, ◌-◌, ◌^◌, ◌<◌, ◌≤
 ghost use Rattle.reg_model.specs.SpanData.{IsSpan};
 ghost use Rattle.word_rule.specs.CallerData.{due, surplus};
 ghost use Rattle.btree_change.specs.Insertion.{IfFull};
-ghost use Rattle.btree_change.specs.Loads.{FoundNoRoom, FoundTaken};
+ghost use Rattle.btree_change.specs.Loads.{FoundNoRoom};
+ghost use Rattle.node_store.specs.Locking.{FoundBusy};
 ghost use Rattle.btree_change.specs.Roots.{EndsInsertion, GivesUpWhole};
 ghost use Rattle.tree_shape.specs.Steps.{IsFull};
 ghost use Rattle.btree_change.specs.Splits.{HoldsFullRoot};
@@ -38,8 +39,8 @@ fn alone<L: Locking>(
         me.old me.new) }
     ensures full { IfOk result (λ answer. IfFull answer
         (HasCause stand.room member.now.span.first me.old me.new)) }
-    ensures busy { IfErr result (λ e. GivesUpWhole 37 me.old me.new × (L.gives_up ≡ true)) }
-    ensures cause { IfErr result (λ e. FoundTaken e.lock me.old me.new) }
+    ensures busy { IfErr result (λ e. GivesUpWhole 37 e me.old me.new × (L.gives_up ≡ true)) }
+    ensures cause { IfErr result (λ e. FoundBusy e me.old me.new) }
 {
     match below(locking, words, me, member, stand) {
         Ok(reply) => Ok(reply.answer),
@@ -67,8 +68,8 @@ fn lifted<L: Locking>(
         me.old me.new) }
     ensures full { IfOk result (λ answer. IfFull answer
         (FoundNoRoom member.now.span.first me.old me.new)) }
-    ensures busy { IfErr result (λ e. GivesUpWhole 39 me.old me.new × (L.gives_up ≡ true)) }
-    ensures cause { IfErr result (λ e. FoundTaken e.lock me.old me.new) }
+    ensures busy { IfErr result (λ e. GivesUpWhole 39 e me.old me.new × (L.gives_up ≡ true)) }
+    ensures cause { IfErr result (λ e. FoundBusy e me.old me.new) }
 {
     let split = lift(locking, words, me, &full, member.span.first());
     let step = Step {
@@ -110,8 +111,8 @@ fn at_full_root<L: Locking>(
         me.old me.new) }
     ensures full { IfOk result (λ answer. IfFull answer
         (FoundNoRoom member.now.span.first me.old me.new)) }
-    ensures busy { IfErr result (λ e. GivesUpWhole 64 me.old me.new × (L.gives_up ≡ true)) }
-    ensures cause { IfErr result (λ e. FoundTaken e.lock me.old me.new) }
+    ensures busy { IfErr result (λ e. GivesUpWhole 64 e me.old me.new × (L.gives_up ≡ true)) }
+    ensures cause { IfErr result (λ e. FoundBusy e me.old me.new) }
 {
     match room_for_root(locking, words, me, &root, member.span.first()) {
         Ok(Some(two)) => {
@@ -156,8 +157,8 @@ pub(crate) fn at_held_root<L: Locking>(
         me.old me.new) }
     ensures full { IfOk result (λ answer. IfFull answer
         (FoundNoRoom member.now.span.first me.old me.new)) }
-    ensures busy { IfErr result (λ e. GivesUpWhole 64 me.old me.new × (L.gives_up ≡ true)) }
-    ensures cause { IfErr result (λ e. FoundTaken e.lock me.old me.new) }
+    ensures busy { IfErr result (λ e. GivesUpWhole 64 e me.old me.new × (L.gives_up ≡ true)) }
+    ensures cause { IfErr result (λ e. FoundBusy e me.old me.new) }
 {
     if is_full(&root) {
         return at_full_root(locking, words, me, member, root);

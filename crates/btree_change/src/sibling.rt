@@ -4,7 +4,7 @@ ghost use Rattle.tree_shape.specs.Decisions.{is_entries};
 ghost use Rattle.tree_shape.specs.Lawful.{IsOrdered};
 ghost use Rattle.tree_shape.specs.NodeData.{IsInFences, IsInner, pairs_of};
 ghost use Rattle.word_rule.specs.CallerData.{surplus};
-ghost use Rattle.btree_change.specs.Loads.{FoundTaken};
+ghost use Rattle.node_store.specs.Locking.{FoundBusy};
 ghost use Rattle.btree_change.specs.Paths.{HoldsNothing};
 ghost use Rattle.btree_change.specs.Releases.{Spends};
 ghost use Rattle.btree_change.specs.Removing.{HoldsBesideRoot};
@@ -86,7 +86,7 @@ pub(crate) fn take_child<L: Locking>(
     ensures ok { IfOk result (λ child. HoldsChild words.now.terms child pc me.new.log.holdings
         × (child.above ≡ above)) }
     ensures busy { IfErr result (λ e. HoldsNothing me.new.log.holdings × (L.gives_up ≡ true)) }
-    ensures cause { IfErr result (λ e. FoundTaken e.lock me.old me.new) }
+    ensures cause { IfErr result (λ e. FoundBusy e me.old me.new) }
     ensures spends { Spends 2 me.old me.new }
     ensures free { IfOk result (λ child. Spends 0 me.old me.new) }
 {
@@ -159,7 +159,7 @@ pub(crate) fn take_sibling<L: Locking>(
     ensures next { IfOk result (λ x. child.slot + 1 < length (pairs_of child.above.at.content)
         → x.left ≡ child.at) }
     ensures busy { IfErr result (λ e. HoldsNothing me.new.log.holdings × (L.gives_up ≡ true)) }
-    ensures cause { IfErr result (λ e. FoundTaken e.lock me.old me.new) }
+    ensures cause { IfErr result (λ e. FoundBusy e me.old me.new) }
     ensures spends { Spends 2 me.old me.new }
     ensures free { IfOk result (λ x. Spends 0 me.old me.new) }
 {

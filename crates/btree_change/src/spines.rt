@@ -4,7 +4,8 @@ ghost use Rattle.tree_shape.specs.NodeData.{pairs_of};
 ghost use Rattle.tree_shape.specs.Steps.{first_child, last_child};
 ghost use Rattle.word_rule.specs.CallerData.{surplus};
 ghost use Rattle.btree_change.specs.Paths.{StepsOnNodes};
-ghost use Rattle.btree_change.specs.Loads.{FoundTaken, KeepsLoads};
+ghost use Rattle.node_store.specs.Locking.{FoundBusy};
+ghost use Rattle.btree_change.specs.Loads.{KeepsLoads};
 ghost use Rattle.btree_change.specs.Spines.{HoldsFresh, HoldsSpines, IsPending};
 ghost use Rattle.btree_change.specs.Spines.{LetsGoSettled, LocksSpine, NamesChild, WritesSpines};
 
@@ -80,7 +81,7 @@ pub(crate) fn lock_spine<L: Locking>(
         right.content me.old.log.holdings me.new.log.holdings) }
     ensures busy { IfErr result (λ e. (me.new.log.holdings ≡ me.old.log.holdings)
         × (L.gives_up ≡ true)) }
-    ensures cause { IfErr result (λ e. FoundTaken e.lock me.old me.new) }
+    ensures cause { IfErr result (λ e. FoundBusy e me.old me.new) }
     ensures same { StepsOnNodes me.old me.new }
 {
     take_node(locking, words, me, node)?;

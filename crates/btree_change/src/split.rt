@@ -186,8 +186,8 @@ pub(crate) fn split_child<L: Locking>(
 }
 
 /// Takes a free node for one that is full, on the way to an address, or None where none is free:
-/// the loads of the full count and of the head say so then. Busy where another has the first free
-/// node locked and `locking` gives up.
+/// the loads of the full count and of the head say so then. Busy where the free list moves too
+/// often and `locking` gives up.
 pub(crate) fn room_for<L: Locking>(
     locking: &L,
     words: &Words,
@@ -196,7 +196,6 @@ pub(crate) fn room_for<L: Locking>(
     pc: u64,
 ) -> Result<Option<u32>, Busy>
     requires table { me.old.table ≡ words.now.table }
-    requires root { IsSome (held_of 0 me.old.log.holdings.held) }
     requires full { HoldsFull words.now.terms full.now pc me.old.log.holdings }
     ensures { IsRoomFor L.gives_up pc me.old me.new result }
 {

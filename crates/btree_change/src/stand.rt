@@ -12,7 +12,7 @@ ghost use Rattle.word_rule.specs.CallerData.{surplus};
 ghost use Rattle.node_store.specs.Holding.{SpellsHeld};
 ghost use Rattle.node_store.specs.Outlines.{OnlyLoads};
 ghost use Rattle.btree_change.specs.Paths.{StepsOnNodes};
-ghost use Rattle.btree_change.specs.Loads.{FoundTaken};
+ghost use Rattle.node_store.specs.Locking.{FoundBusy};
 ghost use Rattle.btree_change.specs.Releases.{Spends};
 ghost use Rattle.btree_change.specs.Splits.{HasSpace};
 ghost use Rattle.btree_change.specs.Stands.{GivesUpBelow, GoesBelow, HasSplit, HoldsPair};
@@ -126,7 +126,7 @@ fn lower<L: Locking>(
         × (child.content.level < at.now.content.level)) }
     ensures busy { IfErr result (λ e. (me.new.log.holdings ≡ me.old.log.holdings)
         × (L.gives_up ≡ true)) }
-    ensures cause { IfErr result (λ e. FoundTaken e.lock me.old me.new) }
+    ensures cause { IfErr result (λ e. FoundBusy e me.old me.new) }
     ensures same { StepsOnNodes me.old me.new }
 {
     let node = child_for(words, me, at, pc);
@@ -160,7 +160,7 @@ fn split_full<L: Locking>(
     ensures busy { IfErr result (λ e. (me.new.log.holdings.held
         ≡ drop 1 me.old.log.holdings.held) × (me.new.log.holdings.out ≡ [])
         × Spends 1 me.old me.new × (L.gives_up ≡ true)) }
-    ensures cause { IfErr result (λ e. FoundTaken e.lock me.old me.new) }
+    ensures cause { IfErr result (λ e. FoundBusy e me.old me.new) }
 {
     if !is_full(&step.child) {
         return Ok(step);
@@ -213,7 +213,7 @@ fn split_if_full<L: Locking>(
     ensures busy { IfErr result (λ e. (me.new.log.holdings.held
         ≡ drop 1 me.old.log.holdings.held) × (me.new.log.holdings.out ≡ [])
         × Spends 1 me.old me.new × (L.gives_up ≡ true)) }
-    ensures cause { IfErr result (λ e. FoundTaken e.lock me.old me.new) }
+    ensures cause { IfErr result (λ e. FoundBusy e me.old me.new) }
 {
     match step.room {
         Room::Splitting => split_full(locking, words, me, step, pc),
@@ -319,7 +319,7 @@ pub(crate) fn go_below<L: Locking>(
     ensures ok { IfOk result (λ passage. GoesBelow words.now.terms member.now stand passage
         me.old me.new) }
     ensures busy { IfErr result (λ e. GivesUpBelow 2 me.old me.new × (L.gives_up ≡ true)) }
-    ensures cause { IfErr result (λ e. FoundTaken e.lock me.old me.new) }
+    ensures cause { IfErr result (λ e. FoundBusy e me.old me.new) }
 {
     let Stand { at, beyond, room } = stand;
     let (node, changed) = (at.node, at.changed);

@@ -1,8 +1,8 @@
 //! The way of a removal: one node is held, and the root where that is another.
-ghost use Rattle.std.specs.Prelude.{◌≡◌, ◌<◌};
+ghost use Rattle.std.specs.Prelude.{◌≡◌, ◌<◌, []};
 ghost use Rattle.word_rule.specs.CallerData.{surplus};
 ghost use Rattle.node_store.specs.Holding.{SpellsHeld};
-ghost use Rattle.btree_change.specs.Paths.{HoldsNothing, StepsOnNodes};
+ghost use Rattle.btree_change.specs.Paths.{StepsOnNodes};
 ghost use Rattle.btree_change.specs.Releases.{Spends};
 ghost use Rattle.btree_change.specs.Removing.{HoldsLocks};
 
@@ -26,7 +26,8 @@ pub(crate) fn let_go_of_way<L: Locking>(locking: &L, words: &Words, me: &mut Cal
         me.old.log.holdings }
     requires surplus { 1 < surplus me.old }
     ensures spends { Spends 2 me.old me.new }
-    ensures nothing { HoldsNothing me.new.log.holdings }
+    ensures held { me.new.log.holdings.held ≡ [] }
+    ensures out { me.new.log.holdings.out ≡ me.old.log.holdings.out }
 {
     let_go_of(locking, words, me, way.at.node, way.at.changed);
     if way.at.node != 0 {

@@ -1,5 +1,5 @@
 -- A node that is out is made free, put onto the free list, and let go.
-use Rattle.std.proofs.Common.{◌≡◌, ◌≢◌, ℕ, ◌+◌, ◌-◌, ◌*◌, ◌^◌, ◌<◌, ◌≤◌, ◌⊎◌, inr, Bool, true, false, cond, true≢false, ◌&&◌, ◌==◌, not, List, [], ◌∷◌, length, map, Option, Some, None, IfSome, IsSome, IsSomeAnd, IsTrue, is_some, option_map, set, length-set, nat_eq, if◌then◌else◌, refl, ap, sym, ◌∙◌, subst, arith, ne_eqb, get_or-set_same, get_or-set_other}
+use Rattle.std.proofs.Common.{◌≡◌, ◌≢◌, ℕ, ◌+◌, ◌-◌, ◌*◌, ◌^◌, ◌<◌, ◌≤◌, ◌⊎◌, inl, inr, append-nil, append_assoc, Bool, true, false, cond, true≢false, ◌&&◌, ◌==◌, not, List, [], ◌∷◌, ◌++◌, length, map, Option, Some, None, IfSome, IsSome, IsSomeAnd, IsTrue, is_some, option_map, set, length-set, nat_eq, if◌then◌else◌, refl, ap, sym, ◌∙◌, subst, arith, ne_eqb, get_or-set_same, get_or-set_other}
 use Rattle.std.proofs.lemmas.Bool.{eqb-true, lt-ltb}
 use Rattle.std.proofs.lemmas.Option.{none-some, cond_some}
 use Rattle.std.specs.List.{AllByRecursion}
@@ -15,33 +15,30 @@ use Rattle.word_rule.specs.Held.{all_but, edited, held_of, is_marked, without_lo
 use Rattle.word_rule.specs.NodeTells.{HeldTells, HolderTells, IsHeldNode, OutTells}
 use Rattle.word_rule.specs.Sights.{after_node_load}
 use Rattle.word_rule.specs.Spelling.{body_of_kind, is_short, node_word, spelled, SpellsNode}
-use Rattle.word_rule.specs.Steps.{HeadStored, IsFreeTo, MayGive, MayRelease, MayStore, MayStoreHead, MayTake, after_give, after_head_load, after_node_release, after_node_store, frees, store_in, stored_log}
-use Rattle.node_store.specs.Free.{IsSettled, LeavesOthers, after_linking, after_setting, held_word, word_of_lock}
+use Rattle.word_rule.specs.Steps.{MayPush, MayRelease, MayStore, after_head_load, after_node_release, after_node_store, after_push, frees, store_in, stored_log}
+use Rattle.word_rule.specs.Logs.{load_of}
+use Rattle.word_rule.specs.declared.log.LoadEvent.{LoadEvent}
+use Rattle.node_store.specs.Locking.{FoundBusy}
+use Rattle.node_store.specs.declared.locking.Busy.TheVariants as busy
+use Rattle.node_store.proofs.Rounds.{contains_more}
+use Rattle.node_store.specs.Free.{GivesFree, IsSettled, IsUnlinked, LeavesOthers, LosesNode, PushesNode, StaysOut, after_freeing, after_links, after_setting, held_word, word_of_lock}
 use Rattle.node_store.proofs.HeldWrites.{and_false, held_changed, held_edited, plain_store}
 use Rattle.node_store.proofs.Settled.{ExchangeLaw, freed_settled, settles_free, without_settled}
 use Rattle.word_rule.proofs.KeptVersions.{none_left}
 
--- A log has a node out that it holds, whose words are these, and holds the root.
+-- A log has a node out that it holds, whose words are these.
 pub record HasOut (n : ℕ) (words : List ℕ) (hs : Holdings) : Type 0 where
   pub holding : Holding
   pub is : held_of n hs.held ≡ Some holding
   pub words_are : holding.words ≡ words
   pub unmarked : holding.mark ≡ None
   pub out : IsTrue (is_among hs.out n)
-  pub root : IsSome (held_of 0 hs.held)
 
 -- one word was made this one
 record Sets (at value : ℕ) (words words' : List ℕ) : Type 0 where
   pub wide : length words' ≡ 35
   pub here : node_word words' at ≡ value
   pub others : (k : ℕ) → 1 ≤ k → k ≢ at → node_word words' k ≡ node_word words k
-
-still_held : (m : ℕ) (f : Holding → Holding) → ((h : Holding) → (f h).node ≡ h.node) → (held : List Holding) → IsSome (held_of m held) → IsSome (held_of m (map f held))
-still_held m f keeps held is = subst IsSome (sym (held_changed m f keeps held)) (go (held_of m held) is)
-  where
-    go : (o : Option Holding) → IsSome o → IsSome (option_map f o)
-    go None is = is
-    go (Some h) is = is
 
 never_frees : (n at value : ℕ) (words : List ℕ) (v : Log) → HasOut n words v.holdings → frees n at value v ≡ false
 never_frees n at value words v h = ap (λ b. (at == 1) && (value == 2) && b) (ap is_marked h.is ∙ ap is_some h.unmarked) ∙ and_false ((at == 1) && (value == 2))
@@ -55,13 +52,8 @@ out_stored n at value words v h =
       words_are = ap (λ ws. set ws (at - 1) value) h.words_are;
       unmarked = h.unmarked;
       out = h.out;
-      root = still_held 0 (λ k. if k.node == n then store_in at value k else k) (λ k. keeps k (k.node == n)) v.holdings.held h.root;
     } in
     subst (λ w. HasOut n (set words (at - 1) value) w.holdings) (sym (plain_store n at value v free)) has
-  where
-    keeps : (k : Holding) (b : Bool) → (if b then store_in at value k else k).node ≡ k.node
-    keeps k true = refl
-    keeps k false = refl
 
 set_sets : (at value : ℕ) (words : List ℕ) → 1 ≤ at → at ≤ 35 → length words ≡ 35 → Sets at value words (set words (at - 1) value)
 set_sets at value words low high wide = record {
@@ -162,9 +154,12 @@ setting_budget n at value v = go (nat_eq (held_word n at v) value)
     go true = refl
     go false = stored_budget n at value (after_node_load n at (held_word n at v) v)
 
-linking_budget : (n head : ℕ) (v : Log) → (after_linking n head v).budget ≡ v.budget
-linking_budget n head v =
-    stored_budget n 6 head (after_head_load head (after_setting n 2 0 (after_setting n 1 2 v))) ∙ (setting_budget n 2 0 (after_setting n 1 2 v) ∙ setting_budget n 1 2 v)
+pub freeing_budget : (n : ℕ) (v : Log) → (after_freeing n v).budget ≡ v.budget
+freeing_budget n v = setting_budget n 2 0 (after_setting n 1 2 v) ∙ setting_budget n 1 2 v
+
+pub links_budget : (n : ℕ) (heads : List ℕ) (v : Log) → (after_links n heads v).budget ≡ v.budget
+links_budget n [] v = refl
+links_budget n (head ∷ heads) v = links_budget n heads (after_node_store n 6 head (after_head_load head v))
 
 -- words of the kind of free nodes, with a level and a link of 32 bits
 spelled_free : (words : List ℕ) (head : ℕ) → node_word words 1 ≡ 2 → node_word words 2 ≡ 0 → node_word words 6 ≡ head → head < 2 ^ 32 → (s : NodeData) × ((spelled words ≡ Some s) × (s.body ≡ Link head))
@@ -182,26 +177,8 @@ without_far n m far (h ∷ held) = go (nat_eq h.node n) refl (without_far n m fa
     go true e later = later ∙ sym (ap (λ b. cond b (Some h) (held_of m held)) (ne_eqb h.node m (λ same. far (sym same ∙ eqb-true h.node n e))))
     go false e later = ap (cond (h.node == m) (Some h)) later
 
--- what settles leaves the head, and who holds what
-settled_head : (v : Log) → (settle None v).holdings.head ≡ v.holdings.head
-settled_head v = go (is_lawful v None)
-  where
-    go : (b : Bool) → (if b then after_exchange v (top_of v None) (is_among (group_of v None)) else settle_free v).holdings.head ≡ v.holdings.head
-    go true = refl
-    go false = refl
-
-settled_held : (m : ℕ) (v : Log) → IsSome (held_of m v.holdings.held) → IsSome (held_of m (settle None v).holdings.held)
-settled_held m v is = go (is_lawful v None)
-  where
-    go : (b : Bool) → IsSome (held_of m (if b then after_exchange v (top_of v None) (is_among (group_of v None)) else settle_free v).holdings.held)
-    go true = still_held m _ (λ h. refl) v.holdings.held is
-    go false = still_held m _ (λ h. refl) v.holdings.held is
-
 pub gone_after : (n : ℕ) (v : Log) → held_of n (after_node_release n v).holdings.held ≡ None
 gone_after n v = none_left n (settle None v).holdings.held
-
-pub head_after : (n head : ℕ) (v : Log) → n ≢ 0 → v.holdings.head ≡ Some head → (after_node_release n v).holdings.head ≡ Some head
-head_after n head v other is = ap (λ b. if b then None else (settle None v).holdings.head) (ne_eqb n 0 other) ∙ (settled_head v ∙ is)
 
 settled_budget : (v : Log) → (settle None v).budget ≡ v.budget
 settled_budget v = go (is_lawful v None)
@@ -216,22 +193,7 @@ surplus_after n k some =
     let less : (after_node_release n k.log).budget.credit ≡ k.log.budget.credit - 1 = ap (λ (b : Budget). b.credit - 1) same in
     omega (arith, less, some)
 
-pub root_after : (n : ℕ) (v : Log) → n ≢ 0 → IsSome (held_of 0 v.holdings.held) → IsSome (held_of 0 (after_node_release n v).holdings.held)
-root_after n v other is = subst IsSome (sym (without_far n 0 (λ e. other (sym e)) (settle None v).holdings.held)) (settled_held 0 v is)
-
--- a caller after the steps up to the link
-pub linked_me : (n head : ℕ) (k k1 k2 k3 k4 : CallerData) → k1 ≡ record k { log = after_setting n 1 2 k.log } → k2 ≡ record k1 { log = after_setting n 2 0 k1.log } → k3 ≡ record k2 { log = after_head_load head k2.log } → k4 ≡ record k3 { log = after_node_store n 6 head k3.log }
-    → k4 ≡ record k { log = after_linking n head k.log }
-linked_me n head k k1 k2 k3 k4 one two three four =
-    four
-    ∙ (ap (λ (z : CallerData). record z { log = after_node_store n 6 head z.log }) three
-    ∙ (ap (λ (z : CallerData). record z { log = after_node_store n 6 head (after_head_load head z.log) }) two
-    ∙ ap (λ (z : CallerData). record z { log = after_node_store n 6 head (after_head_load head (after_setting n 2 0 z.log)) }) one))
-
-pub given_surplus : (n head : ℕ) (k : CallerData) → surplus (record k { log = after_give n (after_linking n head k.log) }) ≡ surplus k
-given_surplus n head k = ap (λ (b : Budget). b.credit - 64 * k.left) (linking_budget n head k.log)
-
-module _ (n : ℕ) (v : Log) (root : IsSome (held_of 0 v.holdings.held)) (held : IsSome (held_of n v.holdings.held)) (out : IsTrue (is_among v.holdings.out n)) (told : HolderTells n v) (unmarked : OutTells n v) where
+module _ (n : ℕ) (v : Log) (held : IsSome (held_of n v.holdings.held)) (out : IsTrue (is_among v.holdings.out n)) (told : HolderTells n v) (unmarked : OutTells n v) where
   pub first : (words : List ℕ) × (HasOut n words v.holdings × (length words ≡ 35))
   first = go (held_of n v.holdings.held) refl held told
     where
@@ -245,18 +207,15 @@ module _ (n : ℕ) (v : Log) (root : IsSome (held_of 0 v.holdings.held)) (held :
 
       go : (o : Option Holding) → held_of n v.holdings.held ≡ o → IsSome o → IfSome o (IsHeldNode v.terms) → (words : List ℕ) × (HasOut n words v.holdings × (length words ≡ 35))
       go None e is told = absurd (true≢false (sym is))
-      go (Some h) e is told = (h.words, (record { holding = h; is = e; words_are = refl; unmarked = each_unmarked v.holdings.held h e (unmarked out).1; out = out; root = root }, told.wide))
+      go (Some h) e is told = (h.words, (record { holding = h; is = e; words_are = refl; unmarked = each_unmarked v.holdings.held h e (unmarked out).1; out = out }, told.wide))
 
   abbrev kinded : Log
   kinded = after_setting n 1 2 v
 
-  abbrev levelled : Log
-  levelled = after_setting n 2 0 kinded
-
   second : (words : List ℕ) × (HasOut n words kinded.holdings × Sets 1 2 first.0 words)
   second = setting n 1 2 first.0 v (omega arith) (omega arith) first.1.1 first.1.0
 
-  third : (words : List ℕ) × (HasOut n words levelled.holdings × Sets 2 0 second.0 words)
+  third : (words : List ℕ) × (HasOut n words (after_freeing n v).holdings × Sets 2 0 second.0 words)
   third = setting n 2 0 second.0 kinded (omega arith) (omega arith) second.1.1.wide second.1.0
 
   pub out_then : IsTrue (is_among kinded.holdings.out n)
@@ -265,81 +224,272 @@ module _ (n : ℕ) (v : Log) (root : IsSome (held_of 0 v.holdings.held)) (held :
   pub held_then : IsSome (held_of n kinded.holdings.held)
   held_then = subst IsSome (sym second.1.0.is) refl
 
-  headed_out : (head : ℕ) → HasOut n third.0 (after_head_load head levelled).holdings
-  headed_out head = let h = third.1.0 in record { holding = h.holding; is = h.is; words_are = h.words_are; unmarked = h.unmarked; out = h.out; root = h.root }
+  pub freed : IsUnlinked n (after_freeing n v)
+  freed = let h = third.1.0 in record {
+    holding = h.holding;
+    is = h.is;
+    wide = ap length h.words_are ∙ third.1.1.wide;
+    kind = ap (λ ws. node_word ws 1) h.words_are ∙ (third.1.1.others 1 (omega arith) (λ e. omega (arith, e)) ∙ second.1.1.here);
+    level = ap (λ ws. node_word ws 2) h.words_are ∙ third.1.1.here;
+    unmarked = h.unmarked;
+    out = h.out;
+  }
 
-  pub may_link : (head : ℕ) → MayStore n (after_head_load head levelled)
-  may_link head = let h = headed_out head in subst (λ o. IsSomeAnd o (λ k. IsSome k.mark ⊎ IsTrue (is_among (after_head_load head levelled).holdings.out n))) (sym h.is) (inr h.out)
+  pub stays_freed : Stays n v (after_freeing n v)
+  stays_freed =
+      let one = stays_setting n 1 2 first.0 v first.1.0 in
+      let two = stays_setting n 2 0 second.0 kinded second.1.0 in record {
+        out = two.out ∙ one.out;
+        others = λ m far. two.others m far ∙ one.others m far;
+        apart = λ all. two.apart (one.apart all);
+      }
 
-  module _ (head : ℕ) (short : head < 2 ^ 32) where
-    abbrev linked : Log
-    linked = after_linking n head v
+  pub apart_here : IsSettled v → Apart n v.holdings.held
+  apart_here settled = apart n v.holdings.held settled (unmarked out).1
 
-    linked_out : HasOut n (set third.0 5 head) linked.holdings
-    linked_out = out_stored n 6 head third.0 (after_head_load head levelled) (headed_out head)
+-- a load of the head leaves such a node as it is, and so does a link but for itself
+pub headed_still : (n found : ℕ) (v : Log) → IsUnlinked n v → IsUnlinked n (after_head_load found v)
+headed_still n found v u = record { holding = u.holding; is = u.is; wide = u.wide; kind = u.kind; level = u.level; unmarked = u.unmarked; out = u.out }
 
-    pub head_is : linked.holdings.head ≡ Some head
-    head_is = ap (λ b. if b then Some head else None) third.1.0.root
+linked_holding : (n head : ℕ) (v : Log) (u : IsUnlinked n v) → held_of n (after_node_store n 6 head v).holdings.held ≡ Some (store_in 6 head u.holding)
+linked_holding n head v u = held_edited n (store_in 6 head) (λ k. refl) v.holdings.held ∙ ap (option_map (store_in 6 head)) u.is
 
-    spells : (s : NodeData) × ((spelled (set third.0 5 head) ≡ Some s) × (s.body ≡ Link head))
-    spells =
-        let last = set_sets 6 head third.0 (omega arith) (omega arith) third.1.1.wide in
-        let kind : node_word (set third.0 5 head) 1 ≡ 2 = last.others 1 (omega arith) (λ e. omega (arith, e)) ∙ (third.1.1.others 1 (omega arith) (λ e. omega (arith, e)) ∙ second.1.1.here) in
-        let level : node_word (set third.0 5 head) 2 ≡ 0 = last.others 2 (omega arith) (λ e. omega (arith, e)) ∙ third.1.1.here in
-        spelled_free (set third.0 5 head) head kind level last.here short
+linked_words : (head : ℕ) (words : List ℕ) → length words ≡ 35 → Sets 6 head words (set words 5 head)
+linked_words head words wide = set_sets 6 head words (omega arith) (omega arith) wide
 
-    free_to : IsFreeTo n head linked
-    free_to =
-        let h = linked_out in
-        let body : IsSomeAnd (spelled h.holding.words) (λ s. s.body ≡ Link head) = subst (λ ws. IsSomeAnd (spelled ws) (λ s. s.body ≡ Link head)) (sym h.words_are) (subst (λ o. IsSomeAnd o (λ s. s.body ≡ Link head)) (sym spells.1.0) spells.1.1) in
-        subst (λ o. IsSomeAnd o (λ k. IsSomeAnd (spelled k.words) (λ s. s.body ≡ Link head))) (sym h.is) body
+pub linked_still : (n head : ℕ) (v : Log) → IsUnlinked n v → IsUnlinked n (after_node_store n 6 head v)
+linked_still n head v u = let set_so = linked_words head u.holding.words u.wide in record {
+  holding = store_in 6 head u.holding;
+  is = linked_holding n head v u;
+  wide = set_so.wide;
+  kind = set_so.others 1 (omega arith) (λ e. omega (arith, e)) ∙ u.kind;
+  level = set_so.others 2 (omega arith) (λ e. omega (arith, e)) ∙ u.level;
+  unmarked = u.unmarked;
+  out = u.out;
+}
 
-    may_give : MayGive head n linked
-    may_give = (free_to, linked_out.out)
+pub links_still : (n : ℕ) (heads : List ℕ) (v : Log) → IsUnlinked n v → IsUnlinked n (after_links n heads v)
+links_still n [] v u = u
+links_still n (head ∷ heads) v u = links_still n heads (after_node_store n 6 head (after_head_load head v)) (linked_still n head (after_head_load head v) (headed_still n head v u))
 
-    pub may_store_head : MayStoreHead n linked
-    may_store_head = (linked_out.root, subst (λ o. IsSomeAnd o (λ f. MayTake f n linked ⊎ MayGive f n linked)) (sym head_is) (inr may_give))
+pub may_link : (n : ℕ) (v : Log) → IsUnlinked n v → MayStore n v
+may_link n v u = subst (λ o. IsSomeAnd o (λ k. IsSome k.mark ⊎ IsTrue (is_among v.holdings.out n))) (sym u.is) (inr u.out)
 
-    pub is_given : (w : Log) → IfSome linked.holdings.head (HeadStored n linked w) → w ≡ after_give n linked
-    is_given w stored = (subst (λ o. IfSome o (HeadStored n linked w)) head_is stored).give may_give
+-- once it is linked it spells a free node
+linked_spells : (n head : ℕ) (v : Log) (u : IsUnlinked n v) → head < 2 ^ 32 → (s : NodeData) × ((spelled (set u.holding.words 5 head) ≡ Some s) × (s.body ≡ Link head))
+linked_spells n head v u short =
+    let set_so = linked_words head u.holding.words u.wide in
+    spelled_free (set u.holding.words 5 head) head (set_so.others 1 (omega arith) (λ e. omega (arith, e)) ∙ u.kind) (set_so.others 2 (omega arith) (λ e. omega (arith, e)) ∙ u.level) set_so.here short
 
-    pub may_let_go : MayRelease n (after_give n linked)
-    may_let_go =
-        let h = linked_out in
-        let is : IsSome (spelled h.holding.words) = subst (λ ws. IsSome (spelled ws)) (sym h.words_are) (subst IsSome (sym spells.1.0) refl) in
-        subst (λ o. IsSomeAnd o (λ k. IsSome (spelled k.words) × (IsSome k.mark → Differs k → IsTrue (is_lawful (after_give n linked) None)))) (sym h.is)
-        (is, λ marked _. absurd (true≢false (sym marked ∙ ap is_some h.unmarked)))
+pub may_push : (n head : ℕ) (v : Log) → IsUnlinked n v → head < 2 ^ 32 → MayPush n head (after_node_store n 6 head v)
+may_push n head v u short =
+    let s = linked_spells n head v u short in
+    let body : IsSomeAnd (spelled (set u.holding.words 5 head)) (λ c. c.body ≡ Link head) = subst (λ o. IsSomeAnd o (λ c. c.body ≡ Link head)) (sym s.1.0) s.1.1 in
+    (subst (λ o. IsSomeAnd o (λ k. IsSomeAnd (spelled k.words) (λ c. c.body ≡ Link head))) (sym (linked_holding n head v u)) body, u.out)
 
-    stays : Stays n v linked
-    stays =
-        let one = stays_setting n 1 2 first.0 v first.1.0 in
-        let two = stays_setting n 2 0 second.0 kinded second.1.0 in
-        let three = stays_stored n 6 head third.0 (after_head_load head levelled) (headed_out head) in record {
-          out = three.out ∙ (two.out ∙ one.out);
-          others = λ m far. three.others m far ∙ (two.others m far ∙ one.others m far);
-          apart = λ all. three.apart (two.apart (one.apart all));
-        }
+-- one link more
+pub links_more : (n head : ℕ) (heads : List ℕ) (v : Log) → after_links n (heads ++ head ∷ []) v ≡ after_node_store n 6 head (after_head_load head (after_links n heads v))
+links_more n head [] v = refl
+links_more n head (x ∷ heads) v = links_more n head heads (after_node_store n 6 x (after_head_load x v))
 
-    pub others_stay : ExchangeLaw → IsSettled v → LeavesOthers n v (after_node_release n (after_give n linked))
-    others_stay law settled =
-        let all = apart_settled n linked.holdings.held (stays.apart (apart n v.holdings.held settled (unmarked out).1)) in
-        let free = settles_free law (after_give n linked) all in record {
-          out = ap (λ (u : Log). u.holdings.out) free ∙ ap (all_but n) stays.out;
-          held = λ m far.
-              ap (λ (u : Log). held_of m (without_lock n u.holdings.held)) free
-              ∙ (without_far n m far (map (exchange nothing_reached nothing_reached) linked.holdings.held)
-              ∙ (held_changed m (exchange nothing_reached nothing_reached) (λ h. refl) linked.holdings.held
-              ∙ ap (option_map (exchange nothing_reached nothing_reached)) (stays.others m far)));
-          settled = subst (λ (u : Log). AllByRecursion (λ h. IsSome h.mark → SpellsNode h.words h.settled) (without_lock n u.holdings.held)) (sym free)
-              (without_settled n (map (exchange nothing_reached nothing_reached) linked.holdings.held) (freed_settled linked.holdings.held all));
-        }
+-- what is left of the other locks
+pub links_stay : (n : ℕ) (heads : List ℕ) (v : Log) → IsUnlinked n v → Stays n v (after_links n heads v)
+links_stay n [] v u = record { out = refl; others = λ m far. refl; apart = λ all. all }
+links_stay n (head ∷ heads) v u =
+    let headed_so = headed_still n head v u in
+    let has : HasOut n u.holding.words (after_head_load head v).holdings = record { holding = u.holding; is = u.is; words_are = refl; unmarked = u.unmarked; out = u.out } in
+    let one = stays_stored n 6 head u.holding.words (after_head_load head v) has in
+    let more = links_stay n heads (after_node_store n 6 head (after_head_load head v)) (linked_still n head (after_head_load head v) headed_so) in
+    record { out = more.out ∙ one.out; others = λ m far. more.others m far ∙ one.others m far; apart = λ all. more.apart (one.apart all) }
 
-    pub root_then : IsSome (held_of 0 (after_give n linked).holdings.held)
-    root_then = linked_out.root
+-- After links, the last of which is this one, and then a push or another head: the node may be let go of.
+module _ (n : ℕ) (lost : List ℕ) (head : ℕ) (v : Log) (u : IsUnlinked n v) (short : head < 2 ^ 32) where
+  abbrev linked : Log
+  linked = after_links n (lost ++ head ∷ []) v
 
--- a caller after the head was stored
-pub given_me : (n head : ℕ) (k k4 k5 : CallerData) → IsSome (held_of 0 k.log.holdings.held) → IsSome (held_of n k.log.holdings.held) → IsTrue (is_among k.log.holdings.out n) → HolderTells n k.log → OutTells n k.log → head < 2 ^ 32
-    → k4 ≡ record k { log = after_linking n head k.log } → IfSome k4.log.holdings.head (HeadStored n k4.log k5.log) → k5 ≡ record k4 { log = k5.log } → k5 ≡ record k { log = after_give n (after_linking n head k.log) }
-given_me n head k k4 k5 root held out told unmarked short linked stored rest =
-    let done : k5.log ≡ after_give n (after_linking n head k.log) = is_given n k.log root held out told unmarked head short k5.log (subst (λ (z : CallerData). IfSome z.log.holdings.head (HeadStored n z.log k5.log)) linked stored) in
-    rest ∙ (λ i. record (linked i) { log = done i })
+  before : Log
+  before = after_head_load head (after_links n lost v)
+
+  ready : IsUnlinked n (after_head_load head (after_links n lost v))
+  ready = headed_still n head (after_links n lost v) (links_still n lost v u)
+
+  pub may_let_go : (w : Log) → w.holdings.held ≡ (after_links n (lost ++ head ∷ []) v).holdings.held → MayRelease n w
+  may_let_go w same =
+      let s = linked_spells n head (after_head_load head (after_links n lost v)) ready short in
+      let is : held_of n w.holdings.held ≡ Some (store_in 6 head ready.holding) = ap (held_of n) (same ∙ ap (λ (z : Log). z.holdings.held) (links_more n head lost v)) ∙ linked_holding n head (after_head_load head (after_links n lost v)) ready in
+      subst (λ o. IsSomeAnd o (λ k. IsSome (spelled k.words) × (IsSome k.mark → Differs k → IsTrue (is_lawful w None)))) (sym is)
+      (subst IsSome (sym s.1.0) refl, λ marked _. absurd (true≢false (sym marked ∙ ap is_some ready.unmarked)))
+
+-- what is left after the release, where all that is held had settled
+pub others_stay : ExchangeLaw → (n : ℕ) (v u w : Log) → Stays n v u → Apart n v.holdings.held → w.holdings.held ≡ u.holdings.held → w.holdings.out ≡ all_but n v.holdings.out → LeavesOthers n v (after_node_release n w)
+others_stay law n v u w stays all same out =
+    let settled : IsSettled w = subst (AllByRecursion (λ h. IsSome h.mark → SpellsNode h.words h.settled)) (sym same) (apart_settled n u.holdings.held (stays.apart all)) in
+    let free = settles_free law w settled in record {
+      out = ap (λ (z : Log). z.holdings.out) free ∙ out;
+      held = λ m far.
+          ap (λ (z : Log). held_of m (without_lock n z.holdings.held)) free
+          ∙ (without_far n m far (map (exchange nothing_reached nothing_reached) w.holdings.held)
+          ∙ (held_changed m (exchange nothing_reached nothing_reached) (λ h. refl) w.holdings.held
+          ∙ ap (option_map (exchange nothing_reached nothing_reached)) (ap (held_of m) same ∙ stays.others m far)));
+      settled = subst (λ (z : Log). AllByRecursion (λ h. IsSome h.mark → SpellsNode h.words h.settled) (without_lock n z.holdings.held)) (sym free)
+          (without_settled n (map (exchange nothing_reached nothing_reached) w.holdings.held) (freed_settled w.holdings.held settled));
+    }
+
+-- the first exchange, and each one more
+pub pushed_first : (n head : ℕ) (k k1 k2 : CallerData) → head < 2 ^ 32 → k1 ≡ record k { log = after_head_load head k.log } → k2 ≡ record k1 { log = after_push n (after_node_store n 6 head k1.log) } → PushesNode n k k2
+pushed_first n head k k1 k2 short load is = ([], head, (short, is ∙ ap (λ (z : CallerData). record z { log = after_push n (after_node_store n 6 head z.log) }) load))
+
+pub refused_first : (n head found : ℕ) (k k1 k2 : CallerData) → head < 2 ^ 32 → found ≢ head → k1 ≡ record k { log = after_head_load head k.log } → k2 ≡ record k1 { log = after_head_load found (after_node_store n 6 head k1.log) } → StaysOut n found k k2
+refused_first n head found k k1 k2 short other load is = ([], head, (short, other, is ∙ ap (λ (z : CallerData). record z { log = after_head_load found (after_node_store n 6 head z.log) }) load))
+
+pub pushed_more : (n head : ℕ) (k k1 k2 : CallerData) → head < 2 ^ 32 → StaysOut n head k k1 → k2 ≡ record k1 { log = after_push n (after_node_store n 6 head k1.log) } → PushesNode n k k2
+pushed_more n head k k1 k2 short (lost, last, (was_short, other, stays)) is = (
+  lost ++ last ∷ [],
+  head,
+  (
+    short,
+    is
+        ∙ (ap (λ (z : CallerData). record z { log = after_push n (after_node_store n 6 head z.log) }) stays
+        ∙ ap (λ w. record k { log = after_push n w }) (sym (links_more n head (lost ++ last ∷ []) k.log))),
+  ),
+)
+
+pub refused_more : (n head found : ℕ) (k k1 k2 : CallerData) → head < 2 ^ 32 → found ≢ head → StaysOut n head k k1 → k2 ≡ record k1 { log = after_head_load found (after_node_store n 6 head k1.log) } → StaysOut n found k k2
+refused_more n head found k k1 k2 short more (lost, last, (was_short, other, stays)) is = (
+  lost ++ last ∷ [],
+  head,
+  (
+    short,
+    more,
+    is
+        ∙ (ap (λ (z : CallerData). record z { log = after_head_load found (after_node_store n 6 head z.log) }) stays
+        ∙ ap (λ w. record k { log = after_head_load found w }) (sym (links_more n head (lost ++ last ∷ []) k.log))),
+  ),
+)
+
+pub refused_still : (n found : ℕ) (k k1 : CallerData) → StaysOut n found k k1 → IsUnlinked n k.log → IsUnlinked n k1.log
+refused_still n found k k1 (lost, head, (short, other, stays)) u =
+    subst (λ (z : CallerData). IsUnlinked n z.log) (sym stays) (headed_still n found (after_links n (lost ++ head ∷ []) k.log) (links_still n (lost ++ head ∷ []) k.log u))
+
+pub refused_table : (n found : ℕ) (k k1 : CallerData) → StaysOut n found k k1 → k1.table ≡ k.table
+refused_table n found k k1 (lost, head, (short, other, stays)) = ap (λ (z : CallerData). z.table) stays
+
+-- what was loaded when a node was made free, and by each link
+setting_loads : (n at value : ℕ) (words : List ℕ) (v : Log) → HasOut n words v.holdings → (more : List LoadEvent) × ((after_setting n at value v).trace.loads ≡ v.trace.loads ++ more)
+setting_loads n at value words v h = go (nat_eq (held_word n at v) value)
+  where
+    go : (b : Bool) → (more : List LoadEvent) × ((if b then after_node_load n at (held_word n at v) v else after_node_store n at value (after_node_load n at (held_word n at v) v)).trace.loads ≡ v.trace.loads ++ more)
+    go true = (_ ∷ [], refl)
+    go false = (_ ∷ [], ap (λ (z : Log). z.trace.loads) (plain_store n at value (after_node_load n at (held_word n at v) v) (never_frees n at value words (after_node_load n at (held_word n at v) v) h)))
+
+links_loads : (n : ℕ) (heads : List ℕ) (v : Log) → (more : List LoadEvent) × ((after_links n heads v).trace.loads ≡ v.trace.loads ++ more)
+links_loads n [] v = ([], sym (append-nil v.trace.loads))
+links_loads n (head ∷ heads) v =
+    let rest = links_loads n heads (after_node_store n 6 head (after_head_load head v)) in
+    (load_of v 1 head ∷ rest.0, rest.1 ∙ append_assoc v.trace.loads (load_of v 1 head ∷ []) rest.0)
+
+-- the loads that say why it was lost
+module _ (n : ℕ) (k : CallerData) (held : IsSome (held_of n k.log.holdings.held)) (out : IsTrue (is_among k.log.holdings.out n)) (told : HolderTells n k.log) (unmarked : OutTells n k.log) where
+  freeing_loads : (more : List LoadEvent) × ((after_freeing n k.log).trace.loads ≡ k.log.trace.loads ++ more)
+  freeing_loads =
+      let a = setting_loads n 1 2 (first n k.log held out told unmarked).0 k.log (first n k.log held out told unmarked).1.0 in
+      let s = second n k.log held out told unmarked in
+      let b = setting_loads n 2 0 s.0 (after_setting n 1 2 k.log) s.1.0 in
+      (a.0 ++ b.0, b.1 ∙ (ap (λ xs. xs ++ b.0) a.1 ∙ append_assoc k.log.trace.loads a.0 b.0))
+
+  -- after the release
+  module _ (lost : List ℕ) (head found : ℕ) (other : found ≢ head) (k' : CallerData) (is : k' ≡ record k { log = after_node_release n (after_head_load found (after_links n (lost ++ head ∷ []) (after_freeing n k.log))) }) where
+    pub lost_shown : FoundBusy busy.Lost k k'
+    lost_shown = record {
+      before = freeing_loads.0 ++ ((links_loads n lost (after_freeing n k.log)).0 ++ load_of (after_links n lost (after_freeing n k.log)) 1 head ∷ []);
+      load = load_of (after_links n (lost ++ head ∷ []) (after_freeing n k.log)) 1 found;
+      behind = [];
+      loads = whole;
+      shows = (load_of (after_links n lost (after_freeing n k.log)) 1 head, (contains_more freeing_loads.0 _ _ (contains_more (links_loads n lost (after_freeing n k.log)).0 _ _ (0, omega arith, refl)), refl, inl (refl, other)));
+    }
+      where
+        kept : (w : Log) → (settle None w).trace.loads ≡ w.trace.loads
+        kept w = go (is_lawful w None)
+          where
+            go : (b : Bool) → (if b then after_exchange w (top_of w None) (is_among (group_of w None)) else settle_free w).trace.loads ≡ w.trace.loads
+            go true = refl
+            go false = refl
+
+        linked_loads : (after_links n (lost ++ head ∷ []) (after_freeing n k.log)).trace.loads ≡ k.log.trace.loads ++ (freeing_loads.0 ++ ((links_loads n lost (after_freeing n k.log)).0 ++ load_of (after_links n lost (after_freeing n k.log)) 1 head ∷ []))
+        linked_loads =
+            let more = (links_loads n lost (after_freeing n k.log)).0 in
+            let one = load_of (after_links n lost (after_freeing n k.log)) 1 head ∷ [] in
+            ap (λ (z : Log). z.trace.loads) (links_more n head lost (after_freeing n k.log))
+            ∙ (ap (λ xs. xs ++ one) ((links_loads n lost (after_freeing n k.log)).1 ∙ ap (λ xs. xs ++ more) freeing_loads.1)
+            ∙ (ap (λ xs. xs ++ one) (append_assoc k.log.trace.loads freeing_loads.0 more)
+            ∙ (append_assoc k.log.trace.loads (freeing_loads.0 ++ more) one
+            ∙ ap (λ xs. k.log.trace.loads ++ xs) (append_assoc freeing_loads.0 more one))))
+
+        whole : k'.log.trace.loads ≡ k.log.trace.loads ++ ((freeing_loads.0 ++ ((links_loads n lost (after_freeing n k.log)).0 ++ load_of (after_links n lost (after_freeing n k.log)) 1 head ∷ [])) ++ load_of (after_links n (lost ++ head ∷ []) (after_freeing n k.log)) 1 found ∷ [])
+        whole =
+            let last = load_of (after_links n (lost ++ head ∷ []) (after_freeing n k.log)) 1 found ∷ [] in
+            ap (λ (z : CallerData). z.log.trace.loads) is
+            ∙ (kept (after_head_load found (after_links n (lost ++ head ∷ []) (after_freeing n k.log)))
+            ∙ (ap (λ xs. xs ++ last) linked_loads
+            ∙ append_assoc k.log.trace.loads (freeing_loads.0 ++ ((links_loads n lost (after_freeing n k.log)).0 ++ load_of (after_links n lost (after_freeing n k.log)) 1 head ∷ [])) last))
+
+-- A node was made free, and then put onto the list, or not.
+module _ (n : ℕ) (k k2 : CallerData) (held : IsSome (held_of n k.log.holdings.held)) (out : IsTrue (is_among k.log.holdings.out n)) (told : HolderTells n k.log) (unmarked : OutTells n k.log) (freed_is : k2 ≡ record k { log = after_freeing n k.log }) where
+  pub unlinked_now : IsUnlinked n k2.log
+  unlinked_now = subst (λ (z : CallerData). IsUnlinked n z.log) (sym freed_is) (freed n k.log held out told unmarked)
+
+  linked_surplus : (heads : List ℕ) → surplus (record k2 { log = after_links n heads k2.log }) ≡ surplus k
+  linked_surplus heads = ap (λ (b : Budget). b.credit - 64 * k2.left) (links_budget n heads k2.log) ∙ (ap surplus freed_is ∙ ap (λ (b : Budget). b.credit - 64 * k.left) (freeing_budget n k.log))
+
+  linked_stay : (heads : List ℕ) → Stays n k.log (after_links n heads (after_freeing n k.log))
+  linked_stay heads =
+      let one = stays_freed n k.log held out told unmarked in
+      let more = links_stay n heads (after_freeing n k.log) (freed n k.log held out told unmarked) in
+      record { out = more.out ∙ one.out; others = λ m far. more.others m far ∙ one.others m far; apart = λ all. more.apart (one.apart all) }
+
+  module _ (k3 : CallerData) (pushes : PushesNode n k2 k3) where
+    pub pushed_may : MayRelease n k3.log
+    pushed_may = may_let_go n pushes.0 pushes.1 k2.log unlinked_now pushes.2.0 k3.log (ap (λ (z : CallerData). z.log.holdings.held) pushes.2.1)
+
+    pub pushed_surplus : surplus k3 ≡ surplus k
+    pushed_surplus = ap surplus pushes.2.1 ∙ linked_surplus (pushes.0 ++ pushes.1 ∷ [])
+
+    pub pushed_gives : (k4 : CallerData) → k4 ≡ record k3 { log = after_node_release n k3.log } → GivesFree n k k4
+    pushed_gives k4 is = (k3, (subst (λ z. PushesNode n z k3) freed_is pushes, is))
+
+    pub pushed_others : ExchangeLaw → (k4 : CallerData) → k4 ≡ record k3 { log = after_node_release n k3.log } → IsSettled k.log → LeavesOthers n k.log k4.log
+    pushed_others law k4 is settled =
+        let hs = pushes.0 ++ pushes.1 ∷ [] in
+        let log_is : k3.log ≡ after_push n (after_links n (pushes.0 ++ pushes.1 ∷ []) (after_freeing n k.log)) = ap (λ (z : CallerData). z.log) pushes.2.1 ∙ ap (λ (z : CallerData). after_push n (after_links n (pushes.0 ++ pushes.1 ∷ []) z.log)) freed_is in
+        subst (λ (z : CallerData). LeavesOthers n k.log z.log) (sym (is ∙ ap (λ (w : Log). record k3 { log = after_node_release n w }) log_is))
+        (others_stay law n k.log (after_links n hs (after_freeing n k.log)) (after_push n (after_links n hs (after_freeing n k.log))) (linked_stay hs) (apart_here n k.log held out told unmarked settled) refl (ap (all_but n) (linked_stay hs).out))
+
+  module _ (k3 : CallerData) (refused : (found : ℕ) × StaysOut n found k2 k3) where
+    pub refused_may : MayRelease n k3.log
+    refused_may = may_let_go n refused.1.0 refused.1.1 k2.log unlinked_now refused.1.2.0 k3.log (ap (λ (z : CallerData). z.log.holdings.held) refused.1.2.2)
+
+    pub refused_surplus : surplus k3 ≡ surplus k
+    refused_surplus = ap surplus refused.1.2.2 ∙ linked_surplus (refused.1.0 ++ refused.1.1 ∷ [])
+
+    pub refused_loses : (k4 : CallerData) → k4 ≡ record k3 { log = after_node_release n k3.log } → LosesNode n busy.Lost k k4
+    refused_loses k4 is = (
+      refl,
+      lost_shown n k held out told unmarked refused.1.0 refused.1.1 refused.0 refused.1.2.1 k4 whole,
+      (k3, (refused.0, subst (λ z. StaysOut n refused.0 z k3) freed_is refused.1, is)),
+    )
+      where
+        log_is : k3.log ≡ after_head_load refused.0 (after_links n (refused.1.0 ++ refused.1.1 ∷ []) (after_freeing n k.log))
+        log_is = ap (λ (z : CallerData). z.log) refused.1.2.2 ∙ ap (λ (z : CallerData). after_head_load refused.0 (after_links n (refused.1.0 ++ refused.1.1 ∷ []) z.log)) freed_is
+
+        same : k3 ≡ record k { log = k3.log }
+        same = refused.1.2.2 ∙ (λ i. record (freed_is i) { log = sym (ap (λ (z : CallerData). z.log) refused.1.2.2) i })
+
+        whole : k4 ≡ record k { log = after_node_release n (after_head_load refused.0 (after_links n (refused.1.0 ++ refused.1.1 ∷ []) (after_freeing n k.log))) }
+        whole = is ∙ (ap (λ (z : CallerData). record z { log = after_node_release n k3.log }) same ∙ ap (λ (w : Log). record k { log = after_node_release n w }) log_is)
+
+-- a release gives up the lock, for a release less
+pub released_gone : (n : ℕ) (k k' : CallerData) → k' ≡ record k { log = after_node_release n k.log } → held_of n k'.log.holdings.held ≡ None
+released_gone n k k' is = ap (λ (z : CallerData). held_of n z.log.holdings.held) is ∙ gone_after n k.log
+
+pub released_surplus : (n : ℕ) (k k1 k' : CallerData) → surplus k1 ≡ surplus k → 0 < surplus k → k' ≡ record k1 { log = after_node_release n k1.log } → surplus k ≡ surplus k' + 1
+released_surplus n k k1 k' same some is = sym same ∙ (surplus_after n k1 (subst (λ z. 0 < z) (sym same) some) ∙ ap (λ (z : CallerData). surplus z + 1) (sym is))

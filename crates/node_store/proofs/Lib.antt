@@ -6,6 +6,7 @@ pub mod Sighted
 pub mod HeldWords
 pub mod HeldWrites
 pub mod Settled
+pub mod Rounds
 pub mod Giving
 pub mod OutNodes
 pub mod Overwritten

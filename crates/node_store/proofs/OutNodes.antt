@@ -1,6 +1,5 @@
--- What a caller holds and has out between its steps on the free list: the root is held, and so is
--- each node that is out.
-use Rattle.std.proofs.Common.{◌≡◌, ◌≢◌, ◌⊎◌, inr, ℕ, ◌-◌, ◌*◌, Bool, true, false, true≢false, not, List, [], ◌∷◌, length, Option, Some, None, is_some, IsSome, IsSomeAnd, IsTrue, option_map, set, nat_eq, if◌then◌else◌, refl, ap, sym, ◌∙◌, subst}
+-- What a caller holds and has out between its steps on the free list: each node that is out is held.
+use Rattle.std.proofs.Common.{◌≡◌, ◌≢◌, ◌⊎◌, inr, ℕ, ◌-◌, ◌*◌, Bool, true, false, true≢false, not, List, [], ◌∷◌, ◌++◌, ◌==◌, cond, Result, Ok, Err, IfOk, length, Option, Some, None, is_some, IsSome, IsSomeAnd, IsTrue, option_map, set, nat_eq, if◌then◌else◌, refl, ap, sym, ◌∙◌, subst}
 use Rattle.std.proofs.lemmas.Bool.{eq-eqb}
 use native.Mathlib.Decide.{ℕ_discrete}
 use Rattle.std.specs.List.{AllByRecursion}
@@ -18,7 +17,11 @@ use Rattle.word_rule.specs.declared.log.Holding.{Holding}
 use Rattle.word_rule.specs.declared.log.Budget.{Budget}
 use Rattle.word_rule.specs.declared.log.Log.{Log}
 use Rattle.node_store.specs.declared.writing.Store.{Store}
-use Rattle.node_store.specs.Free.{HoldsOut, IsSettled, GivesFree, LeavesOthers}
+use Rattle.std.specs.Option.{option_to_list}
+use Rattle.word_rule.proofs.Each.{all_map}
+use Rattle.word_rule.specs.Steps.{mark_at_lock}
+use Rattle.node_store.specs.declared.locking.Busy.{Busy}
+use Rattle.node_store.specs.Free.{EndsRound, HoldsOut, IsSettled, GivesFree, LeavesOthers, headed}
 use Rattle.node_store.specs.Holding.{MakesStores, SpellsHeld, StoresHeld, after_node_stores}
 use Rattle.node_store.specs.Outlines.{loaded}
 use Rattle.node_store.specs.Writing.{stores}
@@ -31,14 +34,7 @@ pub record Keeps (k k' : CallerData) : Type 0 where
   pub credit : surplus k' ≡ surplus k
   pub holds : HoldsOut k'.log
 
--- the root, and a node that is out, are held
-pub root_held : (v : Log) → HoldsOut v → IsSome (held_of 0 v.holdings.held)
-root_held v holds = go (held_of 0 v.holdings.held) holds.root
-  where
-    go : (o : Option Holding) → IsSomeAnd o (λ h. h.stored ≡ false) → IsSome o
-    go None is = absurd is
-    go (Some h) is = refl
-
+-- a node that is out is held
 pub out_held : (n : ℕ) (v : Log) → HoldsOut v → IsTrue (is_among v.holdings.out n) → IsSome (held_of n v.holdings.held)
 out_held n v holds out = all_among (λ m. IsSome (held_of m v.holdings.held)) v.holdings.out n holds.out out
 
@@ -58,23 +54,16 @@ others_held n before after others (m ∷ nodes) all = go (nat_eq m n) refl (othe
         let far : m ≢ n = λ same. true≢false (sym (eq-eqb m n same) ∙ e) in
         (subst IsSome (sym (others m far)) (still (held_of m before) all.0), rest)
 
-pub gave : (n : ℕ) (k k' : CallerData) → GivesFree n k k' → held_of n k'.log.holdings.held ≡ None → IsSome (held_of 0 k'.log.holdings.held) → (IsSettled k.log → LeavesOthers n k.log k'.log) → HoldsOut k.log
+pub gave : (n : ℕ) (k k' : CallerData) → GivesFree n k k' → LeavesOthers n k.log k'.log → HoldsOut k.log
     → (k'.table ≡ k.table) × HoldsOut k'.log × (k'.log.holdings.out ≡ all_but n k.log.holdings.out)
-gave n k k' gives unlocked root leaves holds =
-    let others = leaves holds.settled in
-    let far : 0 ≢ n = λ same. true≢false (sym root ∙ ap is_some (ap (λ m. held_of m k'.log.holdings.held) same ∙ unlocked)) in (
-      ap (λ (z : CallerData). z.table) gives.1,
-      record {
-        root = subst (λ o. IsSomeAnd o (λ h. h.stored ≡ false)) (sym (others.held 0 far)) (clean (held_of 0 k.log.holdings.held) holds.root);
-        out = subst (AllByRecursion (λ m. IsSome (held_of m k'.log.holdings.held))) (sym others.out) (others_held n k.log.holdings.held k'.log.holdings.held others.held k.log.holdings.out holds.out);
-        settled = others.settled;
-      },
-      others.out,
-    )
-  where
-    clean : (o : Option Holding) → IsSomeAnd o (λ h. h.stored ≡ false) → IsSomeAnd (option_map (exchange nothing_reached nothing_reached) o) (λ h. h.stored ≡ false)
-    clean None is = absurd is
-    clean (Some h) is = is
+gave n k k' (freed, ((lost, head, (short, pushed)), is)) others holds = (
+  ap (λ (z : CallerData). z.table) is ∙ ap (λ (z : CallerData). z.table) pushed,
+  record {
+    out = subst (AllByRecursion (λ m. IsSome (held_of m k'.log.holdings.held))) (sym others.out) (others_held n k.log.holdings.held k'.log.holdings.held others.held k.log.holdings.out holds.out);
+    settled = others.settled;
+  },
+  others.out,
+)
 
 -- stores in a node that is out
 stays_all : (n : ℕ) (made : List Store) (words : List ℕ) (v : Log) → HasOut n words v.holdings → Stays n v (after_node_stores n made v)
@@ -99,10 +88,7 @@ wrote n s k k' holds out told unmarked writes spells = go (held_of n k.log.holdi
     v = k.log
 
     first : (words : List ℕ) × (HasOut n words v.holdings × (length words ≡ 35))
-    first = giving.first n v (root_held v holds) (out_held n v holds out) out told unmarked
-
-    far : 0 ≢ n
-    far same = (unmarked out).0 (sym same)
+    first = giving.first n v (out_held n v holds out) out told unmarked
 
     still : (o : Option Holding) → IsSomeAnd o (λ h. SpellsNode h.words s) → IsSome o
     still None is = absurd is
@@ -127,7 +113,6 @@ wrote n s k k' holds out told unmarked writes spells = go (held_of n k.log.holdi
         let budget : w.budget ≡ v.budget = stores_budget n (stores s h.words) v in
         let own : IsSome (held_of n w.holdings.held) = subst (λ (z : CallerData). IsSome (held_of n z.log.holdings.held)) is (still (held_of n k'.log.holdings.held) spells) in
         let kept : HoldsOut (loaded more w) = record {
-          root = subst (λ o. IsSomeAnd o (λ z. z.stored ≡ false)) (sym (leaves.others 0 far)) holds.root;
           out = subst (AllByRecursion (λ m. IsSome (held_of m w.holdings.held))) (sym leaves.out) (each w own leaves.others v.holdings.out holds.out);
           settled = apart_settled n w.holdings.held (leaves.apart (apart n v.holdings.held holds.settled (unmarked out).1));
         } in (
@@ -143,7 +128,7 @@ wrote n s k k' holds out told unmarked writes spells = go (held_of n k.log.holdi
 pub wrote_after_load : (n at found : ℕ) (s : NodeData) (k k1 k2 : CallerData) → k1 ≡ record k { log = after_node_load n at found k.log } → HoldsOut k.log → IsTrue (is_among k.log.holdings.out n) → HolderTells n k.log → OutTells n k.log → StoresHeld n s k1 k2 → SpellsHeld n s k2.log → Keeps k k2 × (k2.log.holdings.out ≡ k.log.holdings.out)
 wrote_after_load n at found s k k1 k2 loaded holds out told unmarked writes spells =
     let here : CallerData = record k { log = after_node_load n at found k.log } in
-    let done = wrote n s here k2 (record { root = holds.root; out = holds.out; settled = holds.settled }) out told unmarked (subst (λ z. StoresHeld n s z k2) loaded writes) spells in
+    let done = wrote n s here k2 (record { out = holds.out; settled = holds.settled }) out told unmarked (subst (λ z. StoresHeld n s z k2) loaded writes) spells in
     (record { table = done.0.table; credit = done.0.credit; holds = done.0.holds }, done.1)
 
 pub may_write : (n at found : ℕ) (k k1 : CallerData) → k1 ≡ record k { log = after_node_load n at found k.log } → HoldsOut k.log → IsTrue (is_among k.log.holdings.out n) → MayStore n k1.log
@@ -153,3 +138,30 @@ may_write n at found k k1 loaded holds out =
     go : (o : Option Holding) → IsSome o → IsSomeAnd o (λ h. IsSome h.mark ⊎ IsTrue (is_among k.log.holdings.out n))
     go None is = absurd (true≢false (sym is))
     go (Some h) is = inr out
+
+-- a lock more holds what was held
+one_more_held : (new : Holding) (held : List Holding) (m : ℕ) → IsSome (held_of m held) → IsSome (held_of m (new ∷ held))
+one_more_held new held m is = go (new.node == m)
+  where
+    go : (b : Bool) → IsSome (if b then Some new else held_of m held)
+    go true = refl
+    go false = is
+
+-- a node was taken, or there was none
+pub took : (k k' : CallerData) (r : Result (Option ℕ) Busy) → EndsRound k k' r → HoldsOut k.log → Keeps k k' × IfOk r (λ found. k'.log.holdings.out ≡ option_to_list found ++ k.log.holdings.out)
+took k k' (Ok None) (lost, ((more, marks, (none, e)), is)) holds =
+    let whole = is ∙ ap (headed 0) e in (subst (Keeps k) (sym whole) (record { table = refl; credit = refl; holds = record { out = holds.out; settled = holds.settled } }), ap (λ (z : CallerData). z.log.holdings.out) whole)
+took k k' (Ok (Some n)) (other, (more, marks, version, settled, words, (taken, kind, is))) holds =
+    let new : Holding = record { node = n; version = version; settled = settled; words = words; stored = false; mark = mark_at_lock n settled k.log.holdings.held } in
+    let own : IsSome (held_of n (new ∷ k.log.holdings.held)) = subst IsSome (sym (ap (λ b. cond b (Some new) (held_of n k.log.holdings.held)) (eq-eqb n n refl))) refl in (
+      subst (Keeps k) (sym is) (record {
+        table = refl;
+        credit = refl;
+        holds = record {
+          out = (own, all_map (λ m. IsSome (held_of m k.log.holdings.held)) (λ m. IsSome (held_of m (new ∷ k.log.holdings.held))) (one_more_held new k.log.holdings.held) k.log.holdings.out holds.out);
+          settled = ((λ _. taken.spells), holds.settled);
+        };
+      }),
+      ap (λ (z : CallerData). z.log.holdings.out) is,
+    )
+took k k' (Err why) ((more, marks, (none, e)), cause) holds = (subst (Keeps k) (sym e) (record { table = refl; credit = refl; holds = record { out = holds.out; settled = holds.settled } }), tt)

@@ -85,7 +85,7 @@ takes lock.Loader a b c version p taken =
 takes (lock.Node n) a b c version p taken =
     let step : CallerData → CallerData = λ k. record k { log = after_node_lock n version taken.0 taken.1 k.log } in
     let mine : IsTakenNode n (sighted p.2 (tried p.0 p.1 a.log)) taken.1 taken.0 = subst (λ (k : CallerData). IsTakenNode n k.log taken.1 taken.0) p.3.2 taken.2.0 in
-    (p.0, p.1, p.2, version, taken.0, taken.1, ((p.3.0, p.3.1), record { within = mine.within; new = mine.new; wide = mine.wide; spells = mine.spells; live = mine.live; free = mine.free }, taken.2.1 ∙ ap step p.3.2))
+    (p.0, p.1, p.2, version, taken.0, taken.1, ((p.3.0, p.3.1), record { within = mine.within; new = mine.new; wide = mine.wide; spells = mine.spells; live = mine.live }, taken.2.1 ∙ ap step p.3.2))
 
 pub takes_then : (id : LockId) (a b c : CallerData) → Locks id a b → Tries id b c → Locks id a c
 takes_then lock.Loader a b c p q =

@@ -1,10 +1,11 @@
--- What taking a lock makes of a caller.
-use Rattle.std.specs.Prelude.{◌≡◌, ℕ, ◌+◌, ◌%◌, List, ◌++◌}
+-- What taking a lock makes of a caller, and what a caller loads that gives up.
+use Rattle.std.specs.Prelude.{◌≡◌, ◌≢◌, ℕ, ◌+◌, ◌%◌, ◌⊎◌, List, ◌∷◌, ◌++◌, Contains}
 use Rattle.std.specs.List.{AllByRecursion}
 use Rattle.tree_shape.specs.NodeData.{NodeData}
 use Rattle.word_rule.specs.CallerData.{CallerData}
 use Rattle.word_rule.specs.Logs.{IsTaken, after_load, after_loader_lock}
 use Rattle.word_rule.specs.NodeTells.{IsTakenNode}
+use Rattle.word_rule.specs.Places.{HEAD, node_place}
 use Rattle.word_rule.specs.Sights.{without_sight}
 use Rattle.word_rule.specs.Steps.{after_node_lock}
 use Rattle.word_rule.specs.VersionLocks.{lock_place}
@@ -14,6 +15,8 @@ use Rattle.word_rule.specs.declared.log.LoaderHolding.{LoaderHolding}
 use Rattle.word_rule.specs.declared.log.Log.{Log}
 use Rattle.word_rule.specs.declared.log.LoadEvent.{LoadEvent}
 use Rattle.word_rule.specs.declared.log.NodeSight.{NodeSight}
+use Rattle.node_store.specs.declared.locking.Busy.{Busy}
+use Rattle.node_store.specs.declared.locking.Busy.TheVariants as busy
 
 -- a load of a lock's version word, or a refused exchange there
 abbrev pub IsOfLock : LockId → LoadEvent → Type 0
@@ -59,6 +62,37 @@ Locks (lock.Node n) k k' =
 abbrev pub IsBusy : LockId → CallerData → CallerData → Type 0
 IsBusy id k k' = (found : ℕ) × ((found % 2 ≡ 1)
     × (k' ≡ record k { log = after_load (lock_place id) found k.log }))
+
+-- an update gave up at this lock, which was found taken
+abbrev pub IsBusyAt : LockId → Busy → CallerData → CallerData → Type 0
+IsBusyAt id why k k' = (why ≡ busy.Taken id) × IsBusy id k k'
+
+-- what holds of an update that gave up, unless it lost a node
+abbrev pub UnlessLost : Busy → Type 0 → Type 0
+UnlessLost (busy.Taken id) P = P
+UnlessLost busy.Raced P = P
+UnlessLost busy.Lost P = Unit {0}
+
+-- The free list's head had moved since one of these loads of it: another was found, or the node
+-- that was the first one isn't free any more.
+abbrev pub HasMoved : List LoadEvent → LoadEvent → Type 0
+HasMoved before l = (head : LoadEvent) × (Contains before head × (head.word ≡ HEAD)
+    × (((l.word ≡ HEAD) × (l.found ≢ head.found))
+    ⊎ ((l.word ≡ node_place head.found + 1) × (l.found ≢ 2))))
+
+-- what a load shows of why its caller gave up, after these loads
+abbrev pub ShowsBusy : Busy → List LoadEvent → LoadEvent → Type 0
+ShowsBusy (busy.Taken id) before l = IsOfLock id l × (l.found % 2 ≡ 1)
+ShowsBusy busy.Raced before l = HasMoved before l
+ShowsBusy busy.Lost before l = HasMoved before l
+
+-- Among the loads of these steps is the one that shows why their caller gave up.
+pub record FoundBusy (why : Busy) (k k' : CallerData) : Type 0 where
+  pub before : List LoadEvent
+  pub load : LoadEvent
+  pub behind : List LoadEvent
+  pub loads : k'.log.trace.loads ≡ k.log.trace.loads ++ (before ++ load ∷ behind)
+  pub shows : ShowsBusy why before load
 
 -- A caller took turns at a lock: it holds what it held before, and its names and its calls are as
 -- they were.

@@ -10,11 +10,19 @@ use crate::locks::{lock, unlock, unlock_same, wake_after};
 use std::sync::Wait;
 use word_rule::{Caller, LockId, Words};
 
-/// A lock was taken, so an update gave up.
+/// Why an update gave up.
 #[derive(Clone, Copy, Debug, PartialEq, Eq)]
-pub struct Busy {
-    pub lock: LockId,
+pub enum Busy {
+    /// A lock was taken.
+    Taken { lock: LockId },
+    /// The free list's head moved in each round in which a node was to be taken off.
+    Raced,
+    /// It moved in each round in which a node was to be put back: the node stays out, unlocked.
+    Lost,
 }
+
+/// How often one that gives up tries to take the first free node.
+const ROUNDS: u64 = 16;
 
 /// How locks are taken and let go.
 pub trait Locking {
@@ -43,6 +51,18 @@ pub trait Locking {
         requires lock { IsLock words.now.terms id }
         requires clean { IsHeldClean id me.old.log }
         ensures { me.new ≡ record me.old { log = after_release_same id me.old.log } };
+
+    /// In how many rounds a node is to be taken off the free list, at least one.
+    fn rounds(&self) -> u64
+        ensures { 0 < result };
+
+    /// In how many rounds a node is to be put back, at least one.
+    fn rounds_back(&self) -> u64
+        ensures { 0 < result };
+
+    /// All rounds were lost: returns only where it may say no.
+    fn give_up(&self)
+        ensures { gives_up ≡ true };
 }
 
 /// Waits for each lock, and wakes one that sleeps on it.
@@ -66,6 +86,19 @@ impl<'a, R: Wait> Locking for Waiting<'a, R> {
     fn let_go_same(&self, words: &Words, me: &mut Caller, id: LockId) {
         unlock_same(self.rt, words, me, id);
     }
+
+    fn rounds(&self) -> u64 {
+        u64::MAX
+    }
+
+    fn rounds_back(&self) -> u64 {
+        u64::MAX
+    }
+
+    fn give_up(&self) {
+        for _ in self.rt.forever() {}
+        unreachable!()
+    }
 }
 
 // Takes a lock in one step, or finds it taken.
@@ -80,7 +113,7 @@ fn take_once(words: &Words, me: &mut Caller, id: LockId) -> bool
     }
 }
 
-/// Tries each lock once, and wakes one that sleeps on it.
+/// Tries each lock once and the free list a few times, and wakes one that sleeps on a lock.
 #[derive(Drop)]
 pub struct Trying;
 
@@ -98,9 +131,19 @@ impl Locking for Trying {
     fn let_go_same(&self, words: &Words, me: &mut Caller, id: LockId) {
         wake_after(words, id, words.release_same(me, id));
     }
+
+    fn rounds(&self) -> u64 {
+        ROUNDS
+    }
+
+    fn rounds_back(&self) -> u64 {
+        u64::MAX
+    }
+
+    fn give_up(&self) {}
 }
 
-/// Tries each lock once, and wakes nobody: for words on which no caller ever waits.
+/// Tries likewise, and wakes nobody: for words on which no caller ever waits.
 #[derive(Drop)]
 pub struct Once;
 
@@ -118,4 +161,14 @@ impl Locking for Once {
     fn let_go_same(&self, words: &Words, me: &mut Caller, id: LockId) {
         words.release_same(me, id);
     }
+
+    fn rounds(&self) -> u64 {
+        ROUNDS
+    }
+
+    fn rounds_back(&self) -> u64 {
+        u64::MAX
+    }
+
+    fn give_up(&self) {}
 }

@@ -31,9 +31,9 @@
  * first seven updates. What a client is told never goes back: a stamp is at least, and a number
  * above, any stamp and number that it was told before.
  *
- * How to try again. A call that answers BUSY found a lock taken, and one that answers AGAIN found
- * that something changed on the way. Neither waited. Pause, yield or sleep as the program likes,
- * and ask again. After BUSY the update call stays begun: the next update, the same or another, goes
+ * How to try again. A call that answers BUSY found a lock taken, or the list of free nodes moving
+ * as often as it tried, and one that answers AGAIN found that something changed on the way. Neither
+ * waited. Pause, yield or sleep as the program likes, and ask again. After BUSY the update call stays begun: the next update, the same or another, goes
  * on with it and takes no further one.
  *
  * Beside a busy writer. An update of the registered ranges holds one lock nearly from its first
@@ -205,7 +205,7 @@ enum registry_answer_kind {
   REGISTRY_FULL = 3,      /* at the stamp nothing overlaps, and there is no room             */
   REGISTRY_SPENT = 4,     /* no update call is left, and none is begun, or one that was too  */
                           /* often BUSY                                                      */
-  REGISTRY_BUSY = 5,      /* a lock was found taken, and nothing was changed                 */
+  REGISTRY_BUSY = 5,      /* a lock was found taken, or the free list moved; nothing changed */
   REGISTRY_NO_MEMBER = 6  /* no addresses, or not below 2^64 - 1, or no such payload         */
 };
 

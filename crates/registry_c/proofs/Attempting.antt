@@ -1,16 +1,22 @@
 -- Tries of a client that may add a member: the answers of four variants.
-use Rattle.std.proofs.Common.{◌≡◌, false, refl, ap, subst, arith}
+use Rattle.std.proofs.Common.{◌≡◌, ◌∙◌, ◌<◌, ◌+◌, ◌≤◌, ℕ, Bool, List, [], true, false, true≢false, refl, ap, subst, arith}
 use Rattle.btree_change.specs.Insertion.{TriesInsertion}
 use Rattle.reg_model.specs.declared.answer.Inserted.{Inserted}
 use Rattle.reg_model.specs.declared.answer.Inserted.TheVariants as inserted
 use Rattle.reg_model.specs.declared.answer.Loading.{Loading}
 use Rattle.reg_model.specs.declared.answer.Loading.TheVariants as loading
 use Rattle.registry_core.specs.Begun.{TriesLoad}
-use Rattle.word_rule.specs.CallerData.{CallerData}
-use Rattle.registry_c.specs.Clients.{ClientData}
+use Rattle.word_rule.specs.CallerData.{CallerData, due}
+use Rattle.btree_change.specs.Paths.{IsLeftOut}
+use Rattle.btree_change.specs.Updates.{GivesUp}
+use Rattle.node_store.specs.declared.locking.Busy.{Busy}
+use Rattle.node_store.specs.declared.locking.Busy.TheVariants as busy
+use Rattle.word_rule.specs.Callers.{IsIdle}
+use Rattle.registry_c.specs.Clients.{ClientData, IsClient, begun_count}
 use Rattle.registry_c.specs.Members.{given_member}
-use Rattle.registry_c.specs.Tries.{Begins, TriesCall}
+use Rattle.registry_c.specs.Tries.{Begins, TriesCall, is_lost}
 use Rattle.registry_c.specs.Updates.{Loads, MayAdd, Registers}
+use Rattle.registry_c.specs.declared.attempt.Attempt.TheVariants as attempt
 use Rattle.registry_c.specs.declared.attempt.Attempt.TheVariants.{Answered}
 use Rattle.registry_c.specs.declared.member.RegistryMember.{RegistryMember}
 
@@ -19,13 +25,14 @@ module _ (r : RegistryMember) (c mid : ClientData) (k : CallerData) (may : MayAd
   answered = record mid { me = k; begun = false }
 
   -- the call was answered by a step of the caller from where it was begun
-  stepped : (step : CallerData → CallerData → Type 0) → step mid.me k → TriesCall step false c answered
+  stepped : (step : CallerData → CallerData → Type 0) → step mid.me k → TriesCall step false false c answered
   stepped step s = record {
     may = b.may;
     stepped = subst (λ (z : CallerData). step z k) (ap (λ (z : ClientData). z.me) b.begun) s;
     words = ap (λ (z : ClientData). z.words) b.begun;
     name = ap (λ (z : ClientData). z.name) b.begun;
     begun_now = refl;
+    lost_now = ap (λ (z : ClientData). z.lost) b.begun ∙ b.may.0;
   }
 
   same_terms : mid.words.terms ≡ c.words.terms
@@ -40,6 +47,20 @@ module _ (r : RegistryMember) (c mid : ClientData) (k : CallerData) (may : MayAd
       go (inserted.Overlap other stamp) s = (may, stepped _ s.1)
       go (inserted.Full stamp) s = (may, stepped _ s.1)
 
+  -- it was given up by such a step, and is still begun
+  still_begun : (lost : Bool) (step : CallerData → CallerData → Type 0) → step mid.me k → TriesCall step true lost c (record mid { me = k; lost = lost })
+  still_begun lost step s = record {
+    may = b.may;
+    stepped = subst (λ (z : CallerData). step z k) (ap (λ (z : ClientData). z.me) b.begun) s;
+    words = ap (λ (z : ClientData). z.words) b.begun;
+    name = ap (λ (z : ClientData). z.name) b.begun;
+    begun_now = ap (λ (z : ClientData). z.begun) b.begun;
+    lost_now = refl;
+  }
+
+  pub registered_busy : (why : Busy) → GivesUp why mid.me k → Registers r c (record mid { me = k; lost = is_lost why }) (attempt.Busy why)
+  registered_busy why g = (may, still_begun (is_lost why) (GivesUp why) g)
+
   pub loaded : (answer : Loading) → TriesLoad mid.words.terms (given_member r) mid.me k answer → Loads r c answered (Answered answer)
   loaded answer t = go answer (subst (λ z. TriesLoad z (given_member r) mid.me k answer) same_terms t)
     where
@@ -48,3 +69,26 @@ module _ (r : RegistryMember) (c mid : ClientData) (k : CallerData) (may : MayAd
       go (loading.Done number) s = (may, stepped _ s.1)
       go (loading.Overlap other stamp) s = (may, stepped _ s.1)
       go (loading.LoadFull stamp) s = (may, stepped _ s.1)
+
+-- a client that may try holds nothing
+pub idle_begun : (c mid : ClientData) → IsClient mid → Begins c mid → IsIdle mid.me.log
+idle_begun c mid is b = record { held = is.held; out = is.out (ap (λ (z : ClientData). z.lost) b.begun ∙ b.may.0); loader = is.loader }
+
+-- what is left of one that gave up
+none_out : (why : Busy) (out : List ℕ) → IsLeftOut why out → is_lost why ≡ false → out ≡ []
+none_out (busy.Taken id) out left kept = left
+none_out busy.Raced out left kept = left
+none_out busy.Lost out left kept = absurd (true≢false kept)
+
+count_most : (b : Bool) → begun_count b ≤ 1
+count_most true = omega arith
+count_most false = omega arith
+
+pub gave_up : (mid : ClientData) (why : Busy) (k : CallerData) → IsClient mid → GivesUp why mid.me k → 0 < due k → IsClient (record mid { me = k; lost = is_lost why })
+gave_up mid why k is g begun = record {
+  home = g.table ∙ is.home;
+  held = g.nothing.0;
+  loader = g.loader ∙ is.loader;
+  out = none_out why k.log.holdings.out g.nothing.1;
+  owed = let one = count_most mid.begun in omega (arith, begun, one);
+}

@@ -54,7 +54,7 @@ insertion_told (Answered (inserted.Done number)) = done_told number
 insertion_told (Answered (inserted.Overlap m stamp)) = overlap_told m stamp
 insertion_told (Answered (inserted.Full stamp)) = stamp_told FULL stamp
 insertion_told (Answered inserted.Spent) = stamp_told SPENT 0
-insertion_told (Busy lock) = stamp_told BUSY 0
+insertion_told (Busy why) = stamp_told BUSY 0
 insertion_told NoMember = stamp_told NO_MEMBER 0
 
 -- of a load
@@ -63,7 +63,7 @@ loading_told (Answered (loading.Done number)) = done_told number
 loading_told (Answered (loading.Overlap m stamp)) = overlap_told m stamp
 loading_told (Answered (loading.LoadFull stamp)) = stamp_told FULL stamp
 loading_told (Answered loading.Spent) = stamp_told SPENT 0
-loading_told (Busy lock) = stamp_told BUSY 0
+loading_told (Busy why) = stamp_told BUSY 0
 loading_told NoMember = stamp_told NO_MEMBER 0
 
 -- of a removal, from either half
@@ -71,7 +71,7 @@ abbrev pub removal_told : Attempt Removed → RegistryAnswer
 removal_told (Answered (removed.Done number m)) = removed_told number m
 removal_told (Answered (removed.NotFound stamp)) = stamp_told ABSENT stamp
 removal_told (Answered removed.Spent) = stamp_told SPENT 0
-removal_told (Busy lock) = stamp_told BUSY 0
+removal_told (Busy why) = stamp_told BUSY 0
 removal_told NoMember = stamp_told NO_MEMBER 0
 
 -- An update was tried, which is told in so many words.

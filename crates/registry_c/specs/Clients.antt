@@ -1,14 +1,14 @@
--- A client: the words that it shares, its caller, whether an update call is begun, and the name of
--- its registry.
-use Rattle.std.specs.Prelude.{◌≡◌, ℕ, ◌+◌, ◌≤◌, Bool, true, false, Option, Some, None}
+-- A client: the words that it shares, its caller, whether an update call is begun, whether it lost
+-- a node, and the name of its registry.
+use Rattle.std.specs.Prelude.{◌≡◌, ℕ, ◌+◌, ◌≤◌, Bool, true, false, [], Option, Some, None}
 use Rattle.std.specs.Prelude.{Result, Ok, Err}
 use Rattle.word_rule.specs.CallerData.{CallerData, WordsData}
-use Rattle.word_rule.specs.Callers.{IsIdle}
 
 pub record ClientData : Type 0 where
   pub words : WordsData
   pub me : CallerData
   pub begun : Bool
+  pub lost : Bool
   pub name : ℕ
 
 -- one where a call is begun
@@ -16,11 +16,13 @@ abbrev pub begun_count : Bool → ℕ
 begun_count true = 1
 begun_count false = 0
 
--- Between two calls of C: its caller steps on these words, and holds no lock. The calls that are
--- left and the one that is begun are allowed.
+-- Between two calls of C: its caller steps on these words, holds no lock, and has no node out
+-- unless it lost one. The calls that are left and the one that is begun are allowed.
 pub record IsClient (c : ClientData) : Type 0 where
   pub home : c.me.table ≡ c.words.table
-  pub idle : IsIdle c.me.log
+  pub held : c.me.log.holdings.held ≡ []
+  pub loader : c.me.log.loader ≡ None
+  pub out : c.lost ≡ false → c.me.log.holdings.out ≡ []
   pub owed : c.me.left + begun_count c.begun ≤ c.me.log.budget.allowance
 
 -- a handle leads to a client, or to nothing

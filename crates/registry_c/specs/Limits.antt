@@ -47,6 +47,7 @@ pub record IsFirst (l : RegistryLimits) (fixed : List RegistryMember) (c : Clien
       log = first_log c.words.terms;
     }
     pub idle : c.begun ≡ false
+    pub kept : c.lost ≡ false
     pub name : c.name ≡ l.name
 
 -- The registry was made; or the first thing that stands against it is this one. That memory ran out

@@ -12,8 +12,13 @@ use Rattle.registry_c.specs.declared.splits.SplitFault.TheVariants.{Few, NoMemor
 
 -- the client that is split off with so many update calls, and what is left of the other one
 abbrev pub split_client : ℕ → ClientData → ClientData
-split_client give c =
-    record { words = c.words; me = one_split_off give c.me; begun = false; name = c.name }
+split_client give c = record {
+  words = c.words;
+  me = one_split_off give c.me;
+  begun = false;
+  lost = false;
+  name = c.name;
+}
 
 abbrev pub client_kept : ℕ → ClientData → ClientData
 client_kept give c = record c { me = after_one_split give c.me }
@@ -47,11 +52,12 @@ pub record JoinsClient (other c c' : ClientData) : Type 0 where
   pub words : c'.words ≡ c.words
   pub me : c'.me ≡ after_one_join other.me c.me
   pub begun : c'.begun ≡ (c.begun || other.begun)
+  pub lost : c'.lost ≡ c.lost
   pub name : c'.name ≡ c.name
   pub whole : IsWholeWhereAlone c'.me.log
 
--- It was joined, and its handle leads to nothing; or memory ran out, and its handle leads to it, or
--- it is lost; or its registry has another name, and its handle leads to it.
+-- It was joined, and its handle leads to nothing; or memory ran out or it had lost a node, and its
+-- handle leads to it, or it is gone; or its registry has another name, and its handle leads to it.
 abbrev pub Joins : ClientData → ClientData → ClientData → JoinAnswer → Option ClientData → Type 0
 Joins other c c' Joined None = (other.name ≡ c.name) × JoinsClient other c c'
 Joins other c c' NoMemoryToJoin None = (other.name ≡ c.name) × (c' ≡ c)

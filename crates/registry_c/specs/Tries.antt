@@ -1,17 +1,25 @@
 -- Update calls of a client that are tried until they are answered.
-use Rattle.std.specs.Prelude.{◌≡◌, ◌-◌, ◌<◌, ◌≤◌, ◌&&◌, Bool, true, false, MatchBool, nat_le}
+use Rattle.std.specs.Prelude.{◌≡◌, ◌-◌, ◌<◌, ◌≤◌, ◌⊎◌, ◌&&◌, Bool, true, false, MatchBool, nat_le}
 use Rattle.std.specs.Prelude.{if◌then◌else◌}
 use Rattle.word_rule.specs.CallerData.{CallerData, surplus}
 use Rattle.word_rule.specs.Places.{CALL_CREDIT}
+use Rattle.node_store.specs.declared.locking.Busy.{Busy}
+use Rattle.node_store.specs.declared.locking.Busy.TheVariants as busy
 use Rattle.registry_c.specs.Clients.{ClientData}
 
 -- whether a call is begun, and the releases that it may make are to spare
 abbrev pub is_provided : ClientData → Bool
 is_provided c = c.begun && nat_le CALL_CREDIT (surplus c.me)
 
--- such a call is begun, or one is left, which has releases of its own
+-- whether a try that gave up lost a node
+abbrev pub is_lost : Busy → Bool
+is_lost (busy.Taken id) = false
+is_lost busy.Raced = false
+is_lost busy.Lost = true
+
+-- No node was lost; and such a call is begun, or one is left, which has releases of its own.
 abbrev pub MayTry : ClientData → Type 0
-MayTry c = MatchBool (is_provided c) (Unit {0}) (0 < c.me.left)
+MayTry c = (c.lost ≡ false) × MatchBool (is_provided c) (Unit {0}) (0 < c.me.left)
 
 -- The caller once such a call is begun. Where one was begun that has used up its releases, the one
 -- that is begun takes its place.
@@ -25,15 +33,17 @@ pub record Begins (c c' : ClientData) : Type 0 where
   pub begun : c' ≡ record c { me = begun_caller c; begun = true }
 
 -- A call that is begun was tried, and this was made of the caller. It is still begun, or was
--- answered.
-pub record TriesCall (step : CallerData → CallerData → Type 0) (begun : Bool) (c c' : ClientData)
-    : Type 0 where
+-- answered; and a node was lost or none was.
+pub record TriesCall (step : CallerData → CallerData → Type 0) (begun lost : Bool)
+    (c c' : ClientData) : Type 0 where
   pub may : MayTry c
   pub stepped : step (begun_caller c) c'.me
   pub words : c'.words ≡ c.words
   pub name : c'.name ≡ c.name
   pub begun_now : c'.begun ≡ begun
+  pub lost_now : c'.lost ≡ lost
 
--- No call is left, and none that may be tried is begun; nothing was done.
+-- A node was lost; or no call is left, and none that may be tried is begun. Nothing was done.
 abbrev pub IsSpent : ClientData → ClientData → Type 0
-IsSpent c c' = (c.me.left ≡ 0) × (is_provided c ≡ false) × (c' ≡ c)
+IsSpent c c' =
+    ((c.lost ≡ true) ⊎ ((c.me.left ≡ 0) × (is_provided c ≡ false))) × (c' ≡ c)

@@ -4,7 +4,8 @@ use Rattle.array_publish.specs.Update.{TellsLoad, TellsUnload}
 use Rattle.btree_change.specs.Insertion.{AnswersInsertion}
 use Rattle.btree_change.specs.Removal.{AnswersRemoval}
 use Rattle.btree_change.specs.Updates.{GivesUp}
-use Rattle.node_store.specs.Locking.{IsBusy}
+use Rattle.node_store.specs.Locking.{IsBusyAt}
+use Rattle.word_rule.specs.declared.log.LockId.TheVariants as lock
 use Rattle.reg_model.specs.declared.answer.Inserted.{Inserted}
 use Rattle.reg_model.specs.declared.answer.Inserted.TheVariants as inserted
 use Rattle.reg_model.specs.declared.answer.Loading.{Loading}
@@ -13,7 +14,7 @@ use Rattle.reg_model.specs.declared.answer.Removed.{Removed}
 use Rattle.reg_model.specs.declared.answer.Removed.TheVariants as removed
 use Rattle.registry_c.specs.Clients.{ClientData}
 use Rattle.registry_c.specs.Members.{IsGivenMember, given_member}
-use Rattle.registry_c.specs.Tries.{IsSpent, TriesCall}
+use Rattle.registry_c.specs.Tries.{IsSpent, TriesCall, is_lost}
 use Rattle.registry_c.specs.declared.attempt.Attempt.{Attempt}
 use Rattle.registry_c.specs.declared.attempt.Attempt.TheVariants.{Answered, Busy, NoMember}
 use Rattle.registry_c.specs.declared.member.RegistryMember.{RegistryMember}
@@ -29,31 +30,32 @@ IsNoMember r c c' = (¬ MayAdd c r) × (c' ≡ c)
 -- A registration was tried.
 abbrev pub Registers : RegistryMember → ClientData → ClientData → Attempt Inserted → Type 0
 Registers r c c' NoMember = IsNoMember r c c'
-Registers r c c' (Busy lock) = MayAdd c r × TriesCall (GivesUp lock) true c c'
+Registers r c c' (Busy why) = MayAdd c r × TriesCall (GivesUp why) true (is_lost why) c c'
 Registers r c c' (Answered inserted.Spent) = MayAdd c r × IsSpent c c'
 Registers r c c' (Answered answer) = MayAdd c r
-    × TriesCall (λ k k'. AnswersInsertion c.words.terms (given_member r) answer k k') false c c'
+    × TriesCall (λ k k'. AnswersInsertion c.words.terms (given_member r) answer k k') false false c
+    c'
 
 -- A removal of what is registered.
 abbrev pub Deregisters : ℕ → ClientData → ClientData → Attempt Removed → Type 0
 Deregisters base c c' NoMember = ⊥
-Deregisters base c c' (Busy lock) = TriesCall (GivesUp lock) true c c'
+Deregisters base c c' (Busy why) = TriesCall (GivesUp why) true (is_lost why) c c'
 Deregisters base c c' (Answered removed.Spent) = IsSpent c c'
 Deregisters base c c' (Answered answer) =
-    TriesCall (λ k k'. AnswersRemoval c.words.terms base answer k k') false c c'
+    TriesCall (λ k k'. AnswersRemoval c.words.terms base answer k k') false false c c'
 
 -- A load.
 abbrev pub Loads : RegistryMember → ClientData → ClientData → Attempt Loading → Type 0
 Loads r c c' NoMember = IsNoMember r c c'
-Loads r c c' (Busy lock) = MayAdd c r × TriesCall (IsBusy lock) true c c'
+Loads r c c' (Busy why) = MayAdd c r × TriesCall (IsBusyAt lock.Loader why) true false c c'
 Loads r c c' (Answered loading.Spent) = MayAdd c r × IsSpent c c'
 Loads r c c' (Answered answer) = MayAdd c r
-    × TriesCall (λ k k'. TellsLoad c.words.terms (given_member r) k k' answer) false c c'
+    × TriesCall (λ k k'. TellsLoad c.words.terms (given_member r) k k' answer) false false c c'
 
 -- An unload.
 abbrev pub Unloads : ℕ → ClientData → ClientData → Attempt Removed → Type 0
 Unloads base c c' NoMember = ⊥
-Unloads base c c' (Busy lock) = TriesCall (IsBusy lock) true c c'
+Unloads base c c' (Busy why) = TriesCall (IsBusyAt lock.Loader why) true false c c'
 Unloads base c c' (Answered removed.Spent) = IsSpent c c'
 Unloads base c c' (Answered answer) =
-    TriesCall (λ k k'. TellsUnload c.words.terms base k k' answer) false c c'
+    TriesCall (λ k k'. TellsUnload c.words.terms base k k' answer) false false c c'

@@ -5,15 +5,15 @@ ghost use Rattle.registry_c.specs.Answers.{done_told, insertion_told, loading_to
 ghost use Rattle.registry_c.specs.Answers.{removal_told, removed_told, stamp_told};
 
 use crate::member::RegistryMember;
+use node_store::Busy;
 use reg_model::{Inserted, Loading, Member, Removed};
-use word_rule::LockId;
 
-/// What came of a try of an update: an answer; a lock that was found taken, and then the call is
-/// still begun; or that what C told is no member.
+/// What came of a try of an update: an answer; why it was given up, and then the call is still
+/// begun; or that what C told is no member.
 #[derive(Clone, Copy, Debug, PartialEq, Eq)]
 pub enum Attempt<A> {
     Answered { answer: A },
-    Busy { lock: LockId },
+    Busy { why: Busy },
     NoMember,
 }
 

@@ -20,6 +20,8 @@ pub struct Client {
     pub(crate) me: Caller,
     /// Whether an update call is begun, and not answered yet.
     pub(crate) begun: bool,
+    /// Whether a node couldn't be put back: it makes no more updates then.
+    pub(crate) lost: bool,
     /// Those that there are.
     pub(crate) payloads: u32,
     /// The name of its registry.
@@ -37,6 +39,7 @@ impl Model for Client {
       words = arc_value c.registry;
       me = c.me;
       begun = c.begun;
+      lost = c.lost;
       name = c.name;
     } };
 
@@ -44,6 +47,7 @@ impl Model for Client {
       words = arc_value c.registry;
       me = c.me;
       begun = c.begun;
+      lost = c.lost;
       name = c.name;
     } × (c.payloads ≡ (arc_value c.registry).terms.payloads) };
 }
@@ -71,6 +75,7 @@ impl Client {
             registry,
             me,
             begun: false,
+            lost: false,
             payloads: limits.payloads,
             name: limits.name,
         };

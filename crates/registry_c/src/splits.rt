@@ -58,6 +58,7 @@ impl Client {
             registry,
             me,
             begun: false,
+            lost: false,
             payloads: self.payloads,
             name: self.name,
         };
@@ -68,7 +69,7 @@ impl Client {
     }
 
     /// Joins another client of the same registry into this one. Where there is no memory it comes
-    /// back, or is lost.
+    /// back, or is gone; it comes back where it has lost a node.
     pub(crate) fn join(
         &mut self,
         alloc: Global,
@@ -79,12 +80,16 @@ impl Client {
         ensures same { OnErr result (self.new ≡ self.old) }
         ensures back { IfErr result (λ back. IfSome back (λ b. b.value ≡ other.value)) }
     {
+        if other.lost {
+            return Err(Some(other));
+        }
         let Client {
             registry,
             me,
             begun,
             payloads,
             name,
+            ..
         } = Box::into_inner(other);
         let Err(me) = self.registry.words().join(alloc, &mut self.me, me) else {
             self.begun = self.begun || begun;
@@ -94,6 +99,7 @@ impl Client {
             registry,
             me,
             begun,
+            lost: false,
             payloads,
             name,
         };

@@ -7,16 +7,27 @@ ghost use Rattle.std.specs.Prelude.{◌≡◌, MatchBool};
 ghost use Rattle.registry_c.specs.Clients.{LeadsToClient, LeadsNowhere, Makes};
 ghost use Rattle.registry_c.specs.Answers.{TellsAttempt, insertion_told, loading_told};
 ghost use Rattle.registry_c.specs.Answers.{removal_told};
-ghost use Rattle.registry_c.specs.Tries.{Begins, IsSpent, is_provided};
+ghost use Rattle.registry_c.specs.Tries.{Begins, IsSpent, is_lost, is_provided};
 ghost use Rattle.registry_c.specs.Updates.{Deregisters, Loads, Registers, Unloads};
 
 use crate::attempt::{Attempt, RegistryAnswer};
 use crate::client::Client;
 use crate::handle::ClientHandle;
 use crate::member::RegistryMember;
-use node_store::Once;
+use node_store::{Busy, Once};
 use reg_model::{Inserted, Loading, Removed};
 use std::alloc::Global;
+
+/// Whether a try that gave up lost a node.
+fn is_lost(why: Busy) -> bool
+    ensures { result ≡ is_lost why }
+{
+    match why {
+        Busy::Taken { .. } => false,
+        Busy::Raced => false,
+        Busy::Lost => true,
+    }
+}
 
 impl Client {
     /// Whether a call is begun, and the releases that it may make are to spare.
@@ -27,10 +38,13 @@ impl Client {
     }
 
     /// Begins an update call, unless one is begun that has its releases; and says whether it may be
-    /// tried.
+    /// tried. None may be once a node was lost.
     fn begin(&mut self) -> bool
         ensures { MatchBool result (Begins self.old self.new) (IsSpent self.old self.new) }
     {
+        if self.lost {
+            return false;
+        }
         if self.is_provided() {
             return true;
         }
@@ -57,7 +71,10 @@ impl Client {
                 self.begun = false;
                 Attempt::Answered { answer: inserted }
             }
-            Err(busy) => Attempt::Busy { lock: busy.lock },
+            Err(why) => {
+                self.lost = is_lost(why);
+                Attempt::Busy { why }
+            }
         }
     }
 
@@ -74,7 +91,10 @@ impl Client {
                 self.begun = false;
                 Attempt::Answered { answer: removed }
             }
-            Err(busy) => Attempt::Busy { lock: busy.lock },
+            Err(why) => {
+                self.lost = is_lost(why);
+                Attempt::Busy { why }
+            }
         }
     }
 
@@ -94,7 +114,7 @@ impl Client {
                 self.begun = false;
                 Attempt::Answered { answer: loading }
             }
-            Err(busy) => Attempt::Busy { lock: busy.lock },
+            Err(why) => Attempt::Busy { why },
         }
     }
 
@@ -111,7 +131,7 @@ impl Client {
                 self.begun = false;
                 Attempt::Answered { answer: unloaded }
             }
-            Err(busy) => Attempt::Busy { lock: busy.lock },
+            Err(why) => Attempt::Busy { why },
         }
     }
 }

@@ -8,7 +8,7 @@ ghost use Rattle.btree_change.specs.Insertion.{Inserts, TriesInsertion};
 ghost use Rattle.btree_change.specs.Removal.{Removes, TriesRemoval};
 ghost use Rattle.btree_change.specs.Updates.{GivesUp};
 ghost use Rattle.btree_lookup.specs.Tries.{TriesTree};
-ghost use Rattle.node_store.specs.Locking.{IsBusy};
+ghost use Rattle.node_store.specs.Locking.{IsBusyAt, UnlessLost};
 ghost use Rattle.reg_model.specs.Chain.{Chain};
 ghost use Rattle.reg_model.specs.Receipt.{IsPlace, receipts_of_place};
 ghost use Rattle.reg_model.specs.SpanData.{IsSpan};
@@ -20,6 +20,7 @@ ghost use Rattle.word_rule.specs.CallerData.{due, surplus};
 ghost use Rattle.word_rule.specs.Callers.{IsAlone, IsIdle, IsWhole};
 ghost use Rattle.word_rule.specs.Logs.{first_log};
 ghost use Rattle.word_rule.specs.Places.{ALLOWANCE, CALL_CREDIT};
+ghost use Rattle.word_rule.specs.declared.log.LockId.TheVariants as lock;
 ghost use Rattle.registry_core.specs.Begun.{TriesLoad, TriesUnload};
 ghost use Rattle.registry_core.specs.Calls.{Answered, Receives, receipts_of_deregister};
 ghost use Rattle.registry_core.specs.Calls.{receipts_of_load, receipts_of_register};
@@ -121,8 +122,8 @@ impl Registry {
     }
 
     /// Registers a member as `register` does, for an update call that was begun. Spent where the
-    /// caller has fewer than 64 releases to spare. Busy where a lock on the way was found taken and
-    /// `locking` gives up: then the call is still begun, and may be tried again.
+    /// caller has fewer than 64 releases to spare. Busy where `locking` gives up: the call is still
+    /// begun then, and may be tried again by a caller that didn't lose a node.
     pub fn register_by<L: Locking>(
         &self,
         locking: &L,
@@ -136,9 +137,10 @@ impl Registry {
         ensures answer { IfOk result (TriesInsertion self.now.terms member me.old me.new) }
         ensures terms { CALL_CREDIT ≤ surplus me.old → me.old.log.terms ≡ self.now.terms }
         ensures busy { IfErr result (λ e. (CALL_CREDIT ≤ surplus me.old)
-            × GivesUp e.lock me.old me.new × (L.gives_up ≡ true)) }
+            × GivesUp e me.old me.new × (L.gives_up ≡ true)) }
         ensures table { me.new.table ≡ me.old.table }
-        ensures idle { IsIdle me.new.log }
+        ensures idle { OnOk result (IsIdle me.new.log) }
+        ensures again { IfErr result (λ e. UnlessLost e (IsIdle me.new.log)) }
         ensures due { OnErr result (0 < due me.new) }
     {
         if !me.may_try() {
@@ -156,17 +158,18 @@ impl Registry {
         ensures answer { IfOk result (TriesInsertion self.now.terms member me.old me.new) }
         ensures terms { CALL_CREDIT ≤ surplus me.old → me.old.log.terms ≡ self.now.terms }
         ensures busy { IfErr result
-            (λ e. (CALL_CREDIT ≤ surplus me.old) × GivesUp e.lock me.old me.new) }
+            (λ e. (CALL_CREDIT ≤ surplus me.old) × GivesUp e me.old me.new) }
         ensures table { me.new.table ≡ me.old.table }
-        ensures idle { IsIdle me.new.log }
+        ensures idle { OnOk result (IsIdle me.new.log) }
+        ensures again { IfErr result (λ e. UnlessLost e (IsIdle me.new.log)) }
         ensures due { OnErr result (0 < due me.new) }
     {
         self.register_by(&Trying, me, member)
     }
 
     /// Removes a registered member as `deregister` does, for an update call that was begun. Spent
-    /// where the caller has fewer than 64 releases to spare. Busy where a lock on the way was found
-    /// taken and `locking` gives up: then the call is still begun, and may be tried again.
+    /// where the caller has fewer than 64 releases to spare. Busy where `locking` gives up: the
+    /// call is still begun then, and may be tried again by a caller that didn't lose a node.
     pub fn deregister_by<L: Locking>(
         &self,
         locking: &L,
@@ -179,9 +182,10 @@ impl Registry {
         ensures answer { IfOk result (TriesRemoval self.now.terms base me.old me.new) }
         ensures terms { CALL_CREDIT ≤ surplus me.old → me.old.log.terms ≡ self.now.terms }
         ensures busy { IfErr result (λ e. (CALL_CREDIT ≤ surplus me.old)
-            × GivesUp e.lock me.old me.new × (L.gives_up ≡ true)) }
+            × GivesUp e me.old me.new × (L.gives_up ≡ true)) }
         ensures table { me.new.table ≡ me.old.table }
-        ensures idle { IsIdle me.new.log }
+        ensures idle { OnOk result (IsIdle me.new.log) }
+        ensures again { IfErr result (λ e. UnlessLost e (IsIdle me.new.log)) }
         ensures due { OnErr result (0 < due me.new) }
     {
         if !me.may_try() {
@@ -198,9 +202,10 @@ impl Registry {
         ensures answer { IfOk result (TriesRemoval self.now.terms base me.old me.new) }
         ensures terms { CALL_CREDIT ≤ surplus me.old → me.old.log.terms ≡ self.now.terms }
         ensures busy { IfErr result
-            (λ e. (CALL_CREDIT ≤ surplus me.old) × GivesUp e.lock me.old me.new) }
+            (λ e. (CALL_CREDIT ≤ surplus me.old) × GivesUp e me.old me.new) }
         ensures table { me.new.table ≡ me.old.table }
-        ensures idle { IsIdle me.new.log }
+        ensures idle { OnOk result (IsIdle me.new.log) }
+        ensures again { IfErr result (λ e. UnlessLost e (IsIdle me.new.log)) }
         ensures due { OnErr result (0 < due me.new) }
     {
         self.deregister_by(&Trying, me, base)
@@ -237,7 +242,7 @@ impl Registry {
         ensures terms { OnOk result (CALL_CREDIT ≤ surplus me.old
             → me.old.log.terms ≡ self.now.terms) }
         ensures busy { IfErr result (λ e. (CALL_CREDIT ≤ surplus me.old)
-            × IsBusy e.lock me.old me.new × (L.gives_up ≡ true)) }
+            × IsBusyAt lock.Loader e me.old me.new × (L.gives_up ≡ true)) }
         ensures free { IsFreeAgain me.old me.new }
     {
         if !me.may_try() {
@@ -276,7 +281,7 @@ impl Registry {
         ensures terms { OnOk result (CALL_CREDIT ≤ surplus me.old
             → me.old.log.terms ≡ self.now.terms) }
         ensures busy { IfErr result (λ e. (CALL_CREDIT ≤ surplus me.old)
-            × IsBusy e.lock me.old me.new × (L.gives_up ≡ true)) }
+            × IsBusyAt lock.Loader e me.old me.new × (L.gives_up ≡ true)) }
         ensures free { IsFreeAgain me.old me.new }
     {
         if !me.may_try() {

@@ -200,7 +200,7 @@ fn an_update_that_gives_up_is_busy_and_can_be_tried_again(rt: HostRuntime) -> Re
     let Some(one) = member(0x1000, 0x20, 0) else {
         panic!(rt; "span")
     };
-    let busy = Busy {
+    let busy = Busy::Taken {
         lock: LockId::Loader,
     };
     assert!(rt; b.use_one() && b.left() == 1);

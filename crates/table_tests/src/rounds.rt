@@ -1,6 +1,6 @@
 ghost use Rattle.std.specs.Prelude.{◌≡◌, ◌<◌, IfSome, None};
 
-use node_store::{Trying, check, lock, peek, unlock};
+use node_store::{Busy, Trying, check, lock, peek, unlock};
 use reg_model::{Again, Found, Inserted, Loading, Member, Place, Removed, Span};
 use registry_core::Registry;
 use std::sync::Wait;
@@ -201,10 +201,10 @@ fn a_try_to_register_beside_a_locked_root(rt: HostRuntime) -> Result<(), Fail> {
         panic!(rt; "nobody has the root")
     };
     assert!(rt; version == 0 && b.use_one());
-    let Err(busy) = registry.try_register(&mut b, one) else {
+    let Err(Busy::Taken { lock }) = registry.try_register(&mut b, one) else {
         panic!(rt; "the root is locked")
     };
-    assert!(rt; busy.lock == root);
+    assert!(rt; lock == root);
     assert!(rt; registry.words().release_same(&mut a, root) == 1);
     assert!(rt; registry.try_register(&mut b, same) == Ok(Inserted::Done { number: 1 }));
     Ok(())
@@ -224,10 +224,10 @@ fn a_try_to_deregister_beside_a_locked_root(rt: HostRuntime) -> Result<(), Fail>
         panic!(rt; "nobody has the root")
     };
     assert!(rt; version == 4 && b.use_one());
-    let Err(busy) = registry.try_deregister(&mut b, 0x1000) else {
+    let Err(Busy::Taken { lock }) = registry.try_deregister(&mut b, 0x1000) else {
         panic!(rt; "the root is locked")
     };
-    assert!(rt; busy.lock == root);
+    assert!(rt; lock == root);
     assert!(rt; registry.words().release_same(&mut a, root) == 5);
     let done = Removed::Done {
         number: 2,
@@ -249,10 +249,10 @@ fn a_try_to_load_beside_the_loaders_lock(rt: HostRuntime) -> Result<(), Fail> {
         panic!(rt; "nobody has the loader's lock")
     };
     assert!(rt; version == 0 && b.use_one());
-    let Err(busy) = registry.load_by(&Trying, &mut b, one) else {
+    let Err(Busy::Taken { lock }) = registry.load_by(&Trying, &mut b, one) else {
         panic!(rt; "the loader's lock is taken")
     };
-    assert!(rt; busy.lock == LockId::Loader);
+    assert!(rt; lock == LockId::Loader);
     assert!(rt; registry.words().release_same(&mut a, LockId::Loader) == 1);
     assert!(rt; registry.load_by(&Trying, &mut b, same) == Ok(Loading::Done { number: 1 }));
     Ok(())
@@ -271,10 +271,10 @@ fn a_try_to_unload_beside_the_loaders_lock(rt: HostRuntime) -> Result<(), Fail> 
         panic!(rt; "nobody has the loader's lock")
     };
     assert!(rt; version == 4 && b.use_one());
-    let Err(busy) = registry.unload_by(&Trying, &mut b, 0x1000) else {
+    let Err(Busy::Taken { lock }) = registry.unload_by(&Trying, &mut b, 0x1000) else {
         panic!(rt; "the loader's lock is taken")
     };
-    assert!(rt; busy.lock == LockId::Loader);
+    assert!(rt; lock == LockId::Loader);
     assert!(rt; registry.words().release_same(&mut a, LockId::Loader) == 5);
     let done = Removed::Done {
         number: 2,

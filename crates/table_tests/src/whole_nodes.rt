@@ -1,28 +1,26 @@
 ghost use Rattle.std.specs.Prelude.{◌≡◌, ◌+◌, ◌*◌, ◌<◌, ◌≤◌, [], true, IsTrue};
 ghost use Rattle.tree_shape.specs.Numbers.{is_among};
 ghost use Rattle.word_rule.specs.CallerData.{surplus};
-ghost use Rattle.node_store.specs.Free.{HoldsOut, IsSettled};
+ghost use Rattle.node_store.specs.Free.{HoldsOut};
 
-use crate::free_list::{gives, takes};
-use node_store::{CONTENT_WORDS, Sight, check, lock, peek, unlock_same, write_held};
+use crate::free_list::{gives, taken};
+use node_store::{CONTENT_WORDS, Sight, check, peek, write_held};
 use reg_model::{Member, Span};
 use std::sync::Wait;
 use std::test::Fail;
 use std::thread::{Threads, join};
 use tree_shape::{Content, ENTRIES, Node};
-use word_rule::{Caller, LockId, Words, places};
+use word_rule::{Caller, Words, places};
 
 // Where the entries of a leaf begin among its content words, and how many words one has.
 const FIRST: usize = places::FIRST as usize;
 
 const ENTRY_WORDS: usize = places::ENTRY_WORDS as usize;
 
-const ROOT: LockId = LockId::Node { node: 0 };
-
 // How often each of two threads writes.
 const TURNS: u32 = 1000;
 
-// The version at which both are done.
+// What the versions of the three free nodes add up to when both are done.
 const LAST: u64 = 8000;
 
 // How often a third looks, at most.
@@ -66,74 +64,35 @@ fn write_taken(words: &Words, me: &mut Caller, node: u32, content: &Node) -> boo
     kind == FREE
 }
 
-// Takes node 1 under the root's lock, writes it and puts it back. It is free then, and its other
-// words are as they were written.
-fn write_one(words: &Words, me: &mut Caller, content: &Node) -> bool
-    requires table { me.old.table ≡ words.now.table }
-    requires nodes { words.now.terms.nodes ≡ 4 }
-    requires holds { HoldsOut me.old.log }
-    requires out { me.old.log.holdings.out ≡ [] }
-    requires surplus { 0 < surplus me.old }
-    ensures table { me.new.table ≡ me.old.table }
-    ensures surplus { surplus me.old ≤ surplus me.new + 1 }
-    ensures holds { HoldsOut me.new.log }
-    ensures out { result ≡ true → me.new.log.holdings.out ≡ [] }
-{
-    if !takes(words, me, Some(1)) {
-        return false;
-    }
-    let was_free = write_taken(words, me, 1, content);
-    gives(words, me, 1);
-    was_free
-}
-
-fn lock_root<R: Wait>(rt: &R, words: &Words, me: &mut Caller)
-    requires table { me.old.table ≡ words.now.table }
-    requires nodes { words.now.terms.nodes ≡ 4 }
-    requires settled { IsSettled me.old.log }
-    requires out { me.old.log.holdings.out ≡ [] }
-    ensures table { me.new.table ≡ me.old.table }
-    ensures surplus { surplus me.new ≡ surplus me.old }
-    ensures holds { HoldsOut me.new.log }
-    ensures out { me.new.log.holdings.out ≡ [] }
-{
-    lock(rt, words, me, ROOT);
-}
-
-fn unlock_root<R: Wait>(rt: &R, words: &Words, me: &mut Caller)
-    requires table { me.old.table ≡ words.now.table }
-    requires nodes { words.now.terms.nodes ≡ 4 }
-    requires holds { HoldsOut me.old.log }
-    ensures table { me.new.table ≡ me.old.table }
-    ensures surplus { surplus me.new ≡ surplus me.old }
-    ensures settled { IsSettled me.new.log }
-    ensures out { me.new.log.holdings.out ≡ me.old.log.holdings.out }
-{
-    unlock_same(rt, words, me, ROOT);
-}
-
+// Takes the first free node, writes it and puts it back. It is free then, and its other words are
+// as they were written.
 fn turn<R: Wait>(rt: &R, words: &Words, me: &mut Caller, content: &Node) -> bool
     requires table { me.old.table ≡ words.now.table }
     requires nodes { words.now.terms.nodes ≡ 4 }
-    requires settled { IsSettled me.old.log }
+    requires holds { HoldsOut me.old.log }
     requires out { me.old.log.holdings.out ≡ [] }
     requires surplus { 0 < surplus me.old }
     ensures table { me.new.table ≡ me.old.table }
     ensures surplus { surplus me.old ≤ surplus me.new + 1 }
-    ensures settled { IsSettled me.new.log }
+    ensures holds { HoldsOut me.new.log }
     ensures out { result ≡ true → me.new.log.holdings.out ≡ [] }
 {
-    lock_root(rt, words, me);
-    let done = write_one(words, me, content);
-    unlock_root(rt, words, me);
-    done
+    let Some(node) = taken(rt, words, me) else {
+        return false;
+    };
+    if node >= 4 {
+        return false;
+    }
+    let was_free = write_taken(words, me, node, content);
+    gives(rt, words, me, node);
+    was_free
 }
 
-// Writes a thousand times, and says whether each time node 1 was there to be taken.
+// Writes a thousand times, and says whether each time a free node was there to be taken.
 fn write_often<R: Wait>(rt: &R, words: &Words, mut me: Caller, first: u32) -> bool
     requires table { me.table ≡ words.now.table }
     requires nodes { words.now.terms.nodes ≡ 4 }
-    requires settled { IsSettled me.log }
+    requires holds { HoldsOut me.log }
     requires out { me.log.holdings.out ≡ [] }
     requires first { first ≤ 1_000_000 }
     requires surplus { 1000 ≤ surplus me }
@@ -171,13 +130,13 @@ fn is_whole(sight: &Sight, node: &Node) -> bool {
         && is_filled(&sight.words, node.low)
 }
 
-// Looks at node 1: the version of a sight that was checked, and whether it was whole.
-fn look(words: &Words, me: &mut Caller) -> Option<(u64, bool)>
+// Looks at a node: the version of a sight that was checked, and whether it was whole.
+fn look(words: &Words, me: &mut Caller, node: u32) -> Option<(u64, bool)>
     requires table { me.old.table ≡ words.now.table }
-    requires nodes { words.now.terms.nodes ≡ 4 }
+    requires inside { node < words.now.terms.nodes }
     ensures table { me.new.table ≡ me.old.table }
 {
-    let Ok(sight) = peek(words, me, 1) else {
+    let Ok(sight) = peek(words, me, node) else {
         return None;
     };
     let Ok(node) = check(words, me, &sight) else {
@@ -186,16 +145,31 @@ fn look(words: &Words, me: &mut Caller) -> Option<(u64, bool)>
     Some((sight.version, is_whole(&sight, &node)))
 }
 
-// Looks at node 1 until both are done, and says whether each sight that was checked was whole.
+// Looks at each of the three free nodes: whether all sights were whole, once both are done.
+fn look_around(words: &Words, me: &mut Caller) -> Option<bool>
+    requires table { me.old.table ≡ words.now.table }
+    requires nodes { words.now.terms.nodes ≡ 4 }
+    ensures table { me.new.table ≡ me.old.table }
+{
+    let (first, one) = look(words, me, 1)?;
+    let (second, two) = look(words, me, 2)?;
+    let (third, three) = look(words, me, 3)?;
+    let whole = one && two && three;
+    if !whole || first.saturating_add(second).saturating_add(third) == LAST {
+        Some(whole)
+    } else {
+        None
+    }
+}
+
+// Looks at them until both are done, and says whether each sight that was checked was whole.
 fn look_on(words: &Words, mut me: Caller) -> bool
     requires table { me.table ≡ words.now.table }
     requires nodes { words.now.terms.nodes ≡ 4 }
 {
     for step in 0..LOOKS {
-        if let Some((version, whole)) = look(words, &mut me) {
-            if version == LAST || !whole {
-                return whole;
-            }
+        if let Some(whole) = look_around(words, &mut me) {
+            return whole;
         }
     }
     false
@@ -204,7 +178,7 @@ fn look_on(words: &Words, mut me: Caller) -> bool
 fn two_write<R: Threads + Wait + Sync>(rt: &R, words: &Words, a: Caller, b: Caller) -> bool
     requires tables { (a.table ≡ words.now.table) × (b.table ≡ words.now.table) }
     requires nodes { words.now.terms.nodes ≡ 4 }
-    requires settled { IsSettled a.log × IsSettled b.log }
+    requires holds { HoldsOut a.log × HoldsOut b.log }
     requires out { (a.log.holdings.out ≡ []) × (b.log.holdings.out ≡ []) }
     requires surplus { (1000 ≤ surplus a) × (1000 ≤ surplus b) }
 {
@@ -212,11 +186,11 @@ fn two_write<R: Threads + Wait + Sync>(rt: &R, words: &Words, a: Caller, b: Call
         rt,
         || -> bool
             requires { (a.table ≡ words.now.table) × (words.now.terms.nodes ≡ 4)
-                × IsSettled a.log × (a.log.holdings.out ≡ []) × (1000 ≤ surplus a) }
+                × HoldsOut a.log × (a.log.holdings.out ≡ []) × (1000 ≤ surplus a) }
         { write_often(rt, words, a, 1) },
         || -> bool
             requires { (b.table ≡ words.now.table) × (words.now.terms.nodes ≡ 4)
-                × IsSettled b.log × (b.log.holdings.out ≡ []) × (1000 ≤ surplus b) }
+                × HoldsOut b.log × (b.log.holdings.out ≡ []) × (1000 ≤ surplus b) }
         { write_often(rt, words, b, 1_000_000) },
     );
     first && second
@@ -232,7 +206,7 @@ fn one_looks_on<R: Threads + Wait + Sync>(
     requires tables { (a.table ≡ words.now.table) × (b.table ≡ words.now.table)
         × (c.table ≡ words.now.table) }
     requires nodes { words.now.terms.nodes ≡ 4 }
-    requires settled { IsSettled a.log × IsSettled b.log }
+    requires holds { HoldsOut a.log × HoldsOut b.log }
     requires out { (a.log.holdings.out ≡ []) × (b.log.holdings.out ≡ []) }
     requires surplus { (1000 ≤ surplus a) × (1000 ≤ surplus b) }
 {
@@ -240,7 +214,7 @@ fn one_looks_on<R: Threads + Wait + Sync>(
         rt,
         || -> bool
             requires { (a.table ≡ words.now.table) × (b.table ≡ words.now.table)
-                × (words.now.terms.nodes ≡ 4) × (IsSettled a.log × IsSettled b.log)
+                × (words.now.terms.nodes ≡ 4) × (HoldsOut a.log × HoldsOut b.log)
                 × ((a.log.holdings.out ≡ []) × (b.log.holdings.out ≡ []))
                 × ((1000 ≤ surplus a) × (1000 ≤ surplus b)) }
         { two_write(rt, words, a, b) },

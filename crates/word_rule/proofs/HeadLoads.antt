@@ -1,5 +1,5 @@
 -- A load of the free head keeps the rule: where it is 0, all nodes are live but those that callers have out.
-use Rattle.std.proofs.Common.{◌≡◌, ℕ, zero, suc, ◌+◌, ◌-◌, ◌*◌, ◌<◌, ◌≤◌, List, [], ◌∷◌, length, get_or, sym, refl, ap, ◌∙◌, subst, arith, ◌==◌, nat_lt, Bool, true, false, Some, None, IfSome, IsSome, is_some, eq-eqb, ne_eqb, lt-ltb, if◌then◌else◌}
+use Rattle.std.proofs.Common.{◌≡◌, ℕ, zero, suc, ◌+◌, ◌-◌, ◌*◌, ◌<◌, ◌≤◌, List, [], ◌∷◌, length, get_or, set, sym, refl, ap, ◌∙◌, subst, arith, ◌==◌, nat_lt, Bool, true, false, Some, None, IfSome, IsSome, is_some, eq-eqb, ne_eqb, lt-ltb, if◌then◌else◌}
 use mathlib.Core.Option.{none, some}
 use native.Mathlib.Decide.{ℕ_discrete}
 use lib.ListN.{get_elem?}
@@ -114,7 +114,7 @@ module _ (t : Terms) (slots id : ℕ) (me : Seated) (caller : me.0.role ≡ role
     }
 
     -- the head is a node
-    head_within : get_or s.words 1 0 < t.nodes
+    pub head_within : get_or s.words 1 0 < t.nodes
     head_within = go r.memory.shadow.free r.memory.nodes.chain refl
       where
         go : (free : List ℕ) → IsChain (memory_of t s.words).nodes.contents (get_or s.words 1 0) free → r.memory.shadow.free ≡ free → get_or s.words 1 0 < t.nodes
@@ -129,34 +129,26 @@ module _ (t : Terms) (slots id : ℕ) (me : Seated) (caller : me.0.role ≡ role
                 let list : times (get_or s.words 1 0) r.memory.shadow.free ≡ once (get_or s.words 1 0 == k) + times (get_or s.words 1 0) free = ap (times (get_or s.words 1 0)) is in
                 let one : once (get_or s.words 1 0 == k) ≡ 1 = rw (eq-eqb (get_or s.words 1 0) k chain.0) refl in absurd (omega (arith, all, nothing, list, one))
 
-    mine : HoldingsHold t (memory_of t s.words).nodes r.memory.shadow id (after_head_load (get_or s.words 1 0) me.0).holdings
-    mine = let h = r.memory.nodes.holdings id me.0 here in record {
-      each = h.each;
-      once = h.once;
-      few_out = h.few_out;
-      head = go (is_some (held_of 0 me.0.holdings.held)) refl;
-    }
-      where
-        go : (b : Bool) → is_some (held_of 0 me.0.holdings.held) ≡ b → IfSome (if b then Some (get_or s.words 1 0) else None) (λ k. ((memory_of t s.words).nodes.head ≡ k) × IsSome (held_of 0 me.0.holdings.held))
-        go true e = (refl, e)
-        go false e = tt
-
-  pub loads_free_head : EntriesLaw → OrderLaw → Allows Holds slots id me 1 (λ k. k) (loads_head t (step slots 1 0 0 none) me)
-  loads_free_head entries_law order s r deep here small =
+  -- the rule after the load
+  pub looked : EntriesLaw → OrderLaw → (s : Sit) (r : Holds s) → get_elem? s.views id ≡ some me.0 → TableInvariant t (set s.words 1 (get_or s.words 1 0)) (set s.views id (after_head_load (get_or s.words 1 0) me.0))
+  looked entries_law order s r here =
       let found : ℕ = get_or s.words 1 0 in
       let w : Log = after_head_load found me.0 in
       let m : Memory = memory_of t s.words in
       let callers : ℕ = total (λ u. u.made) s.views + 1 in
-      let terms : me.0.terms ≡ t = (r.memory.callers.each id me.0 here).terms stands in (
-        w,
-        keeps,
-        tt,
-        quiet t s.words s.views r id me.0 w here stands 1 (record { terms = refl; role = refl; past = refl; receipts = refl; allowance = refl; made = refl; lineage = refl }) refl refl (busy me.0 w caller)
-            (mine entries_law order s r here) (λ _ k. k) (λ _. refl)
-            (observations_same t m r.memory.history callers r.memory.shadow me.0 w (load_of me.0 1 found ∷ []) (record { own = refl; turns = omega arith; loads = refl }) refl (head_full entries_law order s r here, tt) ((omega arith, omega arith), tt) (r.memory.observations id me.0 here))
-            (λ alone. still_after_load s.words me.0 w (load_of me.0 1 found) refl refl refl (r.alone id me.0 here alone)),
-        (refl, terms, head_within entries_law order s r here, r.memory.callers.terms.nodes.1),
-      )
+      quiet t s.words s.views r id me.0 w here stands 1 (record { terms = refl; role = refl; past = refl; receipts = refl; allowance = refl; made = refl; lineage = refl }) refl refl (busy me.0 w caller)
+      (r.memory.nodes.holdings id me.0 here) (λ _ k. k) (λ _. refl)
+      (observations_same t m r.memory.history callers r.memory.shadow me.0 w (load_of me.0 1 found ∷ []) (record { own = refl; turns = omega arith; loads = refl }) refl (head_full entries_law order s r here, tt) ((omega arith, omega arith), tt) (r.memory.observations id me.0 here))
+      (λ alone. still_after_load s.words me.0 w (load_of me.0 1 found) refl refl refl (r.alone id me.0 here alone))
+
+  pub loads_free_head : EntriesLaw → OrderLaw → Allows Holds slots id me 1 (λ k. k) (loads_head t (step slots 1 0 0 none) me)
+  loads_free_head entries_law order s r deep here small = (
+    after_head_load (get_or s.words 1 0) me.0,
+    keeps,
+    tt,
+    looked entries_law order s r here,
+    (refl, (r.memory.callers.each id me.0 here).terms stands, head_within entries_law order s r here, r.memory.callers.terms.nodes.1),
+  )
 
   -- the same, told of terms that are known to be these
   pub loads_head_of : EntriesLaw → OrderLaw → (u : Terms) → t ≡ u → Allows Holds slots id me 1 (λ k. k) (loads_head u (step slots 1 0 0 none) me)

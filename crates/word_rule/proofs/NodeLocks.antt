@@ -17,7 +17,7 @@ use Rattle.word_rule.specs.Memory.{NodeWords, Memory, memory_of, updated, node_c
 use Rattle.word_rule.specs.Spelling.{SpellsNode}
 use Rattle.word_rule.specs.Held.{held_of}
 use Rattle.word_rule.specs.Logs.{is_spent, load_of, after_load, own_list}
-use Rattle.word_rule.specs.Steps.{mark_at_lock, head_without, after_node_lock}
+use Rattle.word_rule.specs.Steps.{mark_at_lock, after_node_lock}
 use Rattle.word_rule.specs.Callers.{total, IsLockedAt}
 use Rattle.word_rule.specs.Nodes.{Shadow, NodesHold, HoldsNode, HoldingsHold, HeldBy, IsOpen, IsPlaced}
 use Rattle.word_rule.specs.Observations.{SightHolds, IsFullCount, HadMembers, WasFull}
@@ -141,7 +141,6 @@ module _ (t : Terms) (slots id : ℕ) (me : Seated) (caller : me.0.role ≡ role
       each = (new_lock, all_map (HoldsNode t (memory_of t s.words).nodes r.memory.shadow id) (HoldsNode t words' shadow' id) (same_lock id) me.0.holdings.held h.each);
       once = λ k. let c = sum_by-cons (λ (g : Holding). once (g.node == k)) lock me.0.holdings.held in once_with k (ℕ_discrete n k) c (h.once k);
       few_out = h.few_out;
-      head = head_kept me.0.holdings.head (ℕ_discrete n 0) h.head;
     }
       where
         once_with : (k : ℕ) → Dec (n ≡ k) → count_by (λ g. g.node == k) (lock ∷ me.0.holdings.held) ≡ once (n == k) + count_by (λ g. g.node == k) me.0.holdings.held → count_by (λ g. g.node == k) me.0.holdings.held ≤ 1 → count_by (λ g. g.node == k) (lock ∷ me.0.holdings.held) ≤ 1
@@ -149,10 +148,6 @@ module _ (t : Terms) (slots id : ℕ) (me : Seated) (caller : me.0.role ≡ role
             let nobody : count_by (λ g. g.node == k) me.0.holdings.held ≡ 0 = subst (λ z. count_by (λ g. g.node == z) me.0.holdings.held ≡ 0) e (none_of n me.0.holdings.held (all_map (HoldsNode t (memory_of t s.words).nodes r.memory.shadow id) (λ g. g.node ≢ n) (other_node id) me.0.holdings.held (r.memory.nodes.holdings id me.0 at).each)) in
             let small : once (n == k) ≤ 1 = rw (eq-eqb n k e) (omega arith) in omega (arith, c, nobody, small)
         once_with k (no ne) c few = let nothing : once (n == k) ≡ 0 = rw (ne_eqb n k ne) refl in omega (arith, c, nothing, few)
-
-        head_kept : (o : Option ℕ) → Dec (n ≡ 0) → IfSome o (λ k. ((memory_of t s.words).nodes.head ≡ k) × IsSome (held_of 0 me.0.holdings.held)) → IfSome (head_without n o) (λ k. ((memory_of t s.words).nodes.head ≡ k) × IsSome (held_of 0 (lock ∷ me.0.holdings.held)))
-        head_kept o (yes e) h = rw (eq-eqb n 0 e) tt
-        head_kept o (no ne) h = rw (ne_eqb n 0 ne) h
 
     -- what is held stays held
     still_held : (k : ℕ) → IsSome (held_of k me.0.holdings.held) → IsSome (held_of k (lock ∷ me.0.holdings.held))
@@ -172,7 +167,6 @@ module _ (t : Terms) (slots id : ℕ) (me : Seated) (caller : me.0.role ≡ role
             each = all_map (HoldsNode t (memory_of t s.words).nodes r.memory.shadow j) (HoldsNode t words' shadow' j) (same_lock j) u.holdings.held h.each;
             once = h.once;
             few_out = h.few_out;
-            head = h.head;
           });
       holders = holders_after;
       each_once = λ k. ap (λ z. once (r.memory.shadow.live k) + times k r.memory.shadow.free + z) (total_same (λ z. times k z.holdings.out) s.views id me.0 w at refl) ∙ r.memory.nodes.each_once k;

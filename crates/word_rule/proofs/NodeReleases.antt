@@ -21,7 +21,7 @@ use Rattle.word_rule.specs.Spelling.{spelled, SpellsNode}
 use Rattle.word_rule.specs.Held.{held_of, without_lock, now_of}
 use Rattle.word_rule.specs.Logs.{after_spending}
 use Rattle.word_rule.specs.Exchange.{Differs, after_exchange, are_spelled, exchange, group_of, is_lawful, is_reached, nothing_reached, settle, settle_free, top_of}
-use Rattle.word_rule.specs.Steps.{MayRelease, head_without, after_node_release_same}
+use Rattle.word_rule.specs.Steps.{MayRelease, after_node_release_same}
 use Rattle.word_rule.specs.Callers.{IsLockedAt}
 use Rattle.word_rule.specs.Nodes.{Shadow, HoldsNode, HoldingsHold, HeldBy, IsOpen}
 use Rattle.word_rule.specs.TableInvariant.{TableInvariant}
@@ -113,20 +113,11 @@ module _ (t : Terms) (id : ℕ) (v : Log) (caller : v.role ≡ role.Caller) (n :
   still_held : (k : ℕ) → k ≢ n → IsSome (held_of k v.holdings.held) → IsSome (held_of k (without_lock n v.holdings.held))
   still_held k far h = subst (λ xs. IsSome (held_of k (without_lock n xs))) (map_same v.holdings.held) (left_held (λ h. h) (λ _. refl) n k far v.holdings.held h)
 
-  head_kept : (o : Option ℕ) → Dec (n ≡ 0) → IfSome o (λ k. ((memory_of t s.words).nodes.head ≡ k) × IsSome (held_of 0 v.holdings.held)) → IfSome (head_without n o) (λ k. ((memory_of t s.words).nodes.head ≡ k) × IsSome (held_of 0 (without_lock n v.holdings.held)))
-  head_kept o (yes e) h = rw (eq-eqb n 0 e) tt
-  head_kept o (no ne) h = rw (ne_eqb n 0 ne) (go o h)
-    where
-      go : (o : Option ℕ) → IfSome o (λ k. ((memory_of t s.words).nodes.head ≡ k) × IsSome (held_of 0 v.holdings.held)) → IfSome o (λ k. ((memory_of t s.words).nodes.head ≡ k) × IsSome (held_of 0 (without_lock n v.holdings.held)))
-      go None h = tt
-      go (Some k) h = (h.0, still_held 0 (λ e. ne (sym e)) h.1)
-
   mine : HoldingsHold t words'' shadow'' id v'.holdings
   mine = let h = r.memory.nodes.holdings id v at in record {
     each = left (HoldsNode t words'' shadow'' id) (all_map (HoldsNode t (memory_of t s.words).nodes r.memory.shadow id) (λ h. h.node ≢ n → HoldsNode t words'' shadow'' id h) (λ h k far. kept_lock id h far k) v.holdings.held h.each);
     once = λ k. (let a = subst (λ xs. count_by (λ h. h.node == k) (without_lock n xs) ≤ count_by (λ h. h.node == k) v.holdings.held) (map_same v.holdings.held) (left_once (λ h. h) (λ _. refl) n k v.holdings.held) in let b = h.once k in omega (arith, a, b));
     few_out = h.few_out;
-    head = head_kept v.holdings.head (ℕ_discrete n 0) h.head;
   }
 
   others : (j : ℕ) (u : Log) → j ≢ id → get_elem? s.views j ≡ some u → HoldingsHold t words'' shadow'' j u.holdings
@@ -134,7 +125,6 @@ module _ (t : Terms) (id : ℕ) (v : Log) (caller : v.role ≡ role.Caller) (n :
     each = all_map (HoldsNode t (memory_of t s.words).nodes r.memory.shadow j) (HoldsNode t words'' shadow'' j) (λ h k. kept_lock j h (λ e. far (same_Some _ _ (sym k.is_holder ∙ (ap r.memory.shadow.holder e ∙ holder_n)))) k) u.holdings.held h.each;
     once = h.once;
     few_out = h.few_out;
-    head = h.head;
   }
 
   spells : SpellsNode ((memory_of t s.words).nodes.contents n) (r.memory.shadow.settled n)

@@ -40,7 +40,7 @@ use Rattle.word_rule.proofs.Holders.{out_tells}
 use Rattle.word_rule.proofs.NodeLocks.{updated_here, updated_other}
 use Rattle.word_rule.proofs.Exchanging.{ChangeLaws, all_found}
 use Rattle.word_rule.proofs.Exchanges.{DecidedLaw}
-use Rattle.word_rule.proofs.Settling.{AgreementLaw, mapped_all, mapped_once, mapped_kept, mapped_head}
+use Rattle.word_rule.proofs.Settling.{AgreementLaw, mapped_all, mapped_once, mapped_kept}
 use Rattle.word_rule.proofs.Settles.{settles}
 
 -- a lock with the word stored, where it is the node's
@@ -178,13 +178,11 @@ module _ (t : Terms) (id : ℕ) (v : Log) (caller : v.role ≡ role.Caller) (n a
               (all_both (λ a. held_of a.node v.holdings.held ≡ Some a) (HoldsNode t (memory_of t s.words).nodes r.memory.shadow id) (λ a. HoldsNode t words' shadow' id (change a)) new_lock v.holdings.held (all_found v.holdings.held h.once) h.each);
           once = λ k. (let same = mapped_once change (storing_node n at value) k v.holdings.held in let b = h.once k in omega (arith, same, b));
           few_out = h.few_out;
-          head = mapped_head change (storing_node n at value) (λ k. (memory_of t s.words).nodes.head ≡ k) v.holdings.held v.holdings.head h.head;
         })
         (λ j u other there. let h = r.memory.nodes.holdings j u there in record {
           each = all_map (HoldsNode t (memory_of t s.words).nodes r.memory.shadow j) (HoldsNode t words' shadow' j) (λ g k. others_lock j g other k) u.holdings.held h.each;
           once = h.once;
           few_out = h.few_out;
-          head = h.head;
         });
     holders = λ k. holder_stays s.views id v w here k (r.memory.shadow.holder k) (λ h. mapped_kept change (storing_node n at value) k v.holdings.held h) (r.memory.nodes.holders k);
     each_once = λ k. ap (λ z. once (r.memory.shadow.live k) + times k r.memory.shadow.free + z) (total_same (λ z. times k z.holdings.out) s.views id v w here refl) ∙ r.memory.nodes.each_once k;

@@ -29,13 +29,12 @@ use Rattle.word_rule.specs.Held.{held_of}
 use Rattle.word_rule.specs.Logs.{is_spent, after_load, after_write}
 use Rattle.word_rule.specs.Steps.{place_in, place_by, first_mark, place_by_held, mark_at_lock, after_node_lock}
 use Rattle.word_rule.specs.Callers.{IsLockedAt}
-use Rattle.word_rule.specs.Nodes.{HoldsNode, HoldingsHold, IsOpen, IsPlaced, IsChain}
+use Rattle.word_rule.specs.Nodes.{HoldsNode, HoldingsHold, IsOpen, IsPlaced}
 use Rattle.word_rule.specs.NodeTells.{IsLiveNode, IsTakenNode}
 use Rattle.word_rule.specs.TableInvariant.{TableInvariant}
 use Rattle.word_rule.specs.Plays.{Seated, locks_node, grabs_node, marks}
 use Rattle.word_rule.proofs.Each.{all_map}
 use Rattle.word_rule.proofs.Memories.{load_version_at, content_length, by_same}
-use Rattle.word_rule.proofs.Spells.{spells_free}
 use Rattle.word_rule.proofs.Standing.{even_is_open, held_by}
 use Rattle.word_rule.proofs.Frames.{Sit}
 use Rattle.word_rule.proofs.NodesFrame.{holder_stays}
@@ -91,17 +90,6 @@ module _ (t : Terms) (slots id : ℕ) (me : Seated) (caller : me.0.role ≡ role
         go (yes e) named_there = rw (eq-eqb n 0 e) (ap r.memory.shadow.live e ∙ root r.memory.shadow.settled r.memory.shadow.live r.memory.nodes.lawful.tree, (refl, refl, refl))
         go (no ne) named_there = rw (ne_eqb n 0 ne) named_there
 
-    -- the first free node, as it is known under the root's lock, is of that kind
-    first_is_free : (n : ℕ) → me.0.holdings.head ≡ Some n → n ≢ 0 → node_word ((memory_of t s.words).nodes.contents n) 1 ≡ 2
-    first_is_free n head other = go r.memory.shadow.free r.memory.nodes.chain
-      where
-        head_is : (memory_of t s.words).nodes.head ≡ n
-        head_is = (subst (λ o. IfSome o (λ k. ((memory_of t s.words).nodes.head ≡ k) × IsSome (held_of 0 me.0.holdings.held))) head (r.memory.nodes.holdings id me.0 at).head).0
-
-        go : (free : List ℕ) → IsChain (memory_of t s.words).nodes.contents (memory_of t s.words).nodes.head free → node_word ((memory_of t s.words).nodes.contents n) 1 ≡ 2
-        go [] chain = absurd (other (sym head_is ∙ chain))
-        go (k ∷ free) chain = ap (λ i. node_word ((memory_of t s.words).nodes.contents i) 1) (sym head_is ∙ chain.0) ∙ chain.2
-
     taken : (n seen : ℕ) → n < t.nodes → (memory_of t s.words).nodes.versions n ≡ seen → seen % 2 ≡ 0 → IsTakenNode n me.0 ((memory_of t s.words).nodes.contents n) (r.memory.shadow.settled n)
     taken n seen inside hit even =
         let terms : me.0.terms ≡ t = (r.memory.callers.each id me.0 at).terms stands in
@@ -111,7 +99,6 @@ module _ (t : Terms) (slots id : ℕ) (me : Seated) (caller : me.0.role ≡ role
           new = not_held (held_of n me.0.holdings.held) refl free;
           wide = content_length t s.words r.wide n inside;
           spells = spells;
-          free = λ head other. spells_free ((memory_of t s.words).nodes.contents n) (r.memory.shadow.settled n) spells (first_is_free n head other);
           live = subst (λ k. IfSome (mark_at_lock n (r.memory.shadow.settled n) me.0.holdings.held) (IsLiveNode k n (r.memory.shadow.settled n))) (sym terms) (each_live (mark_at_lock n (r.memory.shadow.settled n) me.0.holdings.held) (marks_live n));
         }
       where
@@ -221,7 +208,6 @@ module _ (t : Terms) (slots id : ℕ) (me : Seated) (caller : me.0.role ≡ role
       each = all_map (HoldsNode t (memory_of t s.words).nodes r.memory.shadow j) (HoldsNode t (words' t id me.0 w caller n (marked seen) inside s r at r.memory.shadow.holder (λ _ _. refl)) (shadow' t id me.0 w caller n (marked seen) inside s r at r.memory.shadow.holder (λ _ _. refl)) j) (same_lock j) u.holdings.held h.each;
       once = h.once;
       few_out = h.few_out;
-      head = h.head;
     }
 
     pub marked_node : TableInvariant t (set s.words (4 + 36 * n) (marked seen)) (set s.views id (after_write me.0))

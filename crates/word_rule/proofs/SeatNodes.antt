@@ -18,8 +18,8 @@ use Rattle.word_rule.proofs.Facts.{total_same, total_snoc, total_set_two, after_
 use Rattle.word_rule.proofs.NodesFrame.{same_log}
 
 -- one that holds nothing
-pub holds_nothing : (t : Terms) (words : NodeWords) (shadow : Shadow) (id : ℕ) → HoldingsHold t words shadow id (record { held = []; out = []; head = None })
-holds_nothing t words shadow id = record { each = tt; once = λ n. omega arith; few_out = omega arith; head = tt }
+pub holds_nothing : (t : Terms) (words : NodeWords) (shadow : Shadow) (id : ℕ) → HoldingsHold t words shadow id (record { held = []; out = [] })
+holds_nothing t words shadow id = record { each = tt; once = λ n. omega arith; few_out = omega arith }
 
 module _ (t : Terms) (words : NodeWords) (views : List Log) (history : List Update) (shadow : Shadow) (id : ℕ) (role : Role) (budget : Budget) (v w : Log) (at : get_elem? views id ≡ some v) (same : w.holdings ≡ v.holdings) where
   abbrev forked : List Log

@@ -26,7 +26,7 @@ use Rattle.word_rule.specs.Nodes.{Shadow, HoldsNode, IsPlaced}
 use Rattle.word_rule.specs.TableInvariant.{TableInvariant}
 use Rattle.word_rule.proofs.Each.{all_map, held_is}
 use Rattle.word_rule.proofs.Standing.{held_by}
-use Rattle.word_rule.proofs.Settling.{AgreementLaw, OnSettling, mapped_all, mapped_once, mapped_kept, mapped_head, settled_table}
+use Rattle.word_rule.proofs.Settling.{AgreementLaw, OnSettling, mapped_all, mapped_once, mapped_kept, settled_table}
 use Rattle.word_rule.proofs.Exchanging.{ChangeLaws, loose, settled', live', marked_lock, group_lock, fresh_out, fresh_loose, loose_parts, reached_inside, loose_inside, lawful_after, entries_after, live_new, live_kept, settled_new, settled_kept, unheld, balance, all_found, or_left, or_right, or_cases, tested}
 
 and_false : (b : Bool) → (b && false) ≡ false
@@ -257,7 +257,6 @@ module _ (t : Terms) (id : ℕ) (v : Log) (caller : v.role ≡ role.Caller) (wor
         each = mapped_all changed (λ _. refl) (HoldsNode t (memory_of t words).nodes shadow' id) v.holdings.held (all_map (λ a. held_of a.node v.holdings.held ≡ Some a) (λ a. HoldsNode t (memory_of t words).nodes shadow' id (changed a)) (λ a is. new_lock a.node a is) v.holdings.held (all_found v.holdings.held h.once));
         once = λ k. (let same = mapped_once changed (λ _. refl) k v.holdings.held in let b = h.once k in omega (arith, same, b));
         few_out = ex.room;
-        head = mapped_head changed (λ _. refl) (λ k. (memory_of t words).nodes.head ≡ k) v.holdings.held v.holdings.head h.head;
       });
       kept = λ k h. mapped_kept changed (λ _. refl) k v.holdings.held h;
       unheld = λ k none_held. (old_content k (tight k none_held), old_life k (tight k none_held));
@@ -358,7 +357,6 @@ module _ (t : Terms) (id : ℕ) (v : Log) (caller : v.role ≡ role.Caller) (wor
             (all_map (λ a. held_of a.node v.holdings.held ≡ Some a) (λ a. HoldsNode t (memory_of t words).nodes (free_shadow) id (freed a)) (λ a is. free_lock a.node a is) v.holdings.held (all_found v.holdings.held h.once));
         once = λ k. (let same = mapped_once freed (λ _. refl) k v.holdings.held in let b = h.once k in omega (arith, same, b));
         few_out = h.few_out;
-        head = mapped_head freed (λ _. refl) (λ k. (memory_of t words).nodes.head ≡ k) v.holdings.held v.holdings.head h.head;
       });
       kept = λ k h. mapped_kept freed (λ _. refl) k v.holdings.held h;
       unheld = λ k none_held. (free_unheld k none_held, refl);

@@ -69,10 +69,6 @@ module _ (f : Holding → Holding) (same_node : (h : Holding) → (f h).node ≡
       go None h = h
       go (Some h) e = refl
 
-  pub mapped_head : (P : ℕ → Type 0) (held : List Holding) (o : Option ℕ) → IfSome o (λ k. P k × IsSome (held_of 0 held)) → IfSome o (λ k. P k × IsSome (held_of 0 (map f held)))
-  mapped_head P held None h = tt
-  mapped_head P held (Some k) h = (h.0, mapped_kept 0 held h.1)
-
 module _ (t : Terms) (id : ℕ) (v : Log) (caller : v.role ≡ role.Caller) (words : List ℕ) (views : List Log) (r : TableInvariant t words views) (at : get_elem? views id ≡ some v) where
   stands : is_spent v.role ≡ false
   stands = ap is_spent caller
@@ -140,7 +136,6 @@ module _ (t : Terms) (id : ℕ) (v : Log) (caller : v.role ≡ role.Caller) (wor
               each = all_map (HoldsNode t (memory_of t words).nodes r.memory.shadow j) (HoldsNode t (memory_of t words).nodes over j) (λ a k. other_lock j a far k) u.holdings.held h.each;
               once = h.once;
               few_out = h.few_out;
-              head = h.head;
             });
         holders = λ k. holder_stays views id v w at k (r.memory.shadow.holder k) (o.kept k) (r.memory.nodes.holders k);
         each_once = λ k. (let a = total_set (λ z. times k z.holdings.out) views id v w at in let b = o.balance k in let p = r.memory.nodes.each_once k in omega (arith, a, b, p));

@@ -98,7 +98,7 @@ new_log terms role past budget lineage = record {
   budget = budget;
   receipts = record { since = length past; own = []; joined = []; heard = [] };
   trace = record { loads = []; stores = []; writes = 0; meetings = 0 };
-  holdings = record { held = []; out = []; head = None };
+  holdings = record { held = []; out = [] };
   loader = None;
   sights = record { nodes = []; copies = None };
   made = 0;

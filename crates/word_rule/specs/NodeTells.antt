@@ -94,12 +94,10 @@ pub record KnowsTree (holdings : Holdings) : Type 0 where
   pub dead : (n : ℕ) → IsTrue (is_among holdings.out n) → live n ≡ false
 
 -- What the lock of a node tells: it wasn't held before, and its words spell its settled content.
--- Where it is marked live, it has that place in the tree; where it is the first free node, as it is
--- known under the root's lock, it is a free one.
+-- Where it is marked live, it has that place in the tree.
 pub record IsTakenNode (n : ℕ) (v : Log) (words : List ℕ) (settled : NodeData) : Type 0 where
   pub within : n < v.terms.nodes
   pub new : held_of n v.holdings.held ≡ None
   pub wide : length words ≡ CONTENT_WORDS
   pub spells : SpellsNode words settled
   pub live : IfSome (mark_at_lock n settled v.holdings.held) (IsLiveNode v.terms n settled)
-  pub free : v.holdings.head ≡ Some n → n ≢ 0 → settled.body ≡ Link (node_word words 6)

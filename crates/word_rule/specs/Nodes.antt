@@ -60,8 +60,6 @@ pub record HoldingsHold (t : Terms) (words : NodeWords) (shadow : Shadow) (id : 
   -- each node is held at most once
   pub once : (n : ℕ) → count_by (λ h. h.node == n) holdings.held ≤ 1
   pub few_out : length holdings.out ≤ 4
-  -- a head that is kept is the head, and the root's lock is held
-  pub head : IfSome holdings.head (λ h. (words.head ≡ h) × IsSome (held_of 0 holdings.held))
 
 -- who holds a node's lock has it in its log
 abbrev pub HeldBy : ℕ → List Log → Option ℕ → Type 0

@@ -11,7 +11,7 @@ use Rattle.word_rule.specs.Places.{ALLOWANCE, CREDIT, node_place}
 use Rattle.word_rule.specs.Sights.{after_node_begin, after_node_version, after_node_load}
 use Rattle.word_rule.specs.Sights.{after_copy_load}
 use Rattle.word_rule.specs.Steps.{after_node_lock, after_head_load, after_copy_store, AfterPublish}
-use Rattle.word_rule.specs.Steps.{HeadStored, IsHeldWord}
+use Rattle.word_rule.specs.Steps.{IsHeldWord, after_pop, after_push}
 use Rattle.word_rule.specs.Commits.{AfterCommit}
 use Rattle.word_rule.specs.Steps.{after_node_release, after_node_release_same, after_node_store}
 use Rattle.word_rule.specs.declared.log.Terms.{Terms}
@@ -147,10 +147,21 @@ loads_head t st me found me' =
     (me' ≡ (after_head_load found me.0, me.1)) × (me.0.terms ≡ t) × (found < t.nodes)
     × (t.nodes ≤ 16384)
 
--- the head was stored
-abbrev pub stores_the_head : Stepped → Seated → ℕ → Seated → Type 0
-stores_the_head st me found me' =
-    IfSome me.0.holdings.head (HeadStored st.first me.0 me'.0) × (me'.1 ≡ me.1)
+-- an exchange at the head was refused, which loads it
+abbrev pub FindsHead : Seated → ℕ → Seated → Type 0
+FindsHead me found me' = (me' ≡ (after_head_load found me.0, me.1)) × (found < me.0.terms.nodes)
+    × (me.0.terms.nodes ≤ 16384)
+
+-- an exchange at the head for the next node: the first one is taken off, or another head was found
+abbrev pub pops : Stepped → Seated → ℕ → Seated → Type 0
+pops st me found me' =
+    MatchBool (found == st.first) (me' ≡ (after_pop st.first me.0, me.1)) (FindsHead me found me')
+
+-- an exchange at the head for a node that is linked to it: the node is put there, or another head
+-- was found
+abbrev pub pushes : Stepped → Seated → ℕ → Seated → Type 0
+pushes st me found me' =
+    MatchBool (found == st.first) (me' ≡ (after_push st.second me.0, me.1)) (FindsHead me found me')
 
 -- a word of the copy that is not active was stored
 abbrev pub stores_copy : Stepped → Seated → ℕ → Seated → Type 0

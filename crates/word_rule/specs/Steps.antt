@@ -1,6 +1,6 @@
 -- What the steps on nodes, on the loader's copies, on the clock and on the free head make of a log,
 -- and what they ask for.
-use Rattle.std.specs.Prelude.{◌≡◌, ◌≢◌, is_some, option_map, ℕ, ◌+◌, ◌-◌, ◌<◌, ◌≤◌}
+use Rattle.std.specs.Prelude.{◌≡◌, ◌≢◌, option_map, ℕ, ◌+◌, ◌-◌, ◌<◌, ◌≤◌}
 use Rattle.std.specs.Prelude.{◌⊎◌, ◌%◌, slice_index, IfSome, IsNone}
 use Rattle.std.specs.Prelude.{Bool, true, false, ◌==◌, ◌&&◌, IsTrue, List, [], ◌∷◌, ◌++◌, length}
 use Rattle.std.specs.Prelude.{Option, Some, None, IsSome, IsSomeAnd, slice_set, if◌then◌else◌}
@@ -56,10 +56,6 @@ mark_at_lock n settled held =
     if n == 0 then Some record { level = settled.level; low = settled.low; high = settled.high }
     else place_by_held n held
 
--- the head that is kept counts only under one lock of the root
-abbrev pub head_without : ℕ → Option ℕ → Option ℕ
-head_without n head = if n == 0 then None else head
-
 -- A node was locked at a version, while it had this settled content and these words.
 abbrev pub after_node_lock : ℕ → ℕ → NodeData → List ℕ → Log → Log
 after_node_lock n version settled words v = record (after_write v) {
@@ -72,7 +68,6 @@ after_node_lock n version settled words v = record (after_write v) {
       stored = false;
       mark = mark_at_lock n settled v.holdings.held;
     } ∷ v.holdings.held;
-    head = head_without n v.holdings.head;
   };
 }
 
@@ -80,10 +75,7 @@ after_node_lock n version settled words v = record (after_write v) {
 abbrev pub after_node_release_same : ℕ → Log → Log
 after_node_release_same n v =
     record (after_write v) {
-      holdings = record v.holdings {
-        held = without_lock n v.holdings.held;
-        head = head_without n v.holdings.head;
-      };
+      holdings = record v.holdings { held = without_lock n v.holdings.held };
     }
 
 -- A node was let go with the next version: what its holder changed settled where that is lawful.
@@ -231,53 +223,16 @@ Answers u (receipt.Query which pc found) = ⊥
 abbrev pub IsRefusalOf : Update → State → ℕ → Receipt → Type 0
 IsRefusalOf u s stamp r = Answers u r × (accepted r ≡ None) × (moment r ≡ stamp) × IsRight s r
 
--- The free head was loaded. It is kept under the root's lock.
+-- The free head was loaded.
 abbrev pub after_head_load : ℕ → Log → Log
-after_head_load found v =
-    record (after_load HEAD found v) {
-      holdings = record v.holdings {
-        head = if is_some (held_of 0 v.holdings.held) then Some found else None;
-      };
-    }
-
--- The head was stored under the root's lock: it was taken off the free list and is out, or a node
--- that was out was put there.
-abbrev pub after_take : ℕ → ℕ → Log → Log
-after_take taken next v =
-    record (after_write v) {
-      holdings = record v.holdings { head = Some next; out = taken ∷ v.holdings.out };
-    }
-
-abbrev pub after_give : ℕ → Log → Log
-after_give n v = record (after_write v) {
-  holdings = record v.holdings { head = Some n; out = all_but n v.holdings.out };
-}
+after_head_load found v = after_load HEAD found v
 
 -- what the words of a held node spell: that it is free, and linked to this one
 abbrev pub IsFreeTo : ℕ → ℕ → Log → Type 0
 IsFreeTo n next v = IsSomeAnd (held_of n v.holdings.held)
     (λ h. IsSomeAnd (spelled (h.words)) (λ s. s.body ≡ Link next))
 
--- a store of the head takes the first node off the list, which the caller holds and which is linked
--- to the new head
-abbrev pub MayTake : ℕ → ℕ → Log → Type 0
-MayTake first node v = (first ≢ 0) × IsFreeTo first node v × (length v.holdings.out < 4)
-
--- or it puts one there that was out, linked to the head before
-abbrev pub MayGive : ℕ → ℕ → Log → Type 0
-MayGive first node v = IsFreeTo node first v × IsTrue (is_among v.holdings.out node)
-
-abbrev pub MayStoreHead : ℕ → Log → Type 0
-MayStoreHead node v =
-    IsSome (held_of 0 v.holdings.held)
-    × IsSomeAnd v.holdings.head (λ first. MayTake first node v ⊎ MayGive first node v)
-
--- what it makes of a log, where this was the head
-pub record HeadStored (node : ℕ) (v w : Log) (first : ℕ) : Type 0 where
-  pub take : MayTake first node v → w ≡ after_take first node v
-  pub give : MayGive first node v → w ≡ after_give node v
-
--- side by side: an exchange at the head takes a node off, or puts one there
+-- an exchange at the head takes a node off, or puts one there
 abbrev pub after_pop : ℕ → Log → Log
 after_pop n v = record (after_write v) { holdings = record v.holdings { out = n ∷ v.holdings.out } }
 

@@ -1,10 +1,10 @@
-//! Steps on the free head, by one writer at a time.
-ghost use Rattle.std.specs.Prelude.{◌≡◌, ◌<◌, ◌≤◌, IfSome};
-ghost use Rattle.word_rule.specs.Steps.{HeadStored, MayStoreHead, after_head_load};
+//! Steps on the free head.
+ghost use Rattle.std.specs.Prelude.{◌≡◌, ◌≢◌, ◌<◌, ◌≤◌, IfOk, IfErr};
+ghost use Rattle.word_rule.specs.Steps.{MayPop, MayPush, after_head_load, after_pop, after_push};
 
 use crate::caller::Caller;
 use crate::log::{Log, Role};
-use crate::rule::{Asking, LoadsHead, StoresHead};
+use crate::rule::{Asking, LoadsHead, Pops, Pushes};
 use crate::words::Words;
 use atomic_table::Seat;
 use std::marker::Brand;
@@ -29,7 +29,7 @@ impl Words {
         self.table.shared.load::<LoadsHead<A>>(seat, HEAD_WORD)
     }
 
-    /// Loads the free head: the first free node, or 0. Under the root's lock the caller keeps it.
+    /// Loads the free head: the first free node, or 0.
     pub fn load_head(&self, me: &mut Caller) -> u64
         requires table { me.old.table ≡ self.now.table }
         ensures log { me.new ≡ record me.old { log = after_head_load result me.old.log } }
@@ -40,17 +40,49 @@ impl Words {
         self.load_head_for::<Brand>(&mut me.seat)
     }
 
-    /// Stores the free head under the root's lock: it takes the first free node out, which the
-    /// caller holds and which is linked to `node`, or puts `node` there, which was out.
-    pub fn store_head(&self, me: &mut Caller, node: u64)
+    /// Takes the first free node off the list, where the head is still this one: the caller holds
+    /// it, and it is linked to `next`. Else answers the head found.
+    pub fn pop(&self, me: &mut Caller, node: u32, next: u64) -> Result<(), u64>
         requires table { me.old.table ≡ self.now.table }
-        requires may { MayStoreHead node me.old.log }
-        ensures log { IfSome me.old.log.holdings.head (HeadStored node me.old.log me.new.log) }
-        ensures rest { me.new ≡ record me.old { log = me.new.log } }
+        requires may { MayPop node next me.old.log }
+        ensures ok { IfOk result
+            (λ _. me.new ≡ record me.old { log = after_pop node me.old.log }) }
+        ensures err { IfErr result (λ found. (found ≢ node)
+            × (found < me.old.log.terms.nodes) × (me.old.log.terms.nodes ≤ 16384)
+            × (me.new ≡ record me.old { log = after_head_load found me.old.log })) }
     {
         laws::children();
-        self.table
+        laws::fillings();
+        laws::order();
+        let found = self
+            .table
             .shared
-            .store::<StoresHead>(&mut me.seat, HEAD_WORD, node);
+            .compare_exchange::<Pops>(&mut me.seat, HEAD_WORD, node as u64, next);
+        if found == node as u64 {
+            Ok(())
+        } else {
+            Err(found)
+        }
+    }
+
+    /// Puts a node that was out onto the list, where the head is still the one to which it is
+    /// linked. Else answers the head found.
+    pub fn push(&self, me: &mut Caller, node: u32, next: u64) -> Result<(), u64>
+        requires table { me.old.table ≡ self.now.table }
+        requires may { MayPush node next me.old.log }
+        ensures ok { IfOk result
+            (λ _. me.new ≡ record me.old { log = after_push node me.old.log }) }
+        ensures err { IfErr result (λ found. (found ≢ next)
+            × (found < me.old.log.terms.nodes) × (me.old.log.terms.nodes ≤ 16384)
+            × (me.new ≡ record me.old { log = after_head_load found me.old.log })) }
+    {
+        laws::children();
+        laws::fillings();
+        laws::order();
+        let found = self
+            .table
+            .shared
+            .compare_exchange::<Pushes>(&mut me.seat, HEAD_WORD, next, node as u64);
+        if found == next { Ok(()) } else { Err(found) }
     }
 }

@@ -14,12 +14,24 @@
 //! Each has a name, its maker's with a number, by which a caller knows whether it is alone
 //! (`lineage`).
 //!
+//! Who writes which word, under which lock, and why it is safe to read it without one:
+//!
+//! - The clock: each accepted update, by one exchange, under its leaf's lock or the loader's. Each
+//!   of its values is one moment of the history.
+//! - The free head: who takes a node off the list, or gives one back, under that node's lock. An
+//!   exchange finds whether it changed.
+//! - A version: who takes that lock and lets go of it. One that was let go of never comes back.
+//! - A node's other words: who holds its lock. Its version, found again, tells that nobody stored
+//!   in it meanwhile.
+//! - The active copy of the loader's list: nobody. The clock's upper half, found again, tells that
+//!   it was active meanwhile.
+//! - The other copy: who publishes next, under the loader's lock. Nobody else reads it.
+//!
 //! The layer above the model (reg_model: updates, histories, receipts) and the tree as pure values
 //! (tree_shape: what a node is, when contents are a lawful tree). From atomic_table it takes the
 //! steps, each proved to keep a rule that it is given. The rule here is the whole invariant. Built
-//! are the steps on version locks, on nodes, on the free head by one writer at a time, on the clock
-//! and the loader's copies, the commit of an update of the tree, and callers and notes that come
-//! and go.
+//! are the steps on version locks, on nodes, on the free head, on the clock and the loader's
+//! copies, the commit of an update of the tree, and callers and notes that come and go.
 #![tactic(auto)]
 
 mod caller;

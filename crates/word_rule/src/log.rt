@@ -80,8 +80,6 @@ pub struct Holding {
 pub struct Holdings {
     pub held: LinkedList<Holding>,
     pub out: LinkedList<u64>,
-    /// The free head, as it last loaded or stored it under the root's lock.
-    pub head: Option<u64>,
 }
 
 /// The loader's lock.

@@ -240,12 +240,20 @@ impl<A: Asking> Play<(), Log> for LoadsHead<A> {
     ghost then = { loads_head A.terms };
 }
 
-pub(crate) struct StoresHead;
+pub(crate) struct Pops;
 
-impl Play<(), Log> for StoresHead {
-    ghost use Rattle.word_rule.specs.Plays.{stores_the_head};
+impl Play<(), Log> for Pops {
+    ghost use Rattle.word_rule.specs.Plays.{pops};
 
-    ghost then = { stores_the_head };
+    ghost then = { pops };
+}
+
+pub(crate) struct Pushes;
+
+impl Play<(), Log> for Pushes {
+    ghost use Rattle.word_rule.specs.Plays.{pushes};
+
+    ghost then = { pushes };
 }
 
 pub(crate) struct StoresCopy;

@@ -26,7 +26,7 @@ pub returns-in-Err-clause-busy : goal.returns-in-Err-clause-busy
 returns-in-Err-clause-busy g c = (busy_far c.args.words.now.terms c.args.member.now c.args.far c.args.me.now c.requires.stands c.requires.level c.next_leaf.new.me c.let_go_of.new.me c.in-Err.ensures.busy.0 c.in-Err.ensures.same c.let_go_of.ensures, c.in-Err.ensures.busy.1)
 
 pub returns-in-Err-clause-cause : goal.returns-in-Err-clause-cause
-returns-in-Err-clause-cause g c = found_still c.in-Err.busy.lock c.args.me.now c.next_leaf.new.me c.let_go_of.new.me c.in-Err.ensures.cause c.let_go_of.ensures.steps.loads
+returns-in-Err-clause-cause g c = found_still c.in-Err.busy c.args.me.now c.next_leaf.new.me c.let_go_of.new.me c.in-Err.ensures.cause c.let_go_of.ensures.steps.loads
 
 pub returns-in-Ok-clause-full : goal.returns-in-Ok-clause-full
 returns-in-Ok-clause-full g c =

@@ -58,4 +58,4 @@ pub returns-in-Ok-clause-same : goal.returns-in-Ok-clause-same
 returns-in-Ok-clause-same g c = steps_then c.args.me.now c.read_held-content.new.me c.lock_spine.new.me (steps2 c.args.above.now.node c.load_node.result c.read_held-content.result c.args.me.now c.load_node.new.me c.read_held-content.new.me c.load_node.ensures.log c.read_held-content.ensures.reads) c.lock_spine.ensures.same
 
 pub returns-in-Err-clause-cause : goal.returns-in-Err-clause-cause
-returns-in-Err-clause-cause g c = found_after c.in-Err.busy.lock c.args.me.now c.read_held-content.new.me c.lock_spine.new.me (steps2 c.args.above.now.node c.load_node.result c.read_held-content.result c.args.me.now c.load_node.new.me c.read_held-content.new.me c.load_node.ensures.log c.read_held-content.ensures.reads).loads c.in-Err.ensures.cause
+returns-in-Err-clause-cause g c = found_after c.in-Err.busy c.args.me.now c.read_held-content.new.me c.lock_spine.new.me (steps2 c.args.above.now.node c.load_node.result c.read_held-content.result c.args.me.now c.load_node.new.me c.read_held-content.new.me c.load_node.ensures.log c.read_held-content.ensures.reads).loads c.in-Err.ensures.cause

@@ -32,7 +32,7 @@ returns-in-Err-clause-busy g t c =
     (given_so terms m stand passage k k1 goes (releases_at passage.stand.at.content.level) k2 c.in-Err.ensures.busy.0 c.let_go_of-in-Err.new.me (subst (λ n. LetsGo n k2 c.let_go_of-in-Err.new.me) c.place_of-place.ensures.node c.let_go_of-in-Err.ensures) (releases_at stand.at.content.level) (omega (arith, less)), c.in-Err.ensures.busy.1)
 
 pub returns-in-Err-clause-cause : goal.returns-in-Err-clause-cause
-returns-in-Err-clause-cause g t c = found_between c.in-Err.busy.lock c.args.me.now c.go_below.new.me c.below.new.me c.let_go_of-in-Err.new.me c.in_ok-passage.ensures.ok.steps.loads c.in-Err.ensures.cause c.let_go_of-in-Err.ensures.steps.loads
+returns-in-Err-clause-cause g t c = found_between c.in-Err.busy c.args.me.now c.go_below.new.me c.below.new.me c.let_go_of-in-Err.new.me c.in_ok-passage.ensures.ok.steps.loads c.in-Err.ensures.cause c.let_go_of-in-Err.ensures.steps.loads
 
 pub returns-in-Ok-clause-full : goal.returns-in-Ok-clause-full
 returns-in-Ok-clause-full g t c =

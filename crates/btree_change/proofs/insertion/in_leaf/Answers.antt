@@ -4,7 +4,7 @@ use Rattle.word_rule.specs.declared.log.Receipts.{Receipts}
 use Rattle.btree_change.specs.Stands.{AnswersBelow, GivesUpBelow, HasCause}
 use Rattle.btree_change.proofs.AtRoot.{if_err, if_ok}
 use Rattle.btree_change.specs.Insertion.{IfFull}
-use Rattle.btree_change.specs.Loads.{FoundTaken}
+use Rattle.node_store.specs.Locking.{FoundBusy}
 use Rattle.btree_change.proofs.Answering.{here_answered, here_lowest, here_surplus, refused_here}
 use Rattle.btree_change.proofs.Loading.{found_after}
 use Rattle.btree_change.proofs.NoRoom.{cause_after, if_full}
@@ -126,8 +126,8 @@ returns-in-None-clause-cause g c =
     let loads = loads_then k c.begun_in-begun.new.me k1 c.begun_in-begun.ensures.loads c.in-None.ensures.free.1 in let kept = loads_hold k k1 loads in
     let steps = steps_of_loads k k1 loads in let s = stands_still t m stand k k1 kept steps c.requires.stands in
     let k2 = c.in_free_leaf.new.me in
-    if_err (λ e. FoundTaken e.lock c.refused.new.me k2) (λ e. FoundTaken e.lock k k2) c.in_free_leaf.result
-    (λ e b. found_after e.lock k k1 k2 steps.loads b) c.in_free_leaf.ensures.cause
+    if_err (λ e. FoundBusy e c.refused.new.me k2) (λ e. FoundBusy e k k2) c.in_free_leaf.result
+    (λ e b. found_after e k k1 k2 steps.loads b) c.in_free_leaf.ensures.cause
 
 pub begun_in-begun-requires-clause-inside : goal.begun_in-begun-requires-clause-inside
 begun_in-begun-requires-clause-inside g c = c.requires.stands.at.within

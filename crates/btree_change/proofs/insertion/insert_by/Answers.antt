@@ -1,7 +1,8 @@
 use Rattle.std.proofs.Common.{arith, ◌∙◌}
 use Rattle.std.proofs.Common.{◌≡◌, true}
 use Rattle.btree_change.specs.Insertion.{AnswersInsertion, IfFull}
-use Rattle.btree_change.specs.Loads.{FoundNoRoom, FoundTaken}
+use Rattle.btree_change.specs.Loads.{FoundNoRoom}
+use Rattle.node_store.specs.Locking.{FoundBusy}
 use Rattle.btree_change.specs.Updates.{GivesUp}
 use Rattle.btree_change.specs.Roots.{EndsInsertion, GivesUpWhole}
 use Rattle.btree_change.proofs.AtRoot.{if_err_both, if_ok_both, update_answered, update_given_up}
@@ -31,4 +32,4 @@ returns-clause-answer g c =
 pub returns-clause-busy : goal.returns-clause-busy
 returns-clause-busy g c =
     let t = c.args.words.now.terms in let m = c.args.member in let k = c.args.me.now in let k1 = c.at_root.new.me in let same = c.in_ok-root.ensures.same in
-    if_err_both (λ e. GivesUpWhole 64 k1 c.at_held_root.new.me × (g.L.Locking.gives_up ≡ true)) (λ e. FoundTaken e.lock k1 c.at_held_root.new.me) (λ e. GivesUp e.lock k c.at_held_root.new.me × (g.L.Locking.gives_up ≡ true)) c.at_held_root.result (λ e b cause. (update_given_up e.lock k k1 c.at_held_root.new.me same cause b.0, b.1)) c.at_held_root.ensures.busy c.at_held_root.ensures.cause
+    if_err_both (λ e. GivesUpWhole 64 e k1 c.at_held_root.new.me × (g.L.Locking.gives_up ≡ true)) (λ e. FoundBusy e k1 c.at_held_root.new.me) (λ e. GivesUp e k c.at_held_root.new.me × (g.L.Locking.gives_up ≡ true)) c.at_held_root.result (λ e b cause. (update_given_up e k k1 c.at_held_root.new.me same cause b.0, b.1)) c.at_held_root.ensures.busy c.at_held_root.ensures.cause

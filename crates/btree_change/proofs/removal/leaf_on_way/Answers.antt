@@ -14,4 +14,4 @@ loop-me-init g c = let ok = c.in_ok-way.ensures.ok in let fits = c.ranges.pc.fit
 }
 
 pub returns-in-Err-clause-cause : goal.returns-in-Err-clause-cause
-returns-in-Err-clause-cause g c = found_after c.in-Err.busy.lock c.args.me.now c.loop-me.me c.step_down.new.me c.loop-me.invariant.spends.loads c.in-Err.ensures.cause
+returns-in-Err-clause-cause g c = found_after c.in-Err.busy c.args.me.now c.loop-me.me c.step_down.new.me c.loop-me.invariant.spends.loads c.in-Err.ensures.cause

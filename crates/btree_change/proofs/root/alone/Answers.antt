@@ -19,4 +19,4 @@ pub returns-in-Err-clause-busy : goal.returns-in-Err-clause-busy
 returns-in-Err-clause-busy g c =
     let t = c.args.words.now.terms in let m = c.args.member.now in let k = c.args.me.now in
     let stand = c.args.stand in let l = level_most t m stand k.log c.requires.stands c.requires.root in
-    (alone_gives_up (releases_at stand.at.content.level) k c.below.new.me c.requires.alone (omega (arith, l)) c.in-Err.ensures.busy.0, c.in-Err.ensures.busy.1)
+    (alone_gives_up (releases_at stand.at.content.level) c.in-Err.busy k c.below.new.me c.requires.alone (omega (arith, l)) c.in-Err.ensures.busy.0, c.in-Err.ensures.busy.1)

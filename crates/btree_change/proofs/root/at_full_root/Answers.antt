@@ -3,7 +3,8 @@ use Rattle.std.proofs.Common.{◌≡◌, true}
 use Rattle.word_rule.specs.TreeRefusals.{HadNoRoom}
 use Rattle.btree_change.specs.declared.stand.Room.TheVariants as room
 use Rattle.btree_change.specs.Insertion.{IfFull}
-use Rattle.btree_change.specs.Loads.{FoundNoRoom, FoundTaken, KeepsLoads}
+use Rattle.btree_change.specs.Loads.{FoundNoRoom, KeepsLoads}
+use Rattle.node_store.specs.Locking.{FoundBusy}
 use Rattle.btree_change.specs.Roots.{EndsInsertion, GivesUpWhole}
 use Rattle.btree_change.specs.Splits.{HoldsFullAlone, IsRoomForRoot}
 use Rattle.btree_change.proofs.AtRoot.{ends_after, full_alone, full_root, gives_up_after, if_err, if_ok, kept_steps, root_gone, root_kept, root_lowest, root_stand, root_stands}
@@ -79,7 +80,7 @@ alone-requires-clause-stands g c =
     let t = c.args.words.now.terms in let m = c.args.member.now in let k = c.args.me.now in
     let root = c.args.root in let h = c.requires.root in let k1 = c.room_for_root.new.me in
     let none = subst (λ o. IsRoomForRoot g.L.Locking.gives_up root c.first.result k k1 (Ok o)) c.in-Ok-None.field-0-is c.in-Ok-None.ensures in let spent = kept_steps k k1 none.0 in
-    root_stand t root room.NoneFree m k1.log (root_kept t root k.log.holdings k1.log.holdings none.0.held none.0.out h) c.requires.span (subst (λ xs. HadNoRoom m.span.first (length xs) k1.log.trace.loads) (sym (own_same 1 k k1 spent)) (no_room_now m.span.first k k1 (subst (λ p. FoundNoRoom p k k1) c.first.ensures.value none.1)))
+    root_stand t root room.NoneFree m k1.log (root_kept t root k.log.holdings k1.log.holdings none.0.held none.2 h) c.requires.span (subst (λ xs. HadNoRoom m.span.first (length xs) k1.log.trace.loads) (sym (own_same 1 k k1 spent)) (no_room_now m.span.first k k1 (subst (λ p. FoundNoRoom p k k1) c.first.ensures.value none.1)))
 
 pub alone-requires-clause-root : goal.alone-requires-clause-root
 alone-requires-clause-root g c =
@@ -143,7 +144,7 @@ returns-in-Ok-Some-clause-busy g c =
     let t = c.args.words.now.terms in let m = c.args.member.now in let k = c.args.me.now in
     let root = c.args.root in let h = c.requires.root in let k1 = c.room_for_root.new.me in
     let took = subst (λ o. IsRoomForRoot g.L.Locking.gives_up root c.first.result k k1 (Ok o)) c.in-Ok-Some.field-0-is c.in-Ok-Some.ensures in
-    if_err (λ e. GivesUpWhole 39 k1 c.lifted.new.me × (g.L.Locking.gives_up ≡ true)) (λ e. GivesUpWhole 64 k c.lifted.new.me × (g.L.Locking.gives_up ≡ true)) c.lifted.result (λ e b. (gives_up_after 0 39 64 k k1 c.lifted.new.me (omega arith) (spends_same k k1 took.1.same) b.0, b.1)) c.lifted.ensures.busy
+    if_err (λ e. GivesUpWhole 39 e k1 c.lifted.new.me × (g.L.Locking.gives_up ≡ true)) (λ e. GivesUpWhole 64 e k c.lifted.new.me × (g.L.Locking.gives_up ≡ true)) c.lifted.result (λ e b. (gives_up_after 0 39 64 e k k1 c.lifted.new.me (omega arith) (spends_same k k1 took.1.same) b.0, b.1)) c.lifted.ensures.busy
 
 pub returns-in-Ok-None-clause-answer : goal.returns-in-Ok-None-clause-answer
 returns-in-Ok-None-clause-answer g c =
@@ -157,30 +158,30 @@ returns-in-Ok-None-clause-busy g c =
     let t = c.args.words.now.terms in let m = c.args.member.now in let k = c.args.me.now in
     let root = c.args.root in let h = c.requires.root in let k1 = c.room_for_root.new.me in
     let none = subst (λ o. IsRoomForRoot g.L.Locking.gives_up root c.first.result k k1 (Ok o)) c.in-Ok-None.field-0-is c.in-Ok-None.ensures in let spent = kept_steps k k1 none.0 in
-    if_err (λ e. GivesUpWhole 37 k1 c.alone.new.me × (g.L.Locking.gives_up ≡ true)) (λ e. GivesUpWhole 64 k c.alone.new.me × (g.L.Locking.gives_up ≡ true)) c.alone.result (λ e b. (gives_up_after 1 37 64 k k1 c.alone.new.me (omega arith) spent b.0, b.1)) c.alone.ensures.busy
+    if_err (λ e. GivesUpWhole 37 e k1 c.alone.new.me × (g.L.Locking.gives_up ≡ true)) (λ e. GivesUpWhole 64 e k c.alone.new.me × (g.L.Locking.gives_up ≡ true)) c.alone.result (λ e b. (gives_up_after 1 37 64 e k k1 c.alone.new.me (omega arith) spent b.0, b.1)) c.alone.ensures.busy
 
 pub returns-in-Err-clause-busy : goal.returns-in-Err-clause-busy
 returns-in-Err-clause-busy g c =
     let t = c.args.words.now.terms in let m = c.args.member.now in let k = c.args.me.now in
     let root = c.args.root in let h = c.requires.root in let k1 = c.room_for_root.new.me in
-    (root_gone t root k k1 c.let_go_of.new.me h c.in-Err.ensures.0 c.let_go_of.ensures, c.in-Err.ensures.1)
+    (root_gone t root c.in-Err.busy k k1 c.let_go_of.new.me h c.in-Err.ensures.0 c.in-Err.ensures.3 c.let_go_of.ensures, c.in-Err.ensures.1)
 
 pub returns-in-Ok-Some-clause-cause : goal.returns-in-Ok-Some-clause-cause
 returns-in-Ok-Some-clause-cause g c =
     let t = c.args.words.now.terms in let m = c.args.member.now in let k = c.args.me.now in
     let root = c.args.root in let h = c.requires.root in let k1 = c.room_for_root.new.me in
     let took = subst (λ o. IsRoomForRoot g.L.Locking.gives_up root c.first.result k k1 (Ok o)) c.in-Ok-Some.field-0-is c.in-Ok-Some.ensures in
-    if_err (λ e. FoundTaken e.lock k1 c.lifted.new.me) (λ e. FoundTaken e.lock k c.lifted.new.me) c.lifted.result (λ e f. found_after e.lock k k1 c.lifted.new.me took.1.same.loads f) c.lifted.ensures.cause
+    if_err (λ e. FoundBusy e k1 c.lifted.new.me) (λ e. FoundBusy e k c.lifted.new.me) c.lifted.result (λ e f. found_after e k k1 c.lifted.new.me took.1.same.loads f) c.lifted.ensures.cause
 
 pub returns-in-Ok-None-clause-cause : goal.returns-in-Ok-None-clause-cause
 returns-in-Ok-None-clause-cause g c =
     let t = c.args.words.now.terms in let m = c.args.member.now in let k = c.args.me.now in
     let root = c.args.root in let h = c.requires.root in let k1 = c.room_for_root.new.me in
     let none = subst (λ o. IsRoomForRoot g.L.Locking.gives_up root c.first.result k k1 (Ok o)) c.in-Ok-None.field-0-is c.in-Ok-None.ensures in
-    if_err (λ e. FoundTaken e.lock k1 c.alone.new.me) (λ e. FoundTaken e.lock k c.alone.new.me) c.alone.result (λ e f. found_after e.lock k k1 c.alone.new.me (kept_steps k k1 none.0).loads f) c.alone.ensures.cause
+    if_err (λ e. FoundBusy e k1 c.alone.new.me) (λ e. FoundBusy e k c.alone.new.me) c.alone.result (λ e f. found_after e k k1 c.alone.new.me (kept_steps k k1 none.0).loads f) c.alone.ensures.cause
 
 pub returns-in-Err-clause-cause : goal.returns-in-Err-clause-cause
-returns-in-Err-clause-cause g c = found_still c.in-Err.busy.lock c.args.me.now c.room_for_root.new.me c.let_go_of.new.me c.in-Err.ensures.2 c.let_go_of.ensures.steps.loads
+returns-in-Err-clause-cause g c = found_still c.in-Err.busy c.args.me.now c.room_for_root.new.me c.let_go_of.new.me c.in-Err.ensures.2 c.let_go_of.ensures.steps.loads
 
 pub returns-in-Ok-Some-clause-full : goal.returns-in-Ok-Some-clause-full
 returns-in-Ok-Some-clause-full g c =

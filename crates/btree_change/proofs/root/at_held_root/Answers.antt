@@ -37,4 +37,4 @@ pub returns-clause-busy : goal.returns-clause-busy
 returns-clause-busy g c =
     let t = c.args.words.now.terms in let m = c.args.member.now in let k = c.args.me.now in
     let root = c.args.root in let h = c.requires.root in let k1 = k in let none = spends_same k k (steps_none k) in
-    if_err (λ e. GivesUpWhole 37 k1 c.alone.new.me × (g.L.Locking.gives_up ≡ true)) (λ e. GivesUpWhole 64 k c.alone.new.me × (g.L.Locking.gives_up ≡ true)) c.alone.result (λ e b. (gives_up_after 0 37 64 k k1 c.alone.new.me (omega arith) none b.0, b.1)) c.alone.ensures.busy
+    if_err (λ e. GivesUpWhole 37 e k1 c.alone.new.me × (g.L.Locking.gives_up ≡ true)) (λ e. GivesUpWhole 64 e k c.alone.new.me × (g.L.Locking.gives_up ≡ true)) c.alone.result (λ e b. (gives_up_after 0 37 64 e k k1 c.alone.new.me (omega arith) none b.0, b.1)) c.alone.ensures.busy

@@ -104,14 +104,14 @@ returns-clause-busy g c =
     let full = c.args.full in let split = c.lift-split.result in let k1 = c.lift-split.new.me in let lifts = subst (λ p. LiftsRoot t full p split k k1) c.first.ensures.value c.lift-split.ensures in
     let k2 = c.stand_below-passage.new.me in let same = c.stand_below-passage.ensures.same in let kept = c.stand_below-passage.ensures.holdings in
     let level = c.stand_below-passage.result.stand.at.content.level in let l = subst (λ (h : Held). h.content.level ≤ 12) (sym c.stand_below-passage.ensures.at) (lifted_level t m full k c.requires.held c.requires.high c.requires.span split k1 lifts) in
-    (lifted_gives_up t m full k c.requires.held c.requires.high c.requires.span split k1 lifts k2 same kept (releases_at level) c.below.new.me (omega (arith, l)) c.in-Err.ensures.busy.0 c.let_go_of-in-Err.new.me c.let_go_of-in-Err.ensures, c.in-Err.ensures.busy.1)
+    (lifted_gives_up t m full k c.requires.held c.requires.high c.requires.span split k1 lifts k2 same kept (releases_at level) c.below.new.me (omega (arith, l)) c.in-Err.ensures.busy.0 c.in-Err.busy c.let_go_of-in-Err.new.me c.let_go_of-in-Err.ensures, c.in-Err.ensures.busy.1)
 
 pub returns-clause-cause : goal.returns-clause-cause
 returns-clause-cause g c =
     let t = c.args.words.now.terms in let m = c.args.member.now in let k = c.args.me.now in
     let full = c.args.full in let split = c.lift-split.result in let k1 = c.lift-split.new.me in let lifts = subst (λ p. LiftsRoot t full p split k k1) c.first.ensures.value c.lift-split.ensures in
     let k2 = c.stand_below-passage.new.me in let same = c.stand_below-passage.ensures.same in let kept = c.stand_below-passage.ensures.holdings in
-    found_between c.in-Err.busy.lock k k2 c.below.new.me c.let_go_of-in-Err.new.me (lifted_two t m full k c.requires.held c.requires.high c.requires.span split k1 lifts k2 same kept).loads c.in-Err.ensures.cause c.let_go_of-in-Err.ensures.steps.loads
+    found_between c.in-Err.busy k k2 c.below.new.me c.let_go_of-in-Err.new.me (lifted_two t m full k c.requires.held c.requires.high c.requires.span split k1 lifts k2 same kept).loads c.in-Err.ensures.cause c.let_go_of-in-Err.ensures.steps.loads
 
 pub returns-in-Ok-clause-full : goal.returns-in-Ok-clause-full
 returns-in-Ok-clause-full g c =

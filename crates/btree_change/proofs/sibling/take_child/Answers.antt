@@ -7,6 +7,7 @@ use Rattle.btree_change.proofs.Outlining.{spells_later, steps_of_loads}
 use Rattle.btree_change.proofs.Loading.{found_between, found_busy}
 use Rattle.btree_change.proofs.Locked.{busy_kept, child_so, child_steps, child_within, may_read_taken}
 use Rattle.btree_change.proofs.Spending.{more_spent, spends_same, steps_after}
+use Rattle.word_rule.specs.declared.log.LockId.TheVariants as lock
 use Rattle.btree_change.proofs.sibling.take_child.Goals as goal
 use Rattle.btree_change.proofs.Lowering.{settled_order}
 
@@ -20,7 +21,7 @@ pub pair_of-node-requires-clause-spells : goal.pair_of-node-requires-clause-spel
 pair_of-node-requires-clause-spells g c = spells_later c.args.above.at.node c.args.above.at.content c.args.me.now.log c.slot_of-slot.new.me.log c.slot_of-slot.ensures.holdings (way_spells c.args.words.now.terms c.args.above.at.node c.args.above.at.content c.args.above.at.changed c.args.above.root_changed c.args.me.now.log c.requires.path)
 
 pub let_go_of_way-requires-clause-surplus : goal.let_go_of_way-requires-clause-surplus
-let_go_of_way-requires-clause-surplus g c = subst (λ d. 1 < d) (sym ((busy_kept c.in-Err.busy.lock c.pair_of-node.new.me c.take_node.new.me c.in-Err.ensures.busy.1).1 ∙ (ap surplus c.pair_of-node.ensures.loads.1 ∙ ap surplus c.slot_of-slot.ensures.loads.1))) c.requires.surplus
+let_go_of_way-requires-clause-surplus g c = subst (λ d. 1 < d) (sym ((busy_kept (lock.Node c.pair_of-node.result.child) c.pair_of-node.new.me c.take_node.new.me c.in-Err.ensures.busy.1).1 ∙ (ap surplus c.pair_of-node.ensures.loads.1 ∙ ap surplus c.slot_of-slot.ensures.loads.1))) c.requires.surplus
 
 pub outline_of-content-requires-clause-held : goal.outline_of-content-requires-clause-held
 outline_of-content-requires-clause-held g c = may_read_taken c.args.words.now.terms c.pair_of-node.result.child c.pair_of-node.new.me c.take_node.new.me c.in_default.ensures.ok
@@ -46,12 +47,12 @@ pub returns-in-Err-clause-cause : goal.returns-in-Err-clause-cause
 returns-in-Err-clause-cause g c =
     let k = c.args.me.now in let k1 = c.slot_of-slot.new.me in let k2 = c.pair_of-node.new.me in
     let before = (steps_then k k1 k2 (steps_of_loads k k1 c.slot_of-slot.ensures.loads) (steps_of_loads k1 k2 c.pair_of-node.ensures.loads)).loads in
-    found_between c.in-Err.busy.lock k k2 c.take_node.new.me c.let_go_of_way.new.me before (found_busy c.in-Err.busy.lock k2 c.take_node.new.me c.in-Err.ensures.busy.1) c.let_go_of_way.ensures.spends.loads
+    found_between c.in-Err.busy k k2 c.take_node.new.me c.let_go_of_way.new.me before (found_busy (lock.Node c.pair_of-node.result.child) k2 c.take_node.new.me c.in-Err.busy c.in-Err.ensures.busy.0 c.in-Err.ensures.busy.1) c.let_go_of_way.ensures.spends.loads
 
 pub returns-in-Err-clause-spends : goal.returns-in-Err-clause-spends
 returns-in-Err-clause-spends g c =
     let k = c.args.me.now in let k1 = c.slot_of-slot.new.me in let k2 = c.pair_of-node.new.me in let k3 = c.take_node.new.me in
-    let before = steps_then k k2 k3 (steps_then k k1 k2 (steps_of_loads k k1 c.slot_of-slot.ensures.loads) (steps_of_loads k1 k2 c.pair_of-node.ensures.loads)) (busy_kept c.in-Err.busy.lock k2 k3 c.in-Err.ensures.busy.1).2 in
+    let before = steps_then k k2 k3 (steps_then k k1 k2 (steps_of_loads k k1 c.slot_of-slot.ensures.loads) (steps_of_loads k1 k2 c.pair_of-node.ensures.loads)) (busy_kept (lock.Node c.pair_of-node.result.child) k2 k3 c.in-Err.ensures.busy.1).2 in
     steps_after 0 2 2 k k3 c.let_go_of_way.new.me (omega arith) (spends_same k k3 before) c.let_go_of_way.ensures.spends
 
 pub take_node-requires-clause-inside : goal.take_node-requires-clause-inside

@@ -11,6 +11,7 @@ use Rattle.btree_change.proofs.Loading.{found_between, found_busy}
 use Rattle.btree_change.proofs.Locked.{busy_kept, child_steps, may_read_taken}
 use Rattle.btree_change.proofs.Neighbouring.{beside_inside, sibling_within, siblings_so, some_pairs}
 use Rattle.btree_change.proofs.Spending.{more_spent, spends_same, steps_after}
+use Rattle.word_rule.specs.declared.log.LockId.TheVariants as lock
 use Rattle.btree_change.proofs.sibling.take_sibling.Goals as goal
 use Rattle.btree_change.proofs.Lowering.{settled_inner}
 
@@ -33,10 +34,10 @@ pub pair_of-node-requires-clause-slot : goal.pair_of-node-requires-clause-slot
 pair_of-node-requires-clause-slot g c = beside_inside c.slot_of_two-first.result c.args.child.slot c.slot_beside-beside.result (length (pairs_of c.args.child.above.at.content)) c.slot_beside-beside.ensures c.slot_of_two-first.ensures.inside
 
 pub let_go_of_child-requires-clause-held : goal.let_go_of_child-requires-clause-held
-let_go_of_child-requires-clause-held g c = (c.args.pc, subst (HoldsChild c.args.words.now.terms c.args.child c.args.pc) (sym ((busy_kept c.in-Err.busy.lock c.load_node.new.me c.take_node.new.me c.in-Err.ensures.busy.1).0 ∙ (ap (λ (z : CallerData). z.log.holdings) c.load_node.ensures.log ∙ c.pair_of-node.ensures.holdings))) c.requires.held)
+let_go_of_child-requires-clause-held g c = (c.args.pc, subst (HoldsChild c.args.words.now.terms c.args.child c.args.pc) (sym ((busy_kept (lock.Node c.pair_of-node.result.child) c.load_node.new.me c.take_node.new.me c.in-Err.ensures.busy.1).0 ∙ (ap (λ (z : CallerData). z.log.holdings) c.load_node.ensures.log ∙ c.pair_of-node.ensures.holdings))) c.requires.held)
 
 pub let_go_of_child-requires-clause-surplus : goal.let_go_of_child-requires-clause-surplus
-let_go_of_child-requires-clause-surplus g c = subst (λ d. 1 < d) (sym ((busy_kept c.in-Err.busy.lock c.load_node.new.me c.take_node.new.me c.in-Err.ensures.busy.1).1 ∙ (ap surplus c.load_node.ensures.log ∙ ap surplus c.pair_of-node.ensures.loads.1))) c.requires.surplus
+let_go_of_child-requires-clause-surplus g c = subst (λ d. 1 < d) (sym ((busy_kept (lock.Node c.pair_of-node.result.child) c.load_node.new.me c.take_node.new.me c.in-Err.ensures.busy.1).1 ∙ (ap surplus c.load_node.ensures.log ∙ ap surplus c.pair_of-node.ensures.loads.1))) c.requires.surplus
 
 pub outline_of-content-requires-clause-held : goal.outline_of-content-requires-clause-held
 outline_of-content-requires-clause-held g c = may_read_taken c.args.words.now.terms c.pair_of-node.result.child c.load_node.new.me c.take_node.new.me c.in_default.ensures.ok
@@ -60,12 +61,12 @@ returns-clause-free g c =
 pub returns-in-Err-clause-cause : goal.returns-in-Err-clause-cause
 returns-in-Err-clause-cause g c =
     let k = c.args.me.now in let k1 = c.pair_of-node.new.me in let k2 = c.load_node.new.me in let k3 = c.take_node.new.me in
-    found_between c.in-Err.busy.lock k k2 k3 c.let_go_of_child.new.me (steps_then k k1 k2 (steps_of_loads k k1 c.pair_of-node.ensures.loads) (steps_of_load c.args.child.at.node 2 c.load_node.result k1 k2 c.load_node.ensures.log)).loads (found_busy c.in-Err.busy.lock k2 k3 c.in-Err.ensures.busy.1) c.let_go_of_child.ensures.spends.loads
+    found_between c.in-Err.busy k k2 k3 c.let_go_of_child.new.me (steps_then k k1 k2 (steps_of_loads k k1 c.pair_of-node.ensures.loads) (steps_of_load c.args.child.at.node 2 c.load_node.result k1 k2 c.load_node.ensures.log)).loads (found_busy (lock.Node c.pair_of-node.result.child) k2 k3 c.in-Err.busy c.in-Err.ensures.busy.0 c.in-Err.ensures.busy.1) c.let_go_of_child.ensures.spends.loads
 
 pub returns-in-Err-clause-spends : goal.returns-in-Err-clause-spends
 returns-in-Err-clause-spends g c =
     let k = c.args.me.now in let k1 = c.pair_of-node.new.me in let k2 = c.load_node.new.me in let k3 = c.take_node.new.me in
-    steps_after 0 2 2 k k3 c.let_go_of_child.new.me (omega arith) (spends_same k k3 (steps_then k k2 k3 (steps_then k k1 k2 (steps_of_loads k k1 c.pair_of-node.ensures.loads) (steps_of_load c.args.child.at.node 2 c.load_node.result k1 k2 c.load_node.ensures.log)) (busy_kept c.in-Err.busy.lock k2 k3 c.in-Err.ensures.busy.1).2)) c.let_go_of_child.ensures.spends
+    steps_after 0 2 2 k k3 c.let_go_of_child.new.me (omega arith) (spends_same k k3 (steps_then k k2 k3 (steps_then k k1 k2 (steps_of_loads k k1 c.pair_of-node.ensures.loads) (steps_of_load c.args.child.at.node 2 c.load_node.result k1 k2 c.load_node.ensures.log)) (busy_kept (lock.Node c.pair_of-node.result.child) k2 k3 c.in-Err.ensures.busy.1).2)) c.let_go_of_child.ensures.spends
 
 pub take_node-requires-clause-inside : goal.take_node-requires-clause-inside
 take_node-requires-clause-inside g c = sibling_within c.args.words.now.terms c.args.child.above.at.node c.args.child.above.at.content c.args.child.above.at.changed c.requires.held.upper c.slot_beside-beside.result c.pair_of-node.result c.requires.held.parent c.pair_of-node.ensures.pair

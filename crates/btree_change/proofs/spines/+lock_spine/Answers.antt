@@ -113,6 +113,6 @@ returns-in-Err-clause-same g t c = steps_then c.args.me.now c.lock_spine.new.me 
     (steps_of_letting_go c.args.node c.lock_spine.new.me c.let_go_same.new.me c.let_go_same.ensures)
 
 pub returns-in-Err-clause-cause : goal.returns-in-Err-clause-cause
-returns-in-Err-clause-cause g t c = found_between c.in-Err.busy.lock c.args.me.now c.load_node.new.me c.lock_spine.new.me c.let_go_same.new.me
+returns-in-Err-clause-cause g t c = found_between c.in-Err.busy c.args.me.now c.load_node.new.me c.lock_spine.new.me c.let_go_same.new.me
     (steps3 c.args.words.now.terms c.args.node c.args.level c.load_node.result c.read_held-content.result c.args.me.now c.take_node.new.me c.read_held-content.new.me c.load_node.new.me c.requires.terms c.requires.child c.in_ok-take_node.ensures.ok c.read_held-content.ensures.reads c.read_held-content.ensures.holdings c.load_node.ensures.log).loads
     c.in-Err.ensures.cause (keeps_none c.lock_spine.new.me c.let_go_same.new.me (ap (λ (z : CallerData). z.log.trace.loads) c.let_go_same.ensures))

@@ -55,7 +55,7 @@ returns-in-Err-split_if_full-clause-busy g c =
     (split_gave_up t m stand k c.requires.stands c.requires.inner child k1 pair c.in-Ok.ensures.same c.in-Ok.ensures.same.loads c.split_if_full.new.me c.let_go_of-in-Err-split_if_full.new.me busy.0 busy.1 busy.2 c.let_go_of-in-Err-split_if_full.ensures, busy.3)
 
 pub returns-in-Err-clause-cause : goal.returns-in-Err-clause-cause
-returns-in-Err-clause-cause g c = found_still c.in-Err.busy.lock c.args.me.now c.lower.new.me c.let_go_of.new.me c.in-Err.ensures.cause c.let_go_of.ensures.steps.loads
+returns-in-Err-clause-cause g c = found_still c.in-Err.busy c.args.me.now c.lower.new.me c.let_go_of.new.me c.in-Err.ensures.cause c.let_go_of.ensures.steps.loads
 
 pub returns-in-Err-split_if_full-clause-cause : goal.returns-in-Err-split_if_full-clause-cause
-returns-in-Err-split_if_full-clause-cause g c = found_between c.in-Err-split_if_full.busy.lock c.args.me.now c.lower.new.me c.split_if_full.new.me c.let_go_of-in-Err-split_if_full.new.me c.in-Ok.ensures.same.loads c.in-Err-split_if_full.ensures.cause c.let_go_of-in-Err-split_if_full.ensures.steps.loads
+returns-in-Err-split_if_full-clause-cause g c = found_between c.in-Err-split_if_full.busy c.args.me.now c.lower.new.me c.split_if_full.new.me c.let_go_of-in-Err-split_if_full.new.me c.in-Ok.ensures.same.loads c.in-Err-split_if_full.ensures.cause c.let_go_of-in-Err-split_if_full.ensures.steps.loads

@@ -25,7 +25,7 @@ returns-in-Err-clause-busy g c =
 pub returns-in-Err-clause-cause : goal.returns-in-Err-clause-cause
 returns-in-Err-clause-cause g c =
     let k1 = c.room_for.new.me in let k2 = c.load_node.new.me in let k3 = c.let_go_of.new.me in
-    found_still c.in-Err.busy.lock c.args.me.now k1 k3 c.in-Err.ensures.2 (keeps_then k1 k2 k3 (keeps_load c.args.step.child.node 2 c.load_node.result k1 k2 c.load_node.ensures.log) c.let_go_of.ensures.steps.loads)
+    found_still c.in-Err.busy c.args.me.now k1 k3 c.in-Err.ensures.2 (keeps_then k1 k2 k3 (keeps_load c.args.step.child.node 2 c.load_node.result k1 k2 c.load_node.ensures.log) c.let_go_of.ensures.steps.loads)
 
 pub returns-in-Ok-Some-clause-ok : goal.returns-in-Ok-Some-clause-ok
 returns-in-Ok-Some-clause-ok g c = was_split c.args.words.now.terms c.args.pc c.args.step (drop 2 c.args.me.now.log.holdings.held) c.args.me.now c.requires.pair c.in-Ok-Some.fresh c.split_child-split.result c.room_for.new.me c.split_child-split.new.me refl (subst (λ o. IsRoomFor g.L.Locking.gives_up c.args.pc c.args.me.now c.room_for.new.me (Ok o)) c.in-Ok-Some.field-0-is c.in-Ok-Some.ensures) c.split_child-split.ensures
