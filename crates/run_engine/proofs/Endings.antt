@@ -5,33 +5,31 @@ use Rattle.event_script.specs.Spelling.{IsScript}
 use Rattle.event_script.specs.Refusal.{HasOneReading}
 use Rattle.command_line.specs.CommandLine.{IsCommandLine}
 use Rattle.command_line.specs.declared.taking.Command.TheVariants.{Run, Generate}
-use Rattle.run_engine.specs.Ports.{Rose, Gains}
-use Rattle.run_engine.specs.Outcome.{IsDue, Change, Ends, EndsGenerated, Concludes}
-use Rattle.run_engine.specs.declared.reading.TheConstants.{LIMIT}
+use Rattle.run_ports.specs.Endings.{Change}
+use Rattle.run_ports.specs.Ports.{Rose}
+use Rattle.run_ports.specs.declared.status.Ending.TheVariants as ending
+use Rattle.run_engine.specs.Outcome.{Ends, EndsGenerated}
+use Rattle.run_engine.specs.Statuses.{ending_of}
+use Rattle.run_ports.specs.declared.reading.TheConstants.{SCRIPT_LIMIT}
 use Rattle.run_engine.specs.declared.status.Status.{Status}
 use Rattle.run_engine.specs.declared.status.Status.TheVariants.{Done, Usage, Script, ReadFault, WriteFault, NoMemory, TooLong}
 
--- the text that is due with a status was written
-pub ends_written : (words : List (List ℕ)) (input : Option (List ℕ)) (change : Change) (text : List ℕ) (status : Status) → IsDue words input status text → Gains change.held change.held_after text → Ends words input change status
-ends_written words input change text Done due gains = (text, due, gains)
-ends_written words input change text Usage due gains = (text, due, gains)
-ends_written words input change text Script due gains = (text, due, gains)
-ends_written words input change text TooLong due gains = (text, due, gains)
-ends_written words input change text ReadFault due gains = absurd due
-ends_written words input change text WriteFault due gains = absurd due
-ends_written words input change text NoMemory due gains = absurd due
-
-pub ends_concluded : (words : List (List ℕ)) (input : Option (List ℕ)) (change : Change) (line : List ℕ) (status end : Status) → IsDue words input status line → Concludes line status change end → Ends words input change end
-ends_concluded words input change line status end due (inl (is, gains)) = rw is (ends_written words input change line status due gains)
-ends_concluded words input change line status end due (inr (inl (is, rose, part))) = rw is (rose, inr (status, line, due, part))
-ends_concluded words input change line status end due (inr (inr (is, part))) = rw is (inr (status, line, due, part))
+-- only WriteFault says that a write failed
+pub write_told : (status : Status) → ending_of status ≡ ending.WriteFault → status ≡ WriteFault
+write_told WriteFault is = refl
+write_told Done is = absurd cc
+write_told Usage is = absurd cc
+write_told Script is = absurd cc
+write_told TooLong is = absurd cc
+write_told ReadFault is = absurd cc
+write_told NoMemory is = absurd cc
 
 -- A status that has been told is no other one.
 pub ends_at : (words : List (List ℕ)) (input : Option (List ℕ)) (change : Change) (end status : Status) → Ends words input change end → end ≡ status → Ends words input change status
 ends_at words input change end status ends is = (let P : Status → Type 0 = Ends words input change in subst P is ends)
 
 -- A script that can be read and written is run: bytes that spell one have no first bad line.
-complete_with : ((bytes : List ℕ) → HasOneReading bytes) → (words : List (List ℕ)) (bytes : List ℕ) (change : Change) (end : Status) → Ends words (Some bytes) change end → IsCommandLine words Run → length bytes ≤ LIMIT → (script : ScriptData) → IsScript bytes script → ¬ Rose change.reads change.reads_after → ¬ Rose change.writes change.writes_after → (end ≡ Done) ⊎ (end ≡ NoMemory)
+complete_with : ((bytes : List ℕ) → HasOneReading bytes) → (words : List (List ℕ)) (bytes : List ℕ) (change : Change) (end : Status) → Ends words (Some bytes) change end → IsCommandLine words Run → length bytes ≤ SCRIPT_LIMIT → (script : ScriptData) → IsScript bytes script → ¬ Rose change.reads change.reads_after → ¬ Rose change.writes change.writes_after → (end ≡ Done) ⊎ (end ≡ NoMemory)
 complete_with one_answer words bytes change Done ends taken short script spelled reads writes = inl refl
 complete_with one_answer words bytes change NoMemory ends taken short script spelled reads writes = inr refl
 complete_with one_answer words bytes change Usage (text, due, gains) taken short script spelled reads writes = absurd (due.0 (Run, taken))
@@ -41,7 +39,7 @@ complete_with one_answer words bytes change Script (text, due, gains) taken shor
 complete_with one_answer words bytes change ReadFault ends taken short script spelled reads writes = absurd (reads ends.1)
 complete_with one_answer words bytes change WriteFault ends taken short script spelled reads writes = absurd (writes ends.0)
 
-pub ends_complete : ((bytes : List ℕ) → HasOneReading bytes) → (words : List (List ℕ)) (input : Option (List ℕ)) (change : Change) (end : Status) → Ends words input change end → IsCommandLine words Run → IfSome input (λ bytes. length bytes ≤ LIMIT → (script : ScriptData) → IsScript bytes script → ¬ Rose change.reads change.reads_after → ¬ Rose change.writes change.writes_after → (end ≡ Done) ⊎ (end ≡ NoMemory))
+pub ends_complete : ((bytes : List ℕ) → HasOneReading bytes) → (words : List (List ℕ)) (input : Option (List ℕ)) (change : Change) (end : Status) → Ends words input change end → IsCommandLine words Run → IfSome input (λ bytes. length bytes ≤ SCRIPT_LIMIT → (script : ScriptData) → IsScript bytes script → ¬ Rose change.reads change.reads_after → ¬ Rose change.writes change.writes_after → (end ≡ Done) ⊎ (end ≡ NoMemory))
 ends_complete one_answer words None change end ends taken = tt
 ends_complete one_answer words (Some bytes) change end ends taken = complete_with one_answer words bytes change end ends taken
 

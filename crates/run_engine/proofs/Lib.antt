@@ -1,7 +1,4 @@
-pub mod Bytes
-pub mod Pieces
 pub mod Numbered
-pub mod Lines
 pub mod Played
 pub mod Lists
 pub mod Chains

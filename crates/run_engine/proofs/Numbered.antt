@@ -2,8 +2,8 @@
 use Rattle.std.proofs.Common.{◌≡◌, ℕ, ◌+◌, ◌<◌, List, ◌++◌, length, take, drop, get_or, Option, sym, subst}
 use Rattle.event_script.specs.Text.{numbered}
 use Rattle.event_script.proofs.Numbered.{numbered-take_more, numbered-parts}
-use Rattle.run_engine.specs.Ports.{Gains, GainsPart}
-use Rattle.run_engine.proofs.Pieces.{Gains-more, GainsPart-more, GainsPart-wider}
+use Rattle.run_ports.specs.Ports.{Gains, GainsPart}
+use Rattle.run_ports.proofs.Pieces.{Gains-more, GainsPart-more, GainsPart-wider}
 
 -- the texts of the first items were written, and then the next one's, or a part of it
 module _ {X : Type 0} (text : ℕ → X → List ℕ) (xs : List X) (i : ℕ) (x : X) (within : i < length xs) (is : x ≡ get_or xs i x) where

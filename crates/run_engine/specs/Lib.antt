@@ -1,5 +1,3 @@
-pub mod Ports
-pub mod Devices
 pub mod Statuses
 pub mod Outcome
 pub mod Played

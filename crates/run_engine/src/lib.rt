@@ -7,11 +7,7 @@
 //! Sources and sinks are traits, so that the promise speaks of bytes and holds for every device.
 #![tactic(auto)]
 
-mod buffered;
 mod gate;
-mod memory;
-mod ports;
-mod reading;
 mod rounds;
 mod running;
 mod scripts;
@@ -21,10 +17,10 @@ mod status;
 mod threads;
 mod writing;
 
-pub use buffered::BufferedSink;
 pub use gate::{Gate, NoGate};
-pub use memory::{MemorySink, MemorySource, SureSink, SureSource};
-pub use ports::{Failed, Sink, SinkFault, Source};
+pub use run_ports::{
+    BufferedSink, Failed, MemorySink, MemorySource, Sink, SinkFault, Source, SureSink, SureSource,
+};
 pub use running::run;
 pub use script_generator::{Summary, generate, summary};
 pub use scripts::run_script;

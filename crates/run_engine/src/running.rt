@@ -7,20 +7,20 @@ ghost use Rattle.event_script.specs.FaultText.{fault_text};
 ghost use Rattle.std.specs.String.{string_bytes};
 ghost use Rattle.command_line.specs.CommandLine.{IsCommandLine};
 ghost use Rattle.script_generator.specs.Generator.{IsImageCount};
-ghost use Rattle.run_engine.specs.Ports.{Rose, HandsUpTo};
-ghost use Rattle.run_engine.specs.Outcome.{Writes, WritesPart, Ends, EndsGenerated};
-ghost use Rattle.run_engine.specs.Outcome.{Concludes};
-ghost use Rattle.run_engine.specs.declared.reading.TheConstants.{LIMIT};
+ghost use Rattle.run_ports.specs.Ports.{Rose, HandsUpTo};
+ghost use Rattle.run_ports.specs.Endings.{Writes, WritesPart, Concludes};
+ghost use Rattle.run_engine.specs.Outcome.{IsDue, Ends, EndsGenerated};
+ghost use Rattle.run_engine.specs.Statuses.{ending_of};
+ghost use Rattle.run_ports.specs.declared.reading.TheConstants.{SCRIPT_LIMIT};
 
 use crate::gate::Gate;
-use crate::ports::{Sink, SinkFault, Source};
-use crate::reading::{LIMIT, TakeFault, take_all};
 use crate::scripts::play_script;
 use crate::status::Status;
-use crate::writing::{write_journal, write_piece, write_summary};
+use crate::writing::{write_journal, write_summary};
 use command_line::{Command, command_of};
 use event_script::laws::bytes_have_one_answer;
 use event_script::{Reason, ScriptFault, print_fault, read};
+use run_ports::{SCRIPT_LIMIT, Sink, SinkFault, Source, TakeFault, conclude, take_up_to};
 use script_generator::generate;
 use std::alloc::Global;
 use std::sync::Wait;
@@ -48,23 +48,23 @@ pub fn run<R: Threads + Wait + Sync, S: Source, K: Sink, G: Gate + Sync>(
     // The journal theorem: the text of one lawful journal of the script that was read, or its
     // summary where the script was generated, whatever the order in which its threads are answered.
     ensures done { result ≡ Status.Done
-        → Writes (map string_bytes words.now) (S.remaining source.old) Status.Done
+        → Writes (IsDue (map string_bytes words.now) (S.remaining source.old)) Status.Done
         (K.written sink.old) (K.written sink.new) }
     ensures usage { result ≡ Status.Usage
-        → Writes (map string_bytes words.now) (S.remaining source.old) Status.Usage
+        → Writes (IsDue (map string_bytes words.now) (S.remaining source.old)) Status.Usage
         (K.written sink.old) (K.written sink.new) }
     ensures too_long { result ≡ Status.TooLong
-        → Writes (map string_bytes words.now) (S.remaining source.old) Status.TooLong
+        → Writes (IsDue (map string_bytes words.now) (S.remaining source.old)) Status.TooLong
         (K.written sink.old) (K.written sink.new) }
     ensures script { result ≡ Status.Script
-        → Writes (map string_bytes words.now) (S.remaining source.old) Status.Script
+        → Writes (IsDue (map string_bytes words.now) (S.remaining source.old)) Status.Script
         (K.written sink.old) (K.written sink.new) }
 
     // What is taken of the source: nothing for other words, and else one byte more than a script
     // may have at the most.
     ensures unread { ¬ IsCommandLine (map string_bytes words.now) Command.Run
         → source.new ≡ source.old }
-    ensures taken { HandsUpTo (LIMIT + 1) (S.remaining source.old) (S.remaining source.new) }
+    ensures taken { HandsUpTo (SCRIPT_LIMIT + 1) (S.remaining source.old) (S.remaining source.new) }
 
     // Faults come exactly where a count rose in this call, and leave nothing, or a front of what
     // was due.
@@ -75,17 +75,17 @@ pub fn run<R: Threads + Wait + Sync, S: Source, K: Sink, G: Gate + Sync>(
         × Rose (S.faults source.old) (S.faults source.new)
         × (K.written sink.new ≡ K.written sink.old) }
     ensures write_fault { result ≡ Status.WriteFault → Rose (K.faults sink.old) (K.faults sink.new)
-        × WritesPart (map string_bytes words.now) (S.remaining source.old) (K.written sink.old)
-        (K.written sink.new) }
+        × WritesPart (IsDue (map string_bytes words.now) (S.remaining source.old))
+        (K.written sink.old) (K.written sink.new) }
     ensures no_memory { result ≡ Status.NoMemory
-        → WritesPart (map string_bytes words.now) (S.remaining source.old) (K.written sink.old)
-        (K.written sink.new) }
+        → WritesPart (IsDue (map string_bytes words.now) (S.remaining source.old))
+        (K.written sink.old) (K.written sink.new) }
 
     // A script that can be read and written is run, and a generated one whose summary can be
     // written, unless memory is wanted.
     ensures complete { IsCommandLine (map string_bytes words.now) Command.Run
         → IfSome (S.remaining source.old)
-        (λ bytes. length bytes ≤ LIMIT → (script : ScriptData) → IsScript bytes script
+        (λ bytes. length bytes ≤ SCRIPT_LIMIT → (script : ScriptData) → IsScript bytes script
         → ¬ Rose (S.faults source.old) (S.faults source.new)
         → ¬ Rose (K.faults sink.old) (K.faults sink.new)
         → (result ≡ Status.Done) ⊎ (result ≡ Status.NoMemory)) }
@@ -113,7 +113,7 @@ fn end_of<R: Threads + Wait + Sync, S: Source, K: Sink, G: Gate + Sync>(
     requires sink { K.can_write sink.old }
     ensures unread { ¬ IsCommandLine (map string_bytes words.now) Command.Run
         → source.new ≡ source.old }
-    ensures taken { HandsUpTo (LIMIT + 1) (S.remaining source.old) (S.remaining source.new) }
+    ensures taken { HandsUpTo (SCRIPT_LIMIT + 1) (S.remaining source.old) (S.remaining source.new) }
     ensures reads { result ≢ Status.ReadFault → S.faults source.new ≡ S.faults source.old }
     ensures writes { result ≢ Status.WriteFault → K.faults sink.new ≡ K.faults sink.old }
     ensures ends { Ends (map string_bytes words.now) (S.remaining source.old)
@@ -148,7 +148,7 @@ fn run_source<R: Threads + Wait + Sync, S: Source, K: Sink, G: Gate + Sync>(
 ) -> Status
     requires source { S.can_read source.old }
     requires sink { K.can_write sink.old }
-    ensures taken { HandsUpTo (LIMIT + 1) (S.remaining source.old) (S.remaining source.new) }
+    ensures taken { HandsUpTo (SCRIPT_LIMIT + 1) (S.remaining source.old) (S.remaining source.new) }
     ensures reads { result ≢ Status.ReadFault → S.faults source.new ≡ S.faults source.old }
     ensures writes { result ≢ Status.WriteFault → K.faults sink.new ≡ K.faults sink.old }
     ensures ends { (words : List (List ℕ)) → IsCommandLine words Command.Run
@@ -162,12 +162,12 @@ fn run_source<R: Threads + Wait + Sync, S: Source, K: Sink, G: Gate + Sync>(
           held_after = K.written sink.new;
         }) result }
 {
-    let bytes = match take_all(alloc, source) {
+    let bytes = match take_up_to(alloc, source, SCRIPT_LIMIT) {
         Ok(bytes) => bytes,
         Err(TakeFault::Failed) => return Status::ReadFault,
         Err(TakeFault::NoMemory) => return Status::NoMemory,
     };
-    if bytes.len() > LIMIT {
+    if bytes.len() > SCRIPT_LIMIT {
         return conclude(sink, b"script too long\n", Status::TooLong);
     }
     let script = match read(alloc, &bytes) {
@@ -223,32 +223,11 @@ fn run_generated<R: Threads + Wait + Sync, K: Sink, G: Gate + Sync>(
     }
 }
 
-/// Writes the line that is due with a status.
-fn conclude<K: Sink>(sink: &mut K, line: &[u8], status: Status) -> Status
-    requires { K.can_write sink.old }
-    ensures sound { result ≢ Status.WriteFault → K.faults sink.new ≡ K.faults sink.old }
-    ensures concludes { Concludes line.now status
-        (record {
-          reads = 0;
-          reads_after = 0;
-          writes = K.faults sink.old;
-          writes_after = K.faults sink.new;
-          held = K.written sink.old;
-          held_after = K.written sink.new;
-        }) result }
-{
-    match write_piece(sink, line) {
-        Ok(()) => status,
-        Err(SinkFault::Failed) => Status::WriteFault,
-        Err(SinkFault::NoMemory) => Status::NoMemory,
-    }
-}
-
 /// Writes the line that tells of a bad line of the script.
 fn refuse<K: Sink>(alloc: Global, sink: &mut K, line: u32, reason: Reason) -> Status
     requires { K.can_write sink.old }
     ensures sound { result ≢ Status.WriteFault → K.faults sink.new ≡ K.faults sink.old }
-    ensures concludes { Concludes (fault_text line reason) Status.Script
+    ensures concludes { Concludes ending_of (fault_text line reason) Status.Script
         (record {
           reads = 0;
           reads_after = 0;

@@ -10,8 +10,8 @@ ghost use Rattle.word_rule.specs.Places.{ALLOWANCE};
 
 use crate::gate::Gate;
 use crate::rounds::play_shared;
-use crate::setting::{Setting, members_of};
-use event_script::{Journal, Script};
+use crate::setting::Setting;
+use event_script::{Journal, Script, members_of};
 use reg_model::NoMemory;
 use reg_model::laws::numbers_tell_histories;
 use registry_core::Registry;

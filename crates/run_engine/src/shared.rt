@@ -11,8 +11,8 @@ ghost use Rattle.registry_core.specs.Calls.{Receives};
 ghost use Rattle.run_engine.specs.Played.{AreImages, IsRightAnswer, updates_of};
 ghost use Rattle.run_engine.specs.Shared.{AnswersPlaying, AnswersShared, IsReady};
 
-use crate::setting::{Setting, member_of};
-use event_script::{Answer, Event};
+use crate::setting::Setting;
+use event_script::{Answer, Event, member_of};
 use reg_model::{NoMemory, Place};
 use registry_core::Registry;
 use registry_core::laws::calls_follow;

@@ -1,7 +1,9 @@
 //! How a run ended.
 
 ghost use Rattle.std.specs.Prelude.{◌≡◌};
-ghost use Rattle.run_engine.specs.Statuses.{code_of};
+ghost use Rattle.run_engine.specs.Statuses.{code_of, ending_of};
+
+use run_ports::{Ending, ProgramStatus};
 
 /// How a run ended.
 #[derive(Clone, Copy, Debug, PartialEq, Eq)]
@@ -36,5 +38,32 @@ impl Status {
             Status::NoMemory => 6,
             Status::TooLong => 7,
         }
+    }
+}
+
+impl ProgramStatus for Status {
+    ghost says = { ending_of };
+
+    fn ending(&self) -> Ending
+        ensures { result ≡ ending_of self.now }
+    {
+        match self {
+            Status::Done | Status::Usage | Status::Script | Status::TooLong => Ending::Written,
+            Status::ReadFault => Ending::ReadFault,
+            Status::WriteFault => Ending::WriteFault,
+            Status::NoMemory => Ending::NoMemory,
+        }
+    }
+
+    fn write_fault() -> Self
+        ensures { result ≡ Status.WriteFault }
+    {
+        Status::WriteFault
+    }
+
+    fn no_memory() -> Self
+        ensures { result ≡ Status.NoMemory }
+    {
+        Status::NoMemory
     }
 }

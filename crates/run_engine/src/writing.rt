@@ -7,33 +7,13 @@ ghost use Rattle.event_script.specs.Text.{IsPrintable, numbered, answer_text, th
 ghost use Rattle.event_script.specs.Text.{journal_text, answer_lines, event_line};
 ghost use Rattle.std.specs.List.{flat_map};
 ghost use Rattle.script_generator.specs.Summaries.{summary_of, summary_text, IsCountable};
-ghost use Rattle.run_engine.specs.Ports.{Rose, Gains, GainsPart};
+ghost use Rattle.run_ports.specs.Ports.{Rose, Gains, GainsPart};
 ghost use Rattle.run_engine.specs.Played.{IsPlayedThread, IsPlayed};
 
-use crate::ports::{Sink, SinkFault};
 use event_script::{Answer, EventNumber, Journal, line_count, print_updates, put_event_line};
+use run_ports::{Sink, SinkFault, write_lines, write_piece};
 use script_generator::{print_summary, summary};
 use std::alloc::Global;
-
-/// Writes a piece: what the sink leaves of it is offered again. A sink that failed is not asked
-/// again.
-pub fn write_piece<K: Sink>(sink: &mut K, piece: &[u8]) -> Result<(), SinkFault>
-    requires { K.can_write sink.old }
-    ensures goes_on { OnOk result (K.can_write sink.new) }
-    ensures ok { OnOk result (Gains (K.written sink.old) (K.written sink.new) piece.now) }
-    ensures err { OnErr result (GainsPart (K.written sink.old) (K.written sink.new) piece.now) }
-    ensures failed { result ≡ Err SinkFault.Failed → Rose (K.faults sink.old) (K.faults sink.new) }
-    ensures sound { result ≢ Err SinkFault.Failed → K.faults sink.new ≡ K.faults sink.old }
-{
-    let mut at = 0;
-    while at < piece.len() {
-        match sink.write(&piece[at..]) {
-            Ok(count) => at += count,
-            Err(fault) => return Err(fault),
-        }
-    }
-    Ok(())
-}
 
 /// Writes a line of an event. The text is room for the line.
 fn write_line<K: Sink>(
@@ -235,23 +215,4 @@ pub fn write_summary<K: Sink>(
         Ok(lines) => write_lines(sink, &lines),
         Err(_) => Err(SinkFault::NoMemory),
     }
-}
-
-/// Writes lines, a piece for each.
-fn write_lines<K: Sink>(sink: &mut K, lines: &[Vec<u8>]) -> Result<(), SinkFault>
-    requires { K.can_write sink.old }
-    ensures ok { OnOk result (Gains (K.written sink.old) (K.written sink.new)
-        (flat_map (λ line. line) (map (λ line. line.items) lines.now))) }
-    ensures err { OnErr result (GainsPart (K.written sink.old) (K.written sink.new)
-        (flat_map (λ line. line) (map (λ line. line.items) lines.now))) }
-    ensures failed { result ≡ Err SinkFault.Failed → Rose (K.faults sink.old) (K.faults sink.new) }
-    ensures sound { result ≢ Err SinkFault.Failed → K.faults sink.new ≡ K.faults sink.old }
-{
-    for line in lines {
-        match write_piece(sink, line) {
-            Ok(()) => {}
-            Err(fault) => return Err(fault),
-        }
-    }
-    Ok(())
 }

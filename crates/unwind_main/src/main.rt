@@ -2,10 +2,8 @@
 //! engine.
 #![tactic(auto)]
 
-mod standard;
-
-use run_engine::{BufferedSink, NoGate, Status, run};
-use standard::{StandardInput, StandardOutput};
+use run_engine::{NoGate, Status, run};
+use run_ports::{BufferedSink, StandardInput, StandardOutput};
 use std::env;
 use std::io::ErrorKind;
 use std::process::ExitCode;

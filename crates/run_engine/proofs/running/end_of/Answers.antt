@@ -2,9 +2,12 @@ use Rattle.std.proofs.Common.{map, refl}
 use Rattle.std.specs.String.{string_bytes}
 use Rattle.command_line.specs.CommandLine.{IsCommandLine, AreTaken}
 use Rattle.command_line.specs.declared.taking.Command.TheVariants.{Run, Generate}
-use Rattle.run_engine.specs.Outcome.{Change}
+use Rattle.run_ports.specs.Endings.{Change}
+use Rattle.run_engine.specs.Outcome.{IsDue}
+use Rattle.run_engine.specs.Statuses.{ending_of}
 use Rattle.run_engine.specs.declared.status.Status.TheVariants as status
-use Rattle.run_engine.proofs.Endings.{ends_concluded, ends_generated}
+use Rattle.run_ports.proofs.Endings.{ends_concluded}
+use Rattle.run_engine.proofs.Endings.{ends_generated, write_told}
 use Rattle.run_engine.proofs.running.end_of.Goals as goal
 
 pub returns-in-Ok-Some-Run-clause-ends : goal.returns-in-Ok-Some-Run-clause-ends
@@ -30,4 +33,7 @@ returns-in-Ok-Some-Generate-clause-ends g c =
 pub returns-in-Ok-None-clause-ends : goal.returns-in-Ok-None-clause-ends
 returns-in-Ok-None-clause-ends g c =
     let other : ¬ AreTaken (map string_bytes c.args.words.now) = rw c.in-Ok-None.field-0-is at c.in-Ok-None.ensures in
-    ends_concluded (map string_bytes c.args.words.now) _ _ _ status.Usage _ (other, refl) c.conclude.ensures.concludes
+    ends_concluded ending_of (IsDue (map string_bytes c.args.words.now) _) (IsCommandLine (map string_bytes c.args.words.now) Run) _ _ status.Usage _ refl (other, refl) c.conclude.ensures.concludes
+
+pub returns-in-Ok-None-clause-writes : goal.returns-in-Ok-None-clause-writes
+returns-in-Ok-None-clause-writes g c = λ other. c.conclude.ensures.sound (λ says. other (write_told c.conclude.result says))

@@ -2,36 +2,40 @@ use Rattle.std.proofs.Common.{◌<◌, ◌≤◌, List, ℕ, length, vec_len, re
 use Rattle.event_script.specs.Refusal.{IsFirstBad}
 use Rattle.event_script.specs.Spelling.{IsScript}
 use Rattle.event_script.specs.Text.{journal_text}
-use Rattle.run_engine.specs.declared.reading.TheConstants.{LIMIT}
+use Rattle.run_ports.specs.declared.reading.TheConstants.{SCRIPT_LIMIT}
+use Rattle.command_line.specs.CommandLine.{IsCommandLine}
 use Rattle.command_line.specs.declared.taking.Command.TheVariants.{Run}
 use Rattle.run_engine.specs.declared.status.Status.TheVariants as status
-use Rattle.run_engine.proofs.Endings.{ends_concluded}
-use Rattle.run_engine.proofs.Pieces.{Hands-longer, IfSome-same}
+use Rattle.run_engine.specs.Outcome.{IsDue}
+use Rattle.run_engine.specs.Statuses.{ending_of}
+use Rattle.run_ports.proofs.Endings.{ends_concluded}
+use Rattle.run_ports.proofs.Pieces.{Hands-longer, IfSome-same}
+use Rattle.run_engine.proofs.Endings.{write_told}
 use Rattle.run_engine.proofs.running.run_source.Goals as goal
 
-pub returns-then-len-gt-LIMIT-clause-ends : goal.returns-then-len-gt-LIMIT-clause-ends
-returns-then-len-gt-LIMIT-clause-ends g c = λ words is.
-    let long : LIMIT < length c.in-Ok.bytes.items = (let count = c.len.ensures in let above = c.if-len-gt-LIMIT.true in omega (arith, c.in-Ok.bytes.ok.0)) in
-    ends_concluded _ _ _ _ status.TooLong _
-    (is, Hands-longer LIMIT _ _ c.in-Ok.bytes.items c.in-Ok.ensures.handed long, refl)
+pub returns-then-len-gt-SCRIPT_LIMIT-clause-ends : goal.returns-then-len-gt-SCRIPT_LIMIT-clause-ends
+returns-then-len-gt-SCRIPT_LIMIT-clause-ends g c = λ words is.
+    let long : SCRIPT_LIMIT < length c.in-Ok.bytes.items = (let count = c.len.ensures in let above = c.if-len-gt-SCRIPT_LIMIT.true in omega (arith, c.in-Ok.bytes.ok.0)) in
+    ends_concluded ending_of (IsDue words _) (IsCommandLine words Run) _ _ status.TooLong _ refl
+    (is, Hands-longer SCRIPT_LIMIT _ _ c.in-Ok.bytes.items c.in-Ok.ensures.handed long, refl)
     c.conclude.ensures.concludes
 
 pub returns-in-Err-Bad-clause-ends : goal.returns-in-Err-Bad-clause-ends
 returns-in-Err-Bad-clause-ends g c = λ words is.
     let bytes = c.in-Ok.bytes in
-    let short : length bytes.items ≤ LIMIT = (let count = c.len.ensures in let below = c.if-len-gt-LIMIT.false in omega (arith, bytes.ok.0)) in
-    let within : vec_len bytes ≤ LIMIT = (let count = c.len.ensures in let below = c.if-len-gt-LIMIT.false in omega arith) in
-    let P : List ℕ → Type 0 = λ had. (length had ≤ LIMIT) × IsFirstBad had c.in-Err-Bad.line c.in-Err-Bad.reason in
-    ends_concluded _ _ _ _ status.Script _
+    let short : length bytes.items ≤ SCRIPT_LIMIT = (let count = c.len.ensures in let below = c.if-len-gt-SCRIPT_LIMIT.false in omega (arith, bytes.ok.0)) in
+    let within : vec_len bytes ≤ SCRIPT_LIMIT = (let count = c.len.ensures in let below = c.if-len-gt-SCRIPT_LIMIT.false in omega arith) in
+    let P : List ℕ → Type 0 = λ had. (length had ≤ SCRIPT_LIMIT) × IsFirstBad had c.in-Err-Bad.line c.in-Err-Bad.reason in
+    ends_concluded ending_of (IsDue words _) (IsCommandLine words Run) _ _ status.Script _ refl
     (is, record { line = c.in-Err-Bad.line; reason = c.in-Err-Bad.reason; first = IfSome-same _ bytes.items P (c.in-Ok.ensures.all within) (short, rw (← c.deref.ensures.value) (rw c.in-Err-Bad.field-0-is at c.in-Err-Bad.ensures.bad)); text_is = refl })
     c.refuse.ensures.concludes
 
 pub returns-in-Err-Failed-write_journal-clause-ends : goal.returns-in-Err-Failed-write_journal-clause-ends
 returns-in-Err-Failed-write_journal-clause-ends g c = λ words is.
     let bytes = c.in-Ok.bytes in
-    let short : length bytes.items ≤ LIMIT = (let count = c.len.ensures in let below = c.if-len-gt-LIMIT.false in omega (arith, bytes.ok.0)) in
-    let within : vec_len bytes ≤ LIMIT = (let count = c.len.ensures in let below = c.if-len-gt-LIMIT.false in omega arith) in
-    let P : List ℕ → Type 0 = λ had. (length had ≤ LIMIT) × IsScript had c.in-Ok-read.script in
+    let short : length bytes.items ≤ SCRIPT_LIMIT = (let count = c.len.ensures in let below = c.if-len-gt-SCRIPT_LIMIT.false in omega (arith, bytes.ok.0)) in
+    let within : vec_len bytes ≤ SCRIPT_LIMIT = (let count = c.len.ensures in let below = c.if-len-gt-SCRIPT_LIMIT.false in omega arith) in
+    let P : List ℕ → Type 0 = λ had. (length had ≤ SCRIPT_LIMIT) × IsScript had c.in-Ok-read.script in
     let failed = rw c.in-Err-Failed-write_journal.field-0-is at c.in-Err-Failed-write_journal.ensures.failed in (
       failed refl,
       inr (
@@ -55,9 +59,9 @@ returns-in-Err-Failed-write_journal-clause-ends g c = λ words is.
 pub returns-clause-ends : goal.returns-clause-ends
 returns-clause-ends g c = λ words is.
     let bytes = c.in-Ok.bytes in
-    let short : length bytes.items ≤ LIMIT = (let count = c.len.ensures in let below = c.if-len-gt-LIMIT.false in omega (arith, bytes.ok.0)) in
-    let within : vec_len bytes ≤ LIMIT = (let count = c.len.ensures in let below = c.if-len-gt-LIMIT.false in omega arith) in
-    let P : List ℕ → Type 0 = λ had. (length had ≤ LIMIT) × IsScript had c.in-Ok-read.script in
+    let short : length bytes.items ≤ SCRIPT_LIMIT = (let count = c.len.ensures in let below = c.if-len-gt-SCRIPT_LIMIT.false in omega (arith, bytes.ok.0)) in
+    let within : vec_len bytes ≤ SCRIPT_LIMIT = (let count = c.len.ensures in let below = c.if-len-gt-SCRIPT_LIMIT.false in omega arith) in
+    let P : List ℕ → Type 0 = λ had. (length had ≤ SCRIPT_LIMIT) × IsScript had c.in-Ok-read.script in
     inr (
       status.Done,
       journal_text c.in-Ok-play_script.journal,
@@ -74,3 +78,6 @@ returns-clause-ends g c = λ words is.
       ),
       c.in-Err-NoMemory-write_journal.ensures.err,
     )
+
+pub returns-then-len-gt-SCRIPT_LIMIT-clause-writes : goal.returns-then-len-gt-SCRIPT_LIMIT-clause-writes
+returns-then-len-gt-SCRIPT_LIMIT-clause-writes g c = λ other. c.conclude.ensures.sound (λ says. other (write_told c.conclude.result says))

@@ -1,6 +1,6 @@
 use Rattle.std.proofs.Common.{◌∙◌, arith}
 use Rattle.event_script.specs.Text.{answer_lines, event_line}
-use Rattle.run_engine.proofs.Lines.{line_gains, line_gains_part}
+use Rattle.run_ports.proofs.Lines.{line_gains, line_gains_part}
 use Rattle.run_engine.proofs.writing.write_answer.Goals as goal
 
 pub loop-line-preserved : goal.loop-line-preserved

@@ -3,7 +3,7 @@ use Rattle.std.proofs.lemmas.Result.{on_ok_weaker, on_err_weaker}
 use Rattle.event_script.specs.Text.{updates_text}
 use Rattle.event_script.proofs.Numbered.{rounds_text_is}
 use Rattle.run_engine.proofs.Played.{played_is}
-use Rattle.run_engine.proofs.Pieces.{Gains-more, GainsPart-more, GainsPart-wider, GainsPart-all}
+use Rattle.run_ports.proofs.Pieces.{Gains-more, GainsPart-more, GainsPart-wider, GainsPart-all}
 use Rattle.run_engine.proofs.writing.write_journal.Goals as goal
 
 pub write_rounds-requires-clause-played : goal.write_rounds-requires-clause-played

@@ -2,7 +2,7 @@ use Rattle.std.proofs.Common.{◌≡◌, ◌∙◌, List, ℕ, map, ap, subst}
 use Rattle.std.specs.List.{flat_map}
 use Rattle.std.proofs.lemmas.Result.{on_err_weaker}
 use Rattle.script_generator.specs.Summaries.{summary_of, summary_lines, summary_text}
-use Rattle.run_engine.specs.Ports.{GainsPart}
+use Rattle.run_ports.specs.Ports.{GainsPart}
 use Rattle.run_engine.proofs.writing.write_summary.Goals as goal
 
 pub returns-in-Ok-clause-err : goal.returns-in-Ok-clause-err

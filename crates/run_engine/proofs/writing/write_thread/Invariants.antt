@@ -1,6 +1,6 @@
 use Rattle.std.proofs.Common.{◌≡◌, take}
 use Rattle.event_script.specs.Text.{thread_text}
-use Rattle.run_engine.specs.Ports.{Gains}
+use Rattle.run_ports.specs.Ports.{Gains}
 use Rattle.run_engine.proofs.writing.write_thread.Given as goal
 
 -- the answers so far were written

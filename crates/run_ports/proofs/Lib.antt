@@ -1,0 +1,4 @@
+pub mod Bytes
+pub mod Pieces
+pub mod Lines
+pub mod Endings
