@@ -275,7 +275,7 @@ enum frames_outcome {
   FRAMES_TABLE_FILTER = 7,    /* a filter below 0: exception specifications aren't read     */
   FRAMES_TABLE_CHAIN = 8,     /* a chain of records goes on after 255, or leaves the bytes  */
   FRAMES_TABLE_TYPE = 9,      /* the type of the filter at `at` isn't whole in the bytes    */
-  FRAMES_BELOW_FUNCTION = 10  /* the address is below `first`: nothing was read             */
+  FRAMES_BELOW_FUNCTION = 10  /* the address is below `first`: the table wasn't asked       */
 };
 
 /* Asks the table at an address, of the function that starts at `first`, of an exception of a kind

@@ -1,7 +1,6 @@
 //! What a table of call sites says of an exception.
 
 ghost use Rattle.std.specs.Prelude.{◌≡◌};
-ghost use Rattle.raise_phases.specs.Verdicts.{verdict_of};
 ghost use Rattle.frames_c.specs.CallSiteTables.{
   verdict_numbers,
   fault_numbers,
