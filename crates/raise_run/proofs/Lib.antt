@@ -1,0 +1,4 @@
+pub mod TwoWords
+pub mod Endings
+pub mod Lines
+pub mod Opened

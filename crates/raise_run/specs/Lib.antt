@@ -1,0 +1,4 @@
+pub mod Words
+pub mod RaiseText
+pub mod RaiseStatuses
+pub mod RaiseOutcome
