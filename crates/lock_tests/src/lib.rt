@@ -1,0 +1,9 @@
+//! Tests of the steps on the shared words: locks, sights, callers and notes. Nothing stands on it.
+#![tactic(auto)]
+
+#[cfg(test)]
+mod locks;
+#[cfg(test)]
+mod sights;
+#[cfg(test)]
+mod single_steps;

@@ -1,5 +1,0 @@
-use Rattle.std.proofs.Common.{length}
-use Rattle.table_tests.proofs.plain_tree.+within.Given as goal
-
-abbrev pub decreases-within : goal.decreases-within
-decreases-within l = length l.entries.now

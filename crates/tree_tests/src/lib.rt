@@ -1,0 +1,12 @@
+//! Tests of the shared tree and of the registry: lookups and updates, alone and in rounds of
+//! threads. Nothing stands on it.
+#![tactic(auto)]
+
+#[cfg(test)]
+mod insertions;
+#[cfg(test)]
+mod rounds;
+#[cfg(test)]
+mod tree_lookups;
+#[cfg(test)]
+mod tree_rounds;
