@@ -4,3 +4,4 @@ pub mod Fields
 pub mod Searches
 pub mod Sites
 pub mod Tables
+pub mod Unchanged

@@ -2,7 +2,7 @@
 -- up to the handler's.
 use Rattle.std.specs.Prelude.{◌≡◌, ◌⊎◌, ℕ, ◌+◌, ◌-◌, ◌<◌, ◌≤◌, List, [], ◌∷◌, ◌++◌, length, map}
 use Rattle.std.specs.Prelude.{All, take, Option, Some, None, Result, Ok, Err, slice_get}
-use Rattle.std.specs.List.{AllZip}
+use Rattle.std.specs.List.{AllZip, Contains}
 use Rattle.frame_expr.specs.declared.regs.Regs.{Regs}
 use Rattle.frame_expr.specs.Regions.{RegionData, tail_at}
 use Rattle.frame_parse.specs.Sections.{SectionData, FdeData}
@@ -181,3 +181,19 @@ pub record RaiseUnfolds (sections : List SectionData) (memory : List RegionData)
   pub end : SearchEnd
   pub search : SearchUnfolds sections memory regs kind raised.search end
   pub ends : EndsRaise raised end
+
+-- ---- answers that don't change
+
+-- both phases found the same member wherever they asked for one address
+abbrev pub FoundAlike : List Phase → List Phase → Type 0
+FoundAlike search cleanup = (first second : Phase) → Contains search first → Contains cleanup second
+    → second.line.look ≡ first.line.look → FoundSame first.line.place second.line.place
+
+-- the raise ended with a frame for which the second answer was another
+abbrev pub EndsChanged : RaiseEnd → Type 0
+EndsChanged (ends.Uncaught e) = ⊥
+EndsChanged (ends.Terminate i) = ⊥
+EndsChanged (ends.NoTable i) = ⊥
+EndsChanged (ends.BadTable i f) = ⊥
+EndsChanged (ends.Changed i first second) = Unit {0}
+EndsChanged (ends.Caught i pad filter) = ⊥

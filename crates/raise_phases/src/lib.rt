@@ -20,7 +20,7 @@ mod phases;
 mod raised;
 
 pub use fault::LsdaFault;
-pub use laws::tables_have_one_verdict;
+pub use laws::{steady_answers_change_no_raise, tables_have_one_verdict};
 pub use lsda::verdict;
 pub use outcome::Verdict;
 pub use phases::raise;

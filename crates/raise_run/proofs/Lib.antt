@@ -2,3 +2,4 @@ pub mod TwoWords
 pub mod Endings
 pub mod Lines
 pub mod Opened
+pub mod Steady

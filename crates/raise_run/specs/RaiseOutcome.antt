@@ -8,7 +8,8 @@ use Rattle.event_script.specs.ScriptData.{ScriptData, SnapshotData}
 use Rattle.event_script.specs.Spelling.{IsScript}
 use Rattle.event_script.specs.FaultText.{IsRefusal}
 use Rattle.event_script.specs.Lawful.{start_of}
-use Rattle.raise_phases.specs.Raising.{RaisedData, RaiseUnfolds, lines_of}
+use Rattle.raise_phases.specs.Raising.{RaisedData, RaiseUnfolds, EndsChanged}
+use Rattle.raise_phases.specs.Raising.{lines_of}
 use Rattle.run_ports.specs.Endings.{Change, EndsWith, too_long_line}
 use Rattle.run_ports.specs.declared.reading.TheConstants.{SCRIPT_LIMIT}
 use Rattle.raise_run.specs.Words.{request_of}
@@ -35,7 +36,8 @@ abbrev pub fixed_registry : ScriptData → PlainRegistryData
 fixed_registry script = record { state = start_of script; updates = 0 }
 
 -- A raise of a kind over a snapshot of a script: it unfolds from the snapshot and the images'
--- sections, and each place is right of the fixed images, with the stamp 0.
+-- sections, and each place is right of the fixed images, with the stamp 0. It doesn't end as
+-- changed, since nothing changes the fixed images.
 pub record IsRaise (script : ScriptData) (request : RaiseRequest)
     (raised : RaisedData) : Type 0 where
   pub snapshot : SnapshotData
@@ -43,6 +45,7 @@ pub record IsRaise (script : ScriptData) (request : RaiseRequest)
   pub unfolds : RaiseUnfolds script.sections snapshot.memory snapshot.regs request.kind raised
   pub right : All (λ line. IsPlainPlace (fixed_registry script) line.look line.place)
       (lines_of raised.search ++ lines_of raised.cleanup)
+  pub unchanged : ¬ EndsChanged raised.end
 
 -- The text is that of a raise over a script, the one that the source's bytes spell.
 pub record IsRaiseAnswer (input : Option (List ℕ)) (request : RaiseRequest)

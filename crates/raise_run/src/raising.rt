@@ -6,7 +6,7 @@ ghost use Rattle.raise_run.specs.RaiseOutcome.{IsRaise};
 use crate::words::RaiseRequest;
 use event_script::laws::fixed_images_are_disjoint;
 use event_script::{Script, Snapshot, members_of};
-use raise_phases::{Raised, raise};
+use raise_phases::{Raised, raise, steady_answers_change_no_raise};
 use reg_model::{NoMemory, PlainRegistry};
 use std::alloc::Global;
 use std::sync::Wait;
@@ -28,6 +28,7 @@ pub fn raise_in<R: Wait>(
     // The laws that this rests on; they take no step.
     fixed_images_are_disjoint();
     plain_answers_are_right();
+    steady_answers_change_no_raise();
     let fixed = members_of(alloc, &script.images, &script.fixed)?;
     let registry = PlainRegistry::new(alloc, fixed, script.loads);
     let mut finder = PlainFinder::new(&registry, script.images.len() as u32);

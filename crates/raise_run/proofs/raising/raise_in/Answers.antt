@@ -1,4 +1,4 @@
-use Rattle.std.proofs.Common.{◌≡◌, ℕ, List, length, map, refl, sym, ap, ap₂, ◌∙◌, subst, arith}
+use Rattle.std.proofs.Common.{◌≡◌, ℕ, List, length, map, sym, ap, ap₂, ◌∙◌, subst, arith}
 use Rattle.reg_model.specs.PlainRegistryData.{PlainRegistryData}
 use Rattle.reg_model.specs.SpanData.{SpanData}
 use Rattle.reg_model.specs.State.{AreDisjoint, opening}
@@ -34,5 +34,5 @@ returns g c =
     let fixed = c.in_ok-fixed.ensures ∙ ap₂ (λ (images : List SpanData) (numbers : List ℕ). map (image_member images) numbers) c.deref.ensures.value c.deref-2.ensures.value in
     let opened : c.new-finder.result.registry ≡ fixed_registry c.args.script.now = rw (← c.script.view_is) (ap (λ (f : PlainFinderData). f.registry) c.new-finder.ensures ∙ c.new-registry.ensures ∙ ap (λ (members : List Member). record { state = opening members loads; updates = 0 }) fixed) in
     let unfolds = rw (c.deref-3.ensures.value) at c.raise.ensures.unfolds in
-    raise_is c.plain_answers_are_right.ensures.right c.args.script.now c.args.request.now c.args.snapshot.now c.new-finder.result c.raise.new.finder c.raise.result c.requires opened
+    raise_is c.steady_answers_change_no_raise.ensures c.plain_answers_are_right.ensures.right c.args.script.now c.args.request.now c.args.snapshot.now c.new-finder.result c.raise.new.finder c.raise.result c.requires opened
     (rw (← c.script.view_is, ← c.snapshot.view_is) unfolds) c.raise.ensures.queries

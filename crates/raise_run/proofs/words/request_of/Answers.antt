@@ -1,4 +1,4 @@
-use Rattle.std.proofs.Common.{◌≡◌, List, ℕ, ap, ap₂, ◌∙◌, sym, length, arith}
+use Rattle.std.proofs.Common.{◌≡◌, ap, ap₂, ◌∙◌, sym, length, arith}
 use Rattle.std.specs.String.{string_bytes}
 use Rattle.raise_run.specs.Words.{request_in, request_of}
 use Rattle.raise_run.proofs.TwoWords.{two_words_are}
