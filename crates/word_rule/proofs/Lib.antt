@@ -46,4 +46,5 @@ pub mod NodeReleases
 pub mod NodeTries
 pub mod NodeStores
 pub mod KeptVersions
+pub mod Peeking
 pub mod Exchanges

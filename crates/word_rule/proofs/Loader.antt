@@ -242,23 +242,15 @@ module _ (t : Terms) (slots id : ℕ) (me : Seated) (caller : me.0.role ≡ role
   pub grabs_loader : Allows Holds slots id me 2 (λ n. bit_or n 1) (grabs (step slots 2 1 0 none) me)
   grabs_loader s r deep at small = grabs_word s r deep at small (get_or s.words 2 0 % 2) refl
 
-  -- and the version is the one that the caller keeps
-  pub releases_kept : (version : ℕ) → IsSomeAnd me.0.loader (λ h. h.stored ≡ false) → IfSome me.0.loader (λ h. (h.version ≡ version) × (h.version < 2 ^ 63)) → 0 < me.0.budget.credit
+  -- the same with the version as a number
+  pub releases_kept : (version : ℕ) → IsSomeAnd me.0.loader (λ h. h.stored ≡ false) → IfSome me.0.loader (λ h. h.version ≡ version) → 0 < me.0.budget.credit
       → Allows Holds slots id me 2 (λ _. version + 4) (releases (step slots 2 (version + 4) 0 none) me)
   releases_kept version held kept some_credit =
-      let h = some_with me.0.loader (λ g. g.stored ≡ false) held in let is = subst (λ part. IfSome part (λ g. (g.version ≡ version) × (g.version < 2 ^ 63))) h.1.0 kept in
-      subst (λ k. Allows Holds slots id me 2 (λ _. k + 4) (releases (step slots 2 (k + 4) 0 none) me)) is.0 (releases_loader h.0 h.1.0 h.1.1 some_credit)
+      let h = some_with me.0.loader (λ g. g.stored ≡ false) held in let is = subst (λ part. IfSome part (λ g. g.version ≡ version)) h.1.0 kept in
+      subst (λ k. Allows Holds slots id me 2 (λ _. k + 4) (releases (step slots 2 (k + 4) 0 none) me)) is (releases_loader h.0 h.1.0 h.1.1 some_credit)
 
-  pub releases_same_kept : (version : ℕ) → IsSomeAnd me.0.loader (λ h. h.stored ≡ false) → IfSome me.0.loader (λ h. (h.version ≡ version) × (h.version < 2 ^ 63))
+  pub releases_same_kept : (version : ℕ) → IsSomeAnd me.0.loader (λ h. h.stored ≡ false) → IfSome me.0.loader (λ h. h.version ≡ version)
       → Allows Holds slots id me 2 (λ _. version) (releases_same (step slots 2 version 0 none) me)
   releases_same_kept version held kept =
-      let h = some_with me.0.loader (λ g. g.stored ≡ false) held in let is = subst (λ part. IfSome part (λ g. (g.version ≡ version) × (g.version < 2 ^ 63))) h.1.0 kept in
-      subst (λ k. Allows Holds slots id me 2 (λ _. k) (releases_same (step slots 2 k 0 none) me)) is.0 (releases_same_loader h.0 h.1.0 h.1.1)
-
--- the first of a list, read with a value that stands in past its end
-pub first_of : (xs : List ℕ) (y : ℕ) → 0 < length xs → y ≡ get_or xs 0 y → get_or xs 0 0 ≡ y
-first_of [] y h e = absurd (omega arith)
-first_of (x ∷ xs) y h e = sym e
-
-pub version_kept : (o : Option LoaderHolding) (a b : ℕ) → a ≡ b → IfSome o (λ h. (h.version ≡ a) × (h.version < 2 ^ 63)) → IfSome o (λ h. (h.version ≡ b) × (h.version < 2 ^ 63))
-version_kept o a b e h = subst (λ k. IfSome o (λ g. (g.version ≡ k) × (g.version < 2 ^ 63))) e h
+      let h = some_with me.0.loader (λ g. g.stored ≡ false) held in let is = subst (λ part. IfSome part (λ g. g.version ≡ version)) h.1.0 kept in
+      subst (λ k. Allows Holds slots id me 2 (λ _. k) (releases_same (step slots 2 k 0 none) me)) is (releases_same_loader h.0 h.1.0 h.1.1)

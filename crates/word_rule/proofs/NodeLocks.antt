@@ -46,7 +46,7 @@ none_of n [] all = refl
 none_of n (h ∷ held) all = let c = sum_by-cons (λ (g : Holding). once (g.node == n)) h held in let rest = none_of n held all.1 in let here : once (h.node == n) ≡ 0 = rw (ne_eqb h.node n all.0) refl in omega (arith, c, rest, here)
 
 -- one version is at most all
-one_counter : (versions : ℕ → ℕ) (n k : ℕ) → n < k → versions n / 4 ≤ node_counters versions k
+pub one_counter : (versions : ℕ → ℕ) (n k : ℕ) → n < k → versions n / 4 ≤ node_counters versions k
 one_counter versions n zero h = absurd (omega (arith, h))
 one_counter versions n (suc k) h = go (ℕ_discrete n k) (one_counter versions n k)
   where

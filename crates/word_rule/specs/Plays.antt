@@ -34,6 +34,10 @@ Stepped = Step (Unit {0})
 abbrev pub WasLocked : Seated → ℕ → Type 0
 WasLocked me found = IfSome me.0.loader (λ h. IsLockedAt h.version found)
 
+-- A load of the loader's version of which the log says nothing.
+abbrev pub peeks : Stepped → Seated → ℕ → Seated → Type 0
+peeks st me found me' = (me' ≡ me) × WasLocked me found × (found < 2 ^ 63)
+
 -- a load of the loader's version
 abbrev pub looks : Stepped → Seated → ℕ → Seated → Type 0
 looks st me found me' = (me' ≡ (after_load st.word found me.0, me.1)) × WasLocked me found
@@ -96,6 +100,10 @@ loads_node n at st me found me' =
 abbrev pub NodeWasLocked : ℕ → Seated → ℕ → Type 0
 NodeWasLocked n me found =
     IfSome (held_of n me.0.holdings.held) (λ h. IsLockedAt h.version found)
+
+-- a load of a node's version of which the log says nothing
+abbrev pub peeks_node : ℕ → Stepped → Seated → ℕ → Seated → Type 0
+peeks_node n st me found me' = (me' ≡ me) × NodeWasLocked n me found × (found < 2 ^ 63)
 
 -- a node's version was loaded
 abbrev pub loads_version : Terms → Ask → ℕ → Stepped → Seated → ℕ → Seated → Type 0

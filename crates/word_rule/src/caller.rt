@@ -20,8 +20,6 @@ pub struct Caller {
     /// The releases that it may make beside those of the update calls that are left.
     pub(crate) spare: u64,
     pub(crate) seen: u32,
-    /// The versions at which it took its locks: the loader's, and then the nodes'.
-    pub(crate) versions: Vec<u64>,
     pub(crate) names: Names,
 }
 
@@ -34,7 +32,7 @@ impl Model for Caller {
 
     ghost view = { λ c. record { table = c.seat.table_id; left = c.left; log = c.seat.me.0 } };
 
-    ghost invariant = { λ c. IsCaller c.left c.spare c.seen c.versions.items c.names c.seat.me };
+    ghost invariant = { λ c. IsCaller c.left c.spare c.seen c.names c.seat.me };
 }
 
 /// What a caller had seen, to be told to another.

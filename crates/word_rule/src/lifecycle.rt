@@ -46,7 +46,6 @@ impl Words {
             ≡ record { table = made.0.table; left = ALLOWANCE; log = first_log made.0.terms }) }
     {
         let words = initial_words(alloc, nodes, loads)?;
-        let versions = vec![in alloc; 0u64; nodes as usize + 1]?;
         let names = Names::new(alloc, Name::first(alloc))?;
         let made = Made {
             nodes,
@@ -61,7 +60,6 @@ impl Words {
             left: ALLOWANCE,
             spare: SPARE,
             seen: 0,
-            versions,
             names,
         };
         Ok((Words { table, made }, me))
@@ -84,7 +82,6 @@ impl Words {
             left: _,
             spare: _,
             seen: _,
-            versions: _,
             names: _,
         } = me;
         let closed = table.close_with(seat);

@@ -18,7 +18,7 @@ use crate::caller::Caller;
 use crate::log::{Ask, Log, Role};
 use crate::places::{LOCKED, VERSION};
 use crate::rule::{
-    AtNode, BeginsSight, GrabsNode, LoadsNode, LoadsVersion, LocksNode, ReleasesNode,
+    AtNode, BeginsSight, GrabsNode, LoadsNode, LoadsVersion, LocksNode, PeeksNode, ReleasesNode,
     ReleasesSameNode, StoresNode,
 };
 use crate::words::Words;
@@ -174,7 +174,6 @@ impl Words {
         if found != seen {
             return Err(found);
         }
-        me.versions[node as usize + 1] = seen;
         Ok(())
     }
 
@@ -207,18 +206,31 @@ impl Words {
         if found % 2 != 0 {
             return Err(found);
         }
-        me.versions[node as usize + 1] = found;
         Ok(found)
     }
 
-    fn release_same_for<N: AtNode>(&self, seat: &mut Seat<(), Log>, node: u32, version: u64) -> u64
+    // The version at which a node is held, by a load of its version word, of which the log says
+    // nothing.
+    fn held_version<N: AtNode>(&self, seat: &mut Seat<(), Log>, node: u32) -> u64
+        requires table { seat.old.table_id ≡ self.now.table }
+        requires about { N.node ≡ node }
+        requires inside { node < self.now.terms.nodes }
+        ensures same { (seat.new.table_id ≡ seat.old.table_id) × (seat.new.id ≡ seat.old.id)
+            × (seat.new.me ≡ seat.old.me) }
+        ensures version { IfSome (held_of N.node seat.old.me.0.holdings.held)
+            (λ h. h.version ≡ result) }
+        ensures room { result < 2 ^ 63 }
+    {
+        let found = self.table.shared.load::<PeeksNode<N>>(seat, place_of(node));
+        found - found % VERSION
+    }
+
+    fn release_same_for<N: AtNode>(&self, seat: &mut Seat<(), Log>, node: u32) -> u64
         requires table { seat.old.table_id ≡ self.now.table }
         requires about { N.node ≡ node }
         requires inside { node < self.now.terms.nodes }
         requires clean { IsSomeAnd (held_of node seat.old.me.0.holdings.held)
             (λ h. h.stored ≡ false) }
-        requires version { IfSome (held_of node seat.old.me.0.holdings.held)
-            (λ h. h.version ≡ version) }
         requires caller { seat.old.me.0.role ≡ Role.Caller }
         ensures same { (seat.new.table_id ≡ seat.old.table_id) × (seat.new.id ≡ seat.old.id)
             × (seat.new.me.1 ≡ seat.old.me.1) }
@@ -226,6 +238,7 @@ impl Words {
         ensures before { IfSome (held_of N.node seat.old.me.0.holdings.held)
             (λ h. IsLockedAt h.version result) }
     {
+        let version = self.held_version::<N>(seat, node);
         self.table
             .shared
             .swap::<ReleasesSameNode<N>>(seat, place_of(node), version)
@@ -240,19 +253,15 @@ impl Words {
         ensures before { IfSome (held_of node me.old.log.holdings.held)
             (λ h. IsLockedAt h.version result) }
     {
-        let version = me.versions[node as usize + 1];
-        self.release_same_for::<Brand>(&mut me.seat, node, version)
+        self.release_same_for::<Brand>(&mut me.seat, node)
     }
 
-    fn release_for<N: AtNode>(&self, seat: &mut Seat<(), Log>, node: u32, version: u64) -> u64
+    fn release_for<N: AtNode>(&self, seat: &mut Seat<(), Log>, node: u32) -> u64
         requires table { seat.old.table_id ≡ self.now.table }
         requires about { N.node ≡ node }
         requires inside { node < self.now.terms.nodes }
         requires may { MayRelease node seat.old.me.0 }
         requires credit { 0 < seat.old.me.0.budget.credit }
-        requires version { IfSome (held_of node seat.old.me.0.holdings.held)
-            (λ h. h.version ≡ version) }
-        requires room { version < 2 ^ 63 }
         requires caller { seat.old.me.0.role ≡ Role.Caller }
         ensures same { (seat.new.table_id ≡ seat.old.table_id) × (seat.new.id ≡ seat.old.id)
             × (seat.new.me.1 ≡ seat.old.me.1) }
@@ -265,6 +274,7 @@ impl Words {
         laws::local_change();
         laws::agreement();
         laws::decided();
+        let version = self.held_version::<N>(seat, node);
         self.table
             .shared
             .swap::<ReleasesNode<N>>(seat, place_of(node), version + VERSION)
@@ -280,9 +290,8 @@ impl Words {
         ensures before { IfSome (held_of node me.old.log.holdings.held)
             (λ h. IsLockedAt h.version result) }
     {
-        let version = me.versions[node as usize + 1];
         me.spare -= 1;
-        self.release_for::<Brand>(&mut me.seat, node, version)
+        self.release_for::<Brand>(&mut me.seat, node)
     }
 
     fn store_node_for<N: AtNode>(&self, seat: &mut Seat<(), Log>, node: u32, at: u32, value: u64)

@@ -76,6 +76,14 @@ impl Play<(), Log> for ReleasesSame {
     ghost then = { releases_same };
 }
 
+pub(crate) struct Peeks;
+
+impl Play<(), Log> for Peeks {
+    ghost use Rattle.word_rule.specs.Plays.{peeks};
+
+    ghost then = { peeks };
+}
+
 pub(crate) struct Confirms;
 
 impl Play<(), Log> for Confirms {
@@ -168,6 +176,16 @@ impl<N: AtNode> Play<(), Log> for BeginsSight<N> {
     ghost use Rattle.word_rule.specs.Plays.{begins_sight};
 
     ghost then = { begins_sight N.node };
+}
+
+pub(crate) struct PeeksNode<N> {
+    node: PhantomData<N>,
+}
+
+impl<N: AtNode> Play<(), Log> for PeeksNode<N> {
+    ghost use Rattle.word_rule.specs.Plays.{peeks_node};
+
+    ghost then = { peeks_node N.node };
 }
 
 pub(crate) struct LoadsNode<N> {

@@ -53,7 +53,6 @@ impl Words {
             }) }
         ensures err { OnErr result (me.new ≡ me.old) }
     {
-        let versions = vec![in alloc; 0u64; me.versions.len()]?;
         let names = me.names.fork(alloc)?;
         let seat = self.split_seat::<Brand>(&mut me.seat, me.left, give);
         me.left -= give;
@@ -64,7 +63,6 @@ impl Words {
             left: give,
             spare: half,
             seen: me.seen,
-            versions,
             names,
         })
     }
@@ -132,7 +130,6 @@ impl Words {
             left,
             spare,
             seen,
-            versions,
             names,
         } = other;
         if let Err(names) = me.names.join(names) {
@@ -141,7 +138,6 @@ impl Words {
                 left,
                 spare,
                 seen,
-                versions,
                 names,
             });
         }

@@ -1,5 +1,5 @@
 //! The words, and the steps on version locks.
-ghost use Rattle.std.specs.Prelude.{◌≡◌, ◌≢◌, ◌+◌, ◌%◌, ◌<◌, ◌≤◌, IfOk, IfErr};
+ghost use Rattle.std.specs.Prelude.{◌≡◌, ◌≢◌, ◌+◌, ◌%◌, ◌^◌, ◌<◌, ◌≤◌, IfOk, IfErr};
 ghost use Rattle.std.specs.Prelude.{IfSome, IsSomeAnd, false};
 ghost use Rattle.word_rule.specs.Logs.{after_load, after_write};
 ghost use Rattle.word_rule.specs.Logs.{after_loader_release, after_loader_release_same};
@@ -15,8 +15,8 @@ use crate::caller::Caller;
 use crate::log::{Ask, LockId, Log};
 use crate::nodes::place_of;
 use crate::places::{LOCKED, SLEEPERS, VERSION};
-use crate::rule::{Grabs, Law, Locks, Looks, Made, Marks, Releases, ReleasesSame};
-use atomic_table::Table;
+use crate::rule::{Grabs, Law, Locks, Looks, Made, Marks, Peeks, Releases, ReleasesSame};
+use atomic_table::{Seat, Table};
 use reg_model::Member;
 use std::alloc::Global;
 use std::marker::Model;
@@ -123,7 +123,6 @@ impl Words {
         if found != seen {
             return Err(found);
         }
-        me.versions[0] = seen;
         Ok(())
     }
 
@@ -158,7 +157,6 @@ impl Words {
         if found % 2 != 0 {
             return Err(found);
         }
-        me.versions[0] = found;
         Ok(found)
     }
 
@@ -197,6 +195,19 @@ impl Words {
         if found == seen { Ok(()) } else { Err(found) }
     }
 
+    // The version at which it holds the loader's lock, by a load of the word, of which the log says
+    // nothing.
+    fn loader_version(&self, seat: &mut Seat<(), Log>) -> u64
+        requires table { seat.old.table_id ≡ self.now.table }
+        ensures same { (seat.new.table_id ≡ seat.old.table_id) × (seat.new.id ≡ seat.old.id)
+            × (seat.new.me ≡ seat.old.me) }
+        ensures version { IfSome seat.old.me.0.loader (λ h. h.version ≡ result) }
+        ensures room { result < 2 ^ 63 }
+    {
+        let found = self.table.shared.load::<Peeks>(seat, LOADER_WORD);
+        found - found % VERSION
+    }
+
     fn release_loader(&self, me: &mut Caller) -> u64
         requires table { me.old.table ≡ self.now.table }
         requires clean { IsSomeAnd me.old.log.loader (λ h. h.stored ≡ false) }
@@ -204,7 +215,7 @@ impl Words {
         ensures log { me.new ≡ record me.old { log = after_loader_release me.old.log } }
         ensures before { IfSome me.old.log.loader (λ h. IsLockedAt h.version result) }
     {
-        let next = me.versions[0] + VERSION;
+        let next = self.loader_version(&mut me.seat) + VERSION;
         me.spare -= 1;
         self.table
             .shared
@@ -234,7 +245,7 @@ impl Words {
         ensures log { me.new ≡ record me.old { log = after_loader_release_same me.old.log } }
         ensures before { IfSome me.old.log.loader (λ h. IsLockedAt h.version result) }
     {
-        let same = me.versions[0];
+        let same = self.loader_version(&mut me.seat);
         self.table
             .shared
             .swap::<ReleasesSame>(&mut me.seat, LOADER_WORD, same)

@@ -13,9 +13,6 @@ invariant_of-result c = let i = c.other.invariant in record {
   credit = i.credit;
   counted = i.counted;
   names_are = (c.in-Err.ensures.err _ _ c.me.invariant.names_are i.names_are).1;
-  wide = i.wide;
-  loader = i.loader;
-  nodes = i.nodes;
 }
 
 pub invariant_of-me : goal.invariant_of-me
@@ -28,9 +25,6 @@ invariant_of-me c = let i = c.me.invariant in record {
   credit = i.credit;
   counted = i.counted;
   names_are = (c.in-Err.ensures.err _ _ i.names_are c.other.invariant.names_are).0;
-  wide = i.wide;
-  loader = i.loader;
-  nodes = i.nodes;
 }
 
 pub join_seat-requires : goal.join_seat-requires

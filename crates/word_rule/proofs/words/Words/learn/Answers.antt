@@ -20,9 +20,6 @@ invariant_of-me c = let i = c.me.invariant in record {
   credit = i.credit;
   counted = i.counted;
   names_are = (c.in-Err.ensures.err _ _ i.names_are c.note.invariant.names_are).0;
-  wide = i.wide;
-  loader = i.loader;
-  nodes = i.nodes;
 }
 
 pub join_seat-requires : goal.join_seat-requires

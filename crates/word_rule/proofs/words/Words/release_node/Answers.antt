@@ -7,7 +7,7 @@ use Rattle.word_rule.proofs.words.Words.release_node.Goals as goal
 pub invariant_of-me : goal.invariant_of-me
 invariant_of-me c =
     let s = subst (λ k. 0 < surplus k) (sym c.me.view_is) c.requires.surplus in
-    caller_let_go _ _ _ _ _ _ _ _ c.release_for.ensures.log c.release_for.ensures.same.2 (omega (arith, s)) c.me.invariant
+    caller_let_go _ _ _ _ _ _ _ c.release_for.ensures.log c.release_for.ensures.same.2 (omega (arith, s)) c.me.invariant
 
 pub returns-clause-log : goal.returns-clause-log
 returns-clause-log c =

@@ -10,7 +10,4 @@ invariant_of-me c = let i = c.me.invariant in record {
   credit = i.credit;
   counted = i.counted;
   names_are = c.in_err-names.ensures.err _ i.names_are;
-  wide = i.wide;
-  loader = i.loader;
-  nodes = i.nodes;
 }

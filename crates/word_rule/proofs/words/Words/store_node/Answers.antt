@@ -5,7 +5,7 @@ use Rattle.word_rule.proofs.KeptVersions.{caller_stored}
 use Rattle.word_rule.proofs.words.Words.store_node.Goals as goal
 
 pub invariant_of-me : goal.invariant_of-me
-invariant_of-me c = caller_stored _ _ _ _ _ _ _ c.args.node c.args.at c.args.value c.store_node_for.ensures.log c.store_node_for.ensures.same.2 c.me.invariant
+invariant_of-me c = caller_stored _ _ _ _ _ _ c.args.node c.args.at c.args.value c.store_node_for.ensures.log c.store_node_for.ensures.same.2 c.me.invariant
 
 pub returns-clause-log : goal.returns-clause-log
 returns-clause-log c =
