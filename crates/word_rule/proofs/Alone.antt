@@ -95,7 +95,7 @@ settles_loads t slots id me s r deep at small =
       keeps,
       tt,
       rw (same_words, same_views) r,
-      (refl, (let a = part_of_total (λ u. u.budget.allowance) s.views id me.0 at in let o = r.memory.callers.room in omega (arith, a, o)), (let a = part_of_total (λ u. u.budget.credit) s.views id me.0 at in let o = r.memory.callers.counted in omega (arith, a, o)), λ stands alone. whole t (memory_of t s.words) s.views r.memory.history r.memory.callers id me.0 at alone stands, (r.memory.callers.each id me.0 at).receipts.heard),
+      (refl, (let a = part_of_total (λ u. u.budget.allowance) s.views id me.0 at in let o = r.memory.callers.room in let b = (r.memory.callers.each id me.0 at).begins in let l = sym (length-append me.0.past b.0) ∙ ap length b.1 in omega (arith, a, o, l)), (let a = part_of_total (λ u. u.budget.credit) s.views id me.0 at in let o = r.memory.callers.counted in omega (arith, a, o)), λ stands alone. whole t (memory_of t s.words) s.views r.memory.history r.memory.callers id me.0 at alone stands, (r.memory.callers.each id me.0 at).receipts.heard),
     )
 
 first_word : (words : List ℕ) (n : ℕ) → get_elem? words 0 ≡ some n → get_or words 0 0 ≡ n

@@ -1,5 +1,5 @@
 -- A load of the free head keeps the rule: where it is 0, all nodes are live but those that callers have out.
-use Rattle.std.proofs.Common.{◌≡◌, ℕ, zero, suc, ◌+◌, ◌-◌, ◌*◌, ◌<◌, ◌≤◌, List, [], ◌∷◌, length, get_or, set, sym, refl, ap, ◌∙◌, subst, arith, ◌==◌, nat_lt, Bool, true, false, Some, None, IfSome, IsSome, is_some, eq-eqb, ne_eqb, lt-ltb, if◌then◌else◌}
+use Rattle.std.proofs.Common.{◌≡◌, ℕ, zero, suc, ◌+◌, ◌-◌, ◌*◌, ◌<◌, ◌≤◌, List, [], ◌∷◌, length, get_or, set, sym, refl, ap, ◌∙◌, subst, arith, ◌==◌, nat_lt, Bool, true, false, eq-eqb, ne_eqb, lt-ltb}
 use mathlib.Core.Option.{none, some}
 use native.Mathlib.Decide.{ℕ_discrete}
 use lib.ListN.{get_elem?}
@@ -11,11 +11,10 @@ use Rattle.word_rule.specs.declared.log.Role.TheVariants as role
 use Rattle.word_rule.specs.declared.log.Terms.{Terms}
 use Rattle.word_rule.specs.declared.log.Log.{Log}
 use Rattle.word_rule.specs.Memory.{Memory, memory_of}
-use Rattle.word_rule.specs.Held.{held_of}
 use Rattle.word_rule.specs.Logs.{is_spent, load_of, weight, own_list}
 use Rattle.word_rule.specs.Steps.{after_head_load}
 use Rattle.word_rule.specs.Callers.{total, IsIdle}
-use Rattle.word_rule.specs.Nodes.{HoldingsHold, IsChain}
+use Rattle.word_rule.specs.Nodes.{IsChain}
 use Rattle.word_rule.specs.Observations.{IsFullCount, HadMembers, WasFull}
 use Rattle.word_rule.specs.TableInvariant.{TableInvariant}
 use Rattle.word_rule.specs.Plays.{Seated, loads_head}

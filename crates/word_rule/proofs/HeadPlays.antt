@@ -1,6 +1,5 @@
 -- An exchange at the free head keeps the rule: the first node is taken out, or one that was out is put back.
-use Rattle.std.proofs.Common.{◌≡◌, ◌≢◌, ℕ, suc, ◌+◌, ◌*◌, ◌<◌, ◌≤◌, ◌⊎◌, ⊎_elim, List, [], ◌∷◌, length, get_or, set, MatchBool, length-set, sym, refl, ap, ◌∙◌, subst, arith, ◌==◌, not, nat_lt, Bool, true, false, IsTrue, Option, Some, None, IfSome, IsSome, IsSomeAnd, eq-eqb, ne_eqb, if◌then◌else◌, append-nil}
-use Rattle.std.proofs.lemmas.Option.{same_Some}
+use Rattle.std.proofs.Common.{◌≡◌, ◌≢◌, ℕ, suc, ◌+◌, ◌*◌, ◌<◌, ◌≤◌, List, [], ◌∷◌, length, get_or, set, MatchBool, length-set, sym, refl, ap, ◌∙◌, subst, arith, ◌==◌, not, nat_lt, Bool, true, false, IsTrue, Option, Some, None, IsSomeAnd, eq-eqb, ne_eqb, if◌then◌else◌, append-nil}
 use mathlib.Core.Option.{none, some}
 use native.Mathlib.Decide.{ℕ_discrete}
 use lib.ListN.{get_elem?}
@@ -25,7 +24,7 @@ use Rattle.word_rule.specs.Plays.{Seated, FindsHead, pops, pushes}
 use prog.Atomic.{either}
 use Rattle.word_rule.proofs.Names.{once_small}
 use Rattle.word_rule.proofs.Facts.{total_set, part_of_total, after_step}
-use Rattle.word_rule.proofs.Each.{all_map, some_of}
+use Rattle.word_rule.proofs.Each.{all_map}
 use Rattle.word_rule.proofs.Memories.{by_same, set_head}
 use Rattle.word_rule.proofs.HeadLoads.{EntriesLaw, head_within, looked}
 use Rattle.word_rule.proofs.Spells.{reads_link}

@@ -1,5 +1,5 @@
 -- Steps on the lock of any node: it is taken, is found taken, is marked as slept on, or is let go with the version that it had.
-use Rattle.std.proofs.Common.{◌≡◌, ◌≢◌, ℕ, zero, suc, ◌+◌, ◌-◌, ◌*◌, ◌%◌, ◌^◌, ◌<◌, ◌⊎◌, List, [], ◌∷◌, length, get_or, set, sym, refl, ap, ◌∙◌, subst, inl, inr, ⊎_elim, arith, ◌==◌, MatchBool, Bool, false, IsTrue, bit_or, Option, Some, None, IfSome, IsSome, eq-eqb, ne_eqb}
+use Rattle.std.proofs.Common.{◌≡◌, ℕ, zero, suc, ◌+◌, ◌-◌, ◌*◌, ◌%◌, ◌^◌, ◌<◌, ◌⊎◌, List, [], ◌∷◌, length, get_or, set, sym, refl, ap, ◌∙◌, subst, inl, inr, ⊎_elim, arith, ◌==◌, MatchBool, Bool, false, IsTrue, bit_or, Option, Some, None, IfSome, eq-eqb, ne_eqb}
 use Rattle.std.proofs.lemmas.Nat.{or_disjoint}
 use Rattle.std.specs.Int.Bits.{or_add_and}
 use lib.Bits.{and_mask}
@@ -24,7 +24,7 @@ use Rattle.word_rule.specs.Places.{word_count}
 use Rattle.word_rule.specs.VersionLocks.{IsLock, lock_place}
 use Rattle.word_rule.proofs.Loader.{marks_by_bits}
 use Rattle.word_rule.specs.Memory.{NodeWords, memory_of, updated}
-use Rattle.word_rule.specs.Spelling.{node_word, SpellsNode}
+use Rattle.word_rule.specs.Spelling.{SpellsNode}
 use Rattle.word_rule.specs.Held.{held_of}
 use Rattle.word_rule.specs.Logs.{is_spent, after_load, after_write}
 use Rattle.word_rule.specs.Steps.{place_in, place_by, first_mark, place_by_held, mark_at_lock, after_node_lock}

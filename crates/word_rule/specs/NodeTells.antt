@@ -1,10 +1,10 @@
 -- What steps on nodes tell.
 use Rattle.std.specs.Prelude.{◌≡◌, ◌≢◌, ℕ, ◌-◌, ◌<◌, ◌≤◌, ◌%◌, false, IsTrue, List, [], length}
-use Rattle.std.specs.Prelude.{IfSome, Bool, IsSome, Some, None}
+use Rattle.std.specs.Prelude.{IfSome, Bool, IsSome, None}
 use Rattle.std.specs.List.{AllByRecursion}
 use Rattle.reg_model.specs.History.{state_after}
 use Rattle.reg_model.specs.declared.answer.Update.{Update}
-use Rattle.tree_shape.specs.NodeData.{NodeData, Link, frame_of}
+use Rattle.tree_shape.specs.NodeData.{NodeData, frame_of}
 use Rattle.tree_shape.specs.Trees.{Contents, branches}
 use Rattle.tree_shape.specs.Lawful.{IsFilled, IsLawfulTree, IsOrdered}
 use Rattle.tree_shape.specs.Numbers.{is_among}

@@ -1,5 +1,6 @@
 -- What each step tells its caller.
-use Rattle.std.specs.Prelude.{◌≡◌, ℕ, ◌%◌, ◌<◌, ◌^◌, ◌==◌, ◌≤◌, List, MatchBool, IfSome, false}
+use Rattle.std.specs.Prelude.{◌≡◌, ℕ, ◌%◌, ◌<◌, ◌^◌, ◌==◌, ◌≤◌, ◌+◌, List, length, MatchBool}
+use Rattle.std.specs.Prelude.{IfSome, false}
 use mathlib.Core.List.{IsPrefix}
 use Rattle.atomic_table.specs.Table.{Me, Step}
 use Rattle.reg_model.specs.declared.answer.Update.{Update}
@@ -70,12 +71,13 @@ releases st me found me' = (me' ≡ (after_loader_release me.0, me.1)) × WasLoc
 abbrev pub releases_same : Stepped → Seated → ℕ → Seated → Type 0
 releases_same st me found me' = (me' ≡ (after_loader_release_same me.0, me.1)) × WasLocked me found
 
--- What a caller into which another was joined is told by a load of the clock: how many calls and
--- releases are allowed; where it is alone, that its log has all that was ever done; and that what
--- it has seen begins with what it heard.
+-- What a caller into which another was joined is told by a load of the clock: how many updates it
+-- may still make beside those that it has seen, and how many releases; where it is alone, that its
+-- log has all that was ever done; and that what it has seen begins with what it heard.
 abbrev pub confirms : Stepped → Seated → ℕ → Seated → Type 0
 confirms st me found me' =
-    (me' ≡ me) × (me.0.budget.allowance ≤ ALLOWANCE) × (me.0.budget.credit ≤ CREDIT)
+    (me' ≡ me) × (length me.0.past + me.0.budget.allowance ≤ ALLOWANCE)
+    × (me.0.budget.credit ≤ CREDIT)
     × (is_spent me.0.role ≡ false → IsAlone me.0.lineage → IsWhole me.0)
     × IsPrefix me.0.receipts.heard me.0.past
 

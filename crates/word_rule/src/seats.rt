@@ -1,6 +1,6 @@
 //! Callers and notes that come and go.
 ghost use Rattle.std.specs.Prelude.{◌≡◌, ◌+◌, ◌-◌, ◌*◌, ◌<◌, ◌≤◌, [], None};
-ghost use Rattle.std.specs.Prelude.{OnErr, IfOk, IfErr, OnOk, false};
+ghost use Rattle.std.specs.Prelude.{OnErr, IfOk, IfErr, OnOk, false, length};
 ghost use mathlib.Core.List.{IsPrefix};
 ghost use Rattle.word_rule.specs.Places.{ALLOWANCE, CALL_CREDIT, CREDIT};
 ghost use Rattle.word_rule.specs.Logs.{is_spent, after_split, split_off, after_note, note_of};
@@ -86,7 +86,8 @@ impl Words {
         requires { seat.old.table_id ≡ self.now.table }
         ensures same { (seat.new.table_id ≡ seat.old.table_id) × (seat.new.id ≡ seat.old.id)
             × (seat.new.me ≡ seat.old.me) }
-        ensures allowance { seat.old.me.0.budget.allowance ≤ ALLOWANCE }
+        ensures allowance { length seat.old.me.0.past + seat.old.me.0.budget.allowance
+            ≤ ALLOWANCE }
         ensures credit { seat.old.me.0.budget.credit ≤ CREDIT }
         ensures whole { is_spent seat.old.me.0.role ≡ false → IsAlone seat.old.me.0.lineage
             → IsWhole seat.old.me.0 }
@@ -95,11 +96,13 @@ impl Words {
         self.table.shared.load::<Confirms>(seat, CLOCK_WORD);
     }
 
-    /// Makes sure of what a caller has: where all others were joined into it, every update that was
-    /// accepted. It loads the clock once, and nothing changes.
+    /// Makes sure of what a caller has: with the updates that it may still make, what it has seen is
+    /// no more than a registry takes; and where all others were joined into it, it has seen every
+    /// update that was accepted. It loads the clock once, and nothing changes.
     pub fn confirm(&self, me: &mut Caller)
         requires table { me.old.table ≡ self.now.table }
         ensures same { me.new ≡ me.old }
+        ensures room { length me.new.log.past + me.new.log.budget.allowance ≤ ALLOWANCE }
         ensures whole { IsAlone me.new.log.lineage → IsWhole me.new.log }
     {
         let seat = &mut me.seat;
