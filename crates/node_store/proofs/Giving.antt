@@ -1,5 +1,6 @@
 -- A node that is out is made free, put onto the free list, and let go.
-use Rattle.std.proofs.Common.{◌≡◌, ◌≢◌, ℕ, ◌+◌, ◌-◌, ◌*◌, ◌^◌, ◌<◌, ◌≤◌, ◌⊎◌, inl, inr, append-nil, append_assoc, Bool, true, false, cond, true≢false, ◌&&◌, ◌==◌, not, List, [], ◌∷◌, ◌++◌, length, map, Option, Some, None, IfSome, IsSome, IsSomeAnd, IsTrue, is_some, option_map, set, length-set, nat_eq, if◌then◌else◌, refl, ap, sym, ◌∙◌, subst, arith, ne_eqb, get_or-set_same, get_or-set_other}
+use Rattle.std.proofs.Common.{◌≡◌, ◌≢◌, ℕ, ◌+◌, ◌-◌, ◌*◌, ◌^◌, ◌<◌, ◌≤◌, ◌⊎◌, inl, inr, append-nil, append_assoc, Bool, true, false, cond, true≢false, ◌&&◌, ◌==◌, not, List, [], ◌∷◌, ◌++◌, length, map, Option, Some, None, IfSome, IsSome, IsSomeAnd, IsTrue, is_some, option_map, set, length-set, nat_eq, if◌then◌else◌, refl, ap, sym, ◌∙◌, subst, arith, ne_eqb, get_or-set_same, get_or-set_other, eq-eqb}
+use native.Mathlib.Decide.{ℕ_discrete}
 use Rattle.std.proofs.lemmas.Bool.{eqb-true, lt-ltb}
 use Rattle.std.proofs.lemmas.Option.{none-some, cond_some}
 use Rattle.std.specs.List.{AllByRecursion}
@@ -24,7 +25,6 @@ use Rattle.node_store.proofs.Rounds.{contains_more}
 use Rattle.node_store.specs.Free.{GivesFree, IsSettled, IsUnlinked, LeavesOthers, LosesNode, PushesNode, StaysOut, after_freeing, after_links, after_setting, held_word, word_of_lock}
 use Rattle.node_store.proofs.HeldWrites.{and_false, held_changed, held_edited, plain_store}
 use Rattle.node_store.proofs.Settled.{ExchangeLaw, freed_settled, settles_free, without_settled}
-use Rattle.word_rule.proofs.KeptVersions.{none_left}
 
 -- A log has a node out that it holds, whose words are these.
 pub record HasOut (n : ℕ) (words : List ℕ) (hs : Holdings) : Type 0 where
@@ -177,8 +177,17 @@ without_far n m far (h ∷ held) = go (nat_eq h.node n) refl (without_far n m fa
     go true e later = later ∙ sym (ap (λ b. cond b (Some h) (held_of m held)) (ne_eqb h.node m (λ same. far (sym same ∙ eqb-true h.node n e))))
     go false e later = ap (cond (h.node == m) (Some h)) later
 
+-- a node that is let go is held no more
+without_itself : (n : ℕ) (held : List Holding) → held_of n (without_lock n held) ≡ None
+without_itself n [] = refl
+without_itself n (h ∷ held) = go (ℕ_discrete h.node n) (without_itself n held)
+  where
+    go : Dec (h.node ≡ n) → held_of n (without_lock n held) ≡ None → held_of n (without_lock n (h ∷ held)) ≡ None
+    go (yes e) rest = rw (eq-eqb h.node n e) rest
+    go (no ne) rest = rw (ne_eqb h.node n ne) (rw (ne_eqb h.node n ne) rest)
+
 pub gone_after : (n : ℕ) (v : Log) → held_of n (after_node_release n v).holdings.held ≡ None
-gone_after n v = none_left n (settle None v).holdings.held
+gone_after n v = without_itself n (settle None v).holdings.held
 
 settled_budget : (v : Log) → (settle None v).budget ≡ v.budget
 settled_budget v = go (is_lawful v None)

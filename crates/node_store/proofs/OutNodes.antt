@@ -1,5 +1,5 @@
 -- What a caller holds and has out between its steps on the free list: each node that is out is held.
-use Rattle.std.proofs.Common.{◌≡◌, ◌≢◌, ◌⊎◌, inr, ℕ, ◌-◌, ◌*◌, Bool, true, false, true≢false, not, List, [], ◌∷◌, ◌++◌, ◌==◌, cond, Result, Ok, Err, IfOk, length, Option, Some, None, is_some, IsSome, IsSomeAnd, IsTrue, option_map, set, nat_eq, if◌then◌else◌, refl, ap, sym, ◌∙◌, subst}
+use Rattle.std.proofs.Common.{◌≡◌, ◌≢◌, ◌⊎◌, inr, ℕ, ◌-◌, ◌*◌, Bool, true, false, true≢false, not, List, [], ◌∷◌, ◌++◌, ◌==◌, cond, Result, Ok, Err, IfOk, length, Option, Some, None, IsSome, IsSomeAnd, IsTrue, option_map, set, nat_eq, if◌then◌else◌, refl, ap, sym, ◌∙◌, subst}
 use Rattle.std.proofs.lemmas.Bool.{eq-eqb}
 use native.Mathlib.Decide.{ℕ_discrete}
 use Rattle.std.specs.List.{AllByRecursion}
@@ -21,7 +21,7 @@ use Rattle.std.specs.Option.{option_to_list}
 use Rattle.word_rule.proofs.Each.{all_map}
 use Rattle.word_rule.specs.Steps.{mark_at_lock}
 use Rattle.node_store.specs.declared.locking.Busy.{Busy}
-use Rattle.node_store.specs.Free.{EndsRound, HoldsOut, IsSettled, GivesFree, LeavesOthers, headed}
+use Rattle.node_store.specs.Free.{EndsRound, HoldsOut, GivesFree, LeavesOthers, headed}
 use Rattle.node_store.specs.Holding.{MakesStores, SpellsHeld, StoresHeld, after_node_stores}
 use Rattle.node_store.specs.Outlines.{loaded}
 use Rattle.node_store.specs.Writing.{stores}

@@ -1,5 +1,5 @@
 -- Rounds at the free list: loads, and a lock that is let go of as it was.
-use Rattle.std.proofs.Common.{◌≡◌, ◌≢◌, ◌⊎◌, inl, inr, ℕ, suc, ◌+◌, ◌%◌, ◌<◌, Bool, true, false, true≢false, ◌==◌, not, List, [], ◌∷◌, ◌++◌, length, map, Option, Some, None, Result, Ok, Err, IfOk, IfErr, IfSome, IsSome, IsSomeAnd, IsTrue, is_some, cond, if◌then◌else◌, sym, refl, ap, ◌∙◌, subst, arith, append-nil, append_assoc, add_assoc, add-zero, eq-eqb, ne_eqb, Contains}
+use Rattle.std.proofs.Common.{◌≡◌, ◌≢◌, inl, inr, ℕ, suc, ◌+◌, ◌%◌, ◌<◌, Bool, false, true≢false, not, List, [], ◌∷◌, ◌++◌, length, map, Option, Some, None, Result, Ok, Err, IfSome, IsSome, IsSomeAnd, is_some, cond, if◌then◌else◌, sym, refl, ap, ◌∙◌, subst, arith, append-nil, append_assoc, add_assoc, add-zero, eq-eqb, ne_eqb, Contains}
 use Rattle.std.proofs.lemmas.Option.{none-some}
 use native.Mathlib.Decide.{ℕ_discrete}
 use Rattle.std.specs.List.{AllByRecursion}
@@ -10,9 +10,8 @@ use Rattle.word_rule.specs.Logs.{after_load, load_of}
 use Rattle.word_rule.specs.NodeTells.{HeldTells, IsTakenNode}
 use Rattle.word_rule.specs.Places.{HEAD, node_place}
 use Rattle.word_rule.specs.Sights.{after_node_load, with_word}
-use Rattle.word_rule.specs.Spelling.{node_word, spelled, SpellsNode}
-use Rattle.word_rule.specs.Steps.{IsFreeTo, MayPop, after_head_load, after_node_lock, after_node_release_same, after_pop, mark_at_lock}
-use Rattle.word_rule.specs.VersionLocks.{NodeTaken}
+use Rattle.word_rule.specs.Spelling.{node_word, spelled}
+use Rattle.word_rule.specs.Steps.{MayPop, after_head_load, after_node_lock, after_node_release_same, after_pop, mark_at_lock}
 use Rattle.word_rule.specs.declared.log.Holding.{Holding}
 use Rattle.word_rule.specs.declared.log.LoadEvent.{LoadEvent}
 use Rattle.word_rule.specs.declared.log.LockId.TheVariants as lock
@@ -20,8 +19,8 @@ use Rattle.word_rule.specs.declared.log.Log.{Log}
 use Rattle.word_rule.proofs.Spells.{spells_free}
 use Rattle.node_store.specs.declared.locking.Busy.{Busy}
 use Rattle.node_store.specs.declared.locking.Busy.TheVariants as busy
-use Rattle.node_store.specs.Free.{EndsRound, IsFreeTaken, IsOfCount, LeavesLocked, LosesRounds, PopsLocked, TakesFree, headed}
-use Rattle.node_store.specs.Locking.{FoundBusy, ShowsBusy, HasMoved, tried}
+use Rattle.node_store.specs.Free.{EndsRound, IsFreeTaken, IsOfCount, LeavesLocked, LosesRounds, PopsLocked, headed}
+use Rattle.node_store.specs.Locking.{FoundBusy, ShowsBusy, tried}
 use Rattle.node_store.specs.Outlines.{loaded}
 
 -- no other word of a node is a count, nor is the head

@@ -1,6 +1,6 @@
 use Rattle.std.proofs.Common.{ℕ, IsSome, IsTrue, ap, sym, subst, ◌∙◌, ◌<◌}
 use Rattle.tree_shape.specs.Numbers.{is_among}
-use Rattle.word_rule.specs.CallerData.{CallerData, surplus}
+use Rattle.word_rule.specs.CallerData.{CallerData}
 use Rattle.word_rule.specs.Held.{held_of}
 use Rattle.node_store.specs.Free.{StaysOut, after_setting}
 use Rattle.node_store.proofs.Giving.{held_then, out_then, pushed_gives, pushed_may, pushed_others, pushed_surplus, refused_loses, refused_may, refused_surplus, released_gone, released_surplus, unlinked_now}
