@@ -96,8 +96,8 @@ impl Words {
         self.table.shared.load::<Confirms>(seat, CLOCK_WORD);
     }
 
-    /// Makes sure of what a caller has: with the updates that it may still make, what it has seen is
-    /// no more than a registry takes; and where all others were joined into it, it has seen every
+    /// Makes sure of what a caller has: what it has seen, with the updates that it may still make,
+    /// is no more than a registry takes; and where all others were joined into it, it has seen each
     /// update that was accepted. It loads the clock once, and nothing changes.
     pub fn confirm(&self, me: &mut Caller)
         requires table { me.old.table ≡ self.now.table }

@@ -1,0 +1,9 @@
+pub mod Places
+pub mod Walks
+pub mod Entries
+pub mod Seeking
+pub mod Hits
+pub mod Fitting
+pub mod Spans
+pub mod Looking
+pub mod Steps

@@ -1,0 +1,5 @@
+pub mod CacheData
+pub mod Cached
+pub mod Chain
+pub mod RecentData
+pub mod Recent
