@@ -1,0 +1,65 @@
+//! The first line with a receipt that isn't so.
+
+ghost use Rattle.std.specs.Prelude.{◌≡◌, ℕ, Option};
+ghost use Rattle.receipt_check.specs.Flaws.{HasOwnNumber, ComesInOrder, ComesInRound};
+ghost use Rattle.receipt_check.specs.Flaws.{accepted_count};
+ghost use Rattle.receipt_check.specs.Search.{IsSought, lower_line};
+
+use crate::account::Told;
+use crate::receipts::update_in;
+use crate::rows::{comes_in_order, comes_in_round, has_own_number};
+
+/// The lower of the first line so far and this one, unless this one's receipt is so.
+pub fn lower(first: Option<u64>, line: u64, is_so: bool) -> Option<u64>
+    ensures { result ≡ lower_line first line is_so }
+{
+    if is_so {
+        return first;
+    }
+    match first {
+        None => Some(line),
+        Some(best) => Some(best.min(line)),
+    }
+}
+
+/// The first line with a number that isn't from 1 to `updates`, or that a line above has.
+pub fn first_misnumbered(told: &[Told], updates: u32) -> Option<u64>
+    ensures { IsSought (HasOwnNumber told.now updates) told.now result }
+{
+    let mut first = None;
+    for row in told {
+        first = lower(first, row.line, has_own_number(told, updates, row));
+    }
+    first
+}
+
+/// The first line with a stamp or number below those before it on its thread.
+pub fn first_out_of_order(told: &[Told]) -> Option<u64>
+    ensures { IsSought ComesInOrder told.now result }
+{
+    let mut first = None;
+    for row in told {
+        first = lower(first, row.line, comes_in_order(row));
+    }
+    first
+}
+
+/// The first line with a stamp or number that isn't one of its round.
+pub fn first_out_of_round(told: &[Told]) -> Option<u64>
+    ensures { IsSought ComesInRound told.now result }
+{
+    let mut first = None;
+    for row in told {
+        first = lower(first, row.line, comes_in_round(row));
+    }
+    first
+}
+
+/// How many updates were accepted.
+pub fn accepted_in(told: &[Told]) -> usize
+    ensures { result ≡ accepted_count told.now }
+{
+    told.iter()
+        .filter(|row| update_in(&row.receipt).is_some())
+        .count()
+}

@@ -1,0 +1,64 @@
+//! The flaw that counts.
+
+ghost use Rattle.std.specs.Prelude.{◌≡◌, IfOk, MatchOption};
+ghost use Rattle.receipt_check.specs.Flaws.{IsFlawless, IsFreeBefore, CountsFirst};
+
+use crate::account::{Account, Departure, Flaw};
+use crate::answers::first_wrong;
+use crate::firsts::{accepted_in, first_misnumbered, first_out_of_order, first_out_of_round};
+use crate::history::{first_misfit, history_in};
+use reg_model::NoMemory;
+use std::alloc::Global;
+
+/// None where nothing is wrong with what is told, and else the flaw that counts, and its line.
+pub fn first_flaw(alloc: Global, account: &Account) -> Result<Option<Departure>, NoMemory>
+    ensures { IfOk result (λ found. MatchOption found (IsFlawless account.now)
+        (λ d. CountsFirst account.now d.line d.flaw)) }
+{
+    if let Some(found) = flaw_of_numbers(account) {
+        return Ok(Some(found));
+    }
+    let history = history_in(alloc, &account.told, account.updates)?;
+    if let Some(line) = first_misfit(alloc, account, &history)? {
+        return Ok(departure(line, Flaw::History));
+    }
+    if let Some(line) = first_wrong(alloc, account, &history)? {
+        return Ok(departure(line, Flaw::Answer));
+    }
+    Ok(flaw_of_places(account))
+}
+
+fn departure(line: u64, flaw: Flaw) -> Option<Departure>
+    ensures { result ≡ Some (record { line = line; flaw = flaw }) }
+{
+    Some(Departure { line, flaw })
+}
+
+/// The flaws of numbers alone.
+fn flaw_of_numbers(account: &Account) -> Option<Departure>
+    ensures { MatchOption result (IsFreeBefore account.now 4)
+        (λ d. CountsFirst account.now d.line d.flaw) }
+{
+    if let Some(line) = first_misnumbered(&account.told, account.updates) {
+        return departure(line, Flaw::Number);
+    }
+    if accepted_in(&account.told) != account.updates as usize {
+        return departure(account.last, Flaw::Count);
+    }
+    None
+}
+
+/// The flaws of where stamps and numbers stand.
+fn flaw_of_places(account: &Account) -> Option<Departure>
+    requires { IsFreeBefore account.now 6 }
+    ensures { MatchOption result (IsFlawless account.now)
+        (λ d. CountsFirst account.now d.line d.flaw) }
+{
+    if let Some(line) = first_out_of_order(&account.told) {
+        return departure(line, Flaw::Order);
+    }
+    if let Some(line) = first_out_of_round(&account.told) {
+        return departure(line, Flaw::Round);
+    }
+    None
+}

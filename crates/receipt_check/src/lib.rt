@@ -1,0 +1,22 @@
+//! Whether receipts that were told of a registry hold: the first of six flaws, and its line.
+//!
+//! Above the model (`reg_model`), below the judge of journals. Receipts come as one list, each with
+//! its line, the updates before its round and with it, and the greatest stamp or number before it.
+//! `first_flaw` answers None exactly where nothing is wrong with them, and else the flaw that
+//! counts and its line. It makes the accepted updates again by their numbers, in plain lists, and
+//! holds each answer against the lists of its moment.
+#![tactic(auto)]
+
+mod account;
+mod answers;
+mod firsts;
+mod history;
+mod judge;
+mod lists;
+mod members;
+mod receipts;
+mod rows;
+
+pub use account::{Account, Departure, Flaw, Told};
+pub use judge::first_flaw;
+pub use receipts::moment_of;
