@@ -43,10 +43,10 @@
  * that half BUSY while it runs, and a lookup of it AGAIN only where it was accepted between the
  * lookup's first step and its last. To a client that is alone no lookup is AGAIN.
  *
- * What a client costs. Eight bytes for each node of the registry, 131 KB where there are 16384, and
- * a few hundred more. Join one that isn't needed any more. One that is closed and not joined takes
- * its update calls with it and leaves its name behind, a few words with the client that it was
- * split off from; and no other client is alone from then on, however many are joined.
+ * What a client costs. A few hundred bytes, whatever the registry's nodes. Join one that isn't
+ * needed any more. One that is closed and not joined takes its update calls with it and leaves its
+ * name behind, a few words with the client that it was split off from; and no other client is alone
+ * from then on, however many are joined.
  *
  * In a signal handler: registry_c_left, registry_c_seen, the lookups and the updates take no memory
  * and wait for nobody, each step is one atomic access of a word. Give the handler a client of its
