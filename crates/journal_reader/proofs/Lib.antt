@@ -1,0 +1,17 @@
+pub mod Options
+pub mod FirstParts
+pub mod Members
+pub mod Sequences
+pub mod TextLines
+pub mod AnswersRead
+pub mod LinesOfEvents
+pub mod Traces
+pub mod Events
+pub mod Journals
+pub mod Flaws
+pub mod Cuts
+pub mod Pieced
+pub mod Loops
+pub mod OneAnswer
+pub mod LawfulMembers
+pub mod LawfulTold

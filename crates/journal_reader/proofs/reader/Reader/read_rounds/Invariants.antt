@@ -1,0 +1,13 @@
+use Rattle.std.proofs.Common.{◌≡◌, ◌++◌, take, map}
+use Rattle.std.specs.List.{AllZip}
+use Rattle.event_script.specs.Fields.{pieces}
+use Rattle.journal_reader.specs.Told.{IsToldAnswer}
+use Rattle.journal_reader.specs.JournalLines.{round_lines, numbered_lines}
+use Rattle.journal_reader.proofs.reader.Reader.read_rounds.Given as goal
+
+abbrev pub invariant-loop-index : goal.invariant-loop-index
+invariant-loop-index l = record {
+  images : l.self.images.now ≡ l.fn.self.images.now;
+  told : AllZip (AllZip (AllZip (IsToldAnswer l.fn.self.images.now))) (take l.index l.rounds) (map (λ threads. map (λ answers. answers.items) threads.items) l.answers.items);
+  cut : pieces 10 l.fn.self.rest.now ≡ numbered_lines round_lines 1 (map (λ threads. map (λ answers. answers.items) threads.items) l.answers.items) ++ pieces 10 l.self.rest.now;
+}

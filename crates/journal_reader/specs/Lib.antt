@@ -1,0 +1,8 @@
+pub mod FirstNumbers
+pub mod Told
+pub mod Reading
+pub mod JournalLines
+pub mod ReadLines
+pub mod FormFlaw
+pub mod JournalRead
+pub mod Sizes

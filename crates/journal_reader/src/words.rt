@@ -1,0 +1,50 @@
+//! Numbers that a space or the end of a line follows.
+
+ghost use Rattle.std.specs.Prelude.{◌≡◌, None, Some, MatchOption};
+ghost use Rattle.journal_reader.specs.FirstNumbers.{before_space, from_space, decimal_first};
+ghost use Rattle.journal_reader.specs.FirstNumbers.{hex_first, past_word};
+
+use crate::lines::place_of;
+use event_script::{decimal_in, hex_in};
+
+/// The bytes before the first space, and those from it on.
+fn split_at_space(bytes: &[u8]) -> (&[u8], &[u8])
+    ensures before { result.0.now ≡ before_space bytes.now }
+    ensures from { result.1.now ≡ from_space bytes.now }
+{
+    bytes.split_at(place_of(bytes, b' '))
+}
+
+#[tactic(auto, unfolding(crate::specs::FirstNumbers::decimal_first))]
+/// A decimal number below 2^32, and what follows it.
+pub fn decimal_first(bytes: &[u8]) -> Option<(u32, &[u8])>
+    ensures { MatchOption result (decimal_first bytes.now ≡ None)
+        (λ found. decimal_first bytes.now ≡ Some (found.0, found.1.now)) }
+{
+    let (field, rest) = split_at_space(bytes);
+    match decimal_in(field) {
+        Some(number) => Some((number, rest)),
+        None => None,
+    }
+}
+
+#[tactic(auto, unfolding(crate::specs::FirstNumbers::hex_first))]
+/// A hexadecimal number below 2^64, and what follows it.
+pub fn hex_first(bytes: &[u8]) -> Option<(u64, &[u8])>
+    ensures { MatchOption result (hex_first bytes.now ≡ None)
+        (λ found. hex_first bytes.now ≡ Some (found.0, found.1.now)) }
+{
+    let (field, rest) = split_at_space(bytes);
+    match hex_in(field) {
+        Some(number) => Some((number, rest)),
+        None => None,
+    }
+}
+
+/// What follows a word with which the text begins.
+pub fn past_word<'a>(text: &'a [u8], word: &str) -> Option<&'a [u8]>
+    ensures { MatchOption result (past_word word.now text.now ≡ None)
+        (λ rest. past_word word.now text.now ≡ Some rest.now) }
+{
+    text.strip_prefix(word.as_bytes())
+}

@@ -1,0 +1,5 @@
+//! Tests of the checker of journals: its reader, and its judge. Nothing stands on it.
+#![tactic(auto)]
+
+#[cfg(test)]
+mod told_journals;
