@@ -1,5 +1,5 @@
 -- The entries among the slots, after one was brought to the front or put there.
-use Rattle.std.proofs.Common.{◌≡◌, ◌≢◌, ℕ, zero, suc, ◌<◌, ◌≤◌, List, [], ◌∷◌, length, map, take, get_or, set, min, length-take-le, sym, refl, ap, ◌∙◌, arith, true, false, Some, None}
+use Rattle.std.proofs.Common.{◌≡◌, ◌≢◌, ℕ, zero, suc, ◌<◌, ◌≤◌, List, [], ◌∷◌, length, map, take, get_or, set, length-take-le, sym, refl, ap, ◌∙◌, arith, true, false, Some, None}
 use Rattle.std.proofs.lemmas.List.{length-map, take-map, take-take, take_all, get_or-map, get_or-take, get_or-set_same, get_or-set_other}
 use Rattle.std.specs.List.{AllByRecursion}
 use Rattle.reg_model.specs.Query.{member_at}
@@ -63,7 +63,7 @@ put members slots n place slot m behind within s low is =
     ∙ ap (λ z. m ∷ z) (others_stay members (take n (but_nth place slots)) slot m (all_take (λ y. y ≢ slot) n (but_nth place slots) apart) ∙ ap (map (in_slot members)) (take_before slots n place behind))
 
 -- where there is room for one more
-pub added : (members : List Member) (slots : List ℕ) (used place slot : ℕ) (m : Member) → used < 8 → min used 7 ≤ place → place < 8 → AreSlots slots → length members ≡ 8 → slot < 8 → slot ≡ get_or slots place 0 → map (in_slot (set members slot m)) (take (suc used) (brought place slots)) ≡ take 8 (m ∷ map (in_slot members) (take used slots))
+pub added : (members : List Member) (slots : List ℕ) (used place slot : ℕ) (m : Member) → used < 8 → used ≤ place → place < 9 → AreSlots slots → length members ≡ 9 → slot < 9 → slot ≡ get_or slots place 0 → map (in_slot (set members slot m)) (take (suc used) (brought place slots)) ≡ take 8 (m ∷ map (in_slot members) (take used slots))
 added members slots used place slot m room behind within s count low is =
     let slots_count = s.count in
     let n = entry_count members slots used (omega (arith, room, slots_count)) in
@@ -71,7 +71,7 @@ added members slots used place slot m room behind within s count low is =
     ∙ ap (λ z. m ∷ z) (sym (take_all 7 (map (in_slot members) (take used slots)) (omega (arith, n, room))))
 
 -- where there is none
-pub replaced : (members : List Member) (slots : List ℕ) (used place slot : ℕ) (m : Member) → used ≡ 8 → min used 7 ≤ place → place < 8 → AreSlots slots → length members ≡ 8 → slot < 8 → slot ≡ get_or slots place 0 → map (in_slot (set members slot m)) (take used (brought place slots)) ≡ take 8 (m ∷ map (in_slot members) (take used slots))
+pub replaced : (members : List Member) (slots : List ℕ) (used place slot : ℕ) (m : Member) → used ≡ 8 → used ≤ place → place < 9 → AreSlots slots → length members ≡ 9 → slot < 9 → slot ≡ get_or slots place 0 → map (in_slot (set members slot m)) (take used (brought place slots)) ≡ take 8 (m ∷ map (in_slot members) (take used slots))
 replaced members slots used place slot m full behind within s count low is =
     let slots_count = s.count in
     ap (λ n. map (in_slot (set members slot m)) (take n (brought place slots))) full

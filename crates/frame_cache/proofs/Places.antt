@@ -31,14 +31,14 @@ apart_at (x ∷ xs) (suc n) within h =
     let there : n < length xs = omega (arith, within) in
     ((λ e. all_at (λ y. y ≢ x) xs n 0 there h.0 (sym e)), apart_at xs n there h.1)
 
-pub slots_brought : (xs : List ℕ) (n : ℕ) → n < 8 → AreSlots xs → AreSlots (brought n xs)
+pub slots_brought : (xs : List ℕ) (n : ℕ) → n < 9 → AreSlots xs → AreSlots (brought n xs)
 slots_brought xs n within s =
     let count = s.count in
     let there : n < length xs = omega (arith, within, count) in
     record {
       count = (let c = but_count xs n there in omega (arith, c, count));
       apart = (apart_at xs n there s.apart, but_apart xs n s.apart);
-      inside = (all_at (λ slot. slot < 8) xs n 0 there s.inside, all_but (λ slot. slot < 8) xs n s.inside);
+      inside = (all_at (λ slot. slot < 9) xs n 0 there s.inside, all_but (λ slot. slot < 9) xs n s.inside);
     }
 
 pub brought_first : (xs : List ℕ) → 0 < length xs → brought 0 xs ≡ xs

@@ -1,5 +1,5 @@
 -- A search along the slots, seen through the value that it searches.
-use Rattle.std.proofs.Common.{◌≡◌, ℕ, suc, ◌+◌, ◌<◌, ◌≤◌, List, ◌∷◌, map, take, set, get_or, min, sym, ap, subst, ◌∙◌, add-one, arith, true, false}
+use Rattle.std.proofs.Common.{◌≡◌, ℕ, suc, ◌+◌, ◌<◌, ◌≤◌, List, ◌∷◌, map, take, set, get_or, sym, ap, subst, ◌∙◌, add-one, arith, true, false}
 use borrow.Author.Count.{below_more}
 use Rattle.std.proofs.lemmas.List.{get_or_default}
 use Rattle.reg_model.specs.SpanData.{contains}
@@ -13,11 +13,11 @@ use Rattle.frame_cache.proofs.Entries.{added, entry_count, entry_read, found_at,
 use Rattle.frame_cache.proofs.Places.{all_at}
 
 -- the slot of a spot is one of the eight
-pub spot_low : (slots : List ℕ) (spot : Spot) → AreSlots slots → IsSpot slots spot → spot.slot < 8
+pub spot_low : (slots : List ℕ) (spot : Spot) → AreSlots slots → IsSpot slots spot → spot.slot < 9
 spot_low slots spot s is =
     let count = s.count in
     let inside = is.inside in
-    subst (λ slot. slot < 8) (sym is.slot) (all_at (λ slot. slot < 8) slots spot.place 0 (omega (arith, count, inside)) s.inside)
+    subst (λ slot. slot < 9) (sym is.slot) (all_at (λ slot. slot < 9) slots spot.place 0 (omega (arith, count, inside)) s.inside)
 
 pub entry_is : (r : RecentData) (spot : Spot) (x : Member) → IsRecent r → IsSpot r.slots spot → spot.place < r.used → get_or r.members spot.slot x ≡ cached_entry spot.place r
 entry_is r spot x filled is within =
@@ -49,7 +49,7 @@ passed_one pc r now spot x e filled is within passed here =
     let entry : get_or r.members spot.slot x ≡ cached_entry spot.place now = entry_is r spot x filled is within ∙ ap (cached_entry spot.place) e in
     below_more (λ i. contains (cached_entry i now).span pc ≡ false) spot.place passed (rw (← entry) here)
 
-pub seek_unknown : (pc : ℕ) (r now : RecentData) (spot : Spot) → r ≡ now → IsRecent r → IsSpot r.slots spot → min r.used 7 ≤ spot.place → (place : ℕ) → r.used ≤ place → ArePassed pc place now → SeeksEntry now pc (Unknown spot)
+pub seek_unknown : (pc : ℕ) (r now : RecentData) (spot : Spot) → r ≡ now → IsRecent r → IsSpot r.slots spot → r.used ≤ spot.place → (place : ℕ) → r.used ≤ place → ArePassed pc place now → SeeksEntry now pc (Unknown spot)
 seek_unknown pc r now spot e filled is behind place all passed = subst (λ n. ArePassed pc place n → SeeksEntry n pc (Unknown spot)) e unknown passed
   where
     unknown : ArePassed pc place r → SeeksEntry r pc (Unknown spot)
@@ -65,19 +65,19 @@ seek_unknown pc r now spot e filled is behind place all passed = subst (λ n. Ar
 abbrev entries_after : RecentData → Spot → Member → List ℕ → ℕ → List Member
 entries_after r spot m slots used = map (in_slot (set r.members spot.slot m)) (take used slots)
 
-pub put_more : (r now : RecentData) (spot : Spot) (m : Member) (slots : List ℕ) → r ≡ now → IsRecent r → IsSpot now.slots spot → min now.used 7 ≤ spot.place → r.used < 8 → slots ≡ brought spot.place r.slots → entries_after r spot m slots (r.used + 1) ≡ take 8 (m ∷ cached_entries now)
+pub put_more : (r now : RecentData) (spot : Spot) (m : Member) (slots : List ℕ) → r ≡ now → IsRecent r → IsSpot now.slots spot → now.used ≤ spot.place → r.used < 8 → slots ≡ brought spot.place r.slots → entries_after r spot m slots (r.used + 1) ≡ take 8 (m ∷ cached_entries now)
 put_more r now spot m slots e filled is behind room to =
-    subst (λ n. IsSpot n.slots spot → min n.used 7 ≤ spot.place → entries_after r spot m slots (r.used + 1) ≡ take 8 (m ∷ cached_entries n)) e here is behind
+    subst (λ n. IsSpot n.slots spot → n.used ≤ spot.place → entries_after r spot m slots (r.used + 1) ≡ take 8 (m ∷ cached_entries n)) e here is behind
   where
-    here : IsSpot r.slots spot → min r.used 7 ≤ spot.place → entries_after r spot m slots (r.used + 1) ≡ take 8 (m ∷ cached_entries r)
+    here : IsSpot r.slots spot → r.used ≤ spot.place → entries_after r spot m slots (r.used + 1) ≡ take 8 (m ∷ cached_entries r)
     here is behind =
         rw add-one (ap (λ z. entries_after r spot m z (suc r.used)) to ∙ added r.members r.slots r.used spot.place spot.slot m room behind is.inside filled.slots filled.members (spot_low r.slots spot filled.slots is) is.slot)
 
-pub put_last : (r now : RecentData) (spot : Spot) (m : Member) (slots : List ℕ) → r ≡ now → IsRecent r → IsSpot now.slots spot → min now.used 7 ≤ spot.place → 8 ≤ r.used → slots ≡ brought spot.place r.slots → entries_after r spot m slots r.used ≡ take 8 (m ∷ cached_entries now)
+pub put_last : (r now : RecentData) (spot : Spot) (m : Member) (slots : List ℕ) → r ≡ now → IsRecent r → IsSpot now.slots spot → now.used ≤ spot.place → 8 ≤ r.used → slots ≡ brought spot.place r.slots → entries_after r spot m slots r.used ≡ take 8 (m ∷ cached_entries now)
 put_last r now spot m slots e filled is behind full to =
-    subst (λ n. IsSpot n.slots spot → min n.used 7 ≤ spot.place → entries_after r spot m slots r.used ≡ take 8 (m ∷ cached_entries n)) e here is behind
+    subst (λ n. IsSpot n.slots spot → n.used ≤ spot.place → entries_after r spot m slots r.used ≡ take 8 (m ∷ cached_entries n)) e here is behind
   where
-    here : IsSpot r.slots spot → min r.used 7 ≤ spot.place → entries_after r spot m slots r.used ≡ take 8 (m ∷ cached_entries r)
+    here : IsSpot r.slots spot → r.used ≤ spot.place → entries_after r spot m slots r.used ≡ take 8 (m ∷ cached_entries r)
     here is behind =
         let few = filled.used in
         ap (λ z. entries_after r spot m z r.used) to ∙ replaced r.members r.slots r.used spot.place spot.slot m (omega (arith, few, full)) behind is.inside filled.slots filled.members (spot_low r.slots spot filled.slots is) is.slot

@@ -73,10 +73,10 @@ walk_brought next first m p within apart inside before slot is_before is_slot =
     ap (λ z. slot ∷ z) (ap (λ k. walk (relinked next before slot first) k m) led ∙ round) ∙ ap (λ k. k ∷ but_nth (suc p) all) is_slot
 
 -- the same of a place that isn't the first
-pub brought_by : (next : List ℕ) (first place before slot : ℕ) → length next ≡ 8 → AreSlots (walk next first 8) → 0 < place → place < 8 → before ≡ get_or (walk next first 8) (place - 1) 0 → slot ≡ get_or (walk next first 8) place 0 → walk (set (set next before (get_or next slot 0)) slot first) slot 8 ≡ brought place (walk next first 8)
+pub brought_by : (next : List ℕ) (first place before slot : ℕ) → length next ≡ 9 → AreSlots (walk next first 9) → 0 < place → place < 9 → before ≡ get_or (walk next first 9) (place - 1) 0 → slot ≡ get_or (walk next first 9) place 0 → walk (set (set next before (get_or next slot 0)) slot first) slot 9 ≡ brought place (walk next first 9)
 brought_by next first zero before slot count slots some within is_before is_slot = absurd (omega (arith, some))
 brought_by next first (suc p) before slot count slots some within is_before is_slot =
-    walk_brought next first 7 p (omega (arith, within)) slots.apart (rw count slots.inside) before slot (simp unary_clauses at is_before) is_slot
+    walk_brought next first 8 p (omega (arith, within)) slots.apart (rw count slots.inside) before slot (simp unary_clauses at is_before) is_slot
 
 -- numbers that rise stand once each
 abbrev Rise : ℕ → List ℕ → Type 0
@@ -92,10 +92,10 @@ rise_apart low [] h = tt
 rise_apart low (x ∷ xs) h = (rise_above (suc x) x xs (omega arith) h.1, rise_apart (suc x) xs h.1)
 
 -- the slots by their numbers
-pub numbered : AreSlots (walk (1 ∷ 2 ∷ 3 ∷ 4 ∷ 5 ∷ 6 ∷ 7 ∷ 0 ∷ []) 0 8)
+pub numbered : AreSlots (walk (1 ∷ 2 ∷ 3 ∷ 4 ∷ 5 ∷ 6 ∷ 7 ∷ 8 ∷ 0 ∷ []) 0 9)
 unfolding walk
 numbered = record {
   count = refl;
-  apart = rise_apart 0 (0 ∷ 1 ∷ 2 ∷ 3 ∷ 4 ∷ 5 ∷ 6 ∷ 7 ∷ []) (omega arith, (omega arith, (omega arith, (omega arith, (omega arith, (omega arith, (omega arith, (omega arith, tt))))))));
-  inside = (omega arith, (omega arith, (omega arith, (omega arith, (omega arith, (omega arith, (omega arith, (omega arith, tt))))))));
+  apart = rise_apart 0 (0 ∷ 1 ∷ 2 ∷ 3 ∷ 4 ∷ 5 ∷ 6 ∷ 7 ∷ 8 ∷ []) (omega arith, (omega arith, (omega arith, (omega arith, (omega arith, (omega arith, (omega arith, (omega arith, (omega arith, tt)))))))));
+  inside = (omega arith, (omega arith, (omega arith, (omega arith, (omega arith, (omega arith, (omega arith, (omega arith, (omega arith, tt)))))))));
 }

@@ -13,15 +13,15 @@ abbrev pub StandOnce : List ℕ → Type 0
 StandOnce [] = Unit {0}
 StandOnce (x ∷ xs) = AllByRecursion (λ y. y ≢ x) xs × StandOnce xs
 
--- each of the eight slots stands once
+-- each of the nine slots stands once
 pub record AreSlots (slots : List ℕ) : Type 0 where
-  pub count : length slots ≡ 8
+  pub count : length slots ≡ 9
   pub apart : StandOnce slots
-  pub inside : AllByRecursion (λ slot. slot < 8) slots
+  pub inside : AllByRecursion (λ slot. slot < 9) slots
 
 -- the slot at a place, and the one before it
 pub record IsSpot (slots : List ℕ) (spot : Spot) : Type 0 where
-  pub inside : spot.place < 8
+  pub inside : spot.place < 9
   pub slot : spot.slot ≡ get_or slots spot.place 0
   pub before : spot.before ≡ get_or slots (spot.place - 1) 0
 

@@ -1,5 +1,5 @@
 -- The entries among the slots, and a search for one.
-use Rattle.std.specs.Prelude.{◌≡◌, ℕ, ◌<◌, ◌≤◌, min, List, map, take, get_or, Some, None}
+use Rattle.std.specs.Prelude.{◌≡◌, ℕ, ◌<◌, ◌≤◌, List, map, take, get_or, Some, None}
 use Rattle.reg_model.specs.Query.{member_at}
 use Rattle.reg_model.specs.declared.answer.Half.{Half}
 use Rattle.reg_model.specs.declared.span.Member.{Member}
@@ -30,11 +30,11 @@ abbrev pub cached_entry : ℕ → RecentData → Member
 cached_entry place r = get_or (cached_entries r) place no_entry
 
 -- A search: the first entry that contains the address, with its place; or that there is none, and
--- a place behind all entries, or else the last one.
+-- a place behind all entries.
 abbrev pub SeeksEntry : RecentData → ℕ → Sought → Type 0
 SeeksEntry r pc (Known m spot) =
     IsSpot r.slots spot × (spot.place < r.used) × (m ≡ cached_entry spot.place r)
     × (member_at pc (cached_entries r) ≡ Some m)
     × (but_nth spot.place (cached_entries r) ≡ but_found pc (cached_entries r))
 SeeksEntry r pc (Unknown spot) =
-    IsSpot r.slots spot × (min r.used 7 ≤ spot.place) × (member_at pc (cached_entries r) ≡ None)
+    IsSpot r.slots spot × (r.used ≤ spot.place) × (member_at pc (cached_entries r) ≡ None)

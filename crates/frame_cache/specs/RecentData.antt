@@ -13,5 +13,5 @@ pub record RecentData : Type 0 where
 -- each slot has a member, and stands in the order once
 pub record IsRecent (r : RecentData) : Type 0 where
   pub slots : AreSlots r.slots
-  pub members : length r.members ≡ 8
+  pub members : length r.members ≡ 9
   pub used : r.used ≤ 8

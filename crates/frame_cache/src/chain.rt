@@ -1,16 +1,13 @@
-//! The order of eight slots, each linked to the next one by its number.
+//! The order of nine slots, each linked to the next one by its number.
 ghost use Rattle.std.specs.Prelude.{◌≡◌, ◌<◌, ◌+◌};
 ghost use Rattle.frame_cache.specs.Chain.{AreSlots, IsSpot, brought};
 
 use std::marker::Model;
 
-/// How many slots there are.
-pub(crate) const SLOTS: u8 = 8;
-
 /// All slots in an order.
 #[derive(Drop)]
 pub(crate) struct Chain {
-    next: [u8; 8],
+    next: [u8; 9],
     first: u8,
 }
 
@@ -21,9 +18,9 @@ impl Model for Chain {
 
     ghost use Rattle.frame_cache.specs.Chain.{AreSlots, walk};
 
-    ghost view = { λ c. walk c.next c.first 8 };
+    ghost view = { λ c. walk c.next c.first 9 };
 
-    ghost invariant = { λ c. AreSlots (walk c.next c.first 8) };
+    ghost invariant = { λ c. AreSlots (walk c.next c.first 9) };
 }
 
 /// A place in the order, the slot there, and the slot before it. At the first place the slot itself
@@ -41,7 +38,7 @@ impl Chain {
         ensures { AreSlots result }
     {
         Chain {
-            next: [1, 2, 3, 4, 5, 6, 7, 0],
+            next: [1, 2, 3, 4, 5, 6, 7, 8, 0],
             first: 0,
         }
     }
@@ -62,7 +59,7 @@ impl Chain {
     /// The place behind one that isn't the last.
     pub(crate) fn behind(&self, spot: Spot) -> Spot
         requires spot { IsSpot self.now spot }
-        requires inside { spot.place + 1 < 8 }
+        requires inside { spot.place + 1 < 9 }
         ensures spot { IsSpot self.now result }
         ensures place { result.place ≡ spot.place + 1 }
     {

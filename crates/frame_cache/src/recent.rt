@@ -1,18 +1,22 @@
 //! Members at a stamp, the most recently used first.
-ghost use Rattle.std.specs.Prelude.{◌≡◌, ◌<◌, ◌≤◌, ◌∷◌, [], length, take, min};
+ghost use Rattle.std.specs.Prelude.{◌≡◌, ◌<◌, ◌≤◌, ◌∷◌, [], length, take};
+ghost use Rattle.reg_model.specs.SpanData.{contains};
 ghost use Rattle.frame_cache.specs.CacheData.{kept_entries};
 ghost use Rattle.frame_cache.specs.Chain.{IsSpot, but_nth};
 ghost use Rattle.frame_cache.specs.Recent.{SeeksEntry, cached_entries, cached_entry};
 
-use crate::chain::{Chain, SLOTS, Spot};
+use crate::chain::{Chain, Spot};
 use reg_model::{Member, Span};
 use std::marker::Model;
+
+/// How many members there are at most: one fewer than slots.
+const MOST: u8 = 8;
 
 /// Each member in a slot. The slots that are used come first in their order.
 #[derive(Drop)]
 pub(crate) struct Recent {
     stamp: u32,
-    members: [Member; 8],
+    members: [Member; 9],
     chain: Chain,
     used: u8,
 }
@@ -51,6 +55,16 @@ fn unused() -> Member {
     Member { span, payload: 0 }
 }
 
+/// Whether the member contains the address, by one comparison: where it begins would be guessed
+/// wrong half of the time.
+#[inline(always)]
+fn holds(member: &Member, pc: u64) -> bool
+    ensures { result ≡ contains member.now.span pc }
+{
+    let (first, last) = (member.span.first(), member.span.last());
+    pc.wrapping_sub(first) <= last - first
+}
+
 impl Recent {
     /// No members, at stamp 0.
     pub(crate) fn new() -> Recent
@@ -59,7 +73,7 @@ impl Recent {
     {
         Recent {
             stamp: 0,
-            members: [unused(); 8],
+            members: [unused(); 9],
             chain: Chain::new(),
             used: 0,
         }
@@ -113,11 +127,8 @@ impl Recent {
         let mut spot = self.chain.front();
         while spot.place < self.used {
             let member = self.members[spot.slot as usize];
-            if member.span.contains(pc) {
+            if holds(&member, pc) {
                 return Sought::Known { member, spot };
-            }
-            if spot.place + 1 == SLOTS {
-                return Sought::Unknown { spot };
             }
             spot = self.chain.behind(spot);
         }
@@ -138,13 +149,13 @@ impl Recent {
     /// Puts a member in front of all. With eight already there, the last one goes.
     pub(crate) fn add(&mut self, spot: Spot, member: &Member)
         requires spot { IsSpot self.old.slots spot }
-        requires unused { min self.old.used 7 ≤ spot.place }
+        requires unused { self.old.used ≤ spot.place }
         ensures stamp { self.new.stamp ≡ self.old.stamp }
         ensures entries { cached_entries self.new ≡ take 8 (member.now ∷ cached_entries self.old) }
     {
         self.members[spot.slot as usize] = *member;
         self.chain.bring(spot);
-        if self.used < SLOTS {
+        if self.used < MOST {
             self.used += 1;
         }
     }

@@ -2,4 +2,6 @@
 #![tactic(auto)]
 
 #[cfg(test)]
+mod judged_texts;
+#[cfg(test)]
 mod told_journals;

@@ -8,7 +8,7 @@ returns-clause-spot c =
     let place = c.args.spot.place in
     let next = c.self.inside.next in
     let link : get_or slots (suc place) 0 ≡ get_or next (get_or slots place 0) 0 =
-    subst (λ all. get_or all (suc place) 0 ≡ get_or next (get_or all place 0) 0) c.self.view_is (walk_link next c.self.inside.first 8 place (omega arith)) in
+    subst (λ all. get_or all (suc place) 0 ≡ get_or next (get_or all place 0) 0) c.self.view_is (walk_link next c.self.inside.first 9 place (omega arith)) in
     let back : place ≡ place + 1 - 1 = omega arith in
     record {
       inside = omega arith;

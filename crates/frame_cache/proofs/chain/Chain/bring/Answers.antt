@@ -4,7 +4,7 @@ use Rattle.frame_cache.proofs.Places.{slots_brought}
 use Rattle.frame_cache.proofs.Walks.{brought_by}
 use Rattle.frame_cache.proofs.chain.Chain.bring.Goals as goal
 
-after : (c : goal.After-self-2-1) → walk (set (set c.self.inside.next c.args.spot.before (get_or c.self.inside.next c.args.spot.slot 0)) c.args.spot.slot c.self.inside.first) c.args.spot.slot 8 ≡ brought c.args.spot.place (walk c.self.inside.next c.self.inside.first 8)
+after : (c : goal.After-self-2-1) → walk (set (set c.self.inside.next c.args.spot.before (get_or c.self.inside.next c.args.spot.slot 0)) c.args.spot.slot c.self.inside.first) c.args.spot.slot 9 ≡ brought c.args.spot.place (walk c.self.inside.next c.self.inside.first 9)
 after c =
     brought_by c.self.inside.next c.self.inside.first c.args.spot.place c.args.spot.before c.args.spot.slot c.self.told c.self.invariant (omega arith) c.requires.spot.inside
     (c.requires.spot.before ∙ ap (λ slots. get_or slots (c.args.spot.place - 1) 0) (sym c.self.view_is)) (c.requires.spot.slot ∙ ap (λ slots. get_or slots c.args.spot.place 0) (sym c.self.view_is))

@@ -1,0 +1,10 @@
+pub mod Verdicts
+pub mod Receipts
+pub mod Accepted
+pub mod Each
+pub mod Sides
+pub mod Once
+pub mod Flawless
+pub mod Ascending
+pub mod Numbers
+pub mod Strict

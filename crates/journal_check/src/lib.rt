@@ -1,0 +1,14 @@
+//! Whether a journal is lawful but for its backtraces: the first of six flaws, and its line.
+//!
+//! Above scripts and journals (`event_script`) and the flaws of receipts (`receipt_check`). `judge`
+//! tells a journal as one list of receipts, each with its line and its round, and has the flaw that
+//! counts found in it. That nothing is wrong there exactly where the journal is lawful, given its
+//! answers' kinds and its backtraces, are laws beside it.
+#![tactic(auto)]
+
+mod judging;
+pub mod laws;
+mod teller;
+mod updates;
+
+pub use judging::{account_in, judge};
