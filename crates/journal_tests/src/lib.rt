@@ -2,6 +2,8 @@
 #![tactic(auto)]
 
 #[cfg(test)]
+mod departing_texts;
+#[cfg(test)]
 mod judged_texts;
 #[cfg(test)]
 mod told_journals;

@@ -1,0 +1,3 @@
+pub mod Departing
+pub mod Following
+pub mod Reaching
