@@ -20,6 +20,7 @@ pub mod Rooms
 pub mod Spending
 pub mod Releasing
 pub mod Lowering
+pub mod KeptPaths
 pub mod Standing
 pub mod Stepping
 pub mod Going

@@ -1,7 +1,5 @@
 -- What the insertion of a member makes of its caller.
-use Rattle.std.specs.Prelude.{◌≡◌, ℕ, ◌-◌, ◌<◌, ◌≤◌, false, IsSome, List, [], ◌∷◌, ◌++◌, drop}
-use Rattle.std.specs.Prelude.{length}
-use Rattle.std.specs.List.{AllByRecursion}
+use Rattle.std.specs.Prelude.{◌≡◌, ℕ, ◌-◌, ◌<◌, ◌≤◌, List, [], ◌∷◌, ◌++◌, length}
 use mathlib.Core.List.{IsPrefix}
 use Rattle.reg_model.specs.History.{state_after}
 use Rattle.reg_model.specs.Receipt.{HadTenMembers}
@@ -12,7 +10,6 @@ use Rattle.reg_model.specs.declared.answer.Receipt.TheVariants as receipt
 use Rattle.reg_model.specs.declared.answer.Update.{Update}
 use Rattle.reg_model.specs.declared.answer.Update.TheVariants as update
 use Rattle.reg_model.specs.declared.span.Member.{Member}
-use Rattle.tree_shape.specs.Decisions.{is_entries}
 use Rattle.word_rule.specs.CallerData.{CallerData, surplus}
 use Rattle.word_rule.specs.Callers.{IsMemberOf, start}
 use Rattle.word_rule.specs.Observations.{last_moment}
@@ -26,20 +23,12 @@ use Rattle.btree_change.specs.Loads.{FoundNoRoom}
 use Rattle.btree_change.specs.Paths.{IsSettledLock}
 use Rattle.btree_change.specs.Updates.{AnswersUpdate, RefusesUpdate}
 
--- the lock of an inner node that has settled
-pub record IsInnerLock (h : Holding) : Type 0 where
-  pub marked : IsSome h.mark
-  pub spells : SpellsNode h.words h.settled
-  pub inner : is_entries h.settled.body ≡ false
-
--- A leaf is held that has settled, and inner nodes above it. No node is out.
+-- A leaf is held that has settled, and nothing else. No node is out.
 pub record HoldsLeaf (t : Terms) (leaf : Held) (holdings : Holdings) : Type 0 where
   pub within : leaf.node < t.nodes
   pub lock : Holding
-  pub above : List Holding
-  pub held : holdings.held ≡ lock ∷ above
+  pub held : holdings.held ≡ lock ∷ []
   pub here : IsSettledLock t leaf.node leaf.content leaf.changed lock
-  pub inner : AllByRecursion IsInnerLock above
   pub out : holdings.out ≡ []
 
 -- A member was put into a held leaf and committed, with this number.
@@ -60,7 +49,7 @@ pub record PutsMember (m : Member) (n number : ℕ) (k k' : CallerData) : Type 0
   }
   pub budget : k'.log.budget ≡ record k.log.budget { allowance = k.log.budget.allowance - 1 }
   pub lock : Holding
-  pub held : k'.log.holdings.held ≡ lock ∷ drop 1 k.log.holdings.held
+  pub held : k'.log.holdings.held ≡ lock ∷ []
   pub node : lock.node ≡ n
   pub spells : SpellsNode lock.words lock.settled
   pub out : k'.log.holdings.out ≡ []

@@ -5,6 +5,7 @@ pub mod Insertion
 pub mod Removal
 pub mod Releases
 pub mod Spines
+pub mod Kept
 pub mod Splits
 pub mod Halves
 pub mod Stands

@@ -1,30 +1,27 @@
 -- Where an insertion stands on its way down, and what each part of it makes of its caller.
-use Rattle.std.specs.Prelude.{◌≡◌, ℕ, ◌+◌, ◌-◌, ◌*◌, ◌^◌, ◌<◌, ◌≤◌, false, ◌||◌, List, [], ◌∷◌}
-use Rattle.std.specs.Prelude.{◌++◌}
-use Rattle.std.specs.Prelude.{length, drop, nat_le, Option, Some, None}
-use Rattle.std.specs.Prelude.{slice_get, ◌⊎◌}
+use Rattle.std.specs.Prelude.{◌≡◌, ℕ, ◌+◌, ◌-◌, ◌*◌, ◌^◌, ◌<◌, ◌≤◌, false, List, [], ◌∷◌, ◌++◌}
+use Rattle.std.specs.Prelude.{length, drop, slice_get, Option, Some, None}
 use Rattle.reg_model.specs.declared.answer.Receipt.{Receipt}
-use Rattle.reg_model.specs.declared.answer.Receipt.TheVariants as receipt
 use Rattle.reg_model.specs.declared.span.Member.{Member}
 use Rattle.tree_shape.specs.NodeData.{NodeData, IsInFences, frame_of, pairs_of, slot_for}
+use Rattle.tree_shape.specs.declared.limits.TheConstants.{HIGHEST_LEVEL}
 use Rattle.tree_shape.specs.declared.pair.Pair.{Pair}
 use Rattle.word_rule.specs.CallerData.{CallerData}
-use Rattle.word_rule.specs.Spelling.{SpellsNode}
 use Rattle.word_rule.specs.TreeRefusals.{HadNoRoom}
 use Rattle.word_rule.specs.declared.log.Holding.{Holding}
 use Rattle.word_rule.specs.declared.log.Holdings.{Holdings}
 use Rattle.word_rule.specs.declared.log.Log.{Log}
 use Rattle.word_rule.specs.declared.log.Terms.{Terms}
 use Rattle.btree_change.specs.declared.descent.Held.{Held}
+use Rattle.btree_change.specs.declared.path.KeptNode.{KeptNode}
 use Rattle.btree_change.specs.declared.stand.Beyond.{Beyond}
-use Rattle.btree_change.specs.declared.stand.Outcome.{Outcome}
-use Rattle.btree_change.specs.declared.stand.Passage.{Passage}
-use Rattle.btree_change.specs.declared.stand.Reply.{Reply}
+use Rattle.btree_change.specs.declared.stand.Reach.{Reach}
+use Rattle.btree_change.specs.declared.stand.Reach.TheVariants as reach
 use Rattle.btree_change.specs.declared.stand.Room.{Room}
 use Rattle.btree_change.specs.declared.stand.Room.TheVariants as room
 use Rattle.btree_change.specs.declared.stand.Stand.{Stand}
 use Rattle.btree_change.specs.declared.stand.Step.{Step}
-use Rattle.btree_change.specs.Insertion.{IsRightInsertion, taken_by}
+use Rattle.btree_change.specs.Kept.{AreKept}
 use Rattle.btree_change.specs.Loads.{FoundNoRoom, KeepsLoads}
 use Rattle.btree_change.specs.Paths.{AreHigher, HasChildFor}
 use Rattle.btree_change.specs.Releases.{Spends}
@@ -55,34 +52,50 @@ pub record HoldsRoot (t : Terms) (at : Held) (holdings : Holdings) : Type 0 wher
   pub high : at.content.high ≡ 2 ^ 64 - 1
   pub out : holdings.out ≡ []
 
--- The node above both leaves is held above this one, which lies on its left spine.
+-- The node above both leaves is held above this one, which lies on its left spine. From there up
+-- all is kept, and nothing above it.
 pub record LiesBeyond (t : Terms) (b : Beyond) (lower : Holding) (above : List Holding)
     : Type 0 where
   pub spine : List Holding
   pub top : Holding
-  pub rest : List Holding
-  pub split : above ≡ spine ++ top ∷ rest
+  pub split : above ≡ spine ++ top ∷ []
   pub node : top.node ≡ b.node
   pub within : b.node < t.nodes
-  pub level : top.settled.level ≡ b.level
   pub climb : Climbs b.slot lower spine top
+  pub kept : AreKept t b.kept above
 
--- A span that ends at this address ends inside the node's fences, or beyond them: then the node
--- above both leaves is known.
+-- A span that ends at this address ends inside the node's fences, and nothing is held above; or it
+-- ends beyond them, and the node above both leaves is known.
 abbrev pub Reaches : Terms → ℕ → NodeData → Option Beyond → Holding → List Holding → Type 0
-Reaches t last s None lower above = last ≤ s.high
+Reaches t last s None lower above = (last ≤ s.high) × (above ≡ [])
 Reaches t last s (Some b) lower above = (s.high < last) × LiesBeyond t b lower above
 
--- The node above both leaves as it is seen from the child for an address: none where the child's
--- separator is at or above the span's last address; else the parent, where the slot isn't its last,
--- and what it was so far where it is.
-abbrev pub IsReach : Held → ℕ → ℕ → Option Beyond → Option Beyond → Type 0
-IsReach parent pc last so_far found = let pairs = pairs_of parent.content in
-    let slot = slot_for pc pairs in (p : Pair) × ((slice_get pairs slot ≡ Some p)
-    × (((last ≤ p.separator) × (found ≡ None))
-    ⊎ (((p.separator < last) × (slot + 1 < length pairs)
-    × (found ≡ Some (record { node = parent.node; slot = slot; level = parent.content.level })))
-    ⊎ ((p.separator < last) × (length pairs ≡ slot + 1) × (found ≡ so_far)))))
+-- the pair of a node for an address
+abbrev pub IsPairFor : NodeData → ℕ → Pair → Type 0
+IsPairFor s pc p = slice_get (pairs_of s) (slot_for pc (pairs_of s)) ≡ Some p
+
+-- How far a span reaches that begins in a child of a node: to the child's end, to another child of
+-- the node, or beyond its last one.
+abbrev pub IsReach : NodeData → ℕ → ℕ → Reach → Type 0
+IsReach s pc last reach.Child = (p : Pair) × (IsPairFor s pc p × (last ≤ p.separator))
+IsReach s pc last (reach.Parent slot) = (p : Pair) × (IsPairFor s pc p × (p.separator < last)
+    × (slot ≡ slot_for pc (pairs_of s)) × (slot + 1 < length (pairs_of s)))
+IsReach s pc last reach.Above = (p : Pair) × (IsPairFor s pc p × (p.separator < last)
+    × (length (pairs_of s) ≡ slot_for pc (pairs_of s) + 1))
+
+-- a node of the way, as it is kept
+abbrev pub kept_node : Held → KeptNode
+kept_node at = record { node = at.node; changed = at.changed }
+
+-- the nodes that are kept above
+abbrev pub kept_above : Option Beyond → List KeptNode
+kept_above None = []
+kept_above (Some b) = b.kept
+
+-- where a node of the left spine is kept too
+abbrev pub kept_too : Held → Option Beyond → Option Beyond
+kept_too at None = None
+kept_too at (Some b) = Some (record b { kept = kept_node at ∷ b.kept })
 
 -- While nodes are split on the way the node has room. Where none is free the loads have the cause
 -- of a Full.
@@ -101,12 +114,14 @@ abbrev pub HasCause : Room → ℕ → CallerData → CallerData → Type 0
 HasCause room.Splitting base k k' = FoundNoRoom base k k'
 HasCause room.NoneFree base k k' = KeepsLoads k k'
 
--- Where an insertion stands.
+-- Where an insertion stands, by a caller that isn't the loader.
 pub record StandsOnWay (t : Terms) (m : Member) (stand : Stand) (v : Log) : Type 0 where
   pub at : StandsAt t stand.at v.holdings
   pub here : IsInFences m.span.first stand.at.content
   pub reach : Reaches t m.span.last stand.at.content stand.beyond at.lock at.above
   pub way : HasWayOn stand.room m.span.first stand.at.content v
+  pub height : stand.at.content.level + length (kept_above stand.beyond) ≤ HIGHEST_LEVEL
+  pub loader : v.loader ≡ None
 
 -- What a part of an update call takes of its caller: so many of the allowance, and at most so many
 -- releases. These receipts are appended. All else is as it was but what is held, seen and loaded.
@@ -122,48 +137,10 @@ pub record SpendsCall (more : List Receipt) (taken most : ℕ) (k k' : CallerDat
   pub allowance : k'.log.budget.allowance ≡ k.log.budget.allowance - taken
   pub credit : k.log.budget.credit ≤ k'.log.budget.credit + most
 
--- a lock above after the way below it: it has settled, and it was changed by the fence that was
--- moved where its level is at most that of the node above both leaves
-pub record IsLeftAs (moved : ℕ) (before after : Holding) : Type 0 where
-  pub node : after.node ≡ before.node
-  pub spells : SpellsNode after.words after.settled
-  pub level : after.settled.level ≡ before.settled.level
-  pub stored : (before.stored || nat_le before.settled.level moved) ≡ false → after.stored ≡ false
-
-abbrev pub AreLeftAs : ℕ → List Holding → List Holding → Type 0
-AreLeftAs moved [] [] = Unit {0}
-AreLeftAs moved (a ∷ above) (b ∷ after) = IsLeftAs moved a b × AreLeftAs moved above after
-AreLeftAs moved _ _ = ⊥
-
--- at most so many releases for an insertion that stands at a node of this level
-abbrev pub releases_at : ℕ → ℕ
-releases_at level = 2 * level + 13
-
--- The insertion was answered at its leaf, which is still held: it has settled.
-pub record AnswersHere (t : Terms) (m : Member) (n : ℕ) (outcome : Outcome) (k k' : CallerData)
-    : Type 0 where
-  pub right : IsRightInsertion t m k k' outcome.answer
-  pub call : SpendsCall (receipt.Register m outcome.answer ∷ []) (taken_by outcome.answer) 0 k k'
-  pub lock : Holding
-  pub held : k'.log.holdings.held ≡ lock ∷ drop 1 k.log.holdings.held
-  pub node : lock.node ≡ n
-  pub spells : SpellsNode lock.words lock.settled
-  pub stored : outcome.changed ≡ false → lock.stored ≡ false
-  pub out : k'.log.holdings.out ≡ []
-
--- The insertion was answered below, and the node at which it stood was let go of.
-pub record AnswersBelow (t : Terms) (m : Member) (reply : Reply) (most : ℕ) (k k' : CallerData)
-    : Type 0 where
-  pub right : IsRightInsertion t m k k' reply.answer
-  pub call : SpendsCall (receipt.Register m reply.answer ∷ []) (taken_by reply.answer) most k k'
-  pub above : AreLeftAs reply.moved (drop 1 k.log.holdings.held) k'.log.holdings.held
-  pub out : k'.log.holdings.out ≡ []
-
--- A lock below was taken. The node at which the insertion stood was let go of.
-pub record GivesUpBelow (most : ℕ) (k k' : CallerData) : Type 0 where
-  pub steps : Spends most k k'
-  pub held : k'.log.holdings.held ≡ drop 1 k.log.holdings.held
-  pub out : k'.log.holdings.out ≡ []
+-- At most so many releases for an insertion from where it stands: two for each node below, one for
+-- each that is kept, and those of the node and of a right spine.
+abbrev pub releases_from : Stand → ℕ
+releases_from stand = 2 * stand.at.content.level + length (kept_above stand.beyond) + 13
 
 -- a node is held under its parent, to which an address leads
 pub record HoldsPair (t : Terms) (pc : ℕ) (parent child : Held) (above : List Holding)
@@ -197,17 +174,10 @@ pub record HasSplit (t : Terms) (pc : ℕ) (step after : Step) (k k' : CallerDat
   pub less : after.child.content.level < step.parent.content.level
   pub steps : Spends 1 k k'
 
--- From where an insertion stood it went to the child for the address. That stands above it now, and
--- it was changed where the child was split.
-pub record GoesBelow (t : Terms) (m : Member) (stand : Stand) (passage : Passage)
-    (k k' : CallerData) : Type 0 where
-  pub stands : StandsOnWay t m passage.stand k'.log
-  pub cause : IfNoneFree passage.stand.room (HasCause stand.room m.span.first k k')
-  pub lower : Holding
-  pub upper : Holding
-  pub held : k'.log.holdings.held ≡ lower ∷ upper ∷ drop 1 k.log.holdings.held
-  pub node : upper.node ≡ stand.at.node
-  pub level : upper.settled.level ≡ stand.at.content.level
-  pub stored : upper.stored ≡ passage.changed
-  pub less : passage.stand.at.content.level < stand.at.content.level
-  pub steps : Spends 1 k k'
+-- From where an insertion stood it went down to where it stands, by releases that are not left then.
+pub record GoesTo (t : Terms) (m : Member) (stand after : Stand) (k k' : CallerData) : Type 0 where
+  pub stands : StandsOnWay t m after k'.log
+  pub cause : IfNoneFree after.room (HasCause stand.room m.span.first k k')
+  pub lower : after.at.content.level ≤ stand.at.content.level
+  pub fewer : releases_from after ≤ releases_from stand
+  pub steps : Spends (releases_from stand - releases_from after) k k'

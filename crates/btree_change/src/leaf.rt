@@ -1,5 +1,6 @@
 //! The answers of an insertion at its leaf, and the change of it.
-ghost use Rattle.std.specs.Prelude.{◌≡◌, ◌<◌, ◌≤◌, Bool, IfNone, IfSome, Some, length, slice_get};
+ghost use Rattle.std.specs.Prelude.{◌≡◌, ◌<◌, ◌≤◌, Bool, IfNone, IfSome, None, Some};
+ghost use Rattle.std.specs.Prelude.{length, slice_get};
 ghost use Rattle.reg_model.specs.SpanData.{IsSpan, Overlaps};
 ghost use Rattle.reg_model.specs.State.{IsFree, IsLowestOverlap};
 ghost use Rattle.tree_shape.specs.NodeData.{InOrder, IsInFences, IsLeaf, entries_of, place_for};
@@ -36,6 +37,7 @@ pub(crate) fn put_in_leaf(
       content = leaf.now;
       changed = changed;
     }) me.old.log.holdings }
+    requires loader { me.old.log.loader ≡ None }
     requires level { leaf.now.level ≡ 0 }
     requires span { IsSpan member.now.span }
     requires low { leaf.now.low ≤ member.now.span.first }
@@ -61,6 +63,7 @@ pub(crate) fn put_in_held(words: &Words, me: &mut Caller, leaf: &Held, placed: &
     requires table { me.old.table ≡ words.now.table }
     requires terms { me.old.log.terms ≡ words.now.terms }
     requires leaf { HoldsLeaf words.now.terms leaf.now me.old.log.holdings }
+    requires loader { me.old.log.loader ≡ None }
     requires level { leaf.now.content.level ≡ 0 }
     requires span { IsSpan placed.now.member.span }
     requires low { leaf.now.content.low ≤ placed.now.member.span.first }

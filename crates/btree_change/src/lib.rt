@@ -15,6 +15,7 @@ mod insertion;
 mod leaf;
 mod lift;
 mod mending;
+mod path;
 mod removal;
 mod root;
 mod sibling;
@@ -22,6 +23,7 @@ mod spines;
 mod split;
 mod stand;
 mod taking;
+mod walk;
 mod way;
 
 pub use insertion::{insert, insert_by, try_insert};

@@ -1,5 +1,5 @@
 //! An insertion at the root, which is lifted where it is full.
-ghost use Rattle.std.specs.Prelude.{◌≡◌, ◌-◌, ◌^◌, ◌<◌, ◌≤◌, [], true, drop, IfOk, IfErr};
+ghost use Rattle.std.specs.Prelude.{◌≡◌, ◌-◌, ◌^◌, ◌<◌, ◌≤◌, true, IfOk, IfErr, None};
 ghost use Rattle.reg_model.specs.SpanData.{IsSpan};
 ghost use Rattle.word_rule.specs.CallerData.{due, surplus};
 ghost use Rattle.btree_change.specs.Insertion.{IfFull};
@@ -8,45 +8,15 @@ ghost use Rattle.node_store.specs.Locking.{FoundBusy};
 ghost use Rattle.btree_change.specs.Roots.{EndsInsertion, GivesUpWhole};
 ghost use Rattle.tree_shape.specs.Steps.{IsFull};
 ghost use Rattle.btree_change.specs.Splits.{HoldsFullRoot};
-ghost use Rattle.btree_change.specs.Stands.{HasCause, HoldsRoot, StandsOnWay};
+ghost use Rattle.btree_change.specs.Stands.{HoldsRoot};
 
 use crate::descent::{Held, let_go_of};
-use crate::insertion::below;
 use crate::lift::{FullRoot, lift, room_for_root};
 use crate::stand::{Room, Stand, Step, is_full, stand_below};
+use crate::walk::below;
 use node_store::{Busy, Locking};
 use reg_model::{Inserted, Member};
 use word_rule::{Caller, Words};
-
-/// Answers an insertion that stands at the root, and holds nothing else.
-fn alone<L: Locking>(
-    locking: &L,
-    words: &Words,
-    me: &mut Caller,
-    member: &Member,
-    stand: Stand,
-) -> Result<Inserted, Busy>
-    requires table { me.old.table ≡ words.now.table }
-    requires terms { me.old.log.terms ≡ words.now.terms }
-    requires stands { StandsOnWay words.now.terms member.now stand me.old.log }
-    requires root { stand.at.node ≡ 0 }
-    requires alone { drop 1 me.old.log.holdings.held ≡ [] }
-    requires span { IsSpan member.now.span }
-    requires due { 0 < due me.old }
-    requires surplus { 37 ≤ surplus me.old }
-    requires payload { member.now.payload < words.now.terms.payloads }
-    ensures answer { IfOk result (λ answer. EndsInsertion words.now.terms member.now answer 37
-        me.old me.new) }
-    ensures full { IfOk result (λ answer. IfFull answer
-        (HasCause stand.room member.now.span.first me.old me.new)) }
-    ensures busy { IfErr result (λ e. GivesUpWhole 37 e me.old me.new × (L.gives_up ≡ true)) }
-    ensures cause { IfErr result (λ e. FoundBusy e me.old me.new) }
-{
-    match below(locking, words, me, member, stand) {
-        Ok(reply) => Ok(reply.answer),
-        Err(busy) => Err(busy),
-    }
-}
 
 /// Lifts the full root, and answers an insertion below it.
 fn lifted<L: Locking>(
@@ -59,6 +29,7 @@ fn lifted<L: Locking>(
     requires table { me.old.table ≡ words.now.table }
     requires terms { me.old.log.terms ≡ words.now.terms }
     requires held { HoldsFullRoot words.now.terms full member.now.span.first me.old.log.holdings }
+    requires loader { me.old.log.loader ≡ None }
     requires high { full.root.content.high ≡ 2 ^ 64 - 1 }
     requires span { IsSpan member.now.span }
     requires due { 0 < due me.old }
@@ -77,17 +48,8 @@ fn lifted<L: Locking>(
         child: split.way,
         room: Room::Splitting,
     };
-    let passage = stand_below(words, me, member, step, None);
-    match below(locking, words, me, member, passage.stand) {
-        Ok(reply) => {
-            let_go_of(locking, words, me, 0, true);
-            Ok(reply.answer)
-        }
-        Err(busy) => {
-            let_go_of(locking, words, me, 0, true);
-            Err(busy)
-        }
-    }
+    let stand = stand_below(locking, words, me, member, step, None);
+    below(locking, words, me, member, stand)
 }
 
 /// Answers an insertion whose root is full, and isn't lifted where it has the highest level or no
@@ -102,6 +64,7 @@ fn at_full_root<L: Locking>(
     requires table { me.old.table ≡ words.now.table }
     requires terms { me.old.log.terms ≡ words.now.terms }
     requires root { HoldsRoot words.now.terms root me.old.log.holdings }
+    requires loader { me.old.log.loader ≡ None }
     requires full { IsFull root.content.body }
     requires span { IsSpan member.now.span }
     requires due { 0 < due me.old }
@@ -129,7 +92,7 @@ fn at_full_root<L: Locking>(
                 beyond: None,
                 room: Room::NoneFree,
             };
-            alone(locking, words, me, member, stand)
+            below(locking, words, me, member, stand)
         }
         Err(busy) => {
             let_go_of(locking, words, me, root.node, root.changed);
@@ -149,6 +112,7 @@ pub(crate) fn at_held_root<L: Locking>(
     requires table { me.old.table ≡ words.now.table }
     requires terms { me.old.log.terms ≡ words.now.terms }
     requires root { HoldsRoot words.now.terms root me.old.log.holdings }
+    requires loader { me.old.log.loader ≡ None }
     requires span { IsSpan member.now.span }
     requires due { 0 < due me.old }
     requires surplus { 64 ≤ surplus me.old }
@@ -168,5 +132,5 @@ pub(crate) fn at_held_root<L: Locking>(
         beyond: None,
         room: Room::Splitting,
     };
-    alone(locking, words, me, member, stand)
+    below(locking, words, me, member, stand)
 }

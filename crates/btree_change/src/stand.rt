@@ -1,28 +1,33 @@
 //! Where an insertion stands on its way down, and how it goes on to a child.
 //!
-//! All nodes of the way stay held to the end of the call, as the root does: until writers work side
-//! by side nobody else gets past it.
-ghost use Rattle.std.specs.Prelude.{◌≡◌, ◌<◌, true, [], drop, IfOk, IfErr, MatchBool};
-ghost use Rattle.std.specs.Prelude.{◌||◌, nat_le, Some, slice_get};
+//! Parent and child are held together. A node above is let go of as soon as the child can neither
+//! split under it nor end at a fence that moves in it.
+ghost use Rattle.std.specs.Prelude.{◌≡◌, ◌<◌, ◌≤◌, ◌+◌, ◌-◌, true, [], ◌∷◌, drop, length};
+ghost use Rattle.std.specs.Prelude.{List, IfOk, IfErr, MatchBool, None, Some, slice_get};
 ghost use Rattle.tree_shape.specs.NodeData.{IsInFences, IsInner, InOrder, pairs_of, slot_for};
+ghost use Rattle.tree_shape.specs.declared.limits.TheConstants.{HIGHEST_LEVEL};
 ghost use Rattle.tree_shape.specs.declared.pair.Pair.{Pair};
 ghost use Rattle.tree_shape.specs.Lawful.{IsFilled, IsOrdered};
 ghost use Rattle.tree_shape.specs.Steps.{IsFull};
 ghost use Rattle.word_rule.specs.CallerData.{surplus};
+ghost use Rattle.word_rule.specs.declared.log.Holding.{Holding};
 ghost use Rattle.node_store.specs.Holding.{SpellsHeld};
 ghost use Rattle.node_store.specs.Outlines.{OnlyLoads};
+ghost use Rattle.btree_change.specs.Kept.{HoldsPath, LeavesBelow};
 ghost use Rattle.btree_change.specs.Paths.{StepsOnNodes};
 ghost use Rattle.node_store.specs.Locking.{FoundBusy};
 ghost use Rattle.btree_change.specs.Releases.{Spends};
+ghost use Rattle.btree_change.specs.Roots.{GivesUpWhole};
 ghost use Rattle.btree_change.specs.Splits.{HasSpace};
-ghost use Rattle.btree_change.specs.Stands.{GivesUpBelow, GoesBelow, HasSplit, HoldsPair};
-ghost use Rattle.btree_change.specs.Stands.{HasWayOn, HoldsStep, IsReach, Reaches};
-ghost use Rattle.btree_change.specs.Stands.{StandsOnWay, StandsAt};
+ghost use Rattle.btree_change.specs.Stands.{GoesTo, HasSplit, HasWayOn, HoldsPair, HoldsStep};
+ghost use Rattle.btree_change.specs.Stands.{IsPairFor, IsReach, Reaches, StandsAt, StandsOnWay};
+ghost use Rattle.btree_change.specs.Stands.{kept_above, kept_node, kept_too, releases_from};
 
 use crate::descent::{Held, child_for, let_go_of, take_node};
+use crate::path::{KeptNode, Path, let_go_of_path};
 use crate::split::{FullChild, room_for, split_child};
 use node_store::{Busy, Locking, high_of, outline_of, slot_of};
-use reg_model::{Inserted, Member};
+use reg_model::Member;
 use tree_shape::{ENTRIES, PAIRS};
 use word_rule::places::LEVEL;
 use word_rule::{Caller, Words};
@@ -34,13 +39,14 @@ pub(crate) enum Room {
     NoneFree,
 }
 
-/// The node above both leaves of a span that ends beyond the fences of a node: its slot on the way,
-/// and its level.
-#[derive(Clone, Copy, Debug)]
+/// The node above both leaves of a span that ends beyond the fences of a node, and its slot on the
+/// way.
+#[derive(Drop)]
 pub(crate) struct Beyond {
     pub(crate) node: u32,
     pub(crate) slot: usize,
-    pub(crate) level: u32,
+    /// The nodes that are kept, up to this one.
+    pub(crate) kept: Path,
 }
 
 /// Where an insertion stands.
@@ -51,25 +57,15 @@ pub(crate) struct Stand {
     pub(crate) room: Room,
 }
 
-/// Where it stands after a step down, and whether a word was stored in the node above.
-#[derive(Drop)]
-pub(crate) struct Passage {
-    pub(crate) stand: Stand,
-    pub(crate) changed: bool,
-}
-
-/// What an insertion answers, and the level up to which it moved a fence: 0 where it moved none.
-#[derive(Clone, Copy, Debug)]
-pub(crate) struct Reply {
-    pub(crate) answer: Inserted,
-    pub(crate) moved: u32,
-}
-
-/// What an insertion answers at its leaf, and whether a word was stored there.
-#[derive(Clone, Copy, Debug)]
-pub(crate) struct Outcome {
-    pub(crate) answer: Inserted,
-    pub(crate) changed: bool,
+/// How far a span reaches that begins in a child of a node.
+#[derive(Clone, Copy, Debug, PartialEq, Eq)]
+pub(crate) enum Reach {
+    /// It ends in the child.
+    Child,
+    /// It ends in another child of the node, and the slot of the first one is not the last.
+    Parent { slot: usize },
+    /// It ends beyond the node, of which the child is the last.
+    Above,
 }
 
 /// A node that is held under its parent.
@@ -78,21 +74,6 @@ pub(crate) struct Step {
     pub(crate) parent: Held,
     pub(crate) child: Held,
     pub(crate) room: Room,
-}
-
-/// The node at which an insertion stands, and its level.
-pub(crate) fn place_of(stand: &Stand) -> (u32, u32)
-    ensures node { result.0 ≡ stand.now.at.node }
-    ensures level { result.1 ≡ stand.now.at.content.level }
-{
-    (stand.at.node, stand.at.content.level())
-}
-
-/// Whether a word was stored in a node of this level, before or when a fence was moved.
-pub(crate) fn is_changed(changed: bool, level: u32, reply: &Reply) -> bool
-    ensures { result ≡ (changed || nat_le level reply.now.moved) }
-{
-    changed || level <= reply.moved
 }
 
 /// Whether a node is full.
@@ -221,15 +202,8 @@ fn split_if_full<L: Locking>(
     }
 }
 
-/// The node above both leaves as it is seen from the child for an address, where a span that begins
-/// there ends beyond the child's fences. So far it is this one.
-fn beyond_child(
-    words: &Words,
-    me: &mut Caller,
-    member: &Member,
-    step: &Step,
-    so_far: Option<Beyond>,
-) -> Option<Beyond>
+/// How far a span reaches that begins in the child of a step, seen from its parent.
+fn reach_of(words: &Words, me: &mut Caller, member: &Member, step: &Step) -> Reach
     requires table { me.old.table ≡ words.now.table }
     requires above { step.now.parent.node < words.now.terms.nodes }
     requires below { step.now.child.node < words.now.terms.nodes }
@@ -238,37 +212,105 @@ fn beyond_child(
     requires inner { IsInner step.now.parent.content }
     requires ordered { InOrder step.now.parent.content }
     requires here { IsInFences member.now.span.first step.now.parent.content }
-    requires high { (p : Pair) → slice_get (pairs_of step.now.parent.content)
-        (slot_for member.now.span.first (pairs_of step.now.parent.content)) ≡ Some p
+    requires high { (p : Pair) → IsPairFor step.now.parent.content member.now.span.first p
         → p.separator ≡ step.now.child.content.high }
-    ensures reach { IsReach step.now.parent member.now.span.first member.now.span.last so_far
+    ensures reach { IsReach step.now.parent.content member.now.span.first member.now.span.last
         result }
     ensures loads { OnlyLoads me.old me.new }
 {
     let (parent, child) = (&step.parent, &step.child);
     if member.span.last() <= high_of(words, me, child.node, &child.content) {
-        return None;
+        return Reach::Child;
     }
     let slot = slot_of(words, me, parent.node, &parent.content, member.span.first());
     if slot as u64 + 1 < parent.content.count() {
-        Some(Beyond {
-            node: parent.node,
-            slot,
-            level: parent.content.level(),
-        })
+        Reach::Parent { slot }
     } else {
-        so_far
+        Reach::Above
     }
 }
 
-/// Where an insertion stands after a step.
-pub(crate) fn stand_below(
+/// A node of the way, as it is kept.
+pub(crate) fn kept(at: &Held) -> KeptNode
+    ensures { result ≡ kept_node at.now }
+{
+    KeptNode {
+        node: at.node,
+        changed: at.changed,
+    }
+}
+
+/// The node above both leaves, which is the lowest that is kept.
+fn above_both(at: &Held, slot: usize) -> Beyond
+    ensures { result
+        ≡ record { node = at.now.node; slot = slot; kept = kept_node at.now ∷ [] } }
+{
+    let mut path = Path::new();
+    path.push(kept(at));
+    Beyond {
+        node: at.node,
+        slot,
+        kept: path,
+    }
+}
+
+/// Keeps a node of the left spine too.
+fn keep_too(at: &Held, so_far: Option<Beyond>) -> Option<Beyond>
+    requires { length (kept_above so_far) < 12 }
+    ensures { result ≡ kept_too at.now so_far }
+{
+    let mut beyond = so_far?;
+    beyond.kept.push(kept(at));
+    Some(beyond)
+}
+
+/// Lets go of the nodes that are kept above others.
+fn let_go_of_kept<L: Locking>(
+    locking: &L,
+    words: &Words,
+    me: &mut Caller,
+    beyond: Option<Beyond>,
+)
+    requires table { me.old.table ≡ words.now.table }
+    requires path { (below : List Holding)
+        × HoldsPath words.now.terms (kept_above beyond) below me.old.log.holdings }
+    requires surplus { length (kept_above beyond) ≤ surplus me.old }
+    ensures { (below : List Holding)
+        → HoldsPath words.now.terms (kept_above beyond) below me.old.log.holdings
+        → LeavesBelow (length (kept_above beyond)) below me.old me.new }
+{
+    if let Some(beyond) = beyond {
+        let_go_of_path(locking, words, me, beyond.kept);
+    }
+}
+
+/// Lets go of the lowest node, and of those that are kept above it.
+pub(crate) fn let_go_of_all<L: Locking>(
+    locking: &L,
+    words: &Words,
+    me: &mut Caller,
+    lowest: KeptNode,
+    beyond: Option<Beyond>,
+)
+    requires table { me.old.table ≡ words.now.table }
+    requires path { HoldsPath words.now.terms (lowest ∷ kept_above beyond) []
+        me.old.log.holdings }
+    requires surplus { length (kept_above beyond) < surplus me.old }
+    ensures { LeavesBelow (length (kept_above beyond) + 1) [] me.old me.new }
+{
+    let_go_of(locking, words, me, lowest.node, lowest.changed);
+    let_go_of_kept(locking, words, me, beyond);
+}
+
+/// Where an insertion stands after a step: what can't change any more above the child is let go of.
+pub(crate) fn stand_below<L: Locking>(
+    locking: &L,
     words: &Words,
     me: &mut Caller,
     member: &Member,
     step: Step,
     so_far: Option<Beyond>,
-) -> Passage
+) -> Stand
     requires table { me.old.table ≡ words.now.table }
     requires terms { me.old.log.terms ≡ words.now.terms }
     requires way { HasWayOn step.room member.now.span.first step.child.content me.old.log }
@@ -277,57 +319,76 @@ pub(crate) fn stand_below(
         (drop 2 me.old.log.holdings.held) me.old.log.holdings)
         × Reaches words.now.terms member.now.span.last step.parent.content so_far pair.upper
         (drop 2 me.old.log.holdings.held) }
-    ensures stands { StandsOnWay words.now.terms member.now result.stand me.new.log }
-    ensures at { result.stand.at ≡ step.child }
-    ensures room { result.stand.room ≡ step.room }
-    ensures changed { result.changed ≡ step.parent.changed }
-    ensures same { StepsOnNodes me.old me.new }
-    ensures holdings { me.new.log.holdings ≡ me.old.log.holdings }
+    requires height { step.parent.content.level + length (kept_above so_far) ≤ HIGHEST_LEVEL }
+    requires loader { me.old.log.loader ≡ None }
+    requires surplus { length (kept_above so_far) < surplus me.old }
+    ensures stands { StandsOnWay words.now.terms member.now result me.new.log }
+    ensures at { result.at ≡ step.child }
+    ensures room { result.room ≡ step.room }
+    ensures fewer { length (kept_above result.beyond) ≤ length (kept_above so_far) + 1 }
+    ensures spends { Spends (length (kept_above so_far) + 1 - length (kept_above result.beyond))
+        me.old me.new }
 {
     // By this load it is known of which tree both nodes are.
     words.load_node(me, step.child.node, LEVEL);
-    let beyond = beyond_child(words, me, member, &step, so_far);
+    let reach = reach_of(words, me, member, &step);
     let Step {
         parent,
         child,
         room,
     } = step;
-    Passage {
-        stand: Stand {
+    match reach {
+        Reach::Child => {
+            let_go_of(locking, words, me, parent.node, parent.changed);
+            Stand {
+                at: child,
+                beyond: None,
+                room,
+            }
+        }
+        Reach::Parent { slot } => {
+            let_go_of_kept(locking, words, me, so_far);
+            Stand {
+                at: child,
+                beyond: Some(above_both(&parent, slot)),
+                room,
+            }
+        }
+        Reach::Above => Stand {
             at: child,
-            beyond,
+            beyond: keep_too(&parent, so_far),
             room,
         },
-        changed: parent.changed,
     }
 }
 
-/// Goes on to the child for a member's first address. Where a lock is taken, the node at which the
-/// insertion stood is let go of.
+/// Goes on to the child for a member's first address. Where a lock is taken, all is let go of.
 pub(crate) fn go_below<L: Locking>(
     locking: &L,
     words: &Words,
     me: &mut Caller,
     member: &Member,
     stand: Stand,
-) -> Result<Passage, Busy>
+) -> Result<Stand, Busy>
     requires table { me.old.table ≡ words.now.table }
     requires terms { me.old.log.terms ≡ words.now.terms }
     requires stands { StandsOnWay words.now.terms member.now stand me.old.log }
     requires inner { 0 < stand.at.content.level }
-    requires surplus { 1 < surplus me.old }
-    ensures ok { IfOk result (λ passage. GoesBelow words.now.terms member.now stand passage
-        me.old me.new) }
-    ensures busy { IfErr result (λ e. GivesUpBelow 2 me.old me.new × (L.gives_up ≡ true)) }
+    requires surplus { releases_from stand ≤ surplus me.old }
+    ensures ok { IfOk result (λ after. GoesTo words.now.terms member.now stand after me.old
+        me.new) }
+    ensures less { IfOk result (λ after. after.at.content.level < stand.at.content.level) }
+    ensures busy { IfErr result (λ e. GivesUpWhole (releases_from stand) e me.old me.new
+        × (L.gives_up ≡ true)) }
     ensures cause { IfErr result (λ e. FoundBusy e me.old me.new) }
 {
     let Stand { at, beyond, room } = stand;
-    let (node, changed) = (at.node, at.changed);
+    let lowest = kept(&at);
     let pc = member.span.first();
     let child = match lower(locking, words, me, &at, pc) {
         Ok(child) => child,
         Err(busy) => {
-            let_go_of(locking, words, me, node, changed);
+            let_go_of_all(locking, words, me, lowest, beyond);
             return Err(busy);
         }
     };
@@ -337,9 +398,9 @@ pub(crate) fn go_below<L: Locking>(
         room,
     };
     match split_if_full(locking, words, me, step, pc) {
-        Ok(step) => Ok(stand_below(words, me, member, step, beyond)),
+        Ok(step) => Ok(stand_below(locking, words, me, member, step, beyond)),
         Err(busy) => {
-            let_go_of(locking, words, me, node, changed);
+            let_go_of_all(locking, words, me, lowest, beyond);
             Err(busy)
         }
     }

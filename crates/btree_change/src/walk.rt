@@ -1,0 +1,171 @@
+//! The way of an insertion from where it stands down to its leaf, and its answer there.
+ghost use Rattle.std.specs.Prelude.{◌≡◌, ◌+◌, ◌<◌, ◌≤◌, true, IfOk, IfErr, None, length};
+ghost use Rattle.reg_model.specs.SpanData.{IsSpan};
+ghost use Rattle.reg_model.specs.State.{IsFree};
+ghost use Rattle.tree_shape.specs.NodeData.{entries_of, place_for};
+ghost use Rattle.word_rule.specs.CallerData.{due, surplus};
+ghost use Rattle.node_store.specs.Locking.{FoundBusy};
+ghost use Rattle.btree_change.specs.Insertion.{IfFull};
+ghost use Rattle.btree_change.specs.Roots.{EndsInsertion, GivesUpWhole};
+ghost use Rattle.btree_change.specs.Stands.{HasCause, StandsOnWay, releases_from};
+
+use crate::beyond::{Far, beyond_leaf};
+use crate::descent::{Held, let_go_of};
+use crate::leaf::{full_here, put_in_held, refused};
+use crate::stand::{Room, Stand, go_below, kept, let_go_of_all};
+use node_store::{Busy, Locking, Placed, begun_in};
+use reg_model::{Inserted, Member};
+use word_rule::{Caller, Words};
+
+/// Puts a member into its leaf, in which nothing overlaps it and whose fences hold its span, or
+/// says Full. Lets go of the leaf.
+fn in_place<L: Locking>(
+    locking: &L,
+    words: &Words,
+    me: &mut Caller,
+    placed: &Placed,
+    leaf: &Held,
+    room: Room,
+) -> Inserted
+    requires table { me.old.table ≡ words.now.table }
+    requires terms { me.old.log.terms ≡ words.now.terms }
+    requires stands { StandsOnWay words.now.terms placed.now.member
+        (record { at = leaf.now; beyond = None; room = room }) me.old.log }
+    requires level { leaf.now.content.level ≡ 0 }
+    requires free { IsFree placed.now.member.span (entries_of leaf.now.content) }
+    requires place { placed.now.place
+        ≡ place_for placed.now.member.span.first (entries_of leaf.now.content) }
+    requires few { placed.now.place ≤ length (entries_of leaf.now.content) }
+    requires span { IsSpan placed.now.member.span }
+    requires due { 0 < due me.old }
+    requires surplus { 0 < surplus me.old }
+    requires payload { placed.now.member.payload < words.now.terms.payloads }
+    ensures answer { EndsInsertion words.now.terms placed.now.member result 1 me.old me.new }
+    ensures full { IfFull result (HasCause room placed.now.member.span.first me.old me.new) }
+{
+    match room {
+        Room::NoneFree => {
+            let answer = full_here(words, me, leaf, &placed.member);
+            let_go_of(locking, words, me, leaf.node, leaf.changed);
+            answer
+        }
+        Room::Splitting => {
+            let number = put_in_held(words, me, leaf, placed);
+            let_go_of(locking, words, me, leaf.node, true);
+            Inserted::Done { number }
+        }
+    }
+}
+
+/// Answers an insertion that stands at a leaf in which nothing overlaps, and lets go of all.
+fn in_free_leaf<L: Locking>(
+    locking: &L,
+    words: &Words,
+    me: &mut Caller,
+    placed: &Placed,
+    stand: Stand,
+) -> Result<Inserted, Busy>
+    requires table { me.old.table ≡ words.now.table }
+    requires terms { me.old.log.terms ≡ words.now.terms }
+    requires stands { StandsOnWay words.now.terms placed.now.member stand me.old.log }
+    requires level { stand.at.content.level ≡ 0 }
+    requires free { IsFree placed.now.member.span (entries_of stand.at.content) }
+    requires place { placed.now.place
+        ≡ place_for placed.now.member.span.first (entries_of stand.at.content) }
+    requires few { placed.now.place ≤ length (entries_of stand.at.content) }
+    requires span { IsSpan placed.now.member.span }
+    requires due { 0 < due me.old }
+    requires surplus { releases_from stand ≤ surplus me.old }
+    requires payload { placed.now.member.payload < words.now.terms.payloads }
+    ensures answer { IfOk result (λ answer. EndsInsertion words.now.terms placed.now.member answer
+        (releases_from stand) me.old me.new) }
+    ensures full { IfOk result (λ answer. IfFull answer
+        (HasCause stand.room placed.now.member.span.first me.old me.new)) }
+    ensures busy { IfErr result (λ e. GivesUpWhole (releases_from stand) e me.old me.new
+        × (L.gives_up ≡ true)) }
+    ensures cause { IfErr result (λ e. FoundBusy e me.old me.new) }
+{
+    let Stand { at, beyond, room } = stand;
+    match beyond {
+        Some(beyond) => {
+            let far = Far {
+                leaf: at,
+                beyond,
+                room,
+            };
+            beyond_leaf(locking, words, me, &placed.member, far)
+        }
+        None => Ok(in_place(locking, words, me, placed, &at, room)),
+    }
+}
+
+/// Answers an insertion that stands at a leaf, and lets go of all.
+fn in_leaf<L: Locking>(
+    locking: &L,
+    words: &Words,
+    me: &mut Caller,
+    member: &Member,
+    stand: Stand,
+) -> Result<Inserted, Busy>
+    requires table { me.old.table ≡ words.now.table }
+    requires terms { me.old.log.terms ≡ words.now.terms }
+    requires stands { StandsOnWay words.now.terms member.now stand me.old.log }
+    requires level { stand.at.content.level ≡ 0 }
+    requires span { IsSpan member.now.span }
+    requires due { 0 < due me.old }
+    requires surplus { releases_from stand ≤ surplus me.old }
+    requires payload { member.now.payload < words.now.terms.payloads }
+    ensures answer { IfOk result (λ answer. EndsInsertion words.now.terms member.now answer
+        (releases_from stand) me.old me.new) }
+    ensures full { IfOk result (λ answer. IfFull answer
+        (HasCause stand.room member.now.span.first me.old me.new)) }
+    ensures busy { IfErr result (λ e. GivesUpWhole (releases_from stand) e me.old me.new
+        × (L.gives_up ≡ true)) }
+    ensures cause { IfErr result (λ e. FoundBusy e me.old me.new) }
+{
+    let first = member.span.first();
+    let begun = begun_in(words, me, stand.at.node, &stand.at.content, first);
+    match refused(words, me, &stand.at, begun, member) {
+        Some(answer) => {
+            let_go_of_all(locking, words, me, kept(&stand.at), stand.beyond);
+            Ok(answer)
+        }
+        None => {
+            let placed = Placed {
+                place: begun,
+                member: *member,
+            };
+            in_free_leaf(locking, words, me, &placed, stand)
+        }
+    }
+}
+
+/// Answers an insertion from where it stands, and lets go of all.
+pub(crate) fn below<L: Locking>(
+    locking: &L,
+    words: &Words,
+    me: &mut Caller,
+    member: &Member,
+    stand: Stand,
+) -> Result<Inserted, Busy>
+    requires table { me.old.table ≡ words.now.table }
+    requires terms { me.old.log.terms ≡ words.now.terms }
+    requires stands { StandsOnWay words.now.terms member.now stand me.old.log }
+    requires span { IsSpan member.now.span }
+    requires due { 0 < due me.old }
+    requires surplus { releases_from stand ≤ surplus me.old }
+    requires payload { member.now.payload < words.now.terms.payloads }
+    ensures answer { IfOk result (λ answer. EndsInsertion words.now.terms member.now answer
+        (releases_from stand) me.old me.new) }
+    ensures full { IfOk result (λ answer. IfFull answer
+        (HasCause stand.room member.now.span.first me.old me.new)) }
+    ensures busy { IfErr result (λ e. GivesUpWhole (releases_from stand) e me.old me.new
+        × (L.gives_up ≡ true)) }
+    ensures cause { IfErr result (λ e. FoundBusy e me.old me.new) }
+{
+    let mut stand = stand;
+    while stand.at.content.level() > 0 {
+        stand = go_below(locking, words, me, member, stand)?;
+    }
+    in_leaf(locking, words, me, member, stand)
+}
