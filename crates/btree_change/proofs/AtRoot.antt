@@ -19,9 +19,7 @@ use Rattle.btree_change.specs.declared.descent.Held.{Held}
 use Rattle.btree_change.specs.declared.lift.FullRoot.{FullRoot}
 use Rattle.btree_change.specs.declared.lift.TwoNodes.{TwoNodes}
 use Rattle.btree_change.specs.declared.split.Split.{Split}
-use Rattle.btree_change.specs.declared.stand.Reply.{Reply}
 use Rattle.btree_change.specs.declared.stand.Room.{Room}
-use Rattle.btree_change.specs.declared.stand.Stand.{Stand}
 use Rattle.reg_model.specs.declared.answer.Inserted.TheVariants as inserted
 use Rattle.btree_change.specs.Insertion.{AnswersInsertion, IfFull, Inserts, call_begun, taken_by}
 use Rattle.btree_change.specs.Loads.{FoundNoRoom}
@@ -30,7 +28,7 @@ use Rattle.btree_change.specs.Paths.{AreHigher, HoldsNothing, IsLeftOut, StepsOn
 use Rattle.btree_change.specs.Releases.{LetsGo, Spends}
 use Rattle.btree_change.specs.Roots.{EndsInsertion, GivesUpWhole}
 use Rattle.btree_change.specs.Splits.{HoldsFullAlone, HoldsFullRoot, KeepsHeld, LiftsRoot, TakesTwo, with_release_less}
-use Rattle.btree_change.specs.Stands.{AnswersBelow, AreLeftAs, GivesUpBelow, HasWayOn, HoldsPair, HoldsRoot, Reaches, StandsOnWay, StandsAt}
+use Rattle.btree_change.specs.Stands.{HasWayOn, HoldsPair, HoldsRoot, Reaches, StandsOnWay, StandsAt}
 use Rattle.btree_change.specs.Updates.{GivesUp}
 use Rattle.btree_change.proofs.Loading.{found_after, nothing_left}
 use Rattle.btree_change.proofs.Lowering.{settled_live}
@@ -54,12 +52,14 @@ root_stands t root holdings h = record {
 pub root_here : (t : Terms) (root : Held) (m : Member) (holdings : Holdings) → HoldsRoot t root holdings → IsSpan m.span → IsInFences m.span.first root.content
 root_here t root m holdings h span = let l = h.low in let u = h.high in let o = span.ordered in let b = span.below_top in (omega (arith, l), omega (arith, u, o, b))
 
-pub root_stand : (t : Terms) (root : Held) (way : Room) (m : Member) (v : Log) → HoldsRoot t root v.holdings → IsSpan m.span → HasWayOn way m.span.first root.content v → StandsOnWay t m (record { at = root; beyond = None; room = way }) v
-root_stand t root way m v h span on = record {
+pub root_stand : (t : Terms) (root : Held) (way : Room) (m : Member) (v : Log) → HoldsRoot t root v.holdings → IsSpan m.span → v.loader ≡ None → HasWayOn way m.span.first root.content v → StandsOnWay t m (record { at = root; beyond = None; room = way }) v
+root_stand t root way m v h span loader on = record {
   at = root_stands t root v.holdings h;
   here = root_here t root m v.holdings h span;
-  reach = let u = h.high in let b = span.below_top in omega (arith, u, b);
+  reach = ((let u = h.high in let b = span.below_top in omega (arith, u, b)), refl);
   way = on;
+  height = (let low = (settled_live t root.node root.content root.changed h.lock h.here).1.1.height h.root in omega (arith, low));
+  loader = loader;
 }
 
 pub root_order : (t : Terms) (root : Held) (holdings : Holdings) → HoldsRoot t root holdings → IsOrdered root.content
@@ -83,26 +83,8 @@ full_alone t root m holdings h span full = record {
   out = h.out;
 }
 
-pub level_most : (t : Terms) (m : Member) (stand : Stand) (v : Log) → StandsOnWay t m stand v → stand.at.node ≡ 0 → stand.at.content.level ≤ 12
-level_most t m stand v s root = (settled_live t stand.at.node stand.at.content stand.at.changed s.at.lock s.at.here).1.1.height root
-
-none_left : (moved : ℕ) (held : List Holding) → AreLeftAs moved [] held → held ≡ []
-none_left moved [] all = refl
-none_left moved (b ∷ held) all = absurd all
-
--- it was answered there
-pub alone_ends : (t : Terms) (m : Member) (reply : Reply) (most : ℕ) (k k' : CallerData) → drop 1 k.log.holdings.held ≡ [] → most ≤ 37 → AnswersBelow t m reply most k k' → EndsInsertion t m reply.answer 37 k k'
-alone_ends t m reply most k k' alone few a = record {
-  right = a.right;
-  call = spends_before most 0 37 (receipt.Register m reply.answer ∷ []) (taken_by reply.answer) k k' k' (omega (arith, few)) a.call (spends_all 0 k');
-  nothing = (none_left reply.moved k'.log.holdings.held (subst (λ hs. AreLeftAs reply.moved hs k'.log.holdings.held) alone a.above), a.out);
-}
-
-pub alone_gives_up : (most : ℕ) (why : Busy) (k k' : CallerData) → drop 1 k.log.holdings.held ≡ [] → most ≤ 37 → GivesUpBelow most k k' → GivesUpWhole 37 why k k'
-alone_gives_up most why k k' alone few g = record {
-  steps = more_spent most 37 k k' (omega (arith, few)) g.steps;
-  nothing = nothing_left why k'.log.holdings (g.held ∙ alone, g.out);
-}
+pub level_most : (t : Terms) (root : Held) (holdings : Holdings) → HoldsRoot t root holdings → root.content.level ≤ 12
+level_most t root holdings h = (settled_live t root.node root.content root.changed h.lock h.here).1.1.height h.root
 
 -- The root was lifted.
 module _ (t : Terms) (m : Member) (full : FullRoot) (k : CallerData) (held : HoldsFullRoot t full m.span.first k.log.holdings) (high : full.root.content.high ≡ 18446744073709551615) (span : IsSpan m.span) (split : Split) (k1 : CallerData) (lifts : LiftsRoot t full m.span.first split k k1) where
@@ -129,75 +111,21 @@ module _ (t : Terms) (m : Member) (full : FullRoot) (k : CallerData) (held : Hol
   }
 
   pub lifted_reach : (pair : HoldsPair t m.span.first split.parent split.way (drop 2 k1.log.holdings.held) k1.log.holdings) × Reaches t m.span.last split.parent.content None pair.upper (drop 2 k1.log.holdings.held)
-  lifted_reach = (pair_for (drop 2 k1.log.holdings.held) (sym rest_is), (let h = ap (λ (h : Held). h.content.high) lifts.parent in let b = span.below_top in omega (arith, h, high, b)))
+  lifted_reach = (pair_for (drop 2 k1.log.holdings.held) (sym rest_is), ((let h = ap (λ (h : Held). h.content.high) lifts.parent in let b = span.below_top in omega (arith, h, high, b)), rest_is))
 
   pub lifted_here : IsInFences m.span.first split.parent.content
   lifted_here =
       let h = ap (λ (h : Held). h.content.high) lifts.parent in let l = ap (λ (h : Held). h.content.low) lifts.parent in
       let a = held.here.0 in let b = held.here.1 in (omega (arith, l, a), omega (arith, h, b))
 
-  pub lifted_level : split.way.content.level ≤ 12
-  lifted_level = let a = lifts.lower_level in let l = ap (λ (h : Held). h.content.level) lifts.parent in let t' = held.height in omega (arith, a, l, t')
+  pub lifted_height : split.parent.content.level ≤ 12
+  lifted_height = let l = ap (λ (h : Held). h.content.level) lifts.parent in let t' = held.height in omega (arith, l, t')
+
+  pub lifted_level : split.way.content.level ≤ 11
+  lifted_level = let a = lifts.lower_level in let l = lifted_height in omega (arith, a, l)
 
   pub lifted_steps : Spends 1 k k1
   lifted_steps = spends_one k k1 lifts.same
-
-  -- the insertion stands below it
-  module _ (k2 : CallerData) (same : StepsOnNodes k1 k2) (holdings : k2.log.holdings ≡ k1.log.holdings) where
-    pub lifted_two : Spends 1 k k2
-    lifted_two = steps_after 1 0 1 k k1 k2 (omega arith) lifted_steps (spends_same k1 k2 same)
-
-    above_is : drop 1 k2.log.holdings.held ≡ lifts.upper ∷ []
-    above_is = ap (λ (hs : Holdings). drop 1 hs.held) holdings ∙ ap (drop 1) lifts.held
-
-    module _ (reply : Reply) (most : ℕ) (k3 : CallerData) (few : most ≤ 37) (a : AnswersBelow t m reply most k2 k3) where
-      record OneLeft : Type 0 where
-        lock : Holding
-        is : k3.log.holdings.held ≡ lock ∷ []
-        node : lock.node ≡ 0
-        spells : SpellsNode lock.words lock.settled
-
-      one_left : OneLeft
-      one_left = go k3.log.holdings.held refl (subst (λ hs. AreLeftAs reply.moved hs k3.log.holdings.held) above_is a.above)
-        where
-          go : (hs : List Holding) → k3.log.holdings.held ≡ hs → AreLeftAs reply.moved (lifts.upper ∷ []) hs → OneLeft
-          go [] e all = absurd all
-          go (b ∷ hs) e all = record {
-            lock = b;
-            is = e ∙ ap (λ xs. b ∷ xs) (none_left reply.moved hs all.1);
-            node = all.0.node ∙ (lifts.parent_held.node ∙ parent_node);
-            spells = all.0.spells;
-          }
-
-      pub lifted_lowest : IsLowest 0 true k3.log.holdings
-      lifted_lowest = record { lock = one_left.lock; above = []; held = one_left.is; is_node = one_left.node; stored = λ e. absurd (true≢false e); settled = (one_left.spells, tt); apart = (tt, tt) }
-
-      pub lifted_surplus : 39 ≤ surplus k → 0 < surplus k3
-      lifted_surplus enough = surplus_after (receipt.Register m reply.answer ∷ []) (taken_by reply.answer) 38 k k3 1 (spends_after 1 most 38 (receipt.Register m reply.answer ∷ []) (taken_by reply.answer) k k2 k3 (omega (arith, few)) lifted_two a.call) (omega (arith, enough))
-
-      pub lifted_ends : (k4 : CallerData) → LetsGo 0 k3 k4 → EndsInsertion t m reply.answer 39 k k4
-      lifted_ends k4 goes = record {
-        right = right_after t m reply.answer k k2 k4 lifted_two.past lifted_two.receipts (right_before t m reply.answer k2 k3 k4 goes.steps.past a.right);
-        call = spends_after 1 38 39 (receipt.Register m reply.answer ∷ []) (taken_by reply.answer) k k2 k4 (omega arith) lifted_two
-            (spends_before most 1 38 (receipt.Register m reply.answer ∷ []) (taken_by reply.answer) k2 k3 k4 (omega (arith, few)) a.call goes.steps);
-        nothing = (left_above 0 true k3 k4 lifted_lowest goes ∙ ap (drop 1) one_left.is, goes.out ∙ a.out);
-      }
-
-    module _ (most : ℕ) (k3 : CallerData) (few : most ≤ 37) (g : GivesUpBelow most k2 k3) where
-      left_is : k3.log.holdings.held ≡ lifts.upper ∷ []
-      left_is = g.held ∙ above_is
-
-      pub gave_lowest : IsLowest 0 true k3.log.holdings
-      gave_lowest = record { lock = lifts.upper; above = []; held = left_is; is_node = lifts.parent_held.node ∙ parent_node; stored = λ e. absurd (true≢false e); settled = (subst (SpellsNode lifts.upper.words) (sym lifts.parent_held.settled) lifts.parent_held.spells, tt); apart = (tt, tt) }
-
-      pub gave_surplus : 39 ≤ surplus k → 0 < surplus k3
-      gave_surplus enough = surplus_steps 38 k k3 1 (steps_after 1 most 38 k k2 k3 (omega (arith, few)) lifted_two g.steps) (omega (arith, enough))
-
-      pub lifted_gives_up : (why : Busy) (k4 : CallerData) → LetsGo 0 k3 k4 → GivesUpWhole 39 why k k4
-      lifted_gives_up why k4 goes = record {
-        steps = steps_after 1 38 39 k k2 k4 (omega arith) lifted_two (steps_after most 1 38 k2 k3 k4 (omega (arith, few)) g.steps goes.steps);
-        nothing = nothing_left why k4.log.holdings (left_above 0 true k3 k4 gave_lowest goes ∙ ap (drop 1) left_is, goes.out ∙ g.out);
-      }
 
 -- two nodes were taken for the full root
 pub full_root : (t : Terms) (root : Held) (m : Member) (two : TwoNodes) (k k1 : CallerData) → k.log.terms ≡ t → HoldsRoot t root k.log.holdings → IsSpan m.span → IsFull root.content.body → root.content.level < 12 → TakesTwo two k k1 → HoldsFullRoot t (record { root = root; left = two.left; right = two.right }) m.span.first k1.log.holdings

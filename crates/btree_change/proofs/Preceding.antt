@@ -1,24 +1,18 @@
 -- Steps on nodes before an answer, which leave what is held: the answer is one from before them too.
-use Rattle.std.proofs.Common.{◌≡◌, ℕ, List, [], ◌∷◌, ◌++◌, length, drop, sym, refl, ap, ◌∙◌, subst, arith}
+use Rattle.std.proofs.Common.{◌≡◌, ℕ, List, [], ◌∷◌, ◌++◌, length, sym, ap, ◌∙◌, subst}
 use Rattle.reg_model.specs.declared.answer.Inserted.{Inserted}
 use Rattle.reg_model.specs.declared.answer.Receipt.TheVariants as receipt
 use Rattle.reg_model.specs.declared.span.Member.{Member}
 use Rattle.word_rule.specs.CallerData.{CallerData}
 use Rattle.word_rule.specs.TreeRefusals.{HadNoRoom}
-use Rattle.word_rule.specs.declared.log.Holding.{Holding}
-use Rattle.word_rule.specs.declared.log.Holdings.{Holdings}
 use Rattle.word_rule.specs.declared.log.Receipts.{Receipts}
-use Rattle.word_rule.specs.declared.log.Log.{Log}
 use Rattle.word_rule.specs.declared.log.Terms.{Terms}
-use Rattle.btree_change.specs.declared.beyond.Far.{Far}
-use Rattle.btree_change.specs.declared.stand.Reply.{Reply}
 use Rattle.btree_change.specs.declared.stand.Stand.{Stand}
-use Rattle.btree_change.specs.Far.{AnswersAbove, IsReadyFar}
-use Rattle.btree_change.specs.Insertion.{RefusesMember, taken_by}
+use Rattle.btree_change.specs.Insertion.{RefusesMember}
 use Rattle.btree_change.specs.Paths.{StepsOnNodes}
-use Rattle.btree_change.specs.Stands.{AnswersBelow, AreLeftAs, GivesUpBelow, Reaches, StandsAt, StandsOnWay}
+use Rattle.btree_change.specs.Stands.{Reaches, StandsAt, StandsOnWay}
 use Rattle.btree_change.proofs.NoRoom.{more_loads}
-use Rattle.btree_change.proofs.Spending.{right_after, spends_after, spends_same, steps_after}
+use Rattle.btree_change.proofs.Spending.{right_after}
 use Rattle.btree_change.proofs.Standing.{way_kept}
 
 -- an insertion stands where it stood
@@ -29,30 +23,9 @@ stands_still t m stand k k1 same steps s =
       here = s.here;
       reach = x.1;
       way = way_kept stand.room m.span.first stand.at.content k.log k1.log (ap (λ (r : Receipts). r.own) steps.receipts) steps.loads.0 steps.loads.1 s.way;
+      height = s.height;
+      loader = steps.loader ∙ s.loader;
     }
-
-pub answered_after : (t : Terms) (m : Member) (reply : Reply) (most : ℕ) (k k1 k2 : CallerData) → k1.log.holdings ≡ k.log.holdings → StepsOnNodes k k1 → AnswersBelow t m reply most k1 k2 → AnswersBelow t m reply most k k2
-answered_after t m reply most k k1 k2 same steps a = record {
-  right = right_after t m reply.answer k k1 k2 steps.past steps.receipts a.right;
-  call = spends_after 0 most most (receipt.Register m reply.answer ∷ []) (taken_by reply.answer) k k1 k2 (omega arith) (spends_same k k1 steps) a.call;
-  above = subst (λ (hs : Holdings). AreLeftAs reply.moved (drop 1 hs.held) k2.log.holdings.held) same a.above;
-  out = a.out;
-}
-
-pub gave_up_after : (most : ℕ) (k k1 k2 : CallerData) → k1.log.holdings ≡ k.log.holdings → StepsOnNodes k k1 → GivesUpBelow most k1 k2 → GivesUpBelow most k k2
-gave_up_after most k k1 k2 same steps g = record {
-  steps = steps_after 0 most most k k1 k2 (omega arith) (spends_same k k1 steps) g.steps;
-  held = g.held ∙ ap (λ (hs : Holdings). drop 1 hs.held) same;
-  out = g.out;
-}
-
-pub above_after : (t : Terms) (m : Member) (reply : Reply) (above : List Holding) (most : ℕ) (k k1 k2 : CallerData) → StepsOnNodes k k1 → AnswersAbove t m reply above most k1 k2 → AnswersAbove t m reply above most k k2
-above_after t m reply above most k k1 k2 steps a = record {
-  right = right_after t m reply.answer k k1 k2 steps.past steps.receipts a.right;
-  call = spends_after 0 most most (receipt.Register m reply.answer ∷ []) (taken_by reply.answer) k k1 k2 (omega arith) (spends_same k k1 steps) a.call;
-  left = a.left;
-  out = a.out;
-}
 
 pub refused_after : (t : Terms) (m : Member) (answer : Inserted) (k k1 k2 : CallerData) → k1.log.holdings ≡ k.log.holdings → StepsOnNodes k k1 → RefusesMember t m answer k1 k2 → RefusesMember t m answer k k2
 refused_after t m answer k k1 k2 same steps r = record {
@@ -77,9 +50,3 @@ pub still_no_room : (base : ℕ) (k k1 : CallerData) → StepsOnNodes k k1 → H
 still_no_room base k k1 steps h =
     subst (λ (x : Receipts). HadNoRoom base (length x.own) k1.log.trace.loads) (sym steps.receipts)
     (subst (HadNoRoom base (length k.log.receipts.own)) (sym steps.loads.1) (more_loads base (length k.log.receipts.own) k.log.trace.loads steps.loads.0 h))
-
--- the fence may still be moved
-pub still_ready : (t : Terms) (m : Member) (far : Far) (v w : Log) → w.holdings ≡ v.holdings → (r : IsReadyFar t m far v) → (x : IsReadyFar t m far w) × (x.next.base ≡ r.next.base)
-still_ready t m far v w same r =
-    let y = subst (λ hs. (x : IsReadyFar t m far (record v { holdings = hs })) × (x.next.base ≡ r.next.base)) (sym same) (r, refl) in
-    (record { next = y.0.next; leaf = y.0.leaf; beyond = y.0.beyond; level = y.0.level; here = y.0.here; high = y.0.high; free = y.0.free; lies = y.0.lies; right_high = y.0.right_high; room = y.0.room }, y.1)

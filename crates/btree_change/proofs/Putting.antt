@@ -1,5 +1,5 @@
 -- A member is put into a held leaf and committed.
-use Rattle.std.proofs.Common.{◌≡◌, ◌≢◌, ℕ, ◌-◌, ◌<◌, ◌≤◌, List, [], ◌∷◌, ◌++◌, drop, length, length-append, sym, refl, ap, ◌∙◌, subst, arith, Bool, true, true≢false, IsTrue, Some, IsSome, is_some, eq-eqb, ne_eqb, le-leb}
+use Rattle.std.proofs.Common.{◌≡◌, ℕ, ◌-◌, ◌<◌, ◌≤◌, List, [], ◌∷◌, ◌++◌, length, length-append, sym, refl, ap, ◌∙◌, subst, arith, Bool, true, IsTrue, Some, IsSome, is_some, eq-eqb, ne_eqb, le-leb}
 use Rattle.std.specs.List.{AllByRecursion}
 use mathlib.Core.List.{IsPrefix}
 use Rattle.reg_model.specs.SpanData.{IsSpan}
@@ -9,7 +9,6 @@ use Rattle.reg_model.specs.declared.answer.Receipt.TheVariants as receipt
 use Rattle.reg_model.specs.declared.answer.Update.TheVariants as update
 use Rattle.reg_model.specs.declared.span.Member.{Member}
 use Rattle.tree_shape.specs.Changes.{with_entry}
-use Rattle.tree_shape.specs.Decisions.{is_entries}
 use Rattle.tree_shape.specs.Lawful.{IsLawfulTree, IsOrderedAs}
 use Rattle.tree_shape.specs.LocalChange.{IsChangeOf, IsLawfulChange}
 use Rattle.tree_shape.specs.NodeData.{NodeData, Body, Entries, Pairs, Link, IsLeaf, entries_of, entries_in, frame_of}
@@ -28,10 +27,10 @@ use Rattle.word_rule.specs.declared.log.Terms.{Terms}
 use Rattle.word_rule.specs.declared.log.Budget.{Budget}
 use Rattle.word_rule.specs.declared.log.Receipts.{Receipts}
 use Rattle.word_rule.specs.Memory.{updated}
-use Rattle.btree_change.specs.Insertion.{HoldsLeaf, IsInnerLock, PutsMember}
+use Rattle.btree_change.specs.Insertion.{HoldsLeaf, PutsMember}
 use Rattle.btree_change.specs.Paths.{StepsOnNodes}
 use Rattle.btree_change.proofs.Lowering.{settled_live}
-use Rattle.btree_change.proofs.LeafCommits.{LeafLaws, StaysAs, lawful_commit, settled_after}
+use Rattle.btree_change.proofs.LeafCommits.{LeafLaws, lawful_commit, settled_after}
 use Rattle.btree_change.proofs.Storing.{IsWritten}
 
 -- the law of a put, as a change of the leaf alone
@@ -47,32 +46,8 @@ leaf_at_zero s = go s.body refl
     go (Pairs pairs) e ordered zero_level = absurd (let z = ordered.0 in omega (arith, z, zero_level))
     go (Link next) e ordered zero_level = absurd ordered
 
--- what is held above a leaf is of other nodes, and stays as it is
-pub leaf_far : (t : Terms) (n : ℕ) (s : NodeData) (changed : Bool) (holdings : Holdings) → (path : HoldsLeaf t (record { node = n; content = s; changed = changed }) holdings) → KnowsTree holdings → s.level ≡ 0 → AllByRecursion (λ (a : Holding). a.node ≢ n) path.above
-leaf_far t n s changed holdings path tree level = go path.above path.inner told.1
-  where
-    told : AllByRecursion (λ (h : Holding). IsSome h.mark → IsTrue (tree.live h.node) × (tree.contents h.node ≡ h.settled)) (path.lock ∷ path.above)
-    told = subst (AllByRecursion (λ (h : Holding). IsSome h.mark → IsTrue (tree.live h.node) × (tree.contents h.node ≡ h.settled))) path.held tree.marked
-
-    own : tree.contents n ≡ s
-    own = ap tree.contents (sym path.here.node) ∙ ((told.0 path.here.marked).1 ∙ path.here.settled)
-
-    is_leaf : is_entries s.body ≡ true
-    is_leaf = ap is_entries (leaf_at_zero s (settled_live t n s changed path.lock path.here).1.1.ordered level)
-
-    go : (held : List Holding) → AllByRecursion IsInnerLock held → AllByRecursion (λ (h : Holding). IsSome h.mark → IsTrue (tree.live h.node) × (tree.contents h.node ≡ h.settled)) held → AllByRecursion (λ (a : Holding). a.node ≢ n) held
-    go [] inner all = tt
-    go (a ∷ held) inner all = (
-      (λ e. true≢false (sym is_leaf ∙ (ap (λ (z : NodeData). is_entries z.body) (sym own ∙ (ap tree.contents (sym e) ∙ (all.0 inner.0.marked).1)) ∙ inner.0.inner))),
-      go held inner.1 all.1,
-    )
-
-pub above_stays : (n m : ℕ) (above : List Holding) → m ≡ n → AllByRecursion (λ (a : Holding). a.node ≢ n) above → AllByRecursion IsInnerLock above → AllByRecursion (StaysAs m) above
-above_stays n m [] same far inner = tt
-above_stays n m (a ∷ above) same far inner = (record { far = λ e. far.0 (e ∙ same); spells = inner.0.spells; inner = inner.0.inner }, above_stays n m above same far.1 inner.1)
-
 module _ (law : PutLaw) (laws : LeafLaws) (t : Terms) (n : ℕ) (s : NodeData) (changed : Bool) (m : Member) (k k1 k2 : CallerData) (path : HoldsLeaf t (record { node = n; content = s; changed = changed }) k1.log.holdings) (kept : k1.log.holdings ≡ k.log.holdings) (tree : KnowsTree k1.log.holdings) (level : s.level ≡ 0) (low : s.low ≤ m.span.first) (high : m.span.last ≤ s.high) (span : IsSpan m.span) (room : length (entries_of s) < 10)
-    (free : IsFree m.span (entries_of s)) (written : IsWritten (record s { body = Entries (with_entry m (entries_of s)) }) path.lock path.above k1 k2) where
+    (free : IsFree m.span (entries_of s)) (written : IsWritten (record s { body = Entries (with_entry m (entries_of s)) }) path.lock [] k1 k2) where
   abbrev now : NodeData
   now = record s { body = Entries (with_entry m (entries_of s)) }
 
@@ -120,11 +95,8 @@ module _ (law : PutLaw) (laws : LeafLaws) (t : Terms) (n : ℕ) (s : NodeData) (
   here : tree.contents written.lock.node ≡ written.lock.settled
   here = contents_here ∙ (sym path.here.settled ∙ sym written.settled)
 
-  stays : AllByRecursion (StaysAs written.lock.node) path.above
-  stays = above_stays n written.lock.node path.above (written.node ∙ path.here.node) (leaf_far t n s changed k1.log.holdings path tree level) path.inner
-
   abbrev exact : Log
-  exact = record k2.log { holdings = record { held = written.lock ∷ path.above; out = [] } }
+  exact = record k2.log { holdings = record { held = written.lock ∷ []; out = [] } }
 
   exact_is : exact ≡ k2.log
   exact_is = (λ i. record k2.log { holdings = record { held = sym written.held i; out = sym (written.out ∙ path.out) i } })
@@ -134,16 +106,16 @@ module _ (law : PutLaw) (laws : LeafLaws) (t : Terms) (n : ℕ) (s : NodeData) (
     due = due;
     member = (span, payload);
     lawful = subst (λ z. IsTrue (is_lawful z (Some (update.Register m)))) exact_is
-        (lawful_commit laws k2.log (update.Register m) written.lock path.above now marked written.spells stays in_leaf level tree.contents tree.live after here after_here change);
+        (lawful_commit laws k2.log (update.Register m) written.lock [] now marked written.spells tt in_leaf level tree.contents tree.live after here after_here change);
   }
 
-  settles : settle (Some (update.Register m)) k2.log ≡ record k2.log { holdings = record { held = record written.lock { settled = now; mark = Some (frame_of now) } ∷ path.above; out = [] } }
+  settles : settle (Some (update.Register m)) k2.log ≡ record k2.log { holdings = record { held = record written.lock { settled = now; mark = Some (frame_of now) } ∷ []; out = [] } }
   settles = ap (settle (Some (update.Register m))) (sym exact_is)
-      ∙ settled_after laws k2.log (update.Register m) written.lock path.above now marked written.spells stays in_leaf level tree.contents tree.live after here after_here change
+      ∙ settled_after laws k2.log (update.Register m) written.lock [] now marked written.spells tt in_leaf level tree.contents tree.live after here after_here change
 
   pub put_so : (k3 : CallerData) (found number : ℕ) → StepsOnNodes k k2 → AfterCommit (update.Register m) found k2.log k3.log → number ≡ length k3.log.past → k3 ≡ record k2 { log = k3.log } → PutsMember m n number k k3
   put_so k3 found number steps (before, r, (tells, done, is)) counted rest =
-      let log : k3.log ≡ after_update (update.Register m) before r (record k2.log { holdings = record { held = record written.lock { settled = now; mark = Some (frame_of now) } ∷ path.above; out = [] } }) = is ∙ ap (after_update (update.Register m) before r) settles in
+      let log : k3.log ≡ after_update (update.Register m) before r (record k2.log { holdings = record { held = record written.lock { settled = now; mark = Some (frame_of now) } ∷ []; out = [] } }) = is ∙ ap (after_update (update.Register m) before r) settles in
       let past : k3.log.past ≡ before ++ update.Register m ∷ [] = ap (λ z. z.past) log in
       let answer : r ≡ receipt.Register m (inserted.Done number) = done ∙ ap (λ j. receipt.Register m (inserted.Done j)) (sym (counted ∙ (ap length past ∙ length-append before (update.Register m ∷ [])))) in
       let answered : record k2.log.receipts { own = k2.log.receipts.own ++ r ∷ [] } ≡ record k2.log.receipts { own = k2.log.receipts.own ++ receipt.Register m (inserted.Done number) ∷ [] } = (λ i. record k2.log.receipts { own = k2.log.receipts.own ++ answer i ∷ [] }) in record {
@@ -161,7 +133,7 @@ module _ (law : PutLaw) (laws : LeafLaws) (t : Terms) (n : ℕ) (s : NodeData) (
         receipts = ap (λ z. z.receipts) log ∙ (answered ∙ ap (λ (rs : Receipts). record rs { own = rs.own ++ receipt.Register m (inserted.Done number) ∷ [] }) steps.receipts);
         budget = ap (λ z. z.budget) log ∙ ap (λ (b : Budget). record b { allowance = b.allowance - 1 }) steps.budget;
         lock = record written.lock { settled = now; mark = Some (frame_of now) };
-        held = ap (λ z. z.holdings.held) log ∙ ap (λ hs. record written.lock { settled = now; mark = Some (frame_of now) } ∷ hs) (ap (drop 1) (sym path.held ∙ ap (λ (hs : Holdings). hs.held) kept));
+        held = ap (λ z. z.holdings.held) log;
         node = written.node ∙ path.here.node;
         spells = written.spells;
         out = ap (λ z. z.holdings.out) log;

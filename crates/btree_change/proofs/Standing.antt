@@ -1,6 +1,6 @@
 -- Where an insertion stands after a step down: what it holds is of one tree, and the node above both
 -- leaves is known where the span ends beyond the child.
-use Rattle.std.proofs.Common.{◌≡◌, ◌≢◌, ℕ, zero, suc, ◌+◌, ◌-◌, ◌<◌, ◌≤◌, List, [], ◌∷◌, ◌++◌, length, sym, refl, ap, ◌∙◌, subst, arith, inl, inr, ◌⊎◌, Bool, true, false, ◌==◌, Option, Some, None, IsSome, Contains, cond, if◌then◌else◌}
+use Rattle.std.proofs.Common.{◌≡◌, ◌≢◌, ℕ, zero, suc, ◌+◌, ◌-◌, ◌<◌, ◌≤◌, List, [], ◌∷◌, ◌++◌, length, sym, refl, ap, ◌∙◌, subst, arith, inl, inr, Bool, true, false, ◌==◌, Option, Some, None, IsSome, Contains, cond, if◌then◌else◌}
 use Rattle.std.proofs.lemmas.Option.{same_Some}
 use Rattle.std.proofs.lemmas.Bool.{le-leb, lt-leb}
 use Rattle.std.specs.List.{AllByRecursion, slice_get}
@@ -16,6 +16,7 @@ use Rattle.word_rule.specs.declared.log.Holding.{Holding}
 use Rattle.word_rule.specs.declared.log.Holdings.{Holdings}
 use Rattle.word_rule.specs.declared.log.LoadEvent.{LoadEvent}
 use Rattle.word_rule.specs.declared.log.Log.{Log}
+use Rattle.word_rule.specs.declared.log.Receipts.{Receipts}
 use Rattle.word_rule.specs.declared.log.Terms.{Terms}
 use Rattle.word_rule.specs.Held.{held_of}
 use Rattle.word_rule.specs.NodeTells.{KnowsTree}
@@ -25,13 +26,19 @@ use Rattle.btree_change.specs.declared.descent.Held.{Held}
 use Rattle.btree_change.specs.declared.stand.Beyond.{Beyond}
 use Rattle.btree_change.specs.declared.stand.Room.{Room}
 use Rattle.btree_change.specs.declared.stand.Room.TheVariants as room
-use Rattle.btree_change.specs.Paths.{AreHigher, IsLiveLock, IsSettledLock}
-use Rattle.btree_change.specs.Stands.{HasWayOn, HoldsPair, LiesBeyond, IsReach, Reaches, StandsOnWay, StandsAt}
+use Rattle.btree_change.specs.declared.stand.Reach.TheVariants as reach
+use Rattle.btree_change.specs.declared.stand.Stand.{Stand}
+use Rattle.btree_change.specs.Kept.{AreKept, HoldsPath, IsKeptLock}
+use Rattle.btree_change.specs.Paths.{AreHigher, IsLiveLock, IsSettledLock, StepsOnNodes}
+use Rattle.btree_change.specs.Releases.{HaveSettled, Spends}
+use Rattle.btree_change.specs.Spines.{AreApart}
+use Rattle.btree_change.specs.Stands.{HasWayOn, HoldsPair, IsPairFor, IsReach, Reaches, StandsOnWay, StandsAt, kept_above, kept_node, kept_too}
 use Rattle.btree_change.proofs.HeldTrees.{OnTree, apart_with, child, child_frame, inner, on_tree}
 use Rattle.btree_change.proofs.NextLeaves.{higher_marked, higher_spelled}
 use Rattle.btree_change.proofs.NoRoom.{more_loads}
 use Rattle.btree_change.proofs.Outlining.{spells_held}
 use Rattle.btree_change.proofs.Releasing.{IsLowest}
+use Rattle.btree_change.proofs.Spending.{own_same}
 use Rattle.btree_change.proofs.Storing.{found_at}
 use Rattle.node_store.specs.Holding.{SpellsHeld}
 
@@ -84,6 +91,23 @@ next_pair (suc slot) (q ∷ pairs) inside = next_pair slot pairs (omega (arith, 
 pub live_lock : (t : Terms) (n : ℕ) (s : NodeData) (changed : Bool) (h : Holding) → IsSettledLock t n s changed h → IsLiveLock t h
 live_lock t n s changed h l =
     subst (λ k. IsSettledLock t k h.settled h.stored h) (sym l.node) (subst (λ z. IsSettledLock t n z h.stored h) (sym l.settled) (subst (λ b. IsSettledLock t n s b h) (sym l.stored) l))
+
+-- a node at which an insertion stands is the lowest that is held
+abbrev pub lowest_of : (t : Terms) (at : Held) (holdings : Holdings) → StandsAt t at holdings → IsLowest at.node at.changed holdings
+lowest_of t at holdings s = record {
+  lock = s.lock;
+  above = s.above;
+  held = s.held;
+  is_node = s.here.node;
+  stored = λ e. s.here.stored ∙ e;
+  settled = (subst (SpellsNode s.lock.words) (sym s.here.settled) s.here.spells, higher_spelled t at.content.level s.above s.higher);
+  apart = s.apart;
+}
+
+-- what is kept above is held there
+pub reach_kept : (t : Terms) (last : ℕ) (s : NodeData) (o : Option Beyond) (lower : Holding) (above : List Holding) → Reaches t last s o lower above → AreKept t (kept_above o) above
+reach_kept t last s None lower above r = subst (AreKept t []) (sym r.1) tt
+reach_kept t last s (Some b) lower above r = r.1.kept
 
 module _ (t : Terms) (pc last : ℕ) (parent below : Held) (above : List Holding) (holdings : Holdings) (pair : HoldsPair t pc parent below above holdings) (tree : KnowsTree holdings) where
   upper_live : IsLiveLock t pair.upper
@@ -158,91 +182,166 @@ module _ (t : Terms) (pc last : ℕ) (parent below : Held) (above : List Holding
       let same : slot.pair ≡ p = same_Some _ _ (sym slot.at ∙ at_upper) in
       ap (λ (z : Pair). z.separator) (sym same) ∙ (sym child_high ∙ ap (λ (s : NodeData). s.high) pair.child_is.settled)
 
-  pub reaches_below : (so_far found : Option Beyond) → IsReach parent pc last so_far found → Reaches t last parent.content so_far pair.upper above → Reaches t last below.content found pair.lower (pair.upper ∷ above)
-  reaches_below so_far found (p, (at, which)) before =
+  -- what of the parent's slot an insertion saw
+  seen_pair : (p : Pair) → IsPairFor parent.content pc p → (slice_get (pairs_of pair.upper.settled) (slot_for pc (pairs_of pair.upper.settled)) ≡ Some p) × (slot.pair ≡ p)
+  seen_pair p at =
       let at_upper : slice_get (pairs_of pair.upper.settled) (slot_for pc (pairs_of pair.upper.settled)) ≡ Some p = ap (λ (s : NodeData). slice_get (pairs_of s) (slot_for pc (pairs_of s))) pair.parent_is.settled ∙ at in
-      let same : slot.pair ≡ p = same_Some _ _ (sym slot.at ∙ at_upper) in
-      let high : below.content.high ≡ p.separator = ap (λ (s : NodeData). s.high) (sym pair.child_is.settled) ∙ (child_high ∙ ap (λ (z : Pair). z.separator) same) in
-      go p at_upper same high which
+      (at_upper, same_Some _ _ (sym slot.at ∙ at_upper))
+
+  -- the child doesn't end beyond its parent
+  child_inside : below.content.high ≤ parent.content.high
+  child_inside =
+      let inside = branch_inside (pair.upper.settled.level - 1) pair.upper.settled.low pair.upper.settled.high (pairs_of pair.upper.settled) b cut in_upper in
+      let most = inside.2 in let h = frame.2 in let c = ap (λ (s : NodeData). s.high) pair.child_is.settled in let u = ap (λ (s : NodeData). s.high) pair.parent_is.settled in omega (arith, most, h, c, u)
+
+  -- a span that ends in the child: nothing is kept above the parent
+  pub ends_inside : IsReach parent.content pc last reach.Child → last ≤ below.content.high
+  ends_inside (p, (at, less)) = let e = child_ends p at in omega (arith, e, less)
+
+  pub none_above : (so_far : Option Beyond) → IsReach parent.content pc last reach.Child → Reaches t last parent.content so_far pair.upper above → (so_far ≡ None) × (above ≡ [])
+  none_above None is before = (refl, before.1)
+  none_above (Some x) is before = absurd (let over = before.0 in let e = ends_inside is in let i = child_inside in omega (arith, over, e, i))
+
+  upper_kept : IsKeptLock t (kept_node parent) pair.upper
+  upper_kept = record { node = pair.parent_is.node; within = pair.parent_within; stored = pair.parent_is.stored }
+
+  -- in another child of the parent, which is the node above both leaves
+  pub reaches_parent : (at : ℕ) → IsReach parent.content pc last (reach.Parent at) → Reaches t last below.content (Some (record { node = parent.node; slot = at; kept = kept_node parent ∷ [] })) pair.lower (pair.upper ∷ [])
+  reaches_parent at (p, (is, past, same, inside)) =
+      let e = child_ends p is in
+      let seen = seen_pair p is in
+      let next = next_pair (slot_for pc (pairs_of pair.upper.settled) + 1) (pairs_of pair.upper.settled) (subst (λ (s : NodeData). slot_for pc (pairs_of s) + 1 < length (pairs_of s)) (sym pair.parent_is.settled) (subst (λ k. k + 1 < length (pairs_of parent.content)) same inside)) in
+      let same_slot : slot_for pc (pairs_of pair.upper.settled) ≡ at = ap (λ (s : NodeData). slot_for pc (pairs_of s)) pair.parent_is.settled ∙ sym same in (
+        omega (arith, past, e),
+        record {
+          spine = [];
+          top = pair.upper;
+          split = refl;
+          node = pair.parent_is.node;
+          within = pair.parent_within;
+          climb = record {
+            pair = p;
+            next = next.0;
+            at = ap (λ k. slice_get (pairs_of pair.upper.settled) k) (sym same_slot) ∙ seen.0;
+            after = ap (λ k. slice_get (pairs_of pair.upper.settled) (k + 1)) (sym same_slot) ∙ next.1;
+            child = ap (λ (z : Pair). z.child) (sym seen.1) ∙ (slot.child ∙ (pair.leads.1.1 ∙ sym pair.child_is.node));
+            level = one_less;
+          };
+          kept = (upper_kept, tt);
+        },
+      )
+
+  -- beyond the parent, which lies on the left spine too
+  pub reaches_above : (so_far : Option Beyond) → IsReach parent.content pc last reach.Above → Reaches t last parent.content so_far pair.upper above → Reaches t last below.content (kept_too parent so_far) pair.lower (pair.upper ∷ above)
+  reaches_above so_far (p, (is, past, ends)) before = by so_far before
     where
-      go : (p : Pair) → slice_get (pairs_of pair.upper.settled) (slot_for pc (pairs_of pair.upper.settled)) ≡ Some p → slot.pair ≡ p → below.content.high ≡ p.separator
-          → ((last ≤ p.separator) × (found ≡ None)) ⊎ (((p.separator < last) × (slot_for pc (pairs_of parent.content) + 1 < length (pairs_of parent.content)) × (found ≡ Some (record { node = parent.node; slot = slot_for pc (pairs_of parent.content); level = parent.content.level }))) ⊎ ((p.separator < last) × (length (pairs_of parent.content) ≡ slot_for pc (pairs_of parent.content) + 1) × (found ≡ so_far)))
-          → Reaches t last below.content found pair.lower (pair.upper ∷ above)
-      go p at_upper same high (inl inside) = subst (λ o. Reaches t last below.content o pair.lower (pair.upper ∷ above)) (sym inside.1) (let a = inside.0 in omega (arith, a, high))
-      go p at_upper same high (inr (inl past)) =
-          let next = next_pair (slot_for pc (pairs_of pair.upper.settled) + 1) (pairs_of pair.upper.settled) (subst (λ (s : NodeData). slot_for pc (pairs_of s) + 1 < length (pairs_of s)) (sym pair.parent_is.settled) past.1) in
-          let same_slot : slot_for pc (pairs_of pair.upper.settled) ≡ slot_for pc (pairs_of parent.content) = ap (λ (s : NodeData). slot_for pc (pairs_of s)) pair.parent_is.settled in
-          subst (λ o. Reaches t last below.content o pair.lower (pair.upper ∷ above)) (sym past.2) (
-            (let a = past.0 in omega (arith, a, high)),
-            record {
-              spine = [];
-              top = pair.upper;
-              rest = above;
-              split = refl;
-              node = pair.parent_is.node;
-              within = pair.parent_within;
-              level = level_is;
-              climb = record {
-                pair = p;
-                next = next.0;
-                at = ap (λ k. slice_get (pairs_of pair.upper.settled) k) (sym same_slot) ∙ at_upper;
-                after = ap (λ k. slice_get (pairs_of pair.upper.settled) (k + 1)) (sym same_slot) ∙ next.1;
-                child = ap (λ (z : Pair). z.child) (sym same) ∙ (slot.child ∙ (pair.leads.1.1 ∙ sym pair.child_is.node));
-                level = one_less;
-              };
-            },
-          )
-      go p at_upper same high (inr (inr ends)) = by so_far refl
-        where
-          last_is : (last_child 0 (pairs_of pair.upper.settled) ≡ p.child) × (p.separator ≡ pair.upper.settled.high)
-          last_is = last_pair pair.upper.settled.low pair.upper.settled.high (slot_for pc (pairs_of pair.upper.settled)) 0 (pairs_of pair.upper.settled) p cut at_upper (subst (λ (s : NodeData). length (pairs_of s) ≡ slot_for pc (pairs_of s) + 1) (sym pair.parent_is.settled) ends.1)
+      last_is : (last_child 0 (pairs_of pair.upper.settled) ≡ p.child) × (p.separator ≡ pair.upper.settled.high)
+      last_is = last_pair pair.upper.settled.low pair.upper.settled.high (slot_for pc (pairs_of pair.upper.settled)) 0 (pairs_of pair.upper.settled) p cut (seen_pair p is).0 (subst (λ (s : NodeData). length (pairs_of s) ≡ slot_for pc (pairs_of s) + 1) (sym pair.parent_is.settled) ends)
 
-          by : (o : Option Beyond) → so_far ≡ o → Reaches t last below.content found pair.lower (pair.upper ∷ above)
-          by None e =
-              let most : last ≤ parent.content.high = subst (λ o. Reaches t last parent.content o pair.upper above) e before in
-              let a = ends.0 in let c = last_is.1 in let d = ap (λ (s : NodeData). s.high) pair.parent_is.settled in absurd (omega (arith, most, a, c, d))
-          by (Some x) e =
-              let told : (parent.content.high < last) × LiesBeyond t x pair.upper above = subst (λ o. Reaches t last parent.content o pair.upper above) e before in
-              subst (λ o. Reaches t last below.content o pair.lower (pair.upper ∷ above)) (sym (ends.2 ∙ e)) (
-                (let a = ends.0 in omega (arith, a, high)),
-                record {
-                  spine = pair.upper ∷ told.1.spine;
-                  top = told.1.top;
-                  rest = told.1.rest;
-                  split = ap (λ hs. pair.upper ∷ hs) told.1.split;
-                  node = told.1.node;
-                  within = told.1.within;
-                  level = told.1.level;
-                  climb = (
-                    (pair.child_is.node ∙ (sym pair.leads.1.1 ∙ (sym slot.child ∙ (ap (λ (z : Pair). z.child) same ∙ sym last_is.0))), one_less),
-                    told.1.climb,
-                  );
-                },
-              )
+      by : (o : Option Beyond) → Reaches t last parent.content o pair.upper above → Reaches t last below.content (kept_too parent o) pair.lower (pair.upper ∷ above)
+      by None told =
+          let most = told.0 in let c = last_is.1 in let d = ap (λ (s : NodeData). s.high) pair.parent_is.settled in absurd (omega (arith, most, past, c, d))
+      by (Some x) told = (
+        (let e = child_ends p is in omega (arith, past, e)),
+        record {
+          spine = pair.upper ∷ told.1.spine;
+          top = told.1.top;
+          split = ap (λ hs. pair.upper ∷ hs) told.1.split;
+          node = told.1.node;
+          within = told.1.within;
+          climb = (
+            (pair.child_is.node ∙ (sym pair.leads.1.1 ∙ (sym slot.child ∙ (ap (λ (z : Pair). z.child) (seen_pair p is).1 ∙ sym last_is.0))), one_less),
+            told.1.climb,
+          );
+          kept = (upper_kept, told.1.kept);
+        },
+      )
 
--- a node at which an insertion stands is the lowest that is held
-abbrev pub lowest_of : (t : Terms) (at : Held) (holdings : Holdings) → StandsAt t at holdings → IsLowest at.node at.changed holdings
-lowest_of t at holdings s = record {
-  lock = s.lock;
-  above = s.above;
-  held = s.held;
-  is_node = s.here.node;
-  stored = λ e. s.here.stored ∙ e;
-  settled = (subst (SpellsNode s.lock.words) (sym s.here.settled) s.here.spells, higher_spelled t at.content.level s.above s.higher);
-  apart = s.apart;
-}
+  -- the parent may be let go of, and what is kept above it
+  pub parent_path : (so_far : Option Beyond) → Reaches t last parent.content so_far pair.upper above → HoldsPath t (kept_node parent ∷ kept_above so_far) (pair.lower ∷ []) holdings
+  parent_path so_far before = record {
+    locks = pair.upper ∷ above;
+    held = pair.held;
+    kept = (upper_kept, reach_kept t last parent.content so_far pair.upper above before);
+    settled = subst HaveSettled (sym pair.held) (lowest_of t below holdings stands_below).settled;
+    apart = subst AreApart (sym pair.held) stands_below.apart;
+  }
+
+  pub above_path : (so_far : Option Beyond) → Reaches t last parent.content so_far pair.upper above → HoldsPath t (kept_above so_far) (pair.lower ∷ pair.upper ∷ []) holdings
+  above_path so_far before = record {
+    locks = above;
+    held = pair.held;
+    kept = reach_kept t last parent.content so_far pair.upper above before;
+    settled = subst HaveSettled (sym pair.held) (lowest_of t below holdings stands_below).settled;
+    apart = subst AreApart (sym pair.held) stands_below.apart;
+  }
+
+  -- where the child stands with the parent alone above it, or with nothing
+  abbrev pub child_alone : (now : Holdings) → now.held ≡ pair.lower ∷ [] → now.out ≡ [] → StandsAt t below now
+  child_alone now held out = record { within = pair.child_within; lock = pair.lower; above = []; held = held; here = pair.child_is; higher = tt; apart = (tt, tt); out = out }
+
+  abbrev pub child_under : (now : Holdings) → now.held ≡ pair.lower ∷ pair.upper ∷ [] → now.out ≡ [] → StandsAt t below now
+  child_under now held out = record { within = pair.child_within; lock = pair.lower; above = pair.upper ∷ []; held = held; here = pair.child_is; higher = (higher.0, higher.1, tt); apart = ((stands_below.apart.0.0, tt), (tt, tt)); out = out }
 
 -- a load keeps what is known of the way on
 pub way_kept : (room : Room) (pc : ℕ) (s : NodeData) (v w : Log) → w.receipts.own ≡ v.receipts.own → (more : List LoadEvent) → w.trace.loads ≡ v.trace.loads ++ more → HasWayOn room pc s v → HasWayOn room pc s w
 way_kept room.Splitting pc s v w own more is h = h
 way_kept room.NoneFree pc s v w own more is h = subst (λ xs. HadNoRoom pc (length xs) w.trace.loads) (sym own) (subst (HadNoRoom pc (length v.receipts.own)) (sym is) (more_loads pc (length v.receipts.own) v.trace.loads more h))
 
--- and where an insertion stands after a step
-pub stands_after : (t : Terms) (m : Member) (parent below : Held) (way : Room) (so_far found : Option Beyond) (above : List Holding) (k : CallerData) → (pair : HoldsPair t m.span.first parent below above k.log.holdings) → KnowsTree k.log.holdings → HasWayOn way m.span.first below.content k.log → IsReach parent m.span.first m.span.last so_far found → Reaches t m.span.last parent.content so_far pair.upper above
-    → StandsOnWay t m (record { at = below; beyond = found; room = way }) k.log
-stands_after t m parent below way so_far found above k pair tree on is_reach before = record {
-  at = stands_below t m.span.first m.span.last parent below above k.log.holdings pair tree;
-  here = pair.here;
-  reach = reaches_below t m.span.first m.span.last parent below above k.log.holdings pair tree so_far found is_reach before;
-  way = on;
+-- where an insertion stands, all that is held may be let go of
+pub stand_path : (t : Terms) (m : Member) (stand : Stand) (v : Log) → StandsOnWay t m stand v → HoldsPath t (kept_node stand.at ∷ kept_above stand.beyond) [] v.holdings
+stand_path t m stand v s = record {
+  locks = s.at.lock ∷ s.at.above;
+  held = s.at.held;
+  kept = (record { node = s.at.here.node; within = s.at.within; stored = s.at.here.stored }, reach_kept t m.span.last stand.at.content stand.beyond s.at.lock s.at.above s.reach);
+  settled = subst HaveSettled (sym s.at.held) (lowest_of t stand.at v.holdings s.at).settled;
+  apart = subst AreApart (sym s.at.held) s.at.apart;
 }
+
+-- and where it stands after a step, by what was let go of
+module _ (t : Terms) (m : Member) (parent below : Held) (way : Room) (above : List Holding) (k : CallerData) (pair : HoldsPair t m.span.first parent below above k.log.holdings) (tree : KnowsTree k.log.holdings) (on : HasWayOn way m.span.first below.content k.log) (so_far : Option Beyond) (before : Reaches t m.span.last parent.content so_far pair.upper above) (low : parent.content.level + length (kept_above so_far) ≤ 12) (loader : k.log.loader ≡ None) where
+  less : below.content.level < parent.content.level
+  less = below_less t m.span.first m.span.last parent below above k.log.holdings pair tree
+
+  still_on : (n : ℕ) (l : CallerData) → Spends n k l → HasWayOn way m.span.first below.content l.log
+  still_on n l spent = way_kept way m.span.first below.content k.log l.log (own_same n k l spent) spent.loads.0 spent.loads.1 on
+
+  pub stands_child : IsReach parent.content m.span.first m.span.last reach.Child → (n : ℕ) (l : CallerData) → Spends n k l → l.log.holdings.held ≡ pair.lower ∷ [] → l.log.holdings.out ≡ [] → StandsOnWay t m (record { at = below; beyond = None; room = way }) l.log
+  stands_child is n l spent held out = record {
+    at = child_alone t m.span.first m.span.last parent below above k.log.holdings pair tree l.log.holdings held out;
+    here = pair.here;
+    reach = (ends_inside t m.span.first m.span.last parent below above k.log.holdings pair tree is, refl);
+    way = still_on n l spent;
+    height = omega (arith, less, low);
+    loader = spent.loader ∙ loader;
+  }
+
+  pub stands_parent : (at : ℕ) → IsReach parent.content m.span.first m.span.last (reach.Parent at) → (n : ℕ) (l : CallerData) → Spends n k l → l.log.holdings.held ≡ pair.lower ∷ pair.upper ∷ [] → l.log.holdings.out ≡ [] → StandsOnWay t m (record { at = below; beyond = Some (record { node = parent.node; slot = at; kept = kept_node parent ∷ [] }); room = way }) l.log
+  stands_parent at is n l spent held out = record {
+    at = child_under t m.span.first m.span.last parent below above k.log.holdings pair tree l.log.holdings held out;
+    here = pair.here;
+    reach = reaches_parent t m.span.first m.span.last parent below above k.log.holdings pair tree at is;
+    way = still_on n l spent;
+    height = omega (arith, less, low);
+    loader = spent.loader ∙ loader;
+  }
+
+  pub kept_length : length (kept_above (kept_too parent so_far)) ≤ length (kept_above so_far) + 1
+  kept_length = go so_far
+    where
+      go : (o : Option Beyond) → length (kept_above (kept_too parent o)) ≤ length (kept_above o) + 1
+      go None = omega arith
+      go (Some b) = omega arith
+
+  pub stands_above : IsReach parent.content m.span.first m.span.last reach.Above → (l : CallerData) → StepsOnNodes k l → l.log.holdings ≡ k.log.holdings → StandsOnWay t m (record { at = below; beyond = kept_too parent so_far; room = way }) l.log
+  stands_above is l steps same =
+      let stands : StandsAt t below k.log.holdings = stands_below t m.span.first m.span.last parent below above k.log.holdings pair tree in
+      let reach = reaches_above t m.span.first m.span.last parent below above k.log.holdings pair tree so_far is before in
+      let x = subst (λ hs. (a : StandsAt t below hs) × Reaches t m.span.last below.content (kept_too parent so_far) a.lock a.above) (sym same) (stands, reach) in record {
+        at = x.0;
+        here = pair.here;
+        reach = x.1;
+        way = way_kept way m.span.first below.content k.log l.log (ap (λ (r : Receipts). r.own) steps.receipts) steps.loads.0 steps.loads.1 on;
+        height = (let more = kept_length in omega (arith, less, low, more));
+        loader = steps.loader ∙ loader;
+      }

@@ -33,3 +33,6 @@ pub returns-clause-busy : goal.returns-clause-busy
 returns-clause-busy g c =
     let t = c.args.words.now.terms in let m = c.args.member in let k = c.args.me.now in let k1 = c.at_root.new.me in let same = c.in_ok-root.ensures.same in
     if_err_both (λ e. GivesUpWhole 64 e k1 c.at_held_root.new.me × (g.L.Locking.gives_up ≡ true)) (λ e. FoundBusy e k1 c.at_held_root.new.me) (λ e. GivesUp e k c.at_held_root.new.me × (g.L.Locking.gives_up ≡ true)) c.at_held_root.result (λ e b cause. (update_given_up e k k1 c.at_held_root.new.me same cause b.0, b.1)) c.at_held_root.ensures.busy c.at_held_root.ensures.cause
+
+pub at_held_root-requires-clause-loader : goal.at_held_root-requires-clause-loader
+at_held_root-requires-clause-loader g c = c.in_ok-root.ensures.same.loader ∙ c.requires.idle.loader

@@ -1,4 +1,4 @@
-use Rattle.std.proofs.Common.{◌-◌, ◌<◌, sym, ap, subst, arith}
+use Rattle.std.proofs.Common.{[], ◌-◌, ◌<◌, sym, ap, subst, arith}
 use Rattle.tree_shape.specs.Changes.{with_entry}
 use Rattle.tree_shape.specs.NodeData.{NodeData, Entries, entries_of}
 use Rattle.word_rule.specs.CallerData.{CallerData, due}
@@ -7,7 +7,7 @@ use Rattle.node_store.specs.Holding.{SpellsHeld, StoresHeld}
 use Rattle.btree_change.specs.Insertion.{HoldsLeaf}
 use Rattle.btree_change.proofs.Descending.{steps_then}
 use Rattle.btree_change.proofs.Descents.{steps_of_load}
-use Rattle.btree_change.proofs.Putting.{leaf_far, may_put, put_so}
+use Rattle.btree_change.proofs.Putting.{may_put, put_so}
 use Rattle.btree_change.proofs.Storing.{written_so}
 use Rattle.btree_change.proofs.leaf.put_in_leaf.Goals as goal
 
@@ -19,7 +19,7 @@ commit-requires-clause-due c =
     let path : HoldsLeaf t (record { node = n; content = s; changed = b }) k1.log.holdings = subst (HoldsLeaf t (record { node = n; content = s; changed = b })) (sym kept) c.requires.leaf.1 in
     let tree : KnowsTree k1.log.holdings = subst KnowsTree (sym (ap (λ (z : CallerData). z.log.holdings) c.load_node.ensures.log)) c.load_node.ensures.tree in
     let now : NodeData = record s { body = Entries (with_entry m (entries_of s)) } in
-    let written = written_so now n path.lock path.above k1 k2 (λ e. omega (arith, e)) path.here.node (leaf_far t n s b k1.log.holdings path tree c.requires.level) path.held (subst (λ z. StoresHeld n z k1 k2) c.put_entry.ensures c.write_held.ensures.stores) (subst (λ z. SpellsHeld n z k2.log) c.put_entry.ensures c.write_held.ensures.spells) in
+    let written = written_so now n path.lock [] k1 k2 (λ e. omega (arith, e)) path.here.node tt path.held (subst (λ z. StoresHeld n z k1 k2) c.put_entry.ensures c.write_held.ensures.stores) (subst (λ z. SpellsHeld n z k2.log) c.put_entry.ensures c.write_held.ensures.spells) in
     let steps = steps_then k k1 k2 (steps_of_load n 5 c.load_node.result k k1 c.load_node.ensures.log) written.same in
     let some : 0 < due k2 = subst (λ d. 0 < d) (sym (λ i. (steps.budget i).allowance - steps.left i)) c.requires.due in
     some
@@ -32,7 +32,7 @@ commit-requires-clause-may c =
     let path : HoldsLeaf t (record { node = n; content = s; changed = b }) k1.log.holdings = subst (HoldsLeaf t (record { node = n; content = s; changed = b })) (sym kept) c.requires.leaf.1 in
     let tree : KnowsTree k1.log.holdings = subst KnowsTree (sym (ap (λ (z : CallerData). z.log.holdings) c.load_node.ensures.log)) c.load_node.ensures.tree in
     let now : NodeData = record s { body = Entries (with_entry m (entries_of s)) } in
-    let written = written_so now n path.lock path.above k1 k2 (λ e. omega (arith, e)) path.here.node (leaf_far t n s b k1.log.holdings path tree c.requires.level) path.held (subst (λ z. StoresHeld n z k1 k2) c.put_entry.ensures c.write_held.ensures.stores) (subst (λ z. SpellsHeld n z k2.log) c.put_entry.ensures c.write_held.ensures.spells) in
+    let written = written_so now n path.lock [] k1 k2 (λ e. omega (arith, e)) path.here.node tt path.held (subst (λ z. StoresHeld n z k1 k2) c.put_entry.ensures c.write_held.ensures.stores) (subst (λ z. SpellsHeld n z k2.log) c.put_entry.ensures c.write_held.ensures.spells) in
     let steps = steps_then k k1 k2 (steps_of_load n 5 c.load_node.result k k1 c.load_node.ensures.log) written.same in
     let some : 0 < due k2 = subst (λ d. 0 < d) (sym (λ i. (steps.budget i).allowance - steps.left i)) c.requires.due in
     may_put c.put.ensures.change (record { decided = c.exchange_decided.ensures; transfer = c.transfer.ensures.lawful; tests = c.transfer.ensures.tests }) t n s b m k k1 k2 path kept tree c.requires.level c.requires.low c.requires.high c.requires.span c.requires.room c.requires.free written (omega (arith, some)) c.requires.payload
@@ -45,7 +45,7 @@ returns c =
     let path : HoldsLeaf t (record { node = n; content = s; changed = b }) k1.log.holdings = subst (HoldsLeaf t (record { node = n; content = s; changed = b })) (sym kept) c.requires.leaf.1 in
     let tree : KnowsTree k1.log.holdings = subst KnowsTree (sym (ap (λ (z : CallerData). z.log.holdings) c.load_node.ensures.log)) c.load_node.ensures.tree in
     let now : NodeData = record s { body = Entries (with_entry m (entries_of s)) } in
-    let written = written_so now n path.lock path.above k1 k2 (λ e. omega (arith, e)) path.here.node (leaf_far t n s b k1.log.holdings path tree c.requires.level) path.held (subst (λ z. StoresHeld n z k1 k2) c.put_entry.ensures c.write_held.ensures.stores) (subst (λ z. SpellsHeld n z k2.log) c.put_entry.ensures c.write_held.ensures.spells) in
+    let written = written_so now n path.lock [] k1 k2 (λ e. omega (arith, e)) path.here.node tt path.held (subst (λ z. StoresHeld n z k1 k2) c.put_entry.ensures c.write_held.ensures.stores) (subst (λ z. SpellsHeld n z k2.log) c.put_entry.ensures c.write_held.ensures.spells) in
     let steps = steps_then k k1 k2 (steps_of_load n 5 c.load_node.result k k1 c.load_node.ensures.log) written.same in
     let some : 0 < due k2 = subst (λ d. 0 < d) (sym (λ i. (steps.budget i).allowance - steps.left i)) c.requires.due in
     let log = c.commit.ensures.log in

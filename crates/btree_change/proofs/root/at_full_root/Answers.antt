@@ -1,4 +1,4 @@
-use Rattle.std.proofs.Common.{arith, subst, sym, ap, drop, ◌∙◌, length, Ok}
+use Rattle.std.proofs.Common.{◌+◌, ◌*◌, arith, subst, sym, ap, ◌∙◌, length, Ok}
 use Rattle.std.proofs.Common.{◌≡◌, true}
 use Rattle.word_rule.specs.TreeRefusals.{HadNoRoom}
 use Rattle.btree_change.specs.declared.stand.Room.TheVariants as room
@@ -7,7 +7,7 @@ use Rattle.btree_change.specs.Loads.{FoundNoRoom, KeepsLoads}
 use Rattle.node_store.specs.Locking.{FoundBusy}
 use Rattle.btree_change.specs.Roots.{EndsInsertion, GivesUpWhole}
 use Rattle.btree_change.specs.Splits.{HoldsFullAlone, IsRoomForRoot}
-use Rattle.btree_change.proofs.AtRoot.{ends_after, full_alone, full_root, gives_up_after, if_err, if_ok, kept_steps, root_gone, root_kept, root_lowest, root_stand, root_stands}
+use Rattle.btree_change.proofs.AtRoot.{ends_after, full_alone, full_root, gives_up_after, if_err, if_ok, kept_steps, level_most, root_gone, root_kept, root_lowest, root_stand, root_stands}
 use Rattle.btree_change.proofs.Loading.{found_after, found_still}
 use Rattle.btree_change.proofs.NoRoom.{if_full, no_room_after, no_room_now, no_room_still}
 use Rattle.btree_change.proofs.Releasing.{lowest_may}
@@ -40,6 +40,13 @@ lifted-requires-clause-terms g c =
     let took = subst (λ o. IsRoomForRoot g.L.Locking.gives_up root c.first.result k k1 (Ok o)) c.in-Ok-Some.field-0-is c.in-Ok-Some.ensures in
     took.1.same.terms ∙ c.requires.terms
 
+pub lifted-requires-clause-loader : goal.lifted-requires-clause-loader
+lifted-requires-clause-loader g c =
+    let t = c.args.words.now.terms in let m = c.args.member.now in let k = c.args.me.now in
+    let root = c.args.root in let h = c.requires.root in let k1 = c.room_for_root.new.me in
+    let took = subst (λ o. IsRoomForRoot g.L.Locking.gives_up root c.first.result k k1 (Ok o)) c.in-Ok-Some.field-0-is c.in-Ok-Some.ensures in
+    took.1.same.loader ∙ c.requires.loader
+
 pub lifted-requires-clause-high : goal.lifted-requires-clause-high
 lifted-requires-clause-high g c =
     let t = c.args.words.now.terms in let m = c.args.member.now in let k = c.args.me.now in
@@ -61,52 +68,40 @@ lifted-requires-clause-surplus g c =
     let took = subst (λ o. IsRoomForRoot g.L.Locking.gives_up root c.first.result k k1 (Ok o)) c.in-Ok-Some.field-0-is c.in-Ok-Some.ensures in
     let e = c.requires.surplus in surplus_steps 0 k k1 39 (spends_same k k1 took.1.same) (omega (arith, e))
 
-pub alone-requires-clause-table : goal.alone-requires-clause-table
-alone-requires-clause-table g c =
+pub below-requires-clause-table : goal.below-requires-clause-table
+below-requires-clause-table g c =
     let t = c.args.words.now.terms in let m = c.args.member.now in let k = c.args.me.now in
     let root = c.args.root in let h = c.requires.root in let k1 = c.room_for_root.new.me in
     let none = subst (λ o. IsRoomForRoot g.L.Locking.gives_up root c.first.result k k1 (Ok o)) c.in-Ok-None.field-0-is c.in-Ok-None.ensures in let spent = kept_steps k k1 none.0 in
     spent.table ∙ c.requires.table
 
-pub alone-requires-clause-terms : goal.alone-requires-clause-terms
-alone-requires-clause-terms g c =
+pub below-requires-clause-terms : goal.below-requires-clause-terms
+below-requires-clause-terms g c =
     let t = c.args.words.now.terms in let m = c.args.member.now in let k = c.args.me.now in
     let root = c.args.root in let h = c.requires.root in let k1 = c.room_for_root.new.me in
     let none = subst (λ o. IsRoomForRoot g.L.Locking.gives_up root c.first.result k k1 (Ok o)) c.in-Ok-None.field-0-is c.in-Ok-None.ensures in let spent = kept_steps k k1 none.0 in
     spent.terms ∙ c.requires.terms
 
-pub alone-requires-clause-stands : goal.alone-requires-clause-stands
-alone-requires-clause-stands g c =
+pub below-requires-clause-stands : goal.below-requires-clause-stands
+below-requires-clause-stands g c =
     let t = c.args.words.now.terms in let m = c.args.member.now in let k = c.args.me.now in
     let root = c.args.root in let h = c.requires.root in let k1 = c.room_for_root.new.me in
     let none = subst (λ o. IsRoomForRoot g.L.Locking.gives_up root c.first.result k k1 (Ok o)) c.in-Ok-None.field-0-is c.in-Ok-None.ensures in let spent = kept_steps k k1 none.0 in
-    root_stand t root room.NoneFree m k1.log (root_kept t root k.log.holdings k1.log.holdings none.0.held none.2 h) c.requires.span (subst (λ xs. HadNoRoom m.span.first (length xs) k1.log.trace.loads) (sym (own_same 1 k k1 spent)) (no_room_now m.span.first k k1 (subst (λ p. FoundNoRoom p k k1) c.first.ensures.value none.1)))
+    root_stand t root room.NoneFree m k1.log (root_kept t root k.log.holdings k1.log.holdings none.0.held none.2 h) c.requires.span (spent.loader ∙ c.requires.loader) (subst (λ xs. HadNoRoom m.span.first (length xs) k1.log.trace.loads) (sym (own_same 1 k k1 spent)) (no_room_now m.span.first k k1 (subst (λ p. FoundNoRoom p k k1) c.first.ensures.value none.1)))
 
-pub alone-requires-clause-root : goal.alone-requires-clause-root
-alone-requires-clause-root g c =
-    let t = c.args.words.now.terms in let m = c.args.member.now in let k = c.args.me.now in
-    c.requires.root.root
-
-pub alone-requires-clause-alone : goal.alone-requires-clause-alone
-alone-requires-clause-alone g c =
-    let t = c.args.words.now.terms in let m = c.args.member.now in let k = c.args.me.now in
-    let root = c.args.root in let h = c.requires.root in let k1 = c.room_for_root.new.me in
-    let none = subst (λ o. IsRoomForRoot g.L.Locking.gives_up root c.first.result k k1 (Ok o)) c.in-Ok-None.field-0-is c.in-Ok-None.ensures in let spent = kept_steps k k1 none.0 in
-    ap (drop 1) (none.0.held ∙ h.held)
-
-pub alone-requires-clause-due : goal.alone-requires-clause-due
-alone-requires-clause-due g c =
+pub below-requires-clause-due : goal.below-requires-clause-due
+below-requires-clause-due g c =
     let t = c.args.words.now.terms in let m = c.args.member.now in let k = c.args.me.now in
     let root = c.args.root in let h = c.requires.root in let k1 = c.room_for_root.new.me in
     let none = subst (λ o. IsRoomForRoot g.L.Locking.gives_up root c.first.result k k1 (Ok o)) c.in-Ok-None.field-0-is c.in-Ok-None.ensures in let spent = kept_steps k k1 none.0 in
     due_after 1 k k1 spent c.requires.due
 
-pub alone-requires-clause-surplus : goal.alone-requires-clause-surplus
-alone-requires-clause-surplus g c =
+pub below-requires-clause-surplus : goal.below-requires-clause-surplus
+below-requires-clause-surplus g c =
     let t = c.args.words.now.terms in let m = c.args.member.now in let k = c.args.me.now in
     let root = c.args.root in let h = c.requires.root in let k1 = c.room_for_root.new.me in
     let none = subst (λ o. IsRoomForRoot g.L.Locking.gives_up root c.first.result k k1 (Ok o)) c.in-Ok-None.field-0-is c.in-Ok-None.ensures in let spent = kept_steps k k1 none.0 in
-    let e = c.requires.surplus in surplus_steps 1 k k1 37 spent (omega (arith, e))
+    let e = c.requires.surplus in let low = level_most t root k.log.holdings h in surplus_steps 1 k k1 (2 * root.content.level + 0 + 13) spent (omega (arith, e, low))
 
 pub let_go_of-requires-clause-inside : goal.let_go_of-requires-clause-inside
 let_go_of-requires-clause-inside g c =
@@ -151,14 +146,16 @@ returns-in-Ok-None-clause-answer g c =
     let t = c.args.words.now.terms in let m = c.args.member.now in let k = c.args.me.now in
     let root = c.args.root in let h = c.requires.root in let k1 = c.room_for_root.new.me in
     let none = subst (λ o. IsRoomForRoot g.L.Locking.gives_up root c.first.result k k1 (Ok o)) c.in-Ok-None.field-0-is c.in-Ok-None.ensures in let spent = kept_steps k k1 none.0 in
-    if_ok (λ answer. EndsInsertion t m answer 37 k1 c.alone.new.me) (λ answer. EndsInsertion t m answer 64 k c.alone.new.me) c.alone.result (λ answer e. ends_after t m answer 1 37 64 k k1 c.alone.new.me (omega arith) spent e) c.alone.ensures.answer
+    let low = level_most t root k.log.holdings h in
+    if_ok (λ answer. EndsInsertion t m answer (2 * root.content.level + 0 + 13) k1 c.below.new.me) (λ answer. EndsInsertion t m answer 64 k c.below.new.me) c.below.result (λ answer e. ends_after t m answer 1 (2 * root.content.level + 0 + 13) 64 k k1 c.below.new.me (omega (arith, low)) spent e) c.below.ensures.answer
 
 pub returns-in-Ok-None-clause-busy : goal.returns-in-Ok-None-clause-busy
 returns-in-Ok-None-clause-busy g c =
     let t = c.args.words.now.terms in let m = c.args.member.now in let k = c.args.me.now in
     let root = c.args.root in let h = c.requires.root in let k1 = c.room_for_root.new.me in
     let none = subst (λ o. IsRoomForRoot g.L.Locking.gives_up root c.first.result k k1 (Ok o)) c.in-Ok-None.field-0-is c.in-Ok-None.ensures in let spent = kept_steps k k1 none.0 in
-    if_err (λ e. GivesUpWhole 37 e k1 c.alone.new.me × (g.L.Locking.gives_up ≡ true)) (λ e. GivesUpWhole 64 e k c.alone.new.me × (g.L.Locking.gives_up ≡ true)) c.alone.result (λ e b. (gives_up_after 1 37 64 e k k1 c.alone.new.me (omega arith) spent b.0, b.1)) c.alone.ensures.busy
+    let low = level_most t root k.log.holdings h in
+    if_err (λ e. GivesUpWhole (2 * root.content.level + 0 + 13) e k1 c.below.new.me × (g.L.Locking.gives_up ≡ true)) (λ e. GivesUpWhole 64 e k c.below.new.me × (g.L.Locking.gives_up ≡ true)) c.below.result (λ e b. (gives_up_after 1 (2 * root.content.level + 0 + 13) 64 e k k1 c.below.new.me (omega (arith, low)) spent b.0, b.1)) c.below.ensures.busy
 
 pub returns-in-Err-clause-busy : goal.returns-in-Err-clause-busy
 returns-in-Err-clause-busy g c =
@@ -178,7 +175,7 @@ returns-in-Ok-None-clause-cause g c =
     let t = c.args.words.now.terms in let m = c.args.member.now in let k = c.args.me.now in
     let root = c.args.root in let h = c.requires.root in let k1 = c.room_for_root.new.me in
     let none = subst (λ o. IsRoomForRoot g.L.Locking.gives_up root c.first.result k k1 (Ok o)) c.in-Ok-None.field-0-is c.in-Ok-None.ensures in
-    if_err (λ e. FoundBusy e k1 c.alone.new.me) (λ e. FoundBusy e k c.alone.new.me) c.alone.result (λ e f. found_after e k k1 c.alone.new.me (kept_steps k k1 none.0).loads f) c.alone.ensures.cause
+    if_err (λ e. FoundBusy e k1 c.below.new.me) (λ e. FoundBusy e k c.below.new.me) c.below.result (λ e f. found_after e k k1 c.below.new.me (kept_steps k k1 none.0).loads f) c.below.ensures.cause
 
 pub returns-in-Err-clause-cause : goal.returns-in-Err-clause-cause
 returns-in-Err-clause-cause g c = found_still c.in-Err.busy c.args.me.now c.room_for_root.new.me c.let_go_of.new.me c.in-Err.ensures.2 c.let_go_of.ensures.steps.loads
@@ -191,7 +188,7 @@ returns-in-Ok-Some-clause-full g c =
 
 pub returns-in-Ok-None-clause-full : goal.returns-in-Ok-None-clause-full
 returns-in-Ok-None-clause-full g c =
-    let first = c.args.member.now.span.first in let k = c.args.me.now in let k1 = c.room_for_root.new.me in let n = c.alone.new.me in
+    let first = c.args.member.now.span.first in let k = c.args.me.now in let k1 = c.room_for_root.new.me in let n = c.below.new.me in
     let none = subst (λ o. IsRoomForRoot g.L.Locking.gives_up c.args.root c.first.result k k1 (Ok o)) c.in-Ok-None.field-0-is c.in-Ok-None.ensures in
     let found = subst (λ p. FoundNoRoom p k k1) c.first.ensures.value none.1 in
-    if_ok (λ answer. IfFull answer (KeepsLoads k1 n)) (λ answer. IfFull answer (FoundNoRoom first k n)) c.alone.result (λ answer. if_full answer (no_room_still first k k1 n found)) c.alone.ensures.full
+    if_ok (λ answer. IfFull answer (KeepsLoads k1 n)) (λ answer. IfFull answer (FoundNoRoom first k n)) c.below.result (λ answer. if_full answer (no_room_still first k k1 n found)) c.below.ensures.full

@@ -1,12 +1,16 @@
-use Rattle.std.proofs.Common.{arith, subst, sym, ◌<◌, ◌≤◌}
+use Rattle.std.proofs.Common.{◌≡◌, ◌+◌, ◌-◌, ◌<◌, ◌≤◌, true, arith, length, subst, sym, ◌∙◌}
+use Rattle.node_store.specs.Locking.{FoundBusy}
 use Rattle.btree_change.specs.declared.descent.Held.{Held}
+use Rattle.btree_change.specs.declared.stand.Room.TheVariants as room
+use Rattle.btree_change.specs.Insertion.{IfFull}
+use Rattle.btree_change.specs.Loads.{FoundNoRoom}
+use Rattle.btree_change.specs.Roots.{EndsInsertion, GivesUpWhole}
 use Rattle.btree_change.specs.Splits.{HoldsFullRoot, LiftsRoot}
-use Rattle.btree_change.specs.Stands.{HasCause, releases_at}
-use Rattle.btree_change.proofs.AtRoot.{gave_lowest, gave_surplus, lifted_ends, lifted_gives_up, lifted_here, lifted_level, lifted_lowest, lifted_reach, lifted_surplus, lifted_two}
-use Rattle.btree_change.proofs.Loading.{found_between}
-use Rattle.btree_change.proofs.NoRoom.{if_full, no_room_after, no_room_still}
-use Rattle.btree_change.proofs.Releasing.{lowest_may}
-use Rattle.btree_change.proofs.Spending.{due_after, own_same, surplus_steps}
+use Rattle.btree_change.specs.Stands.{HasCause, kept_above, releases_from}
+use Rattle.btree_change.proofs.AtRoot.{ends_after, gives_up_after, if_err, if_ok, lifted_height, lifted_here, lifted_level, lifted_reach, lifted_steps}
+use Rattle.btree_change.proofs.Loading.{found_after}
+use Rattle.btree_change.proofs.NoRoom.{if_full, no_room_after}
+use Rattle.btree_change.proofs.Spending.{due_after, own_same, steps_after, surplus_steps}
 use Rattle.btree_change.proofs.root.lifted.Goals as goal
 
 pub lift-split-requires-clause-held : goal.lift-split-requires-clause-held
@@ -14,109 +18,110 @@ lift-split-requires-clause-held g c =
     let t = c.args.words.now.terms in let m = c.args.member.now in let k = c.args.me.now in
     subst (λ p. HoldsFullRoot t c.args.full p k.log.holdings) (sym c.first.ensures.value) c.requires.held
 
-pub stand_below-passage-requires-clause-reach : goal.stand_below-passage-requires-clause-reach
-stand_below-passage-requires-clause-reach g c =
+pub stand_below-stand-requires-clause-reach : goal.stand_below-stand-requires-clause-reach
+stand_below-stand-requires-clause-reach g c =
     let t = c.args.words.now.terms in let m = c.args.member.now in let k = c.args.me.now in
     let full = c.args.full in let split = c.lift-split.result in let k1 = c.lift-split.new.me in let lifts = subst (λ p. LiftsRoot t full p split k k1) c.first.ensures.value c.lift-split.ensures in
     lifted_reach t m full k c.requires.held c.requires.high c.requires.span split k1 lifts
 
-pub stand_below-passage-requires-clause-here : goal.stand_below-passage-requires-clause-here
-stand_below-passage-requires-clause-here g c =
+pub stand_below-stand-requires-clause-here : goal.stand_below-stand-requires-clause-here
+stand_below-stand-requires-clause-here g c =
     let t = c.args.words.now.terms in let m = c.args.member.now in let k = c.args.me.now in
     let full = c.args.full in let split = c.lift-split.result in let k1 = c.lift-split.new.me in let lifts = subst (λ p. LiftsRoot t full p split k k1) c.first.ensures.value c.lift-split.ensures in
     lifted_here t m full k c.requires.held c.requires.high c.requires.span split k1 lifts
 
-pub stand_below-passage-requires-clause-way : goal.stand_below-passage-requires-clause-way
-stand_below-passage-requires-clause-way g c =
+pub stand_below-stand-requires-clause-way : goal.stand_below-stand-requires-clause-way
+stand_below-stand-requires-clause-way g c =
     let t = c.args.words.now.terms in let m = c.args.member.now in let k = c.args.me.now in
     let full = c.args.full in let split = c.lift-split.result in let k1 = c.lift-split.new.me in let lifts = subst (λ p. LiftsRoot t full p split k k1) c.first.ensures.value c.lift-split.ensures in
     lifts.room
+
+pub stand_below-stand-requires-clause-height : goal.stand_below-stand-requires-clause-height
+stand_below-stand-requires-clause-height g c =
+    let t = c.args.words.now.terms in let m = c.args.member.now in let k = c.args.me.now in
+    let full = c.args.full in let split = c.lift-split.result in let k1 = c.lift-split.new.me in let lifts = subst (λ p. LiftsRoot t full p split k k1) c.first.ensures.value c.lift-split.ensures in
+    let high = lifted_height t m full k c.requires.held c.requires.high c.requires.span split k1 lifts in omega (arith, high)
+
+pub stand_below-stand-requires-clause-loader : goal.stand_below-stand-requires-clause-loader
+stand_below-stand-requires-clause-loader g c =
+    let t = c.args.words.now.terms in let m = c.args.member.now in let k = c.args.me.now in
+    let full = c.args.full in let split = c.lift-split.result in let k1 = c.lift-split.new.me in let lifts = subst (λ p. LiftsRoot t full p split k k1) c.first.ensures.value c.lift-split.ensures in
+    (lifted_steps t m full k c.requires.held c.requires.high c.requires.span split k1 lifts).loader ∙ c.requires.loader
+
+pub stand_below-stand-requires-clause-surplus : goal.stand_below-stand-requires-clause-surplus
+stand_below-stand-requires-clause-surplus g c =
+    let t = c.args.words.now.terms in let m = c.args.member.now in let k = c.args.me.now in
+    let full = c.args.full in let split = c.lift-split.result in let k1 = c.lift-split.new.me in let lifts = subst (λ p. LiftsRoot t full p split k k1) c.first.ensures.value c.lift-split.ensures in
+    let e = c.requires.surplus in surplus_steps 1 k k1 1 (lifted_steps t m full k c.requires.held c.requires.high c.requires.span split k1 lifts) (omega (arith, e))
+
+pub below-requires-clause-table : goal.below-requires-clause-table
+below-requires-clause-table g c =
+    let t = c.args.words.now.terms in let m = c.args.member.now in let k = c.args.me.now in
+    let full = c.args.full in let split = c.lift-split.result in let k1 = c.lift-split.new.me in let lifts = subst (λ p. LiftsRoot t full p split k k1) c.first.ensures.value c.lift-split.ensures in
+    let k2 = c.stand_below-stand.new.me in let stand = c.stand_below-stand.result in let few = c.stand_below-stand.ensures.fewer in
+    let low = subst (λ (h : Held). h.content.level ≤ 11) (sym c.stand_below-stand.ensures.at) (lifted_level t m full k c.requires.held c.requires.high c.requires.span split k1 lifts) in
+    let steps = steps_after 1 (1 - length (kept_above stand.beyond)) (2 - length (kept_above stand.beyond)) k k1 k2 (omega (arith, few)) (lifted_steps t m full k c.requires.held c.requires.high c.requires.span split k1 lifts) c.stand_below-stand.ensures.spends in
+    steps.table ∙ c.requires.table
+
+pub below-requires-clause-terms : goal.below-requires-clause-terms
+below-requires-clause-terms g c =
+    let t = c.args.words.now.terms in let m = c.args.member.now in let k = c.args.me.now in
+    let full = c.args.full in let split = c.lift-split.result in let k1 = c.lift-split.new.me in let lifts = subst (λ p. LiftsRoot t full p split k k1) c.first.ensures.value c.lift-split.ensures in
+    let k2 = c.stand_below-stand.new.me in let stand = c.stand_below-stand.result in let few = c.stand_below-stand.ensures.fewer in
+    let low = subst (λ (h : Held). h.content.level ≤ 11) (sym c.stand_below-stand.ensures.at) (lifted_level t m full k c.requires.held c.requires.high c.requires.span split k1 lifts) in
+    let steps = steps_after 1 (1 - length (kept_above stand.beyond)) (2 - length (kept_above stand.beyond)) k k1 k2 (omega (arith, few)) (lifted_steps t m full k c.requires.held c.requires.high c.requires.span split k1 lifts) c.stand_below-stand.ensures.spends in
+    steps.terms ∙ c.requires.terms
 
 pub below-requires-clause-due : goal.below-requires-clause-due
 below-requires-clause-due g c =
     let t = c.args.words.now.terms in let m = c.args.member.now in let k = c.args.me.now in
     let full = c.args.full in let split = c.lift-split.result in let k1 = c.lift-split.new.me in let lifts = subst (λ p. LiftsRoot t full p split k k1) c.first.ensures.value c.lift-split.ensures in
-    let k2 = c.stand_below-passage.new.me in let same = c.stand_below-passage.ensures.same in let kept = c.stand_below-passage.ensures.holdings in
-    let level = c.stand_below-passage.result.stand.at.content.level in let l = subst (λ (h : Held). h.content.level ≤ 12) (sym c.stand_below-passage.ensures.at) (lifted_level t m full k c.requires.held c.requires.high c.requires.span split k1 lifts) in
-    due_after 1 k k2 (lifted_two t m full k c.requires.held c.requires.high c.requires.span split k1 lifts k2 same kept) c.requires.due
+    let k2 = c.stand_below-stand.new.me in let stand = c.stand_below-stand.result in let few = c.stand_below-stand.ensures.fewer in
+    let low = subst (λ (h : Held). h.content.level ≤ 11) (sym c.stand_below-stand.ensures.at) (lifted_level t m full k c.requires.held c.requires.high c.requires.span split k1 lifts) in
+    let steps = steps_after 1 (1 - length (kept_above stand.beyond)) (2 - length (kept_above stand.beyond)) k k1 k2 (omega (arith, few)) (lifted_steps t m full k c.requires.held c.requires.high c.requires.span split k1 lifts) c.stand_below-stand.ensures.spends in
+    due_after (2 - length (kept_above stand.beyond)) k k2 steps c.requires.due
 
 pub below-requires-clause-surplus : goal.below-requires-clause-surplus
 below-requires-clause-surplus g c =
     let t = c.args.words.now.terms in let m = c.args.member.now in let k = c.args.me.now in
     let full = c.args.full in let split = c.lift-split.result in let k1 = c.lift-split.new.me in let lifts = subst (λ p. LiftsRoot t full p split k k1) c.first.ensures.value c.lift-split.ensures in
-    let k2 = c.stand_below-passage.new.me in let same = c.stand_below-passage.ensures.same in let kept = c.stand_below-passage.ensures.holdings in
-    let level = c.stand_below-passage.result.stand.at.content.level in let l = subst (λ (h : Held). h.content.level ≤ 12) (sym c.stand_below-passage.ensures.at) (lifted_level t m full k c.requires.held c.requires.high c.requires.span split k1 lifts) in
-    let e = c.requires.surplus in surplus_steps 1 k k2 (releases_at level) (lifted_two t m full k c.requires.held c.requires.high c.requires.span split k1 lifts k2 same kept) (omega (arith, l, e))
+    let k2 = c.stand_below-stand.new.me in let stand = c.stand_below-stand.result in let few = c.stand_below-stand.ensures.fewer in
+    let low = subst (λ (h : Held). h.content.level ≤ 11) (sym c.stand_below-stand.ensures.at) (lifted_level t m full k c.requires.held c.requires.high c.requires.span split k1 lifts) in
+    let steps = steps_after 1 (1 - length (kept_above stand.beyond)) (2 - length (kept_above stand.beyond)) k k1 k2 (omega (arith, few)) (lifted_steps t m full k c.requires.held c.requires.high c.requires.span split k1 lifts) c.stand_below-stand.ensures.spends in
+    let e = c.requires.surplus in surplus_steps (2 - length (kept_above stand.beyond)) k k2 (releases_from stand) steps (omega (arith, e, low, few))
 
-pub let_go_of-requires-clause-inside : goal.let_go_of-requires-clause-inside
-let_go_of-requires-clause-inside g c =
-    let t = c.args.words.now.terms in let m = c.args.member.now in let k = c.args.me.now in
-    subst (λ n. n < t.nodes) c.requires.held.is_root c.requires.held.root_within
-
-pub let_go_of-requires-clause-may : goal.let_go_of-requires-clause-may
-let_go_of-requires-clause-may g c =
+pub returns-clause-answer : goal.returns-clause-answer
+returns-clause-answer g c =
     let t = c.args.words.now.terms in let m = c.args.member.now in let k = c.args.me.now in
     let full = c.args.full in let split = c.lift-split.result in let k1 = c.lift-split.new.me in let lifts = subst (λ p. LiftsRoot t full p split k k1) c.first.ensures.value c.lift-split.ensures in
-    let k2 = c.stand_below-passage.new.me in let same = c.stand_below-passage.ensures.same in let kept = c.stand_below-passage.ensures.holdings in
-    let level = c.stand_below-passage.result.stand.at.content.level in let l = subst (λ (h : Held). h.content.level ≤ 12) (sym c.stand_below-passage.ensures.at) (lifted_level t m full k c.requires.held c.requires.high c.requires.span split k1 lifts) in
-    lowest_may _ _ _ (lifted_lowest t m full k c.requires.held c.requires.high c.requires.span split k1 lifts k2 same kept c.in-Ok.reply (releases_at level) c.below.new.me (omega (arith, l)) c.in-Ok.ensures.answer)
+    let k2 = c.stand_below-stand.new.me in let stand = c.stand_below-stand.result in let few = c.stand_below-stand.ensures.fewer in
+    let low = subst (λ (h : Held). h.content.level ≤ 11) (sym c.stand_below-stand.ensures.at) (lifted_level t m full k c.requires.held c.requires.high c.requires.span split k1 lifts) in
+    let steps = steps_after 1 (1 - length (kept_above stand.beyond)) (2 - length (kept_above stand.beyond)) k k1 k2 (omega (arith, few)) (lifted_steps t m full k c.requires.held c.requires.high c.requires.span split k1 lifts) c.stand_below-stand.ensures.spends in
+    if_ok (λ answer. EndsInsertion t m answer (releases_from stand) k2 c.below.new.me) (λ answer. EndsInsertion t m answer 39 k c.below.new.me) c.below.result (λ answer e. ends_after t m answer (2 - length (kept_above stand.beyond)) (releases_from stand) 39 k k2 c.below.new.me (omega (arith, low, few)) steps e) c.below.ensures.answer
 
-pub let_go_of-requires-clause-surplus : goal.let_go_of-requires-clause-surplus
-let_go_of-requires-clause-surplus g c =
+pub returns-clause-full : goal.returns-clause-full
+returns-clause-full g c =
     let t = c.args.words.now.terms in let m = c.args.member.now in let k = c.args.me.now in
     let full = c.args.full in let split = c.lift-split.result in let k1 = c.lift-split.new.me in let lifts = subst (λ p. LiftsRoot t full p split k k1) c.first.ensures.value c.lift-split.ensures in
-    let k2 = c.stand_below-passage.new.me in let same = c.stand_below-passage.ensures.same in let kept = c.stand_below-passage.ensures.holdings in
-    let level = c.stand_below-passage.result.stand.at.content.level in let l = subst (λ (h : Held). h.content.level ≤ 12) (sym c.stand_below-passage.ensures.at) (lifted_level t m full k c.requires.held c.requires.high c.requires.span split k1 lifts) in
-    lifted_surplus t m full k c.requires.held c.requires.high c.requires.span split k1 lifts k2 same kept c.in-Ok.reply (releases_at level) c.below.new.me (omega (arith, l)) c.in-Ok.ensures.answer c.requires.surplus
-
-pub let_go_of-requires-in-Err-clause-inside : goal.let_go_of-requires-in-Err-clause-inside
-let_go_of-requires-in-Err-clause-inside g c =
-    let t = c.args.words.now.terms in let m = c.args.member.now in let k = c.args.me.now in
-    subst (λ n. n < t.nodes) c.requires.held.is_root c.requires.held.root_within
-
-pub let_go_of-requires-in-Err-clause-may : goal.let_go_of-requires-in-Err-clause-may
-let_go_of-requires-in-Err-clause-may g c =
-    let t = c.args.words.now.terms in let m = c.args.member.now in let k = c.args.me.now in
-    let full = c.args.full in let split = c.lift-split.result in let k1 = c.lift-split.new.me in let lifts = subst (λ p. LiftsRoot t full p split k k1) c.first.ensures.value c.lift-split.ensures in
-    let k2 = c.stand_below-passage.new.me in let same = c.stand_below-passage.ensures.same in let kept = c.stand_below-passage.ensures.holdings in
-    let level = c.stand_below-passage.result.stand.at.content.level in let l = subst (λ (h : Held). h.content.level ≤ 12) (sym c.stand_below-passage.ensures.at) (lifted_level t m full k c.requires.held c.requires.high c.requires.span split k1 lifts) in
-    lowest_may _ _ _ (gave_lowest t m full k c.requires.held c.requires.high c.requires.span split k1 lifts k2 same kept (releases_at level) c.below.new.me (omega (arith, l)) c.in-Err.ensures.busy.0)
-
-pub let_go_of-requires-in-Err-clause-surplus : goal.let_go_of-requires-in-Err-clause-surplus
-let_go_of-requires-in-Err-clause-surplus g c =
-    let t = c.args.words.now.terms in let m = c.args.member.now in let k = c.args.me.now in
-    let full = c.args.full in let split = c.lift-split.result in let k1 = c.lift-split.new.me in let lifts = subst (λ p. LiftsRoot t full p split k k1) c.first.ensures.value c.lift-split.ensures in
-    let k2 = c.stand_below-passage.new.me in let same = c.stand_below-passage.ensures.same in let kept = c.stand_below-passage.ensures.holdings in
-    let level = c.stand_below-passage.result.stand.at.content.level in let l = subst (λ (h : Held). h.content.level ≤ 12) (sym c.stand_below-passage.ensures.at) (lifted_level t m full k c.requires.held c.requires.high c.requires.span split k1 lifts) in
-    gave_surplus t m full k c.requires.held c.requires.high c.requires.span split k1 lifts k2 same kept (releases_at level) c.below.new.me (omega (arith, l)) c.in-Err.ensures.busy.0 c.requires.surplus
-
-pub returns-in-Ok-clause-answer : goal.returns-in-Ok-clause-answer
-returns-in-Ok-clause-answer g c =
-    let t = c.args.words.now.terms in let m = c.args.member.now in let k = c.args.me.now in
-    let full = c.args.full in let split = c.lift-split.result in let k1 = c.lift-split.new.me in let lifts = subst (λ p. LiftsRoot t full p split k k1) c.first.ensures.value c.lift-split.ensures in
-    let k2 = c.stand_below-passage.new.me in let same = c.stand_below-passage.ensures.same in let kept = c.stand_below-passage.ensures.holdings in
-    let level = c.stand_below-passage.result.stand.at.content.level in let l = subst (λ (h : Held). h.content.level ≤ 12) (sym c.stand_below-passage.ensures.at) (lifted_level t m full k c.requires.held c.requires.high c.requires.span split k1 lifts) in
-    lifted_ends t m full k c.requires.held c.requires.high c.requires.span split k1 lifts k2 same kept c.in-Ok.reply (releases_at level) c.below.new.me (omega (arith, l)) c.in-Ok.ensures.answer c.let_go_of.new.me c.let_go_of.ensures
+    let k2 = c.stand_below-stand.new.me in let stand = c.stand_below-stand.result in let few = c.stand_below-stand.ensures.fewer in
+    let low = subst (λ (h : Held). h.content.level ≤ 11) (sym c.stand_below-stand.ensures.at) (lifted_level t m full k c.requires.held c.requires.high c.requires.span split k1 lifts) in
+    let steps = steps_after 1 (1 - length (kept_above stand.beyond)) (2 - length (kept_above stand.beyond)) k k1 k2 (omega (arith, few)) (lifted_steps t m full k c.requires.held c.requires.high c.requires.span split k1 lifts) c.stand_below-stand.ensures.spends in
+    if_ok (λ answer. IfFull answer (HasCause stand.room m.span.first k2 c.below.new.me)) (λ answer. IfFull answer (FoundNoRoom m.span.first k c.below.new.me)) c.below.result (λ answer. if_full answer (λ h. no_room_after m.span.first k k2 c.below.new.me (own_same (2 - length (kept_above stand.beyond)) k k2 steps) steps.loads (subst (λ w. HasCause w m.span.first k2 c.below.new.me) c.stand_below-stand.ensures.room h))) c.below.ensures.full
 
 pub returns-clause-busy : goal.returns-clause-busy
 returns-clause-busy g c =
     let t = c.args.words.now.terms in let m = c.args.member.now in let k = c.args.me.now in
     let full = c.args.full in let split = c.lift-split.result in let k1 = c.lift-split.new.me in let lifts = subst (λ p. LiftsRoot t full p split k k1) c.first.ensures.value c.lift-split.ensures in
-    let k2 = c.stand_below-passage.new.me in let same = c.stand_below-passage.ensures.same in let kept = c.stand_below-passage.ensures.holdings in
-    let level = c.stand_below-passage.result.stand.at.content.level in let l = subst (λ (h : Held). h.content.level ≤ 12) (sym c.stand_below-passage.ensures.at) (lifted_level t m full k c.requires.held c.requires.high c.requires.span split k1 lifts) in
-    (lifted_gives_up t m full k c.requires.held c.requires.high c.requires.span split k1 lifts k2 same kept (releases_at level) c.below.new.me (omega (arith, l)) c.in-Err.ensures.busy.0 c.in-Err.busy c.let_go_of-in-Err.new.me c.let_go_of-in-Err.ensures, c.in-Err.ensures.busy.1)
+    let k2 = c.stand_below-stand.new.me in let stand = c.stand_below-stand.result in let few = c.stand_below-stand.ensures.fewer in
+    let low = subst (λ (h : Held). h.content.level ≤ 11) (sym c.stand_below-stand.ensures.at) (lifted_level t m full k c.requires.held c.requires.high c.requires.span split k1 lifts) in
+    let steps = steps_after 1 (1 - length (kept_above stand.beyond)) (2 - length (kept_above stand.beyond)) k k1 k2 (omega (arith, few)) (lifted_steps t m full k c.requires.held c.requires.high c.requires.span split k1 lifts) c.stand_below-stand.ensures.spends in
+    if_err (λ e. GivesUpWhole (releases_from stand) e k2 c.below.new.me × (g.L.Locking.gives_up ≡ true)) (λ e. GivesUpWhole 39 e k c.below.new.me × (g.L.Locking.gives_up ≡ true)) c.below.result (λ e b. (gives_up_after (2 - length (kept_above stand.beyond)) (releases_from stand) 39 e k k2 c.below.new.me (omega (arith, low, few)) steps b.0, b.1)) c.below.ensures.busy
 
 pub returns-clause-cause : goal.returns-clause-cause
 returns-clause-cause g c =
     let t = c.args.words.now.terms in let m = c.args.member.now in let k = c.args.me.now in
     let full = c.args.full in let split = c.lift-split.result in let k1 = c.lift-split.new.me in let lifts = subst (λ p. LiftsRoot t full p split k k1) c.first.ensures.value c.lift-split.ensures in
-    let k2 = c.stand_below-passage.new.me in let same = c.stand_below-passage.ensures.same in let kept = c.stand_below-passage.ensures.holdings in
-    found_between c.in-Err.busy k k2 c.below.new.me c.let_go_of-in-Err.new.me (lifted_two t m full k c.requires.held c.requires.high c.requires.span split k1 lifts k2 same kept).loads c.in-Err.ensures.cause c.let_go_of-in-Err.ensures.steps.loads
-
-pub returns-in-Ok-clause-full : goal.returns-in-Ok-clause-full
-returns-in-Ok-clause-full g c =
-    let t = c.args.words.now.terms in let m = c.args.member.now in let k = c.args.me.now in
-    let full = c.args.full in let split = c.lift-split.result in let k1 = c.lift-split.new.me in let lifts = subst (λ p. LiftsRoot t full p split k k1) c.first.ensures.value c.lift-split.ensures in
-    let k2 = c.stand_below-passage.new.me in let k3 = c.below.new.me in let k4 = c.let_go_of.new.me in
-    let two = lifted_two t m full k c.requires.held c.requires.high c.requires.span split k1 lifts k2 c.stand_below-passage.ensures.same c.stand_below-passage.ensures.holdings in
-    if_full c.in-Ok.reply.answer (λ h. no_room_after m.span.first k k2 k4 (own_same 1 k k2 two) two.loads (no_room_still m.span.first k2 k3 k4 (subst (λ w. HasCause w m.span.first k2 k3) c.stand_below-passage.ensures.room h) c.let_go_of.ensures.steps.loads)) c.in-Ok.ensures.full
+    let k2 = c.stand_below-stand.new.me in let stand = c.stand_below-stand.result in let few = c.stand_below-stand.ensures.fewer in
+    let low = subst (λ (h : Held). h.content.level ≤ 11) (sym c.stand_below-stand.ensures.at) (lifted_level t m full k c.requires.held c.requires.high c.requires.span split k1 lifts) in
+    let steps = steps_after 1 (1 - length (kept_above stand.beyond)) (2 - length (kept_above stand.beyond)) k k1 k2 (omega (arith, few)) (lifted_steps t m full k c.requires.held c.requires.high c.requires.span split k1 lifts) c.stand_below-stand.ensures.spends in
+    if_err (λ e. FoundBusy e k2 c.below.new.me) (λ e. FoundBusy e k c.below.new.me) c.below.result (λ e f. found_after e k k2 c.below.new.me steps.loads f) c.below.ensures.cause

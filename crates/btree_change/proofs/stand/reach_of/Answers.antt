@@ -1,15 +1,15 @@
-use Rattle.std.proofs.Common.{◌≡◌, ◌∙◌, Some, inl, inr, length, refl, ap, subst, arith}
+use Rattle.std.proofs.Common.{◌≡◌, ◌∙◌, length, refl, ap, subst, arith}
 use Rattle.tree_shape.specs.NodeData.{pairs_of, slot_for}
 use Rattle.node_store.specs.Outlines.{IsCountOf}
 use Rattle.node_store.proofs.Outlined.{inner_of, known}
 use Rattle.btree_change.proofs.Outlining.{slot_pair}
-use Rattle.btree_change.proofs.stand.beyond_child.Goals as goal
+use Rattle.btree_change.proofs.stand.reach_of.Goals as goal
 
 pub returns-then-last-high_of-clause-reach : goal.returns-then-last-high_of-clause-reach
 returns-then-last-high_of-clause-reach c =
     let p = slot_pair c.args.step.now.parent.content c.args.member.now.span.first c.requires.inner c.requires.ordered c.requires.here in
     let high = c.requires.high p.0 p.1 in
-    (p.0, (p.1, inl (omega (arith, high, c.high_of.ensures.high, c.last.ensures.value, c.if-last-high_of.true), refl)))
+    (p.0, (p.1, omega (arith, high, c.high_of.ensures.high, c.last.ensures.value, c.if-last-high_of.true)))
 
 pub overflow_add-slot : goal.overflow_add-slot
 overflow_add-slot c =
@@ -24,17 +24,8 @@ returns-then-slot-count-clause-reach c =
     let p = slot_pair parent.content c.args.member.now.span.first c.requires.inner c.requires.ordered c.requires.here in
     let high = c.requires.high p.0 p.1 in
     let slot : c.slot_of-slot.result ≡ slot_for c.args.member.now.span.first pairs = c.slot_of-slot.ensures.first ∙ ap (λ pc. slot_for pc pairs) c.first.ensures.value in
-    let count : c.count.result ≡ length pairs = subst (IsCountOf c.count.result) c.requires.inner c.count.ensures in (
-      p.0,
-      (
-        p.1,
-        inr (inl (
-          omega (arith, high, c.high_of.ensures.high, c.last.ensures.value, c.if-last-high_of.false),
-          omega (arith, slot, count, c.if-slot-count.true),
-          (λ i. Some (record { node = parent.node; slot = slot i; level = c.level.ensures i })),
-        )),
-      ),
-    )
+    let count : c.count.result ≡ length pairs = subst (IsCountOf c.count.result) c.requires.inner c.count.ensures in
+    (p.0, (p.1, omega (arith, high, c.high_of.ensures.high, c.last.ensures.value, c.if-last-high_of.false), slot, omega (arith, count, c.if-slot-count.true)))
 
 pub returns-else-slot-count-clause-reach : goal.returns-else-slot-count-clause-reach
 returns-else-slot-count-clause-reach c =
@@ -43,14 +34,5 @@ returns-else-slot-count-clause-reach c =
     let high = c.requires.high p.0 p.1 in
     let slot : c.slot_of-slot.result ≡ slot_for c.args.member.now.span.first pairs = c.slot_of-slot.ensures.first ∙ ap (λ pc. slot_for pc pairs) c.first.ensures.value in
     let count : c.count.result ≡ length pairs = subst (IsCountOf c.count.result) c.requires.inner c.count.ensures in
-    let inside = c.slot_of-slot.ensures.found in (
-      p.0,
-      (
-        p.1,
-        inr (inr (
-          omega (arith, high, c.high_of.ensures.high, c.last.ensures.value, c.if-last-high_of.false),
-          omega (arith, slot, count, inside, c.if-slot-count.false),
-          refl,
-        )),
-      ),
-    )
+    let inside = c.slot_of-slot.ensures.found in
+    (p.0, (p.1, omega (arith, high, c.high_of.ensures.high, c.last.ensures.value, c.if-last-high_of.false), omega (arith, slot, count, inside, c.if-slot-count.false)))

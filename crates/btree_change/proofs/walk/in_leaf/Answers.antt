@@ -1,24 +1,23 @@
-use Rattle.std.proofs.Common.{◌≡◌, true, arith, ap, ◌∙◌}
+use Rattle.std.proofs.Common.{◌≡◌, ◌+◌, ◌∷◌, [], true, arith, ap, length, subst, sym, ◌∙◌}
 use Rattle.tree_shape.specs.NodeData.{entries_of, place_for}
 use Rattle.word_rule.specs.declared.log.Receipts.{Receipts}
-use Rattle.btree_change.specs.Stands.{AnswersBelow, GivesUpBelow, HasCause}
-use Rattle.btree_change.proofs.AtRoot.{if_err, if_ok}
+use Rattle.btree_change.specs.declared.path.KeptNode.{KeptNode}
+use Rattle.btree_change.specs.Kept.{HoldsPath}
+use Rattle.btree_change.specs.Roots.{EndsInsertion, GivesUpWhole}
+use Rattle.btree_change.specs.Stands.{HasCause, kept_above, releases_from}
+use Rattle.btree_change.proofs.AtRoot.{ends_after, gives_up_after, if_err, if_ok}
 use Rattle.btree_change.specs.Insertion.{IfFull}
 use Rattle.node_store.specs.Locking.{FoundBusy}
-use Rattle.btree_change.proofs.Answering.{here_answered, here_lowest, here_surplus, refused_here}
+use Rattle.btree_change.proofs.Answering.{refused_ends, refused_path, refused_surplus}
 use Rattle.btree_change.proofs.Loading.{found_after}
 use Rattle.btree_change.proofs.NoRoom.{cause_after, if_full}
 use Rattle.btree_change.proofs.Outlining.{loads_then, steps_of_loads, stands_spelled}
-use Rattle.btree_change.proofs.Preceding.{answered_after, gave_up_after, stands_still}
-use Rattle.btree_change.proofs.Releasing.{lowest_may}
+use Rattle.btree_change.proofs.Preceding.{stands_still}
 use Rattle.btree_change.proofs.Spending.{due_after, spends_same, surplus_steps}
 use Rattle.node_store.proofs.Outlined.{loads_hold}
 use Rattle.btree_change.proofs.Lowering.{settled_live}
 use Rattle.btree_change.proofs.Putting.{leaf_at_zero}
-use Rattle.btree_change.proofs.insertion.in_leaf.Goals as goal
-
-pub let_go_of-requires-clause-inside : goal.let_go_of-requires-clause-inside
-let_go_of-requires-clause-inside g c = c.requires.stands.at.within
+use Rattle.btree_change.proofs.walk.in_leaf.Goals as goal
 
 pub refused-requires-clause-stands : goal.refused-requires-clause-stands
 refused-requires-clause-stands g c =
@@ -27,26 +26,30 @@ refused-requires-clause-stands g c =
     let steps = steps_of_loads k k1 loads in let s = stands_still t m stand k k1 kept steps c.requires.stands in
     s.at
 
-pub let_go_of-requires-clause-may : goal.let_go_of-requires-clause-may
-let_go_of-requires-clause-may g c =
-    let t = c.args.words.now.terms in let m = c.args.member.now in let stand = c.args.stand in let at = c.args.stand.at in let k = c.args.me.now in let k1 = c.begun_in-begun.new.me in
-    let loads = c.begun_in-begun.ensures.loads in let kept = loads_hold k k1 loads in
-    let steps = steps_of_loads k k1 loads in let s = stands_still t m stand k k1 kept steps c.requires.stands in
-    lowest_may _ _ _ (here_lowest t m at k1 s.at (record { answer = c.in-Some.answer; changed = at.changed }) c.refused.new.me (refused_here t m at k1 s.at c.in-Some.answer c.refused.new.me c.in-Some.ensures.overlaps))
+pub let_go_of_all-requires-clause-table : goal.let_go_of_all-requires-clause-table
+let_go_of_all-requires-clause-table g c =
+    let steps = steps_of_loads c.args.me.now c.begun_in-begun.new.me c.begun_in-begun.ensures.loads in c.in-Some.ensures.overlaps.call.table ∙ (steps.table ∙ c.requires.table)
 
-pub let_go_of-requires-clause-surplus : goal.let_go_of-requires-clause-surplus
-let_go_of-requires-clause-surplus g c =
-    let t = c.args.words.now.terms in let m = c.args.member.now in let stand = c.args.stand in let at = c.args.stand.at in let k = c.args.me.now in let k1 = c.begun_in-begun.new.me in
+pub let_go_of_all-requires-clause-path : goal.let_go_of_all-requires-clause-path
+let_go_of_all-requires-clause-path g c =
+    let t = c.args.words.now.terms in let m = c.args.member.now in let stand = c.args.stand in let k = c.args.me.now in let k1 = c.begun_in-begun.new.me in
     let loads = c.begun_in-begun.ensures.loads in let kept = loads_hold k k1 loads in
     let steps = steps_of_loads k k1 loads in let s = stands_still t m stand k k1 kept steps c.requires.stands in
-    let enough = c.requires.surplus in here_surplus t m at k1 s.at (record { answer = c.in-Some.answer; changed = at.changed }) c.refused.new.me (refused_here t m at k1 s.at c.in-Some.answer c.refused.new.me c.in-Some.ensures.overlaps) 1 (surplus_steps 0 k k1 1 (spends_same k k1 steps) (omega (arith, enough)))
+    subst (λ (n : KeptNode). HoldsPath t (n ∷ kept_above stand.beyond) [] c.refused.new.me.log.holdings) (sym c.kept.ensures) (refused_path t m stand k1 c.refused.new.me s c.in-Some.answer c.in-Some.ensures.overlaps)
+
+pub let_go_of_all-requires-clause-surplus : goal.let_go_of_all-requires-clause-surplus
+let_go_of_all-requires-clause-surplus g c =
+    let t = c.args.words.now.terms in let m = c.args.member.now in let stand = c.args.stand in let k = c.args.me.now in let k1 = c.begun_in-begun.new.me in
+    let loads = c.begun_in-begun.ensures.loads in let kept = loads_hold k k1 loads in
+    let steps = steps_of_loads k k1 loads in let s = stands_still t m stand k k1 kept steps c.requires.stands in
+    let enough = c.requires.surplus in refused_surplus t m stand k1 c.refused.new.me s c.in-Some.answer c.in-Some.ensures.overlaps (length (kept_above stand.beyond) + 1) (surplus_steps 0 k k1 (length (kept_above stand.beyond) + 1) (spends_same k k1 steps) (omega (arith, enough)))
 
 pub returns-in-Some-clause-answer : goal.returns-in-Some-clause-answer
 returns-in-Some-clause-answer g c =
-    let t = c.args.words.now.terms in let m = c.args.member.now in let stand = c.args.stand in let at = c.args.stand.at in let k = c.args.me.now in let k1 = c.begun_in-begun.new.me in
+    let t = c.args.words.now.terms in let m = c.args.member.now in let stand = c.args.stand in let k = c.args.me.now in let k1 = c.begun_in-begun.new.me in
     let loads = c.begun_in-begun.ensures.loads in let kept = loads_hold k k1 loads in
     let steps = steps_of_loads k k1 loads in let s = stands_still t m stand k k1 kept steps c.requires.stands in
-    answered_after t m (record { answer = c.in-Some.answer; moved = 0 }) 13 k k1 c.let_go_of.new.me kept steps (here_answered t m at k1 s.at (record { answer = c.in-Some.answer; changed = at.changed }) c.refused.new.me (refused_here t m at k1 s.at c.in-Some.answer c.refused.new.me c.in-Some.ensures.overlaps) c.let_go_of.new.me c.let_go_of.ensures)
+    ends_after t m c.in-Some.answer 0 (releases_from stand) (releases_from stand) k k1 c.let_go_of_all.new.me (omega arith) (spends_same k k1 steps) (refused_ends t m stand k1 c.refused.new.me s c.in-Some.answer c.in-Some.ensures.overlaps c.let_go_of_all.new.me c.let_go_of_all.ensures)
 
 pub returns-in-Some-clause-full : goal.returns-in-Some-clause-full
 returns-in-Some-clause-full g c = if_full c.in-Some.answer (λ never. absurd never) c.in-Some.ensures.never_full
@@ -91,7 +94,7 @@ in_free_leaf-requires-clause-surplus g c =
     let t = c.args.words.now.terms in let m = c.args.member.now in let stand = c.args.stand in let at = c.args.stand.at in let k = c.args.me.now in let k1 = c.refused.new.me in
     let loads = loads_then k c.begun_in-begun.new.me k1 c.begun_in-begun.ensures.loads c.in-None.ensures.free.1 in let kept = loads_hold k k1 loads in
     let steps = steps_of_loads k k1 loads in let s = stands_still t m stand k k1 kept steps c.requires.stands in
-    let enough = c.requires.surplus in surplus_steps 0 k k1 13 (spends_same k k1 steps) (omega (arith, enough))
+    let enough = c.requires.surplus in surplus_steps 0 k k1 (releases_from stand) (spends_same k k1 steps) (omega (arith, enough))
 
 pub returns-in-None-clause-answer : goal.returns-in-None-clause-answer
 returns-in-None-clause-answer g c =
@@ -99,8 +102,8 @@ returns-in-None-clause-answer g c =
     let loads = loads_then k c.begun_in-begun.new.me k1 c.begun_in-begun.ensures.loads c.in-None.ensures.free.1 in let kept = loads_hold k k1 loads in
     let steps = steps_of_loads k k1 loads in let s = stands_still t m stand k k1 kept steps c.requires.stands in
     let k2 = c.in_free_leaf.new.me in
-    if_ok (λ reply. AnswersBelow t m reply 13 c.refused.new.me k2) (λ reply. AnswersBelow t m reply 13 k k2) c.in_free_leaf.result
-    (λ reply e. answered_after t m reply 13 k k1 k2 kept steps e) c.in_free_leaf.ensures.answer
+    if_ok (λ answer. EndsInsertion t m answer (releases_from stand) c.refused.new.me k2) (λ answer. EndsInsertion t m answer (releases_from stand) k k2) c.in_free_leaf.result
+    (λ answer e. ends_after t m answer 0 (releases_from stand) (releases_from stand) k k1 k2 (omega arith) (spends_same k k1 steps) e) c.in_free_leaf.ensures.answer
 
 pub returns-in-None-clause-full : goal.returns-in-None-clause-full
 returns-in-None-clause-full g c =
@@ -108,8 +111,8 @@ returns-in-None-clause-full g c =
     let loads = loads_then k c.begun_in-begun.new.me k1 c.begun_in-begun.ensures.loads c.in-None.ensures.free.1 in let kept = loads_hold k k1 loads in
     let steps = steps_of_loads k k1 loads in let s = stands_still t m stand k k1 kept steps c.requires.stands in
     let k2 = c.in_free_leaf.new.me in
-    if_ok (λ reply. IfFull reply.answer (HasCause stand.room m.span.first c.refused.new.me k2)) (λ reply. IfFull reply.answer (HasCause stand.room m.span.first k k2)) c.in_free_leaf.result
-    (λ reply e. if_full reply.answer (λ h. cause_after stand.room m.span.first k k1 k2 (ap (λ (r : Receipts). r.own) steps.receipts) steps.loads h) e) c.in_free_leaf.ensures.full
+    if_ok (λ answer. IfFull answer (HasCause stand.room m.span.first c.refused.new.me k2)) (λ answer. IfFull answer (HasCause stand.room m.span.first k k2)) c.in_free_leaf.result
+    (λ answer e. if_full answer (λ h. cause_after stand.room m.span.first k k1 k2 (ap (λ (r : Receipts). r.own) steps.receipts) steps.loads h) e) c.in_free_leaf.ensures.full
 
 pub returns-in-None-clause-busy : goal.returns-in-None-clause-busy
 returns-in-None-clause-busy g c =
@@ -117,8 +120,8 @@ returns-in-None-clause-busy g c =
     let loads = loads_then k c.begun_in-begun.new.me k1 c.begun_in-begun.ensures.loads c.in-None.ensures.free.1 in let kept = loads_hold k k1 loads in
     let steps = steps_of_loads k k1 loads in let s = stands_still t m stand k k1 kept steps c.requires.stands in
     let k2 = c.in_free_leaf.new.me in
-    if_err (λ e. GivesUpBelow 13 c.refused.new.me k2 × (g.L.Locking.gives_up ≡ true)) (λ e. GivesUpBelow 13 k k2 × (g.L.Locking.gives_up ≡ true)) c.in_free_leaf.result
-    (λ e b. (gave_up_after 13 k k1 k2 kept steps b.0, b.1)) c.in_free_leaf.ensures.busy
+    if_err (λ e. GivesUpWhole (releases_from stand) e c.refused.new.me k2 × (g.L.Locking.gives_up ≡ true)) (λ e. GivesUpWhole (releases_from stand) e k k2 × (g.L.Locking.gives_up ≡ true)) c.in_free_leaf.result
+    (λ e b. (gives_up_after 0 (releases_from stand) (releases_from stand) e k k1 k2 (omega arith) (spends_same k k1 steps) b.0, b.1)) c.in_free_leaf.ensures.busy
 
 pub returns-in-None-clause-cause : goal.returns-in-None-clause-cause
 returns-in-None-clause-cause g c =
