@@ -1,7 +1,7 @@
 //! An insertion whose span ends beyond its leaf: in the next one.
 ghost use Rattle.std.specs.Prelude.{◌≡◌, ◌≢◌, ◌<◌, ◌≤◌, true};
 ghost use Rattle.std.specs.Prelude.{IfOk, IfErr, IfSome, IfNone};
-ghost use Rattle.std.specs.Prelude.{drop, length};
+ghost use Rattle.std.specs.Prelude.{◌+◌, None, length};
 ghost use Rattle.reg_model.specs.SpanData.{IsSpan};
 ghost use Rattle.reg_model.specs.State.{IsFree};
 ghost use Rattle.tree_shape.specs.NodeData.{IsInFences, entries_of};
@@ -13,17 +13,19 @@ ghost use Rattle.word_rule.specs.TreeRefusals.{HadNoRoom};
 ghost use Rattle.node_store.specs.Holding.{SpellsHeld};
 ghost use Rattle.node_store.specs.Locking.{FoundBusy};
 ghost use Rattle.btree_change.specs.Loads.{KeepsLoads};
-ghost use Rattle.btree_change.specs.Paths.{StepsOnNodes};
+ghost use Rattle.btree_change.specs.Paths.{HoldsNothing, StepsOnNodes};
 ghost use Rattle.btree_change.specs.Insertion.{IfFull, RefusesMember};
-ghost use Rattle.btree_change.specs.Spines.{HoldsLeafPair, HoldsNext};
-ghost use Rattle.btree_change.specs.Stands.{AnswersBelow, GivesUpBelow, HasCause, StandsAt};
-ghost use Rattle.btree_change.specs.Stands.{releases_at};
-ghost use Rattle.btree_change.specs.Far.{AnswersAbove, IsAtNext, IsReadyFar, LeavesFar, StandsFar};
+ghost use Rattle.btree_change.specs.Releases.{Spends};
+ghost use Rattle.btree_change.specs.Roots.{EndsInsertion, GivesUpWhole};
+ghost use Rattle.btree_change.specs.Spines.{HoldsLeafPair};
+ghost use Rattle.btree_change.specs.Stands.{HasCause};
+ghost use Rattle.btree_change.specs.Far.{HoldsFar, IsAtNext, IsReadyFar, StandsFar, releases_far};
 
 use crate::descent::{Held, let_go_of};
-use crate::fence::{Ancestor, let_go_of_next, next_leaf, raise_fence, refused_next};
+use crate::fence::{let_go_of_next, next_leaf, raise_fence, refused_next};
 use crate::leaf::put_in_leaf;
-use crate::stand::{Beyond, Reply, Room};
+use crate::path::let_go_of_path;
+use crate::stand::{Beyond, Room, kept, let_go_of_all};
 use node_store::{Busy, Locking, read_held};
 use reg_model::{Inserted, Member, Update};
 use word_rule::places::LOWER;
@@ -107,57 +109,49 @@ fn refused_far(
     }
 }
 
-/// Lets go of the next leaf and of the leaf, in which nothing was stored since they were read.
-fn let_go_far<L: Locking>(locking: &L, words: &Words, me: &mut Caller, far: &Far)
+/// Lets go of the right spine, in which nothing was stored, and then of all else.
+fn let_go_far<L: Locking>(locking: &L, words: &Words, me: &mut Caller, far: Far)
     requires table { me.old.table ≡ words.now.table }
-    requires next { (next : HoldsNext words.now.terms far.now.beyond.node far.now.beyond.slot
-        me.old.log.holdings) × StandsAt words.now.terms far.now.leaf next.base }
-    requires surplus { 0 < surplus me.old }
-    ensures { (next : HoldsNext words.now.terms far.now.beyond.node far.now.beyond.slot
-        me.old.log.holdings) → StandsAt words.now.terms far.now.leaf next.base
-        → LeavesFar next.base me.old me.new }
+    requires holds { HoldsFar words.now.terms far me.old.log.holdings }
+    requires surplus { length far.beyond.kept < surplus me.old }
+    ensures steps { Spends (length far.beyond.kept + 1) me.old me.new }
+    ensures nothing { HoldsNothing me.new.log.holdings }
 {
-    let above = Ancestor {
-        node: far.beyond.node,
-        slot: far.beyond.slot,
-    };
-    let_go_of_next(locking, words, me, &above);
-    let_go_of(locking, words, me, far.leaf.node, far.leaf.changed);
+    let_go_of_next(locking, words, me, &far.beyond);
+    let lowest = kept(&far.leaf);
+    let_go_of_all(locking, words, me, lowest, Some(far.beyond));
 }
 
-/// Moves the fence behind a leaf, puts a member there, and lets go of the leaf.
+/// Moves the fence behind a leaf, lets go of all above the leaf, puts a member there, and lets go
+/// of the leaf: nothing but the leaf is held at the commit.
 fn put_far<L: Locking>(
     locking: &L,
     words: &Words,
     me: &mut Caller,
     member: &Member,
-    far: &Far,
-) -> Reply
+    far: Far,
+) -> Inserted
     requires table { me.old.table ≡ words.now.table }
     requires terms { me.old.log.terms ≡ words.now.terms }
-    requires ready { IsReadyFar words.now.terms member.now far.now me.old.log }
+    requires loader { me.old.log.loader ≡ None }
+    requires ready { IsReadyFar words.now.terms member.now far me.old.log.holdings }
     requires span { IsSpan member.now.span }
     requires due { 0 < due me.old }
-    requires surplus { releases_at 0 ≤ surplus me.old }
+    requires surplus { releases_far far ≤ surplus me.old }
     requires payload { member.now.payload < words.now.terms.payloads }
-    ensures answer { (ready : IsReadyFar words.now.terms member.now far.now me.old.log)
-        → AnswersAbove words.now.terms member.now result (drop 1 ready.next.base.held)
-        (releases_at 0) me.old me.new }
-    ensures never_full { IfFull result.answer ⊥ }
+    ensures answer { EndsInsertion words.now.terms member.now result (releases_far far)
+        me.old me.new }
+    ensures never_full { IfFull result ⊥ }
 {
-    let above = Ancestor {
-        node: far.beyond.node,
-        slot: far.beyond.slot,
-    };
-    raise_fence(locking, words, me, &above, member.span.last());
+    raise_fence(locking, words, me, &far.beyond, member.span.last());
     let node = far.leaf.node;
+    let mut kept = far.beyond.kept;
+    kept.change_all();
+    let_go_of_path(locking, words, me, kept);
     let content = read_held(words, me, node);
     let number = put_in_leaf(words, me, node, &content, member);
     let_go_of(locking, words, me, node, true);
-    Reply {
-        answer: Inserted::Done { number },
-        moved: far.beyond.level,
-    }
+    Inserted::Done { number }
 }
 
 /// Answers an insertion whose next leaf is held.
@@ -166,40 +160,40 @@ fn at_next<L: Locking>(
     words: &Words,
     me: &mut Caller,
     member: &Member,
-    next: &Next,
-) -> Reply
+    next: Next,
+) -> Inserted
     requires table { me.old.table ≡ words.now.table }
     requires terms { me.old.log.terms ≡ words.now.terms }
-    requires at { IsAtNext words.now.terms member.now next.now me.old.log }
+    requires loader { me.old.log.loader ≡ None }
+    requires at { IsAtNext words.now.terms member.now next me.old.log }
     requires span { IsSpan member.now.span }
     requires due { 0 < due me.old }
-    requires surplus { releases_at 0 ≤ surplus me.old }
+    requires surplus { releases_far next.far ≤ surplus me.old }
     requires payload { member.now.payload < words.now.terms.payloads }
-    ensures answer { (at : IsAtNext words.now.terms member.now next.now me.old.log)
-        → AnswersAbove words.now.terms member.now result (drop 1 at.next.base.held)
-        (releases_at 0) me.old me.new }
-    ensures full { IfFull result.answer
-        (HasCause next.now.far.room member.now.span.first me.old me.new) }
+    ensures answer { EndsInsertion words.now.terms member.now result (releases_far next.far)
+        me.old me.new }
+    ensures full { IfFull result
+        (HasCause next.far.room member.now.span.first me.old me.new) }
 {
     match refused_far(words, me, &next.far, &next.right, member) {
         Some(answer) => {
-            let_go_far(locking, words, me, &next.far);
-            Reply { answer, moved: 0 }
+            let_go_far(locking, words, me, next.far);
+            answer
         }
-        None => put_far(locking, words, me, member, &next.far),
+        None => put_far(locking, words, me, member, next.far),
     }
 }
 
 /// Answers an insertion that stands at a leaf in which nothing overlaps, and whose span ends in the
 /// next leaf: names the lowest that overlaps there, says Full, or moves the fence between them.
-/// Lets go of the leaf.
+/// Lets go of all that is held.
 pub(crate) fn beyond_leaf<L: Locking>(
     locking: &L,
     words: &Words,
     me: &mut Caller,
     member: &Member,
     far: Far,
-) -> Result<Reply, Busy>
+) -> Result<Inserted, Busy>
     requires table { me.old.table ≡ words.now.table }
     requires terms { me.old.log.terms ≡ words.now.terms }
     requires stands { StandsFar words.now.terms member.now far me.old.log }
@@ -207,24 +201,21 @@ pub(crate) fn beyond_leaf<L: Locking>(
     requires free { IsFree member.now.span (entries_of far.leaf.content) }
     requires span { IsSpan member.now.span }
     requires due { 0 < due me.old }
-    requires surplus { releases_at 0 ≤ surplus me.old }
+    requires surplus { releases_far far ≤ surplus me.old }
     requires payload { member.now.payload < words.now.terms.payloads }
-    ensures answer { IfOk result (λ reply. AnswersBelow words.now.terms member.now reply
-        (releases_at 0) me.old me.new) }
-    ensures full { IfOk result (λ reply. IfFull reply.answer
+    ensures answer { IfOk result (λ answer. EndsInsertion words.now.terms member.now answer
+        (releases_far far) me.old me.new) }
+    ensures full { IfOk result (λ answer. IfFull answer
         (HasCause far.room member.now.span.first me.old me.new)) }
-    ensures busy { IfErr result (λ e. GivesUpBelow (releases_at 0) me.old me.new
+    ensures busy { IfErr result (λ e. GivesUpWhole (releases_far far) e me.old me.new
         × (L.gives_up ≡ true)) }
     ensures cause { IfErr result (λ e. FoundBusy e me.old me.new) }
 {
-    let above = Ancestor {
-        node: far.beyond.node,
-        slot: far.beyond.slot,
-    };
-    match next_leaf(locking, words, me, &far.leaf, &above) {
-        Ok(right) => Ok(at_next(locking, words, me, member, &Next { far, right })),
+    match next_leaf(locking, words, me, &far.leaf, &far.beyond) {
+        Ok(right) => Ok(at_next(locking, words, me, member, Next { far, right })),
         Err(busy) => {
-            let_go_of(locking, words, me, far.leaf.node, far.leaf.changed);
+            let lowest = kept(&far.leaf);
+            let_go_of_all(locking, words, me, lowest, Some(far.beyond));
             Err(busy)
         }
     }

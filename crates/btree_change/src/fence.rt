@@ -21,19 +21,13 @@ use crate::spines::{
     Spines, let_go_of_spine, level_below, lock_spine, pair_after, pair_at, settle_spine,
     write_spines,
 };
+use crate::stand::Beyond;
 use node_store::{Busy, Locking, read_held, write_held};
 use reg_model::{Inserted, Member, Update};
 use tree_shape::{first_overlap, laws, set_separator};
 use word_rule::exchange::exchange_decided;
 use word_rule::places::{LEVEL, LOWER};
 use word_rule::{Ask, Caller, Words};
-
-/// The node above both leaves, and its slot that leads to the left one.
-#[derive(Drop)]
-pub(crate) struct Ancestor {
-    pub(crate) node: u32,
-    pub(crate) slot: usize,
-}
 
 /// Locks the right spine of a fence, each node while its parent is held, down to the next leaf.
 /// Where a lock is taken, those of the right spine are let go of again.
@@ -42,7 +36,7 @@ pub(crate) fn next_leaf<L: Locking>(
     words: &Words,
     me: &mut Caller,
     leaf: &Held,
-    above: &Ancestor,
+    above: &Beyond,
 ) -> Result<Held, Busy>
     requires table { me.old.table ≡ words.now.table }
     requires terms { me.old.log.terms ≡ words.now.terms }
@@ -114,7 +108,7 @@ pub(crate) fn let_go_of_next<L: Locking>(
     locking: &L,
     words: &Words,
     me: &mut Caller,
-    above: &Ancestor,
+    above: &Beyond,
 )
     requires table { me.old.table ≡ words.now.table }
     requires next { HoldsNext words.now.terms above.now.node above.now.slot me.old.log.holdings }
@@ -134,7 +128,7 @@ pub(crate) fn raise_fence<L: Locking>(
     locking: &L,
     words: &Words,
     me: &mut Caller,
-    above: &Ancestor,
+    above: &Beyond,
     fence: u64,
 )
     requires table { me.old.table ≡ words.now.table }

@@ -1,8 +1,10 @@
-use Rattle.std.proofs.Common.{ap}
-use Rattle.btree_change.proofs.FarLeaves.{answers_far, at_next_so, busy_far, busy_lowest, way_here}
+use Rattle.std.proofs.Common.{ap, arith, sym, subst, length, ◌+◌, ◌∙◌, ◌∷◌, []}
+use Rattle.btree_change.specs.Kept.{HoldsPath}
+use Rattle.btree_change.proofs.AtRoot.{ends_after}
+use Rattle.btree_change.proofs.FarLeaves.{at_next_so, busy_kept, gives_up, way_here}
 use Rattle.btree_change.proofs.Loading.{found_still}
 use Rattle.btree_change.proofs.NoRoom.{cause_after, if_full}
-use Rattle.btree_change.proofs.Releasing.{lowest_may}
+use Rattle.btree_change.proofs.Spending.{spends_same, surplus_steps}
 use Rattle.btree_change.proofs.beyond.beyond_leaf.Goals as goal
 
 pub next_leaf-requires-clause-way : goal.next_leaf-requires-clause-way
@@ -11,24 +13,30 @@ next_leaf-requires-clause-way g c = way_here c.args.words.now.terms c.args.membe
 pub at_next-requires-clause-at : goal.at_next-requires-clause-at
 at_next-requires-clause-at g c =
     let n = c.in-Ok.ensures.next in let l = c.in-Ok.ensures.leaves in
-    at_next_so c.args.words.now.terms c.args.member.now c.args.far c.args.me.now c.requires.stands c.requires.level c.in-Ok.right c.next_leaf.new.me n.0 n.1 n.2 n.3 l.0 l.1 c.in-Ok.ensures.same c.in-Ok.ensures.same.loads c.requires.free
+    at_next_so c.args.words.now.terms c.args.member.now c.args.far c.args.me.now c.requires.stands c.requires.level c.in-Ok.right c.next_leaf.new.me n.0 n.1 n.2 n.3 l.0 l.1 c.in-Ok.ensures.same c.requires.free
 
-pub let_go_of-requires-clause-may : goal.let_go_of-requires-clause-may
-let_go_of-requires-clause-may g c = lowest_may _ _ _ (busy_lowest c.args.words.now.terms c.args.member.now c.args.far c.args.me.now c.requires.stands c.requires.level c.next_leaf.new.me c.in-Err.ensures.busy.0)
+pub at_next-requires-clause-loader : goal.at_next-requires-clause-loader
+at_next-requires-clause-loader g c = c.in-Ok.ensures.same.loader ∙ c.requires.stands.loader
+
+pub let_go_of_all-requires-clause-path : goal.let_go_of_all-requires-clause-path
+let_go_of_all-requires-clause-path g c =
+    let t = c.args.words.now.terms in let far = c.args.far in let k1 = c.next_leaf.new.me in
+    subst (λ x. HoldsPath t (x ∷ far.beyond.kept) [] k1.log.holdings) (sym c.kept-lowest.ensures) (busy_kept t c.args.member.now far c.args.me.now c.requires.stands c.requires.level c.in-Err.busy k1 c.in-Err.ensures.busy.0 c.in-Err.ensures.same)
+
+pub let_go_of_all-requires-clause-surplus : goal.let_go_of_all-requires-clause-surplus
+let_go_of_all-requires-clause-surplus g c =
+    let enough = c.requires.surplus in let same = spends_same c.args.me.now c.next_leaf.new.me c.in-Err.ensures.same in let s = surplus_steps 0 c.args.me.now c.next_leaf.new.me (length c.args.far.beyond.kept + 1) same (omega (arith, enough)) in omega (arith, s)
 
 pub returns-in-Ok-clause-answer : goal.returns-in-Ok-clause-answer
-returns-in-Ok-clause-answer g c =
-    let n = c.in-Ok.ensures.next in let l = c.in-Ok.ensures.leaves in
-    let at = at_next_so c.args.words.now.terms c.args.member.now c.args.far c.args.me.now c.requires.stands c.requires.level c.in-Ok.right c.next_leaf.new.me n.0 n.1 n.2 n.3 l.0 l.1 c.in-Ok.ensures.same c.in-Ok.ensures.same.loads c.requires.free in
-    answers_far c.args.words.now.terms c.args.member.now c.args.far c.args.me.now c.requires.stands c.requires.level c.in-Ok.right c.next_leaf.new.me n.0 n.1 n.2 n.3 l.0 l.1 c.in-Ok.ensures.same c.in-Ok.ensures.same.loads c.requires.free c.at_next.result c.at_next.new.me (c.at_next.ensures.answer at)
-
-pub returns-in-Err-clause-busy : goal.returns-in-Err-clause-busy
-returns-in-Err-clause-busy g c = (busy_far c.args.words.now.terms c.args.member.now c.args.far c.args.me.now c.requires.stands c.requires.level c.next_leaf.new.me c.let_go_of.new.me c.in-Err.ensures.busy.0 c.in-Err.ensures.same c.let_go_of.ensures, c.in-Err.ensures.busy.1)
-
-pub returns-in-Err-clause-cause : goal.returns-in-Err-clause-cause
-returns-in-Err-clause-cause g c = found_still c.in-Err.busy c.args.me.now c.next_leaf.new.me c.let_go_of.new.me c.in-Err.ensures.cause c.let_go_of.ensures.steps.loads
+returns-in-Ok-clause-answer g c = ends_after c.args.words.now.terms c.args.member.now c.at_next.result 0 _ _ c.args.me.now c.next_leaf.new.me c.at_next.new.me (omega arith) (spends_same c.args.me.now c.next_leaf.new.me c.in-Ok.ensures.same) c.at_next.ensures.answer
 
 pub returns-in-Ok-clause-full : goal.returns-in-Ok-clause-full
 returns-in-Ok-clause-full g c =
     let same = c.in-Ok.ensures.same in
-    if_full c.at_next.result.answer (λ h. cause_after c.args.far.room c.args.member.now.span.first c.args.me.now c.next_leaf.new.me c.at_next.new.me (ap (λ r. r.own) same.receipts) same.loads h) c.at_next.ensures.full
+    if_full c.at_next.result (λ h. cause_after c.args.far.room c.args.member.now.span.first c.args.me.now c.next_leaf.new.me c.at_next.new.me (ap (λ r. r.own) same.receipts) same.loads h) c.at_next.ensures.full
+
+pub returns-in-Err-clause-busy : goal.returns-in-Err-clause-busy
+returns-in-Err-clause-busy g c = (gives_up c.args.words.now.terms c.args.member.now c.args.far c.args.me.now c.requires.stands c.requires.level c.in-Err.busy c.next_leaf.new.me c.in-Err.ensures.busy.0 c.in-Err.ensures.same c.let_go_of_all.new.me c.let_go_of_all.ensures, c.in-Err.ensures.busy.1)
+
+pub returns-in-Err-clause-cause : goal.returns-in-Err-clause-cause
+returns-in-Err-clause-cause g c = found_still c.in-Err.busy c.args.me.now c.next_leaf.new.me c.let_go_of_all.new.me c.in-Err.ensures.cause c.let_go_of_all.ensures.steps.loads

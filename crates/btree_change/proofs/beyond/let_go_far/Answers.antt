@@ -1,15 +1,18 @@
-use Rattle.btree_change.proofs.FarLeaves.{far_lowest, far_surplus, left_far}
-use Rattle.btree_change.proofs.Releasing.{lowest_may}
+use Rattle.std.proofs.Common.{subst, sym, ◌∷◌, []}
+use Rattle.btree_change.specs.Kept.{HoldsPath}
+use Rattle.btree_change.proofs.FarLeaves.{far_kept, far_nothing, far_steps, far_surplus}
 use Rattle.btree_change.proofs.beyond.let_go_far.Goals as goal
 
-pub let_go_of-requires-clause-inside : goal.let_go_of-requires-clause-inside
-let_go_of-requires-clause-inside g c = c.requires.next.1.within
+pub let_go_of_all-requires-clause-path : goal.let_go_of_all-requires-clause-path
+let_go_of_all-requires-clause-path g c =
+    let far = c.args.far in let k1 = c.let_go_of_next.new.me in
+    subst (λ x. HoldsPath c.args.words.now.terms (x ∷ far.beyond.kept) [] k1.log.holdings) (sym c.kept-lowest.ensures) (far_kept c.args.words.now.terms far c.args.me.now k1 c.requires.holds (c.let_go_of_next.ensures.base c.requires.holds.next) c.let_go_of_next.ensures.same)
 
-pub let_go_of-requires-clause-may : goal.let_go_of-requires-clause-may
-let_go_of-requires-clause-may g c = lowest_may _ _ _ (let n = c.requires.next in far_lowest c.args.words.now.terms c.args.far.now.leaf n.0.base n.1 c.args.me.now c.let_go_of_next.new.me (c.let_go_of_next.ensures.base n.0) c.let_go_of_next.ensures.same c.let_go_of_next.ensures.same.loads)
+pub let_go_of_all-requires-clause-surplus : goal.let_go_of_all-requires-clause-surplus
+let_go_of_all-requires-clause-surplus g c = far_surplus c.args.words.now.terms c.args.far c.args.me.now c.let_go_of_next.new.me c.requires.holds (c.let_go_of_next.ensures.base c.requires.holds.next) c.let_go_of_next.ensures.same c.requires.surplus
 
-pub let_go_of-requires-clause-surplus : goal.let_go_of-requires-clause-surplus
-let_go_of-requires-clause-surplus g c = let n = c.requires.next in far_surplus c.args.words.now.terms c.args.far.now.leaf n.0.base n.1 c.args.me.now c.let_go_of_next.new.me (c.let_go_of_next.ensures.base n.0) c.let_go_of_next.ensures.same c.let_go_of_next.ensures.same.loads c.requires.surplus
+pub returns-clause-steps : goal.returns-clause-steps
+returns-clause-steps g c = far_steps c.args.words.now.terms c.args.far c.args.me.now c.let_go_of_next.new.me c.requires.holds (c.let_go_of_next.ensures.base c.requires.holds.next) c.let_go_of_next.ensures.same c.let_go_of_all.new.me c.let_go_of_all.ensures
 
-pub returns : goal.returns
-returns g c next stands = left_far c.args.words.now.terms c.args.far.now.leaf next.base stands c.args.me.now c.let_go_of_next.new.me (c.let_go_of_next.ensures.base next) c.let_go_of_next.ensures.same c.let_go_of_next.ensures.same.loads c.let_go_of.new.me c.let_go_of.ensures
+pub returns-clause-nothing : goal.returns-clause-nothing
+returns-clause-nothing g c = far_nothing c.args.words.now.terms c.args.far c.args.me.now c.let_go_of_next.new.me c.requires.holds (c.let_go_of_next.ensures.base c.requires.holds.next) c.let_go_of_next.ensures.same c.let_go_of_all.new.me c.let_go_of_all.ensures
