@@ -58,6 +58,14 @@ put_in_leaf-number-requires-clause-terms g c =
     let k3 = c.read_held-content.new.me in let shape = c.read_held-content.result in let reads = c.read_held-content.ensures.reads in let same = c.read_held-content.ensures.holdings in
     terms3 t m far k ready k1 moves told k2 leaves k3 shape reads same c.requires.terms
 
+pub put_in_leaf-number-requires-clause-loader : goal.put_in_leaf-number-requires-clause-loader
+put_in_leaf-number-requires-clause-loader g c =
+    let t = c.args.words.now.terms in let m = c.args.member.now in let far = c.args.far in let k = c.args.me.now in let ready = c.requires.ready in let k1 = c.raise_fence.new.me in
+    let moves = moves_so t m far k ready k1 c.last.result c.last.ensures.value c.raise_fence.ensures.moves in let told = c.raise_fence.ensures.loads in
+    let k2 = c.let_go_of_path.new.me in let leaves = left_path t m far k ready k1 moves told c.change_all.new.self c.change_all.ensures k2 c.let_go_of_path.ensures in
+    let k3 = c.read_held-content.new.me in let shape = c.read_held-content.result in let reads = c.read_held-content.ensures.reads in let same = c.read_held-content.ensures.holdings in
+    loader3 t m far k ready k1 moves told k2 leaves k3 shape reads same c.requires.loader
+
 pub put_in_leaf-number-requires-clause-leaf : goal.put_in_leaf-number-requires-clause-leaf
 put_in_leaf-number-requires-clause-leaf g c =
     let t = c.args.words.now.terms in let m = c.args.member.now in let far = c.args.far in let k = c.args.me.now in let ready = c.requires.ready in let k1 = c.raise_fence.new.me in
