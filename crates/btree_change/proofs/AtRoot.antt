@@ -37,7 +37,7 @@ use Rattle.btree_change.proofs.Releasing.{IsLowest, left_above}
 use Rattle.btree_change.proofs.Spending.{answers_so, more_spent, right_after, right_before, spends_after, spends_all, spends_before, spends_one, spends_same, steps_after, surplus_after, surplus_steps}
 
 -- the root alone is where an insertion stands
-pub root_stands : (t : Terms) (root : Held) (holdings : Holdings) → HoldsRoot t root holdings → StandsAt t root holdings
+abbrev pub root_stands : (t : Terms) (root : Held) (holdings : Holdings) → HoldsRoot t root holdings → StandsAt t root holdings
 root_stands t root holdings h = record {
   within = subst (λ n. n < t.nodes) (sym h.root) h.within;
   lock = h.lock;

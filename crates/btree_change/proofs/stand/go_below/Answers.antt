@@ -18,7 +18,7 @@ let_go_of_all-requires-clause-path g c =
 
 pub let_go_of_all-requires-clause-surplus : goal.let_go_of_all-requires-clause-surplus
 let_go_of_all-requires-clause-surplus g c =
-    let e = c.requires.surplus in surplus_steps 0 c.args.me.now c.lower.new.me (length (kept_above c.args.stand.beyond) + 1) (spends_same c.args.me.now c.lower.new.me c.in-Err.ensures.same) (omega (arith, e))
+    let e = c.requires.surplus in let left = surplus_steps 0 c.args.me.now c.lower.new.me (length (kept_above c.args.stand.beyond) + 1) (spends_same c.args.me.now c.lower.new.me c.in-Err.ensures.same) (omega (arith, e)) in omega (arith, left)
 
 pub returns-in-Err-clause-busy : goal.returns-in-Err-clause-busy
 returns-in-Err-clause-busy g c =
@@ -51,7 +51,7 @@ let_go_of_all-requires-in-Err-split_if_full-clause-path g c =
 pub let_go_of_all-requires-in-Err-split_if_full-clause-surplus : goal.let_go_of_all-requires-in-Err-split_if_full-clause-surplus
 let_go_of_all-requires-in-Err-split_if_full-clause-surplus g c =
     let k = c.args.me.now in let k1 = c.lower.new.me in let e = c.requires.surplus in
-    surplus_steps 1 k c.split_if_full.new.me (length (kept_above c.args.stand.beyond) + 1) (steps_after 0 1 1 k k1 c.split_if_full.new.me (omega arith) (spends_same k k1 c.in-Ok.ensures.same) c.in-Err-split_if_full.ensures.busy.2) (omega (arith, e))
+    let left = surplus_steps 1 k c.split_if_full.new.me (length (kept_above c.args.stand.beyond) + 1) (steps_after 0 1 1 k k1 c.split_if_full.new.me (omega arith) (spends_same k k1 c.in-Ok.ensures.same) c.in-Err-split_if_full.ensures.busy.2) (omega (arith, e)) in omega (arith, left)
 
 pub returns-in-Err-split_if_full-clause-busy : goal.returns-in-Err-split_if_full-clause-busy
 returns-in-Err-split_if_full-clause-busy g c =
@@ -91,7 +91,7 @@ stand_below-requires-clause-loader g c = c.in-Ok-split_if_full.ensures.ok.steps.
 pub stand_below-requires-clause-surplus : goal.stand_below-requires-clause-surplus
 stand_below-requires-clause-surplus g c =
     let k = c.args.me.now in let k1 = c.lower.new.me in let e = c.requires.surplus in
-    surplus_steps 1 k c.split_if_full.new.me (length (kept_above c.args.stand.beyond) + 1) (steps_after 0 1 1 k k1 c.split_if_full.new.me (omega arith) (spends_same k k1 c.in-Ok.ensures.same) c.in-Ok-split_if_full.ensures.ok.steps) (omega (arith, e))
+    let left = surplus_steps 1 k c.split_if_full.new.me (length (kept_above c.args.stand.beyond) + 1) (steps_after 0 1 1 k k1 c.split_if_full.new.me (omega arith) (spends_same k k1 c.in-Ok.ensures.same) c.in-Ok-split_if_full.ensures.ok.steps) (omega (arith, e)) in omega (arith, left)
 
 pub returns-in-Ok-split_if_full-clause-ok : goal.returns-in-Ok-split_if_full-clause-ok
 returns-in-Ok-split_if_full-clause-ok g c =

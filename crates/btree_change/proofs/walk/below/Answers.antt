@@ -25,13 +25,10 @@ go_below-requires-clause-surplus g c =
     surplus_steps (releases_from c.args.stand - releases_from c.loop-me.stand) c.args.me.now c.loop-me.me (releases_from c.loop-me.stand) goes.steps (omega (arith, e, fewer))
 
 pub loop-me-preserved : goal.loop-me-preserved
-loop-me-preserved g c = record { goes = goes_on c.args.words.now.terms c.args.member.now c.args.stand c.loop-me.stand c.in_ok-go_below.after c.args.me.now c.loop-me.me c.go_below.new.me c.loop-me.invariant.goes c.in_ok-go_below.ensures.ok }
+loop-me-preserved g c = record { goes = goes_on c.args.words.now.terms c.args.member.now c.args.stand c.loop-me.stand c.in_ok-stand.stand c.args.me.now c.loop-me.me c.go_below.new.me c.loop-me.invariant.goes c.in_ok-stand.ensures.ok }
 
-pub returns-in_err-clause-busy : goal.returns-in_err-clause-busy
-returns-in_err-clause-busy g c = ?
-
-pub returns-in_err-clause-cause : goal.returns-in_err-clause-cause
-returns-in_err-clause-cause g c = ?
+pub returns-in_err-stand-clause-cause : goal.returns-in_err-stand-clause-cause
+returns-in_err-stand-clause-cause g c = found_after _ c.args.me.now c.loop-me.me c.go_below.new.me c.loop-me.invariant.goes.steps.loads c.in_err-stand.ensures.cause
 
 pub in_leaf-requires-clause-table : goal.in_leaf-requires-clause-table
 in_leaf-requires-clause-table g c = c.loop-me.invariant.goes.steps.table ∙ c.requires.table

@@ -42,7 +42,7 @@ let_go_of_all-requires-clause-surplus g c =
     let t = c.args.words.now.terms in let m = c.args.member.now in let stand = c.args.stand in let k = c.args.me.now in let k1 = c.begun_in-begun.new.me in
     let loads = c.begun_in-begun.ensures.loads in let kept = loads_hold k k1 loads in
     let steps = steps_of_loads k k1 loads in let s = stands_still t m stand k k1 kept steps c.requires.stands in
-    let enough = c.requires.surplus in refused_surplus t m stand k1 c.refused.new.me s c.in-Some.answer c.in-Some.ensures.overlaps (length (kept_above stand.beyond) + 1) (surplus_steps 0 k k1 (length (kept_above stand.beyond) + 1) (spends_same k k1 steps) (omega (arith, enough)))
+    let enough = c.requires.surplus in let left = refused_surplus t m stand k1 c.refused.new.me s c.in-Some.answer c.in-Some.ensures.overlaps (length (kept_above stand.beyond) + 1) (surplus_steps 0 k k1 (length (kept_above stand.beyond) + 1) (spends_same k k1 steps) (omega (arith, enough))) in omega (arith, left)
 
 pub returns-in-Some-clause-answer : goal.returns-in-Some-clause-answer
 returns-in-Some-clause-answer g c =
