@@ -174,7 +174,8 @@ pub record HasSplit (t : Terms) (pc : ℕ) (step after : Step) (k k' : CallerDat
   pub less : after.child.content.level < step.parent.content.level
   pub steps : Spends 1 k k'
 
--- From where an insertion stood it went down to where it stands, by releases that are not left then.
+-- From where an insertion stood it went down to where it stands, by releases that it has less
+-- then.
 pub record GoesTo (t : Terms) (m : Member) (stand after : Stand) (k k' : CallerData) : Type 0 where
   pub stands : StandsOnWay t m after k'.log
   pub cause : IfNoneFree after.room (HasCause stand.room m.span.first k k')

@@ -1,4 +1,5 @@
 use Rattle.std.proofs.Common.{◌≡◌, ◌+◌, ◌-◌, true, arith, ◌∙◌}
+use Rattle.std.proofs.lemmas.Result.{err_from_is_err_and}
 use Rattle.node_store.specs.Locking.{FoundBusy}
 use Rattle.btree_change.specs.Insertion.{IfFull}
 use Rattle.btree_change.specs.Roots.{EndsInsertion, GivesUpWhole}
@@ -28,7 +29,9 @@ pub loop-me-preserved : goal.loop-me-preserved
 loop-me-preserved g c = record { goes = goes_on c.args.words.now.terms c.args.member.now c.args.stand c.loop-me.stand c.in_ok-stand.stand c.args.me.now c.loop-me.me c.go_below.new.me c.loop-me.invariant.goes c.in_ok-stand.ensures.ok }
 
 pub returns-in_err-stand-clause-cause : goal.returns-in_err-stand-clause-cause
-returns-in_err-stand-clause-cause g c = found_after _ c.args.me.now c.loop-me.me c.go_below.new.me c.loop-me.invariant.goes.steps.loads c.in_err-stand.ensures.cause
+returns-in_err-stand-clause-cause g c =
+    let p = err_from_is_err_and c.from_residual.result c.from_residual.ensures.1 in
+    rw (p.1, p.2) (found_after c.in_err-stand.field-0.0 c.args.me.now c.loop-me.me c.go_below.new.me c.loop-me.invariant.goes.steps.loads c.in_err-stand.ensures.cause)
 
 pub in_leaf-requires-clause-table : goal.in_leaf-requires-clause-table
 in_leaf-requires-clause-table g c = c.loop-me.invariant.goes.steps.table ∙ c.requires.table
