@@ -1,5 +1,6 @@
 -- The commit of an update of the tree: what it asks for, what it tells, and what it makes of a log.
-use Rattle.std.specs.Prelude.{◌≡◌, ℕ, ◌+◌, ◌<◌, Contains, List, length, Some, IsSome, IsTrue}
+use Rattle.std.specs.Prelude.{◌≡◌, ℕ, ◌+◌, ◌<◌, ◌⊎◌, Contains, List, length, None, Some, IsSome}
+use Rattle.std.specs.Prelude.{IsTrue}
 use Rattle.std.specs.List.{AllByRecursion}
 use mathlib.Core.List.{IsPrefix}
 use Rattle.reg_model.specs.History.{state_after}
@@ -8,19 +9,32 @@ use Rattle.reg_model.specs.declared.span.Member.{Member}
 use Rattle.reg_model.specs.declared.answer.Update.{Update}
 use Rattle.reg_model.specs.declared.answer.Receipt.{Receipt}
 use Rattle.tree_shape.specs.NodeData.{entries_of}
+use Rattle.word_rule.specs.declared.log.Holding.{Holding}
 use Rattle.word_rule.specs.declared.log.Log.{Log}
 use Rattle.word_rule.specs.declared.log.Terms.{Terms}
 use Rattle.word_rule.specs.Places.{ALLOWANCE, lower}
-use Rattle.word_rule.specs.Exchange.{is_lawful, settle}
+use Rattle.word_rule.specs.Exchange.{is_lawful, is_updated, settle}
 use Rattle.word_rule.specs.Callers.{IsMemberOf, IsOfTerms, start}
-use Rattle.word_rule.specs.Steps.{IsDone, after_update}
+use Rattle.word_rule.specs.Steps.{IsDone, after_update, place_by}
+
+-- No node is held but the leaf that the update changes and, it may be, its parent; the loader isn't
+-- held either.
+pub record HoldsLeafAndParent (u : Update) (v : Log) : Type 0 where
+  pub leaf : Holding
+  pub held : Contains v.holdings.held leaf
+  pub changed : IsTrue (is_updated (Some u) leaf)
+  pub others : AllByRecursion (λ h. (h ≡ leaf) ⊎ IsSome (place_by leaf.node h.mark h))
+      v.holdings.held
+  pub loader : v.loader ≡ None
 
 -- A commit asks for one of the update calls that were begun, for a member that may be made known,
--- and that the exchange of what the caller changed is lawful, with the entries changed by the
--- update. So it is one of the tree, made in a live leaf that the caller holds.
+-- that few locks are held, and that the exchange of what the caller changed is lawful, with the
+-- entries changed by the update. So it is one of the tree, made in a live leaf that the caller
+-- holds.
 pub record MayCommit (t : Terms) (u : Update) (v : Log) : Type 0 where
   pub due : 0 < v.budget.allowance
   pub member : IsOfTerms t u
+  pub few : HoldsLeafAndParent u v
   pub lawful : IsTrue (is_lawful v (Some u))
 
 -- What a commit tells of the history before it, of which it found this clock.
