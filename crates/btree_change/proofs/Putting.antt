@@ -1,5 +1,5 @@
 -- A member is put into a held leaf and committed.
-use Rattle.std.proofs.Common.{◌≡◌, ℕ, ◌-◌, ◌<◌, ◌≤◌, List, [], ◌∷◌, ◌++◌, length, length-append, sym, refl, ap, ◌∙◌, subst, arith, Bool, true, IsTrue, Some, IsSome, is_some, eq-eqb, ne_eqb, le-leb}
+use Rattle.std.proofs.Common.{◌≡◌, ℕ, ◌-◌, ◌<◌, ◌≤◌, List, [], ◌∷◌, ◌++◌, length, length-append, sym, refl, ap, ◌∙◌, subst, arith, Bool, true, IsTrue, Some, None, IsSome, Contains, ◌⊎◌, inl, is_some, eq-eqb, ne_eqb, le-leb}
 use Rattle.std.specs.List.{AllByRecursion}
 use mathlib.Core.List.{IsPrefix}
 use Rattle.reg_model.specs.SpanData.{IsSpan}
@@ -16,10 +16,10 @@ use Rattle.tree_shape.specs.Numbers.{is_among}
 use Rattle.tree_shape.specs.Steps.{IsPut}
 use Rattle.tree_shape.specs.Trees.{Contents}
 use Rattle.word_rule.specs.CallerData.{CallerData}
-use Rattle.word_rule.specs.Commits.{AfterCommit, MayCommit}
+use Rattle.word_rule.specs.Commits.{AfterCommit, HoldsLeafAndParent, MayCommit}
 use Rattle.word_rule.specs.Exchange.{is_lawful, is_leaf_at, settle}
 use Rattle.word_rule.specs.NodeTells.{KnowsTree}
-use Rattle.word_rule.specs.Steps.{after_update}
+use Rattle.word_rule.specs.Steps.{after_update, place_by}
 use Rattle.word_rule.specs.declared.log.Holding.{Holding}
 use Rattle.word_rule.specs.declared.log.Holdings.{Holdings}
 use Rattle.word_rule.specs.declared.log.Log.{Log}
@@ -101,10 +101,24 @@ module _ (law : PutLaw) (laws : LeafLaws) (t : Terms) (n : ℕ) (s : NodeData) (
   exact_is : exact ≡ k2.log
   exact_is = (λ i. record k2.log { holdings = record { held = sym written.held i; out = sym (written.out ∙ path.out) i } })
 
-  pub may_put : 0 < k2.log.budget.allowance → m.payload < t.payloads → MayCommit t (update.Register m) k2.log
-  may_put due payload = record {
+  held_is : k2.log.holdings.held ≡ written.lock ∷ []
+  held_is = written.held
+
+  -- no lock is held but the leaf's
+  alone : k2.log.loader ≡ None → HoldsLeafAndParent (update.Register m) k2.log
+  alone loader = record {
+    leaf = written.lock;
+    held = subst (λ hs. Contains hs written.lock) (sym held_is) (0, omega arith, refl);
+    changed = ap (is_leaf_at m.span.first) written.spells ∙ in_leaf;
+    others = subst (AllByRecursion (λ h. (h ≡ written.lock) ⊎ IsSome (place_by written.lock.node h.mark h))) (sym held_is) (inl refl, tt);
+    loader = loader;
+  }
+
+  pub may_put : 0 < k2.log.budget.allowance → m.payload < t.payloads → k2.log.loader ≡ None → MayCommit t (update.Register m) k2.log
+  may_put due payload loader = record {
     due = due;
     member = (span, payload);
+    few = alone loader;
     lawful = subst (λ z. IsTrue (is_lawful z (Some (update.Register m)))) exact_is
         (lawful_commit laws k2.log (update.Register m) written.lock [] now marked written.spells tt in_leaf level tree.contents tree.live after here after_here change);
   }

@@ -45,7 +45,7 @@ commit-requires-clause-may c =
     let written = written_there t at k k0 k1 found c.requires.leaf c.requires.level tree load loads m c.args.placed.now.place k2 place c.put_in_place.ensures.stores c.put_in_place.ensures.spells in
     let steps = steps_then k k1 k2 (steps_there t at k k0 k1 found c.requires.leaf c.requires.level tree load loads) written.same in
     let some : 0 < due k2 = subst (λ d. 0 < d) (sym (λ i. (steps.budget i).allowance - steps.left i)) c.requires.due in
-    may_put c.put.ensures.change (record { decided = c.exchange_decided.ensures; transfer = c.transfer.ensures.lawful; tests = c.transfer.ensures.tests }) t at.node at.content at.changed m k k1 k2 path kept now_tree c.requires.level c.requires.low c.requires.high c.requires.span c.requires.room c.requires.free written (omega (arith, some)) c.requires.payload
+    may_put c.put.ensures.change (record { decided = c.exchange_decided.ensures; transfer = c.transfer.ensures.lawful; tests = c.transfer.ensures.tests }) t at.node at.content at.changed m k k1 k2 path kept now_tree c.requires.level c.requires.low c.requires.high c.requires.span c.requires.room c.requires.free written (omega (arith, some)) c.requires.payload (steps.loader ∙ c.requires.loader)
 
 pub returns : goal.returns
 returns c =

@@ -1,4 +1,4 @@
-use Rattle.std.proofs.Common.{[], ◌-◌, ◌<◌, sym, ap, subst, arith}
+use Rattle.std.proofs.Common.{◌∙◌, [], ◌-◌, ◌<◌, sym, ap, subst, arith}
 use Rattle.tree_shape.specs.Changes.{with_entry}
 use Rattle.tree_shape.specs.NodeData.{NodeData, Entries, entries_of}
 use Rattle.word_rule.specs.CallerData.{CallerData, due}
@@ -35,7 +35,7 @@ commit-requires-clause-may c =
     let written = written_so now n path.lock [] k1 k2 (λ e. omega (arith, e)) path.here.node tt path.held (subst (λ z. StoresHeld n z k1 k2) c.put_entry.ensures c.write_held.ensures.stores) (subst (λ z. SpellsHeld n z k2.log) c.put_entry.ensures c.write_held.ensures.spells) in
     let steps = steps_then k k1 k2 (steps_of_load n 5 c.load_node.result k k1 c.load_node.ensures.log) written.same in
     let some : 0 < due k2 = subst (λ d. 0 < d) (sym (λ i. (steps.budget i).allowance - steps.left i)) c.requires.due in
-    may_put c.put.ensures.change (record { decided = c.exchange_decided.ensures; transfer = c.transfer.ensures.lawful; tests = c.transfer.ensures.tests }) t n s b m k k1 k2 path kept tree c.requires.level c.requires.low c.requires.high c.requires.span c.requires.room c.requires.free written (omega (arith, some)) c.requires.payload
+    may_put c.put.ensures.change (record { decided = c.exchange_decided.ensures; transfer = c.transfer.ensures.lawful; tests = c.transfer.ensures.tests }) t n s b m k k1 k2 path kept tree c.requires.level c.requires.low c.requires.high c.requires.span c.requires.room c.requires.free written (omega (arith, some)) c.requires.payload (steps.loader ∙ c.requires.loader)
 
 pub returns : goal.returns
 returns c =
